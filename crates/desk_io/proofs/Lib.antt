@@ -1,0 +1,4 @@
+pub mod FileLemmas
+pub mod ReadLemmas
+pub mod TableLemmas
+pub mod WritingLaws

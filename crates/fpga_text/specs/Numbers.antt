@@ -1,0 +1,18 @@
+-- Whole numbers, as the words of a text write them.
+use Rattle.std.specs.Prelude.{ℕ, ◌^◌, nat_lt, Bool, not, ◌&&◌, Option, Some, None, if◌then◌else◌}
+use Rattle.std.specs.List.{list_all}
+use Rattle.std.specs.Char.{is_ascii_digit}
+use Rattle.std.specs.Str.Parse.{digits_value}
+use Rattle.fpga_text.specs.Bytes.{Bytes, is_empty}
+
+-- one or more decimal digits
+abbrev pub are_digits : Bytes → Bool
+are_digits word = not (is_empty word) && list_all is_ascii_digit word
+
+-- the value, where it fits 64 bits
+abbrev pub if_64_bits : ℕ → Option ℕ
+if_64_bits n = if nat_lt n (2 ^ 64) then Some n else None
+
+-- the whole number that a word says
+abbrev pub whole_number_of : Bytes → Option ℕ
+whole_number_of word = if are_digits word then if_64_bits (digits_value 10 word) else None

@@ -1,0 +1,66 @@
+//! Where lines, comments and words end.
+ghost use Rattle.std.specs.Prelude.{◌≡◌, ◌==◌, ◌+◌, ◌≤◌, IsTrue, length, take, drop};
+ghost use Rattle.std.specs.List.{position_or_len};
+ghost use Rattle.fpga_text.specs.Bytes.{is_blank};
+ghost use Rattle.fpga_text.specs.Words.{words, begins_word};
+
+/// Whether a byte stands between words: a space, a tab or a carriage return.
+fn blank(byte: u8) -> bool
+    ensures { result ≡ is_blank byte }
+{
+    byte == b' ' || byte == b'\t' || byte == b'\r'
+}
+
+/// The place of the first such byte, or the length where there is none.
+#[tactic(auto, using(std::proofs::lemmas::List::Sums::position_or_len_is))]
+pub fn first_byte(text: &[u8], byte: u8) -> usize
+    ensures place { result ≡ position_or_len (λ b. b == byte) text.now }
+    ensures within { result ≤ length text.now }
+{
+    for (i, b) in text.iter().enumerate() {
+        if *b == byte {
+            return i;
+        }
+    }
+    text.len()
+}
+
+/// The place of the first blank, or the length where there is none.
+#[tactic(auto, using(std::proofs::lemmas::List::Sums::position_or_len_is))]
+pub fn first_blank(text: &[u8]) -> usize
+    ensures place { result ≡ position_or_len is_blank text.now }
+    ensures within { result ≤ length text.now }
+{
+    for (i, b) in text.iter().enumerate() {
+        if blank(*b) {
+            return i;
+        }
+    }
+    text.len()
+}
+
+/// The text without the blanks before its first word.
+pub fn from_first_word<'a>(text: &'a [u8]) -> &'a [u8]
+    ensures words { words result.now ≡ words text.now }
+    ensures begins { IsTrue (begins_word result.now) }
+{
+    for (i, b) in text.iter().enumerate() {
+        if !blank(*b) {
+            return &text[i..];
+        }
+    }
+    &[]
+}
+
+/// What stands before a place and what stands after it.
+pub fn part_at<'a>(text: &'a [u8], place: usize) -> (&'a [u8], &'a [u8])
+    requires { place ≤ length text.now }
+    ensures before { result.0.now ≡ take place text.now }
+    ensures after { result.1.now ≡ drop (place + 1) text.now }
+{
+    let (before, after) = text.split_at(place);
+    match after {
+        [_, rest @ ..] => (before, rest),
+        _ => (before, after),
+    }
+}

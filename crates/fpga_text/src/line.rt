@@ -1,0 +1,85 @@
+//! A line of a text, and its words.
+ghost use Rattle.std.specs.Prelude.{◌≡◌, Bool, not, drop, slice_get, option_map, IfSome};
+ghost use Rattle.fpga_text.specs.Bytes.{is_empty};
+
+use crate::cut::{first_blank, from_first_word, part_at};
+use std::marker::Model;
+
+/// A word, and the number of its line.
+#[derive(Clone, Copy, Debug, PartialEq, Eq)]
+pub struct Word<'a> {
+    pub line: u64,
+    pub text: &'a [u8],
+}
+
+/// A line: its number, its bytes without the newline, and its words that were not yet taken.
+#[derive(Debug, Drop)]
+pub struct Line<'a> {
+    number: u64,
+    raw: &'a [u8],
+    rest: &'a [u8],
+}
+
+impl<'a> Model for Line<'a> {
+    ghost use Rattle.std.specs.Prelude.{IsTrue};
+    ghost use Rattle.fpga_text.specs.Words.{TextLine, words, begins_word};
+
+    ghost Value = { TextLine };
+
+    ghost view = { λ l. record { number = l.number; raw = l.raw.now; words = words l.rest.now } };
+
+    ghost invariant = { λ l. IsTrue (begins_word l.rest.now) };
+}
+
+impl<'a> Line<'a> {
+    ghost use Rattle.fpga_text.specs.Words.{words};
+
+    /// The line with these bytes, whose words are those of `said`.
+    pub(crate) fn new(number: u64, raw: &'a [u8], said: &'a [u8]) -> Line<'a>
+        ensures { result ≡ record { number = number; raw = raw.now; words = words said.now } }
+    {
+        Line {
+            number,
+            raw,
+            rest: from_first_word(said),
+        }
+    }
+
+    /// The number of the line in its text, from 1 on.
+    pub fn number(&self) -> u64
+        ensures { result ≡ self.now.number }
+    {
+        self.number
+    }
+
+    /// The bytes of the line, its comment too, without the newline.
+    pub fn raw(&self) -> &'a [u8]
+        ensures { result.now ≡ self.now.raw }
+    {
+        self.raw
+    }
+
+    /// Whether there are words that were not yet taken.
+    pub fn has_words(&self) -> bool
+        ensures { result ≡ not (is_empty self.now.words) }
+    {
+        !self.rest.is_empty()
+    }
+
+    /// The next word, or None after the last one.
+    pub fn next_word(&mut self) -> Option<Word<'a>>
+        ensures word { option_map (λ w. w.text.now) result ≡ slice_get self.old.words 0 }
+        ensures line { IfSome result (λ w. w.line ≡ self.old.number) }
+        ensures after { self.new ≡ record self.old { words = drop 1 self.old.words } }
+    {
+        if self.rest.is_empty() {
+            return None;
+        }
+        let (text, rest) = part_at(self.rest, first_blank(self.rest));
+        self.rest = from_first_word(rest);
+        Some(Word {
+            line: self.number,
+            text,
+        })
+    }
+}

@@ -1,0 +1,10 @@
+//! How a text is cut into lines.
+
+/// How a text is cut into lines.
+#[derive(Clone, Copy, Debug, PartialEq, Eq)]
+pub enum Style {
+    /// Each line is looked at whole: CNF and LRAT texts.
+    Plain,
+    /// A `#` begins a comment that ends with its line: placements and routes.
+    Hash,
+}

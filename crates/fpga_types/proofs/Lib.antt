@@ -1,0 +1,5 @@
+pub mod FabricLemmas
+pub mod FitLemmas
+pub mod MeetingLemmas
+mod MeetingRows
+pub mod SlotLemmas

@@ -1,0 +1,13 @@
+//! The values that the texts of an island-style FPGA stand for: the array, its cells and wires, and a global or
+//! detailed route; and what a route's slots and steps are, which routes fit their array, and which routings are legal.
+#![tactic(auto)]
+
+mod grid;
+mod items;
+mod problem;
+mod route;
+
+pub use grid::{Axis, Cell, Grid, PinAt, Side, SwitchAt, Wire};
+pub use items::Items;
+pub use problem::{PinStep, RouteStep, Slot};
+pub use route::{Elem, ElemKind, Label, Name, RouteNet, RouteText};
