@@ -1,0 +1,9 @@
+pub mod InPlaceLemmas
+pub mod KeyLemmas
+pub mod LineLemmas
+pub mod MeetsLemmas
+pub mod RouteLemmas
+pub mod SlotTableLemmas
+pub mod SlotsOfLemmas
+pub mod StepFacts
+pub mod StepLemmas

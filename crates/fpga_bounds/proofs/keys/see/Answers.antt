@@ -1,0 +1,7 @@
+use Rattle.std.proofs.Common.{◌∙◌}
+use Rattle.fpga_bounds.specs.Keys.{elem_key}
+use Rattle.fpga_bounds.proofs.KeyLemmas.{one_more_elem}
+use Rattle.fpga_bounds.proofs.keys.see.Goals as goal
+
+pub returns : goal.returns
+returns c = λ q. c.in_ok-insert.ensures.updates.0 (elem_key q) ∙ one_more_elem c.key_of_elem.result c.args.e q _ c.key_of_elem.ensures

@@ -1,0 +1,101 @@
+//! Sets of elements and of pins.
+ghost use Rattle.std.specs.Prelude.{◌≡◌, OnOk};
+ghost use Rattle.fpga_bounds.specs.Keys.{elem_key, pin_key, has_elem, has_pin, GainsElem, GainsPin, GainsPins};
+ghost use Rattle.fpga_types.specs.Fit.{is_channel, is_pin};
+
+use fpga_types::{Elem, ElemKind, Label};
+use std::alloc::AllocError;
+use std::collections::BTreeSet;
+
+/// What two equal elements, or two elements at one pin, have in common.
+#[derive(Clone, Copy, Debug, PartialEq, Eq, PartialOrd, Ord)]
+pub(crate) struct ElemKey {
+    pub kind: ElemKind,
+    pub x: u32,
+    pub y: u32,
+    pub label: Label,
+    pub number: u32,
+}
+
+/// Whether the kind is one of a channel.
+pub(crate) fn is_of_channel(kind: ElemKind) -> bool
+    ensures { result ≡ is_channel kind }
+{
+    matches!(kind, ElemKind::ChanX | ElemKind::ChanY)
+}
+
+/// Whether the kind is one of a pin.
+pub(crate) fn is_of_pin(kind: ElemKind) -> bool
+    ensures { result ≡ is_pin kind }
+{
+    matches!(kind, ElemKind::Opin | ElemKind::Ipin)
+}
+
+/// The key by which equal elements are one.
+fn key_of_elem(e: Elem) -> ElemKey
+    ensures { result ≡ elem_key e }
+{
+    ElemKey {
+        kind: e.kind,
+        x: e.x,
+        y: e.y,
+        label: e.label,
+        number: if is_of_channel(e.kind) { 0 } else { e.number },
+    }
+}
+
+/// The key by which elements at one pin are one.
+fn key_of_pin(e: Elem) -> ElemKey
+    ensures { result ≡ pin_key e }
+{
+    ElemKey {
+        kind: ElemKind::Ipin,
+        x: e.x,
+        y: e.y,
+        label: e.label,
+        number: e.number,
+    }
+}
+
+/// Whether the set has an element that equals this one.
+pub(crate) fn is_seen(seen: &BTreeSet<ElemKey>, e: Elem) -> bool
+    ensures { result ≡ has_elem seen.now e }
+{
+    seen.contains(&key_of_elem(e))
+}
+
+/// Puts an element into the set.
+pub(crate) fn see(seen: &mut BTreeSet<ElemKey>, e: Elem) -> Result<(), AllocError>
+    ensures { OnOk result (GainsElem seen.old e seen.new) }
+{
+    seen.insert(key_of_elem(e))?;
+    Ok(())
+}
+
+/// Whether the element is a pin that the set has.
+pub(crate) fn is_taken(pins: &BTreeSet<ElemKey>, e: Elem) -> bool
+    ensures { result ≡ has_pin pins.now e }
+{
+    is_of_pin(e.kind) && pins.contains(&key_of_pin(e))
+}
+
+/// Puts the pins of a net into the set.
+pub(crate) fn take_pins(pins: &mut BTreeSet<ElemKey>, elems: &[Elem]) -> Result<(), AllocError>
+    ensures { OnOk result (GainsPins pins.old elems.now pins.new) }
+{
+    for e in elems {
+        take_pin(pins, *e)?;
+    }
+    Ok(())
+}
+
+/// Puts the element into the set, if it is a pin.
+fn take_pin(pins: &mut BTreeSet<ElemKey>, e: Elem) -> Result<(), AllocError>
+    ensures { OnOk result (GainsPin pins.old e pins.new) }
+{
+    if !is_of_pin(e.kind) {
+        return Ok(());
+    }
+    pins.insert(key_of_pin(e))?;
+    Ok(())
+}

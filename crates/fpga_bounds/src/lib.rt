@@ -1,0 +1,19 @@
+//! Whether a global route fits its array, and the slots and steps of one that does.
+#![tactic(auto)]
+
+mod elem_context;
+mod fit_stop;
+mod keys;
+mod meets;
+mod net_check;
+mod problem;
+mod retrack;
+mod route_check;
+mod slot_table;
+mod step_list;
+#[cfg(test)]
+mod tests;
+
+pub use fit_stop::FitStop;
+pub use meets::cells_meet;
+pub use problem::{Problem, fit_route};

@@ -1,0 +1,89 @@
+//! Whether one net of a route fits, after the nets before it.
+ghost use Rattle.std.specs.Prelude.{◌≡◌, ◌+◌, ◌<◌, ◌≤◌, ◌==◌, length, take, not, ◌&&◌, OnOk};
+ghost use Rattle.std.specs.Result.{IsErrOf};
+ghost use Rattle.fpga_bounds.specs.ElemContext.{is_pin_of};
+ghost use Rattle.fpga_bounds.specs.Keys.{has_pin};
+ghost use Rattle.fpga_bounds.specs.NetFit.{IsFitAt, HasRoomFor, with_elem};
+ghost use Rattle.fpga_types.specs.Slots.{elem_slot, slots_of};
+ghost use Rattle.fpga_types.specs.declared.route.Elem.{Elem};
+
+use crate::elem_context::{ElemContext, cell_of, is_faulty};
+use crate::fit_stop::FitStop;
+use crate::keys::{ElemKey, is_seen, is_taken, see};
+use crate::slot_table::SlotTable;
+use fpga_types::{Elem, Grid, RouteNet, Slot};
+use std::alloc::{AllocError, Global};
+use std::collections::BTreeSet;
+
+/// Checks the net at position `n`, and puts its slots into the table.
+pub(crate) fn check_net(
+    alloc: Global,
+    grid: Grid,
+    nets: &[RouteNet],
+    n: usize,
+    pins: &BTreeSet<ElemKey>,
+    slots: &mut SlotTable,
+) -> Result<(), FitStop>
+    requires at { n < length nets.now }
+    requires nets { length nets.now ≤ 65535 }
+    requires pins { (e : Elem) → has_pin pins.now e ≡ is_pin_of (take n nets.now) e }
+    requires slots { slots.old ≡ slots_of (take n nets.now) }
+    ensures fits { OnOk result (IsFitAt grid nets.now n) }
+    ensures slots { OnOk result (slots.new ≡ slots_of (take (n + 1) nets.now)) }
+    ensures unfit { IsErrOf result FitStop.Unfit → ¬ IsFitAt grid nets.now n }
+{
+    let net = &nets[n];
+    if is_bare(net) {
+        return Err(FitStop::Unfit);
+    }
+    let elems = net.elems.as_slice();
+    let mut seen = BTreeSet::new(alloc);
+    let mut previous: Option<Elem> = None;
+    for (i, e) in elems.iter().enumerate() {
+        let at = ElemContext {
+            previous,
+            again: is_seen(&seen, *e),
+            taken: is_taken(pins, *e),
+            full: slots.is_full(),
+            last: i + 1 == elems.len(),
+            global: net.global,
+        };
+        if is_faulty(grid, at, *e) {
+            return Err(FitStop::Unfit);
+        }
+        let Ok(()) = see(&mut seen, *e) else {
+            return Err(FitStop::Memory);
+        };
+        let Ok(()) = add_slot(slots, n as u32, *e) else {
+            return Err(FitStop::Memory);
+        };
+        previous = Some(*e);
+    }
+    Ok(())
+}
+
+/// Whether the net is ordinary and has no element.
+fn is_bare(net: &RouteNet) -> bool
+    ensures { result ≡ (length net.now.elems == 0 && not net.now.global) }
+{
+    net.elems.as_slice().is_empty() && !net.global
+}
+
+/// The slot of a channel line of the net at this position.
+pub(crate) fn slot_of(net: u32, e: Elem) -> Option<Slot>
+    ensures { result ≡ elem_slot net e }
+{
+    let cell = cell_of(e)?;
+    Some(Slot { net, cell })
+}
+
+/// Puts the slot of an element into the table, if it is a channel.
+fn add_slot(slots: &mut SlotTable, net: u32, e: Elem) -> Result<(), AllocError>
+    requires room { HasRoomFor slots.old net e }
+    ensures { OnOk result (slots.new ≡ with_elem slots.old net e) }
+{
+    let Some(slot) = slot_of(net, e) else {
+        return Ok(());
+    };
+    slots.add(slot)
+}

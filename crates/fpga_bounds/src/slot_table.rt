@@ -1,0 +1,93 @@
+//! The slots of a route, by number and by net and cell.
+ghost use Rattle.std.specs.Prelude.{◌≡◌, ◌<◌, ◌≤◌, [], length, false, ◌==◌, OnOk, OnErr};
+ghost use Rattle.std.specs.List.{list_any};
+ghost use Rattle.fpga_bounds.specs.SlotTable.{with_slot};
+ghost use Rattle.fpga_types.specs.Slots.{same_slot, slot_number};
+
+use fpga_types::Slot;
+use std::alloc::{AllocError, Global};
+use std::collections::BTreeMap;
+use std::marker::Model;
+
+/// The greatest number of slots.
+pub(crate) const SLOT_LIMIT: usize = 200_000;
+
+/// Slots in the order in which they came, each once. Contracts see the list of them.
+#[derive(Debug, Drop)]
+pub(crate) struct SlotTable {
+    slots: Vec<Slot>,
+    numbers: BTreeMap<Slot, u32>,
+}
+
+impl Model for SlotTable {
+    ghost use Rattle.std.specs.Prelude.{List};
+    ghost use Rattle.fpga_types.specs.declared.problem.Slot.{Slot};
+    ghost use Rattle.fpga_bounds.specs.SlotTable.{IsNumbered};
+
+    ghost Value = { List Slot };
+
+    ghost view = { λ t. t.slots.items };
+
+    ghost invariant = { λ t. IsNumbered t.slots.items t.numbers };
+}
+
+impl SlotTable {
+    /// A table of no slots. Takes no memory.
+    pub(crate) fn new(alloc: Global) -> SlotTable
+        ensures { result ≡ [] }
+    {
+        SlotTable {
+            slots: Vec::new(alloc),
+            numbers: BTreeMap::new(alloc),
+        }
+    }
+
+    /// The slots, by number.
+    pub(crate) fn as_slice(&self) -> &[Slot]
+        ensures value { result.now ≡ self.now }
+        ensures limit { length self.now ≤ 200000 }
+    {
+        self.slots.as_slice()
+    }
+
+    /// Whether there is no room for one slot more.
+    pub(crate) fn is_full(&self) -> bool
+        ensures value { result ≡ (length self.now == 200000) }
+        ensures limit { length self.now ≤ 200000 }
+    {
+        self.slots.len() == SLOT_LIMIT
+    }
+
+    /// Whether the slot is one of the table.
+    pub(crate) fn has(&self, slot: Slot) -> bool
+        ensures { result ≡ list_any (same_slot slot) self.now }
+    {
+        self.numbers.contains_key(&slot)
+    }
+
+    /// The number of the slot, or the number of slots where it is none of the table.
+    pub(crate) fn number_of(&self, slot: Slot) -> u32
+        ensures { result ≡ slot_number self.now slot }
+    {
+        match self.numbers.get(&slot) {
+            Some(number) => *number,
+            None => self.slots.len() as u32,
+        }
+    }
+
+    /// Puts the slot at the end, unless the table has it. After an error the table is as it was.
+    pub(crate) fn add(&mut self, slot: Slot) -> Result<(), AllocError>
+        requires room { list_any (same_slot slot) self.old ≡ false → length self.old < 200000 }
+        ensures ok { OnOk result (self.new ≡ with_slot self.old slot) }
+        ensures err { OnErr result (self.new ≡ self.old) }
+    {
+        if self.has(slot) {
+            return Ok(());
+        }
+        let number = self.slots.len() as u32;
+        self.slots.reserve(1)?;
+        self.numbers.insert(slot, number)?;
+        self.slots.push_reserved(slot);
+        Ok(())
+    }
+}

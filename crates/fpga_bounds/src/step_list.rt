@@ -1,0 +1,69 @@
+//! The steps of a route, by slot numbers.
+ghost use Rattle.std.specs.Prelude.{◌≡◌, ◌≤◌, ◌++◌, length, IfOk, OnOk};
+ghost use Rattle.std.specs.Option.{option_to_list};
+ghost use Rattle.fpga_bounds.specs.StepList.{elem_number, step_between, net_steps, steps_in};
+
+use crate::net_check::slot_of;
+use crate::slot_table::SlotTable;
+use fpga_types::{Elem, RouteNet, RouteStep};
+use std::alloc::{AllocError, Global};
+
+/// The steps of some nets, in line order.
+pub(crate) fn steps_of(
+    alloc: Global,
+    nets: &[RouteNet],
+    table: &SlotTable,
+) -> Result<Vec<RouteStep>, AllocError>
+    requires { length nets.now ≤ 65535 }
+    ensures { IfOk result (λ found. found.items ≡ steps_in table.now nets.now) }
+{
+    let mut found = Vec::new(alloc);
+    for n in 0..nets.len() {
+        add_steps(&mut found, table, n as u32, nets[n].elems.as_slice())?;
+    }
+    Ok(found)
+}
+
+/// Adds the steps of the net at position `net`, which has these elements.
+fn add_steps(
+    found: &mut Vec<RouteStep>,
+    table: &SlotTable,
+    net: u32,
+    elems: &[Elem],
+) -> Result<(), AllocError>
+    ensures { OnOk result (found.new.items ≡ found.old.items ++ net_steps table.now net elems.now) }
+{
+    let mut previous: Option<u32> = None;
+    for e in elems {
+        let number = number_of_elem(table, net, *e);
+        add_step(found, previous, number)?;
+        previous = number;
+    }
+    Ok(())
+}
+
+/// The number of the element's slot, if it is a channel.
+pub(crate) fn number_of_elem(table: &SlotTable, net: u32, e: Elem) -> Option<u32>
+    ensures { result ≡ elem_number table.now net e }
+{
+    let slot = slot_of(net, e)?;
+    Some(table.number_of(slot))
+}
+
+/// Adds the step between two slots, where there are two.
+fn add_step(
+    found: &mut Vec<RouteStep>,
+    from: Option<u32>,
+    to: Option<u32>,
+) -> Result<(), AllocError>
+    ensures { OnOk result (found.new.items ≡ found.old.items ++ option_to_list (step_between from to)) }
+{
+    let Some(from) = from else {
+        return Ok(());
+    };
+    let Some(to) = to else {
+        return Ok(());
+    };
+    found.push(RouteStep { from, to })?;
+    Ok(())
+}
