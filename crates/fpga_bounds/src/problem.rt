@@ -34,8 +34,8 @@ impl Model for Problem {
     ghost invariant = { λ p. IsSetUp p.route p.table p.steps.items };
 }
 
-/// Takes a route that fits. `Unfit` comes only where one of the codes 510 to 515 holds at one of its
-/// lines, and `Memory` where there was no memory left.
+/// Takes a route that fits. `Unfit` comes only where one of the codes 510 to 515 holds at one of
+/// its lines, and `Memory` where there was no memory left.
 pub fn fit_route(alloc: Global, route: RouteText) -> Result<Problem, FitStop>
     requires nets { length route.nets ≤ 65535 }
     ensures ok { IfOk result (λ problem. problem ≡ route) }

@@ -23,7 +23,7 @@ next_line-taken old new line said after =
     record {
       ahead = facts.0 ∙ ap (λ (r : LinesAhead). line ∷ r.ahead) (sym after);
       taken = ap (λ (r : LinesAhead). r.taken) after ∙ facts.1;
-      total = ap (λ (r : LinesAhead). r.total) after ∙ facts.2
+      total = ap (λ (r : LinesAhead). r.total) after ∙ facts.2;
     }
 
 -- no line was ahead, and all were taken
@@ -46,5 +46,5 @@ next_line-past old new said after =
       ahead = none;
       rest = ap (λ (r : LinesAhead). r.ahead) is;
       taken = ap (λ (r : LinesAhead). r.taken) is;
-      total = ap (λ (r : LinesAhead). r.total) is
+      total = ap (λ (r : LinesAhead). r.total) is;
     }

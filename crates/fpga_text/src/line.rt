@@ -1,5 +1,5 @@
 //! A line of a text, and its words.
-ghost use Rattle.std.specs.Prelude.{◌≡◌, Bool, not, drop, slice_get, option_map, IfSome};
+ghost use Rattle.std.specs.Prelude.{◌≡◌, not, drop, slice_get, option_map, IfSome};
 ghost use Rattle.fpga_text.specs.Bytes.{is_empty};
 
 use crate::cut::{first_blank, from_first_word, part_at};

@@ -58,7 +58,8 @@ pub struct SwitchAt {
     pub j: u32,
 }
 
-/// A pin of a placed block: a pad by its place and subblock number, or a pin of a logic block by its place and number.
+/// A pin of a placed block: a pad by its place and subblock number, or a pin of a logic block by
+/// its place and number.
 #[derive(Clone, Copy, Debug, PartialEq, Eq)]
 pub enum PinAt {
     Pad { x: u32, y: u32, sub: u32 },

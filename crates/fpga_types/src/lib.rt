@@ -1,5 +1,6 @@
-//! The values that the texts of an island-style FPGA stand for: the array, its cells and wires, and a global or
-//! detailed route; and what a route's slots and steps are, which routes fit their array, and which routings are legal.
+//! The values that the texts of an island-style FPGA stand for: the array, its cells and wires, and
+//! a global or detailed route; and what a route's slots and steps are, which routes fit their
+//! array, and which routings are legal.
 #![tactic(auto)]
 
 mod grid;

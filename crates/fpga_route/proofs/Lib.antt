@@ -1,0 +1,16 @@
+pub mod CodeLemmas
+pub mod CodeRows
+pub mod ContextLemmas
+pub mod DraftLemmas
+pub mod FaultLemmas
+pub mod FitRows
+pub mod FormLemmas
+pub mod HeadLemmas
+pub mod LegalRows
+pub mod ReadLemmas
+pub mod ReadRows
+pub mod RowTexts
+pub mod SlotRows
+pub mod SoundLemmas
+pub mod WordLemmas
+pub mod WriteLemmas

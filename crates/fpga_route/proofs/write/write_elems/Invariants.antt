@@ -1,0 +1,12 @@
+-- the texts of the first values are passed on
+use Rattle.std.proofs.Common.{◌≡◌, true, take}
+use Rattle.std.specs.Prelude.{flat_map}
+use Rattle.desk_io.specs.Writing.{PassesOn}
+use Rattle.fpga_route.specs.Printed.{printed_elem}
+use Rattle.fpga_route.proofs.write.write_elems.Given as goal
+
+abbrev pub invariant-loop-elem : goal.invariant-loop-elem
+invariant-loop-elem g l = record {
+  passed : PassesOn (g.S.Shelf.state l.initial.shelf) l.initial.writer (flat_map printed_elem (take l.elem-index l.elems)) (g.S.Shelf.state l.shelf) l.writer;
+  created : (g.S.Shelf.state l.shelf).is_created ≡ true;
+}

@@ -1,0 +1,13 @@
+pub mod Causes
+pub mod Codes
+pub mod Drafts
+pub mod Faults
+pub mod Forms
+pub mod Lines
+pub mod Nets
+pub mod Places
+pub mod Printed
+pub mod Refusals
+pub mod Sound
+pub mod Standings
+pub mod Value

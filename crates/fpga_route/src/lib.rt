@@ -1,0 +1,20 @@
+//! The route text of VPR 4.30: its lines, its value and its printed form.
+#![tactic(auto)]
+
+mod cause;
+mod draft;
+mod first_words;
+mod forms;
+mod head;
+mod open_net;
+mod read;
+mod standing;
+#[cfg(test)]
+mod tests;
+mod words;
+mod write;
+
+pub use cause::{Cause, ReadFault};
+pub use read::{read_route, read_route_or_fault};
+pub use standing::NET_LIMIT;
+pub use write::write_route;
