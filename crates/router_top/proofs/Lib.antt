@@ -1,0 +1,15 @@
+pub mod AttemptLemmas
+pub mod AttemptSteps
+pub mod CellOrder
+pub mod ChainLemmas
+pub mod ChainSteps
+pub mod CommandLemmas
+pub mod ConditionLemmas
+pub mod FileSteps
+pub mod FoundLemmas
+pub mod HopelessLemmas
+pub mod LegalLemmas
+pub mod RunLaws
+pub mod SettleLemmas
+pub mod UnbrokenLemmas
+pub mod UniqueLemmas

@@ -1,0 +1,12 @@
+use Rattle.std.proofs.Common.{◌≡◌, Option, Some, None, is_some, true, refl, Err}
+use Rattle.router_top.proofs.problem_file.read_bytes.Goals as goal
+
+-- a value that is there
+the_value : {X : Type 0} (o : Option X) → is_some o ≡ true → (x : X) × (o ≡ Some x)
+the_value None h = cc
+the_value (Some x) h = (x, refl)
+
+pub returns-in-Err-TooLong-clause-stop : goal.returns-in-Err-TooLong-clause-stop
+returns-in-Err-TooLong-clause-stop g c = λ files told.
+    let there = the_value _ (c.in-Err-TooLong.ensures.there (λ e. cc) files told) in
+    (there.0, there.1, (c.in-Err-TooLong.ensures.too_long (λ i. Err (c.in-Err-TooLong.field-0-is i)) files told there.0 there.1).0)

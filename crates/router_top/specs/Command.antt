@@ -1,0 +1,45 @@
+-- The words of the command `route`.
+use Rattle.std.specs.Prelude.{ℕ, nat_le, ◌&&◌, List, [], ◌∷◌, String, string_bytes, map, codes, bytes_eq, Result, Ok, Err, Option, None, Some, option_and_then, if◌then◌else◌}
+use Rattle.std.specs.Global.{Global}
+use Rattle.fpga_text.specs.Numbers.{whole_number_of}
+
+-- a word, by its bytes
+abbrev pub Word : Type 0
+Word = List ℕ
+
+-- what is asked for: the name of the route file, the width, how many attempts are allowed, and
+-- what the names of written files begin with
+pub record Job : Type 0 where
+  pub file : Word
+  pub width : ℕ
+  pub attempts : ℕ
+  pub prefix : Word
+
+-- the whole number that a word says, where it is from 1 to the greatest
+abbrev pub number_up_to : ℕ → Word → Option ℕ
+number_up_to greatest word =
+    option_and_then (λ n. if nat_le 1 n && nat_le n greatest then Some n else None)
+    (whole_number_of word)
+
+-- the job with these numbers; 3 where one is not there
+abbrev pub with_numbers : Word → Word → Option ℕ → Option ℕ → Result Job ℕ
+with_numbers file prefix (Some width) (Some attempts) =
+    Ok (record { file = file; width = width; attempts = attempts; prefix = prefix })
+with_numbers file prefix _ _ = Err 3
+
+-- the job that the words after the command give; 2 where there are not four
+abbrev pub route_job : List Word → Result Job ℕ
+route_job (file ∷ width ∷ attempts ∷ prefix ∷ []) =
+    with_numbers file prefix (number_up_to 64 width) (number_up_to 100000000 attempts)
+route_job _ = Err 2
+
+-- the job that the words give, or the code of what keeps them from being taken;
+-- 1 where the first word is not `route`
+abbrev pub job_of : List Word → Result Job ℕ
+job_of [] = Err 1
+job_of (command ∷ others) =
+    if bytes_eq command (codes "route") then route_job others else Err 1
+
+-- the bytes of each word
+abbrev pub words_of : List (String Global) → List Word
+words_of words = map string_bytes words

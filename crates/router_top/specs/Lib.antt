@@ -1,0 +1,12 @@
+pub mod Answer
+pub mod Asked
+pub mod Assignment
+pub mod Attempts
+pub mod Chains
+pub mod Command
+pub mod Found
+pub mod Headline
+pub mod JobSaid
+pub mod Report
+pub mod Stops
+pub mod WordsCode

@@ -1,0 +1,119 @@
+//! What a run comes to: its exit status and its report line.
+ghost use Rattle.std.specs.Prelude.{◌≡◌, ◌≤◌, ◌+◌, ◌++◌, length, decimal};
+ghost use Rattle.arrayvec.specs.ArrayString.{array_string_len};
+ghost use Rattle.router_top.specs.Report.{NamesKnownFile, file_word, report_of, status_of};
+
+use arrayvec::ArrayString;
+use itoa::Buffer;
+
+/// What a run comes to. A file is named by its number: 1 the architecture, 2 the netlist, 3 the
+/// placement, 4 the route, 5 the clauses, 6 the refutation, 7 the detailed route.
+#[derive(Clone, Copy, Debug, PartialEq, Eq)]
+pub enum Outcome {
+    /// A legal routing of this width was written.
+    Routed { width: u32 },
+    /// No routing of this width is legal.
+    Unroutable { width: u32 },
+    /// The attempts that were allowed were made, and none was a legal routing.
+    Undecided { width: u32, attempts: u64 },
+    /// A file is bad. Today faults are not told apart: the line is 0, and the code is 400 where the
+    /// route file does not read and 500 where the route does not fit.
+    InputFault { file: u32, line: u64, code: u32 },
+    /// A count passes its limit.
+    Limit { code: u32, count: u64 },
+    /// The words are not taken.
+    Usage { code: u32 },
+    /// The desk failed on a file.
+    ReadFault { file: u32 },
+    /// The shelf failed: 0 in a `say`, 1 on the route that is written.
+    WriteFault { slot: u32 },
+    /// Memory ran out.
+    OutOfMemory,
+}
+
+// Room for the longest report line.
+const REPORT_ROOM: usize = 96;
+
+/// The exit status.
+pub fn status(outcome: &Outcome) -> u8
+    ensures { result ≡ status_of outcome.now }
+{
+    match outcome {
+        Outcome::Routed { .. } => 0,
+        Outcome::Unroutable { .. } => 1,
+        Outcome::Undecided { .. } => 2,
+        Outcome::InputFault { .. } | Outcome::Limit { .. } => 3,
+        Outcome::Usage { .. } => 4,
+        Outcome::ReadFault { .. } => 5,
+        Outcome::WriteFault { .. } => 6,
+        Outcome::OutOfMemory => 7,
+    }
+}
+
+// The word for a file.
+fn file_name(file: u32) -> &'static str
+    requires { (1 ≤ file) × (file ≤ 7) }
+    ensures value { result.now ≡ file_word file }
+    ensures short { length result.now ≤ 12 }
+{
+    match file {
+        1 => "architecture",
+        2 => "netlist",
+        3 => "placement",
+        4 => "route",
+        5 => "cnf",
+        6 => "lrat",
+        7 => "routed",
+        _ => unreachable!(),
+    }
+}
+
+/// The report line, without its newline.
+pub fn report(outcome: &Outcome) -> ArrayString<REPORT_ROOM>
+    requires { NamesKnownFile outcome.now }
+    ensures line { result.bytes ≡ report_of outcome.now }
+    ensures room { array_string_len result ≤ 80 }
+{
+    let mut line = ArrayString::new();
+    match *outcome {
+        Outcome::Routed { width } => push_count(&mut line, "routed ", width as u64),
+        Outcome::Unroutable { width } => push_count(&mut line, "unroutable ", width as u64),
+        Outcome::Undecided { width, attempts } => {
+            push_count(&mut line, "undecided ", width as u64);
+            push_count(&mut line, " after ", attempts);
+            line.push_str(" attempts");
+        }
+        Outcome::InputFault {
+            file,
+            line: at,
+            code,
+        } => {
+            line.push_str("fault: ");
+            line.push_str(file_name(file));
+            push_count(&mut line, " line ", at);
+            push_count(&mut line, " code ", code as u64);
+        }
+        Outcome::Limit { code, count } => {
+            push_count(&mut line, "limit: code ", code as u64);
+            push_count(&mut line, " count ", count);
+        }
+        Outcome::Usage { code } => push_count(&mut line, "usage: code ", code as u64),
+        Outcome::ReadFault { file } => {
+            line.push_str("read fault: ");
+            line.push_str(file_name(file));
+        }
+        Outcome::WriteFault { slot } => push_count(&mut line, "write fault: slot ", slot as u64),
+        Outcome::OutOfMemory => line.push_str("out of memory"),
+    }
+    line
+}
+
+// A text and a number behind it.
+fn push_count(line: &mut ArrayString<REPORT_ROOM>, text: &str, count: u64)
+    requires { array_string_len line.old + length text.now ≤ 70 }
+    ensures bytes { line.new.bytes ≡ line.old.bytes ++ text.now ++ decimal count }
+    ensures room { array_string_len line.new ≤ array_string_len line.old + length text.now + 20 }
+{
+    line.push_str(text);
+    line.push_str(Buffer::new().format(count));
+}

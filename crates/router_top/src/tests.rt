@@ -1,0 +1,311 @@
+//! Runs over the tables in memory.
+use crate::outcome::{Outcome, report, status};
+use crate::run::run;
+use desk_io::{MemDesk, MemShelf};
+use std::alloc::Global;
+use std::test::Fail;
+
+// One net from a pad to a pad, in the printed form.
+const ONE: &str =
+    "Array size: 1 x 1 logic blocks.\n\nRouting:\n\nNet 0 (n0)\n\nSOURCE (1,0)  Pad: 0  \n  OPIN (1,0)  Pad: 0  \n CHANX (1,0)  Track: 0  \n  IPIN (1,0)  Pad: 1  \n  SINK (1,0)  Pad: 1  \n\n";
+
+// Two nets through one cell.
+const TWO: &str =
+    "Array size: 1 x 1 logic blocks\nRouting:\nNet 0 (n0)\nSOURCE (1,0) Pad: 0\nOPIN (1,0) Pad: 0\nCHANX (1,0) Track: 0\nIPIN (1,0) Pad: 1\nSINK (1,0) Pad: 1\nNet 1 (n1)\nSOURCE (1,0) Pad: 2\nOPIN (1,0) Pad: 2\nCHANX (1,0) Track: 0\nIPIN (1,0) Pad: 3\nSINK (1,0) Pad: 3\n";
+
+// Three nets, each two of which share a cell; 26 attempts fail at width 2.
+const JUNCTION: &str =
+    "Array size: 2 x 1 logic blocks.\n\nRouting:\n\nNet 0 (a)\n\nSOURCE (1,0)  Pad: 0\n  OPIN (1,0)  Pad: 0\n CHANX (1,0)  Track: 0\n CHANY (1,1)  Track: 0\n  IPIN (1,1)  Pin: 3\n  SINK (1,1)  Class: 0\n\nNet 1 (b)\n\nSOURCE (2,0)  Pad: 0\n  OPIN (2,0)  Pad: 0\n CHANX (2,0)  Track: 0\n CHANY (1,1)  Track: 0\n  IPIN (2,1)  Pin: 1\n  SINK (2,1)  Class: 0\n\nNet 2 (c)\n\nSOURCE (1,0)  Pad: 1\n  OPIN (1,0)  Pad: 1\n CHANX (1,0)  Track: 0\n CHANX (2,0)  Track: 0\n  IPIN (2,0)  Pad: 1\n  SINK (2,0)  Pad: 1\n";
+
+// A channel whose cell does not meet the one before it.
+const LEAP: &str =
+    "Array size: 2 x 1 logic blocks\nRouting:\nNet 0 (c)\nSOURCE (1,0) Pad: 1\nOPIN (1,0) Pad: 1\nCHANX (1,0) Track: 0\nCHANX (2,1) Track: 0\nIPIN (2,0) Pad: 1\nSINK (2,0) Pad: 1\n";
+
+// A global net, whose lines are kept.
+const GLOBAL: &str =
+    "Array size: 1 x 1 logic blocks.\n\nRouting:\n\nNet 0 (clk): global net connecting:\n\nBlock pclk (#0) at (1, 0), Pin class -1.\nBlock c (#1) at (1, 1), Pin class 2.\n\n";
+
+// A desk with the file `one.route` of these bytes, which fails at these calls.
+pub fn desk_of(alloc: Global, text: &[u8], fail: &[u64]) -> Result<MemDesk, Fail> {
+    let mut files = Vec::new(alloc);
+    let name = String::from_str(alloc, "one.route")?;
+    files.push((name, Vec::from_slice(alloc, text)?))?;
+    Ok(MemDesk::new(alloc, files, Vec::from_slice(alloc, fail)?))
+}
+
+fn desk(alloc: Global, text: &str, fail: &[u64]) -> Result<MemDesk, Fail> {
+    desk_of(alloc, text.as_bytes(), fail)
+}
+
+pub fn words(alloc: Global, words: &[&str]) -> Result<Vec<String>, Fail> {
+    let mut all = Vec::new(alloc);
+    for word in words {
+        all.push(String::from_str(alloc, word)?)?;
+    }
+    Ok(all)
+}
+
+#[test]
+fn answers_of_worked_rows(rt: HostRuntime) -> Result<(), Fail> {
+    let alloc = rt.alloc();
+    let bad = Outcome::InputFault {
+        file: 4,
+        line: 0,
+        code: 400,
+    };
+    let unfit = Outcome::InputFault {
+        file: 4,
+        line: 0,
+        code: 500,
+    };
+    let undecided = Outcome::Undecided {
+        width: 2,
+        attempts: 25,
+    };
+    let cases = [
+        (ONE, "1", "100", Outcome::Routed { width: 1 }, "routed 1\n"),
+        (
+            TWO,
+            "1",
+            "100",
+            Outcome::Unroutable { width: 1 },
+            "unroutable 1\n",
+        ),
+        (
+            JUNCTION,
+            "2",
+            "26",
+            Outcome::Unroutable { width: 2 },
+            "unroutable 2\n",
+        ),
+        (
+            JUNCTION,
+            "2",
+            "25",
+            undecided,
+            "undecided 2 after 25 attempts\n",
+        ),
+        (
+            JUNCTION,
+            "3",
+            "100",
+            Outcome::Routed { width: 3 },
+            "routed 3\n",
+        ),
+        (GLOBAL, "1", "1", Outcome::Routed { width: 1 }, "routed 1\n"),
+        (LEAP, "1", "1", unfit, "fault: route line 0 code 500\n"),
+        ("Array\n", "1", "1", bad, "fault: route line 0 code 400\n"),
+        (ONE, "0", "1", Outcome::Usage { code: 3 }, "usage: code 3\n"),
+        (
+            ONE,
+            "65",
+            "1",
+            Outcome::Usage { code: 3 },
+            "usage: code 3\n",
+        ),
+        (
+            ONE,
+            "64",
+            "100000001",
+            Outcome::Usage { code: 3 },
+            "usage: code 3\n",
+        ),
+    ];
+    for (text, width, attempts, outcome, line) in cases {
+        let words = words(alloc, &["route", "one.route", width, attempts, "out"])?;
+        let mut shelf = MemShelf::new(alloc, Vec::new(alloc));
+        let answer = run(alloc, &words, &mut desk(alloc, text, &[])?, &mut shelf);
+        assert_eq!(rt; answer, outcome, "at {line}");
+        assert_eq!(rt; shelf.said(), line.as_bytes());
+        let is_written = matches!(outcome, Outcome::Routed { .. });
+        assert_eq!(rt; shelf.file("out.route").is_some(), is_written, "at {line}");
+    }
+    Ok(())
+}
+
+#[test]
+fn the_routing_is_written_byte_for_byte(rt: HostRuntime) -> Result<(), Fail> {
+    let alloc = rt.alloc();
+    for text in [ONE, GLOBAL] {
+        let words = words(alloc, &["route", "one.route", "1", "100", "out"])?;
+        let mut shelf = MemShelf::new(alloc, Vec::new(alloc));
+        let answer = run(alloc, &words, &mut desk(alloc, text, &[])?, &mut shelf);
+        assert_eq!(rt; answer, Outcome::Routed { width: 1 });
+        assert_eq!(rt; shelf.file("out.route"), Some(text.as_bytes()));
+        assert!(rt; shelf.file("one.route").is_none());
+    }
+    Ok(())
+}
+
+#[test]
+fn words_that_are_not_taken(rt: HostRuntime) -> Result<(), Fail> {
+    let alloc = rt.alloc();
+    let none: [&str; 0] = [];
+    let cases = [
+        (none.as_slice(), 1),
+        (["encode"].as_slice(), 1),
+        (["route"].as_slice(), 2),
+        (["route", "one.route", "1", "100"].as_slice(), 2),
+        (
+            ["route", "one.route", "1", "100", "out", "more"].as_slice(),
+            2,
+        ),
+        (["route", "one.route", "-1", "100", "out"].as_slice(), 3),
+    ];
+    for (given, code) in cases {
+        let words = words(alloc, given)?;
+        let mut shelf = MemShelf::new(alloc, Vec::new(alloc));
+        let answer = run(alloc, &words, &mut desk(alloc, ONE, &[])?, &mut shelf);
+        assert_eq!(rt; answer, Outcome::Usage { code });
+        assert_eq!(rt; status(&answer), 4);
+    }
+    Ok(())
+}
+
+#[test]
+fn each_call_of_the_desk_fails_in_turn(rt: HostRuntime) -> Result<(), Fail> {
+    let alloc = rt.alloc();
+    let words = words(alloc, &["route", "one.route", "1", "100", "out"])?;
+    // A start, a read of the text and a read of its end.
+    for call in 1..=3 {
+        let mut shelf = MemShelf::new(alloc, Vec::new(alloc));
+        let answer = run(alloc, &words, &mut desk(alloc, ONE, &[call])?, &mut shelf);
+        assert_eq!(rt; answer, Outcome::ReadFault { file: 4 });
+        assert_eq!(rt; shelf.said(), b"read fault: route\n".as_slice());
+        assert!(rt; shelf.file("out.route").is_none());
+    }
+    let mut shelf = MemShelf::new(alloc, Vec::new(alloc));
+    let answer = run(alloc, &words, &mut desk(alloc, ONE, &[4])?, &mut shelf);
+    assert_eq!(rt; answer, Outcome::Routed { width: 1 });
+    Ok(())
+}
+
+#[test]
+fn each_call_of_the_shelf_fails_in_turn(rt: HostRuntime) -> Result<(), Fail> {
+    let alloc = rt.alloc();
+    let words = words(alloc, &["route", "one.route", "1", "100", "out"])?;
+    // A create, an append of all, a finish and a say.
+    let whole = Some(ONE.as_bytes());
+    let cut = b"write fault: slot 1\n".as_slice();
+    let cases = [
+        (1, Outcome::WriteFault { slot: 1 }, None, cut),
+        (
+            2,
+            Outcome::WriteFault { slot: 1 },
+            Some(b"".as_slice()),
+            cut,
+        ),
+        (3, Outcome::WriteFault { slot: 1 }, whole, cut),
+        (4, Outcome::WriteFault { slot: 0 }, whole, b"".as_slice()),
+        (
+            5,
+            Outcome::Routed { width: 1 },
+            whole,
+            b"routed 1\n".as_slice(),
+        ),
+    ];
+    for (call, outcome, file, said) in cases {
+        let mut shelf = MemShelf::new(alloc, Vec::from_slice(alloc, &[call])?);
+        let answer = run(alloc, &words, &mut desk(alloc, ONE, &[])?, &mut shelf);
+        assert_eq!(rt; answer, outcome, "at call {call}");
+        assert_eq!(rt; shelf.file("out.route"), file, "at call {call}");
+        assert_eq!(rt; shelf.said(), said, "at call {call}");
+    }
+    Ok(())
+}
+
+// The calls from this one on.
+fn from_call(alloc: Global, first: u64) -> Result<Vec<u64>, Fail> {
+    let mut calls = Vec::new(alloc);
+    for call in first..first.saturating_add(8) {
+        calls.push(call)?;
+    }
+    Ok(calls)
+}
+
+#[test]
+fn every_call_of_the_desk_fails_from_one_on(rt: HostRuntime) -> Result<(), Fail> {
+    let alloc = rt.alloc();
+    let words = words(alloc, &["route", "one.route", "1", "100", "out"])?;
+    for call in 1..=4 {
+        let mut shelf = MemShelf::new(alloc, Vec::new(alloc));
+        let fail = from_call(alloc, call)?;
+        let answer = run(alloc, &words, &mut desk(alloc, ONE, &fail)?, &mut shelf);
+        if call == 4 {
+            assert_eq!(rt; answer, Outcome::Routed { width: 1 });
+        } else {
+            assert_eq!(rt;
+                answer,
+                Outcome::ReadFault { file: 4 },
+                "from call {call} on"
+            );
+        }
+        assert_eq!(rt; shelf.file("out.route").is_some(), call == 4);
+    }
+    Ok(())
+}
+
+#[test]
+fn every_call_of_the_shelf_fails_from_one_on(rt: HostRuntime) -> Result<(), Fail> {
+    let alloc = rt.alloc();
+    let words = words(alloc, &["route", "one.route", "1", "100", "out"])?;
+    // The report of a fault of the file cannot be said either, which leaves the outcome.
+    let whole = Some(ONE.as_bytes());
+    let cases = [
+        (1, Outcome::WriteFault { slot: 1 }, None),
+        (2, Outcome::WriteFault { slot: 1 }, Some(b"".as_slice())),
+        (3, Outcome::WriteFault { slot: 1 }, whole),
+        (4, Outcome::WriteFault { slot: 0 }, whole),
+    ];
+    for (call, outcome, file) in cases {
+        let mut shelf = MemShelf::new(alloc, from_call(alloc, call)?);
+        let answer = run(alloc, &words, &mut desk(alloc, ONE, &[])?, &mut shelf);
+        assert_eq!(rt; answer, outcome, "from call {call} on");
+        assert_eq!(rt; shelf.file("out.route"), file, "from call {call} on");
+        assert_eq!(rt; shelf.said(), b"".as_slice(), "from call {call} on");
+    }
+    Ok(())
+}
+
+#[test]
+fn a_missing_file_is_a_read_fault(rt: HostRuntime) -> Result<(), Fail> {
+    let alloc = rt.alloc();
+    let words = words(alloc, &["route", "two.route", "1", "100", "out"])?;
+    let mut shelf = MemShelf::new(alloc, Vec::new(alloc));
+    let answer = run(alloc, &words, &mut desk(alloc, ONE, &[])?, &mut shelf);
+    assert_eq!(rt; answer, Outcome::ReadFault { file: 4 });
+    assert_eq!(rt; status(&answer), 5);
+    Ok(())
+}
+
+#[test]
+fn statuses_and_reports(rt: HostRuntime) {
+    let statuses = [
+        (Outcome::Routed { width: 3 }, 0),
+        (Outcome::Unroutable { width: 64 }, 1),
+        (
+            Outcome::Limit {
+                code: 914,
+                count: 67_108_865,
+            },
+            3,
+        ),
+        (Outcome::Usage { code: 2 }, 4),
+        (Outcome::WriteFault { slot: 0 }, 6),
+        (Outcome::OutOfMemory, 7),
+    ];
+    for (outcome, number) in statuses {
+        assert_eq!(rt; status(&outcome), number, "at {outcome:?}");
+    }
+    let bad = Outcome::InputFault {
+        file: 1,
+        line: 9,
+        code: 101,
+    };
+    assert_eq!(rt;
+        report(&bad).as_str(),
+        "fault: architecture line 9 code 101"
+    );
+    let lost = Outcome::ReadFault { file: 7 };
+    assert_eq!(rt; report(&lost).as_str(), "read fault: routed");
+}
