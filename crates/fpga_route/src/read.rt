@@ -51,7 +51,7 @@ pub fn read_route_or_fault(alloc: Global, bytes: &[u8]) -> Result<RouteText, Rea
     })
 }
 
-/// Takes the lines after the head.
+// Takes the lines after the head.
 fn read_nets(lines: &mut Lines<'_>, draft: &mut Draft) -> Result<(), ReadFault>
     ensures ok { OnOk result (ReadsNets lines.old draft.old lines.new draft.new) }
     ensures err { IfErr result (IsFaultIn

@@ -1,29 +1,20 @@
 -- The order of cells ties equal cells alone.
-use Rattle.std.proofs.Common.{◌≡◌, ℕ, refl, ◌∙◌, rules}
+use Rattle.std.proofs.Common.{◌≡◌, ℕ, refl, sym, ◌∙◌}
 use Rattle.std.specs.Prelude.{◌==◌, ◌&&◌}
-use Rattle.std.specs.declared.cmp.Ordering.{Ordering}
-use Rattle.std.specs.declared.cmp.Ordering.TheVariants.{Less, Equal, Greater}
-use Rattle.std.specs.Ordering.{is_eq, nat_cmp, ordering_then}
+use Rattle.std.specs.Cmp.{tied_then, unsigned_ties}
+use Rattle.std.specs.Ordering.{is_eq, nat_cmp}
 use Rattle.fpga_types.specs.Fabric.{same_cell}
 use Rattle.fpga_types.specs.declared.grid.Axis.{Axis}
 use Rattle.fpga_types.specs.declared.grid.Axis.TheVariants.{X, Y}
 use Rattle.fpga_types.specs.declared.grid.Cell.{Cell}
 use Rattle.fpga_types.specs.contracts.grid.CellOrd.TheImpl.{cmp-value}
 
-is_eq_nat : (x y : ℕ) → is_eq (nat_cmp x y) ≡ (x == y)
-is_eq_nat x y = search rules
-
-is_eq_then : (a b : Ordering) → is_eq (ordering_then a b) ≡ (is_eq a && is_eq b)
-is_eq_then Less b = refl
-is_eq_then Equal b = refl
-is_eq_then Greater b = refl
-
 abbrev at : Axis → ℕ → ℕ → Cell
 at axis x y = record { axis = axis; x = x; y = y }
 
 on_axes : (c d : Axis) (x y u v : ℕ) → is_eq (cmp-value.it (at c x y) (at d u v)) ≡ same_cell (at c x y) (at d u v)
-on_axes X X x y u v = is_eq_then (nat_cmp x u) (nat_cmp y v) ∙ (λ i. is_eq_nat x u i && is_eq_nat y v i)
-on_axes Y Y x y u v = is_eq_then (nat_cmp x u) (nat_cmp y v) ∙ (λ i. is_eq_nat x u i && is_eq_nat y v i)
+on_axes X X x y u v = sym (tied_then (nat_cmp x u) (nat_cmp y v)) ∙ (λ i. sym (unsigned_ties x u) i && sym (unsigned_ties y v) i)
+on_axes Y Y x y u v = sym (tied_then (nat_cmp x u) (nat_cmp y v)) ∙ (λ i. sym (unsigned_ties x u) i && sym (unsigned_ties y v) i)
 on_axes X Y x y u v = refl
 on_axes Y X x y u v = refl
 

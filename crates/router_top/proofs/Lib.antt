@@ -1,4 +1,5 @@
 pub mod AttemptLemmas
+pub mod AttemptRows
 pub mod AttemptSteps
 pub mod CellOrder
 pub mod ChainLemmas

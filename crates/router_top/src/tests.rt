@@ -17,9 +17,9 @@ const TWO: &str =
 const JUNCTION: &str =
     "Array size: 2 x 1 logic blocks.\n\nRouting:\n\nNet 0 (a)\n\nSOURCE (1,0)  Pad: 0\n  OPIN (1,0)  Pad: 0\n CHANX (1,0)  Track: 0\n CHANY (1,1)  Track: 0\n  IPIN (1,1)  Pin: 3\n  SINK (1,1)  Class: 0\n\nNet 1 (b)\n\nSOURCE (2,0)  Pad: 0\n  OPIN (2,0)  Pad: 0\n CHANX (2,0)  Track: 0\n CHANY (1,1)  Track: 0\n  IPIN (2,1)  Pin: 1\n  SINK (2,1)  Class: 0\n\nNet 2 (c)\n\nSOURCE (1,0)  Pad: 1\n  OPIN (1,0)  Pad: 1\n CHANX (1,0)  Track: 0\n CHANX (2,0)  Track: 0\n  IPIN (2,0)  Pad: 1\n  SINK (2,0)  Pad: 1\n";
 
-// A channel whose cell does not meet the one before it.
+// The same with a channel in the third net whose cell does not meet the one before it.
 const LEAP: &str =
-    "Array size: 2 x 1 logic blocks\nRouting:\nNet 0 (c)\nSOURCE (1,0) Pad: 1\nOPIN (1,0) Pad: 1\nCHANX (1,0) Track: 0\nCHANX (2,1) Track: 0\nIPIN (2,0) Pad: 1\nSINK (2,0) Pad: 1\n";
+    "Array size: 2 x 1 logic blocks.\n\nRouting:\n\nNet 0 (a)\n\nSOURCE (1,0)  Pad: 0\n  OPIN (1,0)  Pad: 0\n CHANX (1,0)  Track: 0\n CHANY (1,1)  Track: 0\n  IPIN (1,1)  Pin: 3\n  SINK (1,1)  Class: 0\n\nNet 1 (b)\n\nSOURCE (2,0)  Pad: 0\n  OPIN (2,0)  Pad: 0\n CHANX (2,0)  Track: 0\n CHANY (1,1)  Track: 0\n  IPIN (2,1)  Pin: 1\n  SINK (2,1)  Class: 0\n\nNet 2 (c)\n\nSOURCE (1,0)  Pad: 1\n  OPIN (1,0)  Pad: 1\n CHANX (1,0)  Track: 0\n CHANX (2,1)  Track: 0\n  IPIN (2,0)  Pad: 1\n  SINK (2,0)  Pad: 1\n";
 
 // A global net, whose lines are kept.
 const GLOBAL: &str =
