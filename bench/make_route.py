@@ -5,6 +5,8 @@
     make_route.py branches COUNT       one net with COUNT sinks, all along one cell
     make_route.py nets COUNT SINKS     COUNT nets of one cell each, on an array of 100 by 100, each with SINKS sinks
     make_route.py snake CELLS          one net that winds through CELLS cells of an array of 100 by 100
+    make_route.py rows COUNT           COUNT nets, each through the same 100 cells of a row of an array of 100 by 100
+    make_route.py crowd LONG COUNT     LONG nets of ten cells, then COUNT nets through one cell, which need COUNT tracks
     make_route.py comments BYTES       one small net behind so many bytes of comments
 
 The file goes to standard output.
@@ -94,6 +96,13 @@ def main(words):
         out.write("\n")
     elif kind == "snake":
         snake(numbers[0], out)
+    elif kind == "rows":
+        head(100, 100, out)
+        for k in range(numbers[0]):
+            row(k, 1, 100, out)
+        out.write("\n")
+    elif kind == "crowd":
+        crowd(*numbers, out)
     elif kind == "comments":
         head(1, 1, out)
         out.write("\n")
@@ -102,6 +111,26 @@ def main(words):
             out.write(line)
         star(0, 1, 1, 1, out)
         out.write("\n")
+
+
+def row(k, y, columns, out):
+    """One net through the first cells above row y."""
+    net(k, f"n{k}", out)
+    elem("SOURCE", 1, y, "Class", 1, out)
+    elem("OPIN", 1, y, "Pin", k, out)
+    for x in range(1, columns + 1):
+        elem("CHANX", x, y, "Track", 0, out)
+    elem("IPIN", columns, y, "Pin", k, out)
+    elem("SINK", columns, y, "Class", 0, out)
+
+
+def crowd(long, count, out):
+    head(12, 12, out)
+    for k in range(long):
+        row(k, 1 + k // 2 % 12, 10, out)
+    for k in range(long, long + count):
+        row(k, 0, 1, out)
+    out.write("\n")
 
 
 def snake(cells, out):
