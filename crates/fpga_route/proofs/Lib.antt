@@ -1,3 +1,4 @@
+pub mod ByteLemmas
 pub mod CodeLemmas
 pub mod CodeRows
 pub mod ContextLemmas
@@ -7,6 +8,10 @@ pub mod FitRows
 pub mod FormLemmas
 pub mod HeadLemmas
 pub mod LegalRows
+pub mod PrintableLemmas
+pub mod PrintedLemmas
+pub mod ReadBackLemmas
+pub mod ReadBackRows
 pub mod ReadLemmas
 pub mod ReadRows
 pub mod RowTexts

@@ -27,16 +27,16 @@ use Rattle.fpga_route.proofs.CodeLemmas.{later_code-net, later_code-elem, later_
 use Rattle.fpga_route.proofs.FormLemmas.{parts_of_net, parts_of_elem, parts_of_block}
 
 -- a code on a line
-abbrev coded : ℕ → Option ℕ
+abbrev pub coded : ℕ → Option ℕ
 coded code = Some code
 
 -- the line has no code, and none is found after it
-no_fault : (o : Option ℕ) (line : ℕ) (later : Option (ℕ × ℕ)) → fault_or o line later ≡ None → (o ≡ None) × (later ≡ None)
+pub no_fault : (o : Option ℕ) (line : ℕ) (later : Option (ℕ × ℕ)) → fault_or o line later ≡ None → (o ≡ None) × (later ≡ None)
 no_fault None line later clean = (refl, clean)
 no_fault (Some code) line later clean = absurd (let clash : Some (line, code) ≡ None = clean in cc)
 
 -- the kind of an element takes its label
-takes-elem : (words : List Bytes) (e : ElemWords) → elem_words words ≡ Some e → takes e.kind e.label ≡ true
+pub takes-elem : (words : List Bytes) (e : ElemWords) → elem_words words ≡ Some e → takes e.kind e.label ≡ true
 takes-elem (kind ∷ place ∷ label ∷ number ∷ []) e said = go (kind_of kind) (place_words place) (label_of label) said
   where
     go : (k : Option ElemKind) (p : Option (Bytes × Bytes)) (l : Option Label) → elem_of_parts k p l number ≡ Some e → takes e.kind e.label ≡ true
@@ -96,7 +96,7 @@ in_place grid Ipin label x y taken here = within grid x y here
 in_place grid Sink label x y taken here = within grid x y here
 
 -- numbers that are there stand for themselves
-placed : (x y : Option ℕ) (number : Bool) (fits : ℕ → Bool) (misplaced : ℕ → ℕ → Bool) → not (option_map_or fits x false && option_map_or fits y false && number) ≡ false
+pub placed : (x y : Option ℕ) (number : Bool) (fits : ℕ → Bool) (misplaced : ℕ → ℕ → Bool) → not (option_map_or fits x false && option_map_or fits y false && number) ≡ false
     → option_map_or (λ m. option_map_or (misplaced m) y false) x false ≡ false → misplaced (unwrap_or x 0) (unwrap_or y 0) ≡ false
 placed None y number fits misplaced there here = absurd (let clash : true ≡ false = there in cc)
 placed (Some x) None number fits misplaced there here = absurd (go (fits x) there)
@@ -107,12 +107,12 @@ placed (Some x) None number fits misplaced there here = absurd (go (fits x) ther
 placed (Some x) (Some y) number fits misplaced there here = here
 
 -- what an element line without a code has passed
-record Passed (at : Standing) (e : ElemWords) : Type 0 where
-  there : lacks_number e ≡ false
-  ordinary : is_in_ordinary (context_at at) ≡ true
-  here : is_misplaced (Some at.grid) e ≡ false
+pub record Passed (at : Standing) (e : ElemWords) : Type 0 where
+  pub there : lacks_number e ≡ false
+  pub ordinary : is_in_ordinary (context_at at) ≡ true
+  pub here : is_misplaced (Some at.grid) e ≡ false
 
-passed : (at : Standing) (e : ElemWords) → elem_code at e ≡ None → Passed at e
+pub passed : (at : Standing) (e : ElemWords) → elem_code at e ≡ None → Passed at e
 passed at e clean = go (lacks_number e) (is_in_ordinary (context_at at)) (is_misplaced (Some at.grid) e) refl refl refl clean
   where
     go : (a b c : Bool) → lacks_number e ≡ a → is_in_ordinary (context_at at) ≡ b → is_misplaced (Some at.grid) e ≡ c
@@ -130,10 +130,10 @@ sound_elem at line words e said clean =
     (placed (whole_number_of e.x) (whole_number_of e.y) (is_number is_32_bits e.number) is_32_bits (is_out_of_place at.grid e.kind) facts.there facts.here)
 
 -- the elements and the kept lines of a net that is global or not
-record AreOwn (grid : Size) (global : Bool) (elems : List Elem) (kept : List Bytes) : Type 0 where
-  in_place : All (IsSoundElem grid) elems
-  no_elems : global ≡ true → elems ≡ []
-  no_kept : global ≡ false → kept ≡ []
+pub record AreOwn (grid : Size) (global : Bool) (elems : List Elem) (kept : List Bytes) : Type 0 where
+  pub in_place : All (IsSoundElem grid) elems
+  pub no_elems : global ≡ true → elems ≡ []
+  pub no_kept : global ≡ false → kept ≡ []
 
 with_elem : (grid : Size) (global : Bool) (elem : Elem) (elems : List Elem) (kept : List Bytes) → global ≡ false → IsSoundElem grid elem → AreOwn grid global elems kept → AreOwn grid global (elem ∷ elems) kept
 with_elem grid global elem elems kept ordinary sound own = record {
@@ -178,7 +178,7 @@ own_line at global line elems kept known no_net clean own = by_elem (elem_words 
         rw h.as_block (with_elem at.grid global (elem_of line.number w) elems kept (ordinary_global at.in_global global known (passed at w code).ordinary) (sound_elem at line.number line.words w e code) own)
 
 -- the own lines of a net
-own_sound : (at : Standing) (global : Bool) (lines : List TextLine) → at.in_global ≡ Some global → later_fault at lines ≡ None
+pub own_sound : (at : Standing) (global : Bool) (lines : List TextLine) → at.in_global ≡ Some global → later_fault at lines ≡ None
     → AreOwn at.grid global (filter_map line_elem (own_lines lines)) (filter_map line_kept (own_lines lines))
 own_sound at global [] known clean = record { in_place = All-nil (IsSoundElem at.grid); no_elems = λ e. refl; no_kept = λ e. refl }
 own_sound at global (line ∷ more) known clean =

@@ -7,6 +7,7 @@ pub mod Lines
 pub mod Nets
 pub mod Places
 pub mod Printed
+pub mod ReadBack
 pub mod Refusals
 pub mod Sound
 pub mod Standings

@@ -3,8 +3,11 @@ ghost use Rattle.std.specs.Prelude.{◌≡◌, ◌++◌, ◌≤◌, ◌^◌, [],
 ghost use Rattle.arrayvec.specs.ArrayString.{array_string_len};
 ghost use Rattle.desk_io.specs.ShelfState.{after_append, FailsToAppend};
 ghost use Rattle.desk_io.specs.Writing.{Writes};
+ghost use Rattle.fpga_text.specs.Bytes.{Bytes};
 ghost use Rattle.fpga_route.specs.Forms.{kind_word, label_word};
 ghost use Rattle.fpga_route.specs.Printed.{after_name, before_name, in_six_places, printed, printed_elem, printed_kept, printed_head, printed_lines, printed_net, printed_net_line};
+ghost use Rattle.fpga_route.specs.ReadBack.{ReadsBack, ReadsBackWithTracks};
+ghost use Rattle.fpga_route.specs.Value.{Reads};
 
 use arrayvec::ArrayString;
 use desk_io::{BlockWriter, Failed, Shelf};
@@ -309,10 +312,15 @@ fn write_whole<S: Shelf>(
 /// Appends the printed form of a route to the created file. It takes no memory of its own.
 ///
 /// It fails only where the shelf does, and then a front part of the printed form was appended.
+///
+/// The printed form of a route that was read, with its own tracks or with others of 32 bits, has no
+/// fault and reads as an equal route, but for the numbers of lines.
 pub fn write_route<S: Shelf>(route: &RouteText, shelf: &mut S) -> Result<(), Failed>
     requires { (S.state shelf.old).is_created ≡ true }
     ensures ok { OnOk result (S.state shelf.new ≡ after_append (S.state shelf.old) (printed route.now)) }
     ensures err { OnErr result (FailsToAppend (S.state shelf.old) (printed route.now) (S.state shelf.new)) }
+    ensures read_back { (text : Bytes) → Reads text route.now → ReadsBack route.now }
+    ensures tracks_read_back { ReadsBackWithTracks route.now }
 {
     let mut writer = BlockWriter::new();
     let Ok(()) = write_whole(&mut writer, shelf, route) else {
