@@ -1,0 +1,4 @@
+pub mod FalseLaws
+pub mod PlaceLaws
+pub mod EraseLaws
+pub mod StepLaws

@@ -1,0 +1,42 @@
+-- One step of a log: it is refused, or ends the log, or leads on.
+use Rattle.std.proofs.Common.{◌≡◌, ℕ, suc, true, false, List, ◌∷◌, drop, Option, None, Some, slice_get, sym, ap, ◌∙◌}
+use Rattle.std.proofs.Math.Seq.{drop-cons}
+use Rattle.std.proofs.lemmas.Option.{slice_get_within, get_or_from_slice_get}
+use Rattle.sat_clause.specs.declared.cause.Cause.{Cause}
+use Rattle.sat_clause.specs.Live.{Live}
+use Rattle.sat_clause.specs.Step.{Step}
+use Rattle.sat_clause.specs.Judge.{Accepted, Refused, fault, after, is_empty_clause, judge_step, judge_from}
+use Rattle.sat_clause.proofs.Alike.{judge_from_alike}
+use Rattle.sat_check.specs.LiveStore.{SameClauses}
+
+module _ (n : ℕ) (live : Live) (log : List Step) (i : ℕ) (step : Step) (at : slice_get log i ≡ Some step) where
+  here : drop i log ≡ step ∷ drop (suc i) log
+  here =
+      drop-cons log i step (slice_get_within log i step at)
+      ∙ ap (λ s. s ∷ drop (suc i) log) (get_or_from_slice_get log i step step at)
+
+  judged_as : (f : Option Cause) → fault live step ≡ f →
+      judge_from n live (drop i log) ≡ judge_step n f (is_empty_clause step) (judge_from (suc n) (after live step) (drop (suc i) log))
+  judged_as f is =
+      ap (judge_from n live) here
+      ∙ ap (λ g. judge_step n g (is_empty_clause step) (judge_from (suc n) (after live step) (drop (suc i) log))) is
+
+  -- a step that is refused ends the steps
+  pub judge_from-refused : (cause : Cause) → fault live step ≡ Some cause →
+      judge_from n live (drop i log) ≡ Refused n cause
+  judge_from-refused cause is = judged_as (Some cause) is
+
+  -- a good empty clause ends the steps
+  pub judge_from-accepted : fault live step ≡ None → is_empty_clause step ≡ true →
+      judge_from n live (drop i log) ≡ Accepted
+  judge_from-accepted good last =
+      judged_as None good
+      ∙ ap (λ b. judge_step n None b (judge_from (suc n) (after live step) (drop (suc i) log))) last
+
+  -- another good step leads on, from any map that has the clauses after it
+  pub judge_from-next : (next : Live) → fault live step ≡ None → is_empty_clause step ≡ false →
+      SameClauses next (after live step) →
+      judge_from (suc n) next (drop (suc i) log) ≡ judge_from n live (drop i log)
+  judge_from-next next good more same =
+      judge_from_alike (suc n) next (after live step) (drop (suc i) log) same
+      ∙ sym (judged_as None good ∙ ap (λ b. judge_step n None b (judge_from (suc n) (after live step) (drop (suc i) log))) more)

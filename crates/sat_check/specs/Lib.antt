@@ -1,0 +1,4 @@
+pub mod FalseStore
+pub mod LiveStore
+pub mod Places
+pub mod Verdict

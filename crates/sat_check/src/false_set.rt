@@ -1,0 +1,115 @@
+//! Sets of false literals, as a mark for each literal and a list of those that are marked.
+
+ghost use Rattle.std.specs.Prelude.{◌≡◌, ◌+◌, ◌*◌, ◌<◌, false, [], ◌∷◌, ◌++◌, IfOk, IsTrue, OnOk, OnErr, All, length, reverse, slice_index_or, ℕ};
+ghost use Rattle.sat_clause.specs.Literal.{IsWithin, is_among};
+ghost use Rattle.sat_check.specs.FalseStore.{slot_of};
+
+use sat_clause::Lit;
+use std::alloc::{AllocError, Global};
+use std::marker::Model;
+
+/// A set of literals of the variables 1 to a size.
+///
+/// To ask for a literal and to put one in takes the same time whatever the set holds, and to clear
+/// it takes a time by the literals that were put in.
+#[derive(Drop)]
+pub(crate) struct FalseSet {
+    size: u32,
+    marks: Vec<bool>,
+    trail: Vec<Lit>,
+}
+
+impl Model for FalseSet {
+    ghost use Rattle.std.specs.Prelude.{reverse};
+    ghost use Rattle.sat_check.specs.FalseStore.{FalseState, IsFalseStore};
+
+    ghost Value = { FalseState };
+
+    ghost view = { λ s. record { size = s.size; set = reverse s.trail.items } };
+
+    ghost invariant = { λ s. IsFalseStore s.size s.marks s.trail };
+}
+
+/// The place of a literal among the marks. Those of a variable and its negation are neighbours.
+fn slot(l: Lit, size: u32) -> usize
+    requires { IsWithin size l }
+    ensures value { result ≡ slot_of l.code }
+    ensures small { result < 2 * size + 2 }
+{
+    let variable = l.variable() as usize;
+    if l.code < 0 {
+        return 2 * variable + 1;
+    }
+    2 * variable
+}
+
+/// Takes the marks of these literals away.
+fn unmark(marks: &mut [bool], lits: &[Lit], size: u32)
+    requires many { length marks.old ≡ 2 * size + 2 }
+    requires within { All (IsWithin size) lits.now }
+    ensures many { length marks.new ≡ length marks.old }
+    ensures unmarked { (l : Lit) → IsWithin size l → IsTrue (is_among lits.now l)
+        → slice_index_or marks.new (slot_of l.code) false ≡ false }
+    ensures others { (at : ℕ) → slice_index_or marks.old at false ≡ false
+        → slice_index_or marks.new at false ≡ false }
+{
+    for l in lits {
+        let at = slot(*l, size);
+        marks[at] = false;
+    }
+}
+
+impl FalseSet {
+    /// The empty set.
+    pub(crate) fn new(alloc: Global, size: u32) -> Result<FalseSet, AllocError>
+        ensures { IfOk result (λ s. s ≡ record { size = size; set = [] }) }
+    {
+        Ok(FalseSet {
+            size,
+            marks: vec![in alloc; false; 2 * size as usize + 2]?,
+            trail: Vec::new(alloc),
+        })
+    }
+
+    /// Whether the literal is in the set.
+    pub(crate) fn has(&self, l: Lit) -> bool
+        requires { IsWithin self.now.size l }
+        ensures { result ≡ is_among self.now.set l }
+    {
+        self.marks[slot(l, self.size)]
+    }
+
+    /// Puts a literal into the set.
+    pub(crate) fn put(&mut self, l: Lit) -> Result<(), AllocError>
+        requires { IsWithin self.old.size l }
+        ensures size { self.new.size ≡ self.old.size }
+        ensures ok { OnOk result (self.new.set ≡ l ∷ self.old.set) }
+        ensures err { OnErr result (self.new.set ≡ self.old.set) }
+    {
+        self.trail.push(l)?;
+        let at = slot(l, self.size);
+        self.marks[at] = true;
+        Ok(())
+    }
+
+    /// Puts the literals into the set, one after another.
+    pub(crate) fn put_all(&mut self, lits: &[Lit]) -> Result<(), AllocError>
+        requires { All (IsWithin self.old.size) lits.now }
+        ensures size { self.new.size ≡ self.old.size }
+        ensures ok { OnOk result (self.new.set ≡ reverse lits.now ++ self.old.set) }
+    {
+        for l in lits {
+            self.put(*l)?;
+        }
+        Ok(())
+    }
+
+    /// Takes all literals out.
+    pub(crate) fn clear(&mut self)
+        ensures size { self.new.size ≡ self.old.size }
+        ensures set { self.new.set ≡ [] }
+    {
+        unmark(&mut self.marks, &self.trail, self.size);
+        self.trail.clear();
+    }
+}

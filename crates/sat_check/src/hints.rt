@@ -1,0 +1,65 @@
+//! Whether hints lead from false literals to a clause whose literals are all false.
+
+ghost use Rattle.std.specs.Prelude.{◌≡◌, ◌≤◌, [], All, IfOk, OnOk};
+ghost use Rattle.sat_clause.specs.Literal.{IsWithin};
+ghost use Rattle.sat_clause.specs.Rup.{rup};
+
+use crate::false_set::FalseSet;
+use crate::live_clauses::LiveClauses;
+use crate::reading::read_clause;
+use sat_clause::{Cause, Lit, Reading};
+use std::alloc::AllocError;
+
+/// Why the hints, in order, do not lead from the false literals of the set to a false clause; none
+/// where they do. Each hint takes a time by the length of its clause.
+fn follow_hints(
+    live: &LiveClauses,
+    set: &mut FalseSet,
+    hints: &[i64],
+) -> Result<Option<Cause>, AllocError>
+    requires size { set.old.size ≡ live.now.vars }
+    requires small { set.old.size ≤ 2147483647 }
+    ensures size { set.new.size ≡ set.old.size }
+    ensures ok { IfOk result (λ r. r ≡ rup live.now.live set.old.set hints.now) }
+{
+    for (i, hint) in hints.iter().enumerate() {
+        let Some(clause) = live.named(*hint) else {
+            return Ok(Some(Cause::NotLive));
+        };
+        match read_clause(set, clause) {
+            Reading::Missing => unreachable!(),
+            Reading::Conflict => {
+                if i + 1 == hints.len() {
+                    return Ok(None);
+                }
+                return Ok(Some(Cause::HintAfterConflict));
+            }
+            Reading::Unit(l) => set.put(l.negation())?,
+            Reading::Satisfied => return Ok(Some(Cause::AlreadyTrue)),
+            Reading::Unresolved => return Ok(Some(Cause::StillOpen)),
+        }
+    }
+    Ok(Some(Cause::NoConflict))
+}
+
+/// Why the hints do not justify the clause: they start with its literals as the false ones. The set
+/// is empty before and after.
+pub(crate) fn check_clause(
+    live: &LiveClauses,
+    set: &mut FalseSet,
+    clause: &[Lit],
+    hints: &[i64],
+) -> Result<Option<Cause>, AllocError>
+    requires size { set.old.size ≡ live.now.vars }
+    requires small { set.old.size ≤ 2147483647 }
+    requires empty { set.old.set ≡ [] }
+    requires within { All (IsWithin set.old.size) clause.now }
+    ensures size { set.new.size ≡ set.old.size }
+    ensures empty { OnOk result (set.new.set ≡ []) }
+    ensures ok { IfOk result (λ r. r ≡ rup live.now.live clause.now hints.now) }
+{
+    set.put_all(clause)?;
+    let fault = follow_hints(live, set, hints)?;
+    set.clear();
+    Ok(fault)
+}

@@ -1,0 +1,16 @@
+//! A checker of logs: it replays the hints of each step, and searches nothing.
+#![tactic(auto)]
+
+mod checker;
+mod false_set;
+mod hints;
+mod live_clauses;
+mod place;
+mod reading;
+#[cfg(test)]
+mod tests;
+mod variables;
+mod verdict;
+
+pub use checker::check;
+pub use verdict::Verdict;

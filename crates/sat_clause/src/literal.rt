@@ -1,0 +1,42 @@
+//! Literals as DIMACS writes them.
+
+ghost use Rattle.std.specs.Prelude.{◌≡◌, length};
+ghost use Rattle.sat_clause.specs.Literal.{IsLiteral, IsWithin, negation as negation_of, variable as variable_of};
+ghost use Rattle.sat_clause.specs.Formula.{makes_true};
+
+/// A literal: a variable, or its negation.
+///
+/// The type itself keeps no fact. Calls that take literals ask for numbers that are not 0.
+#[derive(Clone, Copy, Debug, PartialEq, Eq)]
+pub struct Lit {
+    /// The number of the variable, from 1 to 2147483647, and below 0 for its negation.
+    pub code: i32,
+}
+
+impl Lit {
+    /// The number of its variable: its own number without a sign.
+    pub fn variable(self) -> u32
+        ensures { result ≡ variable_of self }
+    {
+        self.code.unsigned_abs()
+    }
+
+    /// The literal that is true where this one is false.
+    #[tactic(auto, using(crate::proofs::LiteralLaws::variable_negation))]
+    pub fn negation(self) -> Lit
+        requires { IsLiteral self }
+        ensures value { result ≡ negation_of self }
+        ensures variable { variable_of result ≡ variable_of self }
+    {
+        Lit { code: -self.code }
+    }
+
+    /// Whether it is true where variable 1 has the first of the values, variable 2 the second, and
+    /// so on. There is a value for its variable.
+    pub fn is_true(self, values: &[bool]) -> bool
+        requires { IsWithin (length values.now) self }
+        ensures { result ≡ makes_true values.now self }
+    {
+        values[self.variable() as usize - 1] == (self.code > 0)
+    }
+}

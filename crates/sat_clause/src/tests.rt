@@ -1,0 +1,156 @@
+//! Small formulas and logs, written and read back.
+
+ghost use Rattle.std.specs.Prelude.{IfOk, All};
+ghost use Rattle.sat_clause.specs.Literal.{IsWithin};
+
+use crate::{Cause, Formula, Lit, Log, holds};
+use std::alloc::{AllocError, Global};
+use std::process::Abort;
+use std::test::Fail;
+
+/// The literals with these numbers, which are of the variables 1 to `vars`.
+fn literals(
+    rt: &impl Abort,
+    alloc: Global,
+    vars: u32,
+    codes: &[i32],
+) -> Result<Vec<Lit>, AllocError>
+    ensures { IfOk result (λ lits. All (IsWithin vars) lits.items) }
+{
+    let mut lits = Vec::new(alloc);
+    for code in codes {
+        let l = Lit { code: *code };
+        let variable = l.variable();
+        assert!(rt; 1 <= variable);
+        assert!(rt; variable <= vars);
+        lits.push(l)?;
+    }
+    Ok(lits)
+}
+
+/// The formula of these clauses.
+fn formula_of(
+    rt: &impl Abort,
+    alloc: Global,
+    vars: u32,
+    clauses: &[&[i32]],
+) -> Result<Formula, AllocError> {
+    let mut formula = Formula::new(alloc);
+    assert!(rt; vars <= 100000000);
+    for codes in clauses {
+        let lits = literals(rt, alloc, vars, codes)?;
+        assert!(rt; formula.vars() <= vars);
+        assert!(rt; formula.len() < 100);
+        formula.reserve(vars, 1, lits.len() as u64)?;
+        formula.push(&lits);
+    }
+    Ok(formula)
+}
+
+/// Whether the literals have these numbers.
+fn are(lits: &[Lit], codes: &[i32]) -> bool {
+    lits.len() == codes.len() && lits.iter().zip(codes).all(|(l, code)| l.code == *code)
+}
+
+#[test]
+fn formula_is_read_back(rt: HostRuntime) -> Result<(), Fail> {
+    let clauses: [&[i32]; 5] = [&[1], &[3, -2], &[], &[-3, -3, 3, 1], &[2]];
+    let formula = formula_of(&rt, rt.alloc(), 3, &clauses)?;
+    assert_eq!(rt; formula.vars(), 3);
+    assert_eq!(rt; formula.len(), 5);
+    for i in 0..5u32 {
+        assert!(rt; i < formula.len());
+        assert!(rt; are(formula.clause(i), clauses[i as usize]), "clause {i}");
+    }
+    Ok(())
+}
+
+/// One of two has to be true, and where the first is, so is the second.
+#[test]
+fn values_satisfy_a_formula(rt: HostRuntime) -> Result<(), Fail> {
+    let formula = formula_of(&rt, rt.alloc(), 2, &[&[1, 2], &[-1, 2]])?;
+    let cases = [
+        ([false, false], false),
+        ([true, false], false),
+        ([false, true], true),
+        ([true, true], true),
+    ];
+    assert_eq!(rt; formula.vars(), 2);
+    for (values, want) in cases {
+        assert_eq!(rt; holds(&values, &formula), want, "at {values:?}");
+    }
+    let empty = formula_of(&rt, rt.alloc(), 2, &[&[]])?;
+    assert_eq!(rt; empty.vars(), 2);
+    assert!(rt; !holds(&[true, true], &empty));
+    Ok(())
+}
+
+/// A step, as numbers.
+#[derive(Clone, Copy)]
+struct Row<'a> {
+    id: u32,
+    erase: bool,
+    codes: &'a [i32],
+    ids: &'a [i64],
+}
+
+/// The log of these steps.
+fn log_of(rt: &impl Abort, alloc: Global, rows: &[Row]) -> Result<Log, AllocError> {
+    let mut log = Log::new(alloc);
+    for row in rows {
+        let lits = literals(rt, alloc, 2147483647, row.codes)?;
+        log.reserve(1, 100)?;
+        assert!(rt; lits.len() < 50);
+        assert!(rt; row.ids.len() < 50);
+        if row.erase {
+            log.erase(row.id, row.ids);
+        } else {
+            log.add(row.id, &lits, row.ids);
+        }
+    }
+    Ok(log)
+}
+
+#[test]
+fn log_is_read_back(rt: HostRuntime) -> Result<(), Fail> {
+    let rows = [
+        Row {
+            id: 4,
+            erase: false,
+            codes: &[-1, 2],
+            ids: &[3, 1],
+        },
+        Row {
+            id: 4,
+            erase: true,
+            codes: &[],
+            ids: &[2, 9, -7],
+        },
+        Row {
+            id: 1,
+            erase: false,
+            codes: &[2147483647],
+            ids: &[],
+        },
+    ];
+    let log = log_of(&rt, rt.alloc(), &rows)?;
+    assert_eq!(rt; log.len(), 3);
+    for i in 0..3u64 {
+        assert!(rt; i < log.len());
+        let step = log.step(i);
+        let row = rows[i as usize];
+        assert_eq!(rt; (step.id, step.erase), (row.id, row.erase), "step {i}");
+        assert!(rt; are(step.lits, row.codes), "step {i}");
+        assert_eq!(rt; step.hints, row.ids, "step {i}");
+    }
+    Ok(())
+}
+
+#[test]
+fn literals_and_causes(rt: HostRuntime) {
+    let l = Lit { code: -2 };
+    assert_eq!(rt; l.variable(), 2);
+    assert_eq!(rt; l.negation(), Lit { code: 2 });
+    assert!(rt; l.is_true(&[false, false]));
+    assert_eq!(rt; Cause::NoEmptyClause.number(), 7);
+}

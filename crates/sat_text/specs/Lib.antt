@@ -1,0 +1,12 @@
+pub mod Bodies
+pub mod Causes
+pub mod CnfText
+pub mod Drafts
+pub mod FirstFault
+pub mod HeadLines
+pub mod LogDrafts
+pub mod LratText
+pub mod Numbers
+pub mod Printed
+pub mod Steps
+pub mod ToldLines

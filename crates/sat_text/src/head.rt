@@ -1,0 +1,80 @@
+//! The head line of a CNF text.
+ghost use Rattle.std.specs.Prelude.{◌≡◌, None, Some, IfOk, IfErr, option_map};
+ghost use Rattle.sat_text.specs.CnfText.{head_words, head_of, head_fault};
+ghost use Rattle.sat_text.specs.FirstFault.{IsFaultOf};
+ghost use Rattle.sat_text.specs.HeadLines.{head_words_said};
+
+use crate::cause::Cause;
+use crate::number::natural;
+use fpga_text::{Line, TextFault};
+
+/// How many variables a CNF text may have.
+pub const MOST_VARIABLES: u64 = 100_000_000;
+
+/// How many clauses a CNF text may have.
+pub const MOST_CLAUSES: u64 = 40_000_000;
+
+/// The numbers of variables and of clauses that a head line says.
+#[derive(Clone, Copy, Debug, PartialEq, Eq)]
+pub struct Head {
+    pub vars: u32,
+    pub clauses: u32,
+}
+
+/// The words of a head line where its numbers are due.
+#[derive(Clone, Copy, Debug)]
+struct HeadLine<'a> {
+    vars: &'a [u8],
+    clauses: &'a [u8],
+}
+
+/// These words, where the line has the form of a head line.
+fn head_line<'a>(line: &mut Line<'a>) -> Option<HeadLine<'a>>
+    ensures { option_map head_words_said result ≡ head_words line.old.words }
+{
+    let (Some(p), Some(cnf)) = (line.next_word(), line.next_word()) else {
+        return None;
+    };
+    let (Some(vars), Some(clauses)) = (line.next_word(), line.next_word()) else {
+        return None;
+    };
+    if line.has_words() || p.text != b"p".as_slice() || cnf.text != b"cnf".as_slice() {
+        return None;
+    }
+    Some(HeadLine {
+        vars: vars.text,
+        clauses: clauses.text,
+    })
+}
+
+/// What a head line says, or why it is refused.
+pub fn read_head(line: &mut Line<'_>) -> Result<Head, TextFault>
+    ensures ok { IfOk result (λ head. head_of line.old.words ≡ Some head) }
+    ensures clean { IfOk result (λ _. head_fault line.old ≡ None) }
+    ensures err { IfErr result (IsFaultOf (head_fault line.old)) }
+{
+    let number = line.number();
+    let Some(words) = head_line(line) else {
+        return Err(Cause::HeadForm.at(number));
+    };
+    let Some(vars) = natural(words.vars) else {
+        return Err(Cause::CnfNumber.at(number));
+    };
+    let Some(clauses) = natural(words.clauses) else {
+        return Err(Cause::CnfNumber.at(number));
+    };
+    let code = Cause::SizeLimit.code();
+    if vars > MOST_VARIABLES {
+        return Err(TextFault::Limit { code, count: vars });
+    }
+    if clauses > MOST_CLAUSES {
+        return Err(TextFault::Limit {
+            code,
+            count: clauses,
+        });
+    }
+    Ok(Head {
+        vars: vars as u32,
+        clauses: clauses as u32,
+    })
+}

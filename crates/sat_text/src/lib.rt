@@ -1,0 +1,20 @@
+//! CNF and LRAT texts: formulas and logs, read and printed.
+#![tactic(auto)]
+
+mod cause;
+mod draft;
+mod head;
+mod log_draft;
+mod number;
+mod read;
+mod step_line;
+#[cfg(test)]
+mod tests;
+mod told;
+mod write;
+mod write_log;
+
+pub use cause::Cause;
+pub use read::{read_cnf, read_lrat};
+pub use write::write_cnf;
+pub use write_log::write_lrat;

@@ -1,0 +1,100 @@
+//! A log as far as it was read.
+ghost use Rattle.std.specs.Prelude.{◌≡◌, [], true, false, None, OnOk, IfErr, map, All};
+ghost use Rattle.sat_clause.specs.Literal.{IsLiteral, lit};
+ghost use Rattle.sat_text.specs.FirstFault.{IsFaultOf};
+ghost use Rattle.sat_text.specs.LratText.{line_fault, numbers_fault, said_step, step_of};
+
+use crate::step_line::{addition_said, deletion_said, read_numbers};
+use fpga_text::{Line, TextFault};
+use sat_clause::{Lit, Log};
+use std::alloc::{AllocError, Global};
+
+/// The steps that were read, and the number that the id of the next added clause has to be above. The
+/// numbers and the literals are those of the line that was read last.
+#[derive(Drop)]
+pub struct LogDraft {
+    pub log: Log,
+    pub above: u32,
+    pub numbers: Vec<i64>,
+    pub lits: Vec<Lit>,
+}
+
+/// Puts the literals with these numbers in place of these.
+fn read_literals(lits: &mut Vec<Lit>, numbers: &[i64]) -> Result<(), AllocError>
+    requires { All (λ n. IsLiteral (lit n)) numbers.now }
+    ensures { OnOk result (lits.new.items ≡ map lit numbers.now) }
+{
+    lits.clear();
+    for n in numbers {
+        let Ok(()) = lits.push(Lit { code: *n as i32 }) else {
+            return Err(AllocError);
+        };
+    }
+    Ok(())
+}
+
+impl LogDraft {
+    ghost use Rattle.sat_text.specs.LogDrafts.{TakesStep};
+
+    /// Nothing was read of a log that goes with so many input clauses.
+    pub fn new(alloc: Global, inputs: u32) -> LogDraft
+        ensures steps { result.log.steps ≡ [] }
+        ensures above { result.above ≡ inputs }
+    {
+        LogDraft {
+            log: Log::new(alloc),
+            above: inputs,
+            numbers: Vec::new(alloc),
+            lits: Vec::new(alloc),
+        }
+    }
+
+    /// Takes the deletion that the numbers say.
+    fn take_deletion(&mut self, line: u64) -> Result<(), TextFault>
+        ensures clean { OnOk result (numbers_fault self.old.above line true self.old.numbers.items ≡ None) }
+        ensures step { OnOk result (TakesStep self.old self.new (step_of true self.old.numbers.items)) }
+        ensures err { IfErr result (IsFaultOf (numbers_fault self.old.above line true self.old.numbers.items)) }
+    {
+        let said = deletion_said(&self.numbers, line)?;
+        let Ok(()) = self.log.reserve(1, said.ids.len() as u64) else {
+            return Err(TextFault::Memory);
+        };
+        self.log.erase(said.id, said.ids);
+        Ok(())
+    }
+
+    /// Takes the added clause that the numbers say.
+    fn take_addition(&mut self, line: u64) -> Result<(), TextFault>
+        ensures clean { OnOk result (numbers_fault self.old.above line false self.old.numbers.items ≡ None) }
+        ensures step { OnOk result (TakesStep self.old self.new (step_of false self.old.numbers.items)) }
+        ensures err { IfErr result (IsFaultOf (numbers_fault self.old.above line false self.old.numbers.items)) }
+    {
+        let said = addition_said(&self.numbers, self.above, line)?;
+        let Ok(()) = read_literals(&mut self.lits, said.lits) else {
+            return Err(TextFault::Memory);
+        };
+        let Ok(()) = self
+            .log
+            .reserve(1, said.lits.len() as u64 + said.hints.len() as u64)
+        else {
+            return Err(TextFault::Memory);
+        };
+        self.log.add(said.id, &self.lits, said.hints);
+        self.above = said.id;
+        Ok(())
+    }
+
+    /// Takes a line.
+    pub fn take_line(&mut self, line: &mut Line<'_>) -> Result<(), TextFault>
+        ensures clean { OnOk result (line_fault self.old.above line.old ≡ None) }
+        ensures step { OnOk result (TakesStep self.old self.new (said_step line.old.words)) }
+        ensures err { IfErr result (IsFaultOf (line_fault self.old.above line.old)) }
+    {
+        let number = line.number();
+        let deletes = read_numbers(&mut self.numbers, line)?;
+        if deletes {
+            return self.take_deletion(number);
+        }
+        self.take_addition(number)
+    }
+}

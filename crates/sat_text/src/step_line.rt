@@ -1,0 +1,241 @@
+//! The numbers of a line of an LRAT text, and the step that they say.
+ghost use Rattle.std.specs.Prelude.{◌≡◌, ◌<◌, ◌∷◌, [], ◌++◌, ℕ, ℤ, option_map, nat_abs, true, false, map, All, IfOk, IfErr, OnOk, IfSome, IfNone, None, Some, if◌then◌else◌};
+ghost use Rattle.std.specs.List.{list_any, slice_split};
+ghost use Rattle.fpga_text.specs.declared.fault.TextFault.TheVariants.{Bad};
+ghost use Rattle.sat_clause.specs.Literal.{IsLiteral, lit};
+ghost use Rattle.sat_clause.specs.Step.{Added, Erased};
+ghost use Rattle.sat_text.specs.FirstFault.{IsFaultOf};
+ghost use Rattle.sat_text.specs.LratText.{added_by, added_limit, added_step, deleted_ids, due_words, ends_with_zero, erased_limit, erased_step, first_past as first_past_of, is_below_zero, is_deletion, is_not_positive, numbers_fault};
+ghost use Rattle.sat_text.specs.Numbers.{is_number, is_zero as is_zero_of, lacks_number, numbers_of};
+
+use crate::cause::Cause;
+use crate::number::{is_zero, number};
+use fpga_text::{Line, TextFault};
+
+/// The greatest id and the greatest hint.
+pub const MOST_ID: u64 = 4_294_967_295;
+
+/// The greatest number of a variable.
+pub const MOST_VARIABLE: u64 = 100_000_000;
+
+/// What a line says that adds a clause.
+#[derive(Clone, Copy, Debug)]
+pub struct Addition<'a> {
+    pub id: u32,
+    pub lits: &'a [i64],
+    pub hints: &'a [i64],
+}
+
+/// What a line says that deletes clauses.
+#[derive(Clone, Copy, Debug)]
+pub struct Deletion<'a> {
+    pub id: u32,
+    pub ids: &'a [i64],
+}
+
+/// Puts the number that a word says behind the numbers.
+fn push_number(numbers: &mut Vec<i64>, word: &[u8], line: u64) -> Result<(), TextFault>
+    ensures number { OnOk result (is_number word.now ≡ true) }
+    ensures numbers { OnOk result (numbers.new.items ≡ numbers.old.items ++ numbers_of (word.now ∷ [])) }
+    ensures err { IfErr result (IsFaultOf (if is_number word.now then None else Some (Bad line 701))) }
+{
+    let Some(number) = number(word) else {
+        return Err(Cause::StepNumber.at(line));
+    };
+    let Ok(()) = numbers.push(number) else {
+        return Err(TextFault::Memory);
+    };
+    Ok(())
+}
+
+/// Puts the numbers that the other words of a line say behind the numbers.
+fn push_numbers(numbers: &mut Vec<i64>, line: &mut Line<'_>) -> Result<(), TextFault>
+    ensures number { OnOk result (lacks_number line.old.words ≡ false) }
+    ensures numbers { OnOk result (numbers.new.items ≡ numbers.old.items ++ numbers_of line.old.words) }
+    ensures err { IfErr result (IsFaultOf (if lacks_number line.old.words then Some (Bad line.old.number 701) else None)) }
+{
+    while let Some(word) = line.next_word() {
+        push_number(numbers, word.text, word.line)?;
+    }
+    Ok(())
+}
+
+/// Reads the numbers of a line in place of these, and answers whether the line deletes clauses.
+pub fn read_numbers(numbers: &mut Vec<i64>, line: &mut Line<'_>) -> Result<bool, TextFault>
+    ensures number { IfOk result (λ _. lacks_number (due_words line.old.words) ≡ false) }
+    ensures numbers { IfOk result (λ _. numbers.new.items ≡ numbers_of (due_words line.old.words)) }
+    ensures deletes { IfOk result (λ deletes. deletes ≡ is_deletion line.old.words) }
+    ensures err { IfErr result (IsFaultOf (if lacks_number (due_words line.old.words) then Some (Bad line.old.number 701) else None)) }
+{
+    numbers.clear();
+    let Some(first) = line.next_word() else {
+        return Ok(false);
+    };
+    push_number(numbers, first.text, first.line)?;
+    let Some(second) = line.next_word() else {
+        return Ok(false);
+    };
+    if second.text == b"d".as_slice() {
+        push_numbers(numbers, line)?;
+        return Ok(true);
+    }
+    push_number(numbers, second.text, second.line)?;
+    push_numbers(numbers, line)?;
+    Ok(false)
+}
+
+/// What stands before the first 0 and what stands behind it, if there is a 0.
+fn cut_at_zero<'a>(numbers: &'a [i64]) -> Option<(&'a [i64], &'a [i64])>
+    ensures cut { IfSome result (λ cut. slice_split is_zero_of numbers.now ≡ cut.0.now ∷ slice_split is_zero_of cut.1.now) }
+    ensures before { IfSome result (λ cut. All (λ n. is_zero_of n ≡ false) cut.0.now) }
+    ensures whole { IfNone result (slice_split is_zero_of numbers.now ≡ numbers.now ∷ []) }
+{
+    for (i, n) in numbers.iter().enumerate() {
+        if is_zero(n) {
+            let (before, _) = numbers.split_at(i);
+            let (_, behind) = numbers.split_at(i + 1);
+            return Some((before, behind));
+        }
+    }
+    None
+}
+
+/// The first size that is past the limit.
+fn first_past(numbers: &[i64], most: u64) -> Option<u64>
+    ensures { result ≡ first_past_of most numbers.now }
+{
+    numbers.iter().map(|n| n.unsigned_abs()).find(|n| *n > most)
+}
+
+/// Whether one of the numbers is negative.
+fn has_negative(numbers: &[i64]) -> bool
+    ensures { result ≡ list_any is_below_zero numbers.now }
+{
+    numbers.iter().any(|n| *n < 0)
+}
+
+/// Whether one of the numbers is negative or 0.
+fn has_not_positive(numbers: &[i64]) -> bool
+    ensures { result ≡ list_any is_not_positive numbers.now }
+{
+    numbers.iter().any(|n| *n <= 0)
+}
+
+/// Of an added clause the first size that is past its limit: the id, a literal, a hint.
+fn addition_limit(id: i64, lits: &[i64], hints: &[i64]) -> Option<u64>
+    ensures { result ≡ added_limit (nat_abs id) (map lit lits.now) hints.now }
+{
+    if id.unsigned_abs() > MOST_ID {
+        return Some(id.unsigned_abs());
+    }
+    if let Some(count) = first_past(lits, MOST_VARIABLE) {
+        return Some(count);
+    }
+    first_past(hints, MOST_ID)
+}
+
+/// Of a deletion the first id that is past its limit.
+fn deletion_limit(id: i64, ids: &[i64]) -> Option<u64>
+    ensures { result ≡ erased_limit (nat_abs id) ids.now }
+{
+    if id.unsigned_abs() > MOST_ID {
+        return Some(id.unsigned_abs());
+    }
+    first_past(ids, MOST_ID)
+}
+
+/// The ids of a deletion, and whether a 0 closes them.
+fn deleted<'a>(numbers: &'a [i64]) -> (&'a [i64], bool)
+    ensures ids { result.0.now ≡ deleted_ids numbers.now }
+    ensures closed { result.1 ≡ ends_with_zero numbers.now }
+{
+    let Some((last, before)) = numbers.split_last() else {
+        return (numbers, false);
+    };
+    if is_zero(last) {
+        return (before, true);
+    }
+    (numbers, false)
+}
+
+/// The deletion that the numbers of a line say, or why they are refused.
+pub fn deletion_said<'a>(numbers: &'a [i64], line: u64) -> Result<Deletion<'a>, TextFault>
+    ensures step { IfOk result (λ said. erased_step numbers.now ≡ Some (Erased said.id said.ids.now)) }
+    ensures clean { IfOk result (λ _. (above : ℕ) → numbers_fault above line true numbers.now ≡ None) }
+    ensures err { IfErr result (λ fault. (above : ℕ) → IsFaultOf (numbers_fault above line true numbers.now) fault) }
+{
+    let Some((id, more)) = numbers.split_first() else {
+        return Err(Cause::StepForm.at(line));
+    };
+    let (ids, closed) = deleted(more);
+    if *id <= 0 || has_not_positive(ids) {
+        return Err(Cause::StepNumber.at(line));
+    }
+    if !closed {
+        return Err(Cause::StepForm.at(line));
+    }
+    if let Some(count) = deletion_limit(*id, ids) {
+        let code = Cause::NumberLimit.code();
+        return Err(TextFault::Limit { code, count });
+    }
+    Ok(Deletion {
+        id: *id as u32,
+        ids,
+    })
+}
+
+/// The literals and the hints of an added clause: what a first 0 ends, and what a second and last one.
+fn clause_and_hints<'a>(numbers: &'a [i64]) -> Option<(&'a [i64], &'a [i64])>
+    ensures step { (id : ℤ) → added_by id (slice_split is_zero_of numbers.now) ≡ option_map (λ said. Added (nat_abs id) (map lit said.0.now) said.1.now) result }
+    ensures nonzero { IfSome result (λ said. All (λ n. is_zero_of n ≡ false) said.0.now) }
+{
+    let Some((lits, behind)) = cut_at_zero(numbers) else {
+        return None;
+    };
+    let Some((hints, end)) = cut_at_zero(behind) else {
+        return None;
+    };
+    if !end.is_empty() {
+        return None;
+    }
+    Some((lits, hints))
+}
+
+/// The added clause that the numbers of a line say, or why they are refused. Its id has to be above
+/// this number.
+pub fn addition_said<'a>(
+    numbers: &'a [i64],
+    above: u32,
+    line: u64,
+) -> Result<Addition<'a>, TextFault>
+    ensures step { IfOk result (λ said. added_step numbers.now ≡ Some (Added said.id (map lit said.lits.now) said.hints.now)) }
+    ensures above { IfOk result (λ said. above < said.id) }
+    ensures literals { IfOk result (λ said. All (λ n. IsLiteral (lit n)) said.lits.now) }
+    ensures clean { IfOk result (λ _. numbers_fault above line false numbers.now ≡ None) }
+    ensures err { IfErr result (IsFaultOf (numbers_fault above line false numbers.now)) }
+{
+    let Some((id, more)) = numbers.split_first() else {
+        return Err(Cause::StepForm.at(line));
+    };
+    if *id <= 0 {
+        return Err(Cause::StepNumber.at(line));
+    }
+    let Some((lits, hints)) = clause_and_hints(more) else {
+        return Err(Cause::StepForm.at(line));
+    };
+    if *id <= i64::from(above) {
+        return Err(Cause::IdOrder.at(line));
+    }
+    if has_negative(hints) {
+        return Err(Cause::HintSign.at(line));
+    }
+    if let Some(count) = addition_limit(*id, lits, hints) {
+        let code = Cause::NumberLimit.code();
+        return Err(TextFault::Limit { code, count });
+    }
+    Ok(Addition {
+        id: *id as u32,
+        lits,
+        hints,
+    })
+}
