@@ -1,7 +1,9 @@
+pub mod CellOrder
 pub mod InPlaceLemmas
 pub mod KeyLemmas
 pub mod LineLemmas
 pub mod MeetsLemmas
+pub mod PairLemmas
 pub mod RouteLemmas
 pub mod SlotTableLemmas
 pub mod SlotsOfLemmas

@@ -41,7 +41,7 @@ channel_slots-push nets net =
     rw (enumerate-push 0 nets net, flat_map-append (λ (n : ℕ × RouteNet). filter_map (elem_slot n.0) n.1.elems) (enumerate_from 0 nets) ((0 + length nets, net) ∷ []), zero-add)
     (ap (λ zs. channel_slots nets ++ zs) (append-nil (filter_map (elem_slot (length nets)) net.elems)))
 
-same_slot-swap : (a b : Slot) → same_slot a b ≡ same_slot b a
+pub same_slot-swap : (a b : Slot) → same_slot a b ≡ same_slot b a
 same_slot-swap a b = go (same_slot a b) (same_slot b a) refl refl
   where
     go : (p q : Bool) → same_slot a b ≡ p → same_slot b a ≡ q → p ≡ q

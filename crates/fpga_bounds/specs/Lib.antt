@@ -2,7 +2,9 @@ pub mod ElemContext
 pub mod Keys
 pub mod Meets
 pub mod NetFit
+pub mod Pairs
 pub mod Problem
+pub mod Refusal
 pub mod Retrack
 pub mod SlotTable
 pub mod StepList

@@ -1,11 +1,13 @@
 //! Whether a global route fits its array, and the slots and steps of one that does.
 #![tactic(auto)]
 
+mod copy;
 mod elem_context;
 mod fit_stop;
 mod keys;
 mod meets;
 mod net_check;
+mod pairs;
 mod problem;
 mod retrack;
 mod route_check;
@@ -14,6 +16,5 @@ mod step_list;
 #[cfg(test)]
 mod tests;
 
-pub use fit_stop::FitStop;
 pub use meets::cells_meet;
 pub use problem::{Problem, fit_route};

@@ -1,19 +1,25 @@
 //! A route that fits its array, with its slots and steps.
-ghost use Rattle.std.specs.Prelude.{◌≡◌, ◌≤◌, All, length, IfOk, OnOk};
-ghost use Rattle.std.specs.Result.{IsErrOf};
+ghost use Rattle.std.specs.Prelude.{◌≡◌, ◌≤◌, ◌*◌, ◌^◌, All, length, IfOk, IfErr, OnOk};
 ghost use Rattle.fpga_bounds.specs.Problem.{IsStepMeeting, IsStepWithin};
+ghost use Rattle.fpga_bounds.specs.Refusal.{IsRefusalOf};
 ghost use Rattle.fpga_types.specs.Fit.{IsFit};
 ghost use Rattle.fpga_types.specs.Legal.{route_of};
-ghost use Rattle.fpga_types.specs.Slots.{slots, steps};
+ghost use Rattle.fpga_types.specs.Slots.{pairs, slots, steps};
 
+use crate::copy::copied_route;
 use crate::fit_stop::FitStop;
-use crate::retrack::retrack_nets;
+use crate::pairs::pair_count;
+use crate::retrack::retracked;
 use crate::route_check::fitting_slots;
 use crate::slot_table::SlotTable;
 use crate::step_list::steps_of;
-use fpga_types::{Items, RouteStep, RouteText, Slot};
-use std::alloc::Global;
+use fpga_text::TextFault;
+use fpga_types::{RouteStep, RouteText, Slot};
+use std::alloc::{AllocError, Global};
 use std::marker::Model;
+
+/// How many steps a problem may have. They would take 8 TiB, so one more counts as want of memory.
+const STEP_LIMIT: usize = 1 << 40;
 
 /// A route that fits its array, with its slots and steps. Contracts see the route.
 #[derive(Debug, Drop)]
@@ -21,6 +27,7 @@ pub struct Problem {
     route: RouteText,
     table: SlotTable,
     steps: Vec<RouteStep>,
+    pairs: u64,
 }
 
 impl Model for Problem {
@@ -31,28 +38,35 @@ impl Model for Problem {
 
     ghost view = { λ p. p.route };
 
-    ghost invariant = { λ p. IsSetUp p.route p.table p.steps.items };
+    ghost invariant = { λ p. IsSetUp p.route p.table p.steps.items p.pairs };
 }
 
-/// Takes a route that fits. `Unfit` comes only where one of the codes 510 to 515 holds at one of
-/// its lines, and `Memory` where there was no memory left.
-pub fn fit_route(alloc: Global, route: RouteText) -> Result<Problem, FitStop>
+/// Takes a route that fits. `Bad`, at line 0 with code 500, comes only where one of the codes 510
+/// to 515 holds at one of its lines, `Memory` where there was no memory left, and `Limit` never.
+pub fn fit_route(alloc: Global, route: RouteText) -> Result<Problem, TextFault>
     requires nets { length route.nets ≤ 65535 }
     ensures ok { IfOk result (λ problem. problem ≡ route) }
     ensures fits { OnOk result (IsFit route) }
-    ensures unfit { IsErrOf result FitStop.Unfit → ¬ IsFit route }
+    ensures err { IfErr result (IsRefusalOf route) }
 {
     let table = match fitting_slots(alloc, &route) {
         Ok(table) => table,
-        Err(stop) => return Err(stop),
+        Err(stop) => return Err(stop.fault()),
     };
     let Ok(steps) = steps_of(alloc, route.nets.as_slice(), &table) else {
-        return Err(FitStop::Memory);
+        return Err(TextFault::Memory);
+    };
+    if steps.len() > STEP_LIMIT {
+        return Err(TextFault::Memory);
+    }
+    let Ok(pairs) = pair_count(alloc, table.as_slice()) else {
+        return Err(TextFault::Memory);
     };
     Ok(Problem {
         route,
         table,
         steps,
+        pairs,
     })
 }
 
@@ -69,6 +83,7 @@ impl Problem {
     pub fn slots(&self) -> &[Slot]
         ensures value { result.now ≡ slots self.now }
         ensures limit { length result.now ≤ 200000 }
+        ensures fits { IsFit self.now }
     {
         self.table.as_slice()
     }
@@ -76,10 +91,19 @@ impl Problem {
     /// The steps, in line order.
     pub fn steps(&self) -> &[RouteStep]
         ensures value { result.now ≡ steps self.now }
+        ensures limit { length result.now ≤ 2 ^ 40 }
         ensures within { All (IsStepWithin (slots self.now)) result.now }
         ensures meet { All (IsStepMeeting self.now.grid (slots self.now)) result.now }
     {
         self.steps.as_slice()
+    }
+
+    /// How many pairs of slots are of different nets and take one cell.
+    pub fn pairs(&self) -> u64
+        ensures value { result ≡ length (pairs (slots self.now)) }
+        ensures limit { result ≤ 200000 * 200000 }
+    {
+        self.pairs
     }
 
     /// The route in which each channel line has the track of its slot. Takes no memory.
@@ -87,11 +111,17 @@ impl Problem {
         requires { length tracks.now ≡ length (slots self) }
         ensures { result ≡ route_of self tracks.now }
     {
-        let mut route = self.route;
-        let mut nets = route.nets.into_vec();
-        let alloc = *nets.allocator();
-        retrack_nets(alloc, nets.as_mut_slice(), &self.table, tracks);
-        route.nets = Items::of(nets);
-        route
+        retracked(self.route, &self.table, tracks)
+    }
+
+    /// A copy of the route in which each channel line has the track of its slot.
+    pub fn copy_with_tracks(&self, alloc: Global, tracks: &[u32]) -> Result<RouteText, AllocError>
+        requires { length tracks.now ≡ length (slots self.now) }
+        ensures { IfOk result (λ route. route ≡ route_of self.now tracks.now) }
+    {
+        let Ok(copy) = copied_route(alloc, &self.route) else {
+            return Err(AllocError);
+        };
+        Ok(retracked(copy, &self.table, tracks))
     }
 }

@@ -1,5 +1,6 @@
 //! Small routes on an array of two columns and two rows.
-use crate::{FitStop, Problem, cells_meet, fit_route};
+use crate::{Problem, cells_meet, fit_route};
+use fpga_text::TextFault;
 use fpga_types::{Axis, Cell, Elem, ElemKind, Grid, Items, Label, Name, RouteNet, RouteText};
 use std::alloc::Global;
 use std::process::Abort;
@@ -42,7 +43,11 @@ fn sink(x: u32, y: u32) -> Elem {
     elem(ElemKind::Sink, x, y, Label::Class, 0)
 }
 
-fn fit(rt: &impl Abort, alloc: Global, nets: &[&[Elem]]) -> Result<Result<Problem, FitStop>, Fail> {
+fn fit(
+    rt: &impl Abort,
+    alloc: Global,
+    nets: &[&[Elem]],
+) -> Result<Result<Problem, TextFault>, Fail> {
     let mut row = Vec::new(alloc);
     for elems in nets {
         row.push(RouteNet {
@@ -201,7 +206,11 @@ fn nets_that_fit_and_nets_that_do_not(rt: HostRuntime) -> Result<(), Fail> {
     for (what, elems, fits) in cases {
         let got = fit(&rt, rt.alloc(), &[elems])?;
         assert_eq!(rt; got.is_ok(), fits, "{what}");
-        assert_eq!(rt; matches!(got, Err(FitStop::Unfit)), !fits, "{what}");
+        assert_eq!(rt;
+            matches!(got, Err(TextFault::Bad { line: 0, code: 500 })),
+            !fits,
+            "{what}"
+        );
     }
     Ok(())
 }
@@ -230,8 +239,16 @@ fn two_nets_at_one_pin(rt: HostRuntime) -> Result<(), Fail> {
         ipin(1, 2),
         sink(1, 2),
     ];
-    assert!(rt; fit(&rt, rt.alloc(), &[&first, &other])?.is_ok());
-    assert!(rt; matches!(fit(&rt, rt.alloc(), &[&first, &same])?, Err(FitStop::Unfit)));
+    let Ok(problem) = fit(&rt, rt.alloc(), &[&first, &other])? else {
+        return Err(Fail::from("refused"));
+    };
+    assert_eq!(rt; problem.pairs(), 0);
+    assert!(rt;
+        matches!(
+            fit(&rt, rt.alloc(), &[&first, &same])?,
+            Err(TextFault::Bad { line: 0, code: 500 })
+        )
+    );
     Ok(())
 }
 
@@ -281,7 +298,11 @@ fn slots_steps_and_tracks_of_a_branching_net(rt: HostRuntime) -> Result<(), Fail
     }
     let tracks = [5, 6, 7];
     assert!(rt; problem.slots().len() == tracks.len());
+    let copy = problem.copy_with_tracks(rt.alloc(), &tracks)?;
     let route = problem.with_tracks(&tracks);
+    let [same] = copy.nets.as_slice() else {
+        return Err(Fail::from("one net"));
+    };
     let [net] = route.nets.as_slice() else {
         return Err(Fail::from("one net"));
     };
@@ -294,6 +315,7 @@ fn slots_steps_and_tracks_of_a_branching_net(rt: HostRuntime) -> Result<(), Fail
         };
         assert_eq!(rt; *got, want);
     }
+    assert_eq!(rt; same.elems.as_slice(), net.elems.as_slice());
     Ok(())
 }
 

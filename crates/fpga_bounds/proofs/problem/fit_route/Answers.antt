@@ -1,5 +1,17 @@
-use Rattle.std.proofs.Common.{refl, ◌∙◌}
+use Rattle.std.proofs.Common.{◌∙◌, arith, refl}
+use Rattle.fpga_bounds.proofs.PairLemmas.{slots-distinct}
 use Rattle.fpga_bounds.proofs.problem.fit_route.Goals as goal
 
+pub pair_count-requires-clause-distinct : goal.pair_count-requires-clause-distinct
+pair_count-requires-clause-distinct c = rw (c.as_slice-2.ensures.value, c.in-Ok.ensures.ok) (slots-distinct c.args.route)
+
 pub invariant_of-result : goal.invariant_of-result
-invariant_of-result c = record { few = c.requires.nets; fits = c.in-Ok.ensures.fits; slots = c.in-Ok.ensures.ok; steps = c.in-Ok-steps_of.ensures ∙ rw (c.as_slice.ensures, c.in-Ok.ensures.ok) refl }
+invariant_of-result c = record {
+  few = c.requires.nets;
+  fits = c.in-Ok.ensures.fits;
+  pairs = c.in-Ok-pair_count.ensures.count ∙ rw (c.as_slice-2.ensures.value, c.in-Ok.ensures.ok) refl;
+  slots = c.in-Ok.ensures.ok;
+  steps = c.in-Ok-steps_of.ensures ∙ rw (c.as_slice.ensures, c.in-Ok.ensures.ok) refl;
+  few_steps = omega (arith, c.len.ensures, c.if-len-gt-STEP_LIMIT.false);
+  few_pairs = c.in-Ok-pair_count.ensures.limit;
+}

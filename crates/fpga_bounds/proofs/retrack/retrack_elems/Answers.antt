@@ -8,7 +8,7 @@ use Rattle.fpga_bounds.proofs.retrack.retrack_elems.Goals as goal
 pub loop-e-preserved : goal.loop-e-preserved
 loop-e-preserved c =
     let below : c.loop-e.e-index < length c.loop-e.elems = omega arith in
-    rw c.retracked.ensures
+    rw c.retracked_elem.ensures
     (changed-more (map (with_track c.args.table.now c.args.tracks.now c.args.n)) (λ _. with_track c.args.table.now c.args.tracks.now c.args.n) (map-push (with_track c.args.table.now c.args.tracks.now c.args.n))
     c.loop-e.e-index c.args.elems.now c.loop-e.elems NO_ELEM below c.loop-e.invariant)
 

@@ -3,12 +3,12 @@ use Rattle.fpga_types.specs.Slots.{slots}
 use Rattle.fpga_types.specs.declared.route.RouteNet.{RouteNet}
 use Rattle.fpga_bounds.proofs.InPlaceLemmas.{given-back}
 use Rattle.fpga_bounds.specs.Retrack.{nets_with_tracks}
-use Rattle.fpga_bounds.proofs.problem.Problem.with_tracks.Goals as goal
+use Rattle.fpga_bounds.proofs.retrack.retracked.Goals as goal
 
 pub returns : goal.returns
 returns c =
     let count : c.into_vec-nets.result.len ≡ length c.retrack_nets.new.nets = sym (c.retrack_nets.auto.nets ∙ c.as_mut_slice.ensures.len) in
     let back : c.of.result ≡ c.retrack_nets.new.nets = c.of.ensures ∙ given-back c.into_vec-nets.result.items c.retrack_nets.new.nets c.into_vec-nets.result.len count in
-    let nets : c.of.result ≡ nets_with_tracks (slots c.self.inside.route) c.args.tracks.now c.self.inside.route.nets =
-    back ∙ c.retrack_nets.ensures ∙ rw (c.self.invariant.slots, c.as_mut_slice.ensures.value, c.into_vec-nets.ensures) refl in
-    rw (← c.self.view_is) (ap (λ (zs : List RouteNet). record c.self.inside.route { nets = zs }) nets)
+    let nets : c.of.result ≡ nets_with_tracks (slots c.args.route) c.args.tracks.now c.args.route.nets =
+    back ∙ c.retrack_nets.ensures ∙ rw (c.requires.slots, c.as_mut_slice.ensures.value, c.into_vec-nets.ensures) refl in
+    ap (λ (zs : List RouteNet). record c.args.route { nets = zs }) nets

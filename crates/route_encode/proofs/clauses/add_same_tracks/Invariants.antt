@@ -1,0 +1,10 @@
+-- the clauses of the tracks so far were added
+use Rattle.std.proofs.Common.{[], ◌∷◌}
+use Rattle.std.specs.Prelude.{flat_map}
+use Rattle.route_encode.specs.Adding.{Adds}
+use Rattle.route_encode.specs.Encoding.{below, has, lacks}
+use Rattle.route_encode.proofs.clauses.add_same_tracks.Given as goal
+
+abbrev pub invariant-loop-track : goal.invariant-loop-track
+invariant-loop-track l =
+    Adds l.initial.formula (flat_map (λ t. (lacks l.width l.step.from t ∷ has l.width l.step.to t ∷ []) ∷ []) (below l.track)) l.formula

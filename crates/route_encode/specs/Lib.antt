@@ -1,0 +1,8 @@
+pub mod Adding
+pub mod Bits
+pub mod Encoding
+pub mod Exact
+pub mod Good
+pub mod Rivals
+pub mod Said
+pub mod Subset

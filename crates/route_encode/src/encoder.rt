@@ -1,0 +1,45 @@
+//! From routing problems to clauses, and back from models to routes.
+ghost use Rattle.std.specs.Prelude.{ℕ, ◌≡◌, ◌≤◌, length, IfOk};
+ghost use Rattle.fpga_types.specs.declared.route.RouteText.{RouteText};
+ghost use Rattle.sat_clause.specs.Formula.{Cnf, IsUnsat, Satisfies};
+
+use fpga_bounds::Problem;
+use fpga_types::RouteText;
+use sat_clause::Formula;
+use std::alloc::{AllocError, Global};
+
+/// A way to say by clauses that a problem has a routing. A width is from 1 to 64 tracks.
+pub trait Encoder {
+    /// The formula of a problem at a width.
+    ghost formula_of: { Self → RouteText → ℕ → Cnf };
+
+    /// The routes that count as routings of a problem at a width.
+    ghost is_good: { Self → RouteText → ℕ → RouteText → Type 0 };
+
+    /// The number of clauses. Takes no memory.
+    fn count(&self, problem: &Problem, width: u32) -> u64
+        requires width { (1 ≤ width) × (width ≤ 64) }
+        ensures { result ≡ length (formula_of self.now problem.now width).clauses };
+
+    /// The clauses, of which there are at most 40,000,000. Where no values satisfy them, the problem
+    /// has no routing.
+    fn build(&self, alloc: Global, problem: &Problem, width: u32) -> Result<Formula, AllocError>
+        requires width { (1 ≤ width) × (width ≤ 64) }
+        requires few { length (formula_of self.now problem.now width).clauses ≤ 40000000 }
+        ensures formula { IfOk result
+            (λ formula. formula.cnf ≡ formula_of self.now problem.now width) }
+        ensures none_without_model { IsUnsat (formula_of self.now problem.now width)
+            → (found : RouteText) → ¬ is_good self.now problem.now width found };
+
+    /// The route that a model stands for: truth values that satisfy the clauses.
+    fn decode(
+        &self,
+        alloc: Global,
+        problem: &Problem,
+        width: u32,
+        values: &[bool],
+    ) -> Result<RouteText, AllocError>
+        requires width { (1 ≤ width) × (width ≤ 64) }
+        requires model { Satisfies values.now (formula_of self.now problem.now width) }
+        ensures { IfOk result (is_good self.now problem.now width) };
+}
