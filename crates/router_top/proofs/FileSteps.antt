@@ -4,8 +4,6 @@ use Rattle.std.specs.FinMap.{insert}
 use Rattle.desk_io.specs.Files.{Bytes, FileMap, HasRisen}
 use Rattle.desk_io.specs.ShelfState.{FailsToAppend, FailsToFinish, ShelfState, after_append, after_create, after_finish, with_created}
 use Rattle.std.proofs.lemmas.List.{take_all}
-use Rattle.fpga_types.specs.declared.route.RouteText.{RouteText}
-use Rattle.fpga_route.specs.Printed.{printed}
 use Rattle.desk_io.proofs.FileLemmas.{get-inserted, insert-insert}
 use Rattle.router_top.specs.Answer.{FailsToWrite, after_writing}
 
@@ -45,9 +43,9 @@ finish-fails a {b} {c} {d} name text created appended h =
       say_failed = h.say_failed;
     })
 
--- a file is written under the name that is asked for, with the route that is asked for
-pub fails-as_asked : (a : ShelfState) (n m : Bytes) (r q : RouteText) (c : ShelfState) → n ≡ m → r ≡ q → FailsToWrite a n (printed r) c → FailsToWrite a m (printed q) c
-fails-as_asked a n m r q c name route h = subst (λ (s : RouteText). FailsToWrite a m (printed s) c) route (subst (λ (k : Bytes). FailsToWrite a k (printed r) c) name h)
+-- a file is written under the name that is asked for, with the text that is asked for
+pub fails-as_asked : (a : ShelfState) (n m text want : Bytes) (c : ShelfState) → n ≡ m → text ≡ want → FailsToWrite a n text c → FailsToWrite a m want c
+fails-as_asked a n m text want c name same h = subst (λ (t : Bytes). FailsToWrite a m t c) same (subst (λ (k : Bytes). FailsToWrite a k text c) name h)
 
-pub written-as_asked : (a : ShelfState) (n m : Bytes) (r q : RouteText) (c : ShelfState) → n ≡ m → r ≡ q → c ≡ after_writing a n (printed r) → c ≡ after_writing a m (printed q)
-written-as_asked a n m r q c name route h = h ∙ (λ i. after_writing a (name i) (printed (route i)))
+pub written-as_asked : (a : ShelfState) (n m text want : Bytes) (c : ShelfState) → n ≡ m → text ≡ want → c ≡ after_writing a n text → c ≡ after_writing a m want
+written-as_asked a n m text want c name same h = h ∙ (λ i. after_writing a (name i) (same i))

@@ -6,6 +6,7 @@ pub mod ChainLemmas
 pub mod ChainSteps
 pub mod CommandLemmas
 pub mod ConditionLemmas
+pub mod EncodeSteps
 pub mod FileSteps
 pub mod FoundLemmas
 pub mod HopelessLemmas

@@ -1,6 +1,6 @@
 -- Of the outcomes but those of faults one alone is true of the words and the files.
 use Rattle.std.proofs.Common.{◌≡◌, ◌∙◌, ℕ, List, [], length, take, Some, None, Ok, Err, Result, refl, sym, ap, subst, inl, inr, arith}
-use Rattle.std.specs.Prelude.{filter}
+use Rattle.std.specs.Prelude.{filter, MatchResult, ◌≤◌}
 use Rattle.std.specs.List.{list_any}
 use Rattle.std.proofs.lemmas.Bool.{false≢true}
 use Rattle.std.proofs.lemmas.List.{take_all}
@@ -13,16 +13,16 @@ use Rattle.fpga_text.specs.Words.{text_lines}
 use Rattle.fpga_route.specs.Codes.{HasCode}
 use Rattle.fpga_route.specs.Value.{route_value}
 use Rattle.router_top.specs.Attempts.{is_attempt, is_routing, rows}
-use Rattle.router_top.specs.Answer.{IsRefused, IsTrueOf}
-use Rattle.router_top.specs.Asked.{Asks, IsBadText, IsCutOff, IsHopeless, IsMisfit, IsRoutable, IsRouteFile, IsTooLong, all_attempts}
-use Rattle.router_top.specs.Command.{Job, Word, job_of}
+use Rattle.router_top.specs.Answer.{HasTooMany, IsRefused, IsRouteFault, IsRouteTooLong, IsTrueOf, IsTrueOfEncode, IsTrueOfJob, IsTrueOfRoute}
+use Rattle.router_top.specs.Asked.{CLAUSE_LIMIT, IsBadText, IsCutOff, IsHopeless, IsMisfit, IsRoutable, IsRouteFile, IsTooLong, Poses, all_attempts, clause_count}
+use Rattle.router_top.specs.Command.{EncodeJob, Encodes, Job, RouteJob, Routes, Word, job_of}
 use Rattle.router_top.specs.declared.outcome.Outcome.{Outcome}
-use Rattle.router_top.specs.declared.outcome.Outcome.TheVariants.{Routed, Unroutable, Undecided, InputFault, Limit, Usage, ReadFault, WriteFault, OutOfMemory}
+use Rattle.router_top.specs.declared.outcome.Outcome.TheVariants.{Routed, Unroutable, Undecided, Done, InputFault, Limit, Usage, ReadFault, WriteFault, OutOfMemory}
 
 some_same : {X : Type 0} (x y : X) → Some x ≡ Some y → x ≡ y
 some_same x y e = cc
 
--- ---- a file is too long, has a fault, or reads
+-- ---- a file is too long, is refused, or poses a problem
 
 module _ (files : FileMap) (name : Bytes) where
   long-bad : IsTooLong (Some files) name → IsBadText (Some files) name → ⊥
@@ -55,6 +55,41 @@ module _ (files : FileMap) (name : Bytes) where
       let same : one.0 ≡ two.0 = some_same one.0 two.0 (sym one.1 ∙ two.1) in
       one.3.1 ∙ ap route_value same ∙ sym two.3.1
 
+  -- a file that poses two problems poses one
+  both : (P Q : RouteText → Type 0) → Poses (Some files) name P → Poses (Some files) name Q → (r : RouteText) × P r × Q r
+  both P Q h g = (h.0, h.3, subst Q (sym (same-route h.0 g.0 h.1 g.1)) g.3)
+
+  long-poses : (P : RouteText → Type 0) → IsTooLong (Some files) name → Poses (Some files) name P → ⊥
+  long-poses P h g = long-reads g.0 h g.1
+
+  -- a file that is refused poses no problem
+  refused-poses : (P : RouteText → Type 0) (code : ℕ) → IsRefused (Some files) name code → Poses (Some files) name P → ⊥
+  refused-poses P code (inl bad) g = bad-reads g.0 bad.1 g.1
+  refused-poses P code (inr misfit) g = misfit.1.2 (subst IsFit (sym (same-route misfit.1.0 g.0 misfit.1.1 g.1)) g.2)
+
+  refused-long : (code : ℕ) → IsRefused (Some files) name code → IsTooLong (Some files) name → ⊥
+  refused-long code (inl bad) long = long-bad long bad.1
+  refused-long code (inr misfit) long = long-reads misfit.1.0 long misfit.1.1
+
+  refused-same : (code other : ℕ) → IsRefused (Some files) name code → IsRefused (Some files) name other → code ≡ other
+  refused-same code other (inl a) (inl b) = a.0 ∙ sym b.0
+  refused-same code other (inr a) (inr b) = a.0 ∙ sym b.0
+  refused-same code other (inl a) (inr b) = absurd (bad-reads b.1.0 a.1 b.1.1)
+  refused-same code other (inr a) (inl b) = absurd (bad-reads a.1.0 b.1 a.1.1)
+
+  fault-same : (f l c e k d : ℕ) → IsRouteFault (Some files) name f l c → IsRouteFault (Some files) name e k d → InputFault f l c ≡ InputFault e k d
+  fault-same f l c e k d h g =
+      let file : f ≡ e = h.0 ∙ sym g.0 in
+      let line : l ≡ k = h.1 ∙ sym g.1 in
+      let code : c ≡ d = refused-same c d h.2 g.2 in
+      λ i. InputFault (file i) (line i) (code i)
+
+  long-same : (c n d m : ℕ) → IsRouteTooLong (Some files) name c n → IsRouteTooLong (Some files) name d m → Limit c n ≡ Limit d m
+  long-same c n d m h g =
+      let code : c ≡ d = h.0 ∙ sym g.0 in
+      let count : n ≡ m = h.1 ∙ sym g.1 in
+      λ i. Limit (code i) (count i)
+
 -- ---- a search finds, has no hope, or is cut off
 
 routable-hopeless : (route : RouteText) (width limit : ℕ) → IsRoutable route width limit → IsHopeless route width limit → ⊥
@@ -77,111 +112,99 @@ hopeless-cut_off route width limit h g = omega (arith, h.few, g.more)
 
 -- ---- one outcome is true
 
-ok_same : (r s : Result Job ℕ) (x y : Job) → r ≡ Ok x → s ≡ Ok y → r ≡ s → x ≡ y
-ok_same r s x y f g e = cc
+module _ (job : RouteJob) (files : FileMap) where
+  route_outcome : (a b : Outcome) → IsTrueOfRoute job (Some files) a → IsTrueOfRoute job (Some files) b → a ≡ b
+  route_outcome (Routed w) (Routed v) h g = ap Routed (h.0 ∙ sym g.0)
+  route_outcome (Routed w) (Unroutable v) h g = let r = both files job.file (λ r. IsRoutable r job.width job.attempts) (λ r. IsHopeless r job.width job.attempts) h.1 g.1 in absurd (routable-hopeless r.0 job.width job.attempts r.1 r.2)
+  route_outcome (Routed w) (Undecided v n) h g = let r = both files job.file (λ r. IsRoutable r job.width job.attempts) (λ r. IsCutOff r job.width job.attempts) h.1 g.2 in absurd (routable-cut_off r.0 job.width job.attempts r.1 r.2)
+  route_outcome (Unroutable w) (Unroutable v) h g = ap Unroutable (h.0 ∙ sym g.0)
+  route_outcome (Unroutable w) (Routed v) h g = let r = both files job.file (λ r. IsRoutable r job.width job.attempts) (λ r. IsHopeless r job.width job.attempts) g.1 h.1 in absurd (routable-hopeless r.0 job.width job.attempts r.1 r.2)
+  route_outcome (Unroutable w) (Undecided v n) h g = let r = both files job.file (λ r. IsHopeless r job.width job.attempts) (λ r. IsCutOff r job.width job.attempts) h.1 g.2 in absurd (hopeless-cut_off r.0 job.width job.attempts r.1 r.2)
+  route_outcome (Undecided w m) (Undecided v n) h g = let width : w ≡ v = h.0 ∙ sym g.0 in let tried : m ≡ n = h.1 ∙ sym g.1 in λ i. Undecided (width i) (tried i)
+  route_outcome (Undecided w m) (Routed v) h g = let r = both files job.file (λ r. IsRoutable r job.width job.attempts) (λ r. IsCutOff r job.width job.attempts) g.1 h.2 in absurd (routable-cut_off r.0 job.width job.attempts r.1 r.2)
+  route_outcome (Undecided w m) (Unroutable v) h g = let r = both files job.file (λ r. IsHopeless r job.width job.attempts) (λ r. IsCutOff r job.width job.attempts) g.1 h.2 in absurd (hopeless-cut_off r.0 job.width job.attempts r.1 r.2)
+  route_outcome (Routed w) (InputFault f l c) h g = absurd (refused-poses files job.file (λ r. IsRoutable r job.width job.attempts) c g.2 h.1)
+  route_outcome (Routed w) (Limit c n) h g = absurd (long-poses files job.file (λ r. IsRoutable r job.width job.attempts) g.2 h.1)
+  route_outcome (InputFault f l c) (Routed w) h g = absurd (refused-poses files job.file (λ r. IsRoutable r job.width job.attempts) c h.2 g.1)
+  route_outcome (Limit c n) (Routed w) h g = absurd (long-poses files job.file (λ r. IsRoutable r job.width job.attempts) h.2 g.1)
+  route_outcome (Unroutable w) (InputFault f l c) h g = absurd (refused-poses files job.file (λ r. IsHopeless r job.width job.attempts) c g.2 h.1)
+  route_outcome (Unroutable w) (Limit c n) h g = absurd (long-poses files job.file (λ r. IsHopeless r job.width job.attempts) g.2 h.1)
+  route_outcome (InputFault f l c) (Unroutable w) h g = absurd (refused-poses files job.file (λ r. IsHopeless r job.width job.attempts) c h.2 g.1)
+  route_outcome (Limit c n) (Unroutable w) h g = absurd (long-poses files job.file (λ r. IsHopeless r job.width job.attempts) h.2 g.1)
+  route_outcome (Undecided w m) (InputFault f l c) h g = absurd (refused-poses files job.file (λ r. IsCutOff r job.width job.attempts) c g.2 h.2)
+  route_outcome (Undecided w m) (Limit c n) h g = absurd (long-poses files job.file (λ r. IsCutOff r job.width job.attempts) g.2 h.2)
+  route_outcome (InputFault f l c) (Undecided w m) h g = absurd (refused-poses files job.file (λ r. IsCutOff r job.width job.attempts) c h.2 g.2)
+  route_outcome (Limit c n) (Undecided w m) h g = absurd (long-poses files job.file (λ r. IsCutOff r job.width job.attempts) h.2 g.2)
+  route_outcome (InputFault f l c) (InputFault e k d) h g = fault-same files job.file f l c e k d h g
+  route_outcome (InputFault f l c) (Limit d n) h g = absurd (refused-long files job.file c h.2 g.2)
+  route_outcome (Limit c n) (InputFault f l d) h g = absurd (refused-long files job.file d g.2 h.2)
+  route_outcome (Limit c n) (Limit d m) h g = long-same files job.file c n d m h g
+  route_outcome Done b h g = absurd h
+  route_outcome (Usage c) b h g = absurd h
+  route_outcome (ReadFault f) b h g = absurd h
+  route_outcome (WriteFault s) b h g = absurd h
+  route_outcome OutOfMemory b h g = absurd h
+  route_outcome a Done h g = absurd g
+  route_outcome a (Usage c) h g = absurd g
+  route_outcome a (ReadFault f) h g = absurd g
+  route_outcome a (WriteFault s) h g = absurd g
+  route_outcome a OutOfMemory h g = absurd g
 
-err_same : (r : Result Job ℕ) (c d : ℕ) → r ≡ Err c → r ≡ Err d → c ≡ d
-err_same r c d f g = cc
+module _ (job : EncodeJob) (files : FileMap) where
+  -- a route with few enough clauses has not too many
+  few-many : (route : RouteText) (count : ℕ) → clause_count job.width route ≤ CLAUSE_LIMIT → HasTooMany job.width count route → ⊥
+  few-many route count few many = omega (arith, few, many.0, many.1)
 
-clash : (r : Result Job ℕ) (c : ℕ) (j : Job) → r ≡ Err c → r ≡ Ok j → ⊥
-clash r c j f g = cc
-
-module _ (words : List Word) (files : FileMap) where
-  the_job : (j k : Job) → job_of words ≡ Ok j → job_of words ≡ Ok k → j ≡ k
-  the_job j k h g = ok_same (job_of words) (job_of words) j k h g refl
-
-  no_job : (code : ℕ) (j : Job) → job_of words ≡ Err code → job_of words ≡ Ok j → ⊥
-  no_job code j h g = clash (job_of words) code j h g
-
-  -- the file of a job is one that is asked for twice
-  moved : (P : Bytes → Type 0) (j k : Job) → job_of words ≡ Ok j → job_of words ≡ Ok k → P k.file → P j.file
-  moved P j k h g p = subst (λ (l : Job). P l.file) (sym (the_job j k h g)) p
-
-  same_job_route : (j k : Job) (r s : RouteText) → Asks words (Some files) j r → Asks words (Some files) k s → r ≡ s
-  same_job_route j k r s h g = same-route files j.file r s h.reads (moved (λ n. IsRouteFile (Some files) n s) j k h.asked g.asked g.reads)
-
-  width_same : (j k : Job) (w v : ℕ) → j.width ≡ w → k.width ≡ v → job_of words ≡ Ok j → job_of words ≡ Ok k → w ≡ v
-  width_same j k w v jw kv h g = sym jw ∙ ap (λ (l : Job). l.width) (the_job j k h g) ∙ kv
-
-  -- a fact on the second job and its route is one on the first
-  carried : (P : RouteText → ℕ → ℕ → Type 0) (j k : Job) (r s : RouteText) → Asks words (Some files) j r → Asks words (Some files) k s → P s k.width k.attempts → P r j.width j.attempts
-  carried P j k r s h g p =
-      subst (λ (t : RouteText). P t j.width j.attempts) (sym (same_job_route j k r s h g)) (subst (λ (l : Job). P s l.width l.attempts) (sym (the_job j k h.asked g.asked)) p)
-
-  misfit-fits : (j k : Job) (s : RouteText) → job_of words ≡ Ok j → IsMisfit (Some files) j.file → Asks words (Some files) k s → ⊥
-  misfit-fits j k s h m g =
-      let same : m.0 ≡ s = same-route files j.file m.0 s m.1 (moved (λ n. IsRouteFile (Some files) n s) j k h g.asked g.reads) in
-      m.2 (subst IsFit (sym same) g.fits)
-
-  -- a file that gives no problem is not one that gives one
-  refused : (j k : Job) (s : RouteText) (code : ℕ) → job_of words ≡ Ok j → IsRefused (Some files) j.file code → Asks words (Some files) k s → ⊥
-  refused j k s code h (inl bad) g = bad-reads files j.file s bad.1 (moved (λ n. IsRouteFile (Some files) n s) j k h g.asked g.reads)
-  refused j k s code h (inr misfit) g = misfit-fits j k s h misfit.1 g
-
-  refused-long : (j k : Job) (code : ℕ) → job_of words ≡ Ok j → IsRefused (Some files) j.file code → job_of words ≡ Ok k → IsTooLong (Some files) k.file → ⊥
-  refused-long j k code h (inl bad) g long = long-bad files j.file (moved (IsTooLong (Some files)) j k h g long) bad.1
-  refused-long j k code h (inr misfit) g long = long-reads files j.file misfit.1.0 (moved (IsTooLong (Some files)) j k h g long) misfit.1.1
-
-  refused-same : (j k : Job) (code other : ℕ) → job_of words ≡ Ok j → job_of words ≡ Ok k → IsRefused (Some files) j.file code
-      → IsRefused (Some files) k.file other → code ≡ other
-  refused-same j k code other h g (inl a) (inl b) = a.0 ∙ sym b.0
-  refused-same j k code other h g (inr a) (inr b) = a.0 ∙ sym b.0
-  refused-same j k code other h g (inl a) (inr b) = absurd (bad-reads files j.file b.1.0 a.1 (moved (λ n. IsRouteFile (Some files) n b.1.0) j k h g b.1.1))
-  refused-same j k code other h g (inr a) (inl b) = absurd (bad-reads files j.file a.1.0 (moved (IsBadText (Some files)) j k h g b.1) a.1.1)
-
-  long-problem : (j k : Job) (s : RouteText) → job_of words ≡ Ok j → IsTooLong (Some files) j.file → Asks words (Some files) k s → ⊥
-  long-problem j k s h long g = long-reads files j.file s long (moved (λ n. IsRouteFile (Some files) n s) j k h g.asked g.reads)
-
-  pub one_outcome : (a b : Outcome) → IsTrueOf words (Some files) a → IsTrueOf words (Some files) b → a ≡ b
-  one_outcome (Routed w) (Routed v) h g = ap Routed (width_same h.0 g.0 w v h.2 g.2 h.3.asked g.3.asked)
-  one_outcome (Routed w) (Unroutable v) h g = absurd (routable-hopeless h.1 h.0.width h.0.attempts h.4 (carried IsHopeless h.0 g.0 h.1 g.1 h.3 g.3 g.4))
-  one_outcome (Routed w) (Undecided v n) h g = absurd (routable-cut_off h.1 h.0.width h.0.attempts h.4 (carried IsCutOff h.0 g.0 h.1 g.1 h.3 g.3 g.4.1))
-  one_outcome (Routed w) (InputFault f l c) h g = absurd (refused g.0 h.0 h.1 c g.1 g.2.2 h.3)
-  one_outcome (Routed w) (Limit c n) h g = absurd (long-problem g.0 h.0 h.1 g.1 g.2.2 h.3)
-  one_outcome (Routed w) (Usage c) h g = absurd (no_job c h.0 g h.3.asked)
-  one_outcome (Unroutable w) (Routed v) h g = absurd (routable-hopeless h.1 h.0.width h.0.attempts (carried IsRoutable h.0 g.0 h.1 g.1 h.3 g.3 g.4) h.4)
-  one_outcome (Unroutable w) (Unroutable v) h g = ap Unroutable (width_same h.0 g.0 w v h.2 g.2 h.3.asked g.3.asked)
-  one_outcome (Unroutable w) (Undecided v n) h g = absurd (hopeless-cut_off h.1 h.0.width h.0.attempts h.4 (carried IsCutOff h.0 g.0 h.1 g.1 h.3 g.3 g.4.1))
-  one_outcome (Unroutable w) (InputFault f l c) h g = absurd (refused g.0 h.0 h.1 c g.1 g.2.2 h.3)
-  one_outcome (Unroutable w) (Limit c n) h g = absurd (long-problem g.0 h.0 h.1 g.1 g.2.2 h.3)
-  one_outcome (Unroutable w) (Usage c) h g = absurd (no_job c h.0 g h.3.asked)
-  one_outcome (Undecided w m) (Routed v) h g = absurd (routable-cut_off h.1 h.0.width h.0.attempts (carried IsRoutable h.0 g.0 h.1 g.1 h.3 g.3 g.4) h.4.1)
-  one_outcome (Undecided w m) (Unroutable v) h g = absurd (hopeless-cut_off h.1 h.0.width h.0.attempts (carried IsHopeless h.0 g.0 h.1 g.1 h.3 g.3 g.4) h.4.1)
-  one_outcome (Undecided w m) (Undecided v n) h g =
-      let job = the_job h.0 g.0 h.3.asked g.3.asked in
-      let tried : m ≡ n = sym h.4.0 ∙ ap (λ (l : Job). l.attempts) job ∙ g.4.0 in
-      λ i. Undecided (width_same h.0 g.0 w v h.2 g.2 h.3.asked g.3.asked i) (tried i)
-  one_outcome (Undecided w m) (InputFault f l c) h g = absurd (refused g.0 h.0 h.1 c g.1 g.2.2 h.3)
-  one_outcome (Undecided w m) (Limit c n) h g = absurd (long-problem g.0 h.0 h.1 g.1 g.2.2 h.3)
-  one_outcome (Undecided w m) (Usage c) h g = absurd (no_job c h.0 g h.3.asked)
-  one_outcome (InputFault f l c) (Routed v) h g = absurd (refused h.0 g.0 g.1 c h.1 h.2.2 g.3)
-  one_outcome (InputFault f l c) (Unroutable v) h g = absurd (refused h.0 g.0 g.1 c h.1 h.2.2 g.3)
-  one_outcome (InputFault f l c) (Undecided v n) h g = absurd (refused h.0 g.0 g.1 c h.1 h.2.2 g.3)
-  one_outcome (InputFault f l c) (InputFault e k d) h g =
-      let file : f ≡ e = h.2.0 ∙ sym g.2.0 in
-      let line : l ≡ k = h.2.1 ∙ sym g.2.1 in
-      let code : c ≡ d = refused-same h.0 g.0 c d h.1 g.1 h.2.2 g.2.2 in
-      λ i. InputFault (file i) (line i) (code i)
-  one_outcome (InputFault f l c) (Limit d n) h g = absurd (refused-long h.0 g.0 c h.1 h.2.2 g.1 g.2.2)
-  one_outcome (InputFault f l c) (Usage d) h g = absurd (no_job d h.0 g h.1)
-  one_outcome (Limit c n) (Routed v) h g = absurd (long-problem h.0 g.0 g.1 h.1 h.2.2 g.3)
-  one_outcome (Limit c n) (Unroutable v) h g = absurd (long-problem h.0 g.0 g.1 h.1 h.2.2 g.3)
-  one_outcome (Limit c n) (Undecided v m) h g = absurd (long-problem h.0 g.0 g.1 h.1 h.2.2 g.3)
-  one_outcome (Limit c n) (InputFault f l d) h g = absurd (refused-long g.0 h.0 d g.1 g.2.2 h.1 h.2.2)
-  one_outcome (Limit c n) (Limit d m) h g =
-      let code : c ≡ d = h.2.0 ∙ sym g.2.0 in
-      let count : n ≡ m = h.2.1 ∙ sym g.2.1 in
+  limits : (c n d m : ℕ) → IsTrueOfEncode job (Some files) (Limit c n) → IsTrueOfEncode job (Some files) (Limit d m) → Limit c n ≡ Limit d m
+  limits c n d m (inl h) (inl g) = long-same files job.file c n d m h g
+  limits c n d m (inl h) (inr g) = absurd (long-poses files job.file (HasTooMany job.width m) h.2 g.1)
+  limits c n d m (inr h) (inl g) = absurd (long-poses files job.file (HasTooMany job.width n) g.2 h.1)
+  limits c n d m (inr h) (inr g) =
+      let r = both files job.file (HasTooMany job.width n) (HasTooMany job.width m) h.1 g.1 in
+      let code : c ≡ d = h.0 ∙ sym g.0 in
+      let count : n ≡ m = r.1.0 ∙ sym r.2.0 in
       λ i. Limit (code i) (count i)
-  one_outcome (Limit c n) (Usage d) h g = absurd (no_job d h.0 g h.1)
-  one_outcome (Usage c) (Routed v) h g = absurd (no_job c g.0 h g.3.asked)
-  one_outcome (Usage c) (Unroutable v) h g = absurd (no_job c g.0 h g.3.asked)
-  one_outcome (Usage c) (Undecided v n) h g = absurd (no_job c g.0 h g.3.asked)
-  one_outcome (Usage c) (InputFault f l d) h g = absurd (no_job c g.0 h g.1)
-  one_outcome (Usage c) (Limit d n) h g = absurd (no_job c g.0 h g.1)
-  one_outcome (Usage c) (Usage d) h g = ap Usage (err_same (job_of words) c d h g)
-  one_outcome (ReadFault f) b h g = absurd h
-  one_outcome (WriteFault s) b h g = absurd h
-  one_outcome OutOfMemory b h g = absurd h
-  one_outcome a (ReadFault f) h g = absurd g
-  one_outcome a (WriteFault s) h g = absurd g
-  one_outcome a OutOfMemory h g = absurd g
+
+  done-limit : (c n : ℕ) → IsTrueOfEncode job (Some files) Done → IsTrueOfEncode job (Some files) (Limit c n) → ⊥
+  done-limit c n h (inl g) = long-poses files job.file (λ r. clause_count job.width r ≤ CLAUSE_LIMIT) g.2 h
+  done-limit c n h (inr g) = let r = both files job.file (λ r. clause_count job.width r ≤ CLAUSE_LIMIT) (HasTooMany job.width n) h g.1 in few-many r.0 n r.1 r.2
+
+  fault-limit : (f l c d n : ℕ) → IsTrueOfEncode job (Some files) (InputFault f l c) → IsTrueOfEncode job (Some files) (Limit d n) → ⊥
+  fault-limit f l c d n h (inl g) = refused-long files job.file c h.2 g.2
+  fault-limit f l c d n h (inr g) = refused-poses files job.file (HasTooMany job.width n) c h.2 g.1
+
+  encode_outcome : (a b : Outcome) → IsTrueOfEncode job (Some files) a → IsTrueOfEncode job (Some files) b → a ≡ b
+  encode_outcome Done Done h g = refl
+  encode_outcome Done (InputFault f l c) h g = absurd (refused-poses files job.file (λ r. clause_count job.width r ≤ CLAUSE_LIMIT) c g.2 h)
+  encode_outcome Done (Limit c n) h g = absurd (done-limit c n h g)
+  encode_outcome (InputFault f l c) Done h g = absurd (refused-poses files job.file (λ r. clause_count job.width r ≤ CLAUSE_LIMIT) c h.2 g)
+  encode_outcome (InputFault f l c) (InputFault e k d) h g = fault-same files job.file f l c e k d h g
+  encode_outcome (InputFault f l c) (Limit d n) h g = absurd (fault-limit f l c d n h g)
+  encode_outcome (Limit c n) Done h g = absurd (done-limit c n g h)
+  encode_outcome (Limit c n) (InputFault f l d) h g = absurd (fault-limit f l d c n g h)
+  encode_outcome (Limit c n) (Limit d m) h g = limits c n d m h g
+  encode_outcome (Routed w) b h g = absurd h
+  encode_outcome (Unroutable w) b h g = absurd h
+  encode_outcome (Undecided w n) b h g = absurd h
+  encode_outcome (Usage c) b h g = absurd h
+  encode_outcome (ReadFault f) b h g = absurd h
+  encode_outcome (WriteFault s) b h g = absurd h
+  encode_outcome OutOfMemory b h g = absurd h
+  encode_outcome a (Routed w) h g = absurd g
+  encode_outcome a (Unroutable w) h g = absurd g
+  encode_outcome a (Undecided w n) h g = absurd g
+  encode_outcome a (Usage c) h g = absurd g
+  encode_outcome a (ReadFault f) h g = absurd g
+  encode_outcome a (WriteFault s) h g = absurd g
+  encode_outcome a OutOfMemory h g = absurd g
+
+job_outcome : (job : Job) (files : FileMap) (a b : Outcome) → IsTrueOfJob job (Some files) a → IsTrueOfJob job (Some files) b → a ≡ b
+job_outcome (Routes job) files a b h g = route_outcome job files a b h g
+job_outcome (Encodes job) files a b h g = encode_outcome job files a b h g
+
+pub one_outcome : (words : List Word) (files : FileMap) (a b : Outcome) → IsTrueOf words (Some files) a → IsTrueOf words (Some files) b → a ≡ b
+one_outcome words files a b h g = go (job_of words) h g
+  where
+    go : (r : Result Job ℕ) → MatchResult r (λ job. IsTrueOfJob job (Some files) a) (λ code. a ≡ Usage code) → MatchResult r (λ job. IsTrueOfJob job (Some files) b) (λ code. b ≡ Usage code) → a ≡ b
+    go (Ok job) h g = job_outcome job files a b h g
+    go (Err code) h g = h ∙ sym g

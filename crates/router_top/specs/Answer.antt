@@ -1,55 +1,75 @@
 -- What each outcome says of the words, of the route file, of the faults and of what was written.
-use Rattle.std.specs.Prelude.{◌≡◌, ◌⊎◌, ℕ, ◌+◌, ◌≤◌, List, length, take, option_map, false, Err, Ok, Option, Some}
+use Rattle.std.specs.Prelude.{◌≡◌, ◌⊎◌, ℕ, ◌+◌, ◌<◌, ◌≤◌, List, length, take, option_map, false, MatchResult, Option, Some}
 use Rattle.std.specs.Option.{ForSome}
 use Rattle.std.specs.FinMap.{insert}
 use Rattle.desk_io.specs.DeskState.{DeskState}
 use Rattle.desk_io.specs.Files.{Bytes, FileMap, HasRisen}
 use Rattle.desk_io.specs.Reading.{FaultIsOn}
 use Rattle.desk_io.specs.ShelfState.{FailsToCreate, FailsToSay, ShelfState, after_create, after_finish, after_say}
+use Rattle.fpga_types.specs.Fit.{IsFit}
 use Rattle.fpga_types.specs.Legal.{IsLegalSubset, route_of}
 use Rattle.fpga_types.specs.declared.route.RouteText.{RouteText}
 use Rattle.fpga_route.specs.Printed.{printed}
-use Rattle.router_top.specs.Asked.{Asks, IsBadText, IsCutOff, IsHopeless, IsMisfit, IsRoutable, IsTooLong, ROUTE_LIMIT, route_name}
-use Rattle.router_top.specs.Command.{Job, Word, job_of}
+use Rattle.sat_text.specs.Printed.{cnf_text}
+use Rattle.route_encode.specs.Encoding.{cnf_subset}
+use Rattle.router_top.specs.Asked.{CLAUSE_LIMIT, IsBadText, IsCutOff, IsHopeless, IsMisfit, IsRoutable, IsRouteFile, IsTooLong, Poses, ROUTE_LIMIT, clause_count, cnf_name, route_name}
+use Rattle.router_top.specs.Command.{EncodeJob, Job, Routes, Encodes, RouteJob, Word, job_of}
 use Rattle.router_top.specs.Report.{IsReadFault, line_of, unsaid}
 use Rattle.router_top.specs.declared.outcome.Outcome.{Outcome}
-use Rattle.router_top.specs.declared.outcome.Outcome.TheVariants.{Routed, Unroutable, Undecided, InputFault, Limit, Usage, ReadFault, WriteFault, OutOfMemory}
+use Rattle.router_top.specs.declared.outcome.Outcome.TheVariants.{Routed, Unroutable, Undecided, Done, InputFault, Limit, Usage, ReadFault, WriteFault, OutOfMemory}
 
--- ---- what is asked for
-
--- the words ask for a job with this property
-abbrev pub AsksFor : List Word → (Job → Type 0) → Type 0
-AsksFor words property = (job : Job) × (job_of words ≡ Ok job) × property job
-
--- the words and the route file ask for a job of this width, with this property
-abbrev pub AsksWith : List Word → Option FileMap → ℕ → (Job → RouteText → Type 0) → Type 0
-AsksWith words files width property =
-    (job : Job) × (route : RouteText) × (job.width ≡ width)
-    × Asks words files job route × property job route
+-- ---- what is true of the words and the files
 
 -- the route file has a fault, which is code 400, or its route does not fit, which is code 500
 abbrev pub IsRefused : Option FileMap → Bytes → ℕ → Type 0
 IsRefused files name code =
     ((code ≡ 400) × IsBadText files name) ⊎ ((code ≡ 500) × IsMisfit files name)
 
--- what each outcome but those of faults says of the words and of the files of the desk
+-- the route file is refused with this code, on no line of its own
+abbrev pub IsRouteFault : Option FileMap → Bytes → (file line code : ℕ) → Type 0
+IsRouteFault files name file line code = (file ≡ 4) × (line ≡ 0) × IsRefused files name code
+
+-- the route file is longer than it may be
+abbrev pub IsRouteTooLong : Option FileMap → Bytes → (code count : ℕ) → Type 0
+IsRouteTooLong files name code count =
+    (code ≡ 914) × (count ≡ ROUTE_LIMIT + 1) × IsTooLong files name
+
+-- the route has more clauses than may be built, and so many
+abbrev pub HasTooMany : ℕ → (count : ℕ) → RouteText → Type 0
+HasTooMany width count route = (count ≡ clause_count width route) × (CLAUSE_LIMIT < count)
+
+-- what each outcome but those of faults says where a routing is looked for
+abbrev pub IsTrueOfRoute : RouteJob → Option FileMap → Outcome → Type 0
+IsTrueOfRoute job files (Routed width) =
+    (width ≡ job.width) × Poses files job.file (λ r. IsRoutable r job.width job.attempts)
+IsTrueOfRoute job files (Unroutable width) =
+    (width ≡ job.width) × Poses files job.file (λ r. IsHopeless r job.width job.attempts)
+IsTrueOfRoute job files (Undecided width tried) =
+    (width ≡ job.width) × (tried ≡ job.attempts)
+    × Poses files job.file (λ r. IsCutOff r job.width job.attempts)
+IsTrueOfRoute job files (InputFault file line code) = IsRouteFault files job.file file line code
+IsTrueOfRoute job files (Limit code count) = IsRouteTooLong files job.file code count
+IsTrueOfRoute job files outcome = ⊥
+
+-- the same where the clauses are asked for
+abbrev pub IsTrueOfEncode : EncodeJob → Option FileMap → Outcome → Type 0
+IsTrueOfEncode job files Done =
+    Poses files job.file (λ r. clause_count job.width r ≤ CLAUSE_LIMIT)
+IsTrueOfEncode job files (InputFault file line code) = IsRouteFault files job.file file line code
+IsTrueOfEncode job files (Limit code count) =
+    IsRouteTooLong files job.file code count
+    ⊎ ((code ≡ 901) × Poses files job.file (HasTooMany job.width count))
+IsTrueOfEncode job files outcome = ⊥
+
+-- the same for whatever is asked for
+abbrev pub IsTrueOfJob : Job → Option FileMap → Outcome → Type 0
+IsTrueOfJob (Routes job) files outcome = IsTrueOfRoute job files outcome
+IsTrueOfJob (Encodes job) files outcome = IsTrueOfEncode job files outcome
+
+-- by what the words ask for, or by the code of what keeps them from being taken
 abbrev pub IsTrueOf : List Word → Option FileMap → Outcome → Type 0
-IsTrueOf words files (Routed width) =
-    AsksWith words files width (λ job route. IsRoutable route job.width job.attempts)
-IsTrueOf words files (Unroutable width) =
-    AsksWith words files width (λ job route. IsHopeless route job.width job.attempts)
-IsTrueOf words files (Undecided width tried) =
-    AsksWith words files width (λ job route.
-    (job.attempts ≡ tried) × IsCutOff route job.width job.attempts)
-IsTrueOf words files (InputFault file line code) =
-    AsksFor words (λ job. (file ≡ 4) × (line ≡ 0) × IsRefused files job.file code)
-IsTrueOf words files (Limit code count) =
-    AsksFor words (λ job.
-    (code ≡ 914) × (count ≡ ROUTE_LIMIT + 1) × IsTooLong files job.file)
-IsTrueOf words files (Usage code) = job_of words ≡ Err code
-IsTrueOf words files (ReadFault file) = ⊥
-IsTrueOf words files (WriteFault slot) = ⊥
-IsTrueOf words files OutOfMemory = ⊥
+IsTrueOf words files outcome =
+    MatchResult (job_of words) (λ job. IsTrueOfJob job files outcome) (λ code. outcome ≡ Usage code)
 
 -- ---- what is written
 
@@ -74,67 +94,105 @@ FailsToWrite before name text now =
     FailsToCreate before name now ⊎ IsCutShort before name text now
 
 -- what the writing of the route with these tracks leaves
-abbrev pub WritesTracks : Job → RouteText → List ℕ → (before now : ShelfState) → Outcome → Type 0
+abbrev pub WritesTracks : RouteJob → RouteText → List ℕ → (before now : ShelfState) → Outcome → Type 0
 WritesTracks job route tracks before now (Routed width) =
     (width ≡ job.width)
-    × (now ≡ after_writing before (route_name job) (printed (route_of route tracks)))
+    × (now ≡ after_writing before (route_name job.prefix) (printed (route_of route tracks)))
 WritesTracks job route tracks before now (WriteFault slot) =
-    (slot ≡ 1) × FailsToWrite before (route_name job) (printed (route_of route tracks)) now
+    (slot ≡ 1)
+    × FailsToWrite before (route_name job.prefix) (printed (route_of route tracks)) now
 WritesTracks job route tracks before now OutOfMemory = now ≡ before
 WritesTracks job route tracks before now outcome = ⊥
 
+-- what the writing of the clauses of the route leaves
+abbrev pub WritesCnf : EncodeJob → RouteText → (before now : ShelfState) → Outcome → Type 0
+WritesCnf job route before now Done =
+    (clause_count job.width route ≤ CLAUSE_LIMIT)
+    × (now ≡ after_writing before (cnf_name job.prefix) (cnf_text (cnf_subset job.width route)))
+WritesCnf job route before now (WriteFault slot) =
+    (slot ≡ 2) × (clause_count job.width route ≤ CLAUSE_LIMIT)
+    × FailsToWrite before (cnf_name job.prefix) (cnf_text (cnf_subset job.width route)) now
+WritesCnf job route before now (Limit code count) =
+    (code ≡ 901) × HasTooMany job.width count route × (now ≡ before)
+WritesCnf job route before now OutOfMemory = now ≡ before
+WritesCnf job route before now outcome = ⊥
+
 -- the text is the printed route with the tracks of a legal routing of the job's width
-pub record IsRouting (job : Job) (route : RouteText) (text : Bytes) : Type 0 where
+pub record IsRouting (width : ℕ) (route : RouteText) (text : Bytes) : Type 0 where
   pub tracks : List ℕ
-  pub legal : IsLegalSubset job.width route tracks
+  pub legal : IsLegalSubset width route tracks
   pub is : text ≡ printed (route_of route tracks)
 
--- a legal routing was written, and no other file has changed
-pub record WritesRouting
-    (words : List Word) (files : Option FileMap) (before now : ShelfState) (width : ℕ)
-    : Type 0 where
-  pub job : Job
-  pub wide : job.width ≡ width
+-- the route file poses a problem that can be routed, and this is the text of a legal routing
+pub record FindsRouting (job : RouteJob) (files : Option FileMap) (text : Bytes) : Type 0 where
   pub route : RouteText
-  pub asks : Asks words files job route
+  pub reads : IsRouteFile files job.file route
+  pub fits : IsFit route
   pub routable : IsRoutable route job.width job.attempts
-  pub text : Bytes
-  pub routing : IsRouting job route text
-  pub written : now ≡ after_writing before (route_name job) text
+  pub routing : IsRouting job.width route text
 
--- a legal routing was being written
-pub record FailsToWriteRouting
-    (words : List Word) (files : Option FileMap) (before now : ShelfState)
-    : Type 0 where
-  pub job : Job
+-- the route file poses a problem with few enough clauses, and this is their text
+pub record FindsClauses (job : EncodeJob) (files : Option FileMap) (text : Bytes) : Type 0 where
   pub route : RouteText
-  pub asks : Asks words files job route
-  pub routable : IsRoutable route job.width job.attempts
-  pub text : Bytes
-  pub routing : IsRouting job route text
-  pub failed : FailsToWrite before (route_name job) text now
+  pub reads : IsRouteFile files job.file route
+  pub fits : IsFit route
+  pub few : clause_count job.width route ≤ CLAUSE_LIMIT
+  pub is : text ≡ cnf_text (cnf_subset job.width route)
 
--- the desk failed on the route file
-pub record FailsToRead (words : List Word) (before now : DeskState) : Type 0 where
-  pub job : Job
-  pub asked : job_of words ≡ Ok job
+-- the desk failed on the file with this name
+pub record FailsToRead (before now : DeskState) (name : Bytes) : Type 0 where
   pub risen : HasRisen before.faults now.faults
-  pub on : FaultIsOn before.files job.file now.fault_name
+  pub on : FaultIsOn before.files name now.fault_name
 
 -- ---- a run
 
--- what the work leaves before its outcome is reported
+-- what the search for a routing leaves before its outcome is reported
+abbrev pub LeavesRoute : RouteJob → (desk desk_now : DeskState) → (shelf shelf_now : ShelfState)
+    → Outcome → Type 0
+LeavesRoute job desk desk_now shelf shelf_now (Routed width) =
+    (width ≡ job.width)
+    × (text : Bytes) × FindsRouting job desk.files text
+    × (shelf_now ≡ after_writing shelf (route_name job.prefix) text)
+LeavesRoute job desk desk_now shelf shelf_now (WriteFault slot) =
+    (slot ≡ 1)
+    × (text : Bytes) × FindsRouting job desk.files text
+    × FailsToWrite shelf (route_name job.prefix) text shelf_now
+LeavesRoute job desk desk_now shelf shelf_now (ReadFault file) =
+    (file ≡ 4) × FailsToRead desk desk_now job.file × (shelf_now ≡ shelf)
+LeavesRoute job desk desk_now shelf shelf_now OutOfMemory = shelf_now ≡ shelf
+LeavesRoute job desk desk_now shelf shelf_now outcome =
+    IsTrueOfRoute job desk.files outcome × (shelf_now ≡ shelf)
+
+-- the same of the writing of the clauses
+abbrev pub LeavesEncode : EncodeJob → (desk desk_now : DeskState) → (shelf shelf_now : ShelfState)
+    → Outcome → Type 0
+LeavesEncode job desk desk_now shelf shelf_now Done =
+    (text : Bytes) × FindsClauses job desk.files text
+    × (shelf_now ≡ after_writing shelf (cnf_name job.prefix) text)
+LeavesEncode job desk desk_now shelf shelf_now (WriteFault slot) =
+    (slot ≡ 2)
+    × (text : Bytes) × FindsClauses job desk.files text
+    × FailsToWrite shelf (cnf_name job.prefix) text shelf_now
+LeavesEncode job desk desk_now shelf shelf_now (ReadFault file) =
+    (file ≡ 4) × FailsToRead desk desk_now job.file × (shelf_now ≡ shelf)
+LeavesEncode job desk desk_now shelf shelf_now OutOfMemory = shelf_now ≡ shelf
+LeavesEncode job desk desk_now shelf shelf_now outcome =
+    IsTrueOfEncode job desk.files outcome × (shelf_now ≡ shelf)
+
+-- the same of whatever is asked for
+abbrev pub LeavesJob : Job → (desk desk_now : DeskState) → (shelf shelf_now : ShelfState)
+    → Outcome → Type 0
+LeavesJob (Routes job) desk desk_now shelf shelf_now outcome =
+    LeavesRoute job desk desk_now shelf shelf_now outcome
+LeavesJob (Encodes job) desk desk_now shelf shelf_now outcome =
+    LeavesEncode job desk desk_now shelf shelf_now outcome
+
+-- by what the words ask for; where they are not taken, nothing is written
 abbrev pub Leaves : List Word → (desk desk_now : DeskState) → (shelf shelf_now : ShelfState)
     → Outcome → Type 0
-Leaves words desk desk_now shelf shelf_now (Routed width) =
-    WritesRouting words desk.files shelf shelf_now width
-Leaves words desk desk_now shelf shelf_now (WriteFault slot) =
-    (slot ≡ 1) × FailsToWriteRouting words desk.files shelf shelf_now
-Leaves words desk desk_now shelf shelf_now (ReadFault file) =
-    (file ≡ 4) × FailsToRead words desk desk_now × (shelf_now ≡ shelf)
-Leaves words desk desk_now shelf shelf_now OutOfMemory = shelf_now ≡ shelf
 Leaves words desk desk_now shelf shelf_now outcome =
-    IsTrueOf words desk.files outcome × (shelf_now ≡ shelf)
+    MatchResult (job_of words) (λ job. LeavesJob job desk desk_now shelf shelf_now outcome)
+    (λ code. (outcome ≡ Usage code) × (shelf_now ≡ shelf))
 
 -- the report line was said; or a front part of it was, and then the run has failed to write
 abbrev pub Reports : (before : ShelfState) → Outcome → (now : ShelfState) → Outcome → Type 0

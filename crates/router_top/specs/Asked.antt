@@ -1,5 +1,5 @@
--- What the words and the route file ask for.
-use Rattle.std.specs.Prelude.{◌≡◌, ◌⊎◌, ℕ, ◌<◌, ◌≤◌, ◌++◌, List, length, take, Ok, Option, Some, codes}
+-- What the route file of a command holds, and what a search through it comes to.
+use Rattle.std.specs.Prelude.{◌≡◌, ◌⊎◌, ℕ, ◌<◌, ◌≤◌, ◌++◌, List, length, take, Option, Some, codes}
 use Rattle.std.specs.Option.{ForSome}
 use Rattle.std.specs.FinMap.{get}
 use Rattle.desk_io.specs.Files.{Bytes, FileMap}
@@ -11,8 +11,9 @@ use Rattle.fpga_text.specs.declared.style.Style.TheVariants.{Hash}
 use Rattle.fpga_text.specs.Words.{text_lines}
 use Rattle.fpga_route.specs.Codes.{HasCode}
 use Rattle.fpga_route.specs.Value.{Reads}
+use Rattle.route_encode.specs.Encoding.{encoding_subset}
 use Rattle.router_top.specs.Attempts.{attempts}
-use Rattle.router_top.specs.Command.{Job, Word, job_of}
+use Rattle.router_top.specs.Command.{Word}
 use Rattle.router_top.specs.Found.{HasNoRouting, HasRouting}
 use Rattle.router_top.specs.declared.backtracking.Found.{Found}
 use Rattle.router_top.specs.declared.backtracking.Found.TheVariants.{Tracks, Nothing, Spent}
@@ -46,12 +47,10 @@ IsRouteFile files name route =
 abbrev pub IsMisfit : Option FileMap → Bytes → Type 0
 IsMisfit files name = (route : RouteText) × IsRouteFile files name route × ¬ IsFit route
 
--- the words ask for this job, and its route file reads as this route, which fits
-pub record Asks
-    (words : List Word) (files : Option FileMap) (job : Job) (route : RouteText) : Type 0 where
-  pub asked : job_of words ≡ Ok job
-  pub reads : IsRouteFile files job.file route
-  pub fits : IsFit route
+-- the file with this name reads as a route that fits its array, and that route has the property
+abbrev pub Poses : Option FileMap → Bytes → (RouteText → Type 0) → Type 0
+Poses files name property =
+    (route : RouteText) × IsRouteFile files name route × IsFit route × property route
 
 -- all attempts at a width
 abbrev pub all_attempts : RouteText → ℕ → List (List ℕ)
@@ -90,6 +89,18 @@ Settles route width limit (Tracks tracks) =
 Settles route width limit Nothing = IsHopeless route width limit
 Settles route width limit Spent = IsCutOff route width limit
 
--- the name of the file that the routing is written to
-abbrev pub route_name : Job → Bytes
-route_name job = job.prefix ++ codes ".route"
+-- the name of the file that a routing is written to
+abbrev pub route_name : Word → Bytes
+route_name prefix = prefix ++ codes ".route"
+
+-- the name of the file that clauses are written to
+abbrev pub cnf_name : Word → Bytes
+cnf_name prefix = prefix ++ codes ".cnf"
+
+-- how many clauses may be built
+abbrev pub CLAUSE_LIMIT : ℕ
+CLAUSE_LIMIT = 40000000
+
+-- how many clauses a route has at a width
+abbrev pub clause_count : ℕ → RouteText → ℕ
+clause_count width route = length (encoding_subset width route)

@@ -1,4 +1,4 @@
--- The words of the command `route`.
+-- The words of the commands.
 use Rattle.std.specs.Prelude.{ℕ, nat_le, ◌&&◌, List, [], ◌∷◌, String, string_bytes, map, codes, bytes_eq, Result, Ok, Err, Option, None, Some, option_and_then, if◌then◌else◌}
 use Rattle.std.specs.Global.{Global}
 use Rattle.fpga_text.specs.Numbers.{whole_number_of}
@@ -7,13 +7,25 @@ use Rattle.fpga_text.specs.Numbers.{whole_number_of}
 abbrev pub Word : Type 0
 Word = List ℕ
 
--- what is asked for: the name of the route file, the width, how many attempts are allowed, and
+-- to look for a routing: the name of the route file, the width, how many attempts are allowed, and
 -- what the names of written files begin with
-pub record Job : Type 0 where
+pub record RouteJob : Type 0 where
   pub file : Word
   pub width : ℕ
   pub attempts : ℕ
   pub prefix : Word
+
+-- to write the clauses: the name of the route file, the width, and what the names of written files
+-- begin with
+pub record EncodeJob : Type 0 where
+  pub file : Word
+  pub width : ℕ
+  pub prefix : Word
+
+-- what is asked for
+pub data Job : Type 0 where
+  Routes : RouteJob → Job
+  Encodes : EncodeJob → Job
 
 -- the whole number that a word says, where it is from 1 to the greatest
 abbrev pub number_up_to : ℕ → Word → Option ℕ
@@ -24,21 +36,34 @@ number_up_to greatest word =
 -- the job with these numbers; 3 where one is not there
 abbrev pub with_numbers : Word → Word → Option ℕ → Option ℕ → Result Job ℕ
 with_numbers file prefix (Some width) (Some attempts) =
-    Ok (record { file = file; width = width; attempts = attempts; prefix = prefix })
+    Ok (Routes (record { file = file; width = width; attempts = attempts; prefix = prefix }))
 with_numbers file prefix _ _ = Err 3
 
--- the job that the words after the command give; 2 where there are not four
+-- the job that the words after `route` give; 2 where there are not four
 abbrev pub route_job : List Word → Result Job ℕ
 route_job (file ∷ width ∷ attempts ∷ prefix ∷ []) =
     with_numbers file prefix (number_up_to 64 width) (number_up_to 100000000 attempts)
 route_job _ = Err 2
 
+-- the job with this width; 3 where it is not there
+abbrev pub with_width : Word → Word → Option ℕ → Result Job ℕ
+with_width file prefix (Some width) =
+    Ok (Encodes (record { file = file; width = width; prefix = prefix }))
+with_width file prefix None = Err 3
+
+-- the job that the words after `encode` give; 2 where there are not three
+abbrev pub encode_job : List Word → Result Job ℕ
+encode_job (file ∷ width ∷ prefix ∷ []) = with_width file prefix (number_up_to 64 width)
+encode_job _ = Err 2
+
 -- the job that the words give, or the code of what keeps them from being taken;
--- 1 where the first word is not `route`
+-- 1 where the first word names no command
 abbrev pub job_of : List Word → Result Job ℕ
 job_of [] = Err 1
 job_of (command ∷ others) =
-    if bytes_eq command (codes "route") then route_job others else Err 1
+    if bytes_eq command (codes "route") then route_job others
+    else if bytes_eq command (codes "encode") then encode_job others
+    else Err 1
 
 -- the bytes of each word
 abbrev pub words_of : List (String Global) → List Word

@@ -1,28 +1,44 @@
--- The headline: what it means that a run answers that a routing was written.
-use Rattle.std.specs.Prelude.{◌≡◌, ℕ, List, Option, option_map}
+-- The headline: what it means that a run answers that a routing or the clauses were written.
+use Rattle.std.specs.Prelude.{◌≡◌, ℕ, List, Ok, Option, option_map}
 use Rattle.std.specs.FinMap.{insert}
 use Rattle.desk_io.specs.Files.{Bytes, FileMap}
-use Rattle.fpga_types.specs.declared.route.RouteText.{RouteText}
-use Rattle.router_top.specs.Answer.{IsRouting}
-use Rattle.router_top.specs.Asked.{Asks, route_name}
-use Rattle.router_top.specs.Command.{Job, Word}
+use Rattle.router_top.specs.Answer.{FindsClauses, FindsRouting}
+use Rattle.router_top.specs.Asked.{cnf_name, route_name}
+use Rattle.router_top.specs.Command.{Encodes, EncodeJob, RouteJob, Routes, Word, job_of}
 use Rattle.router_top.specs.declared.outcome.Outcome.{Outcome}
-use Rattle.router_top.specs.declared.outcome.Outcome.TheVariants.{Routed}
+use Rattle.router_top.specs.declared.outcome.Outcome.TheVariants.{Done, Routed}
+
+-- of all files one alone was written, with this text
+abbrev pub WritesAlone : (before now : Option FileMap) → Bytes → Bytes → Type 0
+WritesAlone before now name text = now ≡ option_map (λ files. insert files name text) before
 
 -- the words ask for a routing of this width, the route file reads and fits, and of all files
 -- one alone was written: that of the job, which holds the printed route with the tracks of a
 -- legal routing
 pub record IsRouted
     (words : List Word) (desk_files before now : Option FileMap) (width : ℕ) : Type 0 where
-  pub job : Job
-  pub wide : job.width ≡ width
-  pub route : RouteText
-  pub asks : Asks words desk_files job route
+  pub job : RouteJob
+  pub asked : job_of words ≡ Ok (Routes job)
+  pub wide : width ≡ job.width
   pub text : Bytes
-  pub routing : IsRouting job route text
-  pub written : now ≡ option_map (λ files. insert files (route_name job) text) before
+  pub found : FindsRouting job desk_files text
+  pub written : WritesAlone before now (route_name job.prefix) text
 
 -- an answer that a routing was written is true
 abbrev pub RoutesOnlyTruly : List Word → (desk_files before now : Option FileMap) → Outcome → Type 0
 RoutesOnlyTruly words desk_files before now answer =
     (width : ℕ) → answer ≡ Routed width → IsRouted words desk_files before now width
+
+-- the words ask for the clauses, the route file reads and fits, and of all files one alone was
+-- written: that of the job, which holds the printed clauses of the route
+pub record IsEncoded (words : List Word) (desk_files before now : Option FileMap) : Type 0 where
+  pub job : EncodeJob
+  pub asked : job_of words ≡ Ok (Encodes job)
+  pub text : Bytes
+  pub found : FindsClauses job desk_files text
+  pub written : WritesAlone before now (cnf_name job.prefix) text
+
+-- an answer that all is done is true
+abbrev pub EncodesOnlyTruly : List Word → (desk_files before now : Option FileMap) → Outcome → Type 0
+EncodesOnlyTruly words desk_files before now answer =
+    answer ≡ Done → IsEncoded words desk_files before now

@@ -1,12 +1,28 @@
 -- The job that words say.
-use Rattle.router_top.specs.Command.{Job}
-use Rattle.router_top.specs.declared.words.RouteWords.{RouteWords}
+use Rattle.router_top.specs.Command.{EncodeJob, Encodes, Job, RouteJob, Routes}
+use Rattle.router_top.specs.declared.job_words.EncodeWords.{EncodeWords}
+use Rattle.router_top.specs.declared.job_words.JobWords.{JobWords}
+use Rattle.router_top.specs.declared.job_words.JobWords.TheVariants.{Encode, Route}
+use Rattle.router_top.specs.declared.job_words.RouteWords.{RouteWords}
 
--- the job, by the bytes of its words
-abbrev pub job_said : RouteWords → Job
-job_said words = record {
+-- a job of routing, by the bytes of its words
+abbrev pub route_said : RouteWords → RouteJob
+route_said words = record {
   file = words.file.now;
   width = words.width;
   attempts = words.attempts;
   prefix = words.prefix.now;
 }
+
+-- a job of encoding, by the bytes of its words
+abbrev pub encode_said : EncodeWords → EncodeJob
+encode_said words = record {
+  file = words.file.now;
+  width = words.width;
+  prefix = words.prefix.now;
+}
+
+-- a job, by the bytes of its words
+abbrev pub job_said : JobWords → Job
+job_said (Route words) = Routes (route_said words)
+job_said (Encode words) = Encodes (encode_said words)

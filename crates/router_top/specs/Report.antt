@@ -1,13 +1,14 @@
 -- The exit status and the report line of each outcome.
 use Rattle.std.specs.Prelude.{ℕ, ◌-◌, ◌≤◌, ◌++◌, List, [], ◌∷◌, slice_index_or, codes, decimal}
 use Rattle.router_top.specs.declared.outcome.Outcome.{Outcome}
-use Rattle.router_top.specs.declared.outcome.Outcome.TheVariants.{Routed, Unroutable, Undecided, InputFault, Limit, Usage, ReadFault, WriteFault, OutOfMemory}
+use Rattle.router_top.specs.declared.outcome.Outcome.TheVariants.{Routed, Unroutable, Undecided, Done, InputFault, Limit, Usage, ReadFault, WriteFault, OutOfMemory}
 
 -- the exit status
 abbrev pub status_of : Outcome → ℕ
 status_of (Routed width) = 0
 status_of (Unroutable width) = 1
 status_of (Undecided width attempts) = 2
+status_of Done = 0
 status_of (InputFault file line code) = 3
 status_of (Limit code count) = 3
 status_of (Usage code) = 4
@@ -37,6 +38,7 @@ report_of (Routed width) = codes "routed " ++ decimal width
 report_of (Unroutable width) = codes "unroutable " ++ decimal width
 report_of (Undecided width attempts) =
     codes "undecided " ++ decimal width ++ codes " after " ++ decimal attempts ++ codes " attempts"
+report_of Done = codes "done"
 report_of (InputFault file line code) =
     codes "fault: " ++ file_word file ++ codes " line " ++ decimal line ++ codes " code " ++ decimal code
 report_of (Limit code count) = codes "limit: code " ++ decimal code ++ codes " count " ++ decimal count

@@ -1,13 +1,17 @@
 //! Routes a global route: reads it, gives each cell of each net a track, and writes the detailed
-//! route.
+//! route; or writes the clauses that say what a routing is.
 #![tactic(auto)]
 
 mod backtracking;
 mod conditions;
+mod encoding;
 #[cfg(test)]
 mod hostile_texts;
+mod job_words;
 mod outcome;
+mod output;
 mod problem_file;
+mod routing;
 mod run;
 #[cfg(test)]
 mod tests;

@@ -16,6 +16,8 @@ pub enum Outcome {
     Unroutable { width: u32 },
     /// The attempts that were allowed were made, and none was a legal routing.
     Undecided { width: u32, attempts: u64 },
+    /// What was asked for was written.
+    Done,
     /// A file is bad. Today faults are not told apart: the line is 0, and the code is 400 where the
     /// route file does not read and 500 where the route does not fit.
     InputFault { file: u32, line: u64, code: u32 },
@@ -25,7 +27,7 @@ pub enum Outcome {
     Usage { code: u32 },
     /// The desk failed on a file.
     ReadFault { file: u32 },
-    /// The shelf failed: 0 in a `say`, 1 on the route that is written.
+    /// The shelf failed: 0 in a `say`, 1 on the route that is written, 2 on the clauses.
     WriteFault { slot: u32 },
     /// Memory ran out.
     OutOfMemory,
@@ -39,7 +41,7 @@ pub fn status(outcome: &Outcome) -> u8
     ensures { result ≡ status_of outcome.now }
 {
     match outcome {
-        Outcome::Routed { .. } => 0,
+        Outcome::Routed { .. } | Outcome::Done => 0,
         Outcome::Unroutable { .. } => 1,
         Outcome::Undecided { .. } => 2,
         Outcome::InputFault { .. } | Outcome::Limit { .. } => 3,
@@ -83,6 +85,7 @@ pub fn report(outcome: &Outcome) -> ArrayString<REPORT_ROOM>
             push_count(&mut line, " after ", attempts);
             line.push_str(" attempts");
         }
+        Outcome::Done => line.push_str("done"),
         Outcome::InputFault {
             file,
             line: at,

@@ -7,7 +7,7 @@ ghost use Rattle.router_top.specs.Stops.{IsRefusedFor, IsStoppedBy, stop_outcome
 
 use crate::outcome::Outcome;
 use desk_io::{Desk, ReadStop, read_file};
-use fpga_bounds::{FitStop, Problem, fit_route};
+use fpga_bounds::{Problem, fit_route};
 use fpga_route::read_route;
 use fpga_text::TextFault;
 use std::alloc::Global;
@@ -87,8 +87,9 @@ fn problem_of(alloc: Global, text: &[u8]) -> Result<Problem, Stop>
     };
     match fit_route(alloc, route) {
         Ok(problem) => Ok(problem),
-        Err(FitStop::Unfit) => Err(Stop::Unfit),
-        Err(FitStop::Memory) => Err(Stop::Memory),
+        Err(TextFault::Bad { .. }) => Err(Stop::Unfit),
+        Err(TextFault::Limit { .. }) => unreachable!(),
+        Err(TextFault::Memory) => Err(Stop::Memory),
     }
 }
 

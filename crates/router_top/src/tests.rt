@@ -143,7 +143,10 @@ fn words_that_are_not_taken(rt: HostRuntime) -> Result<(), Fail> {
     let none: [&str; 0] = [];
     let cases = [
         (none.as_slice(), 1),
-        (["encode"].as_slice(), 1),
+        (["drive"].as_slice(), 1),
+        (["encode"].as_slice(), 2),
+        (["encode", "one.route", "1", "100", "out"].as_slice(), 2),
+        (["encode", "one.route", "65", "out"].as_slice(), 3),
         (["route"].as_slice(), 2),
         (["route", "one.route", "1", "100"].as_slice(), 2),
         (
@@ -275,6 +278,73 @@ fn a_missing_file_is_a_read_fault(rt: HostRuntime) -> Result<(), Fail> {
     let answer = run(alloc, &words, &mut desk(alloc, ONE, &[])?, &mut shelf);
     assert_eq!(rt; answer, Outcome::ReadFault { file: 4 });
     assert_eq!(rt; status(&answer), 5);
+    Ok(())
+}
+
+// A net that branches twice.
+const BRANCH: &str =
+    "Array size: 2 x 1 logic blocks.\n\nRouting:\n\nNet 0 (a)\n\nSOURCE (1,0)  Pad: 0\n  OPIN (1,0)  Pad: 0\n CHANX (1,0)  Track: 0\n CHANY (1,1)  Track: 0\n  IPIN (1,1)  Pin: 3\n  SINK (1,1)  Class: 0\n CHANX (1,0)  Track: 0\n CHANX (2,0)  Track: 0\n  IPIN (2,0)  Pad: 0\n  SINK (2,0)  Pad: 0\n CHANX (2,0)  Track: 0\n  IPIN (2,1)  Pin: 0\n  SINK (2,1)  Class: 0\n";
+
+// Three nets through one cell.
+const THREE: &str =
+    "Array size: 1 x 1 logic blocks\nRouting:\nNet 0 (n0)\nSOURCE (1,0) Pad: 0\nOPIN (1,0) Pad: 0\nCHANX (1,0) Track: 0\nIPIN (1,0) Pad: 1\nSINK (1,0) Pad: 1\nNet 1 (n1)\nSOURCE (1,0) Pad: 2\nOPIN (1,0) Pad: 2\nCHANX (1,0) Track: 0\nIPIN (1,0) Pad: 3\nSINK (1,0) Pad: 3\nNet 2 (n2)\nSOURCE (1,0) Pad: 4\nOPIN (1,0) Pad: 4\nCHANX (1,0) Track: 0\nIPIN (1,0) Pad: 5\nSINK (1,0) Pad: 5\n";
+
+#[test]
+fn clauses_of_worked_rows(rt: HostRuntime) -> Result<(), Fail> {
+    let alloc = rt.alloc();
+    let cases = [
+        (TWO, "1", "p cnf 2 3\n1 0\n2 0\n-1 -2 0\n"),
+        (GLOBAL, "1", "p cnf 0 0\n"),
+        (
+            BRANCH,
+            "2",
+            "p cnf 6 10\n1 2 0\n3 4 0\n5 6 0\n-1 -2 0\n-3 -4 0\n-5 -6 0\n-1 3 0\n-2 4 0\n-1 5 0\n-2 6 0\n",
+        ),
+    ];
+    for (text, width, cnf) in cases {
+        let words = words(alloc, &["encode", "one.route", width, "out"])?;
+        let mut shelf = MemShelf::new(alloc, Vec::new(alloc));
+        let answer = run(alloc, &words, &mut desk(alloc, text, &[])?, &mut shelf);
+        assert_eq!(rt; answer, Outcome::Done);
+        assert_eq!(rt; shelf.said(), b"done\n".as_slice());
+        assert_eq!(rt; shelf.file("out.cnf"), Some(cnf.as_bytes()));
+        assert!(rt; shelf.file("out.route").is_none());
+    }
+    let heads = [
+        (THREE, "2", "p cnf 6 12\n"),
+        (JUNCTION, "1", "p cnf 6 12\n"),
+        (JUNCTION, "2", "p cnf 12 24\n"),
+    ];
+    for (text, width, head) in heads {
+        let words = words(alloc, &["encode", "one.route", width, "out"])?;
+        let mut shelf = MemShelf::new(alloc, Vec::new(alloc));
+        let answer = run(alloc, &words, &mut desk(alloc, text, &[])?, &mut shelf);
+        assert_eq!(rt; answer, Outcome::Done);
+        let cnf = shelf.file("out.cnf").ok_or("no clauses")?;
+        assert!(rt; cnf.starts_with(head.as_bytes()), "at width {width}");
+    }
+    Ok(())
+}
+
+#[test]
+fn each_call_of_the_shelf_fails_in_turn_for_the_clauses(rt: HostRuntime) -> Result<(), Fail> {
+    let alloc = rt.alloc();
+    let words = words(alloc, &["encode", "one.route", "1", "out"])?;
+    // A create, an append of all, a finish and a say.
+    let whole = Some(b"p cnf 1 1\n1 0\n".as_slice());
+    let cases = [
+        (1, Outcome::WriteFault { slot: 2 }, None),
+        (2, Outcome::WriteFault { slot: 2 }, Some(b"".as_slice())),
+        (3, Outcome::WriteFault { slot: 2 }, whole),
+        (4, Outcome::WriteFault { slot: 0 }, whole),
+        (5, Outcome::Done, whole),
+    ];
+    for (call, outcome, file) in cases {
+        let mut shelf = MemShelf::new(alloc, Vec::from_slice(alloc, &[call])?);
+        let answer = run(alloc, &words, &mut desk(alloc, ONE, &[])?, &mut shelf);
+        assert_eq!(rt; answer, outcome, "at call {call}");
+        assert_eq!(rt; shelf.file("out.cnf"), file, "at call {call}");
+    }
     Ok(())
 }
 

@@ -1,30 +1,18 @@
 //! The words of the command.
-ghost use Rattle.std.specs.Prelude.{◌≡◌, ◌≤◌, IfOk, IfErr, Ok, Err, option_map};
-ghost use Rattle.router_top.specs.JobSaid.{job_said};
+ghost use Rattle.std.specs.Prelude.{◌≡◌, ◌≤◌, IfOk, IfErr, IfSome, Ok, Err, option_map};
+ghost use Rattle.router_top.specs.Command.{Encodes, Routes, encode_job, job_of, number_up_to, route_job, words_of};
+ghost use Rattle.router_top.specs.JobSaid.{encode_said, job_said, route_said};
 ghost use Rattle.router_top.specs.WordsCode.{words_code};
-ghost use Rattle.router_top.specs.Command.{job_of, number_up_to, route_job, words_of};
 
+use crate::job_words::{EncodeWords, JobWords, RouteWords};
 use fpga_text::whole_number;
-
-/// What the words of `route` ask for.
-#[derive(Clone, Copy, Debug)]
-pub struct RouteWords<'a> {
-    /// The name of the route file.
-    pub file: &'a str,
-    /// How many tracks each channel has, from 1 to 64.
-    pub width: u32,
-    /// How many attempts are allowed, from 1 to 100,000,000.
-    pub attempts: u64,
-    /// What the names of the files that are written begin with.
-    pub prefix: &'a str,
-}
 
 /// Why words are not taken.
 #[derive(Clone, Copy, Debug, PartialEq, Eq)]
 pub enum WordsFault {
-    /// The first word is not `route`, or there is none.
+    /// The first word names no command, or there is none.
     Command,
-    /// There are not four words after it.
+    /// There are not as many words after it as it takes.
     Count,
     /// The width or the number of attempts is no whole number in its range.
     Number,
@@ -45,7 +33,8 @@ impl WordsFault {
 
 // The whole number that a word says, where it is from 1 to the greatest.
 fn number_from_one(word: &str, greatest: u64) -> Option<u64>
-    ensures { result ≡ number_up_to greatest word.now }
+    ensures number { result ≡ number_up_to greatest word.now }
+    ensures within { IfSome result (λ number. (1 ≤ number) × (number ≤ greatest)) }
 {
     let Some(number) = whole_number(word.as_bytes()) else {
         return None;
@@ -56,9 +45,9 @@ fn number_from_one(word: &str, greatest: u64) -> Option<u64>
     Some(number)
 }
 
-// Reads the words after the command.
+// Reads the words after `route`.
 fn read_route_words(words: &[String]) -> Result<RouteWords<'_>, WordsFault>
-    ensures ok { IfOk result (λ w. route_job (words_of words.now) ≡ Ok (job_said w)) }
+    ensures ok { IfOk result (λ w. route_job (words_of words.now) ≡ Ok (Routes (route_said w))) }
     ensures err { IfErr result (λ e. route_job (words_of words.now) ≡ Err (words_code e)) }
 {
     let [file, width, attempts, prefix] = words else {
@@ -78,16 +67,43 @@ fn read_route_words(words: &[String]) -> Result<RouteWords<'_>, WordsFault>
     })
 }
 
-/// Reads the words of the command. The fault is the first that holds, in the order of `WordsFault`.
-pub fn read_words(words: &[String]) -> Result<RouteWords<'_>, WordsFault>
+// Reads the words after `encode`.
+fn read_encode_words(words: &[String]) -> Result<EncodeWords<'_>, WordsFault>
+    ensures ok { IfOk result (λ w. encode_job (words_of words.now) ≡ Ok (Encodes (encode_said w))) }
+    ensures err { IfErr result (λ e. encode_job (words_of words.now) ≡ Err (words_code e)) }
+{
+    let [file, width, prefix] = words else {
+        return Err(WordsFault::Count);
+    };
+    let Some(width) = number_from_one(width.as_str(), 64) else {
+        return Err(WordsFault::Number);
+    };
+    Ok(EncodeWords {
+        file: file.as_str(),
+        width: width as u32,
+        prefix: prefix.as_str(),
+    })
+}
+
+/// Reads the words of a command. The fault is the first that holds, in the order of `WordsFault`.
+pub fn read_words(words: &[String]) -> Result<JobWords<'_>, WordsFault>
     ensures ok { IfOk result (λ w. job_of (words_of words.now) ≡ Ok (job_said w)) }
     ensures err { IfErr result (λ e. job_of (words_of words.now) ≡ Err (words_code e)) }
 {
     let [command, others @ ..] = words else {
         return Err(WordsFault::Command);
     };
-    if command.as_str() != "route" {
-        return Err(WordsFault::Command);
+    if command.as_str() == "route" {
+        return match read_route_words(others) {
+            Ok(words) => Ok(JobWords::Route(words)),
+            Err(fault) => Err(fault),
+        };
     }
-    read_route_words(others)
+    if command.as_str() == "encode" {
+        return match read_encode_words(others) {
+            Ok(words) => Ok(JobWords::Encode(words)),
+            Err(fault) => Err(fault),
+        };
+    }
+    Err(WordsFault::Command)
 }

@@ -1,6 +1,6 @@
 use Rattle.fpga_route.specs.Printed.{printed}
 use Rattle.router_top.proofs.FileSteps.{append-fails, file-written, finish-fails}
-use Rattle.router_top.proofs.run.write_file.Goals as goal
+use Rattle.router_top.proofs.output.write_route_file.Goals as goal
 
 pub returns-clause-ok : goal.returns-clause-ok
 returns-clause-ok g c = file-written (g.S.Shelf.state c.args.shelf.now) c.args.name.now (printed c.args.route.now) c.in-Ok.ensures.ok c.in-Ok-write_route.ensures.ok c.in-Ok-finish.ensures.ok

@@ -1,5 +1,5 @@
 use Rattle.router_top.proofs.SettleLemmas.{result-settles}
-use Rattle.router_top.proofs.run.find_legal.Goals as goal
+use Rattle.router_top.proofs.routing.find_legal.Goals as goal
 
 pub returns : goal.returns
 returns c =

@@ -1,0 +1,34 @@
+//! What the words of a command ask for.
+ghost use Rattle.std.specs.Prelude.{◌≤◌};
+
+/// What the words of `route` ask for.
+#[derive(Clone, Copy, Debug)]
+pub struct RouteWords<'a> {
+    /// The name of the route file.
+    pub file: &'a str,
+    /// How many tracks each channel has, from 1 to 64.
+    pub width: u32,
+    /// How many attempts are allowed, from 1 to 100,000,000.
+    pub attempts: u64,
+    /// What the names of the files that are written begin with.
+    pub prefix: &'a str,
+}
+
+/// What the words of `encode` ask for.
+#[derive(Clone, Copy, Debug)]
+pub struct EncodeWords<'a> {
+    /// The name of the route file.
+    pub file: &'a str,
+    /// How many tracks each channel has, from 1 to 64.
+    pub width: u32,
+    /// What the names of the files that are written begin with.
+    pub prefix: &'a str,
+    ghost in_range: { (1 ≤ width) × (width ≤ 64) },
+}
+
+/// What the words ask for.
+#[derive(Clone, Copy, Debug)]
+pub enum JobWords<'a> {
+    Route(RouteWords<'a>),
+    Encode(EncodeWords<'a>),
+}
