@@ -12,7 +12,7 @@ use Rattle.fpga_types.specs.declared.problem.RouteStep.{RouteStep}
 use Rattle.fpga_types.specs.contracts.grid.CellOrd.TheImpl.{cmp-value}
 use Rattle.router_top.specs.Assignment.{higher_slot, step_at}
 use Rattle.router_top.specs.Chains.{AreLastSteps, ends_at, last_below}
-use Rattle.router_top.proofs.CellOrder.{cell_order}
+use Rattle.fpga_bounds.proofs.CellOrder.{cell_order}
 use Rattle.router_top.proofs.ConditionLemmas.{ends_at-is, ends_at-true}
 
 -- a row with one more entry, which is as it should be

@@ -1,5 +1,4 @@
 -- What the writing of the clauses leaves, where the route file poses a problem.
-use Rattle.std.proofs.Common.{Option}
 use Rattle.desk_io.specs.DeskState.{DeskState}
 use Rattle.desk_io.specs.ShelfState.{ShelfState}
 use Rattle.std.proofs.Common.{refl, inr}
@@ -11,7 +10,7 @@ use Rattle.router_top.specs.Answer.{LeavesEncode, WritesCnf}
 use Rattle.router_top.specs.Asked.{IsRouteFile}
 use Rattle.router_top.specs.Command.{EncodeJob}
 use Rattle.router_top.specs.declared.outcome.Outcome.{Outcome}
-use Rattle.router_top.specs.declared.outcome.Outcome.TheVariants.{Routed, Unroutable, Undecided, Done, InputFault, Limit, Usage, ReadFault, WriteFault, OutOfMemory}
+use Rattle.router_top.specs.declared.outcome.Outcome.TheVariants.{Routed, Unroutable, Undecided, Done, Accepted, NotAccepted, InputFault, Limit, Usage, ReadFault, WriteFault, OutOfMemory}
 
 module _ (job : EncodeJob) (route : RouteText) (desk desk_now : DeskState) (reads : IsRouteFile desk.files job.file route) (fits : IsFit route) (before now : ShelfState) where
   pub writes-leaves : (o : Outcome) → WritesCnf job route before now o → LeavesEncode job desk desk_now before now o
@@ -25,3 +24,5 @@ module _ (job : EncodeJob) (route : RouteText) (desk desk_now : DeskState) (read
   writes-leaves (InputFault f l c) h = absurd h
   writes-leaves (Usage c) h = absurd h
   writes-leaves (ReadFault f) h = absurd h
+  writes-leaves Accepted h = absurd h
+  writes-leaves (NotAccepted s c) h = absurd h

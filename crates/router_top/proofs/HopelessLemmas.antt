@@ -1,6 +1,6 @@
 -- A legal routing is among the attempts.
-use Rattle.std.proofs.Common.{◌≡◌, ◌∙◌, ℕ, zero, suc, ◌-◌, ◌<◌, ◌≤◌, Bool, true, false, cond, List, [], ◌∷◌, ◌++◌, length, take, refl, sym, ap, subst, inl, inr, arith}
-use Rattle.std.specs.Prelude.{All, filter, map}
+use Rattle.std.proofs.Common.{◌≡◌, ◌∙◌, ℕ, zero, suc, ◌-◌, ◌<◌, ◌≤◌, true, List, [], ◌∷◌, ◌++◌, length, take, refl, sym, ap, inl, inr, arith}
+use Rattle.std.specs.Prelude.{All, map}
 use Rattle.std.proofs.lemmas.Bool.{false≢true}
 use Rattle.std.proofs.lemmas.Bool.Decides.{Decides-eqb}
 use Rattle.fpga_types.specs.Legal.{IsLegalSubset}
@@ -12,20 +12,8 @@ use Rattle.fpga_types.proofs.FabricLemmas.{In, In-flat_map, In-map, In-range, li
 use Rattle.router_top.specs.Assignment.{IsAssignment}
 use Rattle.router_top.specs.Attempts.{attempts, below, is_attempt, is_routing, is_unbroken, rows}
 use Rattle.router_top.specs.Found.{HasNoRouting}
+use Rattle.route_encode.proofs.Members.{In-filter}
 use Rattle.router_top.proofs.UnbrokenLemmas.{unbroken-kept, unbroken-true}
-
--- what is in a row and passes is in what the row is filtered to
-In-filter : {A : Type 0} (p : A → Bool) (xs : List A) (x : A) → In xs x → p x ≡ true → In (filter p xs) x
-In-filter p [] x h t = absurd h
-In-filter {A} p (y ∷ ys) x h t = elim h [ inl e ↦ here e (p y) refl | inr later ↦ there (p y) (In-filter p ys x later t) ]
-  where
-    here : y ≡ x → (b : Bool) → p y ≡ b → In (cond b (y ∷ filter p ys) (filter p ys)) x
-    here e true f = inl e
-    here e false f = absurd (false≢true (sym f ∙ subst (λ z. p z ≡ true) (sym e) t))
-
-    there : (b : Bool) → In (filter p ys) x → In (cond b (y ∷ filter p ys) (filter p ys)) x
-    there true h = inr h
-    there false h = h
 
 -- every row of tracks below the width that is not too long is among the rows
 In-rows : (width n : ℕ) (t : ℕ) (more : List ℕ) → length (t ∷ more) ≤ n → All (λ u. u < width) (t ∷ more) → In (rows width n) (t ∷ more)

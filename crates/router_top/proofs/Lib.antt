@@ -1,13 +1,14 @@
 pub mod AttemptLemmas
 pub mod AttemptRows
 pub mod AttemptSteps
-pub mod CellOrder
 pub mod ChainLemmas
 pub mod ChainSteps
+pub mod CheckSteps
 pub mod CommandLemmas
 pub mod ConditionLemmas
 pub mod EncodeSteps
 pub mod FileSteps
+pub mod FindingLemmas
 pub mod FoundLemmas
 pub mod HopelessLemmas
 pub mod LegalLemmas

@@ -5,11 +5,15 @@ use Rattle.desk_io.specs.DeskState.{DeskState}
 use Rattle.desk_io.specs.Files.{Bytes, FileMap, HasRisen}
 use Rattle.desk_io.specs.ShelfState.{ShelfState, after_say}
 use Rattle.router_top.specs.Answer.{FailsToWrite, IsComplete, IsTrueOf, IsTrueOfEncode, IsTrueOfJob, IsTrueOfRoute, Leaves, LeavesEncode, LeavesJob, LeavesRoute, Runs}
-use Rattle.router_top.specs.Command.{EncodeJob, Encodes, Job, RouteJob, Routes, Word, job_of}
-use Rattle.router_top.specs.Headline.{EncodesOnlyTruly, IsEncoded, IsRouted, RoutesOnlyTruly}
+use Rattle.fpga_text.specs.declared.fault.TextFault.TheVariants.{Bad, Limit as PastLimit, Memory}
+use Rattle.sat_clause.specs.Judge.{Accepted as IsAccepted, Refused as IsRefused}
+use Rattle.sat_clause.proofs.Refutes.{refutes}
+use Rattle.router_top.specs.Finding.{BadCnf, BadLrat, ChecksFiles, Finding, IsFound, Judged, LongCnf, LongLrat, SaysFinding, finding_outcome}
+use Rattle.router_top.specs.Command.{CheckJob, Checks, EncodeJob, Encodes, Job, RouteJob, Routes, Word, job_of}
+use Rattle.router_top.specs.Headline.{AcceptsOnlyTruly, EncodesOnlyTruly, IsEncoded, IsProved, IsRouted, RoutesOnlyTruly}
 use Rattle.router_top.specs.Report.{line_of, unsaid}
 use Rattle.router_top.specs.declared.outcome.Outcome.{Outcome}
-use Rattle.router_top.specs.declared.outcome.Outcome.TheVariants.{Routed, Unroutable, Undecided, Done, InputFault, Limit, Usage, ReadFault, WriteFault, OutOfMemory}
+use Rattle.router_top.specs.declared.outcome.Outcome.TheVariants.{Routed, Unroutable, Undecided, Done, Accepted, NotAccepted, InputFault, Limit, Usage, ReadFault, WriteFault, OutOfMemory}
 use Rattle.router_top.proofs.UniqueLemmas.{one_outcome}
 
 -- a count that has risen twice has risen
@@ -23,6 +27,35 @@ write-risen : (before : ShelfState) (name text : Bytes) (now : ShelfState) → F
 write-risen before name text now (inl h) = h.risen
 write-risen before name text now (inr h) = h.risen
 
+none-routed : (finding : Finding) (w : ℕ) → finding_outcome finding ≡ Routed w → ⊥
+none-routed LongCnf w e = cc
+none-routed (BadCnf (Bad l c)) w e = cc
+none-routed (BadCnf (PastLimit c n)) w e = cc
+none-routed (BadCnf Memory) w e = cc
+none-routed LongLrat w e = cc
+none-routed (BadLrat (Bad l c)) w e = cc
+none-routed (BadLrat (PastLimit c n)) w e = cc
+none-routed (BadLrat Memory) w e = cc
+none-routed (Judged IsAccepted) w e = cc
+none-routed (Judged (IsRefused s c)) w e = cc
+
+none-done : (finding : Finding) → finding_outcome finding ≡ Done → ⊥
+none-done LongCnf e = cc
+none-done (BadCnf (Bad l c)) e = cc
+none-done (BadCnf (PastLimit c n)) e = cc
+none-done (BadCnf Memory) e = cc
+none-done LongLrat e = cc
+none-done (BadLrat (Bad l c)) e = cc
+none-done (BadLrat (PastLimit c n)) e = cc
+none-done (BadLrat Memory) e = cc
+none-done (Judged IsAccepted) e = cc
+none-done (Judged (IsRefused s c)) e = cc
+
+-- no finding says that a routing or clauses were written
+finds-no-file : (job : CheckJob) (files : Option FileMap) (o : Outcome) → ((w : ℕ) × (o ≡ Routed w)) ⊎ (o ≡ Done) → SaysFinding job files o → ⊥
+finds-no-file job files o (inl e) h = none-routed h.0 e.0 (sym h.2 ∙ e.1)
+finds-no-file job files o (inr e) h = none-done h.0 (sym h.2 ∙ e)
+
 module _ (desk desk_now : DeskState) (shelf between : ShelfState) where
   same_faults : between ≡ shelf → shelf.faults ≤ between.faults
   same_faults e = omega (arith, ap (λ (s : ShelfState). s.faults) e)
@@ -35,6 +68,8 @@ module _ (desk desk_now : DeskState) (shelf between : ShelfState) where
   route_never_falls job Done h = same_faults h.1
   route_never_falls job (InputFault f l c) h = same_faults h.1
   route_never_falls job (Limit c n) h = same_faults h.1
+  route_never_falls job Accepted h = same_faults h.1
+  route_never_falls job (NotAccepted s c) h = same_faults h.1
   route_never_falls job (Usage c) h = same_faults h.1
   route_never_falls job (ReadFault f) h = same_faults h.2
   route_never_falls job (WriteFault s) h = (write-risen shelf _ _ between h.3).later
@@ -47,6 +82,8 @@ module _ (desk desk_now : DeskState) (shelf between : ShelfState) where
   encode_never_falls job (Undecided w n) h = same_faults h.1
   encode_never_falls job (InputFault f l c) h = same_faults h.1
   encode_never_falls job (Limit c n) h = same_faults h.1
+  encode_never_falls job Accepted h = same_faults h.1
+  encode_never_falls job (NotAccepted s c) h = same_faults h.1
   encode_never_falls job (Usage c) h = same_faults h.1
   encode_never_falls job (ReadFault f) h = same_faults h.2
   encode_never_falls job (WriteFault s) h = (write-risen shelf _ _ between h.3).later
@@ -55,6 +92,7 @@ module _ (desk desk_now : DeskState) (shelf between : ShelfState) where
   job_never_falls : (job : Job) (o : Outcome) → LeavesJob job desk desk_now shelf between o → shelf.faults ≤ between.faults
   job_never_falls (Routes job) o h = route_never_falls job o h
   job_never_falls (Encodes job) o h = encode_never_falls job o h
+  job_never_falls (Checks job) o h = same_faults h.1
 
   never_falls : (words : List Word) (o : Outcome) → Leaves words desk desk_now shelf between o → shelf.faults ≤ between.faults
   never_falls words o h = go (job_of words) h
@@ -71,6 +109,8 @@ module _ (desk desk_now : DeskState) (shelf between : ShelfState) where
   route_settled job Done h calm quiet = inl h.0
   route_settled job (InputFault f l c) h calm quiet = inl h.0
   route_settled job (Limit c n) h calm quiet = inl h.0
+  route_settled job Accepted h calm quiet = inl h.0
+  route_settled job (NotAccepted s c) h calm quiet = inl h.0
   route_settled job (Usage c) h calm quiet = inl h.0
   route_settled job (ReadFault f) h calm quiet = absurd (calm h.1.risen)
   route_settled job (WriteFault s) h calm quiet = absurd (quiet (write-risen shelf _ _ between h.3))
@@ -83,14 +123,31 @@ module _ (desk desk_now : DeskState) (shelf between : ShelfState) where
   encode_settled job (Undecided w n) h calm quiet = inl h.0
   encode_settled job (InputFault f l c) h calm quiet = inl h.0
   encode_settled job (Limit c n) h calm quiet = inl h.0
+  encode_settled job Accepted h calm quiet = inl h.0
+  encode_settled job (NotAccepted s c) h calm quiet = inl h.0
   encode_settled job (Usage c) h calm quiet = inl h.0
   encode_settled job (ReadFault f) h calm quiet = absurd (calm h.1.risen)
   encode_settled job (WriteFault s) h calm quiet = absurd (quiet (write-risen shelf _ _ between h.3))
   encode_settled job OutOfMemory h calm quiet = inr refl
 
+  check_settled : (job : CheckJob) (o : Outcome) → ChecksFiles job desk desk_now o → ¬ HasRisen desk.faults desk_now.faults → SaysFinding job desk.files o ⊎ (o ≡ OutOfMemory)
+  check_settled job (Routed w) h calm = inl h
+  check_settled job (Unroutable w) h calm = inl h
+  check_settled job (Undecided w n) h calm = inl h
+  check_settled job Done h calm = inl h
+  check_settled job Accepted h calm = inl h
+  check_settled job (NotAccepted s c) h calm = inl h
+  check_settled job (InputFault f l c) h calm = inl h
+  check_settled job (Limit c n) h calm = inl h
+  check_settled job (Usage c) h calm = inl h
+  check_settled job (ReadFault f) h calm = absurd (elim h [ inl cnf ↦ calm cnf.1.risen | inr lrat ↦ calm lrat.2.risen ])
+  check_settled job (WriteFault s) h calm = inl h
+  check_settled job OutOfMemory h calm = inr refl
+
   job_settled : (job : Job) (o : Outcome) → LeavesJob job desk desk_now shelf between o → ¬ HasRisen desk.faults desk_now.faults → ¬ HasRisen shelf.faults between.faults → IsTrueOfJob job desk.files o ⊎ (o ≡ OutOfMemory)
   job_settled (Routes job) o h calm quiet = route_settled job o h calm quiet
   job_settled (Encodes job) o h calm quiet = encode_settled job o h calm quiet
+  job_settled (Checks job) o h calm quiet = check_settled job o h.0 calm
 
   settled : (words : List Word) (o : Outcome) → Leaves words desk desk_now shelf between o → ¬ HasRisen desk.faults desk_now.faults → ¬ HasRisen shelf.faults between.faults → IsTrueOf words desk.files o ⊎ (o ≡ OutOfMemory)
   settled words o h calm quiet = go (job_of words) h
@@ -119,6 +176,7 @@ module _ (desk desk_now : DeskState) (shelf between : ShelfState) where
           → IsRouted words desk.files shelf.files between.files width
       go (Ok (Routes job)) asked h = route_files words job width asked h
       go (Ok (Encodes job)) asked h = absurd h.0
+      go (Ok (Checks job)) asked h = absurd (finds-no-file job desk.files (Routed width) (inl (width, refl)) h.0)
       go (Err code) asked h = absurd (let clash : Routed width ≡ Usage code = h.0 in cc)
 
   -- the files of a shelf that clauses were written to
@@ -138,7 +196,40 @@ module _ (desk desk_now : DeskState) (shelf between : ShelfState) where
           → IsEncoded words desk.files shelf.files between.files
       go (Ok (Routes job)) asked h = absurd h.0
       go (Ok (Encodes job)) asked h = encode_files words job asked h
+      go (Ok (Checks job)) asked h = absurd (finds-no-file job desk.files Done (inr refl) h.0)
       go (Err code) asked h = absurd (let clash : Done ≡ Usage code = h.0 in cc)
+
+-- an accepted refutation is one
+accepted-proved : (words : List Word) (job : CheckJob) (files : Option FileMap) (finding : Finding) → job_of words ≡ Ok (Checks job) → IsFound job files finding → Accepted ≡ finding_outcome finding → IsProved words files
+accepted-proved words job files LongCnf asked h e = cc
+accepted-proved words job files (BadCnf (Bad l c)) asked h e = cc
+accepted-proved words job files (BadCnf (PastLimit c n)) asked h e = cc
+accepted-proved words job files (BadCnf Memory) asked h e = cc
+accepted-proved words job files LongLrat asked h e = cc
+accepted-proved words job files (BadLrat (Bad l c)) asked h e = cc
+accepted-proved words job files (BadLrat (PastLimit c n)) asked h e = cc
+accepted-proved words job files (BadLrat Memory) asked h e = cc
+accepted-proved words job files (Judged (IsRefused s c)) asked h e = cc
+accepted-proved words job files (Judged IsAccepted) asked h e = record {
+  job = job;
+  asked = asked;
+  cnf = h.0;
+  reads_cnf = h.2;
+  log = h.1;
+  reads_lrat = h.3;
+  accepts = sym h.4;
+  unsat = refutes h.0 h.1 (sym h.4);
+}
+
+module _ (desk desk_now : DeskState) (shelf between : ShelfState) where
+  accepted_proved : (words : List Word) → Leaves words desk desk_now shelf between Accepted → IsProved words desk.files
+  accepted_proved words h = go (job_of words) refl h
+    where
+      go : (r : Result Job ℕ) → job_of words ≡ r → MatchResult r (λ job. LeavesJob job desk desk_now shelf between Accepted) (λ code. (Accepted ≡ Usage code) × (between ≡ shelf)) → IsProved words desk.files
+      go (Ok (Routes job)) asked h = absurd h.0
+      go (Ok (Encodes job)) asked h = absurd h.0
+      go (Ok (Checks job)) asked h = accepted-proved words job desk.files h.0.0 asked h.0.1 h.0.2
+      go (Err code) asked h = absurd (let clash : Accepted ≡ Usage code = h.0 in cc)
 
 -- what is answered where the report is not said is a write fault
 unsaid-is : (o : Outcome) → (s : ℕ) × (unsaid o ≡ WriteFault s)
@@ -146,6 +237,8 @@ unsaid-is (Routed w) = (0, refl)
 unsaid-is (Unroutable w) = (0, refl)
 unsaid-is (Undecided w n) = (0, refl)
 unsaid-is Done = (0, refl)
+unsaid-is Accepted = (0, refl)
+unsaid-is (NotAccepted s c) = (0, refl)
 unsaid-is (InputFault f l c) = (0, refl)
 unsaid-is (Limit c n) = (0, refl)
 unsaid-is (Usage c) = (0, refl)
@@ -180,4 +273,10 @@ module _ (words : List Word) (desk desk_now : DeskState) (shelf : ShelfState) wh
   runs-encoded now answer r e = elim r.reports [
     | inl h ↦ subst (λ (f : Option FileMap). IsEncoded words desk.files shelf.files f) (sym (ap (λ (s : ShelfState). s.files) h.1)) (encoded_files desk desk_now shelf r.between words (subst (λ (o : Outcome). Leaves words desk desk_now shelf r.between o) (sym h.0 ∙ e) r.leaves))
     | inr h ↦ (let u = unsaid-is r.outcome in let clash : WriteFault u.0 ≡ Done = sym u.1 ∙ sym h.0 ∙ e in cc)
+  ]
+
+  pub runs-accepted : (now : ShelfState) (answer : Outcome) → Runs words desk desk_now shelf now answer → AcceptsOnlyTruly words desk.files answer
+  runs-accepted now answer r e = elim r.reports [
+    | inl h ↦ accepted_proved desk desk_now shelf r.between words (subst (λ (o : Outcome). Leaves words desk desk_now shelf r.between o) (sym h.0 ∙ e) r.leaves)
+    | inr h ↦ (let u = unsaid-is r.outcome in let clash : WriteFault u.0 ≡ Accepted = sym u.1 ∙ sym h.0 ∙ e in cc)
   ]

@@ -14,10 +14,11 @@ use Rattle.fpga_route.specs.Codes.{HasCode}
 use Rattle.fpga_route.specs.Value.{route_value}
 use Rattle.router_top.specs.Attempts.{is_attempt, is_routing, rows}
 use Rattle.router_top.specs.Answer.{HasTooMany, IsRefused, IsRouteFault, IsRouteTooLong, IsTrueOf, IsTrueOfEncode, IsTrueOfJob, IsTrueOfRoute}
-use Rattle.router_top.specs.Asked.{CLAUSE_LIMIT, IsBadText, IsCutOff, IsHopeless, IsMisfit, IsRoutable, IsRouteFile, IsTooLong, Poses, all_attempts, clause_count}
-use Rattle.router_top.specs.Command.{EncodeJob, Encodes, Job, RouteJob, Routes, Word, job_of}
+use Rattle.router_top.specs.Asked.{CLAUSE_LIMIT, IsBadText, IsCutOff, IsHopeless, IsRoutable, IsRouteFile, IsTooLong, Poses, all_attempts, clause_count}
+use Rattle.router_top.specs.Command.{Checks, EncodeJob, Encodes, Job, RouteJob, Routes, Word, job_of}
 use Rattle.router_top.specs.declared.outcome.Outcome.{Outcome}
-use Rattle.router_top.specs.declared.outcome.Outcome.TheVariants.{Routed, Unroutable, Undecided, Done, InputFault, Limit, Usage, ReadFault, WriteFault, OutOfMemory}
+use Rattle.router_top.specs.declared.outcome.Outcome.TheVariants.{Routed, Unroutable, Undecided, Done, Accepted, NotAccepted, InputFault, Limit, Usage, ReadFault, WriteFault, OutOfMemory}
+use Rattle.router_top.proofs.FindingLemmas.{check_outcome}
 
 some_same : {X : Type 0} (x y : X) → Some x ≡ Some y → x ≡ y
 some_same x y e = cc
@@ -140,11 +141,15 @@ module _ (job : RouteJob) (files : FileMap) where
   route_outcome (Limit c n) (InputFault f l d) h g = absurd (refused-long files job.file d g.2 h.2)
   route_outcome (Limit c n) (Limit d m) h g = long-same files job.file c n d m h g
   route_outcome Done b h g = absurd h
+  route_outcome Accepted b h g = absurd h
+  route_outcome (NotAccepted s c) b h g = absurd h
   route_outcome (Usage c) b h g = absurd h
   route_outcome (ReadFault f) b h g = absurd h
   route_outcome (WriteFault s) b h g = absurd h
   route_outcome OutOfMemory b h g = absurd h
   route_outcome a Done h g = absurd g
+  route_outcome a Accepted h g = absurd g
+  route_outcome a (NotAccepted s c) h g = absurd g
   route_outcome a (Usage c) h g = absurd g
   route_outcome a (ReadFault f) h g = absurd g
   route_outcome a (WriteFault s) h g = absurd g
@@ -184,6 +189,8 @@ module _ (job : EncodeJob) (files : FileMap) where
   encode_outcome (Limit c n) (InputFault f l d) h g = absurd (fault-limit f l d c n g h)
   encode_outcome (Limit c n) (Limit d m) h g = limits c n d m h g
   encode_outcome (Routed w) b h g = absurd h
+  encode_outcome Accepted b h g = absurd h
+  encode_outcome (NotAccepted s c) b h g = absurd h
   encode_outcome (Unroutable w) b h g = absurd h
   encode_outcome (Undecided w n) b h g = absurd h
   encode_outcome (Usage c) b h g = absurd h
@@ -191,6 +198,8 @@ module _ (job : EncodeJob) (files : FileMap) where
   encode_outcome (WriteFault s) b h g = absurd h
   encode_outcome OutOfMemory b h g = absurd h
   encode_outcome a (Routed w) h g = absurd g
+  encode_outcome a Accepted h g = absurd g
+  encode_outcome a (NotAccepted s c) h g = absurd g
   encode_outcome a (Unroutable w) h g = absurd g
   encode_outcome a (Undecided w n) h g = absurd g
   encode_outcome a (Usage c) h g = absurd g
@@ -201,6 +210,7 @@ module _ (job : EncodeJob) (files : FileMap) where
 job_outcome : (job : Job) (files : FileMap) (a b : Outcome) → IsTrueOfJob job (Some files) a → IsTrueOfJob job (Some files) b → a ≡ b
 job_outcome (Routes job) files a b h g = route_outcome job files a b h g
 job_outcome (Encodes job) files a b h g = encode_outcome job files a b h g
+job_outcome (Checks job) files a b h g = check_outcome job files a b h g
 
 pub one_outcome : (words : List Word) (files : FileMap) (a b : Outcome) → IsTrueOf words (Some files) a → IsTrueOf words (Some files) b → a ≡ b
 one_outcome words files a b h g = go (job_of words) h g

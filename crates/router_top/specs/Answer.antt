@@ -4,7 +4,6 @@ use Rattle.std.specs.Option.{ForSome}
 use Rattle.std.specs.FinMap.{insert}
 use Rattle.desk_io.specs.DeskState.{DeskState}
 use Rattle.desk_io.specs.Files.{Bytes, FileMap, HasRisen}
-use Rattle.desk_io.specs.Reading.{FaultIsOn}
 use Rattle.desk_io.specs.ShelfState.{FailsToCreate, FailsToSay, ShelfState, after_create, after_finish, after_say}
 use Rattle.fpga_types.specs.Fit.{IsFit}
 use Rattle.fpga_types.specs.Legal.{IsLegalSubset, route_of}
@@ -13,7 +12,9 @@ use Rattle.fpga_route.specs.Printed.{printed}
 use Rattle.sat_text.specs.Printed.{cnf_text}
 use Rattle.route_encode.specs.Encoding.{cnf_subset}
 use Rattle.router_top.specs.Asked.{CLAUSE_LIMIT, IsBadText, IsCutOff, IsHopeless, IsMisfit, IsRoutable, IsRouteFile, IsTooLong, Poses, ROUTE_LIMIT, clause_count, cnf_name, route_name}
-use Rattle.router_top.specs.Command.{EncodeJob, Job, Routes, Encodes, RouteJob, Word, job_of}
+use Rattle.router_top.specs.Command.{CheckJob, Checks, EncodeJob, Encodes, Job, RouteJob, Routes, Word, job_of}
+use Rattle.router_top.specs.Finding.{ChecksFiles, SaysFinding}
+use Rattle.router_top.specs.Inputs.{FailsToRead}
 use Rattle.router_top.specs.Report.{IsReadFault, line_of, unsaid}
 use Rattle.router_top.specs.declared.outcome.Outcome.{Outcome}
 use Rattle.router_top.specs.declared.outcome.Outcome.TheVariants.{Routed, Unroutable, Undecided, Done, InputFault, Limit, Usage, ReadFault, WriteFault, OutOfMemory}
@@ -61,10 +62,15 @@ IsTrueOfEncode job files (Limit code count) =
     ⊎ ((code ≡ 901) × Poses files job.file (HasTooMany job.width count))
 IsTrueOfEncode job files outcome = ⊥
 
+-- the same where a refutation is to be checked
+abbrev pub IsTrueOfCheck : CheckJob → Option FileMap → Outcome → Type 0
+IsTrueOfCheck job files outcome = SaysFinding job files outcome
+
 -- the same for whatever is asked for
 abbrev pub IsTrueOfJob : Job → Option FileMap → Outcome → Type 0
 IsTrueOfJob (Routes job) files outcome = IsTrueOfRoute job files outcome
 IsTrueOfJob (Encodes job) files outcome = IsTrueOfEncode job files outcome
+IsTrueOfJob (Checks job) files outcome = IsTrueOfCheck job files outcome
 
 -- by what the words ask for, or by the code of what keeps them from being taken
 abbrev pub IsTrueOf : List Word → Option FileMap → Outcome → Type 0
@@ -139,11 +145,6 @@ pub record FindsClauses (job : EncodeJob) (files : Option FileMap) (text : Bytes
   pub few : clause_count job.width route ≤ CLAUSE_LIMIT
   pub is : text ≡ cnf_text (cnf_subset job.width route)
 
--- the desk failed on the file with this name
-pub record FailsToRead (before now : DeskState) (name : Bytes) : Type 0 where
-  pub risen : HasRisen before.faults now.faults
-  pub on : FaultIsOn before.files name now.fault_name
-
 -- ---- a run
 
 -- what the search for a routing leaves before its outcome is reported
@@ -179,6 +180,12 @@ LeavesEncode job desk desk_now shelf shelf_now OutOfMemory = shelf_now ≡ shelf
 LeavesEncode job desk desk_now shelf shelf_now outcome =
     IsTrueOfEncode job desk.files outcome × (shelf_now ≡ shelf)
 
+-- the same of the check of a refutation, which writes nothing
+abbrev pub LeavesCheck : CheckJob → (desk desk_now : DeskState) → (shelf shelf_now : ShelfState)
+    → Outcome → Type 0
+LeavesCheck job desk desk_now shelf shelf_now outcome =
+    ChecksFiles job desk desk_now outcome × (shelf_now ≡ shelf)
+
 -- the same of whatever is asked for
 abbrev pub LeavesJob : Job → (desk desk_now : DeskState) → (shelf shelf_now : ShelfState)
     → Outcome → Type 0
@@ -186,6 +193,8 @@ LeavesJob (Routes job) desk desk_now shelf shelf_now outcome =
     LeavesRoute job desk desk_now shelf shelf_now outcome
 LeavesJob (Encodes job) desk desk_now shelf shelf_now outcome =
     LeavesEncode job desk desk_now shelf shelf_now outcome
+LeavesJob (Checks job) desk desk_now shelf shelf_now outcome =
+    LeavesCheck job desk desk_now shelf shelf_now outcome
 
 -- by what the words ask for; where they are not taken, nothing is written
 abbrev pub Leaves : List Word → (desk desk_now : DeskState) → (shelf shelf_now : ShelfState)

@@ -1,7 +1,5 @@
 -- What the route file of a command holds, and what a search through it comes to.
-use Rattle.std.specs.Prelude.{◌≡◌, ◌⊎◌, ℕ, ◌<◌, ◌≤◌, ◌++◌, List, length, take, Option, Some, codes}
-use Rattle.std.specs.Option.{ForSome}
-use Rattle.std.specs.FinMap.{get}
+use Rattle.std.specs.Prelude.{◌≡◌, ◌⊎◌, ℕ, ◌<◌, ◌≤◌, ◌++◌, List, length, take, Option, codes}
 use Rattle.desk_io.specs.Files.{Bytes, FileMap}
 use Rattle.fpga_types.specs.Fit.{IsFit}
 use Rattle.fpga_types.specs.Legal.{IsLegalSubset}
@@ -14,6 +12,7 @@ use Rattle.fpga_route.specs.Value.{Reads}
 use Rattle.route_encode.specs.Encoding.{encoding_subset}
 use Rattle.router_top.specs.Attempts.{attempts}
 use Rattle.router_top.specs.Command.{Word}
+use Rattle.router_top.specs.Inputs.{HasText, IsLonger}
 use Rattle.router_top.specs.Found.{HasNoRouting, HasRouting}
 use Rattle.router_top.specs.declared.backtracking.Found.{Found}
 use Rattle.router_top.specs.declared.backtracking.Found.TheVariants.{Tracks, Nothing, Spent}
@@ -22,26 +21,17 @@ use Rattle.router_top.specs.declared.backtracking.Found.TheVariants.{Tracks, Not
 abbrev pub ROUTE_LIMIT : ℕ
 ROUTE_LIMIT = 67108864
 
--- where the files are told, the one with this name has these bytes
-abbrev pub HasBytes : Option FileMap → Bytes → Bytes → Type 0
-HasBytes files name text = ForSome files (λ fs. get fs name ≡ Some text)
-
 -- the file with this name is longer than it may be
 abbrev pub IsTooLong : Option FileMap → Bytes → Type 0
-IsTooLong files name =
-    ForSome files (λ fs. (text : Bytes) × (get fs name ≡ Some text) × (ROUTE_LIMIT < length text))
+IsTooLong files name = IsLonger ROUTE_LIMIT files name
 
 -- the file with this name is within its limit and has a fault
 abbrev pub IsBadText : Option FileMap → Bytes → Type 0
-IsBadText files name =
-    ForSome files (λ fs. (text : Bytes) × (get fs name ≡ Some text) × (length text ≤ ROUTE_LIMIT)
-    × HasCode (text_lines Hash text))
+IsBadText files name = HasText ROUTE_LIMIT files name (λ text. HasCode (text_lines Hash text))
 
 -- the file with this name is within its limit and reads as this route
 abbrev pub IsRouteFile : Option FileMap → Bytes → RouteText → Type 0
-IsRouteFile files name route =
-    ForSome files (λ fs. (text : Bytes) × (get fs name ≡ Some text) × (length text ≤ ROUTE_LIMIT)
-    × Reads text route)
+IsRouteFile files name route = HasText ROUTE_LIMIT files name (λ text. Reads text route)
 
 -- the file with this name reads, and its route does not fit its array
 abbrev pub IsMisfit : Option FileMap → Bytes → Type 0

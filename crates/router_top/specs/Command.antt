@@ -22,10 +22,16 @@ pub record EncodeJob : Type 0 where
   pub width : ℕ
   pub prefix : Word
 
+-- to check a refutation: the names of the CNF file and of the LRAT file
+pub record CheckJob : Type 0 where
+  pub cnf : Word
+  pub lrat : Word
+
 -- what is asked for
 pub data Job : Type 0 where
   Routes : RouteJob → Job
   Encodes : EncodeJob → Job
+  Checks : CheckJob → Job
 
 -- the whole number that a word says, where it is from 1 to the greatest
 abbrev pub number_up_to : ℕ → Word → Option ℕ
@@ -56,6 +62,11 @@ abbrev pub encode_job : List Word → Result Job ℕ
 encode_job (file ∷ width ∷ prefix ∷ []) = with_width file prefix (number_up_to 64 width)
 encode_job _ = Err 2
 
+-- the job that the words after `check` give; 2 where there are not two
+abbrev pub check_job : List Word → Result Job ℕ
+check_job (cnf ∷ lrat ∷ []) = Ok (Checks (record { cnf = cnf; lrat = lrat }))
+check_job _ = Err 2
+
 -- the job that the words give, or the code of what keeps them from being taken;
 -- 1 where the first word names no command
 abbrev pub job_of : List Word → Result Job ℕ
@@ -63,6 +74,7 @@ job_of [] = Err 1
 job_of (command ∷ others) =
     if bytes_eq command (codes "route") then route_job others
     else if bytes_eq command (codes "encode") then encode_job others
+    else if bytes_eq command (codes "check") then check_job others
     else Err 1
 
 -- the bytes of each word

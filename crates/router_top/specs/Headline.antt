@@ -1,12 +1,17 @@
--- The headline: what it means that a run answers that a routing or the clauses were written.
-use Rattle.std.specs.Prelude.{◌≡◌, ℕ, List, Ok, Option, option_map}
+-- The headline: what it means that a run answers that a routing or the clauses were written, or
+-- that a refutation is accepted.
+use Rattle.std.specs.Prelude.{◌≡◌, ℕ, List, length, Ok, Option, option_map}
 use Rattle.std.specs.FinMap.{insert}
 use Rattle.desk_io.specs.Files.{Bytes, FileMap}
+use Rattle.sat_clause.specs.Formula.{Cnf, IsUnsat}
+use Rattle.sat_clause.specs.Judge.{Accepts}
+use Rattle.sat_clause.specs.Step.{Step}
 use Rattle.router_top.specs.Answer.{FindsClauses, FindsRouting}
 use Rattle.router_top.specs.Asked.{cnf_name, route_name}
-use Rattle.router_top.specs.Command.{Encodes, EncodeJob, RouteJob, Routes, Word, job_of}
+use Rattle.router_top.specs.Command.{CheckJob, Checks, Encodes, EncodeJob, RouteJob, Routes, Word, job_of}
+use Rattle.router_top.specs.Finding.{IsCnfFile, IsLratFile}
 use Rattle.router_top.specs.declared.outcome.Outcome.{Outcome}
-use Rattle.router_top.specs.declared.outcome.Outcome.TheVariants.{Done, Routed}
+use Rattle.router_top.specs.declared.outcome.Outcome.TheVariants.{Accepted, Done, Routed}
 
 -- of all files one alone was written, with this text
 abbrev pub WritesAlone : (before now : Option FileMap) → Bytes → Bytes → Type 0
@@ -42,3 +47,19 @@ pub record IsEncoded (words : List Word) (desk_files before now : Option FileMap
 abbrev pub EncodesOnlyTruly : List Word → (desk_files before now : Option FileMap) → Outcome → Type 0
 EncodesOnlyTruly words desk_files before now answer =
     answer ≡ Done → IsEncoded words desk_files before now
+
+-- the words ask for a check, both files read, and the log refutes the formula; so no truth values
+-- satisfy it
+pub record IsProved (words : List Word) (desk_files : Option FileMap) : Type 0 where
+  pub job : CheckJob
+  pub asked : job_of words ≡ Ok (Checks job)
+  pub cnf : Cnf
+  pub reads_cnf : IsCnfFile desk_files job.cnf cnf
+  pub log : List Step
+  pub reads_lrat : IsLratFile desk_files job.lrat (length cnf.clauses) log
+  pub accepts : Accepts cnf log
+  pub unsat : IsUnsat cnf
+
+-- an answer that a refutation is accepted is true
+abbrev pub AcceptsOnlyTruly : List Word → (desk_files : Option FileMap) → Outcome → Type 0
+AcceptsOnlyTruly words desk_files answer = answer ≡ Accepted → IsProved words desk_files

@@ -4,9 +4,12 @@ pub mod Assignment
 pub mod Attempts
 pub mod Chains
 pub mod Command
+pub mod Finding
 pub mod Found
 pub mod Headline
+pub mod Inputs
 pub mod JobSaid
+pub mod ProofStops
 pub mod Report
 pub mod Stops
 pub mod WordsCode

@@ -1,7 +1,7 @@
 -- The exit status and the report line of each outcome.
 use Rattle.std.specs.Prelude.{ℕ, ◌-◌, ◌≤◌, ◌++◌, List, [], ◌∷◌, slice_index_or, codes, decimal}
 use Rattle.router_top.specs.declared.outcome.Outcome.{Outcome}
-use Rattle.router_top.specs.declared.outcome.Outcome.TheVariants.{Routed, Unroutable, Undecided, Done, InputFault, Limit, Usage, ReadFault, WriteFault, OutOfMemory}
+use Rattle.router_top.specs.declared.outcome.Outcome.TheVariants.{Routed, Unroutable, Undecided, Done, Accepted, NotAccepted, InputFault, Limit, Usage, ReadFault, WriteFault, OutOfMemory}
 
 -- the exit status
 abbrev pub status_of : Outcome → ℕ
@@ -9,6 +9,8 @@ status_of (Routed width) = 0
 status_of (Unroutable width) = 1
 status_of (Undecided width attempts) = 2
 status_of Done = 0
+status_of Accepted = 0
+status_of (NotAccepted step cause) = 1
 status_of (InputFault file line code) = 3
 status_of (Limit code count) = 3
 status_of (Usage code) = 4
@@ -39,6 +41,9 @@ report_of (Unroutable width) = codes "unroutable " ++ decimal width
 report_of (Undecided width attempts) =
     codes "undecided " ++ decimal width ++ codes " after " ++ decimal attempts ++ codes " attempts"
 report_of Done = codes "done"
+report_of Accepted = codes "accepted"
+report_of (NotAccepted step cause) =
+    codes "not accepted: step " ++ decimal step ++ codes " cause " ++ decimal cause
 report_of (InputFault file line code) =
     codes "fault: " ++ file_word file ++ codes " line " ++ decimal line ++ codes " code " ++ decimal code
 report_of (Limit code count) = codes "limit: code " ++ decimal code ++ codes " count " ++ decimal count

@@ -1,8 +1,7 @@
 -- What keeps a file from giving a problem, and what the run comes to then.
 use Rattle.std.specs.Prelude.{◌+◌}
 use Rattle.desk_io.specs.DeskState.{DeskState}
-use Rattle.desk_io.specs.Files.{Bytes, HasRisen}
-use Rattle.desk_io.specs.Reading.{FaultIsOn}
+use Rattle.desk_io.specs.Files.{Bytes}
 use Rattle.fpga_types.specs.Fit.{IsFit}
 use Rattle.fpga_types.specs.declared.route.RouteText.{RouteText}
 use Rattle.fpga_text.specs.declared.style.Style.TheVariants.{Hash}
@@ -10,6 +9,7 @@ use Rattle.fpga_text.specs.Words.{text_lines}
 use Rattle.fpga_route.specs.Codes.{HasCode}
 use Rattle.fpga_route.specs.Value.{Reads}
 use Rattle.router_top.specs.Asked.{IsBadText, IsMisfit, IsTooLong, ROUTE_LIMIT}
+use Rattle.router_top.specs.Inputs.{FailsToRead}
 use Rattle.router_top.specs.declared.outcome.Outcome.{Outcome}
 use Rattle.router_top.specs.declared.outcome.Outcome.TheVariants.{InputFault, Limit, ReadFault, OutOfMemory}
 use Rattle.router_top.specs.declared.problem_file.Stop.{Stop}
@@ -25,7 +25,7 @@ stop_outcome Memory = OutOfMemory
 
 -- what each stop says of the file with this name, and of the faults of the desk
 abbrev pub IsStoppedBy : (before now : DeskState) → Bytes → Stop → Type 0
-IsStoppedBy before now name Fault = HasRisen before.faults now.faults × FaultIsOn before.files name now.fault_name
+IsStoppedBy before now name Fault = FailsToRead before now name
 IsStoppedBy before now name TooLong = IsTooLong before.files name
 IsStoppedBy before now name BadText = IsBadText before.files name
 IsStoppedBy before now name Unfit = IsMisfit before.files name

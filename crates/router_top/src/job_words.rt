@@ -26,9 +26,19 @@ pub struct EncodeWords<'a> {
     ghost in_range: { (1 ≤ width) × (width ≤ 64) },
 }
 
+/// What the words of `check` ask for.
+#[derive(Clone, Copy, Debug)]
+pub struct CheckWords<'a> {
+    /// The name of the CNF file.
+    pub cnf: &'a str,
+    /// The name of the LRAT file.
+    pub lrat: &'a str,
+}
+
 /// What the words ask for.
 #[derive(Clone, Copy, Debug)]
 pub enum JobWords<'a> {
     Route(RouteWords<'a>),
     Encode(EncodeWords<'a>),
+    Check(CheckWords<'a>),
 }

@@ -1,16 +1,19 @@
 //! Routes a global route: reads it, gives each cell of each net a track, and writes the detailed
-//! route; or writes the clauses that say what a routing is.
+//! route; writes the clauses that say what a routing is; or checks a refutation of such clauses.
 #![tactic(auto)]
 
 mod backtracking;
+mod checking;
 mod conditions;
 mod encoding;
 #[cfg(test)]
 mod hostile_texts;
+mod input;
 mod job_words;
 mod outcome;
 mod output;
 mod problem_file;
+mod proof_file;
 mod routing;
 mod run;
 #[cfg(test)]

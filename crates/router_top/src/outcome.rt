@@ -18,8 +18,14 @@ pub enum Outcome {
     Undecided { width: u32, attempts: u64 },
     /// What was asked for was written.
     Done,
-    /// A file is bad. Today faults are not told apart: the line is 0, and the code is 400 where the
-    /// route file does not read and 500 where the route does not fit.
+    /// The log refutes the formula.
+    Accepted,
+    /// The log does not refute the formula: its step with this number, counted from 1, is refused
+    /// with this cause, from 1 to 7.
+    NotAccepted { step: u64, cause: u32 },
+    /// A file is bad: this is the first bad line, and the least code that holds there. Today the
+    /// faults of a route are not told apart: the line is 0, and the code is 400 where the route
+    /// file does not read and 500 where the route does not fit.
     InputFault { file: u32, line: u64, code: u32 },
     /// A count passes its limit.
     Limit { code: u32, count: u64 },
@@ -41,8 +47,8 @@ pub fn status(outcome: &Outcome) -> u8
     ensures { result ≡ status_of outcome.now }
 {
     match outcome {
-        Outcome::Routed { .. } | Outcome::Done => 0,
-        Outcome::Unroutable { .. } => 1,
+        Outcome::Routed { .. } | Outcome::Done | Outcome::Accepted => 0,
+        Outcome::Unroutable { .. } | Outcome::NotAccepted { .. } => 1,
         Outcome::Undecided { .. } => 2,
         Outcome::InputFault { .. } | Outcome::Limit { .. } => 3,
         Outcome::Usage { .. } => 4,
@@ -86,6 +92,11 @@ pub fn report(outcome: &Outcome) -> ArrayString<REPORT_ROOM>
             line.push_str(" attempts");
         }
         Outcome::Done => line.push_str("done"),
+        Outcome::Accepted => line.push_str("accepted"),
+        Outcome::NotAccepted { step, cause } => {
+            push_count(&mut line, "not accepted: step ", step);
+            push_count(&mut line, " cause ", cause as u64);
+        }
         Outcome::InputFault {
             file,
             line: at,

@@ -1,12 +1,13 @@
 //! From a route file to a routing problem.
-ghost use Rattle.std.specs.Prelude.{◌≡◌, ◌≤◌, vec_len, IfOk, IfErr, IsErrOf};
+ghost use Rattle.std.specs.Prelude.{◌≡◌, IfOk, IfErr, IsErrOf};
 ghost use Rattle.fpga_types.specs.Fit.{IsFit};
 ghost use Rattle.fpga_route.specs.Value.{Reads};
-ghost use Rattle.router_top.specs.Asked.{HasBytes, IsRouteFile, ROUTE_LIMIT};
+ghost use Rattle.router_top.specs.Asked.{IsRouteFile};
 ghost use Rattle.router_top.specs.Stops.{IsRefusedFor, IsStoppedBy, stop_outcome};
 
+use crate::input::read_input;
 use crate::outcome::Outcome;
-use desk_io::{Desk, ReadStop, read_file};
+use desk_io::{Desk, ReadStop};
 use fpga_bounds::{Problem, fit_route};
 use fpga_route::read_route;
 use fpga_text::TextFault;
@@ -58,21 +59,6 @@ impl Stop {
     }
 }
 
-// The bytes of a route file.
-fn read_bytes<D: Desk>(alloc: Global, desk: &mut D, name: &str) -> Result<Vec<u8>, Stop>
-    ensures bytes { IfOk result (λ bytes. HasBytes (D.state desk.old).files name.now bytes.items) }
-    ensures short { IfOk result (λ bytes. vec_len bytes ≤ ROUTE_LIMIT) }
-    ensures stop { IfErr result (IsStoppedBy (D.state desk.old) (D.state desk.new) name.now) }
-    ensures quiet { (IsErrOf result Stop.Fault → ⊥) → (D.state desk.new).faults ≡ (D.state desk.old).faults }
-{
-    match read_file(alloc, desk, name, ROUTE_BYTES) {
-        Ok(bytes) => Ok(bytes),
-        Err(ReadStop::Fault) => Err(Stop::Fault),
-        Err(ReadStop::TooLong) => Err(Stop::TooLong),
-        Err(ReadStop::Memory) => Err(Stop::Memory),
-    }
-}
-
 // The problem that a route text gives.
 fn problem_of(alloc: Global, text: &[u8]) -> Result<Problem, Stop>
     ensures reads { IfOk result (Reads text.now) }
@@ -100,9 +86,11 @@ pub fn read_problem<D: Desk>(alloc: Global, desk: &mut D, name: &str) -> Result<
     ensures stop { IfErr result (IsStoppedBy (D.state desk.old) (D.state desk.new) name.now) }
     ensures quiet { (IsErrOf result Stop.Fault → ⊥) → (D.state desk.new).faults ≡ (D.state desk.old).faults }
 {
-    let text = match read_bytes(alloc, desk, name) {
+    let text = match read_input(alloc, desk, name, ROUTE_BYTES) {
         Ok(text) => text,
-        Err(stop) => return Err(stop),
+        Err(ReadStop::Fault) => return Err(Stop::Fault),
+        Err(ReadStop::TooLong) => return Err(Stop::TooLong),
+        Err(ReadStop::Memory) => return Err(Stop::Memory),
     };
     match problem_of(alloc, &text) {
         Ok(problem) => Ok(problem),

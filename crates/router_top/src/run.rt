@@ -2,9 +2,10 @@
 ghost use Rattle.std.specs.Prelude.{◌≡◌};
 ghost use Rattle.router_top.specs.Answer.{IsComplete, Leaves, Reports, Runs};
 ghost use Rattle.router_top.specs.Command.{words_of};
-ghost use Rattle.router_top.specs.Headline.{EncodesOnlyTruly, RoutesOnlyTruly};
+ghost use Rattle.router_top.specs.Headline.{AcceptsOnlyTruly, EncodesOnlyTruly, RoutesOnlyTruly};
 ghost use Rattle.router_top.specs.Report.{IsReadFault, NamesKnownFile, unsaid};
 
+use crate::checking::check_files;
 use crate::encoding::encode;
 use crate::job_words::JobWords;
 use crate::outcome::{Outcome, report};
@@ -25,6 +26,7 @@ fn work<D: Desk, S: Shelf>(alloc: Global, words: &[String], desk: &mut D, shelf:
     match read_words(words) {
         Ok(JobWords::Route(job)) => route(alloc, &job, desk, shelf),
         Ok(JobWords::Encode(job)) => encode(alloc, &job, desk, shelf),
+        Ok(JobWords::Check(job)) => check_files(alloc, &job, desk),
         Err(fault) => Outcome::Usage { code: fault.code() },
     }
 }
@@ -64,6 +66,7 @@ pub fn run<D: Desk, S: Shelf>(
     ensures known { NamesKnownFile result }
     ensures routed { RoutesOnlyTruly (words_of words.now) (D.state desk.old).files (S.state shelf.old).files (S.state shelf.new).files result }
     ensures encoded { EncodesOnlyTruly (words_of words.now) (D.state desk.old).files (S.state shelf.old).files (S.state shelf.new).files result }
+    ensures accepted { AcceptsOnlyTruly (words_of words.now) (D.state desk.old).files result }
     ensures runs { Runs (words_of words.now) (D.state desk.old) (D.state desk.new) (S.state shelf.old) (S.state shelf.new) result }
     ensures complete { IsComplete (words_of words.now) (D.state desk.old) (D.state desk.new) (S.state shelf.old) (S.state shelf.new) result }
 {

@@ -3,6 +3,7 @@ use crate::outcome::{Outcome, report, status};
 use crate::run::run;
 use desk_io::{MemDesk, MemShelf};
 use std::alloc::Global;
+use std::process::Abort;
 use std::test::Fail;
 
 // One net from a pad to a pad, in the printed form.
@@ -25,12 +26,21 @@ const LEAP: &str =
 const GLOBAL: &str =
     "Array size: 1 x 1 logic blocks.\n\nRouting:\n\nNet 0 (clk): global net connecting:\n\nBlock pclk (#0) at (1, 0), Pin class -1.\nBlock c (#1) at (1, 1), Pin class 2.\n\n";
 
+// A desk with these files, which fails at these calls.
+fn desk_with(alloc: Global, named: &[(&str, &[u8])], fail: &[u64]) -> Result<MemDesk, Fail> {
+    let mut files = Vec::new(alloc);
+    for (name, bytes) in named {
+        files.push((
+            String::from_str(alloc, name)?,
+            Vec::from_slice(alloc, bytes)?,
+        ))?;
+    }
+    Ok(MemDesk::new(alloc, files, Vec::from_slice(alloc, fail)?))
+}
+
 // A desk with the file `one.route` of these bytes, which fails at these calls.
 pub fn desk_of(alloc: Global, text: &[u8], fail: &[u64]) -> Result<MemDesk, Fail> {
-    let mut files = Vec::new(alloc);
-    let name = String::from_str(alloc, "one.route")?;
-    files.push((name, Vec::from_slice(alloc, text)?))?;
-    Ok(MemDesk::new(alloc, files, Vec::from_slice(alloc, fail)?))
+    desk_with(alloc, &[("one.route", text)], fail)
 }
 
 fn desk(alloc: Global, text: &str, fail: &[u64]) -> Result<MemDesk, Fail> {
@@ -147,6 +157,9 @@ fn words_that_are_not_taken(rt: HostRuntime) -> Result<(), Fail> {
         (["encode"].as_slice(), 2),
         (["encode", "one.route", "1", "100", "out"].as_slice(), 2),
         (["encode", "one.route", "65", "out"].as_slice(), 3),
+        (["check"].as_slice(), 2),
+        (["check", "two.cnf"].as_slice(), 2),
+        (["check", "two.cnf", "two.lrat", "out"].as_slice(), 2),
         (["route"].as_slice(), 2),
         (["route", "one.route", "1", "100"].as_slice(), 2),
         (
@@ -344,6 +357,166 @@ fn each_call_of_the_shelf_fails_in_turn_for_the_clauses(rt: HostRuntime) -> Resu
         let answer = run(alloc, &words, &mut desk(alloc, ONE, &[])?, &mut shelf);
         assert_eq!(rt; answer, outcome, "at call {call}");
         assert_eq!(rt; shelf.file("out.cnf"), file, "at call {call}");
+    }
+    Ok(())
+}
+
+// The clauses of two nets through one cell at width 1.
+const TWO_CNF: &str = "p cnf 2 3\n1 0\n2 0\n-1 -2 0\n";
+
+// What `check` comes to on these two files, after a look at what was said.
+fn checked(
+    rt: &impl Abort,
+    alloc: Global,
+    cnf: &[u8],
+    lrat: &str,
+    line: &str,
+) -> Result<Outcome, Fail> {
+    let words = words(alloc, &["check", "two.cnf", "two.lrat"])?;
+    let named = [("two.cnf", cnf), ("two.lrat", lrat.as_bytes())];
+    let mut desk = desk_with(alloc, &named, &[])?;
+    let mut shelf = MemShelf::new(alloc, Vec::new(alloc));
+    let outcome = run(alloc, &words, &mut desk, &mut shelf);
+    assert_eq!(rt; shelf.said(), line.as_bytes(), "at {lrat}");
+    Ok(outcome)
+}
+
+#[test]
+fn refutations_of_worked_rows(rt: HostRuntime) -> Result<(), Fail> {
+    let alloc = rt.alloc();
+    let refused = |step, cause| Outcome::NotAccepted { step, cause };
+    let bad = |line, code| Outcome::InputFault {
+        file: 6,
+        line,
+        code,
+    };
+    let past = Outcome::Limit {
+        code: 705,
+        count: 4_294_967_296,
+    };
+    let cases = [
+        ("4 0 1 2 3 0\n", Outcome::Accepted, "accepted\n"),
+        (
+            "4 0 1 1 2 3 0\n",
+            refused(1, 3),
+            "not accepted: step 1 cause 3\n",
+        ),
+        (
+            "3 d 1 0\n4 0 1 2 3 0\n",
+            refused(2, 1),
+            "not accepted: step 2 cause 1\n",
+        ),
+        ("", refused(1, 7), "not accepted: step 1 cause 7\n"),
+        (
+            "4 0 1 2 0\n",
+            refused(1, 4),
+            "not accepted: step 1 cause 4\n",
+        ),
+        ("4 0 -1 0\n", bad(1, 704), "fault: lrat line 1 code 704\n"),
+        (
+            "3 0 1 2 3 0\n",
+            bad(1, 703),
+            "fault: lrat line 1 code 703\n",
+        ),
+        (
+            "4 0 4294967296 0\n",
+            past,
+            "limit: code 705 count 4294967296\n",
+        ),
+        ("4 x 0\n", bad(1, 701), "fault: lrat line 1 code 701\n"),
+        ("4 0 1\n", bad(1, 702), "fault: lrat line 1 code 702\n"),
+    ];
+    for (lrat, outcome, line) in cases {
+        let answer = checked(&rt, alloc, TWO_CNF.as_bytes(), lrat, line)?;
+        assert_eq!(rt; answer, outcome, "at {lrat}");
+    }
+    Ok(())
+}
+
+#[test]
+fn clause_files_that_do_not_read(rt: HostRuntime) -> Result<(), Fail> {
+    let alloc = rt.alloc();
+    let bad = |line, code| Outcome::InputFault {
+        file: 5,
+        line,
+        code,
+    };
+    let past = Outcome::Limit {
+        code: 605,
+        count: 100_000_001,
+    };
+    let cases = [
+        (
+            "p cnf 1 1\n2 0\n",
+            bad(2, 603),
+            "fault: cnf line 2 code 603\n",
+        ),
+        (
+            "p cnf 1 2\n1 0\n",
+            bad(3, 604),
+            "fault: cnf line 3 code 604\n",
+        ),
+        (
+            "p cnf 100000001 0\n",
+            past,
+            "limit: code 605 count 100000001\n",
+        ),
+    ];
+    for (cnf, outcome, line) in cases {
+        let answer = checked(&rt, alloc, cnf.as_bytes(), "4 x 0\n", line)?;
+        assert_eq!(rt; answer, outcome, "at {cnf}");
+    }
+    Ok(())
+}
+
+#[test]
+fn the_clauses_of_three_nets_are_refuted(rt: HostRuntime) -> Result<(), Fail> {
+    let alloc = rt.alloc();
+    let encode = words(alloc, &["encode", "one.route", "2", "out"])?;
+    let mut shelf = MemShelf::new(alloc, Vec::new(alloc));
+    let answer = run(alloc, &encode, &mut desk(alloc, THREE, &[])?, &mut shelf);
+    assert_eq!(rt; answer, Outcome::Done);
+    let cnf = shelf.file("out.cnf").ok_or("no clauses")?;
+    let lrat = "13 -1 0 7 9 2 3 12 0\n14 0 13 1 8 10 2 3 11 0\n";
+    let answer = checked(&rt, alloc, cnf, lrat, "accepted\n")?;
+    assert_eq!(rt; answer, Outcome::Accepted);
+    // Without its first step the second has no clause 13.
+    let cut = "14 0 13 1 8 10 2 3 11 0\n";
+    let answer = checked(&rt, alloc, cnf, cut, "not accepted: step 1 cause 1\n")?;
+    assert_eq!(rt; answer, Outcome::NotAccepted { step: 1, cause: 1 });
+    Ok(())
+}
+
+#[test]
+fn each_call_of_the_desk_fails_in_turn_for_the_refutation(rt: HostRuntime) -> Result<(), Fail> {
+    let alloc = rt.alloc();
+    let words = words(alloc, &["check", "two.cnf", "two.lrat"])?;
+    let named = [
+        ("two.cnf", TWO_CNF.as_bytes()),
+        ("two.lrat", b"4 0 1 2 3 0\n".as_slice()),
+    ];
+    // A start, a read of the text and a read of its end, for each of the two files.
+    for call in 1..=7 {
+        let mut shelf = MemShelf::new(alloc, Vec::new(alloc));
+        let mut desk = desk_with(alloc, &named, &[call])?;
+        let answer = run(alloc, &words, &mut desk, &mut shelf);
+        let outcome = match call {
+            1..=3 => Outcome::ReadFault { file: 5 },
+            4..=6 => Outcome::ReadFault { file: 6 },
+            _ => Outcome::Accepted,
+        };
+        assert_eq!(rt; answer, outcome, "at call {call}");
+    }
+    for (lost, file) in [("cnf", 5), ("lrat", 6)] {
+        let kept = named.iter().filter(|(name, _)| !name.ends_with(lost));
+        let mut left = Vec::new(alloc);
+        for (name, bytes) in kept {
+            left.push((*name, *bytes))?;
+        }
+        let mut shelf = MemShelf::new(alloc, Vec::new(alloc));
+        let mut desk = desk_with(alloc, &left, &[])?;
+        let answer = run(alloc, &words, &mut desk, &mut shelf);
+        assert_eq!(rt; answer, Outcome::ReadFault { file }, "without {lost}");
     }
     Ok(())
 }

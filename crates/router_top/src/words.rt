@@ -1,10 +1,10 @@
 //! The words of the command.
 ghost use Rattle.std.specs.Prelude.{◌≡◌, ◌≤◌, IfOk, IfErr, IfSome, Ok, Err, option_map};
-ghost use Rattle.router_top.specs.Command.{Encodes, Routes, encode_job, job_of, number_up_to, route_job, words_of};
-ghost use Rattle.router_top.specs.JobSaid.{encode_said, job_said, route_said};
+ghost use Rattle.router_top.specs.Command.{Checks, Encodes, Routes, check_job, encode_job, job_of, number_up_to, route_job, words_of};
+ghost use Rattle.router_top.specs.JobSaid.{check_said, encode_said, job_said, route_said};
 ghost use Rattle.router_top.specs.WordsCode.{words_code};
 
-use crate::job_words::{EncodeWords, JobWords, RouteWords};
+use crate::job_words::{CheckWords, EncodeWords, JobWords, RouteWords};
 use fpga_text::whole_number;
 
 /// Why words are not taken.
@@ -85,6 +85,20 @@ fn read_encode_words(words: &[String]) -> Result<EncodeWords<'_>, WordsFault>
     })
 }
 
+// Reads the words after `check`.
+fn read_check_words(words: &[String]) -> Result<CheckWords<'_>, WordsFault>
+    ensures ok { IfOk result (λ w. check_job (words_of words.now) ≡ Ok (Checks (check_said w))) }
+    ensures err { IfErr result (λ e. check_job (words_of words.now) ≡ Err (words_code e)) }
+{
+    let [cnf, lrat] = words else {
+        return Err(WordsFault::Count);
+    };
+    Ok(CheckWords {
+        cnf: cnf.as_str(),
+        lrat: lrat.as_str(),
+    })
+}
+
 /// Reads the words of a command. The fault is the first that holds, in the order of `WordsFault`.
 pub fn read_words(words: &[String]) -> Result<JobWords<'_>, WordsFault>
     ensures ok { IfOk result (λ w. job_of (words_of words.now) ≡ Ok (job_said w)) }
@@ -102,6 +116,12 @@ pub fn read_words(words: &[String]) -> Result<JobWords<'_>, WordsFault>
     if command.as_str() == "encode" {
         return match read_encode_words(others) {
             Ok(words) => Ok(JobWords::Encode(words)),
+            Err(fault) => Err(fault),
+        };
+    }
+    if command.as_str() == "check" {
+        return match read_check_words(others) {
+            Ok(words) => Ok(JobWords::Check(words)),
             Err(fault) => Err(fault),
         };
     }

@@ -32,18 +32,18 @@ pub way_end : {first now : Draft} {all : List ℤ} → IsOnWay first now all [] 
 way_end way = record { vars = way.vars; parts = way.parts }
 
 -- the literals with the numbers of literals are these literals
-lits_of_codes : (open_clause : Clause) → map lit (map (λ (l : Lit). l.code) open_clause) ≡ open_clause
+pub lits_of_codes : (open_clause : Clause) → map lit (map (λ (l : Lit). l.code) open_clause) ≡ open_clause
 lits_of_codes [] = refl
 lits_of_codes (l ∷ ls) = ap (λ (rest : Clause). l ∷ rest) (lits_of_codes ls)
 
-not_zero : (z : ℤ) → 1 ≤ nat_abs z → is_zero z ≡ false
+pub not_zero : (z : ℤ) → 1 ≤ nat_abs z → is_zero z ≡ false
 not_zero z some = go (is_zero z) refl where
   go : (b : Bool) → is_zero z ≡ b → is_zero z ≡ false
   go false e = e
   go true e = absurd (let is : z ≡ pos 0 = (Decides-int_eq z (pos 0)).0 e in let size : nat_abs z ≡ 0 = ap nat_abs is in omega (arith, some, size))
 
 -- no literal is a 0
-no_zeros : (vars : ℕ) (open_clause : Clause) → All (IsWithin vars) open_clause → All (λ z. is_zero z ≡ false) (map (λ (l : Lit). l.code) open_clause)
+pub no_zeros : (vars : ℕ) (open_clause : Clause) → All (IsWithin vars) open_clause → All (λ z. is_zero z ≡ false) (map (λ (l : Lit). l.code) open_clause)
 no_zeros vars [] within k d inside = absurd (omega arith)
 no_zeros vars (l ∷ ls) within zero d inside = not_zero l.code (within 0 l (omega arith)).0
 no_zeros vars (l ∷ ls) within (suc k) d inside = no_zeros vars ls (λ j e h. within (suc j) e (omega arith)) k d (omega arith)

@@ -1,6 +1,12 @@
+pub mod CnfBack
 pub mod CnfLemmas
+pub mod CnfSound
 pub mod DraftLemmas
 pub mod FaultLemmas
+pub mod LogBack
+pub mod LogSound
 pub mod LratLemmas
+pub mod PrintedLines
+pub mod PrintedNumbers
 pub mod WordLemmas
 pub mod WriteLemmas

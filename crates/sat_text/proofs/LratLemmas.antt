@@ -74,7 +74,7 @@ ends_with_zero-last [] last = refl
 ends_with_zero-last (n ∷ []) last = refl
 ends_with_zero-last (n ∷ m ∷ more) last = ends_with_zero-last (m ∷ more) last
 
-but_last-last : (before : List ℤ) (last : ℤ) → but_last (before ++ last ∷ []) ≡ before
+pub but_last-last : (before : List ℤ) (last : ℤ) → but_last (before ++ last ∷ []) ≡ before
 but_last-last [] last = refl
 but_last-last (n ∷ []) last = refl
 but_last-last (n ∷ m ∷ more) last = ap (λ (l : List ℤ). n ∷ l) (but_last-last (m ∷ more) last)
@@ -95,7 +95,7 @@ added_limit-behind id lits hints within = rw codes_of_lits (go (nat_lt 429496729
   go false e = refl
 
 -- no size is past its limit
-none_past : (most : ℕ) (numbers : List ℤ) → first_past most numbers ≡ None → (k : ℕ) (d : ℤ) → k < length numbers → nat_abs (slice_index_or numbers k d) ≤ most
+pub none_past : (most : ℕ) (numbers : List ℤ) → first_past most numbers ≡ None → (k : ℕ) (d : ℤ) → k < length numbers → nat_abs (slice_index_or numbers k d) ≤ most
 none_past most [] none k d inside = absurd (omega arith)
 none_past most (n ∷ ns) none k d inside = go (nat_lt most (nat_abs n)) refl none (λ rest j below. none_past most ns rest j d below) k inside where
   go : (b : Bool) → nat_lt most (nat_abs n) ≡ b → (if b then Some (nat_abs n) else first_past most ns) ≡ None

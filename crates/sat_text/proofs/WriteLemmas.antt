@@ -1,6 +1,6 @@
 -- Writing the texts of a row of values, one after another.
 use Rattle.std.proofs.Common.{◌≡◌, ◌∙◌, ◌+◌, ◌<◌, ◌++◌, ℕ, zero, suc, List, [], ◌∷◌, length, take, drop, Some, None, refl, sym, ap, subst, arith, add-one, append_assoc, append-nil}
-use Rattle.std.specs.Prelude.{flat_map, slice_get, slice_index_or}
+use Rattle.std.specs.Prelude.{All, flat_map, slice_get, slice_index_or}
 use Rattle.desk_io.specs.Files.{Bytes}
 use Rattle.desk_io.specs.ShelfState.{ShelfState, FailsToAppend}
 use Rattle.desk_io.specs.Writing.{PassesOn}
@@ -55,3 +55,26 @@ none_left f (x ∷ xs) = ap (λ (t : Bytes). f x ++ t) (none_left f xs)
 -- all values are written
 pub row-ends : {T : Type 0} (f : T → Bytes) (xs : List T) (i : ℕ) {a b : ShelfState} {w y : Bytes} → i ≡ length xs → PassesOn a w (flat_map f (take i xs)) b y → PassesOn a w (flat_map f xs) b y
 row-ends f xs i {a} {b} {w} {y} e p = subst (λ (t : Bytes). PassesOn a w t b y) (ap (λ (n : ℕ). flat_map f (take n xs)) e ∙ none_left f xs) p
+
+-- what holds of the front values and of the next holds of one front value more
+pub all-front : {T : Type 0} (P : T → Type 0) (xs : List T) → All P (take 0 xs)
+all-front P [] k d inside = absurd (omega arith)
+all-front P (x ∷ xs) k d inside = absurd (omega arith)
+
+all-next-suc : {T : Type 0} (P : T → Type 0) (xs : List T) (i : ℕ) (x : T) → slice_get xs i ≡ Some x → All P (take i xs) → P x → All P (take (suc i) xs)
+all-next-suc P [] i x at front here k d inside = absurd (let clash : None ≡ Some x = at in cc)
+all-next-suc P (y ∷ ys) zero x at front here zero d inside = subst P (let is : x ≡ y = cc in is) here
+all-next-suc P (y ∷ ys) zero x at front here (suc k) d inside = absurd (omega arith)
+all-next-suc P (y ∷ ys) (suc i) x at front here zero d inside = front 0 d (omega arith)
+all-next-suc P (y ∷ ys) (suc i) x at front here (suc k) d inside = all-next-suc P ys i x at (λ j e h. front (suc j) e (omega arith)) here k d (omega arith)
+
+pub all-next : {T : Type 0} (P : T → Type 0) (xs : List T) (i : ℕ) (x : T) → slice_get xs i ≡ Some x → All P (take i xs) → P x → All P (take (i + 1) xs)
+all-next P xs i x at front here = rw add-one (all-next-suc P xs i x at front here)
+
+take_all : {T : Type 0} (xs : List T) → take (length xs) xs ≡ xs
+take_all [] = refl
+take_all (x ∷ xs) = ap (λ (l : List _). x ∷ l) (take_all xs)
+
+-- all values are front ones
+pub all-whole : {T : Type 0} (P : T → Type 0) (xs : List T) (i : ℕ) → i ≡ length xs → All P (take i xs) → All P xs
+all-whole P xs i e all = subst (All P) (ap (λ (n : ℕ). take n xs) e ∙ take_all xs) all

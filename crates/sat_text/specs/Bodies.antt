@@ -9,7 +9,9 @@ use Rattle.sat_text.specs.FirstFault.{IsFaultless, IsRefusal}
 use Rattle.sat_text.specs.ToldLines.{told}
 
 -- all lines were taken, and none has a fault
-pub record TakesBody (old : Draft) (before : LinesAhead) (new : Draft) (after : LinesAhead) : Type 0 where
+pub record TakesBody
+    (old : Draft) (before : LinesAhead) (new : Draft) (after : LinesAhead)
+    : Type 0 where
   pub clean : IsFaultless (map (body_fault old.formula.cnf.vars) (told before.ahead))
   pub numbers : TakesNumbers old new (line_numbers (told before.ahead))
   pub taken : after.taken ≡ before.total

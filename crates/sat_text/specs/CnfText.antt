@@ -1,4 +1,5 @@
--- CNF texts, as DIMACS has them: comments, the head line `p cnf VARS CLAUSES`, and numbers, of which each 0 ends a clause.
+-- CNF texts, as DIMACS has them: comments, the head line `p cnf VARS CLAUSES`, and numbers, of which
+-- each 0 ends a clause.
 use Rattle.std.specs.Prelude.{◌≡◌, ℕ, ◌+◌, ◌==◌, nat_lt, nat_abs, ℤ, Bool, false, ◌&&◌, if◌then◌else◌, List, [], ◌∷◌, ◌++◌, length, map, flat_map, bytes_eq, codes, Option, None, Some, is_none, option_map, option_and_then, unwrap_or}
 use Rattle.std.specs.List.{list_any, slice_split}
 use Rattle.fpga_text.specs.declared.fault.TextFault.{TextFault}
@@ -20,12 +21,15 @@ pub record HeadWords : Type 0 where
 -- these words, if the line has the form of a head line
 abbrev pub head_words : List Bytes → Option HeadWords
 head_words (p ∷ cnf ∷ vars ∷ clauses ∷ []) =
-    if bytes_eq p (codes "p") && bytes_eq cnf (codes "cnf") then Some (record { vars = vars; clauses = clauses }) else None
+    if bytes_eq p (codes "p") && bytes_eq cnf (codes "cnf") then Some (record { vars = vars; clauses = clauses })
+    else None
 head_words words = None
 
 -- what these words say, if both are numbers that are not negative
 abbrev pub head_said : HeadWords → Option Head
-head_said words = option_and_then (λ vars. option_map (λ clauses. record { vars = vars; clauses = clauses }) (natural_of words.clauses)) (natural_of words.vars)
+head_said words =
+    option_and_then (λ vars. option_map (λ clauses. record { vars = vars; clauses = clauses })
+    (natural_of words.clauses)) (natural_of words.vars)
 
 -- what a head line says
 abbrev pub head_of : List Bytes → Option Head
@@ -33,9 +37,12 @@ head_of words = option_and_then head_said (head_words words)
 
 -- of the two numbers the first that is past its limit
 abbrev pub past_limit : Head → Option ℕ
-past_limit head = if nat_lt 100000000 head.vars then Some head.vars else if nat_lt 40000000 head.clauses then Some head.clauses else None
+past_limit head =
+    if nat_lt 100000000 head.vars then Some head.vars
+    else if nat_lt 40000000 head.clauses then Some head.clauses else None
 
--- why the first line is refused: 601, it is no head line; 602, a number is none or negative; 605, a number is past its limit
+-- why the first line is refused: 601, it is no head line; 602, a number is none or negative; 605, a
+-- number is past its limit
 abbrev pub head_fault : TextLine → Option TextFault
 head_fault line =
     if is_none (head_words line.words) then Some (Bad line.number 601)
@@ -51,7 +58,8 @@ begins_as_head (word ∷ more) = bytes_eq word (codes "p")
 abbrev pub has_strange_variable : ℕ → List ℤ → Bool
 has_strange_variable vars numbers = list_any (λ n. nat_lt vars (nat_abs n)) numbers
 
--- why a later line is refused: 601, a second head; 602, a word is no number; 603, a literal of a variable that is not there
+-- why a later line is refused: 601, a second head; 602, a word is no number; 603, a literal of a
+-- variable that is not there
 abbrev pub body_fault : ℕ → TextLine → Option TextFault
 body_fault vars line =
     if begins_as_head line.words then Some (Bad line.number 601)
@@ -95,12 +103,14 @@ head_or_none head = unwrap_or head (record { vars = 0; clauses = 0 })
 
 -- the faults of the lines behind this head, of which `ahead` are still to come, and of the end
 abbrev pub faults_ahead : Head → (body ahead : List TextLine) → ℕ → Faults
-faults_ahead head body ahead end = map (body_fault head.vars) ahead ++ end_fault head.clauses (line_numbers body) end ∷ []
+faults_ahead head body ahead end =
+    map (body_fault head.vars) ahead ++ end_fault head.clauses (line_numbers body) end ∷ []
 
 -- the faults of these lines and of the end; 601 stands there if there is no line
 abbrev pub faults_of : List TextLine → ℕ → Faults
 faults_of [] end = Some (Bad end 601) ∷ []
-faults_of (head ∷ body) end = head_fault head ∷ faults_ahead (head_or_none (head_of head.words)) body body end
+faults_of (head ∷ body) end =
+    head_fault head ∷ faults_ahead (head_or_none (head_of head.words)) body body end
 
 -- the faults of a text; its end has the number after its last line
 abbrev pub cnf_faults : Bytes → Faults

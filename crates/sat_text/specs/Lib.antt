@@ -8,5 +8,6 @@ pub mod LogDrafts
 pub mod LratText
 pub mod Numbers
 pub mod Printed
+pub mod ReadBack
 pub mod Steps
 pub mod ToldLines

@@ -1,4 +1,5 @@
--- LRAT texts without steps that resolve on a first literal: comments, and lines that add a clause or delete clauses.
+-- LRAT texts without steps that resolve on a first literal: comments, and lines that add a clause or
+-- delete clauses.
 use Rattle.std.specs.Prelude.{◌≡◌, ℕ, max, nat_lt, nat_le, nat_abs, ℤ, pos, int_le, int_lt, Bool, true, false, ◌&&◌, ◌||◌, if◌then◌else◌, List, [], ◌∷◌, map, find, filter_map, bytes_eq, codes, Option, None, Some, option_map}
 use Rattle.std.specs.List.{list_any, slice_split}
 use Rattle.std.specs.Option.{option_or}
@@ -20,7 +21,8 @@ is_deletion words = false
 
 -- the words where a number is due: all but the `d` of a deletion
 abbrev pub due_words : List Bytes → List Bytes
-due_words (id ∷ word ∷ more) = if bytes_eq word (codes "d") then id ∷ more else id ∷ word ∷ more
+due_words (id ∷ word ∷ more) =
+    if bytes_eq word (codes "d") then id ∷ more else id ∷ word ∷ more
 due_words words = words
 
 -- the last number is a 0
@@ -44,7 +46,8 @@ is_below_zero n = int_lt n (pos 0)
 -- the first number of a line, or one that a deletion deletes, is negative or 0
 abbrev pub has_no_id : Bool → List ℤ → Bool
 has_no_id deletes [] = false
-has_no_id deletes (id ∷ more) = is_not_positive id || deletes && list_any is_not_positive (deleted_ids more)
+has_no_id deletes (id ∷ more) =
+    is_not_positive id || deletes && list_any is_not_positive (deleted_ids more)
 
 -- literals, hints, and nothing behind the second 0: the numbers behind an id, cut at each 0
 abbrev pub added_by : ℤ → List (List ℤ) → Option Step
@@ -59,7 +62,8 @@ added_step (id ∷ more) = added_by id (slice_split is_zero more)
 -- the step that the numbers of a deletion say, which have the form `id ids 0`
 abbrev pub erased_step : List ℤ → Option Step
 erased_step [] = None
-erased_step (id ∷ more) = if ends_with_zero more then Some (Erased (nat_abs id) (but_last more)) else None
+erased_step (id ∷ more) =
+    if ends_with_zero more then Some (Erased (nat_abs id) (but_last more)) else None
 
 -- the step that the numbers of a line say
 abbrev pub step_of : Bool → List ℤ → Option Step
@@ -80,19 +84,22 @@ added_limit id clause hints =
 abbrev pub erased_limit : ℕ → List ℤ → Option ℕ
 erased_limit id ids = first_past 4294967295 (pos id ∷ ids)
 
--- why a step is refused: 702, there is none; 703, its id is not above this number; 704, a negative hint; 705, a number past its limit
+-- why a step is refused: 702, there is none; 703, its id is not above this number; 704, a negative
+-- hint; 705, a number past its limit
 abbrev pub step_fault : ℕ → ℕ → Option Step → Option TextFault
 step_fault above line None = Some (Bad line 702)
 step_fault above line (Some (Added id clause hints)) =
     if nat_le id above then Some (Bad line 703)
     else if list_any is_below_zero hints then Some (Bad line 704)
     else option_map (λ count. Limit 705 count) (added_limit id clause hints)
-step_fault above line (Some (Erased id ids)) = option_map (λ count. Limit 705 count) (erased_limit id ids)
+step_fault above line (Some (Erased id ids)) =
+    option_map (λ count. Limit 705 count) (erased_limit id ids)
 
 -- why the numbers of a line are refused: 701, an id is negative or 0; or for the step that they say
 abbrev pub numbers_fault : ℕ → ℕ → Bool → List ℤ → Option TextFault
 numbers_fault above line deletes numbers =
-    if has_no_id deletes numbers then Some (Bad line 701) else step_fault above line (step_of deletes numbers)
+    if has_no_id deletes numbers then Some (Bad line 701)
+    else step_fault above line (step_of deletes numbers)
 
 -- why a line is refused: 701, a word is no number; or for its numbers
 abbrev pub line_fault : ℕ → TextLine → Option TextFault
@@ -110,10 +117,12 @@ raised above None = above
 raised above (Some (Added id clause hints)) = max above id
 raised above (Some (Erased id ids)) = above
 
--- the faults of these lines, where the id of an added clause has to be above this number and all earlier ones
+-- the faults of these lines, where the id of an added clause has to be above this number and above
+-- all earlier ones
 abbrev pub faults_above : ℕ → List TextLine → Faults
 faults_above above [] = []
-faults_above above (line ∷ more) = line_fault above line ∷ faults_above (raised above (said_step line.words)) more
+faults_above above (line ∷ more) =
+    line_fault above line ∷ faults_above (raised above (said_step line.words)) more
 
 -- the faults of a text that goes with so many input clauses
 abbrev pub lrat_faults : ℕ → Bytes → Faults

@@ -21,7 +21,8 @@ clause_text clause = flat_map literal_text clause ++ codes "0\n"
 
 -- the head line: the numbers of variables and of clauses
 abbrev pub head_text : Cnf → Bytes
-head_text cnf = codes "p cnf " ++ decimal cnf.vars ++ codes " " ++ decimal (length cnf.clauses) ++ codes "\n"
+head_text cnf =
+    codes "p cnf " ++ decimal cnf.vars ++ codes " " ++ decimal (length cnf.clauses) ++ codes "\n"
 
 -- a formula: the head line, and each clause on a line
 abbrev pub cnf_text : Cnf → Bytes

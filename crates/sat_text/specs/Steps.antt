@@ -5,4 +5,5 @@ use Rattle.sat_clause.specs.Step.{Step, Added, Erased}
 
 -- the step; the hints of a deletion are its ids
 abbrev pub viewed : StepView → Step
-viewed view = if view.erase then Erased view.id view.hints.now else Added view.id view.lits.now view.hints.now
+viewed view =
+    if view.erase then Erased view.id view.hints.now else Added view.id view.lits.now view.hints.now

@@ -47,6 +47,7 @@ impl Draft {
         if self.formula.len() == u32::MAX {
             return Err(AllocError);
         }
+        // The room doubles where it is missing: to count it first would read the text twice.
         let vars = self.formula.vars();
         let Ok(()) = self.formula.reserve(vars, 1, self.open_clause.len() as u64) else {
             return Err(AllocError);
@@ -74,13 +75,15 @@ impl Draft {
         Ok(())
     }
 
-    /// Takes a word where a number is due. It answers whether its variable is none of the formula's;
-    /// such a literal is not taken.
+    /// Takes a word where a number is due. It answers whether its variable is none of the formula's:
+    /// then it isn't taken.
     fn take_word(&mut self, word: &[u8], line: u64) -> Result<bool, TextFault>
         ensures number { IfOk result (λ _. is_number word.now ≡ true) }
-        ensures strange { IfOk result (λ strange. strange ≡ has_strange_variable self.old.formula.cnf.vars (numbers_of (word.now ∷ []))) }
+        ensures strange { IfOk result (λ strange. strange ≡ has_strange_variable self.old.formula.cnf.vars
+            (numbers_of (word.now ∷ []))) }
         ensures vars { IfOk result (λ _. self.new.formula.cnf.vars ≡ self.old.formula.cnf.vars) }
-        ensures value { IfOk result (λ strange. strange ≡ false → TakesNumbers self.old self.new (numbers_of (word.now ∷ []))) }
+        ensures value { IfOk result (λ strange. strange ≡ false → TakesNumbers self.old self.new
+            (numbers_of (word.now ∷ []))) }
         ensures err { IfErr result (IsFaultOf (if is_number word.now then None else Some (Bad line 602))) }
     {
         let Some(number) = number(word) else {
@@ -95,14 +98,18 @@ impl Draft {
         Ok(false)
     }
 
-    /// Takes the other words of a line. It answers whether a variable of the line, or one before, is
-    /// none of the formula's.
+    /// Takes the other words of a line. It answers whether a variable of these, or one before, is none
+    /// of the formula's.
     fn take_words(&mut self, line: &mut Line<'_>, before: bool) -> Result<bool, TextFault>
         ensures number { IfOk result (λ _. lacks_number line.old.words ≡ false) }
-        ensures strange { IfOk result (λ strange. strange ≡ (before || has_strange_variable self.old.formula.cnf.vars (numbers_of line.old.words))) }
+        ensures strange { IfOk result (λ strange. strange ≡
+            (before || has_strange_variable self.old.formula.cnf.vars
+            (numbers_of line.old.words))) }
         ensures vars { IfOk result (λ _. self.new.formula.cnf.vars ≡ self.old.formula.cnf.vars) }
-        ensures value { IfOk result (λ strange. strange ≡ false → TakesNumbers self.old self.new (numbers_of line.old.words)) }
-        ensures err { IfErr result (IsFaultOf (if lacks_number line.old.words then Some (Bad line.old.number 602) else None)) }
+        ensures value { IfOk result (λ strange. strange ≡ false → TakesNumbers self.old self.new
+            (numbers_of line.old.words)) }
+        ensures err { IfErr result (IsFaultOf
+            (if lacks_number line.old.words then Some (Bad line.old.number 602) else None)) }
     {
         let mut strange = before;
         while let Some(word) = line.next_word() {

@@ -4,6 +4,7 @@
 mod cause;
 mod draft;
 mod head;
+mod laws;
 mod log_draft;
 mod number;
 mod read;
@@ -14,7 +15,7 @@ mod told;
 mod write;
 mod write_log;
 
-pub use cause::Cause;
+pub use laws::{printed_formulas_read_back, printed_logs_read_back};
 pub use read::{read_cnf, read_lrat};
 pub use write::write_cnf;
 pub use write_log::write_lrat;

@@ -9,8 +9,8 @@ use fpga_text::{Line, TextFault};
 use sat_clause::{Lit, Log};
 use std::alloc::{AllocError, Global};
 
-/// The steps that were read, and the number that the id of the next added clause has to be above. The
-/// numbers and the literals are those of the line that was read last.
+/// The steps that were read, and the number that the id of the next added clause has to be above.
+/// The numbers and the literals are those of the line that was read last: each line reuses their room.
 #[derive(Drop)]
 pub struct LogDraft {
     pub log: Log,
@@ -67,7 +67,8 @@ impl LogDraft {
     fn take_addition(&mut self, line: u64) -> Result<(), TextFault>
         ensures clean { OnOk result (numbers_fault self.old.above line false self.old.numbers.items ≡ None) }
         ensures step { OnOk result (TakesStep self.old self.new (step_of false self.old.numbers.items)) }
-        ensures err { IfErr result (IsFaultOf (numbers_fault self.old.above line false self.old.numbers.items)) }
+        ensures err { IfErr result (IsFaultOf
+            (numbers_fault self.old.above line false self.old.numbers.items)) }
     {
         let said = addition_said(&self.numbers, self.above, line)?;
         let Ok(()) = read_literals(&mut self.lits, said.lits) else {

@@ -26,7 +26,7 @@ fn take_body(draft: &mut Draft, lines: &mut Lines<'_>) -> Result<(), TextFault>
 
 /// The formula that a CNF text says, or its first bad line and the least code that holds there. A
 /// number of variables or clauses past its limit is answered as `Limit`, and want of memory as
-/// `Memory`.
+/// `Memory`. The text is read once, and the formula grows with it.
 pub fn read_cnf(alloc: Global, bytes: &[u8]) -> Result<Formula, TextFault>
     ensures ok { IfOk result (λ formula. ReadsCnf bytes.now formula.cnf) }
     ensures err { IfErr result (IsRefusedCnf bytes.now) }
@@ -50,9 +50,9 @@ pub fn read_cnf(alloc: Global, bytes: &[u8]) -> Result<Formula, TextFault>
     Ok(formula)
 }
 
-/// The log that an LRAT text says which goes with so many input clauses, or its first bad line and the
-/// least code that holds there. An id, a hint or a literal past its limit is answered as `Limit`, and
-/// want of memory as `Memory`.
+/// The log that an LRAT text says which goes with so many input clauses, or its first bad line and
+/// the least code that holds there. An id, a hint or a literal past its limit is answered as `Limit`,
+/// and want of memory as `Memory`. The text is read once.
 pub fn read_lrat(alloc: Global, bytes: &[u8], inputs: u32) -> Result<Log, TextFault>
     ensures ok { IfOk result (λ log. ReadsLrat inputs bytes.now log.steps) }
     ensures err { IfErr result (IsRefusedLrat inputs bytes.now) }

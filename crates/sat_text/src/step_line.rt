@@ -52,7 +52,8 @@ fn push_number(numbers: &mut Vec<i64>, word: &[u8], line: u64) -> Result<(), Tex
 fn push_numbers(numbers: &mut Vec<i64>, line: &mut Line<'_>) -> Result<(), TextFault>
     ensures number { OnOk result (lacks_number line.old.words ≡ false) }
     ensures numbers { OnOk result (numbers.new.items ≡ numbers.old.items ++ numbers_of line.old.words) }
-    ensures err { IfErr result (IsFaultOf (if lacks_number line.old.words then Some (Bad line.old.number 701) else None)) }
+    ensures err { IfErr result (IsFaultOf
+        (if lacks_number line.old.words then Some (Bad line.old.number 701) else None)) }
 {
     while let Some(word) = line.next_word() {
         push_number(numbers, word.text, word.line)?;
@@ -65,7 +66,9 @@ pub fn read_numbers(numbers: &mut Vec<i64>, line: &mut Line<'_>) -> Result<bool,
     ensures number { IfOk result (λ _. lacks_number (due_words line.old.words) ≡ false) }
     ensures numbers { IfOk result (λ _. numbers.new.items ≡ numbers_of (due_words line.old.words)) }
     ensures deletes { IfOk result (λ deletes. deletes ≡ is_deletion line.old.words) }
-    ensures err { IfErr result (IsFaultOf (if lacks_number (due_words line.old.words) then Some (Bad line.old.number 701) else None)) }
+    ensures err { IfErr result (IsFaultOf
+        (if lacks_number (due_words line.old.words) then Some (Bad line.old.number 701) else
+        None)) }
 {
     numbers.clear();
     let Some(first) = line.next_word() else {
@@ -86,7 +89,9 @@ pub fn read_numbers(numbers: &mut Vec<i64>, line: &mut Line<'_>) -> Result<bool,
 
 /// What stands before the first 0 and what stands behind it, if there is a 0.
 fn cut_at_zero<'a>(numbers: &'a [i64]) -> Option<(&'a [i64], &'a [i64])>
-    ensures cut { IfSome result (λ cut. slice_split is_zero_of numbers.now ≡ cut.0.now ∷ slice_split is_zero_of cut.1.now) }
+    ensures cut { IfSome result
+        (λ cut. slice_split is_zero_of numbers.now ≡ cut.0.now ∷ slice_split is_zero_of
+        cut.1.now) }
     ensures before { IfSome result (λ cut. All (λ n. is_zero_of n ≡ false) cut.0.now) }
     ensures whole { IfNone result (slice_split is_zero_of numbers.now ≡ numbers.now ∷ []) }
 {
@@ -162,7 +167,8 @@ fn deleted<'a>(numbers: &'a [i64]) -> (&'a [i64], bool)
 pub fn deletion_said<'a>(numbers: &'a [i64], line: u64) -> Result<Deletion<'a>, TextFault>
     ensures step { IfOk result (λ said. erased_step numbers.now ≡ Some (Erased said.id said.ids.now)) }
     ensures clean { IfOk result (λ _. (above : ℕ) → numbers_fault above line true numbers.now ≡ None) }
-    ensures err { IfErr result (λ fault. (above : ℕ) → IsFaultOf (numbers_fault above line true numbers.now) fault) }
+    ensures err { IfErr result (λ fault. (above : ℕ) → IsFaultOf (numbers_fault above line true numbers.now)
+        fault) }
 {
     let Some((id, more)) = numbers.split_first() else {
         return Err(Cause::StepForm.at(line));
@@ -184,9 +190,11 @@ pub fn deletion_said<'a>(numbers: &'a [i64], line: u64) -> Result<Deletion<'a>, 
     })
 }
 
-/// The literals and the hints of an added clause: what a first 0 ends, and what a second and last one.
+/// The literals and the hints of an added clause: what the first 0 ends, and what the second, the last
+/// number, ends.
 fn clause_and_hints<'a>(numbers: &'a [i64]) -> Option<(&'a [i64], &'a [i64])>
-    ensures step { (id : ℤ) → added_by id (slice_split is_zero_of numbers.now) ≡ option_map (λ said. Added (nat_abs id) (map lit said.0.now) said.1.now) result }
+    ensures step { (id : ℤ) → added_by id (slice_split is_zero_of numbers.now) ≡ option_map
+        (λ said. Added (nat_abs id) (map lit said.0.now) said.1.now) result }
     ensures nonzero { IfSome result (λ said. All (λ n. is_zero_of n ≡ false) said.0.now) }
 {
     let Some((lits, behind)) = cut_at_zero(numbers) else {
@@ -208,7 +216,8 @@ pub fn addition_said<'a>(
     above: u32,
     line: u64,
 ) -> Result<Addition<'a>, TextFault>
-    ensures step { IfOk result (λ said. added_step numbers.now ≡ Some (Added said.id (map lit said.lits.now) said.hints.now)) }
+    ensures step { IfOk result (λ said. added_step numbers.now ≡ Some
+        (Added said.id (map lit said.lits.now) said.hints.now)) }
     ensures above { IfOk result (λ said. above < said.id) }
     ensures literals { IfOk result (λ said. All (λ n. IsLiteral (lit n)) said.lits.now) }
     ensures clean { IfOk result (λ _. numbers_fault above line false numbers.now ≡ None) }

@@ -1,4 +1,5 @@
 //! Worked texts, as they are printed and read, and hostile ones.
+use crate::laws::{printed_formulas_read_back, printed_logs_read_back};
 use crate::read::{read_cnf, read_lrat};
 use crate::write::write_cnf;
 use crate::write_log::write_lrat;
@@ -30,6 +31,7 @@ fn printed_formulas(rt: HostRuntime) -> Result<(), Fail> {
             b"p cnf 2 3\n1 0\n2 0\n-1 -2 0\np cnf 100000000 2\n-100000000 99999999 0\n0\n".as_slice()
         )
     );
+    printed_formulas_read_back();
     Ok(())
 }
 
@@ -51,6 +53,7 @@ fn printed_logs(rt: HostRuntime) -> Result<(), Fail> {
             b"4 1 -2 0 1 2 0\n4 d 1 3 0\n4294967295 0 9223372036854775807 -9223372036854775808 0\n0 d 0\n".as_slice()
         )
     );
+    printed_logs_read_back();
     Ok(())
 }
 

@@ -1,5 +1,5 @@
 use Rattle.std.proofs.Common.{◌≡◌, Option, Some, None, is_some, true, refl, Err}
-use Rattle.router_top.proofs.problem_file.read_bytes.Goals as goal
+use Rattle.router_top.proofs.input.read_input.Goals as goal
 
 -- a value that is there
 the_value : {X : Type 0} (o : Option X) → is_some o ≡ true → (x : X) × (o ≡ Some x)

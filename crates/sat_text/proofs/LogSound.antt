@@ -1,0 +1,168 @@
+-- A log that was read is one that may be printed and read again.
+use Rattle.std.proofs.Common.{◌≡◌, ◌<◌, ◌≤◌, ℕ, zero, suc, ℤ, pos, negsuc, Bool, false, true, List, [], ◌∷◌, length, Option, None, Some, refl, sym, subst, arith}
+use Rattle.std.specs.Prelude.{All, map, nat_abs, nat_le, ◌||◌, if◌then◌else◌, option_map, slice_index_or}
+use Rattle.std.specs.List.{list_any, slice_split, onto_first, cons_option}
+use Rattle.std.specs.Option.{option_or}
+use Rattle.std.proofs.lemmas.Bool.Decides.{nat_tests}
+use Rattle.fpga_text.specs.declared.fault.TextFault.{TextFault}
+use Rattle.fpga_text.specs.declared.fault.TextFault.TheVariants.{Bad, Limit}
+use Rattle.fpga_text.specs.Bytes.{Bytes}
+use Rattle.fpga_text.specs.Words.{TextLine}
+use Rattle.sat_clause.specs.Literal.{IsWithin, lit}
+use Rattle.sat_clause.specs.Step.{Step, Added, Erased}
+use Rattle.sat_text.specs.CnfText.{but_last}
+use Rattle.sat_text.specs.FirstFault.{IsFaultless}
+use Rattle.sat_text.specs.LratText.{added_by, added_limit, deleted_ids, due_words, ends_with_zero, erased_limit, faults_above, has_no_id, is_below_zero, is_deletion, is_not_positive, line_fault, raised, said_step, step_fault, step_of, steps_of, ReadsLrat}
+use Rattle.sat_text.specs.Numbers.{is_zero, lacks_number, numbers_of}
+use Rattle.sat_text.specs.Printed.{log_text}
+use Rattle.sat_text.specs.ReadBack.{IsIdNumber, IsPrintableStep, IsPrintableLog}
+use Rattle.sat_text.specs.ToldLines.{told_lines}
+use Rattle.sat_text.proofs.LratLemmas.{codes_of_lits, none_past}
+use Rattle.sat_text.proofs.LogBack.{printed_log_reads}
+
+-- there is no fault, so this one is not it
+not_first : (b : Bool) (fault : TextFault) (rest : Option TextFault) → (if b then Some fault else rest) ≡ None → (b ≡ false) × (rest ≡ None)
+not_first true fault rest clash = absurd (let no : Some fault ≡ None = clash in cc)
+not_first false fault rest clean = (refl, clean)
+
+not_limited : (o : Option ℕ) → option_map (λ count. Limit 705 count) o ≡ None → o ≡ None
+not_limited None clean = refl
+not_limited (Some count) clash = absurd (let no : Some (Limit 705 count) ≡ None = clash in cc)
+
+neither : (a b : Bool) → (a || b) ≡ false → (a ≡ false) × (b ≡ false)
+neither true b clash = absurd (let no : true ≡ false = clash in cc)
+neither false b clean = (refl, clean)
+
+none_of : (a b c : Option ℕ) → option_or a (option_or b c) ≡ None → (a ≡ None) × (b ≡ None) × (c ≡ None)
+none_of (Some x) b c clash = absurd (let no : Some x ≡ None = clash in cc)
+none_of None (Some x) c clash = absurd (let no : Some x ≡ None = clash in cc)
+none_of None None c clean = (refl, refl, clean)
+
+-- a positive number within its limit
+id_number : (z : ℤ) → is_not_positive z ≡ false → nat_abs z ≤ 4294967295 → IsIdNumber z
+id_number (pos zero) clash few = absurd (let no : true ≡ false = clash in cc)
+id_number (pos (suc n)) some few = record { id = suc n; is = refl; some = omega arith; few = few }
+id_number (negsuc n) clash few = absurd (let no : true ≡ false = clash in cc)
+
+-- a number that is neither negative nor 0
+hint_number : (z : ℤ) → is_below_zero z ≡ false → is_zero z ≡ false → nat_abs z ≤ 4294967295 → IsIdNumber z
+hint_number (pos zero) sign clash few = absurd (let no : true ≡ false = clash in cc)
+hint_number (pos (suc n)) sign some few = record { id = suc n; is = refl; some = omega arith; few = few }
+hint_number (negsuc n) clash some few = absurd (let no : true ≡ false = clash in cc)
+
+id_numbers : (ids : List ℤ) → list_any is_not_positive ids ≡ false → ((k : ℕ) (d : ℤ) → k < length ids → nat_abs (slice_index_or ids k d) ≤ 4294967295) → All IsIdNumber ids
+id_numbers [] none few k d inside = absurd (omega arith)
+id_numbers (z ∷ zs) none few zero d inside = id_number z (neither (is_not_positive z) (list_any is_not_positive zs) none).0 (few 0 z (omega arith))
+id_numbers (z ∷ zs) none few (suc k) d inside = id_numbers zs (neither (is_not_positive z) (list_any is_not_positive zs) none).1 (λ j e h. few (suc j) e (omega arith)) k d (omega arith)
+
+hint_numbers : (hints : List ℤ) → list_any is_below_zero hints ≡ false → All (λ z. is_zero z ≡ false) hints → ((k : ℕ) (d : ℤ) → k < length hints → nat_abs (slice_index_or hints k d) ≤ 4294967295)
+    → All IsIdNumber hints
+hint_numbers [] none some few k d inside = absurd (omega arith)
+hint_numbers (z ∷ zs) none some few zero d inside = hint_number z (neither (is_below_zero z) (list_any is_below_zero zs) none).0 (some 0 z (omega arith)) (few 0 z (omega arith))
+hint_numbers (z ∷ zs) none some few (suc k) d inside =
+    hint_numbers zs (neither (is_below_zero z) (list_any is_below_zero zs) none).1 (λ j e h. some (suc j) e (omega arith)) (λ j e h. few (suc j) e (omega arith)) k d (omega arith)
+
+some_size : (z : ℤ) → is_zero z ≡ false → 1 ≤ nat_abs z
+some_size (pos zero) clash = absurd (let no : true ≡ false = clash in cc)
+some_size (pos (suc n)) e = omega arith
+some_size (negsuc n) e = omega arith
+
+literals : (lits : List ℤ) → All (λ z. is_zero z ≡ false) lits → ((k : ℕ) (d : ℤ) → k < length lits → nat_abs (slice_index_or lits k d) ≤ 100000000) → All (IsWithin 100000000) (map lit lits)
+literals [] some few k d inside = absurd (omega arith)
+literals (z ∷ zs) some few zero d inside = (some_size z (some 0 z (omega arith)), few 0 z (omega arith))
+literals (z ∷ zs) some few (suc k) d inside = literals zs (λ j e h. some (suc j) e (omega arith)) (λ j e h. few (suc j) e (omega arith)) k d (omega arith)
+
+-- no part of numbers that are cut at each 0 has a 0
+split_nonzero : (numbers : List ℤ) → All (All (λ z. is_zero z ≡ false)) (slice_split is_zero numbers)
+split_nonzero [] zero d inside = λ k e h. absurd (omega arith)
+split_nonzero [] (suc j) d inside = absurd (omega arith)
+split_nonzero (n ∷ ns) j d inside = go (is_zero n) refl (slice_split is_zero ns) (split_nonzero ns) j d inside where
+  first : (part : List ℤ) → All (λ z. is_zero z ≡ false) part → is_zero n ≡ false → All (λ z. is_zero z ≡ false) (n ∷ part)
+  first part later e zero x l = e
+  first part later e (suc k) x l = later k x (omega arith)
+
+  go : (b : Bool) → is_zero n ≡ b → (parts : List (List ℤ)) → All (All (λ z. is_zero z ≡ false)) parts → All (All (λ z. is_zero z ≡ false)) (if b then [] ∷ parts else onto_first n parts)
+  go true e parts later zero c h = λ k x l. absurd (omega arith)
+  go true e parts later (suc i) c h = later i c (omega arith)
+  go false e [] later zero c h = first [] (λ k x l. absurd (omega arith)) e
+  go false e [] later (suc i) c h = absurd (omega arith)
+  go false e (part ∷ parts) later zero c h = first part (later 0 c (omega arith)) e
+  go false e (part ∷ parts) later (suc i) c h = later (suc i) c (omega arith)
+
+-- the numbers of a line say a step that may be printed
+record IsGoodNumbers (above : ℕ) (deletes : Bool) (numbers : List ℤ) : Type 0 where
+  pub step : Step
+  pub said : step_of deletes numbers ≡ Some step
+  pub fits : IsPrintableStep above step
+
+no_step : {A : Type 0} (n : ℕ) → step_fault 0 n None ≡ None → A
+no_step n clash = absurd (let no : Some (Bad n 702) ≡ None = clash in cc)
+
+good_erased : (above n : ℕ) (id : ℤ) (more : List ℤ) → has_no_id true (id ∷ more) ≡ false → step_fault above n (step_of true (id ∷ more)) ≡ None → IsGoodNumbers above true (id ∷ more)
+good_erased above n id more ids clean = go (ends_with_zero more) refl clean where
+  go : (b : Bool) → ends_with_zero more ≡ b → step_fault above n (if b then Some (Erased (nat_abs id) (but_last more)) else None) ≡ None → IsGoodNumbers above true (id ∷ more)
+  go false e clash = absurd (let no : Some (Bad n 702) ≡ None = clash in cc)
+  go true e rest =
+      let both = neither (is_not_positive id) (list_any is_not_positive (deleted_ids more)) ids in
+      let named : list_any is_not_positive (but_last more) ≡ false = subst (λ (b : Bool). list_any is_not_positive (if b then but_last more else more) ≡ false) e both.1 in
+      let few = none_past 4294967295 (pos (nat_abs id) ∷ but_last more) (not_limited (erased_limit (nat_abs id) (but_last more)) rest) in
+      let first = id_number id both.0 (few 0 id (omega arith)) in
+      record {
+        step = Erased (nat_abs id) (but_last more);
+        said = rw e refl;
+        fits = (rw first.is first.some, few 0 id (omega arith), id_numbers (but_last more) named (λ k d inside. few (suc k) d (omega arith)));
+      }
+
+good_added : (above n : ℕ) (id : ℤ) (more : List ℤ) → step_fault above n (step_of false (id ∷ more)) ≡ None → IsGoodNumbers above false (id ∷ more)
+good_added above n id more clean = go (slice_split is_zero more) refl (split_nonzero more) clean where
+  go : (parts : List (List ℤ)) → slice_split is_zero more ≡ parts → All (All (λ z. is_zero z ≡ false)) parts → step_fault above n (added_by id parts) ≡ None → IsGoodNumbers above false (id ∷ more)
+  go [] e some clash = absurd (let no : Some (Bad n 702) ≡ None = clash in cc)
+  go (lits ∷ []) e some clash = absurd (let no : Some (Bad n 702) ≡ None = clash in cc)
+  go (lits ∷ hints ∷ []) e some clash = absurd (let no : Some (Bad n 702) ≡ None = clash in cc)
+  go (lits ∷ hints ∷ (x ∷ xs) ∷ parts) e some clash = absurd (let no : Some (Bad n 702) ≡ None = clash in cc)
+  go (lits ∷ hints ∷ [] ∷ part ∷ parts) e some clash = absurd (let no : Some (Bad n 702) ≡ None = clash in cc)
+  go (lits ∷ hints ∷ [] ∷ []) e some rest =
+      let low = not_first (nat_le (nat_abs id) above) (Bad n 703) _ rest in
+      let sign = not_first (list_any is_below_zero hints) (Bad n 704) _ low.1 in
+      let over : above < nat_abs id = grind (arith, nat_tests, low.0) in
+      let few = none_of _ _ _ (rw codes_of_lits at (not_limited (added_limit (nat_abs id) (map lit lits) hints) sign.1)) in
+      record {
+        step = Added (nat_abs id) (map lit lits) hints;
+        said = rw e refl;
+        fits = (
+          over,
+          none_past 4294967295 (pos (nat_abs id) ∷ []) few.0 0 id (omega arith),
+          literals lits (some 0 [] (omega arith)) (none_past 100000000 lits few.1),
+          hint_numbers hints sign.0 (some 1 [] (omega arith)) (none_past 4294967295 hints few.2),
+        );
+      }
+
+good_numbers : (above n : ℕ) (deletes : Bool) (numbers : List ℤ) → has_no_id deletes numbers ≡ false → step_fault above n (step_of deletes numbers) ≡ None → IsGoodNumbers above deletes numbers
+good_numbers above n true [] ids clash = absurd (let no : Some (Bad n 702) ≡ None = clash in cc)
+good_numbers above n false [] ids clash = absurd (let no : Some (Bad n 702) ≡ None = clash in cc)
+good_numbers above n true (id ∷ more) ids clean = good_erased above n id more ids clean
+good_numbers above n false (id ∷ more) ids clean = good_added above n id more clean
+
+-- so does a line without a fault
+good_line : (above : ℕ) (line : TextLine) → line_fault above line ≡ None → IsGoodNumbers above (is_deletion line.words) (numbers_of (due_words line.words))
+good_line above line clean =
+    let number = not_first (lacks_number (due_words line.words)) (Bad line.number 701) _ clean in
+    let ids = not_first (has_no_id (is_deletion line.words) (numbers_of (due_words line.words))) (Bad line.number 701) _ number.1 in
+    good_numbers above line.number (is_deletion line.words) (numbers_of (due_words line.words)) ids.0 ids.1
+
+-- and lines without one say a log that may be printed
+good_lines : (above : ℕ) (lines : List TextLine) → IsFaultless (faults_above above lines) → IsPrintableLog above (steps_of lines)
+good_lines above [] clean = tt
+good_lines above (line ∷ more) clean =
+    let good = good_line above line (clean 0 None (omega arith)) in
+    let later : IsPrintableLog (raised above (said_step line.words)) (steps_of more) = good_lines (raised above (said_step line.words)) more (λ k d inside. clean (suc k) d (omega arith)) in
+    subst (λ (o : Option Step). IsPrintableLog above (cons_option o (steps_of more))) (sym good.said)
+    (good.fits, subst (λ (o : Option Step). IsPrintableLog (raised above o) (steps_of more)) good.said later)
+
+-- a log that was read can be printed
+pub printable_log : (inputs : ℕ) (text : Bytes) (log : List Step) → ReadsLrat inputs text log → IsPrintableLog inputs log
+printable_log inputs text log reads = subst (IsPrintableLog inputs) (sym reads.steps) (good_lines inputs (told_lines text) reads.faultless)
+
+-- and is read again as it is
+pub read_log_again : (log : List Step) (inputs : ℕ) (text : Bytes) → ReadsLrat inputs text log → ReadsLrat inputs (log_text log) log
+read_log_again log inputs text reads = printed_log_reads inputs log (printable_log inputs text log reads)
