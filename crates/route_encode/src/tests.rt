@@ -66,6 +66,47 @@ fn crossing(rt: &impl Abort, alloc: Global) -> Result<Problem, Fail> {
     Ok(problem)
 }
 
+// 8,943 nets through CHANX (1,0). Those below the first number go on to CHANX (2,0), then those below
+// the second to CHANY (1,1), and then those below the third to CHANY (0,1).
+fn crowd(rt: &impl Abort, alloc: Global, until: [u32; 3]) -> Result<Problem, Fail> {
+    let further = [
+        [(ElemKind::ChanX, 2, 0)],
+        [(ElemKind::ChanY, 1, 1)],
+        [(ElemKind::ChanY, 0, 1)],
+    ];
+    let mut nets = Vec::new(alloc);
+    for k in 0..8_943 {
+        let cells = match until.iter().position(|end| k < *end) {
+            Some(turn) => further[turn].as_slice(),
+            None => &[],
+        };
+        nets.push(pad_net(alloc, 2 * k, cells, (2, 2 * k + 1))?)?;
+    }
+    assert!(rt; nets.len() <= 65535);
+    let route = RouteText {
+        grid: GRID,
+        grid_line: 1,
+        lines: 1,
+        nets: Items::of(nets),
+    };
+    let Ok(problem) = fit_route(alloc, route) else {
+        return Err(Fail::from("refused"));
+    };
+    Ok(problem)
+}
+
+// At width 1 each slot, each step and each two slots of a cell have a clause. 8,943 nets of one cell
+// make 39,993,096, and n of them that go on to another cell make 2n + n(n - 1)/2 more.
+#[test]
+fn the_most_clauses_and_one_more_are_counted(rt: HostRuntime) -> Result<(), Fail> {
+    let alloc = rt.alloc();
+    let most = crowd(&rt, alloc, [116, 117, 117])?;
+    assert_eq!(rt; Strict.count(&most, 1), 40_000_000);
+    let one_more = crowd(&rt, alloc, [114, 133, 139])?;
+    assert_eq!(rt; Strict.count(&one_more, 1), 40_000_001);
+    Ok(())
+}
+
 #[test]
 fn clauses_and_a_routing_of_two_nets_that_cross(rt: HostRuntime) -> Result<(), Fail> {
     let problem = crossing(&rt, rt.alloc())?;

@@ -2,6 +2,7 @@
 use crate::outcome::{Outcome, report, status};
 use crate::run::run;
 use desk_io::{MemDesk, MemShelf};
+use itoa::Buffer;
 use std::alloc::Global;
 use std::process::Abort;
 use std::test::Fail;
@@ -336,6 +337,55 @@ fn clauses_of_worked_rows(rt: HostRuntime) -> Result<(), Fail> {
         let cnf = shelf.file("out.cnf").ok_or("no clauses")?;
         assert!(rt; cnf.starts_with(head.as_bytes()), "at width {width}");
     }
+    Ok(())
+}
+
+// Appends the number in digits.
+fn push_number(text: &mut Vec<u8>, number: u32) -> Result<(), Fail> {
+    text.extend_from_slice(Buffer::new().format(number).as_bytes())?;
+    Ok(())
+}
+
+// Appends a net from one pad to another, through CHANX (1,0) and then these lines.
+fn push_pad_net(text: &mut Vec<u8>, k: u32, further: &[u8]) -> Result<(), Fail> {
+    text.extend_from_slice(b"Net 0 (a)\nSOURCE (1,0) Pad: 0\nOPIN (1,0) Pad: ")?;
+    push_number(text, k)?;
+    text.extend_from_slice(b"\nCHANX (1,0) Track: 0\n")?;
+    text.extend_from_slice(further)?;
+    text.extend_from_slice(b"IPIN (2,0) Pad: ")?;
+    push_number(text, k)?;
+    text.extend_from_slice(b"\nSINK (2,0) Pad: 0\n")?;
+    Ok(())
+}
+
+// At width 1 each slot, each step and each two slots of a cell have a clause. 8,943 nets of one cell
+// make 39,993,096, and 114, 19 and 6 of them that go on to another cell make 6,905 more.
+#[test]
+fn one_clause_more_than_may_be_is_a_limit(rt: HostRuntime) -> Result<(), Fail> {
+    let alloc = rt.alloc();
+    let mut text = Vec::from_slice(alloc, b"Array size: 2 x 1 logic blocks.\nRouting:\n")?;
+    for k in 0..8_943 {
+        let further: &[u8] = match k {
+            0..114 => b"CHANX (2,0) Track: 0\n",
+            114..133 => b"CHANY (1,1) Track: 0\n",
+            133..139 => b"CHANY (0,1) Track: 0\n",
+            _ => b"",
+        };
+        push_pad_net(&mut text, k, further)?;
+    }
+    let words = words(alloc, &["encode", "one.route", "1", "out"])?;
+    let mut shelf = MemShelf::new(alloc, Vec::new(alloc));
+    let answer = run(alloc, &words, &mut desk_of(alloc, &text, &[])?, &mut shelf);
+    let limit = Outcome::Limit {
+        code: 901,
+        count: 40_000_001,
+    };
+    assert_eq!(rt; answer, limit);
+    assert_eq!(rt;
+        shelf.said(),
+        b"limit: code 901 count 40000001\n".as_slice()
+    );
+    assert!(rt; shelf.file("out.cnf").is_none());
     Ok(())
 }
 
