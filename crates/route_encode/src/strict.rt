@@ -22,6 +22,9 @@ use std::alloc::{AllocError, Global};
 
 /// Each slot has exactly one track, the slots of a step have one track, and nets that share a cell
 /// have different tracks there: subset switch blocks, and pins that reach every track.
+///
+/// The clauses are the connectivity and exclusivity constraints of Nam, Sakallah and Rutenbar (IEEE
+/// Transactions on CAD, 2002), with a variable for each track of each slot.
 #[derive(Clone, Copy, Debug, PartialEq, Eq)]
 pub struct Strict;
 
