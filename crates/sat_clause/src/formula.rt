@@ -100,10 +100,11 @@ impl Formula {
         self.lit_room -= lits.len() as u64;
     }
 
-    /// The number of variables, which are 1, 2 and so on.
+    /// The number of variables, which are 1, 2 and so on. The literals of all clauses are of these.
     pub fn vars(&self) -> u32
         ensures value { result ≡ self.now.cnf.vars }
         ensures few { result ≤ 100000000 }
+        ensures within { All (All (IsWithin self.now.cnf.vars)) self.now.cnf.clauses }
     {
         self.vars
     }

@@ -1,0 +1,10 @@
+pub mod LiteralLemmas
+pub mod ReadingLemmas
+pub mod TrailLemmas
+pub mod LessonLemmas
+pub mod LogLemmas
+pub mod ValueLemmas
+pub mod StoreLemmas
+pub mod LearnLemmas
+pub mod ModelLemmas
+pub mod UnderwayLemmas

@@ -1,0 +1,194 @@
+-- One more step of a log.
+use Rattle.std.proofs.Common.{inl, inr, ◌⊎◌, ◌≡◌, ◌≢◌, ◌==◌, ◌<◌, ◌+◌, ℕ, zero, suc, ℤ, Bool, true, false, cond, List, [], ◌∷◌, ◌++◌, length, take, fold, Option, None, Some, slice_get, All, refl, sym, ap, ◌∙◌, arith}
+use Rattle.std.proofs.lemmas.Bool.{both_ways, eqb-true, eq-eqb, ne_eqb}
+use Rattle.std.proofs.lemmas.List.{take-append-le, take_at}
+use Rattle.std.proofs.lemmas.List.Elements.{All-nil, All-cons}
+use Rattle.std.proofs.lemmas.List.Sums.{fold_push}
+use Rattle.std.proofs.lemmas.Option.{slice_get_within}
+use Rattle.sat_clause.specs.declared.cause.Cause.{Cause}
+use Rattle.sat_clause.specs.declared.cause.Cause.TheVariants.{NoEmptyClause}
+use Rattle.sat_clause.specs.Formula.{Cnf}
+use Rattle.sat_clause.specs.Literal.{Clause}
+use Rattle.sat_clause.specs.Live.{Live, clause_at, numbered, put}
+use Rattle.sat_clause.specs.Step.{Step, Added, Erased}
+use Rattle.sat_clause.specs.Judge.{Judgement, Accepted, Refused, IsGoodSoFar, after, fault, inputs, is_empty_clause, judge, judge_from, judge_step}
+use Rattle.sat_clause.specs.Learned.{AddsFrom, EachAdded, Sparse, deletions}
+use Rattle.sat_core.specs.SearchLog.{AreNumbered, HintsAreEarlier, IsEarlier, added_count}
+use Rattle.sat_core.specs.Underway.{AreLive, live_after}
+
+-- the last of a list with one more
+pub slice_get_last : {X : Type 0} (xs : List X) (x : X) (i : ℕ) → i ≡ length xs → slice_get (xs ++ x ∷ []) i ≡ Some x
+slice_get_last [] x zero is = refl
+slice_get_last [] x (suc i) is = absurd (omega arith)
+slice_get_last (y ∷ xs) x zero is = absurd (omega arith)
+slice_get_last (y ∷ xs) x (suc i) is = slice_get_last xs x i (omega arith)
+
+-- the others of a list with one more
+pub slice_get_front : {X : Type 0} (xs : List X) (x : X) (i : ℕ) → i ≢ length xs → slice_get (xs ++ x ∷ []) i ≡ slice_get xs i
+slice_get_front [] x zero other = absurd (other refl)
+slice_get_front [] x (suc i) other = refl
+slice_get_front (y ∷ xs) x zero other = refl
+slice_get_front (y ∷ xs) x (suc i) other = slice_get_front xs x i (λ same. other (ap suc same))
+
+-- a position is one of the list or the last of the longer list
+pub slice_get_cases : {X : Type 0} (xs : List X) (x y : X) (i : ℕ) → slice_get (xs ++ x ∷ []) i ≡ Some y →
+    ((i ≡ length xs) × (x ≡ y)) ⊎ (slice_get xs i ≡ Some y)
+slice_get_cases [] x y zero is = inl (refl, cc)
+slice_get_cases [] x y (suc i) is = cc
+slice_get_cases (z ∷ xs) x y zero is = inr is
+slice_get_cases (z ∷ xs) x y (suc i) is =
+    elim (slice_get_cases xs x y i is) [
+      | inl last ↦ inl (ap suc last.0, last.1)
+      | inr earlier ↦ inr earlier
+    ]
+
+-- a step that is not the end of a log whose steps are all good
+step_on : (n k : ℕ) (f : Option Cause) (b : Bool) (rest : Judgement) → n < k →
+    judge_step n f b rest ≡ Refused k NoEmptyClause →
+    (f ≡ None) × (b ≡ false) × (rest ≡ Refused k NoEmptyClause)
+step_on n k (Some cause) b rest below e = let same : n ≡ k = cc in absurd (omega arith)
+step_on n k None true rest below e = cc
+step_on n k None false rest below e = (refl, refl, e)
+
+-- behind steps that are all good and add no empty clause, one more good step decides
+pub judge_from-push : (n k : ℕ) (live : Live) (log : List Step) (step : Step) → k ≡ n + length log →
+    judge_from n live log ≡ Refused k NoEmptyClause → fault (fold after live log) step ≡ None →
+    judge_from n live (log ++ step ∷ []) ≡ judge_step k None (is_empty_clause step) (Refused (suc k) NoEmptyClause)
+judge_from-push n k live [] step at undecided good =
+    let same : k ≡ n = omega arith in rw (good, same) refl
+judge_from-push n k live (s ∷ log) step at undecided good =
+    let parts = step_on n k (fault live s) (is_empty_clause s) (judge_from (suc n) (after live s) log) (omega arith) undecided in
+    rw (parts.0, parts.1) (judge_from-push (suc n) k (after live s) log step (omega arith) parts.2 good)
+
+pub good_undecided : (formula : Cnf) (log : List Step) (k : ℕ) → judge formula log ≡ Refused k NoEmptyClause → IsGoodSoFar formula log
+good_undecided formula log k is n cause e =
+    let both : Refused n cause ≡ Refused k NoEmptyClause = sym e ∙ is in cc
+
+pub good_accepted : (formula : Cnf) (log : List Step) → judge formula log ≡ Accepted → IsGoodSoFar formula log
+good_accepted formula log is n cause e =
+    let both : Refused n cause ≡ Accepted = sym e ∙ is in cc
+
+-- the input clauses are live at the start
+numbered_at : (n id i : ℕ) (clauses : List Clause) → id ≡ n + i → clause_at (numbered n clauses) id ≡ slice_get clauses i
+numbered_at n id i [] is = refl
+numbered_at n id zero (c ∷ clauses) is =
+    let here : (id == n) ≡ true = eq-eqb id n (omega arith) in rw here refl
+numbered_at n id (suc i) (c ∷ clauses) is =
+    let other : (id == n) ≡ false = ne_eqb id n (omega arith) in
+    rw other (numbered_at (suc n) id i clauses (omega arith))
+
+numbered_below : (n id : ℕ) (clauses : List Clause) → id < n → clause_at (numbered n clauses) id ≡ None
+numbered_below n id [] below = refl
+numbered_below n id (c ∷ clauses) below =
+    let other : (id == n) ≡ false = ne_eqb id n (omega arith) in
+    rw other (numbered_below (suc n) id clauses (omega arith))
+
+pub live_start : (formula : Cnf) → AreLive formula.clauses (inputs formula)
+live_start formula = record {
+  at = λ i. numbered_at 1 (suc i) i formula.clauses (omega arith);
+  none = numbered_below 1 0 formula.clauses (omega arith);
+}
+
+-- one more clause is live
+pub live_push : (clauses : List Clause) (live : Live) (id : ℕ) (clause : Clause) → AreLive clauses live →
+    id ≡ suc (length clauses) → AreLive (clauses ++ clause ∷ []) (put live id clause)
+live_push clauses live id clause are is = record {
+  at = λ i.
+      elim (suc i == id) as (λ b. (suc i == id) ≡ b → cond b (Some clause) (clause_at live (suc i)) ≡ slice_get (clauses ++ clause ∷ []) i) [
+        | true ↦ λ same. let last = eqb-true (suc i) id same in sym (slice_get_last clauses clause i (omega arith))
+        | false ↦ λ differ. are.at i
+            ∙ sym (slice_get_front clauses clause i (λ same. both_ways _ differ (eq-eqb (suc i) id (omega arith))))
+      ] refl;
+  none = let other : (0 == id) ≡ false = ne_eqb 0 id (omega arith) in rw other are.none;
+}
+
+pub live_after-push : (formula : Cnf) (log : List Step) (step : Step) →
+    live_after formula (log ++ step ∷ []) ≡ after (live_after formula log) step
+live_after-push formula log step = fold_push after (inputs formula) log step
+
+-- each added clause has a property, and so has one more
+pub EachAdded-push : (P : Live → Clause → List ℤ → Type 0) (formula : Cnf) (log : List Step) (id : ℕ) (clause : Clause) (hints : List ℤ) →
+    EachAdded P formula log → P (live_after formula log) clause hints →
+    EachAdded P formula (log ++ Added id clause hints ∷ [])
+EachAdded-push P formula log id clause hints each more k i c h is =
+    elim (slice_get_cases log (Added id clause hints) (Added i c h) k is) [
+      | inl last ↦
+          let same : clause ≡ c = cc in
+          let hints_same : hints ≡ h = cc in
+          let all : take k (log ++ Added id clause hints ∷ []) ≡ log = take_at log (Added id clause hints ∷ []) k (sym last.0) in
+          rw (all, sym same, sym hints_same) more
+      | inr earlier ↦
+          let within = slice_get_within log k (Added i c h) earlier in
+          let front : take k (log ++ Added id clause hints ∷ []) ≡ take k log = take-append-le k log (Added id clause hints ∷ []) (omega arith) in
+          rw front (each k i c h earlier)
+    ]
+
+pub earlier-push : (log : List Step) (id : ℕ) (clause : Clause) (hints : List ℤ) → HintsAreEarlier log →
+    All (IsEarlier id) hints → HintsAreEarlier (log ++ Added id clause hints ∷ [])
+earlier-push log id clause hints each more k i c h is =
+    elim (slice_get_cases log (Added id clause hints) (Added i c h) k is) [
+      | inl last ↦
+          let same : id ≡ i = cc in
+          let hints_same : hints ≡ h = cc in
+          rw (sym same, sym hints_same) more
+      | inr earlier ↦ each k i c h earlier
+    ]
+
+pub AddsFrom-push : (id new : ℕ) (log : List Step) (clause : Clause) (hints : List ℤ) → AddsFrom id log →
+    clause ≢ [] → new ≡ id + length log → AddsFrom id (log ++ Added new clause hints ∷ [])
+AddsFrom-push id new [] clause hints adds some is = (omega arith, some, tt)
+AddsFrom-push id new (Added n c h ∷ log) clause hints adds some is =
+    (adds.0, adds.1, AddsFrom-push (suc id) new log clause hints adds.2 some (omega arith))
+AddsFrom-push id new (Erased n ids ∷ log) clause hints adds some is = absurd adds
+
+pub numbered_from_adds : (id : ℕ) (log : List Step) → AddsFrom id log → AreNumbered id log
+numbered_from_adds id [] adds = tt
+numbered_from_adds id (Added n c h ∷ log) adds = (adds.0, numbered_from_adds (suc id) log adds.2)
+numbered_from_adds id (Erased n ids ∷ log) adds = absurd adds
+
+pub numbered_push : (id new : ℕ) (log : List Step) (clause : Clause) (hints : List ℤ) → AddsFrom id log →
+    new ≡ id + length log → AreNumbered id (log ++ Added new clause hints ∷ [])
+numbered_push id new [] clause hints adds is = (omega arith, tt)
+numbered_push id new (Added n c h ∷ log) clause hints adds is =
+    (adds.0, numbered_push (suc id) new log clause hints adds.2 (omega arith))
+numbered_push id new (Erased n ids ∷ log) clause hints adds is = absurd adds
+
+pub count_from_adds : (id : ℕ) (log : List Step) → AddsFrom id log → added_count log ≡ length log
+count_from_adds id [] adds = refl
+count_from_adds id (Added n c h ∷ log) adds = ap suc (count_from_adds (suc id) log adds.2)
+count_from_adds id (Erased n ids ∷ log) adds = absurd adds
+
+pub count_push : (log : List Step) (id : ℕ) (clause : Clause) (hints : List ℤ) →
+    added_count (log ++ Added id clause hints ∷ []) ≡ suc (added_count log)
+count_push [] id clause hints = refl
+count_push (Added n c h ∷ log) id clause hints = ap suc (count_push log id clause hints)
+count_push (Erased n ids ∷ log) id clause hints = count_push log id clause hints
+
+pub deletions_from_adds : (id : ℕ) (log : List Step) → AddsFrom id log → deletions log ≡ 0
+deletions_from_adds id [] adds = refl
+deletions_from_adds id (Added n c h ∷ log) adds = deletions_from_adds (suc id) log adds.2
+deletions_from_adds id (Erased n ids ∷ log) adds = absurd adds
+
+pub deletions_push : (log : List Step) (id : ℕ) (clause : Clause) (hints : List ℤ) →
+    deletions (log ++ Added id clause hints ∷ []) ≡ deletions log
+deletions_push [] id clause hints = refl
+deletions_push (Added n c h ∷ log) id clause hints = deletions_push log id clause hints
+deletions_push (Erased n ids ∷ log) id clause hints = ap suc (deletions_push log id clause hints)
+
+-- where nothing is deleted
+not_erased : (log : List Step) (k id : ℕ) (ids : List ℤ) → deletions log ≡ 0 →
+    slice_get log k ≡ Some (Erased id ids) → ⊥
+not_erased [] k id ids none is = cc
+not_erased (Added n c h ∷ log) zero id ids none is = cc
+not_erased (Added n c h ∷ log) (suc k) id ids none is = not_erased log k id ids none is
+not_erased (Erased n i ∷ log) k id ids none is = absurd (omega arith)
+
+pub sparse_without : (log : List Step) → deletions log ≡ 0 → Sparse log
+sparse_without log none k id ids is = absurd (not_erased log k id ids none is)
+
+pub none_empty : (id : ℕ) (log : List Step) → AddsFrom id log → All (λ step. is_empty_clause step ≡ false) log
+none_empty id [] adds = All-nil (λ (step : Step). is_empty_clause step ≡ false)
+none_empty id (Added n [] h ∷ log) adds = absurd (adds.1 refl)
+none_empty id (Added n (l ∷ ls) h ∷ log) adds =
+    All-cons (λ (step : Step). is_empty_clause step ≡ false) (Added n (l ∷ ls) h) log refl (none_empty (suc id) log adds.2)
+none_empty id (Erased n ids ∷ log) adds = absurd adds

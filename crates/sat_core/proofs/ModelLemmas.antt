@@ -1,0 +1,56 @@
+-- Where the clauses are settled and each literal is false or true, the values satisfy them.
+use Rattle.std.proofs.Common.{inl, inr, ◌≡◌, ◌⊎◌, ℕ, suc, Bool, true, false, List, [], ◌∷◌, ◌++◌, length, get_or, Any, Some, All, refl, subst, arith}
+use Rattle.std.specs.Prelude.{IfOk, IsTrue, Result, Ok, Err}
+use Rattle.std.proofs.lemmas.List.{get_or_append_left, length-append}
+use Rattle.std.proofs.lemmas.List.Elements.{All-head, All-tail, All-cons, All-nil}
+use Rattle.sat_clause.specs.declared.literal.Lit.{Lit}
+use Rattle.sat_clause.specs.Literal.{Clause, IsWithin, is_among}
+use Rattle.sat_clause.specs.Formula.{Cnf, IsTrueClause, Satisfies, makes_true}
+use Rattle.sat_clause.specs.Rup.{reading_of}
+use Rattle.sat_core.specs.Settled.{IsQuiet, IsSettled}
+use Rattle.sat_core.proofs.ReadingLemmas.{nil_from_all}
+
+any-cons : {X : Type 0} (P : X → Type 0) (x : X) (xs : List X) → Any P xs → Any P (x ∷ xs)
+any-cons P x xs (k, y, within, at, is) = (suc k, y, omega arith, at, is)
+
+-- each literal is false, or one of them is true
+false_or_true : (vars : ℕ) (values : List Bool) (set : List Lit) (c : Clause) →
+    ((l : Lit) → IsWithin vars l → is_among set l ≡ false → IsTrue (makes_true values l)) → All (IsWithin vars) c →
+    (All (λ l. is_among set l ≡ true) c) ⊎ IsTrueClause values c
+false_or_true vars values set [] truth within = inl (All-nil (λ (x : Lit). is_among set x ≡ true))
+false_or_true vars values set (l ∷ ls) truth within =
+    elim (is_among set l) as (λ b. is_among set l ≡ b → (All (λ (x : Lit). is_among set x ≡ true) (l ∷ ls)) ⊎ IsTrueClause values (l ∷ ls)) [
+      | true ↦ λ is. elim (false_or_true vars values set ls truth (All-tail (IsWithin vars) l ls within)) [
+        | inl all ↦ inl (All-cons (λ (x : Lit). is_among set x ≡ true) l ls is all)
+        | inr some ↦ inr (any-cons (λ (x : Lit). IsTrue (makes_true values x)) l ls some)
+      ]
+      | false ↦ λ is. inr (0, l, omega arith, refl, truth l (All-head (IsWithin vars) l ls within) is)
+    ] refl
+
+quiet_is_true : (vars : ℕ) (values : List Bool) (set : List Lit) (c : Clause) →
+    ((l : Lit) → IsWithin vars l → is_among set l ≡ false → IsTrue (makes_true values l)) → All (IsWithin vars) c →
+    IsQuiet (reading_of set (Some c)) → IsTrueClause values c
+quiet_is_true vars values set c truth within quiet =
+    elim (false_or_true vars values set c truth within) [
+      | inl all ↦ absurd (quiet.no_conflict (rw (nil_from_all set c all) refl))
+      | inr some ↦ some
+    ]
+
+pub satisfied : (formula : Cnf) (learned : List Clause) (set : List Lit) (values : List Bool) →
+    IsSettled (formula.clauses ++ learned) set → All (All (IsWithin formula.vars)) formula.clauses →
+    length values ≡ formula.vars →
+    ((l : Lit) → IsWithin formula.vars l → is_among set l ≡ false → IsTrue (makes_true values l)) →
+    Satisfies values formula
+satisfied formula learned set values settled within many truth = record {
+  one_each = many;
+  each_clause = λ k d inside.
+      let same : get_or (formula.clauses ++ learned) k d ≡ get_or formula.clauses k d = get_or_append_left formula.clauses learned d k inside in
+      quiet_is_true formula.vars values set (get_or formula.clauses k d) truth (within k d inside)
+      (subst (λ (c : Clause). IsQuiet (reading_of set (Some c))) same (settled k d (omega (arith, inside, length-append formula.clauses learned))));
+}
+
+-- two facts of a value that may be there give a third
+pub if_ok_both : {X Y : Type 0} (r : Result X Y) (P Q R : X → Type 0) → ((x : X) → P x → Q x → R x) →
+    IfOk r P → IfOk r Q → IfOk r R
+if_ok_both (Ok x) P Q R both p q = both x p q
+if_ok_both (Err e) P Q R both p q = tt

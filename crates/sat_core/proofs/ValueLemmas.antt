@@ -1,0 +1,245 @@
+-- The values of the variables beside a trail.
+use Rattle.std.proofs.Common.{inl, inr, ◌≡◌, ◌≢◌, ◌==◌, ◌<◌, ◌≤◌, ◌+◌, ◌-◌, ℕ, zero, suc, ℤ, pos, negsuc, nat_abs, neg_ℤ, Bool, true, false, not, List, [], ◌∷◌, length, slice_index_or, set, replicate, reverse, Option, None, Some, All, refl, sym, ap, ◌∙◌, subst, arith}
+use Rattle.std.specs.Prelude.{IsTrue, is_some, unwrap_or}
+use Rattle.sat_clause.specs.Formula.{makes_number_true, makes_true}
+use Rattle.std.proofs.lemmas.Bool.{both_ways, eqb-true, eq-eqb}
+use Rattle.std.proofs.lemmas.List.{get_or-replicate, get_or-set_same, get_or-set_other, reverse-append}
+use Rattle.std.proofs.lemmas.List.Elements.{All-head, All-tail, All-push}
+use Rattle.sat_clause.specs.declared.literal.Lit.{Lit}
+use Rattle.sat_clause.specs.Literal.{IsWithin, is_among, lit, negation, variable}
+use Rattle.sat_clause.proofs.LiteralLaws.{variable_negation}
+use Rattle.sat_core.specs.declared.entry.Entry.{Entry}
+use Rattle.sat_core.specs.Trail.{IsClosed, IsOpen, falses, is_above_zero, is_falsified, is_positive, open_count}
+use Rattle.sat_core.proofs.LiteralLemmas.{among_here, among_more, never, not_among, same_variable}
+use Rattle.sat_core.proofs.TrailLemmas.{is_open, open_not_false, open_not_true}
+
+-- the sign of a negation is the other one
+positive_negation : (l : Lit) → 1 ≤ variable l → is_positive (negation l) ≡ not (is_positive l)
+positive_negation l some = of_number l.code some where
+  of_number : (z : ℤ) → 1 ≤ nat_abs z → is_above_zero (neg_ℤ z) ≡ not (is_above_zero z)
+  of_number (pos zero) some = absurd (omega arith)
+  of_number (pos (suc n)) some = refl
+  of_number (negsuc n) some = refl
+
+-- a literal with its own sign as the value is not false
+falsified_self : (l : Lit) → is_falsified (Some (is_positive l)) l ≡ false
+falsified_self l =
+    elim (is_positive l) as (λ b. is_positive l ≡ b → is_falsified (Some b) l ≡ false) [
+      | true ↦ λ is. rw is refl
+      | false ↦ λ is. is
+    ] refl
+
+-- and its negation is
+falsified_negation : (l : Lit) → 1 ≤ variable l → is_falsified (Some (is_positive l)) (negation l) ≡ true
+falsified_negation l some =
+    elim (is_positive l) as (λ b. is_positive l ≡ b → is_falsified (Some b) (negation l) ≡ true) [
+      | true ↦ λ is. rw (positive_negation l some, is) refl
+      | false ↦ λ is. rw (positive_negation l some, is) refl
+    ] refl
+
+-- a variable none of whose literals is false has no value
+pub value_none : (l : Lit) (value : Option Bool) → 1 ≤ variable l → is_falsified value l ≡ false →
+    is_falsified value (negation l) ≡ false → value ≡ None
+value_none l None some not_false not_true = refl
+value_none l (Some true) some not_false not_true =
+    let one : not (is_positive (negation l)) ≡ false = not_true in
+    let two : not (not (is_positive l)) ≡ false = subst (λ b. not b ≡ false) (positive_negation l some) one in
+    let both : not (not (not (is_positive l))) ≡ not false = ap not two in
+    absurd (never (not (is_positive l)) (not_not_not (is_positive l) both) not_false)
+  where
+    not_not_not : (b : Bool) → not (not (not b)) ≡ not false → not b ≡ true
+    not_not_not true e = e
+    not_not_not false e = refl
+value_none l (Some false) some not_false not_true =
+    let two : not (is_positive l) ≡ false = sym (positive_negation l some) ∙ not_true in
+    absurd (never (not (is_positive l)) (ap not not_false) two)
+
+-- the values say which literals the entries make false
+abbrev pub AreValued : ℕ → List Entry → List (Option Bool) → Type 0
+AreValued vars entries values = (l : Lit) → IsWithin vars l →
+    is_falsified (slice_index_or values (variable l - 1) None) l ≡ is_among (falses entries) l
+
+among_other : (s : List Lit) (m l : Lit) → m ≢ l → is_among (m ∷ s) l ≡ is_among s l
+among_other s m l other =
+    elim (is_among s l) as (λ b. is_among s l ≡ b → is_among (m ∷ s) l ≡ b) [
+      | true ↦ λ is. among_more s m l is
+      | false ↦ λ is. not_among s m l other is
+    ] refl
+
+negation_differs : (l : Lit) → 1 ≤ variable l → negation l ≢ l
+negation_differs l some same =
+    let signs : is_positive l ≡ not (is_positive l) = ap is_positive (sym same) ∙ positive_negation l some in
+    own (is_positive l) signs
+  where
+    own : (b : Bool) → b ≡ not b → ⊥
+    own true e = both_ways true e refl
+    own false e = both_ways false refl e
+
+module _ (vars : ℕ) (older : List Entry) (e : Entry) (values : List (Option Bool)) (within : IsWithin vars e.lit) (free : IsOpen older e.lit) (many : length values ≡ vars) where
+  other_variable : (l : Lit) → variable l ≢ variable e.lit → is_among (negation e.lit ∷ falses older) l ≡ is_among (falses older) l
+  other_variable l other =
+      among_other (falses older) (negation e.lit) l (λ same. other (ap variable (sym same) ∙ variable_negation e.lit))
+
+  pub push_valued : AreValued vars older values →
+      AreValued vars (e ∷ older) (set values (variable e.lit - 1) (Some (is_positive e.lit)))
+  push_valued valued l l_within =
+      elim (variable l == variable e.lit) as (λ b. (variable l == variable e.lit) ≡ b → is_falsified (slice_index_or (set values (variable e.lit - 1) (Some (is_positive e.lit))) (variable l - 1) None) l ≡ is_among (negation e.lit ∷ falses older) l) [
+        | true ↦ λ is.
+            let same = eqb-true (variable l) (variable e.lit) is in
+            let at : variable l - 1 ≡ variable e.lit - 1 = ap (λ n. n - 1) same in
+            let read : slice_index_or (set values (variable e.lit - 1) (Some (is_positive e.lit))) (variable e.lit - 1) None ≡ Some (is_positive e.lit) =
+            get_or-set_same values (variable e.lit - 1) (Some (is_positive e.lit)) None (omega (arith, within.0, within.1)) in
+            rw (at, read) (elim (same_variable l e.lit same) [
+              | inl eq ↦ subst (λ (x : Lit). is_falsified (Some (is_positive e.lit)) x ≡ is_among (negation e.lit ∷ falses older) x) (sym eq) (falsified_self e.lit ∙ sym (not_among (falses older) (negation e.lit) e.lit (negation_differs e.lit within.0) (open_not_false older e.lit free)))
+              | inr eq ↦ subst (λ (x : Lit). is_falsified (Some (is_positive e.lit)) x ≡ is_among (negation e.lit ∷ falses older) x) (sym eq) (falsified_negation e.lit within.0 ∙ sym (among_here (falses older) (negation e.lit)))
+            ])
+        | false ↦ λ is.
+            let other : variable l ≢ variable e.lit = λ same. both_ways _ is (eq-eqb (variable l) (variable e.lit) same) in
+            let read : slice_index_or (set values (variable e.lit - 1) (Some (is_positive e.lit))) (variable l - 1) None ≡ slice_index_or values (variable l - 1) None =
+            get_or-set_other values (variable e.lit - 1) (variable l - 1) (Some (is_positive e.lit)) None (λ same. other (omega (arith, within.0, l_within.0))) in
+            rw read (valued l l_within ∙ sym (other_variable l other))
+      ] refl
+
+  pub pop_valued : AreValued vars (e ∷ older) values → AreValued vars older (set values (variable e.lit - 1) None)
+  pop_valued valued l l_within =
+      elim (variable l == variable e.lit) as (λ b. (variable l == variable e.lit) ≡ b → is_falsified (slice_index_or (set values (variable e.lit - 1) None) (variable l - 1) None) l ≡ is_among (falses older) l) [
+        | true ↦ λ is.
+            let same = eqb-true (variable l) (variable e.lit) is in
+            let at : variable l - 1 ≡ variable e.lit - 1 = ap (λ n. n - 1) same in
+            let read : slice_index_or (set values (variable e.lit - 1) None) (variable e.lit - 1) None ≡ None =
+            get_or-set_same values (variable e.lit - 1) None None (omega (arith, within.0, within.1)) in
+            rw (at, read) (elim (same_variable l e.lit same) [
+              | inl eq ↦ subst (λ (x : Lit). false ≡ is_among (falses older) x) (sym eq) (sym (open_not_false older e.lit free))
+              | inr eq ↦ subst (λ (x : Lit). false ≡ is_among (falses older) x) (sym eq) (sym (open_not_true older e.lit free))
+            ])
+        | false ↦ λ is.
+            let other : variable l ≢ variable e.lit = λ same. both_ways _ is (eq-eqb (variable l) (variable e.lit) same) in
+            let read : slice_index_or (set values (variable e.lit - 1) None) (variable l - 1) None ≡ slice_index_or values (variable l - 1) None =
+            get_or-set_other values (variable e.lit - 1) (variable l - 1) None None (λ same. other (omega (arith, within.0, l_within.0))) in
+            rw read (valued l l_within ∙ other_variable l other)
+      ] refl
+
+-- a value more, one open variable less
+pub open_count-fill : (values : List (Option Bool)) (i : ℕ) (b : Bool) → i < length values →
+    slice_index_or values i None ≡ None → open_count values ≡ suc (open_count (set values i (Some b)))
+open_count-fill [] i b within is = absurd (omega arith)
+open_count-fill (None ∷ values) zero b within is = refl
+open_count-fill (Some v ∷ values) zero b within is = cc
+open_count-fill (None ∷ values) (suc i) b within is = ap suc (open_count-fill values i b (omega arith) is)
+open_count-fill (Some v ∷ values) (suc i) b within is = open_count-fill values i b (omega arith) is
+
+-- a value less, one open variable more
+pub open_count-clear : (values : List (Option Bool)) (i : ℕ) (b : Bool) → i < length values →
+    slice_index_or values i None ≡ Some b → open_count (set values i None) ≡ suc (open_count values)
+open_count-clear [] i b within is = absurd (omega arith)
+open_count-clear (Some v ∷ values) zero b within is = refl
+open_count-clear (None ∷ values) zero b within is = cc
+open_count-clear (None ∷ values) (suc i) b within is = ap suc (open_count-clear values i b (omega arith) is)
+open_count-clear (Some v ∷ values) (suc i) b within is = open_count-clear values i b (omega arith) is
+
+pub open_count-replicate : (n : ℕ) → open_count (replicate n None) ≡ n
+open_count-replicate zero = refl
+open_count-replicate (suc n) = ap suc (open_count-replicate n)
+
+-- a false literal's variable has a value
+pub value_some : (l : Lit) (value : Option Bool) → is_falsified value l ≡ true → (b : Bool) × (value ≡ Some b)
+value_some l None is = absurd (both_ways false refl is)
+value_some l (Some b) is = (b, refl)
+
+-- what holds of all holds of them turned round
+pub All-reverse : {X : Type 0} (P : X → Type 0) (xs : List X) → All P xs → All P (reverse xs)
+All-reverse P [] all = all
+All-reverse P (x ∷ xs) all =
+    subst (All P) (sym (reverse-append (x ∷ []) xs))
+    (All-push P (reverse xs) x (All-reverse P xs (All-tail P x xs all)) (All-head P x xs all))
+
+-- a variable without a value is open
+pub none_is_open : (vars : ℕ) (entries : List Entry) (values : List (Option Bool)) (l : Lit) → AreValued vars entries values →
+    IsWithin vars l → slice_index_or values (variable l - 1) None ≡ None → IsOpen entries l
+none_is_open vars entries values l valued within none =
+    let of_negation = valued (negation l) (rw (variable_negation l) within) in
+    let at : slice_index_or values (variable (negation l) - 1) None ≡ None =
+    ap (λ n. slice_index_or values (n - 1) None) (variable_negation l) ∙ none in
+    is_open entries l
+    (sym (valued l within) ∙ ap (λ v. is_falsified v l) none)
+    (sym of_negation ∙ ap (λ v. is_falsified v (negation l)) at)
+
+-- a value that does not make a literal false makes its negation false
+falsified_other : (l : Lit) (value : Option Bool) → 1 ≤ variable l → value ≢ None → is_falsified value l ≡ false →
+    is_falsified value (negation l) ≡ true
+falsified_other l None some is_some not_false = absurd (is_some refl)
+falsified_other l (Some true) some is_some not_false =
+    ap not (positive_negation l some) ∙ ap not not_false
+falsified_other l (Some false) some is_some not_false =
+    positive_negation l some ∙ ap not not_false
+
+-- where each variable has a value, each literal is false or its negation is
+pub closed_from_values : (vars : ℕ) (entries : List Entry) (values : List (Option Bool)) → AreValued vars entries values →
+    ((k : ℕ) → k < vars → slice_index_or values k None ≢ None) → IsClosed vars entries
+closed_from_values vars entries values valued all l within not_false =
+    let value = slice_index_or values (variable l - 1) None in
+    let here : is_falsified value l ≡ false = valued l within ∙ not_false in
+    let other : is_falsified value (negation l) ≡ true =
+    falsified_other l value within.0 (all (variable l - 1) (omega (arith, within.0, within.1))) here in
+    let at : is_falsified (slice_index_or values (variable (negation l) - 1) None) (negation l) ≡ true =
+    ap (λ n. is_falsified (slice_index_or values (n - 1) None) (negation l)) (variable_negation l) ∙ other in
+    sym (valued (negation l) (rw (variable_negation l) within)) ∙ at
+
+not_injective : (a b : Bool) → not a ≡ not b → a ≡ b
+not_injective true true e = refl
+not_injective true false e = sym e
+not_injective false true e = sym e
+not_injective false false e = refl
+
+-- the value of a literal's variable, where its negation is false and it is not
+value_is_sign : (l : Lit) (value : Option Bool) → 1 ≤ variable l → is_falsified value l ≡ false →
+    is_falsified value (negation l) ≡ true → value ≡ Some (is_positive l)
+value_is_sign l None some not_false negation_false = absurd (both_ways false refl negation_false)
+value_is_sign l (Some true) some not_false negation_false =
+    ap Some (not_injective true (is_positive l) (sym not_false))
+value_is_sign l (Some false) some not_false negation_false = ap Some (sym not_false)
+
+-- values with the sign of a literal at its variable make it true
+true_by_sign : (values : List Bool) (l : Lit) → 1 ≤ variable l →
+    ((d : Bool) → slice_index_or values (variable l - 1) d ≡ is_positive l) → IsTrue (makes_true values l)
+true_by_sign values l some is = of_number l.code some is where
+  of_number : (z : ℤ) → 1 ≤ nat_abs z → ((d : Bool) → slice_index_or values (nat_abs z - 1) d ≡ is_above_zero z) →
+      makes_number_true values z ≡ true
+  of_number (pos zero) some is = absurd (omega arith)
+  of_number (pos (suc n)) some is =
+      let at : n ≡ suc n - 1 = omega arith in ap (λ k. slice_index_or values k false) at ∙ is false
+  of_number (negsuc n) some is =
+      let at : n ≡ suc n - 1 = omega arith in ap (λ k. not (slice_index_or values k true)) at ∙ ap not (is true)
+
+-- read off the values of the trail, values make true what is not false
+pub values_are_true : (vars : ℕ) (entries : List Entry) (values : List (Option Bool)) (made : List Bool) → AreValued vars entries values →
+    IsClosed vars entries →
+    ((k : ℕ) (d : Bool) → k < vars → slice_index_or made k d ≡ unwrap_or (slice_index_or values k None) false) →
+    (l : Lit) → IsWithin vars l → is_among (falses entries) l ≡ false → IsTrue (makes_true made l)
+values_are_true vars entries values made valued closed read l within not_false =
+    let value = slice_index_or values (variable l - 1) None in
+    let other : is_falsified (slice_index_or values (variable (negation l) - 1) None) (negation l) ≡ true =
+    valued (negation l) (rw (variable_negation l) within) ∙ closed l within not_false in
+    let at : is_falsified value (negation l) ≡ true =
+    ap (λ n. is_falsified (slice_index_or values (n - 1) None) (negation l)) (sym (variable_negation l)) ∙ other in
+    let sign : value ≡ Some (is_positive l) = value_is_sign l value within.0 (valued l within ∙ not_false) at in
+    true_by_sign made l within.0 (λ d. read (variable l - 1) d (omega (arith, within.0, within.1)) ∙ ap (λ v. unwrap_or v false) sign)
+
+-- at the start no literal is false
+pub none_valued : (vars : ℕ) → AreValued vars [] (replicate vars None)
+none_valued vars l within =
+    let none : slice_index_or (replicate vars None) (variable l - 1) None ≡ None =
+    get_or-replicate {A = Option Bool} vars (variable l - 1) None None (omega (arith, within.0, within.1)) in
+    rw none refl
+
+-- the variable of a place without a value is open
+pub place_is_open : (vars : ℕ) (entries : List Entry) (values : List (Option Bool)) (i : ℕ) → AreValued vars entries values →
+    i < vars → is_some (slice_index_or values i None) ≡ false → IsOpen entries (lit (pos (i + 1)))
+place_is_open vars entries values i valued below none =
+    let at : i ≡ i + 1 - 1 = omega arith in
+    none_is_open vars entries values (lit (pos (i + 1))) valued (omega arith, omega arith)
+    (ap (λ k. slice_index_or values k None) (sym at) ∙ is_none (slice_index_or values i None) none)
+  where
+    is_none : (value : Option Bool) → is_some value ≡ false → value ≡ None
+    is_none None e = refl
+    is_none (Some b) e = absurd (both_ways true e refl)

@@ -1,0 +1,17 @@
+//! A search for values that satisfy a formula, which logs why there are none.
+#![tactic(auto)]
+
+mod answer;
+mod entry;
+mod lesson;
+mod reading;
+mod scan;
+mod search;
+mod solving;
+#[cfg(test)]
+mod tests;
+mod trail;
+mod turn;
+
+pub use answer::Answer;
+pub use solving::solve;

@@ -1,0 +1,12 @@
+//! What a pass over the clauses finds.
+
+/// What a pass over the clauses finds.
+#[derive(Clone, Copy, Debug)]
+pub(crate) enum Scan {
+    /// No clause is false, and none makes a literal true.
+    Settled,
+    /// Some clause made a literal true.
+    Implied,
+    /// The clause at this position is false.
+    False(u32),
+}

@@ -1,0 +1,51 @@
+//! The search as a whole.
+
+ghost use Rattle.std.specs.Prelude.{◌≡◌, ◌+◌, ◌≤◌, [], length, IfOk, IsTrue};
+ghost use Rattle.sat_clause.specs.Learned.{deletions};
+ghost use Rattle.sat_core.specs.Answer.{IsAnswer};
+ghost use Rattle.sat_core.specs.SearchLog.{IsSearchLog};
+
+use crate::Answer;
+use crate::search::Search;
+use crate::turn::{Turn, take_turn};
+use sat_clause::{Formula, Log};
+use std::alloc::{AllocError, Global};
+
+/// Searches for values that satisfy a formula, and logs each clause that it learns with the clauses
+/// that it follows from.
+///
+/// It ends at the latest where it has learned as many clauses as the budget allows, the empty clause
+/// among them. The log starts without steps. Its added clauses are numbered behind the input clauses,
+/// in order; none but the empty one has all literals of a clause that is live. With `keep` no clause
+/// is deleted; today none is deleted either way.
+///
+/// A clause that is learned takes a number of passes over all clauses, at most one for each variable
+/// that it makes true.
+///
+/// # Errors
+/// Where memory is short. What the log has by then still follows.
+pub fn solve(
+    alloc: Global,
+    formula: &Formula,
+    budget: u64,
+    keep: bool,
+    log: &mut Log,
+) -> Result<Answer, AllocError>
+    requires budget { 1 ≤ budget }
+    requires ids { length formula.now.cnf.clauses + budget ≤ 4294967295 }
+    requires fresh { log.old.steps ≡ [] }
+    ensures answer { IfOk result (IsAnswer formula.now.cnf budget log.new.steps) }
+    ensures logged { IsSearchLog formula.now.cnf log.new.steps }
+    ensures kept { IsTrue keep → deletions log.new.steps ≡ 0 }
+{
+    let _ = keep;
+    let mut search = Search::new(alloc, formula)?;
+    for _ in 0..budget {
+        match take_turn(alloc, &mut search, log)? {
+            Turn::Learned => {}
+            Turn::Model(values) => return Ok(Answer::Model(values)),
+            Turn::Refuted => return Ok(Answer::Refuted),
+        }
+    }
+    Ok(Answer::Spent)
+}

@@ -1,0 +1,52 @@
+//! One turn of a search: on to the next false clause, and what is learned from it.
+
+ghost use Rattle.std.specs.Prelude.{◌≡◌, ◌<◌, IfOk, OnErr, length};
+ghost use Rattle.sat_core.specs.SearchStore.{clauses_of};
+ghost use Rattle.sat_core.specs.Underway.{IsTurn, IsUnderway};
+
+use crate::search::Search;
+use sat_clause::Log;
+use std::alloc::{AllocError, Global};
+
+/// What one turn of a search comes to.
+#[derive(Debug, Drop)]
+pub(crate) enum Turn {
+    /// One more clause is learned and logged.
+    Learned,
+    /// These values satisfy the formula, that of variable 1 first.
+    Model(Vec<bool>),
+    /// The empty clause is logged.
+    Refuted,
+}
+
+/// Searches on until a clause is false, and then learns and logs that not all decisions hold; or
+/// until each variable has a value.
+///
+/// Memory is taken before anything is logged, so the log is as it was where memory is short.
+pub(crate) fn take_turn(
+    alloc: Global,
+    search: &mut Search<'_>,
+    log: &mut Log,
+) -> Result<Turn, AllocError>
+    requires underway { IsUnderway search.old.formula search.old.learned log.old.steps }
+    requires few { length (clauses_of search.old) < 4294967295 }
+    ensures formula { search.new.formula ≡ search.old.formula }
+    ensures ok { IfOk result (IsTurn search.old.formula search.new.learned log.old.steps log.new.steps) }
+    ensures err { OnErr result (log.new.steps ≡ log.old.steps) }
+{
+    let Some(conflict) = search.next_conflict() else {
+        let values = search.model(alloc)?;
+        return Ok(Turn::Model(values));
+    };
+    let lesson = search.lesson(alloc, conflict)?;
+    let numbers = lesson.clause.len() as u64 + lesson.hints.len() as u64;
+    log.reserve(1, numbers)?;
+    let id = search.clause_count() + 1;
+    if lesson.clause.is_empty() {
+        log.add(id, &lesson.clause, &lesson.hints);
+        return Ok(Turn::Refuted);
+    }
+    search.learn(&lesson.clause)?;
+    log.add(id, &lesson.clause, &lesson.hints);
+    Ok(Turn::Learned)
+}
