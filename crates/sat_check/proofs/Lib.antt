@@ -1,4 +1,7 @@
 pub mod FalseLaws
-pub mod PlaceLaws
+pub mod ChangeLaws
+pub mod InputLaws
+pub mod DerivedLaws
+pub mod JoinLaws
 pub mod EraseLaws
 pub mod StepLaws

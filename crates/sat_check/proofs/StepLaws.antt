@@ -1,13 +1,18 @@
 -- One step of a log: it is refused, or ends the log, or leads on.
-use Rattle.std.proofs.Common.{◌≡◌, ℕ, suc, true, false, List, ◌∷◌, drop, Option, None, Some, slice_get, sym, ap, ◌∙◌}
+use Rattle.std.proofs.Common.{◌≡◌, ℕ, suc, Bool, true, false, List, [], ◌∷◌, drop, All, refl, arith, Option, None, Some, slice_get, sym, ap, ◌∙◌}
 use Rattle.std.proofs.Math.Seq.{drop-cons}
 use Rattle.std.proofs.lemmas.Option.{slice_get_within, get_or_from_slice_get}
 use Rattle.sat_clause.specs.declared.cause.Cause.{Cause}
 use Rattle.sat_clause.specs.Live.{Live}
-use Rattle.sat_clause.specs.Step.{Step}
+use Rattle.std.specs.Prelude.{IsTrue, if◌then◌else◌}
+use Rattle.sat_clause.specs.declared.log.StepView.{StepView}
+use Rattle.sat_clause.specs.Literal.{IsWithin}
+use Rattle.sat_clause.specs.Formula.{Cnf}
+use Rattle.sat_clause.specs.Step.{Step, Added, Erased}
 use Rattle.sat_clause.specs.Judge.{Accepted, Refused, fault, after, is_empty_clause, judge_step, judge_from}
 use Rattle.sat_clause.proofs.Alike.{judge_from_alike}
-use Rattle.sat_check.specs.LiveStore.{SameClauses}
+use Rattle.sat_check.specs.LiveStore.{HasVars, SameClauses}
+use Rattle.sat_check.specs.Verdict.{step_of}
 
 module _ (n : ℕ) (live : Live) (log : List Step) (i : ℕ) (step : Step) (at : slice_get log i ≡ Some step) where
   here : drop i log ≡ step ∷ drop (suc i) log
@@ -40,3 +45,16 @@ module _ (n : ℕ) (live : Live) (log : List Step) (i : ℕ) (step : Step) (at :
   judge_from-next next good more same =
       judge_from_alike (suc n) next (after live step) (drop (suc i) log) same
       ∙ sym (judged_as None good ∙ ap (λ b. judge_step n None b (judge_from (suc n) (after live step) (drop (suc i) log))) more)
+
+-- the literals of a step are of the variables of the log
+pub lits_are_within : (n : ℕ) (formula : Cnf) (log : List Step) (i : ℕ) (view : StepView) →
+    HasVars n formula log → slice_get log i ≡ Some (step_of view) →
+    (IsTrue view.erase → view.lits.now ≡ []) → All (IsWithin n) view.lits.now
+lits_are_within n formula log i view vars at none = by view.erase refl
+  where
+    by : (b : Bool) → view.erase ≡ b → All (IsWithin n) view.lits.now
+    by true is =
+        rw (none is) (λ k d below. absurd (omega arith))
+    by false is =
+        let here : slice_get log i ≡ Some (Added view.id view.lits.now view.hints.now) = at ∙ ap (λ b. Some (if b then Erased view.id view.hints.now else Added view.id view.lits.now view.hints.now)) is in
+        vars.steps i view.id view.lits.now view.hints.now here

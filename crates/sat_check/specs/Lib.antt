@@ -1,4 +1,6 @@
+pub mod Cells
+pub mod DerivedStore
 pub mod FalseStore
+pub mod InputStore
 pub mod LiveStore
-pub mod Places
 pub mod Verdict

@@ -1,6 +1,6 @@
 //! What a log says of a formula, step by step.
 
-ghost use Rattle.std.specs.Prelude.{◌≡◌, ◌≤◌, [], All, IfOk, OnOk, Some, None, slice_get};
+ghost use Rattle.std.specs.Prelude.{◌≡◌, ◌≤◌, [], All, IfOk, OnOk, None};
 ghost use Rattle.sat_clause.specs.Literal.{IsWithin};
 ghost use Rattle.sat_clause.specs.Formula.{IsUnsat};
 ghost use Rattle.sat_clause.specs.Judge.{after, fault, is_empty_clause, judge};
@@ -22,21 +22,17 @@ fn adds_empty_clause(step: StepView) -> bool
     !step.erase && step.lits.is_empty()
 }
 
-/// Why the step at a position is refused. Where it is not, the live clauses are then those after
-/// it.
-fn take_step(
-    live: &mut LiveClauses,
+/// Why the step is refused. Where it is not, the live clauses are then those after it.
+fn take_step<'a>(
+    live: &mut LiveClauses<'a>,
     set: &mut FalseSet,
-    i: u64,
-    step: StepView,
+    step: StepView<'a>,
 ) -> Result<Option<Cause>, AllocError>
-    requires step { slice_get live.old.steps i ≡ Some (step_of step) }
     requires size { set.old.size ≡ live.old.vars }
     requires small { set.old.size ≤ 2147483647 }
     requires empty { set.old.set ≡ [] }
     requires within { All (IsWithin set.old.size) step.lits.now }
     ensures vars { live.new.vars ≡ live.old.vars }
-    ensures steps { live.new.steps ≡ live.old.steps }
     ensures size { set.new.size ≡ set.old.size }
     ensures empty { OnOk result (set.new.set ≡ []) }
     ensures fault { IfOk result (λ r. r ≡ fault live.old.live (step_of step.entry)) }
@@ -49,7 +45,7 @@ fn take_step(
     if let Some(cause) = check_clause(live, set, step.lits, step.hints)? {
         return Ok(Some(cause));
     }
-    live.put(step.id, i)?;
+    live.put(step.id, step.lits)?;
     Ok(None)
 }
 
@@ -74,11 +70,11 @@ pub fn check(alloc: Global, formula: &Formula, log: &Log) -> Result<Verdict, All
     ensures sound { IfOk result (λ verdict. verdict ≡ Verdict.Accepted → IsUnsat formula.now.cnf) }
 {
     let vars = greatest_variable(formula, log);
-    let mut live = LiveClauses::inputs(alloc, formula, log, vars)?;
+    let mut live = LiveClauses::inputs(alloc, formula, log.len(), vars)?;
     let mut set = FalseSet::new(alloc, vars)?;
     for i in 0..log.len() {
         let step = log.step(i);
-        let fault = take_step(&mut live, &mut set, i, step)?;
+        let fault = take_step(&mut live, &mut set, step)?;
         if let Some(cause) = fault {
             return Ok(Verdict::Refused { step: i + 1, cause });
         }

@@ -2,10 +2,11 @@
 #![tactic(auto)]
 
 mod checker;
+mod derived_clauses;
 mod false_set;
 mod hints;
+mod input_clauses;
 mod live_clauses;
-mod place;
 mod reading;
 #[cfg(test)]
 mod tests;

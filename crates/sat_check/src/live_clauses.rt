@@ -1,62 +1,57 @@
-//! The live clauses by their ids.
+//! The live clauses, as the hints of a log name them.
 
-ghost use Rattle.std.specs.Prelude.{◌≡◌, All, IfOk, IfSome, IsSome, IsTrue, IsNone, OnOk, Some, is_some, option_map, slice_get};
-ghost use Rattle.sat_clause.specs.Literal.{Clause, IsWithin};
+ghost use Rattle.std.specs.Prelude.{◌≡◌, ◌≤◌, All, IfOk, IfSome, IsTrue, IsNone, OnOk, is_some, option_map};
+ghost use Rattle.sat_clause.specs.Literal.{IsWithin};
 ghost use Rattle.sat_clause.specs.Live.{named as named_of, put as put_in};
 ghost use Rattle.sat_clause.specs.Judge.{inputs as inputs_of, take_out as taken_out, erase as erased, erase_fault};
-ghost use Rattle.sat_check.specs.LiveStore.{HasVars, SameClauses};
-ghost use Rattle.sat_check.specs.Places.{added_clause};
+ghost use Rattle.sat_check.specs.LiveStore.{SameClauses};
 
-use crate::place::{Place, clause_at, input_places};
-use indexmap::IndexMap;
-use sat_clause::{Cause, Formula, Lit, Log};
+use crate::derived_clauses::DerivedClauses;
+use crate::input_clauses::InputClauses;
+use sat_clause::{Cause, Formula, Lit};
 use std::alloc::{AllocError, Global};
 use std::marker::Model;
 
-/// The live clauses of a formula and a log, which it borrows: it keeps their places alone.
+/// The live clauses of a formula and a log, which it borrows.
+///
+/// An input clause is found by its mark until it is deleted, or a step adds another clause under its
+/// id, which then stands among the derived ones.
 #[derive(Drop)]
 pub(crate) struct LiveClauses<'a> {
     vars: u32,
-    formula: &'a Formula,
-    log: &'a Log,
-    places: IndexMap<u64, Place>,
+    inputs: InputClauses<'a>,
+    derived: DerivedClauses<'a>,
 }
 
 impl<'a> Model for LiveClauses<'a> {
-    ghost use Rattle.sat_check.specs.LiveStore.{LiveState, IsLiveStore, live_of};
+    ghost use Rattle.std.specs.Prelude.{◌≤◌, ◌++◌};
+    ghost use Rattle.sat_check.specs.LiveStore.{AllWithin, LiveState};
 
     ghost Value = { LiveState };
 
-    ghost view = { λ c. record {
-      vars = c.vars;
-      steps = c.log.now.steps;
-      live = live_of c.formula.now.cnf c.log.now.steps c.places.entries;
-    } };
+    ghost view = { λ c. record { vars = c.vars; live = c.inputs.live ++ c.derived } };
 
-    ghost invariant = { λ c.
-        IsLiveStore c.vars c.formula.now.cnf c.log.now.steps c.places.entries };
+    ghost invariant = { λ c. (c.inputs.vars ≤ c.vars) × AllWithin c.vars c.derived };
 }
 
 impl<'a> LiveClauses<'a> {
-    /// The clauses of the formula, with the ids from 1 on. The formula and the log have the
-    /// variables 1 to `vars` alone.
+    /// The clauses of the formula, with the ids from 1 on, which have the variables 1 to `vars`
+    /// alone. The log has so many steps.
     pub(crate) fn inputs(
         alloc: Global,
         formula: &'a Formula,
-        log: &'a Log,
+        steps: u64,
         vars: u32,
     ) -> Result<LiveClauses<'a>, AllocError>
-        requires { HasVars vars formula.now.cnf log.now.steps }
+        requires { formula.now.cnf.vars ≤ vars }
         ensures vars { IfOk result (λ c. c.vars ≡ vars) }
-        ensures steps { IfOk result (λ c. c.steps ≡ log.now.steps) }
         ensures live { IfOk result (λ c. SameClauses c.live (inputs_of formula.now.cnf)) }
     {
-        let places = input_places(alloc, formula.len())?;
+        let first = formula.len() as u64 + 1;
         Ok(LiveClauses {
             vars,
-            formula,
-            log,
-            places,
+            inputs: InputClauses::all(alloc, formula)?,
+            derived: DerivedClauses::new(alloc, first, steps)?,
         })
     }
 
@@ -68,42 +63,43 @@ impl<'a> LiveClauses<'a> {
         if hint <= 0 {
             return None;
         }
-        let Some(place) = self.places.get(&(hint as u64)) else {
-            return None;
-        };
-        Some(clause_at(self.formula, self.log, *place, self.vars))
+        let id = hint as u64;
+        if let Some(clause) = self.inputs.get(id) {
+            return Some(clause);
+        }
+        self.derived.get(id)
     }
 
-    /// Makes the clause that a step adds live under an id, in place of any other.
-    pub(crate) fn put(&mut self, id: u32, step: u64) -> Result<(), AllocError>
-        requires { IsSome (added_clause (slice_get self.old.steps step)) }
+    /// Makes a clause live under an id, in place of any other.
+    pub(crate) fn put(&mut self, id: u32, clause: &'a [Lit]) -> Result<(), AllocError>
+        requires { All (IsWithin self.old.vars) clause.now }
         ensures vars { self.new.vars ≡ self.old.vars }
-        ensures steps { self.new.steps ≡ self.old.steps }
-        ensures live { OnOk result ((clause : Clause)
-            → added_clause (slice_get self.old.steps step) ≡ Some clause
-            → SameClauses self.new.live (put_in self.old.live id clause)) }
+        ensures live { OnOk result (SameClauses self.new.live (put_in self.old.live id clause.now)) }
     {
-        self.places.insert(id as u64, Place::Derived(step))?;
+        let id = id as u64;
+        let _ = self.inputs.take_out(id);
+        self.derived.put(id, clause)?;
         Ok(())
     }
 
     /// Takes out the clause that a deletion names, and says whether it was live.
     pub(crate) fn take_out(&mut self, id: i64) -> bool
         ensures vars { self.new.vars ≡ self.old.vars }
-        ensures steps { self.new.steps ≡ self.old.steps }
         ensures found { result ≡ is_some (named_of self.old.live id) }
         ensures live { IsTrue result → SameClauses self.new.live (taken_out self.old.live id) }
     {
         if id <= 0 {
             return false;
         }
-        self.places.swap_remove(&(id as u64)).is_some()
+        let id = id as u64;
+        let was_input = self.inputs.take_out(id);
+        let was_derived = self.derived.take_out(id);
+        was_input || was_derived
     }
 
     /// Takes out the clauses with these ids, in order, up to the first that is not live.
     pub(crate) fn erase(&mut self, ids: &[i64]) -> Option<Cause>
         ensures vars { self.new.vars ≡ self.old.vars }
-        ensures steps { self.new.steps ≡ self.old.steps }
         ensures fault { result ≡ erase_fault self.old.live ids.now }
         ensures live { IsNone result → SameClauses self.new.live (erased self.old.live ids.now) }
     {

@@ -178,6 +178,104 @@ fn logs_of_three_clauses(rt: HostRuntime) -> Result<(), Fail> {
     Ok(())
 }
 
+/// Ids that come again, and ids at the border of the table: it has those from 4 on, as many as there
+/// are steps.
+#[test]
+fn ids_of_any_order(rt: HostRuntime) -> Result<(), Fail> {
+    let clauses: [&[i32]; 3] = [&[1], &[2], &[-1, -2]];
+    let cases: [(&[Line], Verdict); 11] = [
+        // An input id that is deleted, and added again with another clause.
+        (
+            &[
+                Added(4, &[1], &[1]),
+                Deleted(5, &[1]),
+                Added(6, &[], &[1, 2, 3]),
+            ],
+            refused(3, Cause::NotLive),
+        ),
+        (
+            &[
+                Added(4, &[1], &[1]),
+                Deleted(5, &[1]),
+                Added(1, &[-1], &[2, 3]),
+                Added(6, &[], &[4, 1]),
+            ],
+            Verdict::Accepted,
+        ),
+        // An input id that is added while it is live: the later clause alone is there, and is gone
+        // once it is deleted.
+        (
+            &[
+                Added(1, &[-2], &[1, 3]),
+                Deleted(5, &[1]),
+                Added(6, &[], &[1, 2]),
+            ],
+            refused(3, Cause::NotLive),
+        ),
+        (
+            &[Added(1, &[-2], &[1, 3]), Deleted(5, &[1, 1])],
+            refused(2, Cause::DeletesNotLive),
+        ),
+        // A derived id that is added again.
+        (
+            &[
+                Added(4, &[-1], &[2, 3]),
+                Added(4, &[-2], &[1, 3]),
+                Added(5, &[], &[1, 4]),
+            ],
+            refused(3, Cause::NoConflict),
+        ),
+        (
+            &[
+                Added(4, &[-1], &[2, 3]),
+                Added(4, &[-2], &[1, 3]),
+                Added(5, &[], &[2, 4]),
+            ],
+            Verdict::Accepted,
+        ),
+        // The last id of the table, and the first and the greatest that it does not have.
+        (
+            &[Added(5, &[-1], &[2, 3]), Added(6, &[], &[1, 5])],
+            Verdict::Accepted,
+        ),
+        (
+            &[Added(6, &[-1], &[2, 3]), Added(7, &[], &[1, 6])],
+            Verdict::Accepted,
+        ),
+        (
+            &[
+                Added(4294967295, &[-1], &[2, 3]),
+                Added(4, &[], &[1, 4294967295]),
+            ],
+            Verdict::Accepted,
+        ),
+        (
+            &[
+                Added(7, &[-1], &[2, 3]),
+                Deleted(8, &[7]),
+                Added(9, &[], &[1, 7]),
+            ],
+            refused(3, Cause::NotLive),
+        ),
+        (
+            &[
+                Added(7, &[-1], &[2, 3]),
+                Added(7, &[-2], &[1, 3]),
+                Added(8, &[], &[1, 7]),
+            ],
+            refused(3, Cause::NoConflict),
+        ),
+    ];
+    for (i, (lines, want)) in cases.iter().enumerate() {
+        assert_eq!(rt;
+            judged(&rt, rt.alloc(), 2, &clauses, lines)?,
+            *want,
+            "case {i}"
+        );
+    }
+    Ok(())
+}
+
 #[test]
 fn clauses_of_unusual_form(rt: HostRuntime) -> Result<(), Fail> {
     let alloc = rt.alloc();

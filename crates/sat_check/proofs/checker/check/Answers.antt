@@ -2,17 +2,21 @@ use Rattle.std.proofs.Common.{suc, rules, add-one, sym, ◌∙◌}
 use Rattle.sat_clause.proofs.Alike.{judge_from_alike}
 use Rattle.sat_clause.proofs.Refutes.{refutes}
 use Rattle.sat_check.specs.Verdict.{step_of}
-use Rattle.sat_check.proofs.StepLaws.{judge_from-refused, judge_from-accepted, judge_from-next}
+use Rattle.sat_check.proofs.StepLaws.{lits_are_within, judge_from-refused, judge_from-accepted, judge_from-next}
 use Rattle.sat_check.proofs.checker.check.Goals as goal
 
 pub loop-i-init : goal.loop-i-init
 loop-i-init c = record {
   vars = search rules;
-  steps = search rules;
   size = search rules;
   empty = search rules;
   left = judge_from_alike 1 c.in_ok-live.live.live _ c.args.log.now.steps c.in_ok-live.ensures.live;
 }
+
+pub take_step-requires-clause-within : goal.take_step-requires-clause-within
+take_step-requires-clause-within c =
+    let within = lits_are_within c.greatest_variable-vars.result c.args.formula.now.cnf c.args.log.now.steps c.loop-i.i c.step-step.result c.greatest_variable-vars.ensures.vars c.step-step.ensures.value c.step-step.ensures.none in
+    rw c.loop-i.invariant.size within
 
 pub returns-in-Some-clause-judged : goal.returns-in-Some-clause-judged
 returns-in-Some-clause-judged c =
@@ -50,7 +54,6 @@ loop-i-preserved c =
     let next = judge_from-next (suc i) c.loop-i.live.live c.args.log.now.steps i step c.step-step.ensures.value c.take_step.new.live.live good is_not_last same in
     record {
       vars = search rules;
-      steps = search rules;
       size = search rules;
       empty = search rules;
       left = rw add-one (next ∙ c.loop-i.invariant.left);

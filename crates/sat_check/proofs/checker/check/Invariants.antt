@@ -6,7 +6,6 @@ use Rattle.sat_check.proofs.checker.check.Given as goal
 abbrev pub invariant-loop-i : goal.invariant-loop-i
 invariant-loop-i l = record {
   vars : l.live.vars ≡ l.vars;
-  steps : l.live.steps ≡ l.log.steps;
   size : l.set.size ≡ l.vars;
   empty : l.set.set ≡ [];
   left : judge_from (suc l.i) l.live.live (drop l.i l.log.steps) ≡ judge l.formula.cnf l.log.steps;

@@ -14,7 +14,6 @@ loop-id-preserved c =
     let taken = simp to_z-of_z at (c.take_out.ensures.live c.if-not-take_out.false) in
     record {
       vars = search rules;
-      steps = search rules;
       live =
           rw add-one (clause_at-next c.args.self.now.live c.loop-id.self.live c.take_out.new.self.live ids i (pos 0) c.loop-id-test.true taken c.loop-id.invariant.live);
       left =

@@ -7,7 +7,6 @@ use Rattle.sat_check.proofs.live_clauses.LiveClauses.erase.Given as goal
 abbrev pub invariant-loop-id : goal.invariant-loop-id
 invariant-loop-id l = record {
   vars : l.self.vars ≡ l.initial.self.vars;
-  steps : l.self.steps ≡ l.initial.self.steps;
   live : SameClauses l.self.live (erase l.initial.self.live (take l.id-index l.ids));
   left : erase_fault l.self.live (drop l.id-index l.ids) ≡ erase_fault l.initial.self.live l.ids;
 }

@@ -1,0 +1,85 @@
+//! The input clauses that are live.
+
+ghost use Rattle.std.specs.Prelude.{◌≡◌, All, IfOk, IfSome, is_some, option_map};
+ghost use Rattle.sat_clause.specs.Literal.{IsWithin};
+ghost use Rattle.sat_clause.specs.Live.{clause_at, without};
+ghost use Rattle.sat_clause.specs.Judge.{inputs as inputs_of};
+ghost use Rattle.sat_check.specs.InputStore.{position_of};
+ghost use Rattle.sat_check.specs.LiveStore.{SameClauses};
+
+use sat_clause::{Formula, Lit};
+use std::alloc::{AllocError, Global};
+use std::marker::Model;
+
+/// The clauses of a formula that are live. Their ids are 1, 2 and so on, in order, so that it keeps
+/// a mark for each of them and borrows the formula.
+#[derive(Drop)]
+pub(crate) struct InputClauses<'a> {
+    formula: &'a Formula,
+    live: Vec<bool>,
+}
+
+impl<'a> Model for InputClauses<'a> {
+    ghost use Rattle.sat_check.specs.InputStore.{IsInputStore, marked};
+    ghost use Rattle.sat_check.specs.LiveStore.{LiveState};
+
+    ghost Value = { LiveState };
+
+    ghost view = { λ c. record {
+      vars = c.formula.now.cnf.vars;
+      live = marked c.live.items c.formula.now.cnf.clauses;
+    } };
+
+    ghost invariant = { λ c. IsInputStore c.live.items c.formula.now.cnf.clauses };
+}
+
+/// The position of the live clause with an id.
+fn live_position(live: &[bool], id: u64) -> Option<usize>
+    ensures { result ≡ position_of live.now id }
+{
+    if id == 0 {
+        return None;
+    }
+    let at = id - 1;
+    if at < live.len() as u64 && live[at as usize] {
+        return Some(at as usize);
+    }
+    None
+}
+
+impl<'a> InputClauses<'a> {
+    /// All clauses of the formula.
+    pub(crate) fn all(alloc: Global, formula: &'a Formula) -> Result<InputClauses<'a>, AllocError>
+        ensures vars { IfOk result (λ c. c.vars ≡ formula.now.cnf.vars) }
+        ensures live { IfOk result (λ c. c.live ≡ inputs_of formula.now.cnf) }
+    {
+        Ok(InputClauses {
+            formula,
+            live: vec![in alloc; true; formula.len() as usize]?,
+        })
+    }
+
+    /// The live clause with an id.
+    pub(crate) fn get(&self, id: u64) -> Option<&'a [Lit]>
+        ensures value { option_map (λ c. c.now) result ≡ clause_at self.now.live id }
+        ensures within { IfSome result (λ c. All (IsWithin self.now.vars) c.now) }
+    {
+        let Some(at) = live_position(&self.live, id) else {
+            return None;
+        };
+        Some(self.formula.clause(at as u32))
+    }
+
+    /// Takes out the clause with an id, and says whether it was live.
+    pub(crate) fn take_out(&mut self, id: u64) -> bool
+        ensures vars { self.new.vars ≡ self.old.vars }
+        ensures found { result ≡ is_some (clause_at self.old.live id) }
+        ensures live { SameClauses self.new.live (without self.old.live id) }
+    {
+        let Some(at) = live_position(&self.live, id) else {
+            return false;
+        };
+        self.live[at] = false;
+        true
+    }
+}
