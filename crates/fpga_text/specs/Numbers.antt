@@ -1,5 +1,5 @@
 -- Whole numbers, as the words of a text write them.
-use Rattle.std.specs.Prelude.{ℕ, ◌^◌, nat_lt, Bool, not, ◌&&◌, Option, Some, None, if◌then◌else◌}
+use Rattle.std.specs.Prelude.{ℕ, ◌^◌, ◌==◌, nat_lt, ℤ, pos, neg_ℤ, Bool, not, ◌&&◌, [], ◌∷◌, Option, Some, None, option_map, if◌then◌else◌}
 use Rattle.std.specs.List.{list_all}
 use Rattle.std.specs.Char.{is_ascii_digit}
 use Rattle.std.specs.Str.Parse.{digits_value}
@@ -16,3 +16,10 @@ if_64_bits n = if nat_lt n (2 ^ 64) then Some n else None
 -- the whole number that a word says
 abbrev pub whole_number_of : Bytes → Option ℕ
 whole_number_of word = if are_digits word then if_64_bits (digits_value 10 word) else None
+
+-- the number that a word says: a whole number with or without a leading minus sign
+abbrev pub signed_number_of : Bytes → Option ℤ
+signed_number_of [] = None
+signed_number_of (b ∷ more) =
+    if b == 45 then option_map (λ n. neg_ℤ (pos n)) (whole_number_of more)
+    else option_map (λ n. pos n) (whole_number_of (b ∷ more))

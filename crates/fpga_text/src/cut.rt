@@ -4,25 +4,24 @@ ghost use Rattle.std.specs.List.{position_or_len};
 ghost use Rattle.fpga_text.specs.Bytes.{is_blank};
 ghost use Rattle.fpga_text.specs.Words.{words, begins_word};
 
+use memchr::memchr;
+
 /// Whether a byte stands between words: a space, a tab or a carriage return.
-fn blank(byte: u8) -> bool
+pub fn blank(byte: u8) -> bool
     ensures { result ≡ is_blank byte }
 {
     byte == b' ' || byte == b'\t' || byte == b'\r'
 }
 
 /// The place of the first such byte, or the length where there is none.
-#[tactic(auto, using(std::proofs::lemmas::List::Sums::position_or_len_is))]
 pub fn first_byte(text: &[u8], byte: u8) -> usize
     ensures place { result ≡ position_or_len (λ b. b == byte) text.now }
     ensures within { result ≤ length text.now }
 {
-    for (i, b) in text.iter().enumerate() {
-        if *b == byte {
-            return i;
-        }
-    }
-    text.len()
+    let Some(place) = memchr(byte, text) else {
+        return text.len();
+    };
+    place
 }
 
 /// The place of the first blank, or the length where there is none.

@@ -3,6 +3,7 @@
 
 mod cut;
 mod fault;
+mod front;
 mod line;
 mod lines;
 mod number;

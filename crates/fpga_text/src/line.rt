@@ -1,8 +1,10 @@
 //! A line of a text, and its words.
-ghost use Rattle.std.specs.Prelude.{◌≡◌, not, drop, slice_get, option_map, IfSome};
+ghost use Rattle.std.specs.Prelude.{◌≡◌, ◌<◌, ◌^◌, not, drop, slice_get, nat_abs, Some, option_map, option_and_then, IfSome, IfNone};
 ghost use Rattle.fpga_text.specs.Bytes.{is_empty};
+ghost use Rattle.fpga_text.specs.Numbers.{signed_number_of};
 
 use crate::cut::{first_blank, from_first_word, part_at};
+use crate::front::front_number;
 use std::marker::Model;
 
 /// A word, and the number of its line.
@@ -81,5 +83,36 @@ impl<'a> Line<'a> {
             line: self.number,
             text,
         })
+    }
+
+    /// The number that the next word says, or None where it is not one of at most 18 digits behind a
+    /// minus sign or without one: the word is then not taken. It is the fast way past a number;
+    /// `next_word` takes any word.
+    // Inlined, so that what is left of the line stays in registers from one number to the next.
+    #[inline(always)]
+    pub fn next_number(&mut self) -> Option<i64>
+        ensures number { IfSome result
+            (λ n. option_and_then signed_number_of (slice_get self.old.words 0) ≡ Some n) }
+        ensures small { IfSome result (λ n. nat_abs n < 10 ^ 18) }
+        ensures after { IfSome result (λ _. self.new ≡ record self.old { words = drop 1 self.old.words }) }
+        ensures kept { IfNone result (self.new ≡ self.old) }
+    {
+        let Some(front) = front_number(self.rest) else {
+            return None;
+        };
+        let (_, rest) = part_at(self.rest, front.len);
+        self.rest = from_first_word(rest);
+        Some(front.value)
+    }
+
+    /// The same line, with the same words ahead.
+    pub fn again(&self) -> Line<'a>
+        ensures { result ≡ self.now }
+    {
+        Line {
+            number: self.number,
+            raw: self.raw,
+            rest: self.rest,
+        }
     }
 }

@@ -25,7 +25,7 @@ pub fn whole_number(word: &[u8]) -> Option<u64>
 }
 
 /// The digit that a byte is, or None where it is none.
-fn digit_of(byte: u8) -> Option<u64>
+pub fn digit_of(byte: u8) -> Option<u64>
     ensures digit { IfSome result (λ d. is_ascii_digit byte ≡ true) }
     ensures value { IfSome result (λ d. d ≡ digit_value byte) }
     ensures small { IfSome result (λ d. d < 10) }

@@ -93,3 +93,42 @@ fn numbers(rt: HostRuntime) {
         assert_eq!(rt; whole_number(word), want, "{word:?}");
     }
 }
+
+/// The number that a text begins with, if it is a short one, and what `next_word` gives after it.
+fn front_said<'a>(text: &'a [u8]) -> (Option<i64>, &'a [u8]) {
+    let mut line = Line::new(1, text, text);
+    let number = line.next_number();
+    match line.next_word() {
+        Some(word) => (number, word.text),
+        None => (number, b""),
+    }
+}
+
+#[test]
+fn short_numbers(rt: HostRuntime) {
+    let rows: [(&[u8], Option<i64>, &[u8]); 18] = [
+        (b"", None, b""),
+        (b" \t", None, b""),
+        (b"0", Some(0), b""),
+        (b"-0 x", Some(0), b"x"),
+        (b"\t007\t-1 2", Some(7), b"-1"),
+        (b"-12\r", Some(-12), b""),
+        (b"-", None, b"-"),
+        (b"- 1", None, b"-"),
+        (b"--1", None, b"--1"),
+        (b"+1", None, b"+1"),
+        (b"1a 2", None, b"1a"),
+        (b"1-", None, b"1-"),
+        (b"d 1", None, b"d"),
+        (b"99999999999999999 1", Some(99999999999999999), b"1"),
+        (b"999999999999999999", Some(999999999999999999), b""),
+        (b"-999999999999999999", Some(-999999999999999999), b""),
+        (b"1000000000000000000", None, b"1000000000000000000"),
+        (b"0000000000000000001 2", None, b"0000000000000000001"),
+    ];
+    for (text, number, word) in rows {
+        let (said, behind) = front_said(text);
+        assert_eq!(rt; said, number, "the number of {text:?}");
+        assert_eq!(rt; behind, word, "behind the number of {text:?}");
+    }
+}

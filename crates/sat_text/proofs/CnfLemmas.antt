@@ -14,8 +14,8 @@ use Rattle.sat_text.specs.Numbers.{natural_of, is_number, numbers_of}
 use Rattle.sat_text.specs.FirstFault.{Faults, IsFaultOf, IsRefusal, IsFaultless}
 use Rattle.sat_text.specs.ToldLines.{told_lines}
 use Rattle.sat_text.specs.CnfText.{HeadWords, head_words, head_fault, head_of, body_fault, line_numbers, cnf_faults, faults_of, faults_ahead, head_or_none, end_fault, is_whole, clause_parts, but_last, last_part, ReadsCnf, IsRefusedCnf}
-use Rattle.sat_text.specs.Drafts.{TakesNumbers}
-use Rattle.sat_text.proofs.DraftLemmas.{IsOnWay, way_more}
+use Rattle.sat_text.specs.Drafts.{IsOnWay, TakesNumbers}
+use Rattle.sat_text.proofs.DraftLemmas.{way_more}
 use Rattle.sat_text.proofs.FaultLemmas.{IsPast, past_none, past_more, past_all, past_end, refusal_next, refusal_later}
 
 but_last-push : {X : Type 0} (xs : List X) (x : X) → but_last (xs ++ x ∷ []) ≡ xs

@@ -9,12 +9,7 @@ use Rattle.sat_clause.specs.Literal.{Clause, IsWithin, lit}
 use Rattle.sat_text.specs.declared.draft.Draft.{Draft}
 use Rattle.sat_text.specs.Numbers.{is_zero}
 use Rattle.sat_text.specs.CnfText.{clause_parts}
-use Rattle.sat_text.specs.Drafts.{parts_with, TakesNumbers}
-
--- from the first state to this one the front of all numbers was taken, and the rest is to come
-pub record IsOnWay (first now : Draft) (all rest : List ℤ) : Type 0 where
-  pub vars : now.formula.cnf.vars ≡ first.formula.cnf.vars
-  pub parts : (ahead : List ℤ) → parts_with now (rest ++ ahead) ≡ parts_with first (all ++ ahead)
+use Rattle.sat_text.specs.Drafts.{parts_with, IsOnWay, TakesNumbers}
 
 -- no number was taken
 pub way_none : (draft : Draft) (all : List ℤ) → IsOnWay draft draft all all

@@ -1,8 +1,11 @@
+pub mod AdditionLemmas
 pub mod CnfBack
 pub mod CnfLemmas
 pub mod CnfSound
 pub mod DraftLemmas
 pub mod FaultLemmas
+pub mod FrontLemmas
+pub mod LineFrontLemmas
 pub mod LogBack
 pub mod LogSound
 pub mod LratLemmas

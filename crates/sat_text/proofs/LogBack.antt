@@ -81,7 +81,7 @@ small_added id clause hints few within all =
     (All-append IsSmall (codes_of clause) (pos 0 ∷ hints) (small_lits clause within) (all_next IsSmall (pos 0) hints (omega arith) (small_ids hints all)))
 
 -- a line of numbers is no deletion
-no_deletion : (said : List Bytes) → lacks_number said ≡ false → is_deletion said ≡ false
+pub no_deletion : (said : List Bytes) → lacks_number said ≡ false → is_deletion said ≡ false
 no_deletion [] number = refl
 no_deletion (word ∷ []) number = refl
 no_deletion (id ∷ word ∷ more) number = go (bytes_eq word (codes "d")) refl where
@@ -93,13 +93,13 @@ no_deletion (id ∷ word ∷ more) number = go (bytes_eq word (codes "d")) refl 
   go false e = refl
   go true e = absurd (let same : word ≡ codes "d" = (bytes_eq-Decides word (codes "d")).0 e in clash (not (is_number id)) (rw same at number))
 
-due_words-same : (said : List Bytes) → is_deletion said ≡ false → due_words said ≡ said
+pub due_words-same : (said : List Bytes) → is_deletion said ≡ false → due_words said ≡ said
 due_words-same [] other = refl
 due_words-same (word ∷ []) other = refl
 due_words-same (id ∷ word ∷ more) other = rw other refl
 
 -- an id is positive
-is_positive : (n : ℕ) → 1 ≤ n → is_not_positive (pos n) ≡ false
+pub is_positive : (n : ℕ) → 1 ≤ n → is_not_positive (pos n) ≡ false
 is_positive n some = go (nat_le n 0) refl where
   go : (b : Bool) → nat_le n 0 ≡ b → b ≡ false
   go true e = absurd (grind (arith, nat_tests))
@@ -117,7 +117,7 @@ none_positive (z ∷ zs) all =
     let here = all 0 z (omega arith) in
     rw (here.is, is_positive here.id here.some) (none_positive zs (λ k d inside. all (suc k) d (omega arith)))
 
-none_below : (hints : List ℤ) → All IsIdNumber hints → list_any is_below_zero hints ≡ false
+pub none_below : (hints : List ℤ) → All IsIdNumber hints → list_any is_below_zero hints ≡ false
 none_below [] all = refl
 none_below (z ∷ zs) all =
     let here = all 0 z (omega arith) in
@@ -150,7 +150,7 @@ one_few id few = first_past-none 4294967295 (pos id ∷ []) go where
   go (suc k) d inside = absurd (omega arith)
 
 -- no number of an added clause is past its limit
-added_limit-none : (id : ℕ) (clause : Clause) (hints : List ℤ) → id ≤ 4294967295 → All (IsWithin 100000000) clause → All IsIdNumber hints → added_limit id clause hints ≡ None
+pub added_limit-none : (id : ℕ) (clause : Clause) (hints : List ℤ) → id ≤ 4294967295 → All (IsWithin 100000000) clause → All IsIdNumber hints → added_limit id clause hints ≡ None
 added_limit-none id clause hints few within all =
     rw (one_few id few, first_past-none 100000000 (codes_of clause) (lits_few clause within), first_past-none 4294967295 hints (ids_few hints all)) refl
 
@@ -169,7 +169,7 @@ added_parts clause hints within all =
     ∙ ap (λ (l : List (List ℤ)). codes_of clause ∷ l) (slice_split_at is_zero hints (pos 0) [] (ids_zeros hints all) refl)
 
 -- the step that they say
-added_step-back : (id : ℕ) (clause : Clause) (hints : List ℤ) → All (IsWithin 100000000) clause → All IsIdNumber hints
+pub added_step-back : (id : ℕ) (clause : Clause) (hints : List ℤ) → All (IsWithin 100000000) clause → All IsIdNumber hints
     → added_step (pos id ∷ (codes_of clause ++ pos 0 ∷ (hints ++ pos 0 ∷ []))) ≡ Some (Added id clause hints)
 added_step-back id clause hints within all = rw (added_parts clause hints within all, lits_of_codes clause) refl
 
@@ -222,7 +222,7 @@ said_erased id ids small all =
       numbers_are = ap numbers_of due ∙ numbers_of-printed (pos id ∷ ids) (codes "0" ∷ []) both;
     }
 
-not_above : (above id : ℕ) → above < id → nat_le id above ≡ false
+pub not_above : (above id : ℕ) → above < id → nat_le id above ≡ false
 not_above above id over = go (nat_le id above) refl where
   go : (b : Bool) → nat_le id above ≡ b → b ≡ false
   go true e = absurd (grind (arith, nat_tests))

@@ -139,7 +139,7 @@ pub due_words-other : (words : List Bytes) (first second : Bytes) (more : List B
 due_words-other words first second more is other = rw (is, other) refl
 
 -- a word that is no number, or behind it another
-fault_word : (is more : Bool) (bad fault : TextFault) → IsFaultOf (if is then None else Some bad) fault → IsFaultOf (if not is || more then Some bad else None) fault
+pub fault_word : (is more : Bool) (bad fault : TextFault) → IsFaultOf (if is then None else Some bad) fault → IsFaultOf (if not is || more then Some bad else None) fault
 fault_word true more bad (Bad line code) said = absurd (let clash : None ≡ Some (Bad line code) = said in cc)
 fault_word true more bad (Limit code count) said = absurd (let clash : None ≡ Some (Limit code count) = said in cc)
 fault_word true more bad Memory said = tt

@@ -3,6 +3,7 @@ pub mod Causes
 pub mod CnfText
 pub mod Drafts
 pub mod FirstFault
+pub mod FrontNumbers
 pub mod HeadLines
 pub mod LogDrafts
 pub mod LratText

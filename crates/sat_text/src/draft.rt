@@ -19,8 +19,10 @@ pub struct Draft {
     ghost within: { All (IsWithin formula.cnf.vars) open_clause.items },
 }
 
+// What is called for each number or each line is inlined: then what is left of the line stays in
+// registers from one number to the next.
 impl Draft {
-    ghost use Rattle.sat_text.specs.Drafts.{TakesNumbers};
+    ghost use Rattle.sat_text.specs.Drafts.{TakesLineFront, TakesNumbers};
     ghost use Rattle.sat_text.specs.CnfText.{body_fault, has_strange_variable, is_whole};
 
     /// Nothing was read.
@@ -58,6 +60,7 @@ impl Draft {
     }
 
     /// Takes a literal, or a 0 that ends a clause.
+    #[inline(always)]
     fn take(&mut self, number: i64) -> Result<(), AllocError>
         requires within { nat_abs number ≤ self.old.formula.cnf.vars }
         requires few { nat_abs number ≤ 100000000 }
@@ -75,6 +78,40 @@ impl Draft {
         Ok(())
     }
 
+    /// Takes a number. It answers whether its variable is none of the formula's: then it isn't taken.
+    #[inline(always)]
+    fn take_number(&mut self, number: i64) -> Result<bool, AllocError>
+        ensures strange { IfOk result (λ strange. strange ≡ has_strange_variable self.old.formula.cnf.vars
+            (number ∷ [])) }
+        ensures vars { IfOk result (λ _. self.new.formula.cnf.vars ≡ self.old.formula.cnf.vars) }
+        ensures value { IfOk result (λ strange. strange ≡ false → TakesNumbers self.old self.new
+            (number ∷ [])) }
+    {
+        if number.unsigned_abs() > u64::from(self.formula.vars()) {
+            return Ok(true);
+        }
+        let Ok(()) = self.take(number) else {
+            return Err(AllocError);
+        };
+        Ok(false)
+    }
+
+    /// Takes the short numbers at the front of a line. It answers whether a variable of these, or one
+    /// before, is none of the formula's.
+    #[inline(always)]
+    fn take_front(&mut self, line: &mut Line<'_>, before: bool) -> Result<bool, AllocError>
+        ensures { IfOk result (TakesLineFront self.old line.old before self.new line.new) }
+    {
+        let mut strange = before;
+        while let Some(number) = line.next_number() {
+            let Ok(found) = self.take_number(number) else {
+                return Err(AllocError);
+            };
+            strange = strange || found;
+        }
+        Ok(strange)
+    }
+
     /// Takes a word where a number is due. It answers whether its variable is none of the formula's:
     /// then it isn't taken.
     fn take_word(&mut self, word: &[u8], line: u64) -> Result<bool, TextFault>
@@ -89,17 +126,15 @@ impl Draft {
         let Some(number) = number(word) else {
             return Err(Cause::CnfNumber.at(line));
         };
-        if number.unsigned_abs() > u64::from(self.formula.vars()) {
-            return Ok(true);
-        }
-        let Ok(()) = self.take(number) else {
+        let Ok(strange) = self.take_number(number) else {
             return Err(TextFault::Memory);
         };
-        Ok(false)
+        Ok(strange)
     }
 
     /// Takes the other words of a line. It answers whether a variable of these, or one before, is none
     /// of the formula's.
+    #[inline(always)]
     fn take_words(&mut self, line: &mut Line<'_>, before: bool) -> Result<bool, TextFault>
         ensures number { IfOk result (λ _. lacks_number line.old.words ≡ false) }
         ensures strange { IfOk result (λ strange. strange ≡
@@ -111,7 +146,9 @@ impl Draft {
         ensures err { IfErr result (IsFaultOf
             (if lacks_number line.old.words then Some (Bad line.old.number 602) else None)) }
     {
-        let mut strange = before;
+        let Ok(mut strange) = self.take_front(line, before) else {
+            return Err(TextFault::Memory);
+        };
         while let Some(word) = line.next_word() {
             let found = self.take_word(word.text, word.line)?;
             strange = strange || found;
@@ -121,6 +158,27 @@ impl Draft {
 
     /// Takes a line behind the head line.
     pub fn take_line(&mut self, line: &mut Line<'_>) -> Result<(), TextFault>
+        ensures clean { OnOk result (body_fault self.old.formula.cnf.vars line.old ≡ None) }
+        ensures value { OnOk result (TakesNumbers self.old self.new (numbers_of line.old.words)) }
+        ensures err { IfErr result (IsFaultOf (body_fault self.old.formula.cnf.vars line.old)) }
+    {
+        let at = line.number();
+        let Some(first) = line.next_number() else {
+            return self.take_any_line(line);
+        };
+        // A number is no `p`, so this is no second head line.
+        let Ok(strange) = self.take_number(first) else {
+            return Err(TextFault::Memory);
+        };
+        let strange = self.take_words(line, strange)?;
+        if strange {
+            return Err(Cause::Variable.at(at));
+        }
+        Ok(())
+    }
+
+    /// Takes a line behind the head line, word by word from the first on.
+    fn take_any_line(&mut self, line: &mut Line<'_>) -> Result<(), TextFault>
         ensures clean { OnOk result (body_fault self.old.formula.cnf.vars line.old ≡ None) }
         ensures value { OnOk result (TakesNumbers self.old self.new (numbers_of line.old.words)) }
         ensures err { IfErr result (IsFaultOf (body_fault self.old.formula.cnf.vars line.old)) }

@@ -3,6 +3,7 @@
 
 mod cause;
 mod draft;
+mod front_numbers;
 mod head;
 mod laws;
 mod log_draft;

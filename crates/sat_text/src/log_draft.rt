@@ -1,10 +1,11 @@
 //! A log as far as it was read.
-ghost use Rattle.std.specs.Prelude.{◌≡◌, [], true, false, None, OnOk, IfErr, map, All};
+ghost use Rattle.std.specs.Prelude.{◌≡◌, [], true, false, None, OnOk, IfErr, IsTrue, map, All};
 ghost use Rattle.sat_clause.specs.Literal.{IsLiteral, lit};
 ghost use Rattle.sat_text.specs.FirstFault.{IsFaultOf};
 ghost use Rattle.sat_text.specs.LratText.{line_fault, numbers_fault, said_step, step_of};
 
-use crate::step_line::{addition_said, deletion_said, read_numbers};
+use crate::front_numbers::{front_hints, front_literals};
+use crate::step_line::{MOST_ID, addition_said, deletion_said, read_numbers};
 use fpga_text::{Line, TextFault};
 use sat_clause::{Lit, Log};
 use std::alloc::{AllocError, Global};
@@ -85,8 +86,50 @@ impl LogDraft {
         Ok(())
     }
 
+    /// Takes a line if it adds a clause and has no fault, as nearly all do, and answers whether it
+    /// does. Where it doesn't, or memory is short, no step is taken, and `take_any_line` says why.
+    fn take_faultless_addition(&mut self, line: &mut Line<'_>) -> bool
+        ensures clean { IsTrue result → line_fault self.old.above line.old ≡ None }
+        ensures step { IsTrue result → TakesStep self.old self.new (said_step line.old.words) }
+        ensures kept { result ≡ false → TakesStep self.old self.new None }
+    {
+        let Some(id) = line.next_number() else {
+            return false;
+        };
+        if id <= i64::from(self.above) || id as u64 > MOST_ID {
+            return false;
+        }
+        if !front_literals(&mut self.lits, line) || !front_hints(&mut self.numbers, line) {
+            return false;
+        }
+        if line.has_words() {
+            return false;
+        }
+        let Ok(()) = self
+            .log
+            .reserve(1, self.lits.len() as u64 + self.numbers.len() as u64)
+        else {
+            return false;
+        };
+        self.log.add(id as u32, &self.lits, &self.numbers);
+        self.above = id as u32;
+        true
+    }
+
     /// Takes a line.
     pub fn take_line(&mut self, line: &mut Line<'_>) -> Result<(), TextFault>
+        ensures clean { OnOk result (line_fault self.old.above line.old ≡ None) }
+        ensures step { OnOk result (TakesStep self.old self.new (said_step line.old.words)) }
+        ensures err { IfErr result (IsFaultOf (line_fault self.old.above line.old)) }
+    {
+        if self.take_faultless_addition(&mut line.again()) {
+            return Ok(());
+        }
+        self.take_any_line(line)
+    }
+
+    /// Takes a line of any form.
+    fn take_any_line(&mut self, line: &mut Line<'_>) -> Result<(), TextFault>
         ensures clean { OnOk result (line_fault self.old.above line.old ≡ None) }
         ensures step { OnOk result (TakesStep self.old self.new (said_step line.old.words)) }
         ensures err { IfErr result (IsFaultOf (line_fault self.old.above line.old)) }

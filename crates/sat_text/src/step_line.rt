@@ -9,6 +9,7 @@ ghost use Rattle.sat_text.specs.LratText.{added_by, added_limit, added_step, del
 ghost use Rattle.sat_text.specs.Numbers.{is_number, is_zero as is_zero_of, lacks_number, numbers_of};
 
 use crate::cause::Cause;
+use crate::front_numbers::push_front;
 use crate::number::{is_zero, number};
 use fpga_text::{Line, TextFault};
 
@@ -55,6 +56,9 @@ fn push_numbers(numbers: &mut Vec<i64>, line: &mut Line<'_>) -> Result<(), TextF
     ensures err { IfErr result (IsFaultOf
         (if lacks_number line.old.words then Some (Bad line.old.number 701) else None)) }
 {
+    let Ok(()) = push_front(numbers, line) else {
+        return Err(TextFault::Memory);
+    };
     while let Some(word) = line.next_word() {
         push_number(numbers, word.text, word.line)?;
     }

@@ -3,7 +3,7 @@ use Rattle.std.proofs.Common.{◌≡◌, length}
 use Rattle.std.specs.Prelude.{map}
 use Rattle.sat_text.specs.CnfText.{body_fault, line_numbers}
 use Rattle.sat_text.specs.ToldLines.{told}
-use Rattle.sat_text.proofs.DraftLemmas.{IsOnWay}
+use Rattle.sat_text.specs.Drafts.{IsOnWay}
 use Rattle.sat_text.proofs.FaultLemmas.{IsPast}
 use Rattle.sat_text.proofs.read.take_body.Given as goal
 
