@@ -4,16 +4,20 @@
     measure.py [PROGRAM]
 
 Without a word the program is the one of this checkout. Prints, for each run, its time, its rate and
-its peak memory; beside the clauses the time that `cat` takes to copy them.
+its peak memory; beside the clauses the time that `cat` takes to copy them, and beside a search what it
+has learned, the bytes of its log, and the time and the conflicts of `minisat` on the same clauses where
+that is there.
 """
 import os
+import re
+import shutil
 import subprocess
 import sys
 import tempfile
 import time
 
 HERE = os.path.dirname(os.path.abspath(__file__))
-BUILT = os.path.join(HERE, "..", "crates", "router_top", "out", "router_top")
+BUILT = os.path.join(HERE, "..", "crates", "router", "out", "router")
 MEGABYTE = 1_000_000
 
 
@@ -21,14 +25,14 @@ def script(name, *words, out=subprocess.DEVNULL):
     subprocess.run([sys.executable, os.path.join(HERE, name), *words], stdout=out, check=True)
 
 
-def run(words, out=subprocess.DEVNULL):
+def run(words, out=subprocess.DEVNULL, statuses=(0,)):
     """The seconds and the bytes that a run takes at most."""
     start = time.monotonic()
     child = subprocess.Popen(words, stdout=out)
     _, status, usage = os.wait4(child.pid, 0)
     seconds = time.monotonic() - start
     child.returncode = os.waitstatus_to_exitcode(status)
-    if child.returncode != 0:
+    if child.returncode not in statuses:
         sys.exit(f"{words} ended with status {child.returncode}")
     return seconds, usage.ru_maxrss * 1024
 
@@ -56,6 +60,34 @@ def check(program, *kind):
     shown(f"check, {' '.join(kind)}", size, seconds, memory)
 
 
+def minisat(cnf):
+    start = time.monotonic()
+    said = subprocess.run(["minisat", cnf], capture_output=True, text=True).stdout
+    seconds = time.monotonic() - start
+    conflicts = re.search(r"conflicts\s*: (\d+)", said)
+    answer = "unsatisfiable" if "UNSATISFIABLE" in said else "satisfiable"
+    print(f"  minisat: {answer}, {conflicts.group(1) if conflicts else 0} conflicts in {seconds:.3f} s")
+
+
+def route(program, width, budget, *kind):
+    with open("search.route", "wb") as out:
+        script("make_route.py", *kind, out=out)
+    for name in ("found.route", "found.cnf", "found.lrat"):
+        if os.path.exists(name):
+            os.remove(name)
+    seconds, memory = run([program, "route", "search.route", str(width), str(budget), "found"], statuses=(0, 1, 2))
+    name = f"route, {' '.join(kind)} at width {width}"
+    if os.path.exists("found.lrat"):
+        with open("found.lrat", "rb") as log:
+            learned = sum(1 for _ in log)
+        print(f"{name}: {seconds:.3f} s, {learned} clauses learned, a log of {os.path.getsize('found.lrat')} bytes, at most {memory / MEGABYTE:.0f} MB of memory")
+    else:
+        print(f"{name}: routed in {seconds:.3f} s, at most {memory / MEGABYTE:.0f} MB of memory")
+    run([program, "encode", "search.route", str(width), "search"])
+    if shutil.which("minisat"):
+        minisat("search.cnf")
+
+
 def main():
     program = os.path.abspath(sys.argv[1] if len(sys.argv) > 1 else BUILT)
     with tempfile.TemporaryDirectory() as folder:
@@ -63,6 +95,11 @@ def main():
         encode(program, 32, 64)
         check(program, "tree", "300", "10")
         check(program, "chain", "40000", "50")
+        for nets in (5, 6, 7, 8):
+            route(program, nets - 1, 1_000_000, "crowd", "0", str(nets))
+        for width in (2, 3, 4, 5, 6):
+            route(program, width, 1_000_000, "mesh", "6", "30", "1")
+        route(program, 64, 1_000_000, "crowd", "0", "64")
         os.chdir("/")
 
 

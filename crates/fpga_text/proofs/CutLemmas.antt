@@ -23,7 +23,8 @@ begins-drop text i within said = rw (drop-cons text i 0) (go (is_blank (slice_in
     go : (b : Bool) → b ≡ false → IsTrue (not b)
     go b e = rw e refl
 
-position_or_len-cons_no : {X : Type 0} (p : X → Bool) (x : X) (xs : List X) → p x ≡ false → position_or_len p (x ∷ xs) ≡ suc (position_or_len p xs)
+-- an element that fails the test is passed by
+pub position_or_len-cons_no : {X : Type 0} (p : X → Bool) (x : X) (xs : List X) → p x ≡ false → position_or_len p (x ∷ xs) ≡ suc (position_or_len p xs)
 position_or_len-cons_no p x xs e = rw (e, one-add (position_or_len p xs)) refl
 
 filter-cons_word : (c : ℕ) (word : Bytes) (parts : List Bytes) → filter (λ (part : Bytes). not (is_empty part)) ((c ∷ word) ∷ parts) ≡ (c ∷ word) ∷ filter (λ (part : Bytes). not (is_empty part)) parts

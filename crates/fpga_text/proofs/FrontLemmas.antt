@@ -11,11 +11,11 @@ use Rattle.fpga_text.specs.Bytes.{Bytes, is_blank}
 use Rattle.fpga_text.specs.Numbers.{signed_number_of, whole_number_of}
 
 -- a digit is no blank
-digit_no_blank : (b : ℕ) → is_ascii_digit b ≡ true → is_blank b ≡ false
+pub digit_no_blank : (b : ℕ) → is_ascii_digit b ≡ true → is_blank b ≡ false
 digit_no_blank b digit = grind arith
 
 -- each of the front bytes is a digit
-front_digit : (text : Bytes) (i k : ℕ) → i ≤ length text → list_all is_ascii_digit (take i text) ≡ true → k < i → is_ascii_digit (slice_index text k) ≡ true
+pub front_digit : (text : Bytes) (i k : ℕ) → i ≤ length text → list_all is_ascii_digit (take i text) ≡ true → k < i → is_ascii_digit (slice_index text k) ≡ true
 front_digit text i k within all below = go (is_ascii_digit (slice_index text k)) refl where
   go : (b : Bool) → is_ascii_digit (slice_index text k) ≡ b → is_ascii_digit (slice_index text k) ≡ true
   go true e = e
@@ -53,13 +53,23 @@ looked_at text looked i at inside =
 
 -- all bytes of a text were looked at
 pub record IsAll (text : Bytes) (i : ℕ) : Type 0 where
-  pub few : i ≤ 18
+  pub few : i ≤ 17
   pub end : i ≡ length text
 
-pub looked_all : (text : Bytes) (looked i : ℕ) → looked ≡ min (length text) 18 → i ≤ length (take looked text) → length (take looked text) ≤ i → length text ≤ looked → IsAll text i
+pub looked_all : (text : Bytes) (looked i : ℕ) → looked ≡ min (length text) 18 → i ≤ length (take looked text) → length (take looked text) ≤ i → looked ≤ 17 → IsAll text i
 looked_all text looked i at within past whole =
     let size = length-take looked text in
     record { few = grind (arith, at, within, past, whole, size); end = grind (arith, at, within, past, whole, size) }
+
+-- too many digits stand in front
+pub record IsLong (text : Bytes) (i : ℕ) : Type 0 where
+  pub digits : 18 ≤ i
+  pub inside : i ≤ length text
+
+pub looked_long : (text : Bytes) (looked i : ℕ) → looked ≡ min (length text) 18 → i ≤ length (take looked text) → length (take looked text) ≤ i → 17 < looked → IsLong text i
+looked_long text looked i at within past long =
+    let size = length-take looked text in
+    record { digits = grind (arith, at, within, past, long, size); inside = grind (arith, at, within, past, long, size) }
 
 -- a minus sign, and digits behind it
 pub signed_number_of-minus : (text behind : Bytes) (len size : ℕ) → text ≡ 45 ∷ behind → whole_number_of (take len behind) ≡ Some size → signed_number_of (take (len + 1) text) ≡ Some (neg_ℤ (pos size))

@@ -4,3 +4,4 @@ pub mod LineLemmas
 pub mod NumberLemmas
 pub mod ReadingLemmas
 pub mod Rows
+pub mod ShortLemmas

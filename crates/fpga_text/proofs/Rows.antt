@@ -1,10 +1,10 @@
 -- Worked rows of lines, words and numbers, each by computation.
-use Rattle.std.proofs.Common.{◌≡◌, ℕ, List, [], ◌∷◌, Some, None, refl}
+use Rattle.std.proofs.Common.{◌≡◌, ℕ, true, false, List, [], ◌∷◌, Some, None, refl}
 use Rattle.std.specs.Prelude.{codes, map}
 use Rattle.fpga_text.specs.declared.style.Style.TheVariants.{Plain, Hash}
 use Rattle.fpga_text.specs.Bytes.{Bytes}
 use Rattle.fpga_text.specs.Words.{TextLine, lines, words, text_lines}
-use Rattle.fpga_text.specs.Numbers.{whole_number_of}
+use Rattle.fpga_text.specs.Numbers.{whole_number_of, is_short_number}
 
 -- a line's number and words
 abbrev seen : List TextLine → List (ℕ × List Bytes)
@@ -42,3 +42,12 @@ no_number = refl
 
 pub no_digits : whole_number_of [] ≡ None
 no_digits = refl
+
+pub short_number : is_short_number (codes "-99999999999999999") ≡ true
+short_number = refl
+
+pub long_number : is_short_number (codes "000000000000000000") ≡ false
+long_number = refl
+
+pub sign_alone : is_short_number (codes "-") ≡ false
+sign_alone = refl

@@ -1,16 +1,16 @@
 //! Short numbers at the front of a text. Each is read in one pass over its bytes, since texts of many
 //! numbers are read no faster than those.
-ghost use Rattle.std.specs.Prelude.{◌≡◌, ◌<◌, ◌≤◌, ◌^◌, Some, IfSome, take, length, nat_abs, neg_ℤ, pos};
-ghost use Rattle.std.specs.List.{position_or_len};
+ghost use Rattle.std.specs.Prelude.{◌≡◌, ◌<◌, ◌≤◌, ◌^◌, Some, IfSome, is_some, take, length, nat_abs, neg_ℤ, pos};
+ghost use Rattle.std.specs.List.{position_or_len, before_first};
 ghost use Rattle.fpga_text.specs.Bytes.{is_blank};
-ghost use Rattle.fpga_text.specs.Numbers.{signed_number_of, whole_number_of};
+ghost use Rattle.fpga_text.specs.Numbers.{signed_number_of, whole_number_of, are_few_digits, is_short_number};
 
 use crate::cut::blank;
 use crate::number::digit_of;
 
-/// How many bytes are looked at. That many digits say a number far below 64 bits, so no digit is
-/// tested for its room.
-const MOST_DIGITS: usize = 18;
+/// How many digits a short number has at the most. So many say a number far below 64 bits, and one
+/// more too, so no digit is tested for its room.
+const MOST_DIGITS: usize = 17;
 
 /// The size of a number, and how many digits it has.
 #[derive(Clone, Copy, Debug)]
@@ -26,15 +26,17 @@ pub struct FrontNumber {
     pub len: usize,
 }
 
-/// The size that the first word says, or None where it is not one of at most 18 digits.
+/// The size that the first word says, or None: exactly where it is not one to 17 digits.
 fn front_digits(text: &[u8]) -> Option<FrontDigits>
+    ensures short { is_some result ≡ are_few_digits (before_first is_blank text.now) }
     ensures len { IfSome result (λ front. front.len ≡ position_or_len is_blank text.now) }
     ensures within { IfSome result (λ front. front.len ≤ length text.now) }
     ensures size { IfSome result (λ front. whole_number_of (take front.len text.now) ≡ Some front.size) }
     ensures small { IfSome result (λ front. front.size < 10 ^ 18) }
 {
     let mut size: u64 = 0;
-    let looked_at = text.len().min(MOST_DIGITS);
+    // One byte more than the digits, which says that they end.
+    let looked_at = text.len().min(MOST_DIGITS + 1);
     for (i, byte) in text[..looked_at].iter().enumerate() {
         let Some(digit) = digit_of(*byte) else {
             if i == 0 || !blank(*byte) {
@@ -44,7 +46,7 @@ fn front_digits(text: &[u8]) -> Option<FrontDigits>
         };
         size = size * 10 + digit;
     }
-    if text.is_empty() || looked_at < text.len() {
+    if text.is_empty() || looked_at > MOST_DIGITS {
         return None;
     }
     Some(FrontDigits {
@@ -62,9 +64,10 @@ fn negated(size: u64) -> i64
     -(size as i64)
 }
 
-/// The number that the first word says, or None where it is not one of at most 18 digits behind a
+/// The number that the first word says, or None: exactly where it is not one to 17 digits, behind a
 /// minus sign or without one.
 pub fn front_number(text: &[u8]) -> Option<FrontNumber>
+    ensures short { is_some result ≡ is_short_number (before_first is_blank text.now) }
     ensures len { IfSome result (λ front. front.len ≡ position_or_len is_blank text.now) }
     ensures within { IfSome result (λ front. front.len ≤ length text.now) }
     ensures value { IfSome result (λ front. signed_number_of (take front.len text.now) ≡ Some front.value) }

@@ -1,7 +1,8 @@
 //! A line of a text, and its words.
-ghost use Rattle.std.specs.Prelude.{◌≡◌, ◌<◌, ◌^◌, not, drop, slice_get, nat_abs, Some, option_map, option_and_then, IfSome, IfNone};
+ghost use Rattle.std.specs.Prelude.{◌≡◌, ◌<◌, ◌^◌, false, not, drop, slice_get, nat_abs, Some, is_some, option_map, option_and_then, IfSome, IfNone};
+ghost use Rattle.std.specs.Option.{option_map_or};
 ghost use Rattle.fpga_text.specs.Bytes.{is_empty};
-ghost use Rattle.fpga_text.specs.Numbers.{signed_number_of};
+ghost use Rattle.fpga_text.specs.Numbers.{signed_number_of, is_short_number};
 
 use crate::cut::{first_blank, from_first_word, part_at};
 use crate::front::front_number;
@@ -85,12 +86,13 @@ impl<'a> Line<'a> {
         })
     }
 
-    /// The number that the next word says, or None where it is not one of at most 18 digits behind a
-    /// minus sign or without one: the word is then not taken. It is the fast way past a number;
-    /// `next_word` takes any word.
+    /// The number that the next word says, or None: exactly where there is no next word, or it is not
+    /// one to 17 digits, behind a minus sign or without one. The word is then not taken. It is the
+    /// fast way past a number; `next_word` takes any word.
     // Inlined, so that what is left of the line stays in registers from one number to the next.
     #[inline(always)]
     pub fn next_number(&mut self) -> Option<i64>
+        ensures short { is_some result ≡ option_map_or is_short_number (slice_get self.old.words 0) false }
         ensures number { IfSome result
             (λ n. option_and_then signed_number_of (slice_get self.old.words 0) ≡ Some n) }
         ensures small { IfSome result (λ n. nat_abs n < 10 ^ 18) }

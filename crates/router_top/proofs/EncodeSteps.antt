@@ -6,7 +6,8 @@ use Rattle.fpga_types.specs.Fit.{IsFit}
 use Rattle.fpga_types.specs.declared.route.RouteText.{RouteText}
 use Rattle.sat_text.specs.Printed.{cnf_text}
 use Rattle.route_encode.specs.Encoding.{cnf_subset}
-use Rattle.router_top.specs.Answer.{LeavesEncode, WritesCnf}
+use Rattle.router_top.specs.Answer.{LeavesEncode}
+use Rattle.router_top.specs.Written.{WritesCnf}
 use Rattle.router_top.specs.Asked.{IsRouteFile}
 use Rattle.router_top.specs.Command.{EncodeJob}
 use Rattle.router_top.specs.declared.outcome.Outcome.{Outcome}

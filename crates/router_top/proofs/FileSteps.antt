@@ -5,7 +5,7 @@ use Rattle.desk_io.specs.Files.{Bytes, FileMap, HasRisen}
 use Rattle.desk_io.specs.ShelfState.{FailsToAppend, FailsToFinish, ShelfState, after_append, after_create, after_finish, with_created}
 use Rattle.std.proofs.lemmas.List.{take_all}
 use Rattle.desk_io.proofs.FileLemmas.{get-inserted, insert-insert}
-use Rattle.router_top.specs.Answer.{FailsToWrite, after_writing}
+use Rattle.router_top.specs.Written.{FailsToWrite, after_writing}
 
 written : (files : Option FileMap) (name text : Bytes) → option_map (with_created (option_map (λ _. name) files) text) (option_map (λ fs. insert fs name []) files) ≡ option_map (λ fs. insert fs name text) files
 written None name text = refl

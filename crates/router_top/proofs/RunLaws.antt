@@ -1,20 +1,28 @@
 -- What a run says, outcome by outcome.
 use Rattle.std.proofs.Common.{◌≡◌, ◌∙◌, ℕ, ◌≤◌, ◌⊎◌, List, Option, Ok, Err, Result, refl, sym, ap, subst, inl, inr, arith}
-use Rattle.std.specs.Prelude.{MatchResult}
+use Rattle.std.specs.Prelude.{MatchResult, Some, ⊤}
 use Rattle.desk_io.specs.DeskState.{DeskState}
 use Rattle.desk_io.specs.Files.{Bytes, FileMap, HasRisen}
 use Rattle.desk_io.specs.ShelfState.{ShelfState, after_say}
-use Rattle.router_top.specs.Answer.{FailsToWrite, IsComplete, IsTrueOf, IsTrueOfEncode, IsTrueOfJob, IsTrueOfRoute, Leaves, LeavesEncode, LeavesJob, LeavesRoute, Runs}
+use Rattle.router_top.specs.Answer.{IsComplete, Leaves, LeavesEncode, LeavesJob, LeavesRoute, Runs}
+use Rattle.router_top.specs.Search.{WritesFound}
+use Rattle.router_top.specs.Truth.{Agrees, IsOfSearch, IsTrueOf, IsTrueOfEncode, IsTrueOfJob, IsTrueOfRoute}
+use Rattle.router_top.specs.Written.{FailsToWrite, FailsToWriteProof}
+use Rattle.route_encode.specs.Encoding.{cnf_subset}
+use Rattle.fpga_types.specs.Legal.{tracks_of}
+use Rattle.fpga_types.specs.declared.route.RouteText.{RouteText}
+use Rattle.sat_clause.specs.Formula.{Cnf}
+use Rattle.sat_clause.specs.Step.{Step}
 use Rattle.fpga_text.specs.declared.fault.TextFault.TheVariants.{Bad, Limit as PastLimit, Memory}
 use Rattle.sat_clause.specs.Judge.{Accepted as IsAccepted, Refused as IsRefused}
 use Rattle.sat_clause.proofs.Refutes.{refutes}
 use Rattle.router_top.specs.Finding.{BadCnf, BadLrat, ChecksFiles, Finding, IsFound, Judged, LongCnf, LongLrat, SaysFinding, finding_outcome}
 use Rattle.router_top.specs.Command.{CheckJob, Checks, EncodeJob, Encodes, Job, RouteJob, Routes, Word, job_of}
-use Rattle.router_top.specs.Headline.{AcceptsOnlyTruly, EncodesOnlyTruly, IsEncoded, IsProved, IsRouted, RoutesOnlyTruly}
+use Rattle.router_top.specs.Headline.{AcceptsOnlyTruly, EncodesOnlyTruly, IsEncoded, IsLeftOpen, IsProved, IsRefuted, IsRouted, LeavesOpenOnlyTruly, RefutesOnlyTruly, RoutesOnlyTruly}
 use Rattle.router_top.specs.Report.{line_of, unsaid}
 use Rattle.router_top.specs.declared.outcome.Outcome.{Outcome}
 use Rattle.router_top.specs.declared.outcome.Outcome.TheVariants.{Routed, Unroutable, Undecided, Done, Accepted, NotAccepted, InputFault, Limit, Usage, ReadFault, WriteFault, OutOfMemory}
-use Rattle.router_top.proofs.UniqueLemmas.{one_outcome}
+use Rattle.router_top.proofs.UniqueLemmas.{outcomes_agree}
 
 -- a count that has risen twice has risen
 risen-then : (a b c : ℕ) → a ≤ b → HasRisen b c → HasRisen a c
@@ -27,34 +35,37 @@ write-risen : (before : ShelfState) (name text : Bytes) (now : ShelfState) → F
 write-risen before name text now (inl h) = h.risen
 write-risen before name text now (inr h) = h.risen
 
-none-routed : (finding : Finding) (w : ℕ) → finding_outcome finding ≡ Routed w → ⊥
-none-routed LongCnf w e = cc
-none-routed (BadCnf (Bad l c)) w e = cc
-none-routed (BadCnf (PastLimit c n)) w e = cc
-none-routed (BadCnf Memory) w e = cc
-none-routed LongLrat w e = cc
-none-routed (BadLrat (Bad l c)) w e = cc
-none-routed (BadLrat (PastLimit c n)) w e = cc
-none-routed (BadLrat Memory) w e = cc
-none-routed (Judged IsAccepted) w e = cc
-none-routed (Judged (IsRefused s c)) w e = cc
+proof-risen : (before : ShelfState) (prefix : Word) (cnf : Cnf) (log : List Step) (slot : ℕ) (now : ShelfState) → FailsToWriteProof before prefix cnf log slot now → HasRisen before.faults now.faults
+proof-risen before prefix cnf log slot now (inl h) = write-risen before _ _ now h.1
+proof-risen before prefix cnf log slot now (inr h) = write-risen _ _ _ now h.1
 
-none-done : (finding : Finding) → finding_outcome finding ≡ Done → ⊥
-none-done LongCnf e = cc
-none-done (BadCnf (Bad l c)) e = cc
-none-done (BadCnf (PastLimit c n)) e = cc
-none-done (BadCnf Memory) e = cc
-none-done LongLrat e = cc
-none-done (BadLrat (Bad l c)) e = cc
-none-done (BadLrat (PastLimit c n)) e = cc
-none-done (BadLrat Memory) e = cc
-none-done (Judged IsAccepted) e = cc
-none-done (Judged (IsRefused s c)) e = cc
+found-risen : (job : RouteJob) (route : RouteText) (before now : ShelfState) (slot : ℕ) → WritesFound job route before now (WriteFault slot) → HasRisen before.faults now.faults
+found-risen job route before now slot (inl h) = write-risen before _ _ now h.fails
+found-risen job route before now slot (inr h) = proof-risen before job.prefix (cnf_subset job.width route) h.log slot now h.fails
 
--- no finding says that a routing or clauses were written
-finds-no-file : (job : CheckJob) (files : Option FileMap) (o : Outcome) → ((w : ℕ) × (o ≡ Routed w)) ⊎ (o ≡ Done) → SaysFinding job files o → ⊥
-finds-no-file job files o (inl e) h = none-routed h.0 e.0 (sym h.2 ∙ e.1)
-finds-no-file job files o (inr e) h = none-done h.0 (sym h.2 ∙ e)
+-- the outcomes that say that files were written
+abbrev IsOfFiles : Outcome → Type 0
+IsOfFiles (Routed w) = ⊤
+IsOfFiles (Unroutable w) = ⊤
+IsOfFiles (Undecided w n) = ⊤
+IsOfFiles Done = ⊤
+IsOfFiles o = ⊥
+
+none-of-files : (finding : Finding) → IsOfFiles (finding_outcome finding) → ⊥
+none-of-files LongCnf h = h
+none-of-files (BadCnf (Bad l c)) h = h
+none-of-files (BadCnf (PastLimit c n)) h = h
+none-of-files (BadCnf Memory) h = h
+none-of-files LongLrat h = h
+none-of-files (BadLrat (Bad l c)) h = h
+none-of-files (BadLrat (PastLimit c n)) h = h
+none-of-files (BadLrat Memory) h = h
+none-of-files (Judged IsAccepted) h = h
+none-of-files (Judged (IsRefused s c)) h = h
+
+-- no finding says that files were written
+finds-no-file : (job : CheckJob) (files : Option FileMap) (o : Outcome) → IsOfFiles o → SaysFinding job files o → ⊥
+finds-no-file job files o of h = none-of-files h.0 (subst IsOfFiles h.2 of)
 
 module _ (desk desk_now : DeskState) (shelf between : ShelfState) where
   same_faults : between ≡ shelf → shelf.faults ≤ between.faults
@@ -62,17 +73,17 @@ module _ (desk desk_now : DeskState) (shelf between : ShelfState) where
 
   -- the count of the shelf's faults does not fall in the work
   route_never_falls : (job : RouteJob) (o : Outcome) → LeavesRoute job desk desk_now shelf between o → shelf.faults ≤ between.faults
-  route_never_falls job (Routed w) h = omega (arith, ap (λ (s : ShelfState). s.faults) h.3)
-  route_never_falls job (Unroutable w) h = same_faults h.1
-  route_never_falls job (Undecided w n) h = same_faults h.1
-  route_never_falls job Done h = same_faults h.1
+  route_never_falls job (Routed w) h = omega (arith, ap (λ (s : ShelfState). s.faults) h.3.1.3)
+  route_never_falls job (Unroutable w) h = omega (arith, ap (λ (s : ShelfState). s.faults) h.3.1.3)
+  route_never_falls job (Undecided w n) h = omega (arith, ap (λ (s : ShelfState). s.faults) h.3.1.4)
+  route_never_falls job Done h = absurd h.3.1
   route_never_falls job (InputFault f l c) h = same_faults h.1
   route_never_falls job (Limit c n) h = same_faults h.1
-  route_never_falls job Accepted h = same_faults h.1
-  route_never_falls job (NotAccepted s c) h = same_faults h.1
-  route_never_falls job (Usage c) h = same_faults h.1
+  route_never_falls job Accepted h = absurd h.3.1
+  route_never_falls job (NotAccepted s c) h = absurd h.3.1
+  route_never_falls job (Usage c) h = absurd h.3.1
   route_never_falls job (ReadFault f) h = same_faults h.2
-  route_never_falls job (WriteFault s) h = (write-risen shelf _ _ between h.3).later
+  route_never_falls job (WriteFault s) h = (found-risen job h.0 shelf between s h.3.1).later
   route_never_falls job OutOfMemory h = same_faults h
 
   encode_never_falls : (job : EncodeJob) (o : Outcome) → LeavesEncode job desk desk_now shelf between o → shelf.faults ≤ between.faults
@@ -103,17 +114,17 @@ module _ (desk desk_now : DeskState) (shelf between : ShelfState) where
 
   -- where no fault has risen, what the work comes to is true, or memory ran out
   route_settled : (job : RouteJob) (o : Outcome) → LeavesRoute job desk desk_now shelf between o → ¬ HasRisen desk.faults desk_now.faults → ¬ HasRisen shelf.faults between.faults → IsTrueOfRoute job desk.files o ⊎ (o ≡ OutOfMemory)
-  route_settled job (Routed w) h calm quiet = let f = h.2 in inl (h.0, (f.route, f.reads, f.fits, f.routable))
-  route_settled job (Unroutable w) h calm quiet = inl h.0
-  route_settled job (Undecided w n) h calm quiet = inl h.0
-  route_settled job Done h calm quiet = inl h.0
+  route_settled job (Routed w) h calm quiet = inl (h.3.1.0, (h.0, h.1, h.2, (h.3.0, (tracks_of h.0 h.3.1.1, h.3.1.2.legal))))
+  route_settled job (Unroutable w) h calm quiet = inl (h.3.1.0, (h.0, h.1, h.2, (h.3.0, h.3.1.2.none_legal)))
+  route_settled job (Undecided w n) h calm quiet = inl (h.3.1.0, h.3.1.1, (h.0, h.1, h.2, h.3.0))
+  route_settled job Done h calm quiet = absurd h.3.1
   route_settled job (InputFault f l c) h calm quiet = inl h.0
   route_settled job (Limit c n) h calm quiet = inl h.0
-  route_settled job Accepted h calm quiet = inl h.0
-  route_settled job (NotAccepted s c) h calm quiet = inl h.0
-  route_settled job (Usage c) h calm quiet = inl h.0
+  route_settled job Accepted h calm quiet = absurd h.3.1
+  route_settled job (NotAccepted s c) h calm quiet = absurd h.3.1
+  route_settled job (Usage c) h calm quiet = absurd h.3.1
   route_settled job (ReadFault f) h calm quiet = absurd (calm h.1.risen)
-  route_settled job (WriteFault s) h calm quiet = absurd (quiet (write-risen shelf _ _ between h.3))
+  route_settled job (WriteFault s) h calm quiet = absurd (quiet (found-risen job h.0 shelf between s h.3.1))
   route_settled job OutOfMemory h calm quiet = inr refl
 
   encode_settled : (job : EncodeJob) (o : Outcome) → LeavesEncode job desk desk_now shelf between o → ¬ HasRisen desk.faults desk_now.faults → ¬ HasRisen shelf.faults between.faults → IsTrueOfEncode job desk.files o ⊎ (o ≡ OutOfMemory)
@@ -157,27 +168,90 @@ module _ (desk desk_now : DeskState) (shelf between : ShelfState) where
       go (Ok job) h = job_settled job o h calm quiet
       go (Err code) h = inl h.0
 
-  -- the files of a shelf that a routing was written to
-  route_files : (words : List Word) (job : RouteJob) (width : ℕ) → job_of words ≡ Ok (Routes job) → LeavesRoute job desk desk_now shelf between (Routed width)
-      → IsRouted words desk.files shelf.files between.files width
-  route_files words job width asked h = record {
-    job = job;
-    asked = asked;
-    wide = h.0;
-    text = h.1;
-    found = h.2;
-    written = ap (λ (s : ShelfState). s.files) h.3;
-  }
+  -- an answer of a search comes where a routing is asked for
+  encode_no_search : (job : EncodeJob) (width : ℕ) (o : Outcome) → IsOfSearch width o → LeavesEncode job desk desk_now shelf between o → ⊥
+  encode_no_search job width (Routed w) of h = h.0
+  encode_no_search job width (Unroutable w) of h = h.0
+  encode_no_search job width (Undecided w n) of h = h.0
+  encode_no_search job width Done of h = of
+  encode_no_search job width Accepted of h = of
+  encode_no_search job width (NotAccepted s c) of h = of
+  encode_no_search job width (InputFault f l c) of h = of
+  encode_no_search job width (Limit c n) of h = of
+  encode_no_search job width (Usage c) of h = of
+  encode_no_search job width (ReadFault f) of h = of
+  encode_no_search job width (WriteFault s) of h = of
+  encode_no_search job width OutOfMemory of h = of
 
-  routed_files : (words : List Word) (width : ℕ) → Leaves words desk desk_now shelf between (Routed width) → IsRouted words desk.files shelf.files between.files width
-  routed_files words width h = go (job_of words) refl h
+  check_no_search : (job : CheckJob) (width : ℕ) (o : Outcome) → IsOfSearch width o → ChecksFiles job desk desk_now o → ⊥
+  check_no_search job width (Routed w) of h = finds-no-file job desk.files (Routed w) tt h
+  check_no_search job width (Unroutable w) of h = finds-no-file job desk.files (Unroutable w) tt h
+  check_no_search job width (Undecided w n) of h = finds-no-file job desk.files (Undecided w n) tt h
+  check_no_search job width Done of h = of
+  check_no_search job width Accepted of h = of
+  check_no_search job width (NotAccepted s c) of h = of
+  check_no_search job width (InputFault f l c) of h = of
+  check_no_search job width (Limit c n) of h = of
+  check_no_search job width (Usage c) of h = of
+  check_no_search job width (ReadFault f) of h = of
+  check_no_search job width (WriteFault s) of h = of
+  check_no_search job width OutOfMemory of h = of
+
+  searched_for : (words : List Word) (width : ℕ) (o : Outcome) → IsOfSearch width o → Leaves words desk desk_now shelf between o → (job : RouteJob) × (job_of words ≡ Ok (Routes job)) × LeavesRoute job desk desk_now shelf between o
+  searched_for words width o of h = go (job_of words) refl h
     where
-      go : (r : Result Job ℕ) → job_of words ≡ r → MatchResult r (λ job. LeavesJob job desk desk_now shelf between (Routed width)) (λ code. (Routed width ≡ Usage code) × (between ≡ shelf))
-          → IsRouted words desk.files shelf.files between.files width
-      go (Ok (Routes job)) asked h = route_files words job width asked h
-      go (Ok (Encodes job)) asked h = absurd h.0
-      go (Ok (Checks job)) asked h = absurd (finds-no-file job desk.files (Routed width) (inl (width, refl)) h.0)
-      go (Err code) asked h = absurd (let clash : Routed width ≡ Usage code = h.0 in cc)
+      go : (r : Result Job ℕ) → job_of words ≡ r → MatchResult r (λ job. LeavesJob job desk desk_now shelf between o) (λ code. (o ≡ Usage code) × (between ≡ shelf))
+          → (job : RouteJob) × (job_of words ≡ Ok (Routes job)) × LeavesRoute job desk desk_now shelf between o
+      go (Ok (Routes job)) asked h = (job, asked, h)
+      go (Ok (Encodes job)) asked h = absurd (encode_no_search job width o of h)
+      go (Ok (Checks job)) asked h = absurd (check_no_search job width o of h.0)
+      go (Err code) asked h = absurd (subst (IsOfSearch width) h.0 of)
+
+  -- the files of a shelf that a routing was written to
+  routed_files : (words : List Word) (width : ℕ) → Leaves words desk desk_now shelf between (Routed width) → IsRouted words desk.files shelf.files between.files width
+  routed_files words width h =
+      let asked = searched_for words width (Routed width) refl h in
+      let posed = asked.2 in
+      let found = posed.3.1 in
+      record {
+        job = asked.0;
+        route = posed.0;
+        asked = record { asked = asked.1; wide = found.0; reads = posed.1; fits = posed.2; few = posed.3.0 };
+        found = found.1;
+        routing = found.2;
+        written = ap (λ (s : ShelfState). s.files) found.3;
+      }
+
+  -- the files of a shelf that the clauses and a refutation were written to
+  refuted_files : (words : List Word) (width : ℕ) → Leaves words desk desk_now shelf between (Unroutable width) → IsRefuted words desk.files shelf.files between.files width
+  refuted_files words width h =
+      let asked = searched_for words width (Unroutable width) refl h in
+      let posed = asked.2 in
+      let found = posed.3.1 in
+      record {
+        job = asked.0;
+        route = posed.0;
+        asked = record { asked = asked.1; wide = found.0; reads = posed.1; fits = posed.2; few = posed.3.0 };
+        log = found.1;
+        refuted = found.2;
+        written = ap (λ (s : ShelfState). s.files) found.3;
+      }
+
+  -- the files of a shelf that the clauses and the log of an open search were written to
+  open_files : (words : List Word) (width learned : ℕ) → Leaves words desk desk_now shelf between (Undecided width learned) → IsLeftOpen words desk.files shelf.files between.files width learned
+  open_files words width learned h =
+      let asked = searched_for words width (Undecided width learned) refl h in
+      let posed = asked.2 in
+      let found = posed.3.1 in
+      record {
+        job = asked.0;
+        route = posed.0;
+        asked = record { asked = asked.1; wide = found.0; reads = posed.1; fits = posed.2; few = posed.3.0 };
+        budget = found.1;
+        log = found.2;
+        open_by = found.3;
+        written = ap (λ (s : ShelfState). s.files) found.4;
+      }
 
   -- the files of a shelf that clauses were written to
   encode_files : (words : List Word) (job : EncodeJob) → job_of words ≡ Ok (Encodes job) → LeavesEncode job desk desk_now shelf between Done → IsEncoded words desk.files shelf.files between.files
@@ -194,9 +268,9 @@ module _ (desk desk_now : DeskState) (shelf between : ShelfState) where
     where
       go : (r : Result Job ℕ) → job_of words ≡ r → MatchResult r (λ job. LeavesJob job desk desk_now shelf between Done) (λ code. (Done ≡ Usage code) × (between ≡ shelf))
           → IsEncoded words desk.files shelf.files between.files
-      go (Ok (Routes job)) asked h = absurd h.0
+      go (Ok (Routes job)) asked h = absurd h.3.1
       go (Ok (Encodes job)) asked h = encode_files words job asked h
-      go (Ok (Checks job)) asked h = absurd (finds-no-file job desk.files Done (inr refl) h.0)
+      go (Ok (Checks job)) asked h = absurd (finds-no-file job desk.files Done tt h.0)
       go (Err code) asked h = absurd (let clash : Done ≡ Usage code = h.0 in cc)
 
 -- an accepted refutation is one
@@ -226,7 +300,7 @@ module _ (desk desk_now : DeskState) (shelf between : ShelfState) where
   accepted_proved words h = go (job_of words) refl h
     where
       go : (r : Result Job ℕ) → job_of words ≡ r → MatchResult r (λ job. LeavesJob job desk desk_now shelf between Accepted) (λ code. (Accepted ≡ Usage code) × (between ≡ shelf)) → IsProved words desk.files
-      go (Ok (Routes job)) asked h = absurd h.0
+      go (Ok (Routes job)) asked h = absurd h.3.1
       go (Ok (Encodes job)) asked h = absurd h.0
       go (Ok (Checks job)) asked h = accepted-proved words job desk.files h.0.0 asked h.0.1 h.0.2
       go (Err code) asked h = absurd (let clash : Accepted ≡ Usage code = h.0 in cc)
@@ -246,6 +320,10 @@ unsaid-is (ReadFault f) = (0, refl)
 unsaid-is (WriteFault s) = (s, refl)
 unsaid-is OutOfMemory = (0, refl)
 
+-- an answer that is a true outcome is true, and agrees with every true one
+true_answer : (words : List Word) (files : FileMap) (answer said o : Outcome) → answer ≡ said → IsTrueOf words (Some files) said → IsTrueOf words (Some files) o → IsTrueOf words (Some files) answer × Agrees answer o
+true_answer words files answer said o e h g = subst (λ (a : Outcome). IsTrueOf words (Some files) a × Agrees a o) (sym e) (h, outcomes_agree words files said o h g)
+
 module _ (words : List Word) (desk desk_now : DeskState) (shelf : ShelfState) where
   -- a run whose count of faults has not risen has said its report, and answers what the work came to
   said : (now : ShelfState) (answer : Outcome) (r : Runs words desk desk_now shelf now answer) → ¬ HasRisen shelf.faults now.faults → (answer ≡ r.outcome) × (now ≡ after_say r.between (line_of r.outcome))
@@ -259,7 +337,7 @@ module _ (words : List Word) (desk desk_now : DeskState) (shelf : ShelfState) wh
       let done = said now answer r quiet in
       let still : ¬ HasRisen shelf.faults r.between.faults = (λ risen. quiet (subst (λ (n : ℕ). HasRisen shelf.faults n) (sym (ap (λ (s : ShelfState). s.faults) done.1)) risen)) in
       elim (settled desk desk_now shelf r.between words r.outcome r.leaves calm still) [
-        | inl true_too ↦ inl (done.0 ∙ one_outcome words files r.outcome o (subst (λ (f : Option FileMap). IsTrueOf words f r.outcome) told true_too) true_of)
+        | inl true_too ↦ inl (true_answer words files answer r.outcome o done.0 (subst (λ (f : Option FileMap). IsTrueOf words f r.outcome) told true_too) true_of)
         | inr spent ↦ inr (done.0 ∙ spent)
       ]
 
@@ -267,6 +345,18 @@ module _ (words : List Word) (desk desk_now : DeskState) (shelf : ShelfState) wh
   runs-routed now answer r width e = elim r.reports [
     | inl h ↦ subst (λ (f : Option FileMap). IsRouted words desk.files shelf.files f width) (sym (ap (λ (s : ShelfState). s.files) h.1)) (routed_files desk desk_now shelf r.between words width (subst (λ (o : Outcome). Leaves words desk desk_now shelf r.between o) (sym h.0 ∙ e) r.leaves))
     | inr h ↦ (let u = unsaid-is r.outcome in let clash : WriteFault u.0 ≡ Routed width = sym u.1 ∙ sym h.0 ∙ e in cc)
+  ]
+
+  pub runs-refuted : (now : ShelfState) (answer : Outcome) → Runs words desk desk_now shelf now answer → RefutesOnlyTruly words desk.files shelf.files now.files answer
+  runs-refuted now answer r width e = elim r.reports [
+    | inl h ↦ subst (λ (f : Option FileMap). IsRefuted words desk.files shelf.files f width) (sym (ap (λ (s : ShelfState). s.files) h.1)) (refuted_files desk desk_now shelf r.between words width (subst (λ (o : Outcome). Leaves words desk desk_now shelf r.between o) (sym h.0 ∙ e) r.leaves))
+    | inr h ↦ (let u = unsaid-is r.outcome in let clash : WriteFault u.0 ≡ Unroutable width = sym u.1 ∙ sym h.0 ∙ e in cc)
+  ]
+
+  pub runs-undecided : (now : ShelfState) (answer : Outcome) → Runs words desk desk_now shelf now answer → LeavesOpenOnlyTruly words desk.files shelf.files now.files answer
+  runs-undecided now answer r width learned e = elim r.reports [
+    | inl h ↦ subst (λ (f : Option FileMap). IsLeftOpen words desk.files shelf.files f width learned) (sym (ap (λ (s : ShelfState). s.files) h.1)) (open_files desk desk_now shelf r.between words width learned (subst (λ (o : Outcome). Leaves words desk desk_now shelf r.between o) (sym h.0 ∙ e) r.leaves))
+    | inr h ↦ (let u = unsaid-is r.outcome in let clash : WriteFault u.0 ≡ Undecided width learned = sym u.1 ∙ sym h.0 ∙ e in cc)
   ]
 
   pub runs-encoded : (now : ShelfState) (answer : Outcome) → Runs words desk desk_now shelf now answer → EncodesOnlyTruly words desk.files shelf.files now.files answer

@@ -1,20 +1,15 @@
--- Of the outcomes but those of faults one alone is true of the words and the files.
-use Rattle.std.proofs.Common.{◌≡◌, ◌∙◌, ℕ, List, [], length, take, Some, None, Ok, Err, Result, refl, sym, ap, subst, inl, inr, arith}
-use Rattle.std.specs.Prelude.{filter, MatchResult, ◌≤◌}
-use Rattle.std.specs.List.{list_any}
-use Rattle.std.proofs.lemmas.Bool.{false≢true}
-use Rattle.std.proofs.lemmas.List.{take_all}
+-- Outcomes that are true of the same words and files agree: they are one, or answers of a search.
+use Rattle.std.proofs.Common.{◌≡◌, ◌∙◌, ℕ, List, length, Some, None, Ok, Err, Result, refl, sym, ap, subst, inl, inr, arith}
+use Rattle.std.specs.Prelude.{MatchResult}
 use Rattle.desk_io.specs.Files.{Bytes, FileMap}
 use Rattle.fpga_types.specs.Fit.{IsFit}
-use Rattle.fpga_types.specs.Slots.{slots, steps}
 use Rattle.fpga_types.specs.declared.route.RouteText.{RouteText}
 use Rattle.fpga_text.specs.declared.style.Style.TheVariants.{Hash}
 use Rattle.fpga_text.specs.Words.{text_lines}
 use Rattle.fpga_route.specs.Codes.{HasCode}
 use Rattle.fpga_route.specs.Value.{route_value}
-use Rattle.router_top.specs.Attempts.{is_attempt, is_routing, rows}
-use Rattle.router_top.specs.Answer.{HasTooMany, IsRefused, IsRouteFault, IsRouteTooLong, IsTrueOf, IsTrueOfEncode, IsTrueOfJob, IsTrueOfRoute}
-use Rattle.router_top.specs.Asked.{CLAUSE_LIMIT, IsBadText, IsCutOff, IsHopeless, IsRoutable, IsRouteFile, IsTooLong, Poses, all_attempts, clause_count}
+use Rattle.router_top.specs.Truth.{Agrees, IsOfSearch, IsPastLimit, IsRefused, IsRouteFault, IsRouteTooLong, IsTrueOf, IsTrueOfEncode, IsTrueOfJob, IsTrueOfRoute}
+use Rattle.router_top.specs.Asked.{HasFew, HasTooMany, IsBadText, IsRouteFile, IsTooLong, Poses}
 use Rattle.router_top.specs.Command.{Checks, EncodeJob, Encodes, Job, RouteJob, Routes, Word, job_of}
 use Rattle.router_top.specs.declared.outcome.Outcome.{Outcome}
 use Rattle.router_top.specs.declared.outcome.Outcome.TheVariants.{Routed, Unroutable, Undecided, Done, Accepted, NotAccepted, InputFault, Limit, Usage, ReadFault, WriteFault, OutOfMemory}
@@ -91,103 +86,99 @@ module _ (files : FileMap) (name : Bytes) where
       let count : n ≡ m = h.1 ∙ sym g.1 in
       λ i. Limit (code i) (count i)
 
--- ---- a search finds, has no hope, or is cut off
+  -- a route has not few enough clauses and too many
+  past-poses : (width c n : ℕ) (P : RouteText → Type 0) → ((r : RouteText) → P r → HasFew width r) → IsPastLimit (Some files) name width c n → Poses (Some files) name P → ⊥
+  past-poses width c n P few (inl long) g = long-poses P long.2 g
+  past-poses width c n P few (inr many) g = let r = both (HasTooMany width n) P many.1 g in omega (arith, few r.0 r.2, r.1.0, r.1.1)
 
-routable-hopeless : (route : RouteText) (width limit : ℕ) → IsRoutable route width limit → IsHopeless route width limit → ⊥
-routable-hopeless route width limit (inl none) h = omega (arith, none, h.some)
-routable-hopeless route width limit (inr found) h =
-    let whole : take limit (all_attempts route width) ≡ all_attempts route width = take_all limit (all_attempts route width) h.few in
-    false≢true (sym h.none ∙ sym (ap (list_any (is_routing (slots route) (steps route))) whole) ∙ found)
+  past-refused : (width c n code : ℕ) → IsPastLimit (Some files) name width c n → IsRefused (Some files) name code → ⊥
+  past-refused width c n code (inl long) bad = refused-long code bad long.2
+  past-refused width c n code (inr many) bad = refused-poses (HasTooMany width n) code bad many.1
 
-no_attempts : (width n : ℕ) → n ≡ 0 → rows width n ≡ []
-no_attempts width n e = rw e refl
-
-routable-cut_off : (route : RouteText) (width limit : ℕ) → IsRoutable route width limit → IsCutOff route width limit → ⊥
-routable-cut_off route width limit (inl none) h =
-    let no_tries : all_attempts route width ≡ [] = ap (filter (is_attempt (slots route) (steps route))) (no_attempts width (length (slots route)) none) in
-    omega (arith, h.more, ap length no_tries)
-routable-cut_off route width limit (inr found) h = false≢true (sym h.none ∙ found)
-
-hopeless-cut_off : (route : RouteText) (width limit : ℕ) → IsHopeless route width limit → IsCutOff route width limit → ⊥
-hopeless-cut_off route width limit h g = omega (arith, h.few, g.more)
-
--- ---- one outcome is true
-
-module _ (job : RouteJob) (files : FileMap) where
-  route_outcome : (a b : Outcome) → IsTrueOfRoute job (Some files) a → IsTrueOfRoute job (Some files) b → a ≡ b
-  route_outcome (Routed w) (Routed v) h g = ap Routed (h.0 ∙ sym g.0)
-  route_outcome (Routed w) (Unroutable v) h g = let r = both files job.file (λ r. IsRoutable r job.width job.attempts) (λ r. IsHopeless r job.width job.attempts) h.1 g.1 in absurd (routable-hopeless r.0 job.width job.attempts r.1 r.2)
-  route_outcome (Routed w) (Undecided v n) h g = let r = both files job.file (λ r. IsRoutable r job.width job.attempts) (λ r. IsCutOff r job.width job.attempts) h.1 g.2 in absurd (routable-cut_off r.0 job.width job.attempts r.1 r.2)
-  route_outcome (Unroutable w) (Unroutable v) h g = ap Unroutable (h.0 ∙ sym g.0)
-  route_outcome (Unroutable w) (Routed v) h g = let r = both files job.file (λ r. IsRoutable r job.width job.attempts) (λ r. IsHopeless r job.width job.attempts) g.1 h.1 in absurd (routable-hopeless r.0 job.width job.attempts r.1 r.2)
-  route_outcome (Unroutable w) (Undecided v n) h g = let r = both files job.file (λ r. IsHopeless r job.width job.attempts) (λ r. IsCutOff r job.width job.attempts) h.1 g.2 in absurd (hopeless-cut_off r.0 job.width job.attempts r.1 r.2)
-  route_outcome (Undecided w m) (Undecided v n) h g = let width : w ≡ v = h.0 ∙ sym g.0 in let tried : m ≡ n = h.1 ∙ sym g.1 in λ i. Undecided (width i) (tried i)
-  route_outcome (Undecided w m) (Routed v) h g = let r = both files job.file (λ r. IsRoutable r job.width job.attempts) (λ r. IsCutOff r job.width job.attempts) g.1 h.2 in absurd (routable-cut_off r.0 job.width job.attempts r.1 r.2)
-  route_outcome (Undecided w m) (Unroutable v) h g = let r = both files job.file (λ r. IsHopeless r job.width job.attempts) (λ r. IsCutOff r job.width job.attempts) g.1 h.2 in absurd (hopeless-cut_off r.0 job.width job.attempts r.1 r.2)
-  route_outcome (Routed w) (InputFault f l c) h g = absurd (refused-poses files job.file (λ r. IsRoutable r job.width job.attempts) c g.2 h.1)
-  route_outcome (Routed w) (Limit c n) h g = absurd (long-poses files job.file (λ r. IsRoutable r job.width job.attempts) g.2 h.1)
-  route_outcome (InputFault f l c) (Routed w) h g = absurd (refused-poses files job.file (λ r. IsRoutable r job.width job.attempts) c h.2 g.1)
-  route_outcome (Limit c n) (Routed w) h g = absurd (long-poses files job.file (λ r. IsRoutable r job.width job.attempts) h.2 g.1)
-  route_outcome (Unroutable w) (InputFault f l c) h g = absurd (refused-poses files job.file (λ r. IsHopeless r job.width job.attempts) c g.2 h.1)
-  route_outcome (Unroutable w) (Limit c n) h g = absurd (long-poses files job.file (λ r. IsHopeless r job.width job.attempts) g.2 h.1)
-  route_outcome (InputFault f l c) (Unroutable w) h g = absurd (refused-poses files job.file (λ r. IsHopeless r job.width job.attempts) c h.2 g.1)
-  route_outcome (Limit c n) (Unroutable w) h g = absurd (long-poses files job.file (λ r. IsHopeless r job.width job.attempts) h.2 g.1)
-  route_outcome (Undecided w m) (InputFault f l c) h g = absurd (refused-poses files job.file (λ r. IsCutOff r job.width job.attempts) c g.2 h.2)
-  route_outcome (Undecided w m) (Limit c n) h g = absurd (long-poses files job.file (λ r. IsCutOff r job.width job.attempts) g.2 h.2)
-  route_outcome (InputFault f l c) (Undecided w m) h g = absurd (refused-poses files job.file (λ r. IsCutOff r job.width job.attempts) c h.2 g.2)
-  route_outcome (Limit c n) (Undecided w m) h g = absurd (long-poses files job.file (λ r. IsCutOff r job.width job.attempts) h.2 g.2)
-  route_outcome (InputFault f l c) (InputFault e k d) h g = fault-same files job.file f l c e k d h g
-  route_outcome (InputFault f l c) (Limit d n) h g = absurd (refused-long files job.file c h.2 g.2)
-  route_outcome (Limit c n) (InputFault f l d) h g = absurd (refused-long files job.file d g.2 h.2)
-  route_outcome (Limit c n) (Limit d m) h g = long-same files job.file c n d m h g
-  route_outcome Done b h g = absurd h
-  route_outcome Accepted b h g = absurd h
-  route_outcome (NotAccepted s c) b h g = absurd h
-  route_outcome (Usage c) b h g = absurd h
-  route_outcome (ReadFault f) b h g = absurd h
-  route_outcome (WriteFault s) b h g = absurd h
-  route_outcome OutOfMemory b h g = absurd h
-  route_outcome a Done h g = absurd g
-  route_outcome a Accepted h g = absurd g
-  route_outcome a (NotAccepted s c) h g = absurd g
-  route_outcome a (Usage c) h g = absurd g
-  route_outcome a (ReadFault f) h g = absurd g
-  route_outcome a (WriteFault s) h g = absurd g
-  route_outcome a OutOfMemory h g = absurd g
-
-module _ (job : EncodeJob) (files : FileMap) where
-  -- a route with few enough clauses has not too many
-  few-many : (route : RouteText) (count : ℕ) → clause_count job.width route ≤ CLAUSE_LIMIT → HasTooMany job.width count route → ⊥
-  few-many route count few many = omega (arith, few, many.0, many.1)
-
-  limits : (c n d m : ℕ) → IsTrueOfEncode job (Some files) (Limit c n) → IsTrueOfEncode job (Some files) (Limit d m) → Limit c n ≡ Limit d m
-  limits c n d m (inl h) (inl g) = long-same files job.file c n d m h g
-  limits c n d m (inl h) (inr g) = absurd (long-poses files job.file (HasTooMany job.width m) h.2 g.1)
-  limits c n d m (inr h) (inl g) = absurd (long-poses files job.file (HasTooMany job.width n) g.2 h.1)
-  limits c n d m (inr h) (inr g) =
-      let r = both files job.file (HasTooMany job.width n) (HasTooMany job.width m) h.1 g.1 in
+  past-same : (width c n d m : ℕ) → IsPastLimit (Some files) name width c n → IsPastLimit (Some files) name width d m → Limit c n ≡ Limit d m
+  past-same width c n d m (inl h) (inl g) = long-same c n d m h g
+  past-same width c n d m (inl h) (inr g) = absurd (long-poses (HasTooMany width m) h.2 g.1)
+  past-same width c n d m (inr h) (inl g) = absurd (long-poses (HasTooMany width n) g.2 h.1)
+  past-same width c n d m (inr h) (inr g) =
+      let r = both (HasTooMany width n) (HasTooMany width m) h.1 g.1 in
       let code : c ≡ d = h.0 ∙ sym g.0 in
       let count : n ≡ m = r.1.0 ∙ sym r.2.0 in
       λ i. Limit (code i) (count i)
 
-  done-limit : (c n : ℕ) → IsTrueOfEncode job (Some files) Done → IsTrueOfEncode job (Some files) (Limit c n) → ⊥
-  done-limit c n h (inl g) = long-poses files job.file (λ r. clause_count job.width r ≤ CLAUSE_LIMIT) g.2 h
-  done-limit c n h (inr g) = let r = both files job.file (λ r. clause_count job.width r ≤ CLAUSE_LIMIT) (HasTooMany job.width n) h g.1 in few-many r.0 n r.1 r.2
+-- ---- outcomes that are true agree
 
-  fault-limit : (f l c d n : ℕ) → IsTrueOfEncode job (Some files) (InputFault f l c) → IsTrueOfEncode job (Some files) (Limit d n) → ⊥
-  fault-limit f l c d n h (inl g) = refused-long files job.file c h.2 g.2
-  fault-limit f l c d n h (inr g) = refused-poses files job.file (HasTooMany job.width n) c h.2 g.1
+module _ (job : RouteJob) (files : FileMap) where
+  -- where the search was made, its route poses a problem with few enough clauses
+  has_few : (o : Outcome) → (width : ℕ) → IsOfSearch width o → IsTrueOfRoute job (Some files) o → (width ≡ job.width) × Poses (Some files) job.file (HasFew job.width)
+  has_few (Routed w) width of h = (sym of ∙ h.0, (h.1.0, h.1.1, h.1.2, h.1.3.0))
+  has_few (Unroutable w) width of h = (sym of ∙ h.0, (h.1.0, h.1.1, h.1.2, h.1.3.0))
+  has_few (Undecided w n) width of h = (sym of ∙ h.0, h.2)
+  has_few Done width of h = absurd of
+  has_few Accepted width of h = absurd of
+  has_few (NotAccepted s c) width of h = absurd of
+  has_few (InputFault f l c) width of h = absurd of
+  has_few (Limit c n) width of h = absurd of
+  has_few (Usage c) width of h = absurd of
+  has_few (ReadFault f) width of h = absurd of
+  has_few (WriteFault s) width of h = absurd of
+  has_few OutOfMemory width of h = absurd of
 
+  -- beside an answer of a search only such answers are true
+  beside_search : (width : ℕ) (a b : Outcome) → IsOfSearch width a → IsTrueOfRoute job (Some files) a → IsTrueOfRoute job (Some files) b → IsOfSearch width b
+  beside_search width a (Routed w) of h g = g.0 ∙ sym (has_few a width of h).0
+  beside_search width a (Unroutable w) of h g = g.0 ∙ sym (has_few a width of h).0
+  beside_search width a (Undecided w n) of h g = g.0 ∙ sym (has_few a width of h).0
+  beside_search width a (InputFault f l c) of h g = absurd (refused-poses files job.file (HasFew job.width) c g.2 (has_few a width of h).1)
+  beside_search width a (Limit c n) of h g = absurd (past-poses files job.file job.width c n (HasFew job.width) (λ r few. few) g (has_few a width of h).1)
+  beside_search width a Done of h g = absurd g
+  beside_search width a Accepted of h g = absurd g
+  beside_search width a (NotAccepted s c) of h g = absurd g
+  beside_search width a (Usage c) of h g = absurd g
+  beside_search width a (ReadFault f) of h g = absurd g
+  beside_search width a (WriteFault s) of h g = absurd g
+  beside_search width a OutOfMemory of h g = absurd g
+
+  -- the same the other way round
+  both_searched : (width : ℕ) (a b : Outcome) → IsOfSearch width b → IsTrueOfRoute job (Some files) a → IsTrueOfRoute job (Some files) b → Agrees a b
+  both_searched width a b of h g = inr (width, beside_search width b a of g h, of)
+
+  route_agrees : (a b : Outcome) → IsTrueOfRoute job (Some files) a → IsTrueOfRoute job (Some files) b → Agrees a b
+  route_agrees (Routed w) b h g = inr (w, refl, beside_search w (Routed w) b refl h g)
+  route_agrees (Unroutable w) b h g = inr (w, refl, beside_search w (Unroutable w) b refl h g)
+  route_agrees (Undecided w n) b h g = inr (w, refl, beside_search w (Undecided w n) b refl h g)
+  route_agrees a (Routed w) h g = both_searched w a (Routed w) refl h g
+  route_agrees a (Unroutable w) h g = both_searched w a (Unroutable w) refl h g
+  route_agrees a (Undecided w n) h g = both_searched w a (Undecided w n) refl h g
+  route_agrees (InputFault f l c) (InputFault e k d) h g = inl (fault-same files job.file f l c e k d h g)
+  route_agrees (InputFault f l c) (Limit d n) h g = absurd (past-refused files job.file job.width d n c g h.2)
+  route_agrees (Limit c n) (InputFault f l d) h g = absurd (past-refused files job.file job.width c n d h g.2)
+  route_agrees (Limit c n) (Limit d m) h g = inl (past-same files job.file job.width c n d m h g)
+  route_agrees Done b h g = absurd h
+  route_agrees Accepted b h g = absurd h
+  route_agrees (NotAccepted s c) b h g = absurd h
+  route_agrees (Usage c) b h g = absurd h
+  route_agrees (ReadFault f) b h g = absurd h
+  route_agrees (WriteFault s) b h g = absurd h
+  route_agrees OutOfMemory b h g = absurd h
+  route_agrees a Done h g = absurd g
+  route_agrees a Accepted h g = absurd g
+  route_agrees a (NotAccepted s c) h g = absurd g
+  route_agrees a (Usage c) h g = absurd g
+  route_agrees a (ReadFault f) h g = absurd g
+  route_agrees a (WriteFault s) h g = absurd g
+  route_agrees a OutOfMemory h g = absurd g
+
+module _ (job : EncodeJob) (files : FileMap) where
   encode_outcome : (a b : Outcome) → IsTrueOfEncode job (Some files) a → IsTrueOfEncode job (Some files) b → a ≡ b
   encode_outcome Done Done h g = refl
-  encode_outcome Done (InputFault f l c) h g = absurd (refused-poses files job.file (λ r. clause_count job.width r ≤ CLAUSE_LIMIT) c g.2 h)
-  encode_outcome Done (Limit c n) h g = absurd (done-limit c n h g)
-  encode_outcome (InputFault f l c) Done h g = absurd (refused-poses files job.file (λ r. clause_count job.width r ≤ CLAUSE_LIMIT) c h.2 g)
+  encode_outcome Done (InputFault f l c) h g = absurd (refused-poses files job.file (HasFew job.width) c g.2 h)
+  encode_outcome Done (Limit c n) h g = absurd (past-poses files job.file job.width c n (HasFew job.width) (λ r few. few) g h)
+  encode_outcome (InputFault f l c) Done h g = absurd (refused-poses files job.file (HasFew job.width) c h.2 g)
   encode_outcome (InputFault f l c) (InputFault e k d) h g = fault-same files job.file f l c e k d h g
-  encode_outcome (InputFault f l c) (Limit d n) h g = absurd (fault-limit f l c d n h g)
-  encode_outcome (Limit c n) Done h g = absurd (done-limit c n g h)
-  encode_outcome (Limit c n) (InputFault f l d) h g = absurd (fault-limit f l d c n g h)
-  encode_outcome (Limit c n) (Limit d m) h g = limits c n d m h g
+  encode_outcome (InputFault f l c) (Limit d n) h g = absurd (past-refused files job.file job.width d n c g h.2)
+  encode_outcome (Limit c n) Done h g = absurd (past-poses files job.file job.width c n (HasFew job.width) (λ r few. few) h g)
+  encode_outcome (Limit c n) (InputFault f l d) h g = absurd (past-refused files job.file job.width c n d h g.2)
+  encode_outcome (Limit c n) (Limit d m) h g = past-same files job.file job.width c n d m h g
   encode_outcome (Routed w) b h g = absurd h
   encode_outcome Accepted b h g = absurd h
   encode_outcome (NotAccepted s c) b h g = absurd h
@@ -207,14 +198,14 @@ module _ (job : EncodeJob) (files : FileMap) where
   encode_outcome a (WriteFault s) h g = absurd g
   encode_outcome a OutOfMemory h g = absurd g
 
-job_outcome : (job : Job) (files : FileMap) (a b : Outcome) → IsTrueOfJob job (Some files) a → IsTrueOfJob job (Some files) b → a ≡ b
-job_outcome (Routes job) files a b h g = route_outcome job files a b h g
-job_outcome (Encodes job) files a b h g = encode_outcome job files a b h g
-job_outcome (Checks job) files a b h g = check_outcome job files a b h g
+job_agrees : (job : Job) (files : FileMap) (a b : Outcome) → IsTrueOfJob job (Some files) a → IsTrueOfJob job (Some files) b → Agrees a b
+job_agrees (Routes job) files a b h g = route_agrees job files a b h g
+job_agrees (Encodes job) files a b h g = inl (encode_outcome job files a b h g)
+job_agrees (Checks job) files a b h g = inl (check_outcome job files a b h g)
 
-pub one_outcome : (words : List Word) (files : FileMap) (a b : Outcome) → IsTrueOf words (Some files) a → IsTrueOf words (Some files) b → a ≡ b
-one_outcome words files a b h g = go (job_of words) h g
+pub outcomes_agree : (words : List Word) (files : FileMap) (a b : Outcome) → IsTrueOf words (Some files) a → IsTrueOf words (Some files) b → Agrees a b
+outcomes_agree words files a b h g = go (job_of words) h g
   where
-    go : (r : Result Job ℕ) → MatchResult r (λ job. IsTrueOfJob job (Some files) a) (λ code. a ≡ Usage code) → MatchResult r (λ job. IsTrueOfJob job (Some files) b) (λ code. b ≡ Usage code) → a ≡ b
-    go (Ok job) h g = job_outcome job files a b h g
-    go (Err code) h g = h ∙ sym g
+    go : (r : Result Job ℕ) → MatchResult r (λ job. IsTrueOfJob job (Some files) a) (λ code. a ≡ Usage code) → MatchResult r (λ job. IsTrueOfJob job (Some files) b) (λ code. b ≡ Usage code) → Agrees a b
+    go (Ok job) h g = job_agrees job files a b h g
+    go (Err code) h g = inl (h ∙ sym g)

@@ -7,12 +7,12 @@ use Rattle.fpga_text.specs.Numbers.{whole_number_of}
 abbrev pub Word : Type 0
 Word = List ℕ
 
--- to look for a routing: the name of the route file, the width, how many attempts are allowed, and
+-- to look for a routing: the name of the route file, the width, how many clauses may be learned, and
 -- what the names of written files begin with
 pub record RouteJob : Type 0 where
   pub file : Word
   pub width : ℕ
-  pub attempts : ℕ
+  pub budget : ℕ
   pub prefix : Word
 
 -- to write the clauses: the name of the route file, the width, and what the names of written files
@@ -41,14 +41,14 @@ number_up_to greatest word =
 
 -- the job with these numbers; 3 where one is not there
 abbrev pub with_numbers : Word → Word → Option ℕ → Option ℕ → Result Job ℕ
-with_numbers file prefix (Some width) (Some attempts) =
-    Ok (Routes (record { file = file; width = width; attempts = attempts; prefix = prefix }))
+with_numbers file prefix (Some width) (Some budget) =
+    Ok (Routes (record { file = file; width = width; budget = budget; prefix = prefix }))
 with_numbers file prefix _ _ = Err 3
 
 -- the job that the words after `route` give; 2 where there are not four
 abbrev pub route_job : List Word → Result Job ℕ
-route_job (file ∷ width ∷ attempts ∷ prefix ∷ []) =
-    with_numbers file prefix (number_up_to 64 width) (number_up_to 100000000 attempts)
+route_job (file ∷ width ∷ budget ∷ prefix ∷ []) =
+    with_numbers file prefix (number_up_to 64 width) (number_up_to 100000000 budget)
 route_job _ = Err 2
 
 -- the job with this width; 3 where it is not there

@@ -11,7 +11,7 @@ abbrev pub route_said : RouteWords → RouteJob
 route_said words = record {
   file = words.file.now;
   width = words.width;
-  attempts = words.attempts;
+  budget = words.budget;
   prefix = words.prefix.now;
 }
 

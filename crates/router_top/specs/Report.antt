@@ -7,7 +7,7 @@ use Rattle.router_top.specs.declared.outcome.Outcome.TheVariants.{Routed, Unrout
 abbrev pub status_of : Outcome → ℕ
 status_of (Routed width) = 0
 status_of (Unroutable width) = 1
-status_of (Undecided width attempts) = 2
+status_of (Undecided width learned) = 2
 status_of Done = 0
 status_of Accepted = 0
 status_of (NotAccepted step cause) = 1
@@ -38,8 +38,8 @@ NamesKnownFile outcome = Unit {0}
 abbrev pub report_of : Outcome → List ℕ
 report_of (Routed width) = codes "routed " ++ decimal width
 report_of (Unroutable width) = codes "unroutable " ++ decimal width
-report_of (Undecided width attempts) =
-    codes "undecided " ++ decimal width ++ codes " after " ++ decimal attempts ++ codes " attempts"
+report_of (Undecided width learned) =
+    codes "undecided " ++ decimal width ++ codes " after " ++ decimal learned ++ codes " learned clauses"
 report_of Done = codes "done"
 report_of Accepted = codes "accepted"
 report_of (NotAccepted step cause) =

@@ -1,8 +1,9 @@
 //! The command `encode`: the clauses of a routing problem.
 ghost use Rattle.std.specs.Prelude.{◌≡◌};
-ghost use Rattle.router_top.specs.Answer.{LeavesEncode, WritesCnf};
+ghost use Rattle.router_top.specs.Answer.{LeavesEncode};
 ghost use Rattle.router_top.specs.JobSaid.{encode_said};
 ghost use Rattle.router_top.specs.Report.{IsReadFault, NamesKnownFile};
+ghost use Rattle.router_top.specs.Written.{WritesCnf};
 
 use crate::job_words::EncodeWords;
 use crate::outcome::Outcome;
@@ -13,11 +14,11 @@ use fpga_bounds::Problem;
 use route_encode::{Encoder, Strict};
 use std::alloc::Global;
 
-// How many clauses may be built.
-const MOST_CLAUSES: u64 = 40_000_000;
+/// How many clauses may be built.
+pub const MOST_CLAUSES: u64 = 40_000_000;
 
-// The slot of the clauses that are written.
-const CNF_SLOT: u32 = 2;
+/// The slot of the clauses that are written.
+pub const CNF_SLOT: u32 = 2;
 
 // Builds the clauses of a problem and writes them, where there are not too many.
 fn write_clauses<S: Shelf>(

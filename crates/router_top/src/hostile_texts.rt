@@ -1,6 +1,6 @@
 //! Route texts on the edge of what is taken: each with the code that its rules give it, and why.
 use crate::outcome::Outcome;
-use crate::run::run;
+use crate::running::run;
 use crate::tests::{desk_of, words};
 use desk_io::MemShelf;
 use fpga_route::{ReadFault, read_route_or_fault};
@@ -42,7 +42,7 @@ fn first_code(alloc: Global, text: &[u8]) -> (u64, u32) {
     }
 }
 
-// Runs a text at width 1 with 100 attempts; gives the outcome, after a look at what was said and
+// Runs a text at width 1 with a budget of 100; gives the outcome, after a look at what was said and
 // written.
 fn outcome_of(rt: &impl Abort, alloc: Global, text: &[u8]) -> Result<Outcome, Fail> {
     let words = words(alloc, &["route", "one.route", "1", "100", "out"])?;
@@ -741,12 +741,12 @@ fn long_route(alloc: Global, more: u32) -> Result<Vec<u8>, Fail> {
 fn the_last_slot_and_one_more(rt: HostRuntime) -> Result<(), Fail> {
     let alloc = rt.alloc();
     let last = outcome_of(&rt, alloc, &long_route(alloc, 0)?)?;
-    // The attempts give the cells of the first net their tracks.
-    let undecided = Outcome::Undecided {
-        width: 1,
-        attempts: 100,
+    // It fits: 200,000 slots, 198,000 steps, and 1,999,000 pairs of nets in each of 100 cells.
+    let limit = Outcome::Limit {
+        code: 901,
+        count: 200_298_000,
     };
-    assert_eq!(rt; last, undecided);
+    assert_eq!(rt; last, limit);
     // The code is 515.
     let more = outcome_of(&rt, alloc, &long_route(alloc, 1)?)?;
     assert_eq!(rt; more, refused(500));

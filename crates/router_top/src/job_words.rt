@@ -8,10 +8,12 @@ pub struct RouteWords<'a> {
     pub file: &'a str,
     /// How many tracks each channel has, from 1 to 64.
     pub width: u32,
-    /// How many attempts are allowed, from 1 to 100,000,000.
-    pub attempts: u64,
+    /// How many clauses the search may learn, from 1 to 100,000,000.
+    pub budget: u64,
     /// What the names of the files that are written begin with.
     pub prefix: &'a str,
+    ghost in_range: { (1 ≤ width) × (width ≤ 64) },
+    ghost affordable: { (1 ≤ budget) × (budget ≤ 100000000) },
 }
 
 /// What the words of `encode` ask for.

@@ -14,8 +14,8 @@ pub enum Outcome {
     Routed { width: u32 },
     /// No routing of this width is legal.
     Unroutable { width: u32 },
-    /// The attempts that were allowed were made, and none was a legal routing.
-    Undecided { width: u32, attempts: u64 },
+    /// As many clauses were learned as the budget allows, and the search is still open.
+    Undecided { width: u32, learned: u64 },
     /// What was asked for was written.
     Done,
     /// The log refutes the formula.
@@ -33,7 +33,8 @@ pub enum Outcome {
     Usage { code: u32 },
     /// The desk failed on a file.
     ReadFault { file: u32 },
-    /// The shelf failed: 0 in a `say`, 1 on the route that is written, 2 on the clauses.
+    /// The shelf failed: 0 in a `say`, 1 on the route that is written, 2 on the clauses, 3 on the
+    /// refutation.
     WriteFault { slot: u32 },
     /// Memory ran out.
     OutOfMemory,
@@ -86,10 +87,10 @@ pub fn report(outcome: &Outcome) -> ArrayString<REPORT_ROOM>
     match *outcome {
         Outcome::Routed { width } => push_count(&mut line, "routed ", width as u64),
         Outcome::Unroutable { width } => push_count(&mut line, "unroutable ", width as u64),
-        Outcome::Undecided { width, attempts } => {
+        Outcome::Undecided { width, learned } => {
             push_count(&mut line, "undecided ", width as u64);
-            push_count(&mut line, " after ", attempts);
-            line.push_str(" attempts");
+            push_count(&mut line, " after ", learned);
+            line.push_str(" learned clauses");
         }
         Outcome::Done => line.push_str("done"),
         Outcome::Accepted => line.push_str("accepted"),

@@ -1,14 +1,15 @@
 //! The files that are written.
-ghost use Rattle.std.specs.Prelude.{◌≡◌, ◌++◌, string_bytes, IfOk, OnErr, OnOk};
+ghost use Rattle.std.specs.Prelude.{◌≡◌, ◌≤◌, ◌++◌, length, string_bytes, IfOk, OnErr, OnOk};
 ghost use Rattle.fpga_route.specs.Printed.{printed};
-ghost use Rattle.router_top.specs.Answer.{FailsToWrite, after_writing};
-ghost use Rattle.sat_text.specs.Printed.{cnf_text};
+ghost use Rattle.router_top.specs.Written.{FailsToWrite, after_writing};
+ghost use Rattle.sat_text.specs.CnfText.{ReadsCnf};
+ghost use Rattle.sat_text.specs.Printed.{cnf_text, log_text};
 
 use desk_io::{Failed, Shelf};
 use fpga_route::write_route;
 use fpga_types::RouteText;
-use sat_clause::Formula;
-use sat_text::write_cnf;
+use sat_clause::{Formula, Log};
+use sat_text::{write_cnf, write_lrat};
 use std::alloc::{AllocError, Global};
 
 /// A name made of a prefix and an ending.
@@ -45,11 +46,29 @@ pub fn write_route_file<S: Shelf>(
 pub fn write_cnf_file<S: Shelf>(shelf: &mut S, name: &str, formula: &Formula) -> Result<(), Failed>
     ensures ok { OnOk result (S.state shelf.new ≡ after_writing (S.state shelf.old) name.now (cnf_text formula.now.cnf)) }
     ensures err { OnErr result (FailsToWrite (S.state shelf.old) name.now (cnf_text formula.now.cnf) (S.state shelf.new)) }
+    ensures reads { length formula.now.cnf.clauses ≤ 40000000 → OnOk result (ReadsCnf (cnf_text formula.now.cnf) formula.now.cnf) }
 {
     let Ok(()) = shelf.create(name) else {
         return Err(Failed);
     };
     let Ok(()) = write_cnf(formula, shelf) else {
+        return Err(Failed);
+    };
+    let Ok(()) = shelf.finish() else {
+        return Err(Failed);
+    };
+    Ok(())
+}
+
+/// Writes a log to a file, and to no other.
+pub fn write_lrat_file<S: Shelf>(shelf: &mut S, name: &str, log: &Log) -> Result<(), Failed>
+    ensures ok { OnOk result (S.state shelf.new ≡ after_writing (S.state shelf.old) name.now (log_text log.now.steps)) }
+    ensures err { OnErr result (FailsToWrite (S.state shelf.old) name.now (log_text log.now.steps) (S.state shelf.new)) }
+{
+    let Ok(()) = shelf.create(name) else {
+        return Err(Failed);
+    };
+    let Ok(()) = write_lrat(log, shelf) else {
         return Err(Failed);
     };
     let Ok(()) = shelf.finish() else {

@@ -1,60 +1,138 @@
 //! The command `route`: a search for a legal routing.
-ghost use Rattle.std.specs.Prelude.{◌≡◌, length, IfOk};
-ghost use Rattle.fpga_types.specs.Slots.{slots};
-ghost use Rattle.router_top.specs.Answer.{LeavesRoute, WritesTracks};
-ghost use Rattle.router_top.specs.Asked.{Settles};
+ghost use Rattle.std.specs.Prelude.{◌≡◌, ◌≤◌, length, IfErr, OnOk};
+ghost use Rattle.fpga_types.specs.Fit.{IsFit};
+ghost use Rattle.route_encode.specs.Encoding.{cnf_subset};
+ghost use Rattle.router_top.specs.Answer.{LeavesRoute};
+ghost use Rattle.router_top.specs.Asked.{HasFew};
 ghost use Rattle.router_top.specs.JobSaid.{route_said};
 ghost use Rattle.router_top.specs.Report.{IsReadFault, NamesKnownFile};
+ghost use Rattle.router_top.specs.Search.{WritesFound, WritesSearch};
+ghost use Rattle.router_top.specs.Written.{IsProofFault, after_proof};
+ghost use Rattle.sat_clause.specs.Formula.{Satisfies};
+ghost use Rattle.sat_text.specs.CnfText.{ReadsCnf};
+ghost use Rattle.sat_text.specs.Printed.{cnf_text};
 
-use crate::backtracking::{Found, find_tracks};
-use crate::conditions::Conditions;
+use crate::encoding::{CNF_SLOT, MOST_CLAUSES};
 use crate::job_words::RouteWords;
 use crate::outcome::Outcome;
-use crate::output::{file_name, write_route_file};
+use crate::output::{file_name, write_cnf_file, write_lrat_file, write_route_file};
 use crate::problem_file::read_problem;
 use desk_io::{Desk, Shelf};
 use fpga_bounds::Problem;
-use std::alloc::{AllocError, Global};
+use route_encode::{Encoder, Strict};
+use sat_clause::{Formula, Log};
+use sat_core::{Answer, solve};
+use std::alloc::Global;
 
-// The slot of the route that is written.
+// The slots of the route and of the log that are written.
 const ROUTE_SLOT: u32 = 1;
 
-// Looks for tracks that make a legal routing of the width.
-fn find_legal(
-    alloc: Global,
-    problem: &Problem,
-    width: u32,
-    attempts: u64,
-) -> Result<Found, AllocError>
-    ensures { IfOk result (Settles problem.now width attempts) }
-{
-    let conditions = Conditions::new(alloc, problem.slots(), problem.steps())?;
-    find_tracks(alloc, &conditions, width, attempts)
-}
+const LRAT_SLOT: u32 = 3;
 
-// Writes the problem's route with these tracks.
+// Writes the routing that these values of the problem's variables stand for.
 fn write_routing<S: Shelf>(
     alloc: Global,
     shelf: &mut S,
     job: &RouteWords<'_>,
-    problem: Problem,
-    tracks: &[u32],
+    problem: &Problem,
+    values: &[bool],
 ) -> Outcome
-    requires { length tracks.now ≡ length (slots problem) }
+    requires { Satisfies values.now (cnf_subset job.now.width problem.now) }
     ensures known { NamesKnownFile result }
-    ensures writes { WritesTracks (route_said job.now) problem tracks.now (S.state shelf.old) (S.state shelf.new) result }
+    ensures writes { WritesFound (route_said job.now) problem.now (S.state shelf.old) (S.state shelf.new) result }
 {
+    let Ok(found) = Strict.decode(alloc, problem, job.width, values) else {
+        return Outcome::OutOfMemory;
+    };
     let Ok(name) = file_name(alloc, job.prefix, ".route") else {
         return Outcome::OutOfMemory;
     };
-    let routing = problem.with_tracks(tracks);
-    let Ok(()) = write_route_file(shelf, name.as_str(), &routing) else {
+    let Ok(()) = write_route_file(shelf, name.as_str(), &found) else {
         return Outcome::WriteFault { slot: ROUTE_SLOT };
     };
     Outcome::Routed { width: job.width }
 }
 
-/// Reads the route file, looks for a legal routing, and writes it.
+// Writes the clauses and the log of a search through them. The error is what the run comes to then.
+fn write_proof<S: Shelf>(
+    alloc: Global,
+    shelf: &mut S,
+    prefix: &str,
+    formula: &Formula,
+    log: &Log,
+) -> Result<(), Outcome>
+    ensures ok { OnOk result (S.state shelf.new ≡ after_proof (S.state shelf.old) prefix.now formula.now.cnf log.now.steps) }
+    ensures err { IfErr result (IsProofFault (S.state shelf.old) prefix.now formula.now.cnf log.now.steps (S.state shelf.new)) }
+    ensures reads { length formula.now.cnf.clauses ≤ 40000000 → OnOk result (ReadsCnf (cnf_text formula.now.cnf) formula.now.cnf) }
+{
+    let Ok(cnf_name) = file_name(alloc, prefix, ".cnf") else {
+        return Err(Outcome::OutOfMemory);
+    };
+    let Ok(lrat_name) = file_name(alloc, prefix, ".lrat") else {
+        return Err(Outcome::OutOfMemory);
+    };
+    let Ok(()) = write_cnf_file(shelf, cnf_name.as_str(), formula) else {
+        return Err(Outcome::WriteFault { slot: CNF_SLOT });
+    };
+    let Ok(()) = write_lrat_file(shelf, lrat_name.as_str(), log) else {
+        return Err(Outcome::WriteFault { slot: LRAT_SLOT });
+    };
+    Ok(())
+}
+
+// Searches for a routing, and writes it or the log of the search.
+fn find_routing<S: Shelf>(
+    alloc: Global,
+    shelf: &mut S,
+    job: &RouteWords<'_>,
+    problem: &Problem,
+) -> Outcome
+    requires few { HasFew job.now.width problem.now }
+    requires fits { IsFit problem.now }
+    ensures known { NamesKnownFile result }
+    ensures writes { WritesFound (route_said job.now) problem.now (S.state shelf.old) (S.state shelf.new) result }
+{
+    let Ok(formula) = Strict.build(alloc, problem, job.width) else {
+        return Outcome::OutOfMemory;
+    };
+    let mut log = Log::new(alloc);
+    match solve(alloc, &formula, job.budget, true, &mut log) {
+        Ok(Answer::Model(values)) => write_routing(alloc, shelf, job, problem, &values),
+        Ok(Answer::Refuted) => match write_proof(alloc, shelf, job.prefix, &formula, &log) {
+            Ok(()) => Outcome::Unroutable { width: job.width },
+            Err(outcome) => outcome,
+        },
+        Ok(Answer::Spent) => match write_proof(alloc, shelf, job.prefix, &formula, &log) {
+            Ok(()) => Outcome::Undecided {
+                width: job.width,
+                learned: job.budget,
+            },
+            Err(outcome) => outcome,
+        },
+        Err(_) => Outcome::OutOfMemory,
+    }
+}
+
+// Searches for a routing, where there are not too many clauses.
+fn search<S: Shelf>(
+    alloc: Global,
+    shelf: &mut S,
+    job: &RouteWords<'_>,
+    problem: &Problem,
+) -> Outcome
+    requires { IsFit problem.now }
+    ensures known { NamesKnownFile result }
+    ensures writes { WritesSearch (route_said job.now) problem.now (S.state shelf.old) (S.state shelf.new) result }
+{
+    let count = Strict.count(problem, job.width);
+    if count > MOST_CLAUSES {
+        return Outcome::Limit { code: 901, count };
+    }
+    find_routing(alloc, shelf, job, problem)
+}
+
+/// Reads the route file, searches for a legal routing, and writes it; or else writes the clauses and
+/// the log of the search.
 pub fn route<D: Desk, S: Shelf>(
     alloc: Global,
     job: &RouteWords<'_>,
@@ -69,13 +147,5 @@ pub fn route<D: Desk, S: Shelf>(
         Ok(problem) => problem,
         Err(stop) => return stop.outcome(),
     };
-    match find_legal(alloc, &problem, job.width, job.attempts) {
-        Ok(Found::Tracks(tracks)) => write_routing(alloc, shelf, job, problem, &tracks),
-        Ok(Found::Nothing) => Outcome::Unroutable { width: job.width },
-        Ok(Found::Spent) => Outcome::Undecided {
-            width: job.width,
-            attempts: job.attempts,
-        },
-        Err(_) => Outcome::OutOfMemory,
-    }
+    search(alloc, shelf, job, &problem)
 }

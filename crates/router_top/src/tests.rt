@@ -1,6 +1,6 @@
 //! Runs over the tables in memory.
 use crate::outcome::{Outcome, report, status};
-use crate::run::run;
+use crate::running::run;
 use desk_io::{MemDesk, MemShelf};
 use itoa::Buffer;
 use std::alloc::Global;
@@ -15,7 +15,7 @@ const ONE: &str =
 const TWO: &str =
     "Array size: 1 x 1 logic blocks\nRouting:\nNet 0 (n0)\nSOURCE (1,0) Pad: 0\nOPIN (1,0) Pad: 0\nCHANX (1,0) Track: 0\nIPIN (1,0) Pad: 1\nSINK (1,0) Pad: 1\nNet 1 (n1)\nSOURCE (1,0) Pad: 2\nOPIN (1,0) Pad: 2\nCHANX (1,0) Track: 0\nIPIN (1,0) Pad: 3\nSINK (1,0) Pad: 3\n";
 
-// Three nets, each two of which share a cell; 26 attempts fail at width 2.
+// Three nets, each two of which share a cell.
 const JUNCTION: &str =
     "Array size: 2 x 1 logic blocks.\n\nRouting:\n\nNet 0 (a)\n\nSOURCE (1,0)  Pad: 0\n  OPIN (1,0)  Pad: 0\n CHANX (1,0)  Track: 0\n CHANY (1,1)  Track: 0\n  IPIN (1,1)  Pin: 3\n  SINK (1,1)  Class: 0\n\nNet 1 (b)\n\nSOURCE (2,0)  Pad: 0\n  OPIN (2,0)  Pad: 0\n CHANX (2,0)  Track: 0\n CHANY (1,1)  Track: 0\n  IPIN (2,1)  Pin: 1\n  SINK (2,1)  Class: 0\n\nNet 2 (c)\n\nSOURCE (1,0)  Pad: 1\n  OPIN (1,0)  Pad: 1\n CHANX (1,0)  Track: 0\n CHANX (2,0)  Track: 0\n  IPIN (2,0)  Pad: 1\n  SINK (2,0)  Pad: 1\n";
 
@@ -56,6 +56,27 @@ pub fn words(alloc: Global, words: &[&str]) -> Result<Vec<String>, Fail> {
     Ok(all)
 }
 
+// What `route` comes to at this width with this budget where the shelf fails at these calls, and the
+// shelf then.
+fn routed(
+    alloc: Global,
+    text: &[u8],
+    width: &str,
+    budget: &str,
+    fail: &[u64],
+) -> Result<(Outcome, MemShelf), Fail> {
+    let words = words(alloc, &["route", "one.route", width, budget, "out"])?;
+    let mut shelf = MemShelf::new(alloc, Vec::from_slice(alloc, fail)?);
+    let outcome = run(alloc, &words, &mut desk_of(alloc, text, &[])?, &mut shelf);
+    Ok((outcome, shelf))
+}
+
+// A file that has to be there.
+fn written<'a>(shelf: &'a MemShelf, name: &str) -> Result<&'a [u8], Fail> {
+    let text = shelf.file(name).ok_or("a file is missing")?;
+    Ok(text)
+}
+
 #[test]
 fn answers_of_worked_rows(rt: HostRuntime) -> Result<(), Fail> {
     let alloc = rt.alloc();
@@ -69,67 +90,54 @@ fn answers_of_worked_rows(rt: HostRuntime) -> Result<(), Fail> {
         line: 0,
         code: 500,
     };
-    let undecided = Outcome::Undecided {
-        width: 2,
-        attempts: 25,
-    };
+    let usage = Outcome::Usage { code: 3 };
+    // Of 6 and of 12 variables there are at most 729 and 531,441 clauses that differ.
     let cases = [
         (ONE, "1", "100", Outcome::Routed { width: 1 }, "routed 1\n"),
         (
             TWO,
             "1",
-            "100",
+            "10",
             Outcome::Unroutable { width: 1 },
             "unroutable 1\n",
         ),
         (
-            JUNCTION,
+            THREE,
             "2",
-            "26",
+            "729",
             Outcome::Unroutable { width: 2 },
             "unroutable 2\n",
         ),
         (
             JUNCTION,
             "2",
-            "25",
-            undecided,
-            "undecided 2 after 25 attempts\n",
+            "531441",
+            Outcome::Unroutable { width: 2 },
+            "unroutable 2\n",
         ),
         (
             JUNCTION,
             "3",
-            "100",
+            "100000000",
             Outcome::Routed { width: 3 },
             "routed 3\n",
         ),
         (GLOBAL, "1", "1", Outcome::Routed { width: 1 }, "routed 1\n"),
         (LEAP, "1", "1", unfit, "fault: route line 0 code 500\n"),
         ("Array\n", "1", "1", bad, "fault: route line 0 code 400\n"),
-        (ONE, "0", "1", Outcome::Usage { code: 3 }, "usage: code 3\n"),
-        (
-            ONE,
-            "65",
-            "1",
-            Outcome::Usage { code: 3 },
-            "usage: code 3\n",
-        ),
-        (
-            ONE,
-            "64",
-            "100000001",
-            Outcome::Usage { code: 3 },
-            "usage: code 3\n",
-        ),
+        (ONE, "0", "1", usage, "usage: code 3\n"),
+        (ONE, "65", "1", usage, "usage: code 3\n"),
+        (ONE, "64", "100000001", usage, "usage: code 3\n"),
     ];
-    for (text, width, attempts, outcome, line) in cases {
-        let words = words(alloc, &["route", "one.route", width, attempts, "out"])?;
-        let mut shelf = MemShelf::new(alloc, Vec::new(alloc));
-        let answer = run(alloc, &words, &mut desk(alloc, text, &[])?, &mut shelf);
+    for (text, width, budget, outcome, line) in cases {
+        let (answer, shelf) = routed(alloc, text.as_bytes(), width, budget, &[])?;
         assert_eq!(rt; answer, outcome, "at {line}");
         assert_eq!(rt; shelf.said(), line.as_bytes());
-        let is_written = matches!(outcome, Outcome::Routed { .. });
-        assert_eq!(rt; shelf.file("out.route").is_some(), is_written, "at {line}");
+        let is_routed = matches!(outcome, Outcome::Routed { .. });
+        assert_eq!(rt; shelf.file("out.route").is_some(), is_routed, "at {line}");
+        let is_refuted = matches!(outcome, Outcome::Unroutable { .. });
+        assert_eq!(rt; shelf.file("out.cnf").is_some(), is_refuted, "at {line}");
+        assert_eq!(rt; shelf.file("out.lrat").is_some(), is_refuted, "at {line}");
     }
     Ok(())
 }
@@ -137,14 +145,75 @@ fn answers_of_worked_rows(rt: HostRuntime) -> Result<(), Fail> {
 #[test]
 fn the_routing_is_written_byte_for_byte(rt: HostRuntime) -> Result<(), Fail> {
     let alloc = rt.alloc();
-    for text in [ONE, GLOBAL] {
-        let words = words(alloc, &["route", "one.route", "1", "100", "out"])?;
-        let mut shelf = MemShelf::new(alloc, Vec::new(alloc));
-        let answer = run(alloc, &words, &mut desk(alloc, text, &[])?, &mut shelf);
+    for (text, budget) in [(ONE, "100"), (GLOBAL, "100"), (GLOBAL, "1")] {
+        let (answer, shelf) = routed(alloc, text.as_bytes(), "1", budget, &[])?;
         assert_eq!(rt; answer, Outcome::Routed { width: 1 });
-        assert_eq!(rt; shelf.file("out.route"), Some(text.as_bytes()));
+        let route = written(&shelf, "out.route")?;
+        assert_eq!(rt; route, text.as_bytes());
         assert!(rt; shelf.file("one.route").is_none());
     }
+    Ok(())
+}
+
+// Whether a text has a line.
+fn has_line(text: &[u8], line: &[u8]) -> bool {
+    text.split(|byte| *byte == b'\n').any(|found| found == line)
+}
+
+#[test]
+fn two_nets_of_a_cell_have_two_tracks(rt: HostRuntime) -> Result<(), Fail> {
+    let alloc = rt.alloc();
+    let (answer, shelf) = routed(alloc, TWO.as_bytes(), "2", "100", &[])?;
+    assert_eq!(rt; answer, Outcome::Routed { width: 2 });
+    let route = written(&shelf, "out.route")?;
+    assert!(rt; has_line(route, b" CHANX (1,0)  Track: 0  "));
+    assert!(rt; has_line(route, b" CHANX (1,0)  Track: 1  "));
+    Ok(())
+}
+
+#[test]
+fn refutations_are_accepted(rt: HostRuntime) -> Result<(), Fail> {
+    let alloc = rt.alloc();
+    for (text, width, budget) in [(TWO, "1", "10"), (THREE, "2", "729")] {
+        let (_, shelf) = routed(alloc, text.as_bytes(), width, budget, &[])?;
+        let cnf = written(&shelf, "out.cnf")?;
+        let lrat = written(&shelf, "out.lrat")?;
+        let answer = checked(&rt, alloc, cnf, lrat, "accepted\n")?;
+        assert_eq!(rt; answer, Outcome::Accepted, "at width {width}");
+        if width == "1" {
+            assert_eq!(rt; cnf, TWO_CNF.as_bytes());
+        }
+    }
+    Ok(())
+}
+
+// Five nets through one cell have 20 variables and 75 clauses at width 4: 5 that a net has a track,
+// 30 that it has no two, 40 that no two nets have one.
+#[test]
+fn a_spent_budget_leaves_it_open(rt: HostRuntime) -> Result<(), Fail> {
+    let alloc = rt.alloc();
+    let mut text = Vec::from_slice(alloc, b"Array size: 2 x 1 logic blocks.\nRouting:\n")?;
+    for k in 0..5 {
+        push_pad_net(&mut text, k, b"")?;
+    }
+    let (answer, shelf) = routed(alloc, &text, "4", "1", &[])?;
+    let undecided = Outcome::Undecided {
+        width: 4,
+        learned: 1,
+    };
+    assert_eq!(rt; answer, undecided);
+    assert_eq!(rt; status(&answer), 2);
+    assert_eq!(rt;
+        shelf.said(),
+        b"undecided 4 after 1 learned clauses\n".as_slice()
+    );
+    let cnf = written(&shelf, "out.cnf")?;
+    assert!(rt; cnf.starts_with(b"p cnf 20 75\n"));
+    let lrat = written(&shelf, "out.lrat")?;
+    assert!(rt; lrat.starts_with(b"76 "));
+    assert_eq!(rt; lrat.iter().filter(|byte| **byte == b'\n').count(), 1);
+    let answer = checked(&rt, alloc, cnf, lrat, "not accepted: step 2 cause 7\n")?;
+    assert_eq!(rt; answer, Outcome::NotAccepted { step: 2, cause: 7 });
     Ok(())
 }
 
@@ -179,58 +248,6 @@ fn words_that_are_not_taken(rt: HostRuntime) -> Result<(), Fail> {
     Ok(())
 }
 
-#[test]
-fn each_call_of_the_desk_fails_in_turn(rt: HostRuntime) -> Result<(), Fail> {
-    let alloc = rt.alloc();
-    let words = words(alloc, &["route", "one.route", "1", "100", "out"])?;
-    // A start, a read of the text and a read of its end.
-    for call in 1..=3 {
-        let mut shelf = MemShelf::new(alloc, Vec::new(alloc));
-        let answer = run(alloc, &words, &mut desk(alloc, ONE, &[call])?, &mut shelf);
-        assert_eq!(rt; answer, Outcome::ReadFault { file: 4 });
-        assert_eq!(rt; shelf.said(), b"read fault: route\n".as_slice());
-        assert!(rt; shelf.file("out.route").is_none());
-    }
-    let mut shelf = MemShelf::new(alloc, Vec::new(alloc));
-    let answer = run(alloc, &words, &mut desk(alloc, ONE, &[4])?, &mut shelf);
-    assert_eq!(rt; answer, Outcome::Routed { width: 1 });
-    Ok(())
-}
-
-#[test]
-fn each_call_of_the_shelf_fails_in_turn(rt: HostRuntime) -> Result<(), Fail> {
-    let alloc = rt.alloc();
-    let words = words(alloc, &["route", "one.route", "1", "100", "out"])?;
-    // A create, an append of all, a finish and a say.
-    let whole = Some(ONE.as_bytes());
-    let cut = b"write fault: slot 1\n".as_slice();
-    let cases = [
-        (1, Outcome::WriteFault { slot: 1 }, None, cut),
-        (
-            2,
-            Outcome::WriteFault { slot: 1 },
-            Some(b"".as_slice()),
-            cut,
-        ),
-        (3, Outcome::WriteFault { slot: 1 }, whole, cut),
-        (4, Outcome::WriteFault { slot: 0 }, whole, b"".as_slice()),
-        (
-            5,
-            Outcome::Routed { width: 1 },
-            whole,
-            b"routed 1\n".as_slice(),
-        ),
-    ];
-    for (call, outcome, file, said) in cases {
-        let mut shelf = MemShelf::new(alloc, Vec::from_slice(alloc, &[call])?);
-        let answer = run(alloc, &words, &mut desk(alloc, ONE, &[])?, &mut shelf);
-        assert_eq!(rt; answer, outcome, "at call {call}");
-        assert_eq!(rt; shelf.file("out.route"), file, "at call {call}");
-        assert_eq!(rt; shelf.said(), said, "at call {call}");
-    }
-    Ok(())
-}
-
 // The calls from this one on.
 fn from_call(alloc: Global, first: u64) -> Result<Vec<u64>, Fail> {
     let mut calls = Vec::new(alloc);
@@ -241,46 +258,85 @@ fn from_call(alloc: Global, first: u64) -> Result<Vec<u64>, Fail> {
 }
 
 #[test]
-fn every_call_of_the_desk_fails_from_one_on(rt: HostRuntime) -> Result<(), Fail> {
+fn calls_of_the_desk_fail(rt: HostRuntime) -> Result<(), Fail> {
     let alloc = rt.alloc();
     let words = words(alloc, &["route", "one.route", "1", "100", "out"])?;
-    for call in 1..=4 {
-        let mut shelf = MemShelf::new(alloc, Vec::new(alloc));
-        let fail = from_call(alloc, call)?;
-        let answer = run(alloc, &words, &mut desk(alloc, ONE, &fail)?, &mut shelf);
-        if call == 4 {
-            assert_eq!(rt; answer, Outcome::Routed { width: 1 });
-        } else {
-            assert_eq!(rt;
-                answer,
-                Outcome::ReadFault { file: 4 },
-                "from call {call} on"
-            );
+    // A start, a read of the text and a read of its end: each alone, and with all after it.
+    for call in 1..=3 {
+        for fail in [Vec::from_slice(alloc, &[call])?, from_call(alloc, call)?] {
+            let mut shelf = MemShelf::new(alloc, Vec::new(alloc));
+            let answer = run(alloc, &words, &mut desk(alloc, ONE, &fail)?, &mut shelf);
+            assert_eq!(rt; answer, Outcome::ReadFault { file: 4 }, "at call {call}");
+            assert_eq!(rt; shelf.said(), b"read fault: route\n".as_slice());
+            assert!(rt; shelf.file("out.route").is_none());
         }
-        assert_eq!(rt; shelf.file("out.route").is_some(), call == 4);
     }
+    let mut shelf = MemShelf::new(alloc, Vec::new(alloc));
+    let answer = run(alloc, &words, &mut desk(alloc, ONE, &[4])?, &mut shelf);
+    assert_eq!(rt; answer, Outcome::Routed { width: 1 });
     Ok(())
 }
 
 #[test]
-fn every_call_of_the_shelf_fails_from_one_on(rt: HostRuntime) -> Result<(), Fail> {
+fn calls_of_the_shelf_fail_for_a_routing(rt: HostRuntime) -> Result<(), Fail> {
     let alloc = rt.alloc();
-    let words = words(alloc, &["route", "one.route", "1", "100", "out"])?;
-    // The report of a fault of the file cannot be said either, which leaves the outcome.
+    // A create, an append of all, a finish and a say: each alone, and with all after it. Where all
+    // fail, the report of a fault of the file cannot be said either, which leaves the outcome.
     let whole = Some(ONE.as_bytes());
+    let cut = b"write fault: slot 1\n".as_slice();
     let cases = [
-        (1, Outcome::WriteFault { slot: 1 }, None),
-        (2, Outcome::WriteFault { slot: 1 }, Some(b"".as_slice())),
-        (3, Outcome::WriteFault { slot: 1 }, whole),
-        (4, Outcome::WriteFault { slot: 0 }, whole),
+        (1, 1, None, cut),
+        (2, 1, Some(b"".as_slice()), cut),
+        (3, 1, whole, cut),
+        (4, 0, whole, b"".as_slice()),
     ];
-    for (call, outcome, file) in cases {
-        let mut shelf = MemShelf::new(alloc, from_call(alloc, call)?);
-        let answer = run(alloc, &words, &mut desk(alloc, ONE, &[])?, &mut shelf);
-        assert_eq!(rt; answer, outcome, "from call {call} on");
+    for (call, slot, file, said) in cases {
+        let (answer, shelf) = routed(alloc, ONE.as_bytes(), "1", "100", &[call])?;
+        assert_eq!(rt; answer, Outcome::WriteFault { slot }, "at call {call}");
+        assert_eq!(rt; shelf.file("out.route"), file, "at call {call}");
+        assert_eq!(rt; shelf.said(), said, "at call {call}");
+        let fail = from_call(alloc, call)?;
+        let (answer, shelf) = routed(alloc, ONE.as_bytes(), "1", "100", &fail)?;
+        assert_eq!(rt; answer, Outcome::WriteFault { slot }, "from call {call} on");
         assert_eq!(rt; shelf.file("out.route"), file, "from call {call} on");
         assert_eq!(rt; shelf.said(), b"".as_slice(), "from call {call} on");
     }
+    let (answer, shelf) = routed(alloc, ONE.as_bytes(), "1", "100", &[5])?;
+    assert_eq!(rt; answer, Outcome::Routed { width: 1 });
+    assert_eq!(rt; shelf.file("out.route"), whole);
+    Ok(())
+}
+
+#[test]
+fn calls_of_the_shelf_fail_for_a_refutation(rt: HostRuntime) -> Result<(), Fail> {
+    let alloc = rt.alloc();
+    let (_, good) = routed(alloc, TWO.as_bytes(), "1", "10", &[])?;
+    let log = Some(written(&good, "out.lrat")?.len());
+    // A create, an append of all and a finish, for each of the two files; and a say. The files by
+    // their lengths.
+    let cnf = Some(TWO_CNF.len());
+    let cases = [
+        (1, 2, None, None),
+        (2, 2, Some(0), None),
+        (3, 2, cnf, None),
+        (4, 3, cnf, None),
+        (5, 3, cnf, Some(0)),
+        (6, 3, cnf, log),
+        (7, 0, cnf, log),
+    ];
+    for (call, slot, clauses, steps) in cases {
+        for fail in [Vec::from_slice(alloc, &[call])?, from_call(alloc, call)?] {
+            let (answer, shelf) = routed(alloc, TWO.as_bytes(), "1", "10", &fail)?;
+            assert_eq!(rt; answer, Outcome::WriteFault { slot }, "at call {call}");
+            let cnf_length = shelf.file("out.cnf").map(|text| text.len());
+            assert_eq!(rt; cnf_length, clauses, "at call {call}");
+            let log_length = shelf.file("out.lrat").map(|text| text.len());
+            assert_eq!(rt; log_length, steps, "at call {call}");
+            assert!(rt; shelf.file("out.route").is_none());
+        }
+    }
+    let (answer, _) = routed(alloc, TWO.as_bytes(), "1", "10", &[8])?;
+    assert_eq!(rt; answer, Outcome::Unroutable { width: 1 });
     Ok(())
 }
 
@@ -419,15 +475,15 @@ fn checked(
     rt: &impl Abort,
     alloc: Global,
     cnf: &[u8],
-    lrat: &str,
+    lrat: &[u8],
     line: &str,
 ) -> Result<Outcome, Fail> {
     let words = words(alloc, &["check", "two.cnf", "two.lrat"])?;
-    let named = [("two.cnf", cnf), ("two.lrat", lrat.as_bytes())];
+    let named = [("two.cnf", cnf), ("two.lrat", lrat)];
     let mut desk = desk_with(alloc, &named, &[])?;
     let mut shelf = MemShelf::new(alloc, Vec::new(alloc));
     let outcome = run(alloc, &words, &mut desk, &mut shelf);
-    assert_eq!(rt; shelf.said(), line.as_bytes(), "at {lrat}");
+    assert_eq!(rt; shelf.said(), line.as_bytes());
     Ok(outcome)
 }
 
@@ -477,7 +533,7 @@ fn refutations_of_worked_rows(rt: HostRuntime) -> Result<(), Fail> {
         ("4 0 1\n", bad(1, 702), "fault: lrat line 1 code 702\n"),
     ];
     for (lrat, outcome, line) in cases {
-        let answer = checked(&rt, alloc, TWO_CNF.as_bytes(), lrat, line)?;
+        let answer = checked(&rt, alloc, TWO_CNF.as_bytes(), lrat.as_bytes(), line)?;
         assert_eq!(rt; answer, outcome, "at {lrat}");
     }
     Ok(())
@@ -513,7 +569,7 @@ fn clause_files_that_do_not_read(rt: HostRuntime) -> Result<(), Fail> {
         ),
     ];
     for (cnf, outcome, line) in cases {
-        let answer = checked(&rt, alloc, cnf.as_bytes(), "4 x 0\n", line)?;
+        let answer = checked(&rt, alloc, cnf.as_bytes(), b"4 x 0\n", line)?;
         assert_eq!(rt; answer, outcome, "at {cnf}");
     }
     Ok(())
@@ -528,11 +584,17 @@ fn the_clauses_of_three_nets_are_refuted(rt: HostRuntime) -> Result<(), Fail> {
     assert_eq!(rt; answer, Outcome::Done);
     let cnf = shelf.file("out.cnf").ok_or("no clauses")?;
     let lrat = "13 -1 0 7 9 2 3 12 0\n14 0 13 1 8 10 2 3 11 0\n";
-    let answer = checked(&rt, alloc, cnf, lrat, "accepted\n")?;
+    let answer = checked(&rt, alloc, cnf, lrat.as_bytes(), "accepted\n")?;
     assert_eq!(rt; answer, Outcome::Accepted);
     // Without its first step the second has no clause 13.
     let cut = "14 0 13 1 8 10 2 3 11 0\n";
-    let answer = checked(&rt, alloc, cnf, cut, "not accepted: step 1 cause 1\n")?;
+    let answer = checked(
+        &rt,
+        alloc,
+        cnf,
+        cut.as_bytes(),
+        "not accepted: step 1 cause 1\n",
+    )?;
     assert_eq!(rt; answer, Outcome::NotAccepted { step: 1, cause: 1 });
     Ok(())
 }

@@ -14,7 +14,7 @@ pub enum WordsFault {
     Command,
     /// There are not as many words after it as it takes.
     Count,
-    /// The width or the number of attempts is no whole number in its range.
+    /// The width or the budget is no whole number in its range.
     Number,
 }
 
@@ -50,19 +50,19 @@ fn read_route_words(words: &[String]) -> Result<RouteWords<'_>, WordsFault>
     ensures ok { IfOk result (λ w. route_job (words_of words.now) ≡ Ok (Routes (route_said w))) }
     ensures err { IfErr result (λ e. route_job (words_of words.now) ≡ Err (words_code e)) }
 {
-    let [file, width, attempts, prefix] = words else {
+    let [file, width, budget, prefix] = words else {
         return Err(WordsFault::Count);
     };
     let Some(width) = number_from_one(width.as_str(), 64) else {
         return Err(WordsFault::Number);
     };
-    let Some(attempts) = number_from_one(attempts.as_str(), 100_000_000) else {
+    let Some(budget) = number_from_one(budget.as_str(), 100_000_000) else {
         return Err(WordsFault::Number);
     };
     Ok(RouteWords {
         file: file.as_str(),
         width: width as u32,
-        attempts,
+        budget,
         prefix: prefix.as_str(),
     })
 }

@@ -1,8 +1,9 @@
-use Rattle.std.proofs.Common.{◌≡◌, ◌∷◌, refl, w64}
+use Rattle.std.proofs.Common.{◌≡◌, ◌∷◌, refl, sym, ◌∙◌, w64}
 use Rattle.std.proofs.lemmas.Int.{to_z-of_z}
 use Rattle.fpga_text.specs.Words.{words}
 use Rattle.fpga_text.proofs.CutLemmas.{words-part}
 use Rattle.fpga_text.proofs.FrontLemmas.{number_some, small_fits}
+use Rattle.fpga_text.proofs.ShortLemmas.{short-next}
 use Rattle.fpga_text.proofs.line.Line.next_number.Goals as goal
 use Rattle.fpga_text.proofs.line.Line.next_number.Goals.{After-part_at}
 
@@ -19,3 +20,9 @@ returns-clause-number c =
 pub returns-clause-after : goal.returns-clause-after
 returns-clause-after c =
     rw (← c.self.view_is, cut (goal.at.returns-clause-after c).After-part_at, c.from_first_word-self-inside.ensures.words) refl
+
+pub returns-in_default-clause-short : goal.returns-in_default-clause-short
+returns-in_default-clause-short c = rw (← c.self.view_is) (c.in_default.ensures.short ∙ sym (short-next c.self.inside.rest.now c.self.invariant))
+
+pub returns-clause-short : goal.returns-clause-short
+returns-clause-short c = rw (← c.self.view_is) (c.in-Some.ensures.short ∙ sym (short-next c.self.inside.rest.now c.self.invariant))

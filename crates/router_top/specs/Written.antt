@@ -1,0 +1,67 @@
+-- What is written: one file, or the clauses and a log behind them.
+use Rattle.std.specs.Prelude.{◌≡◌, ◌⊎◌, ℕ, ◌≤◌, List, length, take, option_map, false}
+use Rattle.std.specs.FinMap.{insert}
+use Rattle.desk_io.specs.Files.{Bytes, HasRisen}
+use Rattle.desk_io.specs.ShelfState.{FailsToCreate, ShelfState, after_create, after_finish}
+use Rattle.fpga_types.specs.declared.route.RouteText.{RouteText}
+use Rattle.route_encode.specs.Encoding.{cnf_subset}
+use Rattle.sat_clause.specs.Formula.{Cnf}
+use Rattle.sat_clause.specs.Step.{Step}
+use Rattle.sat_text.specs.Printed.{cnf_text, log_text}
+use Rattle.router_top.specs.Asked.{HasFew, HasTooMany, cnf_name, lrat_name}
+use Rattle.router_top.specs.Command.{EncodeJob, Word}
+use Rattle.router_top.specs.declared.outcome.Outcome.{Outcome}
+use Rattle.router_top.specs.declared.outcome.Outcome.TheVariants.{Done, Limit, WriteFault, OutOfMemory}
+
+-- a shelf after a file of this name was written, with this text
+abbrev pub after_writing : ShelfState → Bytes → Bytes → ShelfState
+after_writing shelf name text = after_finish (record (after_create shelf name) {
+  files = option_map (λ files. insert files name text) shelf.files;
+})
+
+-- a file of this name was being written, and so many bytes at the front of its text were
+pub record IsCutShort (before : ShelfState) (name text : Bytes) (now : ShelfState) : Type 0 where
+  pub count : ℕ
+  pub within : count ≤ length text
+  pub files : now.files ≡ option_map (λ files. insert files name (take count text)) before.files
+  pub said : now.said ≡ before.said
+  pub risen : HasRisen before.faults now.faults
+  pub say_failed : now.say_failed ≡ false
+
+-- a file of this name could not be created, or a front part of its text was written
+abbrev pub FailsToWrite : ShelfState → Bytes → Bytes → ShelfState → Type 0
+FailsToWrite before name text now =
+    FailsToCreate before name now ⊎ IsCutShort before name text now
+
+-- a shelf after the clauses were written, and then the log
+abbrev pub after_proof : ShelfState → Word → Cnf → List Step → ShelfState
+after_proof shelf prefix cnf log =
+    after_writing (after_writing shelf (cnf_name prefix) (cnf_text cnf)) (lrat_name prefix) (log_text log)
+
+-- the clauses were not written whole, which is slot 2; or they were, but not the log behind them,
+-- which is slot 3
+abbrev pub FailsToWriteProof : ShelfState → Word → Cnf → List Step → (slot : ℕ) → ShelfState → Type 0
+FailsToWriteProof before prefix cnf log slot now =
+    ((slot ≡ 2) × FailsToWrite before (cnf_name prefix) (cnf_text cnf) now)
+    ⊎ ((slot ≡ 3) × FailsToWrite (after_writing before (cnf_name prefix) (cnf_text cnf))
+    (lrat_name prefix) (log_text log) now)
+
+-- what is left where the clauses and the log were not both written, by what the run comes to
+abbrev pub IsProofFault : ShelfState → Word → Cnf → List Step → (now : ShelfState) → Outcome → Type 0
+IsProofFault before prefix cnf log now (WriteFault slot) =
+    FailsToWriteProof before prefix cnf log slot now
+IsProofFault before prefix cnf log now OutOfMemory = now ≡ before
+IsProofFault before prefix cnf log now outcome = ⊥
+
+-- what the writing of the clauses of the route leaves
+abbrev pub WritesCnf : EncodeJob → RouteText → (before now : ShelfState) → Outcome → Type 0
+WritesCnf job route before now Done =
+    HasFew job.width route
+    × (now ≡ after_writing before (cnf_name job.prefix) (cnf_text (cnf_subset job.width route)))
+WritesCnf job route before now (WriteFault slot) =
+    (slot ≡ 2) × HasFew job.width route
+    × FailsToWrite before (cnf_name job.prefix) (cnf_text (cnf_subset job.width route)) now
+WritesCnf job route before now (Limit code count) =
+    (code ≡ 901) × HasTooMany job.width count route × (now ≡ before)
+WritesCnf job route before now OutOfMemory = now ≡ before
+WritesCnf job route before now outcome = ⊥
