@@ -75,14 +75,14 @@ def route(program, width, budget, *kind):
     for name in ("found.route", "found.cnf", "found.lrat"):
         if os.path.exists(name):
             os.remove(name)
-    seconds, memory = run([program, "route", "search.route", str(width), str(budget), "found"], statuses=(0, 1, 2))
+    seconds, _ = run([program, "route", "search.route", str(width), str(budget), "found"], statuses=(0, 1, 2))
     name = f"route, {' '.join(kind)} at width {width}"
     if os.path.exists("found.lrat"):
         with open("found.lrat", "rb") as log:
             learned = sum(1 for _ in log)
-        print(f"{name}: {seconds:.3f} s, {learned} clauses learned, a log of {os.path.getsize('found.lrat')} bytes, at most {memory / MEGABYTE:.0f} MB of memory")
+        print(f"{name}: {seconds:.3f} s, {learned} clauses learned, a log of {os.path.getsize('found.lrat')} bytes")
     else:
-        print(f"{name}: routed in {seconds:.3f} s, at most {memory / MEGABYTE:.0f} MB of memory")
+        print(f"{name}: routed in {seconds:.3f} s")
     run([program, "encode", "search.route", str(width), "search"])
     if shutil.which("minisat"):
         minisat("search.cnf")
