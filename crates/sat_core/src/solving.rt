@@ -19,8 +19,9 @@ use std::alloc::{AllocError, Global};
 /// in order; none but the empty one has all literals of a clause that is live. With `keep` no clause
 /// is deleted; today none is deleted either way.
 ///
-/// A clause that is learned takes a number of passes over all clauses, at most one for each variable
-/// that it makes true.
+/// Each clause that is learned costs passes over all clauses: at most one for each literal that becomes
+/// true, one more for each decision, of which there is at most one a variable, and the last. A clause is
+/// kept twice, for the search and in the log.
 ///
 /// # Errors
 /// Where memory is short. What the log has by then still follows.
