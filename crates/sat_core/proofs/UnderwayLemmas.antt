@@ -97,10 +97,14 @@ pub underway_deletes_nothing : (formula : Cnf) (learned : List Clause) (log : Li
 underway_deletes_nothing formula learned log underway =
     deletions_from_adds (suc (length formula.clauses)) log underway.adds
 
+pub underway_count : (formula : Cnf) (learned : List Clause) (log : List Step) → IsUnderway formula learned log →
+    added_count log ≡ length log
+underway_count formula learned log underway = count_from_adds (suc (length formula.clauses)) log underway.adds
+
 pub underway_spends : (formula : Cnf) (learned : List Clause) (log : List Step) (budget : ℕ) → IsUnderway formula learned log →
     length log ≡ budget → SpendsAll budget log
 underway_spends formula learned log budget underway many = record {
-  all = count_from_adds (suc (length formula.clauses)) log underway.adds ∙ many;
+  all = underway_count formula learned log underway ∙ many;
   none_empty = none_empty (suc (length formula.clauses)) log underway.adds;
 }
 
@@ -109,7 +113,7 @@ module _ (formula : Cnf) (learned : List Clause) (before log : List Step) (under
   done_refutes budget below =
       let count : added_count log ≡ suc (length before) =
       ap added_count done.last ∙ count_push before done.id [] done.hints
-      ∙ ap suc (count_from_adds (suc (length formula.clauses)) before underway.adds) in
+      ∙ ap suc (underway_count formula learned before underway) in
       record {
         accepts = done.accepts;
         within = omega (arith, count, below);

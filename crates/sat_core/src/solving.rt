@@ -3,7 +3,7 @@
 ghost use Rattle.std.specs.Prelude.{◌≡◌, ◌+◌, ◌≤◌, [], length, IfOk, IsTrue};
 ghost use Rattle.sat_clause.specs.Learned.{deletions};
 ghost use Rattle.sat_core.specs.Answer.{IsAnswer};
-ghost use Rattle.sat_core.specs.SearchLog.{IsSearchLog};
+ghost use Rattle.sat_core.specs.SearchLog.{IsSearchLog, added_count};
 
 use crate::Answer;
 use crate::search::Search;
@@ -37,6 +37,7 @@ pub fn solve(
     requires fresh { log.old.steps ≡ [] }
     ensures answer { IfOk result (IsAnswer formula.now.cnf budget log.new.steps) }
     ensures logged { IsSearchLog formula.now.cnf log.new.steps }
+    ensures within { added_count log.new.steps ≤ budget }
     ensures kept { IsTrue keep → deletions log.new.steps ≡ 0 }
 {
     let _ = keep;

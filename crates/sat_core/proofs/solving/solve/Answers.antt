@@ -2,9 +2,9 @@ use Rattle.std.proofs.Common.{◌≡◌, ◌+◌, ◌∙◌, ◌++◌, length, r
 use Rattle.std.proofs.lemmas.List.{length-append}
 use Rattle.sat_clause.specs.Formula.{Cnf, Satisfies}
 use Rattle.sat_clause.specs.Learned.{deletions}
-use Rattle.sat_core.specs.SearchLog.{IsSearchLog}
+use Rattle.sat_core.specs.SearchLog.{IsSearchLog, added_count}
 use Rattle.sat_core.specs.Underway.{IsDone, IsTurn, IsUnderway}
-use Rattle.sat_core.proofs.UnderwayLemmas.{done_deletes_nothing, done_refutes, underway_deletes_nothing, underway_log, underway_spends, underway_start}
+use Rattle.sat_core.proofs.UnderwayLemmas.{done_deletes_nothing, done_refutes, underway_deletes_nothing, underway_count, underway_log, underway_spends, underway_start}
 use Rattle.sat_core.proofs.solving.solve.Goals as goal
 
 pub loop-init : goal.loop-init
@@ -95,3 +95,22 @@ returns-clause-logged c =
 pub returns-clause-kept : goal.returns-clause-kept
 returns-clause-kept c = λ keep.
     underway_deletes_nothing c.args.formula.now.cnf c.loop.search.learned c.loop.log.steps c.loop.invariant.underway
+
+pub returns-in_err-take_turn-clause-within : goal.returns-in_err-take_turn-clause-within
+returns-in_err-take_turn-clause-within c =
+    let count = ap added_count c.in_err-take_turn.ensures.err
+    ∙ underway_count c.args.formula.now.cnf c.loop.search.learned c.loop.log.steps c.loop.invariant.underway in
+    omega (arith, count, c.loop.invariant.many, c.loop-test.true)
+
+pub returns-in-Model-clause-within : goal.returns-in-Model-clause-within
+returns-in-Model-clause-within c =
+    let says = subst (IsTurn c.loop.search.formula c.take_turn.new.search.learned c.loop.log.steps c.take_turn.new.log.steps) c.in-Model.is c.in_ok-take_turn.ensures.ok in
+    let count = ap added_count says.1
+    ∙ underway_count c.args.formula.now.cnf c.loop.search.learned c.loop.log.steps c.loop.invariant.underway in
+    omega (arith, count, c.loop.invariant.many, c.loop-test.true)
+
+pub returns-in-Refuted-clause-within : goal.returns-in-Refuted-clause-within
+returns-in-Refuted-clause-within c = (returns-in-Refuted-clause-answer c).within
+
+pub returns-clause-within : goal.returns-clause-within
+returns-clause-within c = let all = (returns-clause-answer c).all in omega (arith, all)
