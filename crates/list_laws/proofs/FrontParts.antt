@@ -15,7 +15,8 @@ all-front P (x ∷ xs) = All-nil P
 -- of each of the front ones and of the next
 pub all-next : {T : Type 0} (P : T → Type 0) (xs : List T) (i : ℕ) (x : T) →
     slice_get xs i ≡ Some x → All P (take i xs) → P x → All P (take (i + 1) xs)
-all-next P xs i x at front here = rw (add-one, take-get xs i x at) (All-push P (take i xs) x front here)
+all-next P xs i x at front here =
+    rw (add-one, take-get xs i x at) (All-push P (take i xs) x front here)
 
 -- of each of all
 pub all-whole : {T : Type 0} (P : T → Type 0) (xs : List T) (i : ℕ) → i ≡ length xs →

@@ -59,7 +59,8 @@ split-at (x ∷ xs) zero d h = refl
 split-at {T} (x ∷ xs) (suc k) d h = ap (λ (zs : List T). x ∷ zs) (split-at xs k d (omega arith))
 
 -- the last of a list with one more is that one
-pub last-push : {T : Type 0} (o : Option T) (xs : List T) (x : T) → last_or o (xs ++ x ∷ []) ≡ Some x
+pub last-push : {T : Type 0} (o : Option T) (xs : List T) (x : T) →
+    last_or o (xs ++ x ∷ []) ≡ Some x
 last-push o [] x = refl
 last-push o (y ∷ ys) x = last-push (Some y) ys x
 
