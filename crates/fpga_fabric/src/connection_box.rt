@@ -6,10 +6,10 @@ ghost use Rattle.fpga_fabric.specs.Laws.{IsOnSwitch, opened_count};
 
 use fpga_types::{Arch, PinAt};
 
-/// How many tracks of a channel of `width`, from 1 to 64, the pin's connection box opens: its share of
-/// the width, rounded to the nearest, or its number of tracks, each given in millionths by the
-/// architecture; at least 1 and at most all. So many tracks are open, each once. A pin of a logic block
-/// is to be one of the architecture.
+/// How many tracks of a channel of `width`, from 1 to 64, the pin's connection box opens: its share
+/// of the width, rounded to the nearest, or its number of tracks, each given in millionths by the
+/// architecture; at least 1 and at most all. So many tracks are open, each once. A pin of a logic
+/// block is to be one of the architecture.
 ///
 /// Takes constant time and no memory.
 pub fn fc(arch: &Arch, width: u32, pin: PinAt) -> u32
@@ -69,8 +69,8 @@ fn shift(pin: PinAt) -> u32
     }
 }
 
-/// Whether the pin opens the track in the cells that it touches: one of its switches, which stand evenly
-/// over the width from the pin's own number on, is on the track.
+/// Whether the pin opens the track in the cells that it touches: one of its switches, which stand
+/// evenly over the width from the pin's own number on, is on the track.
 ///
 /// Takes at most as many steps as the pin opens tracks, and no memory.
 pub fn opens(arch: &Arch, width: u32, pin: PinAt, track: u32) -> bool

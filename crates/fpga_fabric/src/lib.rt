@@ -1,5 +1,5 @@
-//! The fabric of an island-style FPGA: where cells meet, which tracks switch blocks join, which cells
-//! pins touch and which tracks their connection boxes open.
+//! The fabric of an island-style FPGA: where cells meet, which tracks switch blocks join, which
+//! cells pins touch and which tracks their connection boxes open.
 #![tactic(auto)]
 
 mod connection_box;

@@ -6,8 +6,8 @@ ghost use Rattle.fpga_types.specs.Fabric.{Meets, MeetsAt, cell_on, is_cell, same
 
 use fpga_types::{Axis, Cell, Grid, Side, SwitchAt};
 
-/// The switch block at which two different cells of the array meet, the side of it that `a` is on and
-/// the side that `b` is on. None where no switch block has both. They never meet at two.
+/// The switch block at which two different cells of the array meet, the side of it that `a` is on
+/// and the side that `b` is on. None where no switch block has both. They never meet at two.
 ///
 /// Takes constant time and no memory.
 pub fn meet(grid: Grid, a: Cell, b: Cell) -> Option<(SwitchAt, Side, Side)>

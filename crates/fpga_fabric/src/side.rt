@@ -6,9 +6,9 @@ ghost use Rattle.fpga_types.specs.Touching.{Touches, has_side, is_beside, is_on_
 
 use fpga_types::{Arch, Axis, Cell, Grid, PinAt, Side, SideSet};
 
-/// Whether the pin touches the cell: the cell is one of the array and lies along a side of the pin's
-/// block that the pin is on, or of the pad's place that looks into the array. A pin of a logic block is
-/// to be one of the architecture.
+/// Whether the pin touches the cell: the cell is one of the array and lies along a side of the
+/// pin's block that the pin is on, or of the pad's place that looks into the array. A pin of a
+/// logic block is to be one of the architecture.
 ///
 /// Takes constant time and no memory.
 pub fn touches(arch: &Arch, grid: Grid, pin: PinAt, cell: Cell) -> bool

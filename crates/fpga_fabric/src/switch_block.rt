@@ -5,13 +5,13 @@ ghost use Rattle.fpga_types.specs.Tracks.{mapped_track, universal_track, wilton_
 
 use fpga_types::{Pattern, Side};
 
-/// The track on side `to` of a switch block that `track` of side `from` is joined to, in a channel of
-/// `width` tracks, from 1 to 64. Back from `to` to `from` it leads to `track` again, and no other track
-/// of `from` leads to it. The same holds at the border of the array.
+/// The track on side `to` of a switch block that `track` of side `from` is joined to, in a channel
+/// of `width` tracks, from 1 to 64. Back from `to` to `from` it leads to `track` again, and no
+/// other track of `from` leads to it. The same holds at the border of the array.
 ///
-/// *Subset* is the disjoint block of VPR 4.30; *Wilton* follows Wilton's thesis (1997) as this project
-/// has it, and *universal* the blocks of Chang, Wong and Wong (1996): `docs/FORMATS.md` has the tables.
-/// Takes constant time and no memory.
+/// *Subset* is the disjoint block of VPR 4.30; *Wilton* follows Wilton's thesis (1997) as this
+/// project has it, and *universal* the blocks of Chang, Wong and Wong (1996): `docs/FORMATS.md` has
+/// the tables. Takes constant time and no memory.
 pub fn joined_track(pattern: Pattern, width: u32, from: Side, to: Side, track: u32) -> u32
     requires sides { from ≢ to }
     requires width { (1 ≤ width) × (width ≤ 64) }
