@@ -5,10 +5,12 @@
 
 mod grid;
 mod items;
+mod limits;
 mod problem;
 mod route;
 
 pub use grid::{Axis, Cell, Grid, PinAt, Side, SwitchAt, Wire};
 pub use items::Items;
+pub use limits::{NET_LIMIT, SIDE_LIMIT, SLOT_LIMIT, STEP_LIMIT, WIDTH_LIMIT};
 pub use problem::{PinStep, RouteStep, Slot};
 pub use route::{Elem, ElemKind, Label, Name, RouteNet, RouteText};
