@@ -27,7 +27,6 @@ fn follow_hints(
             return Ok(Some(Cause::NotLive));
         };
         match read_clause(set, clause) {
-            Reading::Missing => unreachable!(),
             Reading::Conflict => {
                 if i + 1 == hints.len() {
                     return Ok(None);

@@ -1,6 +1,6 @@
 //! What a clause says where some literals are false.
 
-ghost use Rattle.std.specs.Prelude.{◌≡◌, ◌≤◌, All, Some};
+ghost use Rattle.std.specs.Prelude.{◌≡◌, ◌≤◌, All};
 ghost use Rattle.sat_clause.specs.Literal.{IsWithin};
 ghost use Rattle.sat_clause.specs.Rup.{reading_of};
 
@@ -11,7 +11,7 @@ use sat_clause::{Lit, Reading};
 pub(crate) fn read_clause(set: &FalseSet, clause: &[Lit]) -> Reading
     requires size { set.now.size ≤ 2147483647 }
     requires within { All (IsWithin set.now.size) clause.now }
-    ensures value { result ≡ reading_of set.now.set (Some clause.now) }
+    ensures value { result ≡ reading_of set.now.set clause.now }
     ensures within { (l : Lit) → result ≡ Reading.Unit l → IsWithin set.now.size l }
 {
     let mut open: Option<Lit> = None;

@@ -1,13 +1,11 @@
-//! What a hint says where some literals are false.
+//! What a clause says where some literals are false.
 
 use crate::Lit;
 
-/// What the clause that a hint names says, where some literals are false. The others are open, and
-/// a literal that stands in it twice counts once.
+/// What a clause says where some literals are false. Its other literals are open, and one that
+/// stands in it twice counts once.
 #[derive(Clone, Copy, Debug, PartialEq, Eq)]
 pub enum Reading {
-    /// The hint names no live clause.
-    Missing,
     /// No literal is open, so the clause is false.
     Conflict,
     /// One literal is open, and the clause makes it true.
