@@ -47,12 +47,12 @@ rup_alike a b s t (h ∷ hints) live set =
     (elim (named b h) as (λ o. follow s o hints (λ l. rup a (negation l ∷ s) hints) ≡ follow t o hints (λ l. rup b (negation l ∷ t) hints)) [
       | None ↦ refl
       | Some clause ↦ rw (reading_alike s t clause set)
-        (elim (reading_of t clause) as (λ r. lead_on r hints (λ l. rup a (negation l ∷ s) hints) ≡ lead_on r hints (λ l. rup b (negation l ∷ t) hints)) [
-          | Conflict ↦ refl
-          | Unit l ↦ rup_alike a b (negation l ∷ s) (negation l ∷ t) hints live (λ m. ap (λ x. int_eq (negation l).code m.code || x) (set m))
-          | Satisfied ↦ refl
-          | Unresolved ↦ refl
-        ])
+          (elim (reading_of t clause) as (λ r. lead_on r hints (λ l. rup a (negation l ∷ s) hints) ≡ lead_on r hints (λ l. rup b (negation l ∷ t) hints)) [
+            | Conflict ↦ refl
+            | Unit l ↦ rup_alike a b (negation l ∷ s) (negation l ∷ t) hints live (λ m. ap (λ x. int_eq (negation l).code m.code || x) (set m))
+            | Satisfied ↦ refl
+            | Unresolved ↦ refl
+          ])
     ])
 
 pub put_alike : (a b : Live) (id : ℕ) (clause : Clause) → SameLive a b →

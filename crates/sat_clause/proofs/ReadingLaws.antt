@@ -151,10 +151,10 @@ two_open s p q c has_p has_q other p_open q_open = record {
   no_unit = λ l e.
       let all = (unit_is_open s l c e).0.rest in
       let is = λ (m : Lit) (has : Contains c m) (free : is_among s m ≡ false).
-          let same : m ≡ l = elim (All-contains (IsFalseOr s l) c m all has) [
-            | inl out ↦ absurd (both_ways _ free out)
-            | inr same ↦ same
-          ] in same
+      let same : m ≡ l = elim (All-contains (IsFalseOr s l) c m all has) [
+        | inl out ↦ absurd (both_ways _ free out)
+        | inr same ↦ same
+      ] in same
       in other (is p has_p p_open ∙ sym (is q has_q q_open));
 }
 

@@ -1,9 +1,10 @@
 //! What a clause says where some literals are false.
 
-ghost use Rattle.std.specs.Prelude.{◌≡◌, ◌≤◌, All, Some};
-ghost use Rattle.sat_clause.specs.Literal.{IsWithin};
+ghost use Rattle.std.specs.Prelude.{◌≡◌, ◌≤◌, All};
 ghost use Rattle.sat_clause.specs.Rup.{reading_of};
-ghost use Rattle.sat_core.specs.Trail.{falses};
+ghost use Rattle.sat_clause.specs.Literal.{IsWithin};
+ghost use Rattle.sat_clause.specs.Trail.{falses};
+ghost use Rattle.sat_core.specs.Trail.{literals};
 
 use crate::trail::Trail;
 use sat_clause::{Lit, Reading};
@@ -12,7 +13,7 @@ use sat_clause::{Lit, Reading};
 pub(crate) fn read_clause(trail: &Trail, clause: &[Lit]) -> Reading
     requires few { trail.now.vars ≤ 100000000 }
     requires within { All (IsWithin trail.now.vars) clause.now }
-    ensures value { result ≡ reading_of (falses trail.now.entries) (Some clause.now) }
+    ensures value { result ≡ reading_of (falses (literals trail.now.entries)) clause.now }
     ensures within { (l : Lit) → result ≡ Reading.Unit l → IsWithin trail.now.vars l }
 {
     let mut open: Option<Lit> = None;

@@ -1,13 +1,14 @@
 use Rattle.std.proofs.Common.{◌≡◌, ◌++◌, drop}
 use Rattle.std.specs.Prelude.{option_to_list}
 use Rattle.std.specs.Option.{ForSome}
-use Rattle.sat_clause.specs.Literal.{IsWithin}
 use Rattle.sat_clause.specs.Rup.{open_literals}
-use Rattle.sat_core.specs.Trail.{falses}
+use Rattle.sat_clause.specs.Literal.{IsWithin}
+use Rattle.sat_clause.specs.Trail.{falses}
+use Rattle.sat_core.specs.Trail.{literals}
 use Rattle.sat_core.proofs.reading.read_clause.Given as goal
 
 -- what was found, and the open literals of what is left, are the clause's open literals
 abbrev pub invariant-loop-l : goal.invariant-loop-l
 invariant-loop-l l =
-    (open_literals (falses l.trail.entries) l.clause ≡ option_to_list l.open ++ open_literals (option_to_list l.open ++ falses l.trail.entries) (drop l.l-index l.clause))
+    (open_literals (falses (literals l.trail.entries)) l.clause ≡ option_to_list l.open ++ open_literals (option_to_list l.open ++ falses (literals l.trail.entries)) (drop l.l-index l.clause))
     × ForSome l.open (IsWithin l.trail.vars)
