@@ -4,7 +4,7 @@ use Rattle.std.specs.Ordering.{int_eq}
 use Rattle.sat_clause.specs.declared.literal.Lit.{Lit}
 use Rattle.sat_clause.specs.declared.reading.Reading.TheVariants.{Conflict, Unit, Satisfied, Unresolved}
 use Rattle.sat_clause.specs.Literal.{Clause, negation, is_among}
-use Rattle.sat_clause.specs.Live.{Live, clause_at, named, put}
+use Rattle.sat_clause.specs.Live.{Live, SameLive, named, put}
 use Rattle.sat_clause.specs.Rup.{follow, lead_on, open_literals, reading_by, reading_of, rup}
 use Rattle.sat_clause.specs.Step.{Step, Added, Erased}
 use Rattle.sat_clause.specs.Judge.{take_out, erase, erase_fault, fault, after, is_empty_clause, judge_from, judge_step}
@@ -13,10 +13,6 @@ use Rattle.sat_clause.proofs.LiveLaws.{clause_at-without}
 -- two lists have the same literals
 abbrev pub SameSet : List Lit → List Lit → Type 0
 SameSet s t = (l : Lit) → is_among s l ≡ is_among t l
-
--- two maps have the same clauses
-abbrev pub SameLive : Live → Live → Type 0
-SameLive a b = (id : ℕ) → clause_at a id ≡ clause_at b id
 
 open_alike : (s t : List Lit) (clause : Clause) → SameSet s t →
     open_literals s clause ≡ open_literals t clause

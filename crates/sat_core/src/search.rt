@@ -15,10 +15,9 @@ ghost use Rattle.sat_core.specs.Trail.{literals};
 
 use crate::entry::Entry;
 use crate::lesson::Lesson;
-use crate::reading::read_clause;
 use crate::scan::Scan;
 use crate::trail::Trail;
-use sat_clause::{Formula, Lit, Reading};
+use sat_clause::{Formula, Lit, Reading, read_clause};
 use std::alloc::{AllocError, Global};
 use std::marker::Model;
 

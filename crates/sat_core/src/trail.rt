@@ -8,7 +8,7 @@ ghost use Rattle.sat_clause.specs.Trail.{IsClosed, IsOnce, IsOpen, falses};
 ghost use Rattle.sat_core.specs.Trail.{AreWithin, literals};
 
 use crate::entry::Entry;
-use sat_clause::Lit;
+use sat_clause::{FalseLiterals, Lit};
 use std::alloc::{AllocError, Global};
 use std::marker::Model;
 
@@ -32,6 +32,19 @@ impl Model for Trail {
     ghost invariant = { λ t. IsTrailStore t.vars t.entries t.values };
 }
 
+impl FalseLiterals for Trail {
+    ghost most = { λ t. t.vars };
+
+    ghost falses = { λ t. falses (literals t.entries) };
+
+    fn is_false(&self, l: Lit) -> bool {
+        match self.values[l.variable() as usize - 1] {
+            None => false,
+            Some(value) => value != l.is_positive(),
+        }
+    }
+}
+
 impl Trail {
     /// The trail of so many variables on which nothing stands.
     pub(crate) fn new(alloc: Global, vars: u32) -> Result<Trail, AllocError>
@@ -43,17 +56,6 @@ impl Trail {
             entries: Vec::with_capacity(alloc, vars as usize)?,
             values: vec![in alloc; None; vars as usize]?,
         })
-    }
-
-    /// Whether the literal is false.
-    pub(crate) fn is_false(&self, l: Lit) -> bool
-        requires { IsWithin self.now.vars l }
-        ensures { result ≡ is_among (falses (literals self.now.entries)) l }
-    {
-        match self.values[l.variable() as usize - 1] {
-            None => false,
-            Some(value) => value != l.is_positive(),
-        }
     }
 
     /// How many literals stand on it.
