@@ -5,3 +5,4 @@ pub mod DerivedLaws
 pub mod JoinLaws
 pub mod EraseLaws
 pub mod StepLaws
+pub mod BitsLaws
