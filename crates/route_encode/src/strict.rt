@@ -1,11 +1,12 @@
 //! The encoding in which each slot has one track.
 ghost use Rattle.std.specs.Prelude.{◌≡◌, ◌≤◌, ◌+◌, ◌-◌, ◌*◌, All, length, IfOk};
 ghost use Rattle.fpga_types.specs.Fit.{IsFit};
+ghost use Rattle.fpga_types.specs.Legal.{tracks_of};
 ghost use Rattle.fpga_types.specs.Slots.{slots};
 ghost use Rattle.fpga_bounds.specs.Problem.{IsStepWithin};
 ghost use Rattle.route_encode.specs.Adding.{Adds, HasRoom, lit_count};
+ghost use Rattle.route_encode.specs.Bits.{bits};
 ghost use Rattle.route_encode.specs.Encoding.{cnf_subset, encoding_subset};
-ghost use Rattle.route_encode.specs.Exact.{BitsAreExact, ModelsAreBits};
 ghost use Rattle.route_encode.specs.Good.{IsRouting};
 ghost use Rattle.route_encode.specs.Subset.{clauses_subset};
 ghost use Rattle.sat_clause.specs.Formula.{Satisfies};
@@ -51,10 +52,12 @@ impl Encoder for Strict {
         requires width { (1 ≤ width) × (width ≤ 64) }
         requires model { Satisfies values.now (cnf_subset width problem.now) }
         ensures good { IfOk result (IsRouting width problem.now) }
-        ensures exact { BitsAreExact width problem.now }
-        ensures models { ModelsAreBits width problem.now }
+        ensures chosen { IfOk result
+            (λ found. values.now ≡ bits width (tracks_of problem.now found)) }
     {
-        route_of_model(alloc, problem, width, values)
+        let tracks = tracks_of_model(alloc, problem, width, values)?;
+        let route = problem.copy_with_tracks(alloc, &tracks)?;
+        Ok(route)
     }
 }
 
@@ -102,21 +105,4 @@ fn add_clauses(formula: &mut Formula, width: u32, chains: &RivalChains<'_>, step
     add_one_tracks(formula, width, count);
     add_joined_tracks(formula, width, count, steps);
     add_apart_tracks(formula, width, chains);
-}
-
-/// The route with the tracks that a model says.
-fn route_of_model(
-    alloc: Global,
-    problem: &Problem,
-    width: u32,
-    values: &[bool],
-) -> Result<RouteText, AllocError>
-    requires width { (1 ≤ width) × (width ≤ 64) }
-    requires model { Satisfies values.now (cnf_subset width problem.now) }
-    ensures good { IfOk result (IsRouting width problem.now) }
-    ensures fits { IsFit problem.now }
-{
-    let tracks = tracks_of_model(alloc, problem, width, values)?;
-    let route = problem.copy_with_tracks(alloc, &tracks)?;
-    Ok(route)
 }

@@ -1,6 +1,3 @@
-pub mod LiteralLemmas
-pub mod ReadingLemmas
-pub mod TrailLemmas
 pub mod LessonLemmas
 pub mod LogLemmas
 pub mod ValueLemmas

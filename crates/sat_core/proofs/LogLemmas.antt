@@ -8,13 +8,13 @@ use Rattle.std.proofs.lemmas.Option.{slice_get_within}
 use Rattle.sat_clause.specs.declared.cause.Cause.{Cause}
 use Rattle.sat_clause.specs.declared.cause.Cause.TheVariants.{NoEmptyClause}
 use Rattle.sat_clause.specs.Formula.{Cnf}
-use Rattle.sat_clause.specs.Literal.{Clause}
 use Rattle.sat_clause.specs.Live.{Live, clause_at, numbered, put}
 use Rattle.sat_clause.specs.Step.{Step, Added, Erased}
 use Rattle.sat_clause.specs.Judge.{Judgement, Accepted, Refused, IsGoodSoFar, after, fault, inputs, is_empty_clause, judge, judge_from, judge_step}
 use Rattle.sat_clause.specs.Learned.{AddsFrom, EachAdded, Sparse, deletions}
 use Rattle.sat_core.specs.SearchLog.{AreNumbered, HintsAreEarlier, IsEarlier, added_count}
 use Rattle.sat_core.specs.Underway.{AreLive, live_after}
+use Rattle.sat_clause.specs.Literal.{Clause}
 
 -- the last of a list with one more
 pub slice_get_last : {X : Type 0} (xs : List X) (x : X) (i : ℕ) → i ≡ length xs → slice_get (xs ++ x ∷ []) i ≡ Some x

@@ -6,7 +6,6 @@ use Rattle.sat_clause.specs.declared.cause.Cause.TheVariants.{NoEmptyClause}
 use Rattle.sat_clause.specs.Formula.{Cnf}
 use Rattle.sat_clause.specs.Judge.{Accepted, Refused, inputs, is_empty_clause, judge, judge_step}
 use Rattle.sat_clause.specs.Learned.{IsFresh, IsSimple, deletions}
-use Rattle.sat_clause.specs.Literal.{Clause}
 use Rattle.sat_clause.specs.Live.{Live}
 use Rattle.sat_clause.specs.Rup.{rup}
 use Rattle.sat_clause.specs.Step.{Step, Added}
@@ -15,6 +14,7 @@ use Rattle.sat_core.specs.Answer.{IsRefutation, SpendsAll}
 use Rattle.sat_core.specs.SearchStore.{IsNewTo}
 use Rattle.sat_core.specs.Underway.{AreLive, IsDone, IsUnderway, live_after}
 use Rattle.sat_core.proofs.LogLemmas.{AddsFrom-push, EachAdded-push, count_from_adds, count_push, none_empty, deletions_from_adds, deletions_push, earlier-push, good_accepted, good_undecided, judge_from-push, live_after-push, live_push, live_start, numbered_from_adds, numbered_push, sparse_without}
+use Rattle.sat_clause.specs.Literal.{Clause}
 
 pub underway_start : (formula : Cnf) → IsUnderway formula [] []
 underway_start formula = record {

@@ -3,8 +3,8 @@ use Rattle.std.specs.Prelude.{◌≡◌, ℕ, suc, ◌<◌, ◌≤◌, ℤ, pos,
 use Rattle.sat_clause.specs.Formula.{Cnf}
 use Rattle.sat_clause.specs.Judge.{IsGoodSoFar}
 use Rattle.sat_clause.specs.Learned.{LearnedNew, Sparse}
-use Rattle.sat_clause.specs.Literal.{Clause}
 use Rattle.sat_clause.specs.Step.{Step, Added, Erased}
+use Rattle.sat_clause.specs.Literal.{Clause}
 
 -- how many clauses the steps add
 abbrev pub added_count : List Step → ℕ

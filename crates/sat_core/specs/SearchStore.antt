@@ -2,13 +2,15 @@
 use Rattle.std.specs.Prelude.{◌≡◌, ℕ, ◌+◌, ◌<◌, ◌≤◌, ◌^◌, ◌++◌, List, length, slice_get, All, Contains}
 use Rattle.sat_clause.specs.declared.reading.Reading.TheVariants.{Conflict}
 use Rattle.sat_clause.specs.Formula.{Cnf}
-use Rattle.sat_clause.specs.Literal.{Clause, IsWithin}
-use Rattle.sat_clause.specs.Rup.{reading_of}
+use Rattle.sat_clause.specs.Rup.{Reads}
 use Rattle.sat_core.specs.declared.entry.Entry.{Entry}
 use Rattle.sat_core.specs.declared.scan.Scan.{Scan}
 use Rattle.sat_core.specs.declared.scan.Scan.TheVariants.{Settled, Implied, False}
-use Rattle.sat_core.specs.Settled.{AreCaused, IsSettled}
-use Rattle.sat_core.specs.Trail.{falses}
+use Rattle.sat_clause.specs.Literal.{Clause, IsWithin}
+use Rattle.sat_clause.specs.Trail.{falses}
+use Rattle.sat_clause.specs.Settled.{IsSettled}
+use Rattle.sat_core.specs.Trail.{literals}
+use Rattle.sat_core.specs.Causes.{AreCaused}
 
 -- the formula, the clauses that were learned, and the trail, the newest entry first
 pub record SearchState : Type 0 where
@@ -32,11 +34,11 @@ pub record IsSearchStore
 
 -- the clause at the position is false
 abbrev pub IsFalseAt : SearchState → ℕ → Type 0
-IsFalseAt state i = reading_of (falses state.entries) (slice_get (clauses_of state) i) ≡ Conflict
+IsFalseAt state i = Reads (falses (literals state.entries)) (slice_get (clauses_of state) i) Conflict
 
 -- no clause is false and none makes a literal true
 abbrev pub IsSettledState : SearchState → Type 0
-IsSettledState state = IsSettled (clauses_of state) (falses state.entries)
+IsSettledState state = IsSettled (clauses_of state) (falses (literals state.entries))
 
 -- what a pass over the clauses says of the state behind it
 abbrev pub ScanSays : (before now : SearchState) → Scan → Type 0

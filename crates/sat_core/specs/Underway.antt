@@ -4,12 +4,12 @@ use Rattle.sat_clause.specs.declared.cause.Cause.TheVariants.{NoEmptyClause}
 use Rattle.sat_clause.specs.Formula.{Cnf, Satisfies}
 use Rattle.sat_clause.specs.Judge.{Accepts, Refused, after, inputs, judge}
 use Rattle.sat_clause.specs.Learned.{AddsFrom, LearnedNew}
-use Rattle.sat_clause.specs.Literal.{Clause}
 use Rattle.sat_clause.specs.Live.{Live, clause_at}
 use Rattle.sat_clause.specs.Step.{Step, Added}
 use Rattle.sat_core.specs.SearchLog.{HintsAreEarlier, IsSearchLog}
 use Rattle.sat_core.specs.declared.turn.Turn.{Turn}
 use Rattle.sat_core.specs.declared.turn.Turn.TheVariants.{Learned, Model, Refuted}
+use Rattle.sat_clause.specs.Literal.{Clause}
 
 -- the clauses that are live after the steps
 abbrev pub live_after : Cnf → List Step → Live

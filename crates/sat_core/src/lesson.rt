@@ -1,7 +1,8 @@
 //! What is learned where a clause is false.
 
-ghost use Rattle.std.specs.Prelude.{◌≡◌, ◌≤◌, ◌∷◌, [], ◌++◌, ℕ, IfOk, length, reverse};
+ghost use Rattle.std.specs.Prelude.{◌≡◌, ◌≤◌, ◌∷◌, [], ◌++◌, ℕ, IfOk, length, reverse, All};
 ghost use Rattle.sat_core.specs.Lesson.{id_at, negated_decisions, reason_ids};
+ghost use Rattle.sat_clause.specs.Literal.{IsWithin};
 ghost use Rattle.sat_core.specs.Trail.{AreWithin};
 
 use crate::entry::Entry;

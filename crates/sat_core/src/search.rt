@@ -3,21 +3,21 @@
 ghost use Rattle.std.specs.Prelude.{◌≡◌, ◌≢◌, ◌<◌, ◌≤◌, ◌+◌, ◌∷◌, [], ◌++◌, All, IfNone, IfOk, IfSome, IsTrue, OnOk, None, Some, length, slice_get, suc, true, false};
 ghost use Rattle.sat_clause.specs.Formula.{Satisfies};
 ghost use Rattle.sat_clause.specs.Learned.{IsSimple};
-ghost use Rattle.sat_clause.specs.Literal.{IsLiteral, IsWithin};
 ghost use Rattle.sat_clause.specs.Live.{Live};
-ghost use Rattle.sat_clause.specs.Rup.{reading_of, rup};
+ghost use Rattle.sat_clause.specs.Rup.{Reads, rup};
 ghost use Rattle.sat_core.specs.Lesson.{negated_decisions};
 ghost use Rattle.sat_core.specs.SearchLog.{IsEarlier};
 ghost use Rattle.sat_core.specs.SearchStore.{IsFalseAt, IsNewTo, IsSettledState, ScanSays, clauses_of};
-ghost use Rattle.sat_core.specs.Trail.{IsClosed, falses};
 ghost use Rattle.sat_core.specs.Underway.{AreLive};
+ghost use Rattle.sat_clause.specs.Literal.{IsLiteral, IsWithin};
+ghost use Rattle.sat_clause.specs.Trail.{IsClosed, falses};
+ghost use Rattle.sat_core.specs.Trail.{literals};
 
 use crate::entry::Entry;
 use crate::lesson::Lesson;
-use crate::reading::read_clause;
 use crate::scan::Scan;
 use crate::trail::Trail;
-use sat_clause::{Formula, Lit, Reading};
+use sat_clause::{Formula, Lit, Reading, read_clause};
 use std::alloc::{AllocError, Global};
 use std::marker::Model;
 
@@ -89,7 +89,7 @@ impl<'a> Search<'a> {
     /// What the clause at a position says.
     fn reading(&self, i: u32) -> Reading
         requires { i < length (clauses_of self.now) }
-        ensures value { result ≡ reading_of (falses self.now.entries) (slice_get (clauses_of self.now) i) }
+        ensures value { Reads (falses (literals self.now.entries)) (slice_get (clauses_of self.now) i) result }
         ensures within { (l : Lit) → result ≡ Reading.Unit l → IsWithin self.now.formula.vars l }
     {
         read_clause(&self.trail, self.clause(i))
@@ -98,7 +98,7 @@ impl<'a> Search<'a> {
     /// Makes the literal true that the clause at a position makes true.
     fn imply(&mut self, l: Lit, i: u32)
         requires within { IsWithin self.old.formula.vars l }
-        requires reason { reading_of (falses self.old.entries) (slice_get (clauses_of self.old) i) ≡ Reading.Unit l }
+        requires reason { Reads (falses (literals self.old.entries)) (slice_get (clauses_of self.old) i) (Reading.Unit l) }
         ensures formula { self.new.formula ≡ self.old.formula }
         ensures learned { self.new.learned ≡ self.old.learned }
         ensures longer { length self.new.entries ≡ length self.old.entries + 1 }
@@ -158,7 +158,7 @@ impl<'a> Search<'a> {
         ensures longer { IsTrue result → length self.new.entries ≡ length self.old.entries + 1 }
         ensures few { IsTrue result → length self.new.entries ≤ self.new.formula.vars }
         ensures none { result ≡ false → self.new ≡ self.old }
-        ensures closed { result ≡ false → IsClosed self.old.formula.vars self.old.entries }
+        ensures closed { result ≡ false → IsClosed self.old.formula.vars (literals self.old.entries) }
     {
         let Some(lit) = self.trail.open_literal() else {
             return false;
@@ -174,7 +174,7 @@ impl<'a> Search<'a> {
         ensures learned { self.new.learned ≡ self.old.learned }
         ensures conflict { IfSome result (IsFalseAt self.new) }
         ensures settled { IfNone result (IsSettledState self.new) }
-        ensures closed { IfNone result (IsClosed self.new.formula.vars self.new.entries) }
+        ensures closed { IfNone result (IsClosed self.new.formula.vars (literals self.new.entries)) }
     {
         loop {
             if let Some(i) = self.settle() {
@@ -189,7 +189,7 @@ impl<'a> Search<'a> {
     /// The value of each variable, where each has one and the clauses are settled.
     pub(crate) fn model(&self, alloc: Global) -> Result<Vec<bool>, AllocError>
         requires settled { IsSettledState self.now }
-        requires closed { IsClosed self.now.formula.vars self.now.entries }
+        requires closed { IsClosed self.now.formula.vars (literals self.now.entries) }
         ensures { IfOk result (λ values. Satisfies values.items self.now.formula) }
     {
         self.trail.values(alloc)

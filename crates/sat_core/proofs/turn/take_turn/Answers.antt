@@ -2,12 +2,12 @@ use Rattle.std.proofs.Common.{All, ◌≡◌, ◌≢◌, ◌+◌, ◌∷◌, [],
 use Rattle.std.proofs.lemmas.Bool.{both_ways, eqb-true, eq-eqb}
 use Rattle.std.proofs.lemmas.List.{length-append, nil_from_length}
 use Rattle.sat_clause.specs.Formula.{Cnf}
-use Rattle.sat_clause.specs.Literal.{Clause}
 use Rattle.sat_clause.specs.Step.{Added}
 use Rattle.sat_core.specs.SearchLog.{IsEarlier}
 use Rattle.sat_core.specs.SearchStore.{IsNewTo, clauses_of}
 use Rattle.sat_core.specs.Underway.{IsDone, IsUnderway, live_after}
 use Rattle.sat_core.proofs.UnderwayLemmas.{underway_done, underway_next}
+use Rattle.sat_clause.specs.Literal.{Clause}
 use Rattle.sat_core.proofs.turn.take_turn.Goals as goal
 
 pub returns-then-is_empty-clause-ok : goal.returns-then-is_empty-clause-ok

@@ -1,10 +1,10 @@
 use Rattle.std.proofs.Common.{subst, sym, ap, ◌≡◌, ◌<◌, ◌∙◌, arith, ◌++◌, ◌∷◌, [], Some, length, All, List}
 use Rattle.std.proofs.lemmas.List.{append_assoc, length-append}
-use Rattle.sat_clause.specs.Literal.{Clause, IsWithin, negation}
 use Rattle.sat_core.specs.Lesson.{negated_decisions}
 use Rattle.sat_core.specs.SearchStore.{IsNewTo, SearchState, clauses_of}
-use Rattle.sat_core.specs.Settled.{AreCaused}
 use Rattle.sat_core.proofs.LearnLemmas.{last_decision, learned_caused, lesson_is_fresh, lesson_of, no_decision}
+use Rattle.sat_clause.specs.Literal.{Clause, IsWithin, negation}
+use Rattle.sat_core.specs.Causes.{AreCaused}
 use Rattle.sat_core.proofs.search.Search.learn.Goals as goal
 
 pub unreachable-requires : goal.unreachable-requires

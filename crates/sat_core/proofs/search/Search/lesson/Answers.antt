@@ -3,20 +3,21 @@ use Rattle.std.proofs.Common.{◌≤◌, arith}
 use Rattle.std.proofs.lemmas.List.Elements.{All-weaker}
 use Rattle.std.proofs.lemmas.Result.{IfOk-weaker}
 use Rattle.sat_clause.specs.Learned.{IsSimple}
-use Rattle.sat_clause.specs.Literal.{IsLiteral, IsWithin}
 use Rattle.sat_clause.specs.Live.{Live}
-use Rattle.sat_clause.specs.Rup.{reading_of, rup}
+use Rattle.sat_clause.specs.Rup.{Reads, rup}
 use Rattle.sat_clause.specs.declared.reading.Reading.TheVariants.{Conflict}
 use Rattle.sat_core.specs.declared.entry.Entry.{Entry}
 use Rattle.sat_core.specs.Lesson.{id_at, negated_decisions, reason_ids}
 use Rattle.sat_core.specs.SearchLog.{IsEarlier}
 use Rattle.sat_core.specs.SearchStore.{IsFalseAt, SearchState}
-use Rattle.sat_core.specs.Trail.{AreWithin, falses}
 use Rattle.sat_core.specs.Underway.{AreLive}
 use Rattle.sat_core.proofs.ValueLemmas.{All-reverse}
 use Rattle.sat_core.proofs.ModelLemmas.{if_ok_both}
 use Rattle.sat_core.proofs.LearnLemmas.{decisions_simple, decisions_within}
 use Rattle.sat_core.proofs.LessonLemmas.{decisions_agree, hints_are_earlier, hints_lead}
+use Rattle.sat_clause.specs.Literal.{IsLiteral, IsWithin}
+use Rattle.sat_clause.specs.Trail.{falses}
+use Rattle.sat_core.specs.Trail.{AreWithin, literals}
 use Rattle.sat_core.proofs.search.Search.lesson.Goals as goal
 
 pub returns-clause-simple : goal.returns-clause-simple
@@ -48,7 +49,7 @@ returns-clause-follows c =
     let p = c.self.inside in
     let entries = p.trail.entries in
     let clauses = p.formula.now.cnf.clauses ++ p.learned.cnf.clauses in
-    let conflict : reading_of (falses entries) (slice_get clauses c.args.conflict) ≡ Conflict =
+    let conflict : Reads (falses (literals entries)) (slice_get clauses c.args.conflict) Conflict =
     subst (λ (s : SearchState). IsFalseAt s c.args.conflict) (sym c.self.view_is) c.requires in
     let follows = λ (live : Live) (are : AreLive clauses live).
     hints_lead live clauses (negated_decisions entries) entries c.args.conflict are.at c.entries.ensures.once c.self.invariant.caused (decisions_agree entries c.entries.ensures.once) conflict in
@@ -62,7 +63,7 @@ returns-clause-earlier c =
     let p = c.self.inside in
     let entries = p.trail.entries in
     let clauses = p.formula.now.cnf.clauses ++ p.learned.cnf.clauses in
-    let conflict : reading_of (falses entries) (slice_get clauses c.args.conflict) ≡ Conflict =
+    let conflict : Reads (falses (literals entries)) (slice_get clauses c.args.conflict) Conflict =
     subst (λ (s : SearchState). IsFalseAt s c.args.conflict) (sym c.self.view_is) c.requires in
     let all = hints_are_earlier clauses entries c.args.conflict c.self.invariant.caused conflict in
     rw (← c.self.view_is)

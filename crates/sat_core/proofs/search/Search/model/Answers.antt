@@ -2,17 +2,18 @@ use Rattle.std.proofs.Common.{◌≡◌, ◌∙◌, false, length, subst, sym}
 use Rattle.std.specs.Prelude.{IsTrue}
 use Rattle.sat_clause.specs.declared.literal.Lit.{Lit}
 use Rattle.sat_clause.specs.Formula.{Satisfies, makes_true}
-use Rattle.sat_clause.specs.Literal.{IsWithin, is_among}
 use Rattle.sat_core.specs.SearchStore.{IsSettledState}
-use Rattle.sat_core.specs.Trail.{falses}
 use Rattle.sat_core.proofs.ModelLemmas.{if_ok_both, satisfied}
+use Rattle.sat_clause.specs.Literal.{IsWithin, is_among}
+use Rattle.sat_clause.specs.Trail.{falses}
+use Rattle.sat_core.specs.Trail.{literals}
 use Rattle.sat_core.proofs.search.Search.model.Goals as goal
 
 pub returns : goal.returns
 returns c =
     let p = c.self.inside in
     let formula = p.formula.now.cnf in
-    let set = falses p.trail.entries in
+    let set = falses (literals p.trail.entries) in
     let settled = subst IsSettledState (sym c.self.view_is) c.requires.settled in
     rw (← c.self.view_is)
     (if_ok_both c.values.result (λ values. length values.items ≡ p.trail.vars)

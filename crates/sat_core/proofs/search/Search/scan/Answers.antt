@@ -1,9 +1,10 @@
 use Rattle.std.proofs.Common.{◌≡◌, ◌++◌, List, length, ap, sym, ◌∙◌, arith}
 use Rattle.sat_clause.specs.Formula.{Cnf}
-use Rattle.sat_clause.specs.Literal.{Clause}
 use Rattle.sat_core.specs.SearchStore.{SearchState, clauses_of}
-use Rattle.sat_core.specs.Trail.{falses}
 use Rattle.sat_core.proofs.LessonLemmas.{settled_from_places}
+use Rattle.sat_clause.specs.Literal.{Clause}
+use Rattle.sat_clause.specs.Trail.{falses}
+use Rattle.sat_core.specs.Trail.{literals}
 use Rattle.sat_core.proofs.search.Search.scan.Goals as goal
 
 pub returns-then-len-before-clause-says : goal.returns-then-len-before-clause-says
@@ -15,4 +16,4 @@ returns-then-len-before-clause-says c =
     let many : length (clauses_of state) ≡ length (clauses_of c.args.self.now) =
     ap (λ (f : Cnf). length (f.clauses ++ state.learned)) c.loop-i.invariant.formula
     ∙ ap (λ (l : List Clause). length (c.args.self.now.formula.clauses ++ l)) c.loop-i.invariant.learned in
-    settled_from_places (clauses_of state) (falses state.entries) (λ k within. c.loop-i.invariant.quiet same k (omega (arith, within, many, c.clause_count-i-end.ensures, c.loop-i-test.false)))
+    settled_from_places (clauses_of state) (falses (literals state.entries)) (λ k clause within. c.loop-i.invariant.quiet same k clause (omega (arith, within, many, c.clause_count-i-end.ensures, c.loop-i-test.false)))
