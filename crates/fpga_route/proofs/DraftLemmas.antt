@@ -42,7 +42,7 @@ takes_line-net old new line net h taken = record {
     ← h,
     with_no_lines old.open_net,
     append_assoc (nets_begun old) (option_to_list (option_map (with_lines (own_lines more))
-    (Some (net_of net line.number [])))) (nets_of more),
+        (Some (net_of net line.number [])))) (nets_of more),
   ) refl;
 }
 

@@ -14,4 +14,3 @@ pub mod RowTexts
 pub mod SlotRows
 pub mod SoundLemmas
 pub mod WordLemmas
-pub mod WriteLemmas

@@ -263,10 +263,10 @@ value_can lines count clean whole = go lines (sym (ap first_fault (by_context li
         → All (IsWhole Hash) ls → IsPrintable (value_of ls count)
     go [] none all = absurd (let clash : Some (Bad (count + 1) 401) ≡ None = none in cc)
     go (first ∷ []) none all = absurd (
-      let parts = faultless-line (array_fault first.number (array_form first.words))
-      (end_fault route_codes (behind START (array_form first.words)) (count + 1) ∷ []) none in
-      let clash : Some (Bad (count + 1) 401) ≡ None = rw (in_head (size_words first.words)) at parts.1 in cc
-    )
+        let parts = faultless-line (array_fault first.number (array_form first.words))
+        (end_fault route_codes (behind START (array_form first.words)) (count + 1) ∷ []) none in
+        let clash : Some (Bad (count + 1) 401) ≡ None = rw (in_head (size_words first.words)) at parts.1 in cc
+        )
     go (first ∷ second ∷ more) none all =
         let context = behind START (array_form first.words) in
         let later = faults_from behind route_codes (behind context (routing_form second.words)) (later_forms more) (count + 1) in

@@ -459,10 +459,17 @@ nets_whole : (grid : Size) (nets : List RouteNet) → AllByRecursion (IsPrintabl
     → AllByRecursion (λ text. lacks is_newline text ≡ true) (flat_map net_texts nets)
 nets_whole grid [] all = tt
 nets_whole grid (net ∷ more) all =
-    all_append (λ text. lacks is_newline text ≡ true) (net_texts net) (flat_map net_texts more)
-    (refl, (line-newline (net_text net) (net_whole net (all.0).k (all.0).name), (refl,
-    all_append (λ text. lacks is_newline text ≡ true) (own_texts net.global net) ([] ∷ [])
-    (own_lines_whole grid net net.global all.0) (refl, tt))))
+    all_append (λ text. lacks is_newline text ≡ true) (net_texts net) (flat_map net_texts more) (
+      refl,
+      (
+        line-newline (net_text net) (net_whole net (all.0).k (all.0).name),
+        (
+          refl,
+          all_append (λ text. lacks is_newline text ≡ true) (own_texts net.global net) ([] ∷ [])
+              (own_lines_whole grid net net.global all.0) (refl, tt),
+        ),
+      ),
+    )
     (nets_whole grid more all.1)
 
 -- the lines of the printed form
@@ -470,6 +477,7 @@ pub lines-printed : (route : RouteText) → IsPrintable route
     → lines (printed route) ≡ route_texts route
 lines-printed route can =
     ap lines (printed-lines route)
-    ∙ all-lines (route_texts route)
-    (line-newline (head_text route.grid) (head_whole route.grid can.size),
-    (refl, (refl, nets_whole route.grid route.nets can.nets)))
+    ∙ all-lines (route_texts route) (
+      line-newline (head_text route.grid) (head_whole route.grid can.size),
+      (refl, (refl, nets_whole route.grid route.nets can.nets)),
+    )

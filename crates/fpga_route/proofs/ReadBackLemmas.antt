@@ -218,7 +218,7 @@ own-none grid n [] all = refl
 own-none grid n (net ∷ more) all =
     let own = own_texts net.global net in
     let rest = numbered Hash (n + 1 + 1 + 1) own
-        ++ seen Hash (number_after (n + 1 + 1 + 1) own + 1) (flat_map net_texts more) in
+    ++ seen Hash (number_after (n + 1 + 1 + 1) own + 1) (flat_map net_texts more) in
     ap own_lines (seen-net grid n net (flat_map net_texts more) all.0)
     ∙ take_while-cons (λ (l : TextLine). not (begins_net (later_form l.words)))
     (text_line Hash (n + 1) (net_text net)) rest
@@ -395,8 +395,11 @@ reads_back route can =
     let count = line_count (printed route) in
     let lines = printed-seen route can in (
       route_value (printed route),
-      (ap (λ (ls : List TextLine). first_fault (lines_faults ls count)) lines
-      ∙ printed-clean route count can, refl),
+      (
+        ap (λ (ls : List TextLine). first_fault (lines_faults ls count)) lines
+            ∙ printed-clean route count can,
+        refl,
+      ),
       ap (λ (ls : List TextLine). without_lines (value_of ls count)) lines
-      ∙ printed-same route count can,
+          ∙ printed-same route count can,
     )

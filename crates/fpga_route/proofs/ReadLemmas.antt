@@ -59,8 +59,11 @@ module _ (bytes : Bytes) (old new : LinesAhead) (head : Head) (draft : Progress)
 
     -- no fault, and all lines were taken
     pub reads : Reads bytes (record { grid = head.grid; grid_line = head.line; lines = count; nets = nets })
-    reads = (past.same ∙ rest.clean, (λ i. record { grid = head.grid; grid_line = h.line i; lines = all_lines i; nets = all_nets i })
-        ∙ sym (value_of-head (line_count bytes)))
+    reads = (
+      past.same ∙ rest.clean,
+      (λ i. record { grid = head.grid; grid_line = h.line i; lines = all_lines i; nets = all_nets i })
+          ∙ sym (value_of-head (line_count bytes)),
+    )
       where
         value_of-head : (n : ℕ) → value_of (text_lines Hash bytes) n
             ≡ record { grid = head.grid; grid_line = h.first.number; lines = n; nets = nets_of new.ahead }
@@ -75,9 +78,9 @@ module _ (bytes : Bytes) (old new : LinesAhead) (head : Head) (draft : Progress)
         numbers.0,
         numbers.1,
         rises-lower h.first.number h.second.number (line_count bytes) (net_numbers (nets_of new.ahead))
-        (omega (arith, numbers.2.0))
-        (rises-later h.second.number (line_count bytes) _ _
-        (nets_rise h.second.number (line_count bytes) new.ahead numbers.2.2)),
+            (omega (arith, numbers.2.0))
+            (rises-later h.second.number (line_count bytes) _ _
+            (nets_rise h.second.number (line_count bytes) new.ahead numbers.2.2)),
       );
       lines = omega (arith, small);
     }

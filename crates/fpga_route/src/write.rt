@@ -101,7 +101,7 @@ fn net_line_end(global: bool) -> &'static str
 }
 
 /// The two head lines.
-fn head(grid: Grid) -> ArrayString<LINE_ROOM>
+fn head_lines(grid: Grid) -> ArrayString<LINE_ROOM>
     ensures { result.bytes ≡ printed_head grid }
 {
     let mut lines = ArrayString::new();
@@ -149,6 +149,44 @@ impl Prints<Name> for KeptLine {
     }
 }
 
+/// Prints what stands before the name of a net.
+struct LineStart;
+
+impl Prints<RouteNet> for LineStart {
+    ghost use Rattle.fpga_route.specs.Printed.{before_name};
+
+    ghost text = { λ net. before_name net.k };
+
+    fn print<S: Shelf>(
+        &self,
+        writer: &mut BlockWriter,
+        shelf: &mut S,
+        item: &RouteNet,
+    ) -> Result<(), Failed> {
+        writer.write(shelf, net_line_start(item.k).as_bytes())
+    }
+}
+
+/// Prints the name of a net and what stands behind it.
+struct LineEnd;
+
+impl Prints<RouteNet> for LineEnd {
+    ghost use Rattle.std.specs.Prelude.{◌++◌};
+    ghost use Rattle.fpga_route.specs.Printed.{after_name};
+
+    ghost text = { λ net. net.name ++ after_name net.global };
+
+    fn print<S: Shelf>(
+        &self,
+        writer: &mut BlockWriter,
+        shelf: &mut S,
+        item: &RouteNet,
+    ) -> Result<(), Failed> {
+        let end = net_line_end(item.global);
+        writer.write_both(shelf, item.name.bytes.as_slice(), end.as_bytes())
+    }
+}
+
 /// Prints the Net line of a net.
 struct NetLine;
 
@@ -163,11 +201,7 @@ impl Prints<RouteNet> for NetLine {
         shelf: &mut S,
         item: &RouteNet,
     ) -> Result<(), Failed> {
-        let Ok(()) = writer.write(shelf, net_line_start(item.k).as_bytes()) else {
-            return Err(Failed);
-        };
-        let end = net_line_end(item.global);
-        writer.write_both(shelf, item.name.bytes.as_slice(), end.as_bytes())
+        print_both(&LineStart, &LineEnd, writer, shelf, item)
     }
 }
 
@@ -211,9 +245,9 @@ impl Prints<RouteNet> for WholeNet {
 }
 
 /// Prints the two head lines of a route.
-struct Head;
+struct HeadLines;
 
-impl Prints<RouteText> for Head {
+impl Prints<RouteText> for HeadLines {
     ghost use Rattle.fpga_route.specs.Printed.{printed_head};
 
     ghost text = { λ route. printed_head route.grid };
@@ -224,7 +258,7 @@ impl Prints<RouteText> for Head {
         shelf: &mut S,
         item: &RouteText,
     ) -> Result<(), Failed> {
-        writer.write(shelf, head(item.grid).as_bytes())
+        writer.write(shelf, head_lines(item.grid).as_bytes())
     }
 }
 
@@ -263,7 +297,7 @@ impl Prints<RouteText> for WholeRoute {
         shelf: &mut S,
         item: &RouteText,
     ) -> Result<(), Failed> {
-        print_both(&Head, &Body, writer, shelf, item)
+        print_both(&HeadLines, &Body, writer, shelf, item)
     }
 }
 
