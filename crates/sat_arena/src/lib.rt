@@ -1,0 +1,16 @@
+//! Clauses in one block of raw memory, each found by its reference.
+#![tactic(auto)]
+
+mod arena;
+mod block;
+mod clause_ref;
+mod compact;
+mod layout;
+mod moves;
+mod places;
+#[cfg(test)]
+mod tests;
+
+pub use arena::Arena;
+pub use clause_ref::ClauseRef;
+pub use moves::{Move, Moves};
