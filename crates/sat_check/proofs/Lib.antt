@@ -1,8 +1,6 @@
-pub mod FalseLaws
-pub mod ChangeLaws
-pub mod InputLaws
-pub mod DerivedLaws
-pub mod JoinLaws
-pub mod EraseLaws
-pub mod StepLaws
 pub mod BitsLaws
+pub mod DerivedLaws
+pub mod FalseLaws
+pub mod FinderLaws
+pub mod InputLaws
+pub mod StepLaws

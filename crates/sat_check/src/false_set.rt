@@ -93,14 +93,16 @@ impl FalseSet {
         Ok(())
     }
 
-    /// Puts the literals into the set, one after another.
+    /// Puts the literals into the set, the first of them as the newest.
     pub(crate) fn put_all(&mut self, lits: &[Lit]) -> Result<(), AllocError>
         requires { All (IsWithin self.old.size) lits.now }
         ensures size { self.new.size ≡ self.old.size }
-        ensures ok { OnOk result (self.new.set ≡ reverse lits.now ++ self.old.set) }
+        ensures ok { OnOk result (self.new.set ≡ lits.now ++ self.old.set) }
     {
-        for l in lits {
-            self.put(*l)?;
+        let mut left = lits.len();
+        while left > 0 {
+            left -= 1;
+            self.put(lits[left])?;
         }
         Ok(())
     }

@@ -1,5 +1,5 @@
 -- One more step of a log.
-use Rattle.std.proofs.Common.{inl, inr, ◌⊎◌, ◌≡◌, ◌≢◌, ◌==◌, ◌<◌, ◌+◌, ℕ, zero, suc, ℤ, true, false, cond, List, [], ◌∷◌, ◌++◌, length, take, fold, None, Some, slice_get, All, refl, sym, ap, ◌∙◌, subst, arith}
+use Rattle.std.proofs.Common.{inl, inr, ◌⊎◌, ◌≡◌, ◌≢◌, ◌==◌, ◌+◌, ℕ, zero, suc, ℤ, true, false, cond, List, [], ◌∷◌, ◌++◌, length, take, fold, None, Some, slice_get, All, refl, sym, ap, ◌∙◌, subst, arith}
 use Rattle.std.proofs.lemmas.Bool.{both_ways, eqb-true, eq-eqb, ne_eqb}
 use Rattle.std.proofs.lemmas.List.{take-append-le, take_at}
 use Rattle.std.proofs.lemmas.List.Elements.{All-nil, All-cons}
@@ -12,6 +12,7 @@ use Rattle.sat_clause.specs.Live.{Live, clause_at, numbered, put}
 use Rattle.sat_clause.specs.Step.{Step, Added, Erased}
 use Rattle.sat_clause.specs.Judge.{Accepted, Refused, after, inputs, is_empty_clause, judge_from, judge_step}
 use Rattle.sat_clause.specs.Learned.{AddsFrom, EachAdded, Sparse, deletions}
+use Rattle.sat_clause.proofs.LiveLaws.{inputs_at, inputs_none}
 use Rattle.sat_core.specs.SearchLog.{AreNumbered, EndsAtEmpty, added_count}
 use Rattle.sat_core.specs.Underway.{AreGood, live_after}
 use Rattle.sat_core.specs.SearchStore.{AreLive}
@@ -70,25 +71,8 @@ good_accepted n live (step ∷ log) id hints good =
     ])
 
 -- the input clauses are live at the start
-numbered_at : (n id i : ℕ) (clauses : List Clause) → id ≡ n + i → clause_at (numbered n clauses) id ≡ slice_get clauses i
-numbered_at n id i [] is = refl
-numbered_at n id zero (c ∷ clauses) is =
-    let here : (id == n) ≡ true = eq-eqb id n (omega arith) in rw here refl
-numbered_at n id (suc i) (c ∷ clauses) is =
-    let other : (id == n) ≡ false = ne_eqb id n (omega arith) in
-    rw other (numbered_at (suc n) id i clauses (omega arith))
-
-numbered_below : (n id : ℕ) (clauses : List Clause) → id < n → clause_at (numbered n clauses) id ≡ None
-numbered_below n id [] below = refl
-numbered_below n id (c ∷ clauses) below =
-    let other : (id == n) ≡ false = ne_eqb id n (omega arith) in
-    rw other (numbered_below (suc n) id clauses (omega arith))
-
 pub live_start : (formula : Cnf) → AreLive formula.clauses (inputs formula)
-live_start formula = record {
-  at = λ i. numbered_at 1 (suc i) i formula.clauses (omega arith);
-  none = numbered_below 1 0 formula.clauses (omega arith);
-}
+live_start formula = record { at = inputs_at formula; none = inputs_none formula }
 
 -- one more clause is live
 pub live_push : (clauses : List Clause) (live : Live) (id : ℕ) (clause : Clause) → AreLive clauses live →
