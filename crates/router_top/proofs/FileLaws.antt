@@ -1,8 +1,9 @@
 -- What keeps a file from being read is one thing, and a file that reads is not kept from it.
 use Rattle.std.proofs.Common.{◌≡◌, ◌∙◌, ◌⊎◌, ℕ, Option, Some, length, refl, sym, ap, subst, inl, inr, arith}
 use Rattle.desk_io.specs.DeskState.{DeskState}
-use Rattle.desk_io.specs.Files.{Bytes, FileMap, HasRisen}
+use Rattle.desk_io.specs.Files.{Bytes, FileMap, HasRisen, RisesByOne}
 use Rattle.desk_io.specs.Reading.{FaultIsOn}
+use Rattle.desk_io.proofs.FileLemmas.{has_risen}
 use Rattle.fpga_text.specs.declared.fault.TextFault.{TextFault}
 use Rattle.list_laws.proofs.Places.{some_is}
 use Rattle.router_top.specs.Inputs.{HasText, InputFile, IsHalted, IsLonger, IsStopped, fault_outcome}
@@ -58,7 +59,7 @@ pub stop-halts : (file : InputFile) (before now : DeskState) (o : Outcome) →
     IsStopped file before now o → ¬ HasRisen before.faults now.faults →
     IsHalted before.files file o ⊎ (o ≡ OutOfMemory)
 stop-halts file before now o (inl h) calm = inr h
-stop-halts file before now o (inr (inl h)) calm = absurd (calm h.0.risen)
+stop-halts file before now o (inr (inl h)) calm = absurd (calm (has_risen _ _ h.0.risen))
 stop-halts file before now o (inr (inr h)) calm = inl h
 
 -- a file that was not read from a later state of the desk was not read from an earlier one that tells
@@ -69,7 +70,7 @@ pub stop-before : (file : InputFile) (before between now : DeskState) (o : Outco
 stop-before file before between now o files faults (inl h) = inl h
 stop-before file before between now o files faults (inr (inl h)) = inr (inl (
   record {
-    risen = subst (λ (n : ℕ). HasRisen n now.faults) faults h.0.risen;
+    risen = subst (λ (n : ℕ). RisesByOne n now.faults) faults h.0.risen;
     on = subst (λ (f : Option FileMap). FaultIsOn f file.name now.fault_name) files h.0.on;
   },
   h.1,

@@ -4,6 +4,8 @@ use Rattle.std.specs.Prelude.{MatchResult, Some, ⊤}
 use Rattle.desk_io.specs.DeskState.{DeskState}
 use Rattle.desk_io.specs.Files.{Bytes, FileMap, HasRisen}
 use Rattle.desk_io.specs.ShelfState.{ShelfState, after_say}
+use Rattle.desk_io.specs.WholeFile.{FailsToWrite}
+use Rattle.desk_io.proofs.FileLemmas.{has_risen}
 use Rattle.fpga_types.specs.Legal.{tracks_of}
 use Rattle.fpga_types.specs.declared.route.RouteText.{RouteText}
 use Rattle.fpga_text.specs.declared.fault.TextFault.{TextFault}
@@ -21,7 +23,7 @@ use Rattle.router_top.specs.Inputs.{InputFile, IsHalted, IsStopped, fault_outcom
 use Rattle.router_top.specs.Report.{line_of, unsaid}
 use Rattle.router_top.specs.Search.{WritesFound}
 use Rattle.router_top.specs.Truth.{Agrees, IsTrueOf, IsTrueOfJob, IsTrueOfSearch}
-use Rattle.router_top.specs.Written.{FailsToWrite, FailsToWriteProof, WritesCnf}
+use Rattle.router_top.specs.Written.{FailsToWriteProof, WritesCnf}
 use Rattle.router_top.specs.declared.outcome.Outcome.{Outcome}
 use Rattle.router_top.specs.declared.outcome.Outcome.TheVariants.{Routed, Unroutable, Undecided, Done, Accepted, NotAccepted, Usage, WriteFault, OutOfMemory}
 use Rattle.router_top.proofs.AgreeLaws.{outcomes_agree}
@@ -38,8 +40,8 @@ risen-then a b c h g = record {
 
 write-risen : (before : ShelfState) (name text : Bytes) (now : ShelfState) →
     FailsToWrite before name text now → HasRisen before.faults now.faults
-write-risen before name text now (inl h) = h.risen
-write-risen before name text now (inr h) = h.risen
+write-risen before name text now (inl h) = has_risen _ _ h.risen
+write-risen before name text now (inr h) = has_risen _ _ h.risen
 
 proof-risen : (before : ShelfState) (prefix : Word) (cnf : Cnf) (log : List Step) (slot : ℕ)
     (now : ShelfState) → FailsToWriteProof before prefix cnf log slot now →
@@ -382,7 +384,7 @@ module _ (words : List Word) (desk desk_now : DeskState) (shelf now : ShelfState
   said quiet = elim r.reports [
     | inl h ↦ h
     | inr h ↦ absurd (quiet (risen-then shelf.faults r.between.faults now.faults
-        (kept desk desk_now shelf r.between words r.outcome r.leaves) h.1.failed.risen))
+        (kept desk desk_now shelf r.between words r.outcome r.leaves) (has_risen _ _ h.1.failed.risen)))
   ]
 
   pub runs-complete : IsComplete words desk desk_now shelf now answer

@@ -3,7 +3,7 @@ use Rattle.std.specs.Prelude.{◌≡◌, ◌⊎◌, ℕ, ◌+◌, ◌<◌, ◌�
 use Rattle.std.specs.Option.{ForSome}
 use Rattle.std.specs.FinMap.{get}
 use Rattle.desk_io.specs.DeskState.{DeskState}
-use Rattle.desk_io.specs.Files.{Bytes, FileMap, HasRisen}
+use Rattle.desk_io.specs.Files.{Bytes, FileMap, RisesByOne}
 use Rattle.desk_io.specs.Reading.{FaultIsOn}
 use Rattle.fpga_text.specs.declared.fault.TextFault.{TextFault}
 use Rattle.fpga_text.specs.declared.fault.TextFault.TheVariants.{Bad, Limit as PastLimit, Memory}
@@ -27,7 +27,7 @@ IsLonger limit files name =
 
 -- the desk failed on the file with this name
 pub record FailsToRead (before now : DeskState) (name : Bytes) : Type 0 where
-  pub risen : HasRisen before.faults now.faults
+  pub risen : RisesByOne before.faults now.faults
   pub on : FaultIsOn before.files name now.fault_name
 
 -- a file of a command: its number among the files of all commands, its name, how many bytes it may
