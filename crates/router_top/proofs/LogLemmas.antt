@@ -2,9 +2,12 @@
 use Rattle.std.proofs.Common.{◌≡◌, ◌≢◌, ℕ, suc, ◌+◌, ◌≤◌, ℤ, List, [], ◌∷◌, length, slice_get, Some, refl, sym, subst, All, arith}
 use Rattle.std.specs.Prelude.{max}
 use Rattle.fpga_types.specs.Fit.{IsFit}
+use Rattle.fpga_types.specs.Legal.{tracks_of}
 use Rattle.fpga_types.specs.declared.route.RouteText.{RouteText}
+use Rattle.fpga_route.specs.ReadBack.{ReadsBack, ReadsBackWithTracks}
 use Rattle.route_encode.specs.Bits.{bits}
 use Rattle.route_encode.specs.Encoding.{cnf_subset}
+use Rattle.route_encode.specs.Good.{IsRouting}
 use Rattle.route_encode.proofs.Exactness.{bits_exact}
 use Rattle.sat_clause.specs.Formula.{Cnf}
 use Rattle.sat_clause.specs.Judge.{Accepts}
@@ -18,7 +21,7 @@ use Rattle.sat_text.specs.LratText.{ReadsLrat}
 use Rattle.sat_text.specs.Printed.{log_text}
 use Rattle.sat_text.specs.ReadBack.{IsIdNumber, IsPrintableLog}
 use Rattle.sat_text.proofs.LogBack.{printed_log_reads}
-use Rattle.router_top.specs.Asked.{IsUnroutable}
+use Rattle.router_top.specs.Asked.{IsReadable, IsUnroutable}
 
 -- each added clause is of these variables, and has earlier hints
 abbrev AreOfSearch : ℕ → List Step → Type 0
@@ -59,3 +62,8 @@ log-reads formula log budget few room search none within =
 -- where the clauses of a route are refuted, no tracks are legal
 pub none-legal : (width : ℕ) (route : RouteText) (log : List Step) → IsFit route → Accepts (cnf_subset width route) log → IsUnroutable width route
 none-legal width route log fits accepts = λ tracks legal. refutes (cnf_subset width route) log accepts (bits width tracks) ((bits_exact width route fits tracks legal.each).1 legal)
+
+-- a routing of a route that was read reads back as it is printed
+pub routing-reads : (width : ℕ) (route found : RouteText) → width ≤ 64 → IsReadable route → IsRouting width route found → ReadsBackWithTracks found → ReadsBack found
+routing-reads width route found narrow read routing reads =
+    reads read.0 route (tracks_of route found) read.1 (λ k d inside. let t = routing.legal.within k d inside in omega (arith, t, narrow)) routing.is

@@ -1,5 +1,5 @@
 -- The exit status and the report line of each outcome.
-use Rattle.std.specs.Prelude.{ℕ, ◌-◌, ◌≤◌, ◌++◌, List, [], ◌∷◌, slice_index_or, codes, decimal}
+use Rattle.std.specs.Prelude.{ℕ, ◌-◌, ◌≤◌, ◌++◌, List, [], ◌∷◌, slice_index_or, codes, decimal, Result, Ok, Err}
 use Rattle.router_top.specs.declared.outcome.Outcome.{Outcome}
 use Rattle.router_top.specs.declared.outcome.Outcome.TheVariants.{Routed, Unroutable, Undecided, Done, Accepted, NotAccepted, InputFault, Limit, Usage, ReadFault, WriteFault, OutOfMemory}
 
@@ -65,3 +65,8 @@ unsaid outcome = WriteFault 0
 abbrev pub IsReadFault : Outcome → Type 0
 IsReadFault (ReadFault file) = Unit {0}
 IsReadFault outcome = ⊥
+
+-- the same where it kept a value from being had
+abbrev pub IsReadFaultErr : {T : Type 0} → Result T Outcome → Type 0
+IsReadFaultErr (Ok value) = ⊥
+IsReadFaultErr (Err outcome) = IsReadFault outcome

@@ -20,7 +20,9 @@ const SAID_SLOT: u32 = 0;
 // The work that the words ask for, but for the report.
 fn work<D: Desk, S: Shelf>(alloc: Global, words: &[String], desk: &mut D, shelf: &mut S) -> Outcome
     ensures known { NamesKnownFile result }
-    ensures leaves { Leaves (words_of words.now) (D.state desk.old) (D.state desk.new) (S.state shelf.old) (S.state shelf.new) result }
+    ensures leaves { Leaves (words_of words.now) (D.state desk.old) (D.state desk.new)
+        (S.state shelf.old) (S.state shelf.new) result }
+    ensures files { (D.state desk.new).files ≡ (D.state desk.old).files }
     ensures quiet { ¬ IsReadFault result → (D.state desk.new).faults ≡ (D.state desk.old).faults }
 {
     match read_words(words) {
@@ -69,13 +71,19 @@ pub fn run<D: Desk, S: Shelf>(
     shelf: &mut S,
 ) -> Outcome
     ensures known { NamesKnownFile result }
-    ensures routed { RoutesOnlyTruly (words_of words.now) (D.state desk.old).files (S.state shelf.old).files (S.state shelf.new).files result }
-    ensures refuted { RefutesOnlyTruly (words_of words.now) (D.state desk.old).files (S.state shelf.old).files (S.state shelf.new).files result }
-    ensures undecided { LeavesOpenOnlyTruly (words_of words.now) (D.state desk.old).files (S.state shelf.old).files (S.state shelf.new).files result }
-    ensures encoded { EncodesOnlyTruly (words_of words.now) (D.state desk.old).files (S.state shelf.old).files (S.state shelf.new).files result }
+    ensures routed { RoutesOnlyTruly (words_of words.now) (D.state desk.old).files
+        (S.state shelf.old).files (S.state shelf.new).files result }
+    ensures refuted { RefutesOnlyTruly (words_of words.now) (D.state desk.old).files
+        (S.state shelf.old).files (S.state shelf.new).files result }
+    ensures undecided { LeavesOpenOnlyTruly (words_of words.now) (D.state desk.old).files
+        (S.state shelf.old).files (S.state shelf.new).files result }
+    ensures encoded { EncodesOnlyTruly (words_of words.now) (D.state desk.old).files
+        (S.state shelf.old).files (S.state shelf.new).files result }
     ensures accepted { AcceptsOnlyTruly (words_of words.now) (D.state desk.old).files result }
-    ensures runs { Runs (words_of words.now) (D.state desk.old) (D.state desk.new) (S.state shelf.old) (S.state shelf.new) result }
-    ensures complete { IsComplete (words_of words.now) (D.state desk.old) (D.state desk.new) (S.state shelf.old) (S.state shelf.new) result }
+    ensures runs { Runs (words_of words.now) (D.state desk.old) (D.state desk.new)
+        (S.state shelf.old) (S.state shelf.new) result }
+    ensures complete { IsComplete (words_of words.now) (D.state desk.old) (D.state desk.new)
+        (S.state shelf.old) (S.state shelf.new) result }
 {
     let outcome = work(alloc, words, desk, shelf);
     say_report(shelf, outcome)
