@@ -1,12 +1,12 @@
--- Files by name: to insert what is there, and to insert twice.
-use Rattle.std.proofs.Common.{◌≡◌, ◌∙◌, Bool, true, false, cond, Option, Some, refl, sym, ap, subst}
+-- Files by name: to insert what is there, and to insert twice; and counts of faults.
+use Rattle.std.proofs.Common.{◌≡◌, ◌∙◌, ℕ, Bool, true, false, cond, Option, Some, refl, sym, ap, subst, inl, inr, arith}
 use Rattle.std.specs.declared.cmp.Ordering.{Ordering}
 use Rattle.std.specs.declared.cmp.Ordering.TheVariants.{Less, Equal, Greater}
 use Rattle.std.specs.Ordering.{nat_cmp, eq_by_cmp, is_eq}
 use Rattle.std.specs.Cmp.{tied_itself}
 use Rattle.std.specs.Cmp.Lexicographic.{slice_cmp, nat_list_cmp_total}
 use Rattle.std.specs.FinMap.{get, insert, get-insert, same_map, slice_cmp-IsAntisymmetric, nat_cmp-IsAntisymmetric}
-use Rattle.desk_io.specs.Files.{Bytes, FileMap}
+use Rattle.desk_io.specs.Files.{Bytes, FileMap, HasRisen, RisesByOne}
 
 -- whether two names tie in the order of names
 abbrev pub same_name : Bytes → Bytes → Bool
@@ -57,3 +57,8 @@ insert-insert m k v w = alike _ _ (λ q.
     ∙ ap (cond (same_name q k) (Some w)) (get-insert nat_list_cmp_total m k v q)
     ∙ twice (same_name q k) v w (get m q)
     ∙ sym (get-insert nat_list_cmp_total m k w q))
+
+-- a count that went up by one has risen
+pub has_risen : (before now : ℕ) → RisesByOne before now → HasRisen before now
+has_risen before now (inl is) = record { later = omega (arith, is); more = inl (omega (arith, is)) }
+has_risen before now (inr end) = record { later = omega (arith, end.1); more = inr (end.1 ∙ end.0) }

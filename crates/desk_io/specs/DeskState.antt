@@ -2,7 +2,7 @@
 use Rattle.std.specs.Prelude.{◌≡◌, ◌≤◌, [], ℕ, Bool, true, false, length, take, drop, Option, None, option_map, option_and_then}
 use Rattle.std.specs.Option.{ForSome}
 use Rattle.std.specs.FinMap.{get}
-use Rattle.desk_io.specs.Files.{Bytes, FileMap, HasRisen, name_in}
+use Rattle.desk_io.specs.Files.{Bytes, FileMap, name_in, RisesByOne}
 
 -- the files, where they are told; whether a file is started and, where the files are told,
 -- its name and what is left of it; how often the desk has failed, and the name that the last
@@ -39,13 +39,14 @@ pub record FailsToStart (before : DeskState) (name : Bytes) (now : DeskState) : 
   pub is_started : now.is_started ≡ false
   pub started : now.started ≡ None
   pub left : now.left ≡ None
-  pub risen : HasRisen before.faults now.faults
+  pub risen : RisesByOne before.faults now.faults
   pub fault_name : now.fault_name ≡ option_and_then (name_in name) before.files
 
--- a read failed: the file stays started, and the fault is on it
+-- a read failed: the file stays started with what is left of it, and the fault is on it
 pub record FailsToRead (before now : DeskState) : Type 0 where
   pub files : now.files ≡ before.files
   pub is_started : now.is_started ≡ true
   pub started : now.started ≡ before.started
-  pub risen : HasRisen before.faults now.faults
+  pub left : now.left ≡ before.left
+  pub risen : RisesByOne before.faults now.faults
   pub fault_name : now.fault_name ≡ before.started

@@ -1,5 +1,5 @@
 -- Files by name, and counts of faults.
-use Rattle.std.specs.Prelude.{◌≡◌, ◌⊎◌, ◌^◌, ◌-◌, ◌<◌, ◌≤◌, ◌++◌, ℕ, List, true, Option, Some, None, if◌then◌else◌}
+use Rattle.std.specs.Prelude.{◌≡◌, ◌⊎◌, ◌^◌, ◌-◌, ◌+◌, ◌<◌, ◌≤◌, ◌++◌, ℕ, List, true, min, Option, Some, None, if◌then◌else◌}
 use Rattle.std.specs.Option.{ForSome}
 use Rattle.std.specs.Ordering.{nat_cmp}
 use Rattle.std.specs.Cmp.Lexicographic.{slice_cmp}
@@ -29,6 +29,14 @@ grown (Some bytes) name text files = insert files name (bytes ++ text)
 -- the files after a text was added to the one with this name
 abbrev pub with_text : Bytes → Bytes → FileMap → FileMap
 with_text name text files = grown (get files name) name text files
+
+-- the number of the next call; it stays where it stands at its type's end
+abbrev pub next_call : ℕ → ℕ
+next_call calls = min (calls + 1) (2 ^ 64 - 1)
+
+-- a count of faults goes up by one; it stays where it stands at its type's end
+abbrev pub RisesByOne : (before now : ℕ) → Type 0
+RisesByOne before now = (now ≡ before + 1) ⊎ ((before ≡ 2 ^ 64 - 1) × (now ≡ before))
 
 -- a count of faults has risen; where it stands at its type's end it counts as risen
 pub record HasRisen (before now : ℕ) : Type 0 where

@@ -5,4 +5,5 @@ pub mod Reading
 pub mod ShelfState
 pub mod SystemFiles
 pub mod Table
+pub mod WholeFile
 pub mod Writing

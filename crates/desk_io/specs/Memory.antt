@@ -1,14 +1,10 @@
 -- What the tables in memory are to contracts, and what they tell as a desk and as a shelf.
-use Rattle.std.specs.Prelude.{◌+◌, ◌-◌, ◌^◌, [], ℕ, List, Bool, false, Option, Some, None, Contains, min, is_some, refl}
+use Rattle.std.specs.Prelude.{[], ℕ, List, Bool, false, Option, Some, None, Contains, is_some, refl}
 use Rattle.std.specs.Coded.{Coded, code_by, coded×, coded_ℕ, coded_bool, coded_list, coded_option}
 use Rattle.std.specs.FinMap.{code, empty}
-use Rattle.desk_io.specs.Files.{Bytes, FileMap}
+use Rattle.desk_io.specs.Files.{Bytes, FileMap, next_call}
 use Rattle.desk_io.specs.DeskState.{DeskState}
 use Rattle.desk_io.specs.ShelfState.{ShelfState}
-
--- the number of the next call; it stays where it stands at its type's end
-abbrev pub next_call : ℕ → ℕ
-next_call calls = min (calls + 1) (2 ^ 64 - 1)
 
 -- the next call is one of those that fail
 abbrev pub IsNextListed : (calls : ℕ) (fail : List ℕ) → Type 0

@@ -2,7 +2,7 @@
 use Rattle.std.specs.Prelude.{◌≡◌, ◌≢◌, ◌≤◌, ◌++◌, [], ℕ, Bool, true, false, length, take, Option, Some, None, option_map}
 use Rattle.std.specs.Option.{ForSome}
 use Rattle.std.specs.FinMap.{get, insert}
-use Rattle.desk_io.specs.Files.{Bytes, FileMap, HasRisen, with_text}
+use Rattle.desk_io.specs.Files.{Bytes, FileMap, RisesByOne, with_text}
 
 -- the files and the bytes said, where they are told; whether a file is created, and its name
 -- where the files are told; how often the shelf has failed, and whether the last time was in
@@ -41,14 +41,14 @@ after_finish shelf = record shelf { is_created = false; created = None }
 abbrev pub after_say : ShelfState → Bytes → ShelfState
 after_say shelf text = record shelf { said = option_map (λ said. said ++ text) shelf.said }
 
--- a call failed: the count of faults has risen, it is known whether the call was a `say`,
+-- a call failed: the count of faults has gone up by one, it is known whether the call was a `say`,
 -- and all else is as in this state
 pub record HasFailed (before as_if now : ShelfState) (in_say : Bool) : Type 0 where
   pub files : now.files ≡ as_if.files
   pub said : now.said ≡ as_if.said
   pub is_created : now.is_created ≡ as_if.is_created
   pub created : now.created ≡ as_if.created
-  pub risen : HasRisen before.faults now.faults
+  pub risen : RisesByOne before.faults now.faults
   pub say_failed : now.say_failed ≡ in_say
 
 -- a text was being added, and so many bytes at its front were
@@ -72,11 +72,12 @@ abbrev pub OthersStay : FileMap → Bytes → Option FileMap → Type 0
 OthersStay old name now =
     (new : FileMap) × (now ≡ Some new) × ((q : Bytes) → q ≢ name → get new q ≡ get old q)
 
--- a file was being created: none is, and every other file stays
+-- a file was being created: none is, every other file stays, and no files are told where none were
 pub record FailsToCreate (before : ShelfState) (name : Bytes) (now : ShelfState) : Type 0 where
   pub others : ForSome before.files (λ old. OthersStay old name now.files)
+  pub untold : before.files ≡ None → now.files ≡ None
   pub said : now.said ≡ before.said
   pub is_created : now.is_created ≡ false
   pub created : now.created ≡ None
-  pub risen : HasRisen before.faults now.faults
+  pub risen : RisesByOne before.faults now.faults
   pub say_failed : now.say_failed ≡ false

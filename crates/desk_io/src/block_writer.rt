@@ -50,14 +50,29 @@ impl BlockWriter {
             self.put_behind(text);
             return Ok(());
         }
-        let Ok(()) = self.flush(shelf) else {
-            return Err(Failed);
-        };
+        self.flush(shelf)?;
         if text.len() <= CAPACITY {
             self.put_behind(text);
             return Ok(());
         }
         shelf.append(text)
+    }
+
+    /// Writes two texts, the second behind the first, as `write` does.
+    pub fn write_both<S: Shelf>(
+        &mut self,
+        shelf: &mut S,
+        first: &[u8],
+        second: &[u8],
+    ) -> Result<(), Failed>
+        requires { (S.state shelf.old).is_created ≡ true }
+        ensures { Writes (S.state shelf.old) self.old (first.now ++ second.now) (S.state shelf.new)
+            self.new result }
+    {
+        let Ok(()) = self.write(shelf, first) else {
+            return Err(Failed);
+        };
+        self.write(shelf, second)
     }
 
     /// Appends what waits. It fails where the shelf does; what waits then is not told.
@@ -71,9 +86,7 @@ impl BlockWriter {
         if self.len == 0 {
             return Ok(());
         }
-        let Ok(()) = shelf.append(&self.block[..self.len]) else {
-            return Err(Failed);
-        };
+        shelf.append(&self.block[..self.len])?;
         self.len = 0;
         Ok(())
     }

@@ -1,6 +1,7 @@
 //! Calls that are counted, of which chosen ones fail.
 ghost use Rattle.std.specs.Prelude.{◌≡◌, ◌↔◌, IsTrue};
-ghost use Rattle.desk_io.specs.Memory.{IsNextListed, next_call};
+ghost use Rattle.desk_io.specs.Files.{next_call};
+ghost use Rattle.desk_io.specs.Memory.{IsNextListed};
 
 /// How many calls there were, and the numbers of those that are to fail. The first call is 1.
 #[derive(Drop)]

@@ -2,8 +2,8 @@
 ghost use Rattle.std.specs.Prelude.{◌≡◌, ◌<◌, ◌≤◌, ◌↔◌, ◌⊎◌, true, None, min, length, take, IfOk, IsErr, OnErr, OnOk};
 ghost use Rattle.std.specs.FinMap as map;
 ghost use Rattle.desk_io.specs.DeskState.{AreNext, FailsToRead, FailsToStart, after_read, after_start};
-ghost use Rattle.desk_io.specs.Files.{HasRisen, IsThere};
-ghost use Rattle.desk_io.specs.Memory.{IsNextListed, desk_state, new_desk, next_call};
+ghost use Rattle.desk_io.specs.Files.{IsThere, RisesByOne, next_call};
+ghost use Rattle.desk_io.specs.Memory.{IsNextListed, desk_state, new_desk};
 ghost use Rattle.desk_io.specs.Table.{table_map};
 
 use crate::calls::Calls;
@@ -23,7 +23,7 @@ struct Faults {
 impl Faults {
     // Counts one more.
     fn add(&mut self, file: Option<usize>) -> Failed
-        ensures risen { HasRisen self.old.count self.new.count }
+        ensures risen { RisesByOne self.old.count self.new.count }
         ensures file { self.new.file ≡ file }
     {
         self.count = self.count.saturating_add(1);

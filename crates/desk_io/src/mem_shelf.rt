@@ -1,7 +1,8 @@
 //! A shelf in memory, which fails at chosen calls.
 ghost use Rattle.std.specs.Prelude.{◌≡◌, ◌↔◌, true, option_map, IsErr, OnOk, OnErr};
 ghost use Rattle.std.specs.FinMap as map;
-ghost use Rattle.desk_io.specs.Memory.{IsNextListed, new_shelf, next_call, shelf_state};
+ghost use Rattle.desk_io.specs.Files.{next_call};
+ghost use Rattle.desk_io.specs.Memory.{IsNextListed, new_shelf, shelf_state};
 ghost use Rattle.desk_io.specs.ShelfState.{after_create, after_append, after_finish, after_say};
 ghost use Rattle.desk_io.specs.ShelfState.{FailsToAppend, FailsToCreate, FailsToFinish, FailsToSay};
 

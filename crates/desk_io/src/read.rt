@@ -1,6 +1,6 @@
 //! A whole file of a desk.
-ghost use Rattle.std.specs.Prelude.{◌≡◌, ◌<◌, ◌≤◌, ◌^◌, IfOk, IsErrOf, vec_len};
-ghost use Rattle.desk_io.specs.Files.{HasRisen, IsThere};
+ghost use Rattle.std.specs.Prelude.{true, ◌≡◌, ◌<◌, ◌≤◌, ◌^◌, IfOk, IsErrOf, vec_len};
+ghost use Rattle.desk_io.specs.Files.{IsThere, RisesByOne};
 ghost use Rattle.desk_io.specs.Reading.{FaultIsOn, HasTaken, HasTakenOneMore, IsWhole};
 
 use crate::desk::Desk;
@@ -22,8 +22,8 @@ const BLOCK: usize = 16384;
 
 /// The bytes of a file, of which there may be at most `limit`.
 ///
-/// It gives `Fault` where no file has this name or the desk fails, and only then a fault is
-/// counted; `TooLong` where the file has more bytes than the limit, of which one more than the
+/// It gives `Fault` where no file has this name or the desk fails, and only then one fault is
+/// counted, and not once more bytes than the limit were taken; `TooLong` where the file has more bytes than the limit, of which one more than the
 /// limit was then taken; and `Memory` where there was no room for its bytes.
 pub fn read_file<D: Desk>(
     alloc: Global,
@@ -36,9 +36,11 @@ pub fn read_file<D: Desk>(
     ensures short { IfOk result (λ v. vec_len v ≤ limit) }
     ensures files { (D.state desk.new).files ≡ (D.state desk.old).files }
     ensures fault { IsErrOf result ReadStop.Fault
-        → HasRisen (D.state desk.old).faults (D.state desk.new).faults }
+        → RisesByOne (D.state desk.old).faults (D.state desk.new).faults }
     ensures fault_on { IsErrOf result ReadStop.Fault
         → FaultIsOn (D.state desk.old).files name.now (D.state desk.new).fault_name }
+    ensures fault_early { IsErrOf result ReadStop.Fault → (D.state desk.new).is_started ≡ true
+        → HasTaken (D.state desk.old).files name.now limit (D.state desk.new).left }
     ensures there { ¬ IsErrOf result ReadStop.Fault → IsThere (D.state desk.old).files name.now }
     ensures no_fault { ¬ IsErrOf result ReadStop.Fault
         → (D.state desk.new).faults ≡ (D.state desk.old).faults }

@@ -1,6 +1,6 @@
 //! The faults of a shelf.
 ghost use Rattle.std.specs.Prelude.{◌≡◌, false};
-ghost use Rattle.desk_io.specs.Files.{HasRisen};
+ghost use Rattle.desk_io.specs.Files.{RisesByOne};
 
 use crate::desk::Failed;
 
@@ -24,7 +24,7 @@ impl ShelfFaults {
 
     /// Counts a fault, and gives it.
     pub(crate) fn add(&mut self, in_say: bool) -> Failed
-        ensures risen { HasRisen self.old.count self.new.count }
+        ensures risen { RisesByOne self.old.count self.new.count }
         ensures in_say { self.new.in_say ≡ in_say }
     {
         self.count = self.count.saturating_add(1);

@@ -1,7 +1,7 @@
 -- What the check comes to where a file is not read, and where both are.
 use Rattle.std.proofs.Common.{◌≡◌, ℕ, List, Option, length, refl, subst, inl, inr}
 use Rattle.desk_io.specs.DeskState.{DeskState}
-use Rattle.desk_io.specs.Files.{FileMap, HasRisen}
+use Rattle.desk_io.specs.Files.{FileMap, RisesByOne}
 use Rattle.desk_io.specs.Reading.{FaultIsOn}
 use Rattle.fpga_text.specs.declared.fault.TextFault.TheVariants.{Bad as IsBad, Limit as IsPastLimit}
 use Rattle.sat_clause.specs.Formula.{Cnf}
@@ -37,7 +37,7 @@ module _ (job : CheckJob) (before between now : DeskState) where
       refl,
       (cnf, reads),
       record {
-        risen = subst (λ (n : ℕ). HasRisen n now.faults) faults h.risen;
+        risen = subst (λ (n : ℕ). RisesByOne n now.faults) faults h.risen;
         on = told (λ f. FaultIsOn f job.lrat now.fault_name) h.on;
       },
     )

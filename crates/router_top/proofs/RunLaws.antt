@@ -4,10 +4,12 @@ use Rattle.std.specs.Prelude.{MatchResult, Some, ⊤}
 use Rattle.desk_io.specs.DeskState.{DeskState}
 use Rattle.desk_io.specs.Files.{Bytes, FileMap, HasRisen}
 use Rattle.desk_io.specs.ShelfState.{ShelfState, after_say}
+use Rattle.desk_io.specs.WholeFile.{FailsToWrite}
+use Rattle.desk_io.proofs.FileLemmas.{has_risen}
 use Rattle.router_top.specs.Answer.{IsComplete, Leaves, LeavesEncode, LeavesJob, LeavesRoute, Runs}
 use Rattle.router_top.specs.Search.{WritesFound}
 use Rattle.router_top.specs.Truth.{Agrees, IsOfSearch, IsTrueOf, IsTrueOfEncode, IsTrueOfJob, IsTrueOfRoute}
-use Rattle.router_top.specs.Written.{FailsToWrite, FailsToWriteProof}
+use Rattle.router_top.specs.Written.{FailsToWriteProof}
 use Rattle.route_encode.specs.Encoding.{cnf_subset}
 use Rattle.fpga_types.specs.Legal.{tracks_of}
 use Rattle.fpga_types.specs.declared.route.RouteText.{RouteText}
@@ -32,8 +34,8 @@ risen-then a b c h g = record {
 }
 
 write-risen : (before : ShelfState) (name text : Bytes) (now : ShelfState) → FailsToWrite before name text now → HasRisen before.faults now.faults
-write-risen before name text now (inl h) = h.risen
-write-risen before name text now (inr h) = h.risen
+write-risen before name text now (inl h) = has_risen _ _ h.risen
+write-risen before name text now (inr h) = has_risen _ _ h.risen
 
 proof-risen : (before : ShelfState) (prefix : Word) (cnf : Cnf) (log : List Step) (slot : ℕ) (now : ShelfState) → FailsToWriteProof before prefix cnf log slot now → HasRisen before.faults now.faults
 proof-risen before prefix cnf log slot now (inl h) = write-risen before _ _ now h.1
@@ -123,7 +125,7 @@ module _ (desk desk_now : DeskState) (shelf between : ShelfState) where
   route_settled job Accepted h calm quiet = absurd h.3.1
   route_settled job (NotAccepted s c) h calm quiet = absurd h.3.1
   route_settled job (Usage c) h calm quiet = absurd h.3.1
-  route_settled job (ReadFault f) h calm quiet = absurd (calm h.1.risen)
+  route_settled job (ReadFault f) h calm quiet = absurd (calm (has_risen _ _ h.1.risen))
   route_settled job (WriteFault s) h calm quiet = absurd (quiet (found-risen job h.0 shelf between s h.3.1))
   route_settled job OutOfMemory h calm quiet = inr refl
 
@@ -137,7 +139,7 @@ module _ (desk desk_now : DeskState) (shelf between : ShelfState) where
   encode_settled job Accepted h calm quiet = inl h.0
   encode_settled job (NotAccepted s c) h calm quiet = inl h.0
   encode_settled job (Usage c) h calm quiet = inl h.0
-  encode_settled job (ReadFault f) h calm quiet = absurd (calm h.1.risen)
+  encode_settled job (ReadFault f) h calm quiet = absurd (calm (has_risen _ _ h.1.risen))
   encode_settled job (WriteFault s) h calm quiet = absurd (quiet (write-risen shelf _ _ between h.3))
   encode_settled job OutOfMemory h calm quiet = inr refl
 
@@ -151,7 +153,7 @@ module _ (desk desk_now : DeskState) (shelf between : ShelfState) where
   check_settled job (InputFault f l c) h calm = inl h
   check_settled job (Limit c n) h calm = inl h
   check_settled job (Usage c) h calm = inl h
-  check_settled job (ReadFault f) h calm = absurd (elim h [ inl cnf ↦ calm cnf.1.risen | inr lrat ↦ calm lrat.2.risen ])
+  check_settled job (ReadFault f) h calm = absurd (elim h [ inl cnf ↦ calm (has_risen _ _ cnf.1.risen) | inr lrat ↦ calm (has_risen _ _ lrat.2.risen) ])
   check_settled job (WriteFault s) h calm = inl h
   check_settled job OutOfMemory h calm = inr refl
 
@@ -329,7 +331,7 @@ module _ (words : List Word) (desk desk_now : DeskState) (shelf : ShelfState) wh
   said : (now : ShelfState) (answer : Outcome) (r : Runs words desk desk_now shelf now answer) → ¬ HasRisen shelf.faults now.faults → (answer ≡ r.outcome) × (now ≡ after_say r.between (line_of r.outcome))
   said now answer r quiet = elim r.reports [
     | inl h ↦ h
-    | inr h ↦ absurd (quiet (risen-then shelf.faults r.between.faults now.faults (never_falls desk desk_now shelf r.between words r.outcome r.leaves) h.1.failed.risen))
+    | inr h ↦ absurd (quiet (risen-then shelf.faults r.between.faults now.faults (never_falls desk desk_now shelf r.between words r.outcome r.leaves) (has_risen _ _ h.1.failed.risen)))
   ]
 
   pub runs-complete : (now : ShelfState) (answer : Outcome) → Runs words desk desk_now shelf now answer → IsComplete words desk desk_now shelf now answer

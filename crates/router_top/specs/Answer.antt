@@ -4,6 +4,7 @@ use Rattle.std.specs.Option.{ForSome}
 use Rattle.desk_io.specs.DeskState.{DeskState}
 use Rattle.desk_io.specs.Files.{Bytes, FileMap, HasRisen}
 use Rattle.desk_io.specs.ShelfState.{FailsToSay, ShelfState, after_say}
+use Rattle.desk_io.specs.WholeFile.{FailsToWrite, after_writing}
 use Rattle.fpga_types.specs.Fit.{IsFit}
 use Rattle.fpga_types.specs.declared.route.RouteText.{RouteText}
 use Rattle.sat_text.specs.Printed.{cnf_text}
@@ -15,7 +16,6 @@ use Rattle.router_top.specs.Inputs.{FailsToRead}
 use Rattle.router_top.specs.Report.{IsReadFault, line_of, unsaid}
 use Rattle.router_top.specs.Search.{WritesFound}
 use Rattle.router_top.specs.Truth.{Agrees, IsTrueOf, IsTrueOfEncode, IsTrueOfRoute}
-use Rattle.router_top.specs.Written.{FailsToWrite, after_writing}
 use Rattle.router_top.specs.declared.outcome.Outcome.{Outcome}
 use Rattle.router_top.specs.declared.outcome.Outcome.TheVariants.{Done, InputFault, Limit, Usage, ReadFault, WriteFault, OutOfMemory}
 

@@ -3,7 +3,7 @@ use Rattle.std.specs.Prelude.{◌≡◌, ℕ, ◌<◌, ◌≤◌, length, Option
 use Rattle.std.specs.Option.{ForSome}
 use Rattle.std.specs.FinMap.{get}
 use Rattle.desk_io.specs.DeskState.{DeskState}
-use Rattle.desk_io.specs.Files.{Bytes, FileMap, HasRisen}
+use Rattle.desk_io.specs.Files.{Bytes, FileMap, RisesByOne}
 use Rattle.desk_io.specs.Reading.{FaultIsOn}
 use Rattle.desk_io.specs.declared.read.ReadStop.{ReadStop}
 use Rattle.desk_io.specs.declared.read.ReadStop.TheVariants.{Fault, TooLong, Memory}
@@ -25,7 +25,7 @@ IsLonger limit files name =
 
 -- the desk failed on the file with this name
 pub record FailsToRead (before now : DeskState) (name : Bytes) : Type 0 where
-  pub risen : HasRisen before.faults now.faults
+  pub risen : RisesByOne before.faults now.faults
   pub on : FaultIsOn before.files name now.fault_name
 
 -- why a file was not read

@@ -1,6 +1,7 @@
 -- What a search through the clauses of a route finds, and what is written of it.
 use Rattle.std.specs.Prelude.{◌≡◌, ◌⊎◌, ℕ, List, length}
 use Rattle.desk_io.specs.ShelfState.{ShelfState}
+use Rattle.desk_io.specs.WholeFile.{FailsToWrite, after_writing}
 use Rattle.fpga_types.specs.declared.route.RouteText.{RouteText}
 use Rattle.fpga_route.specs.Printed.{printed}
 use Rattle.route_encode.specs.Encoding.{cnf_subset}
@@ -15,7 +16,7 @@ use Rattle.sat_text.specs.LratText.{ReadsLrat}
 use Rattle.sat_text.specs.Printed.{cnf_text, log_text}
 use Rattle.router_top.specs.Asked.{HasFew, HasTooMany, IsUnroutable, route_name}
 use Rattle.router_top.specs.Command.{RouteJob}
-use Rattle.router_top.specs.Written.{FailsToWrite, FailsToWriteProof, after_proof, after_writing}
+use Rattle.router_top.specs.Written.{FailsToWriteProof, after_proof}
 use Rattle.router_top.specs.declared.outcome.Outcome.{Outcome}
 use Rattle.router_top.specs.declared.outcome.Outcome.TheVariants.{Routed, Unroutable, Undecided, Limit, WriteFault, OutOfMemory}
 

@@ -1,8 +1,7 @@
--- What is written: one file, or the clauses and a log behind them.
-use Rattle.std.specs.Prelude.{◌≡◌, ◌⊎◌, ℕ, ◌≤◌, List, length, take, option_map, false}
-use Rattle.std.specs.FinMap.{insert}
-use Rattle.desk_io.specs.Files.{Bytes, HasRisen}
-use Rattle.desk_io.specs.ShelfState.{FailsToCreate, ShelfState, after_create, after_finish}
+-- What is written: the clauses, or the clauses and a log behind them.
+use Rattle.std.specs.Prelude.{◌≡◌, ◌⊎◌, ℕ, List}
+use Rattle.desk_io.specs.ShelfState.{ShelfState}
+use Rattle.desk_io.specs.WholeFile.{FailsToWrite, after_writing}
 use Rattle.fpga_types.specs.declared.route.RouteText.{RouteText}
 use Rattle.route_encode.specs.Encoding.{cnf_subset}
 use Rattle.sat_clause.specs.Formula.{Cnf}
@@ -12,26 +11,6 @@ use Rattle.router_top.specs.Asked.{HasFew, HasTooMany, cnf_name, lrat_name}
 use Rattle.router_top.specs.Command.{EncodeJob, Word}
 use Rattle.router_top.specs.declared.outcome.Outcome.{Outcome}
 use Rattle.router_top.specs.declared.outcome.Outcome.TheVariants.{Done, Limit, WriteFault, OutOfMemory}
-
--- a shelf after a file of this name was written, with this text
-abbrev pub after_writing : ShelfState → Bytes → Bytes → ShelfState
-after_writing shelf name text = after_finish (record (after_create shelf name) {
-  files = option_map (λ files. insert files name text) shelf.files;
-})
-
--- a file of this name was being written, and so many bytes at the front of its text were
-pub record IsCutShort (before : ShelfState) (name text : Bytes) (now : ShelfState) : Type 0 where
-  pub count : ℕ
-  pub within : count ≤ length text
-  pub files : now.files ≡ option_map (λ files. insert files name (take count text)) before.files
-  pub said : now.said ≡ before.said
-  pub risen : HasRisen before.faults now.faults
-  pub say_failed : now.say_failed ≡ false
-
--- a file of this name could not be created, or a front part of its text was written
-abbrev pub FailsToWrite : ShelfState → Bytes → Bytes → ShelfState → Type 0
-FailsToWrite before name text now =
-    FailsToCreate before name now ⊎ IsCutShort before name text now
 
 -- a shelf after the clauses were written, and then the log
 abbrev pub after_proof : ShelfState → Word → Cnf → List Step → ShelfState

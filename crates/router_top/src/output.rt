@@ -1,7 +1,7 @@
 //! The files that are written.
 ghost use Rattle.std.specs.Prelude.{◌≡◌, ◌≤◌, ◌++◌, length, string_bytes, IfOk, OnErr, OnOk};
 ghost use Rattle.fpga_route.specs.Printed.{printed};
-ghost use Rattle.router_top.specs.Written.{FailsToWrite, after_writing};
+ghost use Rattle.desk_io.specs.WholeFile.{FailsToWrite, after_writing};
 ghost use Rattle.sat_text.specs.CnfText.{ReadsCnf};
 ghost use Rattle.sat_text.specs.Printed.{cnf_text, log_text};
 

@@ -1,5 +1,5 @@
 use Rattle.sat_text.specs.Printed.{cnf_text}
-use Rattle.router_top.proofs.FileSteps.{append-fails, file-written, finish-fails}
+use Rattle.desk_io.proofs.WholeFileLemmas.{append-fails, file-written, finish-fails}
 use Rattle.router_top.proofs.output.write_cnf_file.Goals as goal
 
 pub returns-clause-ok : goal.returns-clause-ok

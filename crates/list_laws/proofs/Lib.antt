@@ -1,0 +1,6 @@
+pub mod FrontParts
+pub mod Members
+pub mod Numbered
+pub mod Places
+pub mod Rows
+pub mod Searches

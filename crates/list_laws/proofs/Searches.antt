@@ -1,0 +1,43 @@
+-- The first place where a test passes.
+use Rattle.std.proofs.Common.{◌≡◌, ℕ, suc, ◌+◌, ◌<◌, Bool, true, false, cond, Some, None, List, [], ◌∷◌, length, refl, arith, one-add}
+use Rattle.std.specs.Prelude.{◌||◌, not, filter, find, is_some}
+use Rattle.std.specs.List.{list_any, position_from, position_or_len}
+use Rattle.std.proofs.lemmas.Bool.{false≢true}
+
+-- a place is found exactly where the test passes somewhere
+pub position-any : {T : Type 0} (p : T → Bool) (i : ℕ) (xs : List T) →
+    is_some (position_from p i xs) ≡ list_any p xs
+position-any p i [] = refl
+position-any {T} p i (x ∷ xs) = rw (← position-any p (i + 1) xs) (go (p x))
+  where
+    go : (b : Bool) → is_some (cond b (Some i) (position_from p (i + 1) xs))
+        ≡ (b || is_some (position_from p (i + 1) xs))
+    go true = refl
+    go false = refl
+
+-- behind an element where it fails
+pub position-failed : {T : Type 0} (p : T → Bool) (x : T) (xs : List T) → p x ≡ false →
+    position_or_len p (x ∷ xs) ≡ suc (position_or_len p xs)
+position-failed p x xs h = rw (h, one-add (position_or_len p xs)) refl
+
+-- where the test passes somewhere, its first place is one of the list
+pub position-below : {T : Type 0} (p : T → Bool) (xs : List T) → list_any p xs ≡ true →
+    position_or_len p xs < length xs
+position-below p [] h = absurd (false≢true h)
+position-below {T} p (x ∷ xs) h = go (p x) h (position-below p xs)
+  where
+    go : (b : Bool) → (b || list_any p xs) ≡ true →
+        (list_any p xs ≡ true → position_or_len p xs < length xs) →
+        cond (not b) (1 + position_or_len p xs) 0 < length (x ∷ xs)
+    go true e more = omega arith
+    go false e more = let g = more e in omega (arith, g)
+
+-- where no element passes, none is kept
+pub filter-none : {T : Type 0} (p : T → Bool) (xs : List T) → find p xs ≡ None → filter p xs ≡ []
+filter-none p [] h = refl
+filter-none {T} p (x ∷ xs) h = go (p x) h (filter-none p xs)
+  where
+    go : (b : Bool) → cond b (Some x) (find p xs) ≡ None → (find p xs ≡ None → filter p xs ≡ []) →
+        cond b (x ∷ filter p xs) (filter p xs) ≡ []
+    go true e more = cc
+    go false e more = more e
