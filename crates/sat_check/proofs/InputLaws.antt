@@ -8,13 +8,12 @@ use Rattle.sat_clause.specs.Formula.{Cnf}
 use Rattle.sat_clause.specs.Judge.{inputs}
 use Rattle.sat_clause.specs.Literal.{Clause}
 use Rattle.sat_clause.proofs.LiveLaws.{inputs_at, inputs_none}
-use Rattle.sat_clause.proofs.PartsLaws.{none_is_not_some}
 use Rattle.sat_check.specs.InputStore.{clause_of, input_at, position_of}
 use Rattle.sat_check.specs.Finder.{Changes, Finds}
 
 -- a position of a mark is within them, and is that of the id
 pub position_is : (marks : List Bool) (id at : ℕ) → position_of marks id ≡ Some at → (at < length marks) × (id ≡ suc at)
-position_is marks zero at is = absurd (none_is_not_some is)
+position_is marks zero at is = cc
 position_is marks (suc i) at is = by (get_or marks i false) refl is
   where
     by : (b : Bool) → get_or marks i false ≡ b → cond b (Some i) None ≡ Some at → (at < length marks) × (suc i ≡ suc at)
@@ -27,7 +26,7 @@ position_is marks (suc i) at is = by (get_or marks i false) refl is
         inside false above equal there =
             let past : length marks ≤ i = omega (arith, ltb-false i (length marks) above) in
             absurd (both_ways (get_or marks i false) (get_or_past marks i false past) there)
-    by false gone none = absurd (none_is_not_some none)
+    by false gone none = cc
 
 -- a position within the clauses has one
 pub is_some-within : (clauses : List Clause) (at : ℕ) → at < length clauses → is_some (slice_get clauses at) ≡ true

@@ -11,7 +11,7 @@ cell_at first count id =
     if nat_lt id first then None else if nat_lt (id - first) count then Some (id - first) else None
 
 -- what stands in a cell, or else this
-abbrev pub cell_or : Option ℕ → List (Option (Bor Clause)) → Option (Bor Clause) → Option (Bor Clause)
+abbrev pub cell_or : {X : Type 0} → Option ℕ → List (Option X) → Option X → Option X
 cell_or None table other = other
 cell_or (Some at) table other = slice_index_or table at None
 
@@ -28,4 +28,5 @@ pub record DerivedState : Type 0 where
 -- the clause with an id
 abbrev pub derived_at : DerivedState → Finder
 derived_at state id =
-    option_map now (cell_or (cell_at state.first (length state.table) id) state.table (lookup (λ k. id == k) state.others))
+    let cell = cell_at state.first (length state.table) id in
+    option_map now (cell_or cell state.table (lookup (λ k. id == k) state.others))

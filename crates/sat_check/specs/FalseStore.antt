@@ -19,4 +19,5 @@ slot_of (negsuc n) = 2 * n + 3
 pub record IsFalseStore (size : ℕ) (marks : List ℕ) (trail : Vec Lit Global) : Type 0 where
   pub many : 2 * size + 2 ≤ 64 * length marks
   pub within : All (IsWithin size) trail.items
-  pub marked : (l : Lit) → IsWithin size l → is_set marks (slot_of l.code) ≡ is_among (reverse trail.items) l
+  pub marked : (l : Lit) → IsWithin size l →
+      is_set marks (slot_of l.code) ≡ is_among (reverse trail.items) l

@@ -15,8 +15,8 @@ use std::marker::Model;
 
 /// The live clauses of a formula and a log, which it borrows.
 ///
-/// An input clause is found by its mark until it is deleted, or a step adds another clause under its
-/// id, which then stands among the derived ones.
+/// An input clause is found by its mark until it is deleted, or a step adds another clause under
+/// its id, which then stands among the derived ones.
 #[derive(Drop)]
 pub(crate) struct LiveClauses<'a> {
     vars: u32,
@@ -105,7 +105,8 @@ impl<'a> LiveClauses<'a> {
     /// Takes out the clauses with these ids, in order, up to the first that is not live.
     pub(crate) fn erase(&mut self, ids: &[i64]) -> Option<Cause>
         ensures vars { self.new.vars ≡ self.old.vars }
-        ensures fault { (live : Live) → Finds (live_at self.old) live → result ≡ erase_fault live ids.now }
+        ensures fault { (live : Live) → Finds (live_at self.old) live
+            → result ≡ erase_fault live ids.now }
         ensures live { IsNone result → (live : Live) → Finds (live_at self.old) live
             → Finds (live_at self.new) (erased live ids.now) }
     {
