@@ -7,7 +7,7 @@ ghost use Rattle.sat_arena.specs.Store.{new_clause, ref};
 
 use crate::layout::{head, lower, upper, word};
 use crate::places::{Claim, Places, Start, allocate, deallocate};
-use sat_clause::Lit;
+use sat_clause::{LITERAL_LIMIT, Lit};
 use std::alloc::{AllocError, Global};
 use std::marker::Model;
 use std_alloc::room::may_hold;
@@ -151,7 +151,7 @@ impl Block {
 
     /// Writes a clause behind the others, with neither mark nor links.
     pub(crate) fn append_clause(&mut self, lits: &[Lit], id: u32)
-        requires few { length lits.now ≤ 2147483647 }
+        requires few { length lits.now ≤ LITERAL_LIMIT }
         requires room { length lits.now + 6 ≤ self.old.spare }
         ensures words { self.new.words ≡ self.old.words ++ written (new_clause (ref 0) id lits.now) }
         ensures spare { self.new.spare ≡ self.old.spare - (length lits.now + 6) }

@@ -1,5 +1,6 @@
 -- A search: what contracts see, and what it knows.
 use Rattle.std.specs.Prelude.{◌≡◌, ℕ, suc, ◌+◌, ◌<◌, ◌≤◌, ◌^◌, ◌++◌, ℤ, List, [], ◌∷◌, length, slice_get, All, Contains, None}
+use Rattle.sat_clause.specs.declared.limits.TheConstants.{VARIABLE_LIMIT}
 use Rattle.sat_clause.specs.declared.reading.Reading.{Reading}
 use Rattle.sat_clause.specs.declared.reading.Reading.TheVariants.{Conflict}
 use Rattle.sat_clause.specs.Formula.{Cnf}
@@ -28,7 +29,7 @@ with_clause known clause = record known { clauses = known.clauses ++ clause ∷ 
 
 -- learned clauses and trail are of the formula's variables, and each entry has its cause
 pub record IsSearchStore (formula learned : Cnf) (vars : ℕ) (entries : List Entry) : Type 0 where
-  pub few_vars : formula.vars ≤ 100000000
+  pub few_vars : formula.vars ≤ VARIABLE_LIMIT
   pub within : All (All (IsWithin formula.vars)) (formula.clauses ++ learned.clauses)
   pub learned_vars : learned.vars ≡ formula.vars
   pub trail_vars : vars ≡ formula.vars

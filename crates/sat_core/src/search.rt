@@ -12,7 +12,7 @@ use crate::entry::Entry;
 use crate::lesson::Lesson;
 use crate::scan::Scan;
 use crate::trail::Trail;
-use sat_clause::{Formula, Lit, Reading, read_clause};
+use sat_clause::{Formula, ID_LIMIT, Lit, Reading, read_clause};
 use std::alloc::{AllocError, Global};
 use std::marker::Model;
 
@@ -198,7 +198,7 @@ impl<'a> Search<'a> {
         requires lesson { clause.now ≡ negated_decisions self.old.entries }
         requires within { All (IsWithin self.old.known.vars) clause.now }
         requires some { clause.now ≢ [] }
-        requires few { length self.old.known.clauses < 4294967295 }
+        requires few { length self.old.known.clauses < ID_LIMIT }
         ensures known { OnOk result (self.new.known ≡ with_clause self.old.known clause.now) }
         ensures fresh { OnOk result (IsNewTo self.old.known.clauses clause.now) }
     {

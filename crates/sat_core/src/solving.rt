@@ -9,7 +9,7 @@ ghost use Rattle.sat_core.specs.Underway.{HasSearched};
 use crate::Answer;
 use crate::search::Search;
 use crate::turn::{Turn, take_turn};
-use sat_clause::{Formula, Log};
+use sat_clause::{Formula, ID_LIMIT, Log};
 use std::alloc::{AllocError, Global};
 
 /// The search for values that satisfy a formula, which keeps each clause that it learns.
@@ -19,7 +19,7 @@ fn search_for_values(
     budget: u64,
     log: &mut Log,
 ) -> Result<Answer, AllocError>
-    requires ids { length formula.now.cnf.clauses + budget ≤ 4294967295 }
+    requires ids { length formula.now.cnf.clauses + budget ≤ ID_LIMIT }
     requires fresh { log.old.steps ≡ [] }
     ensures { HasSearched formula.now.cnf budget log.new.steps result }
 {
@@ -56,7 +56,7 @@ pub fn solve(
     log: &mut Log,
 ) -> Result<Answer, AllocError>
     requires budget { 1 ≤ budget }
-    requires ids { length formula.now.cnf.clauses + budget ≤ 4294967295 }
+    requires ids { length formula.now.cnf.clauses + budget ≤ ID_LIMIT }
     requires fresh { log.old.steps ≡ [] }
     ensures answer { IfOk result (IsAnswer formula.now.cnf budget log.new.steps) }
     ensures logged { IsSearchLog formula.now.cnf log.new.steps }

@@ -8,7 +8,7 @@ ghost use Rattle.sat_clause.specs.Trail.{IsClosed, IsOnce, IsOpen, falses};
 ghost use Rattle.sat_core.specs.Trail.{AreWithin, literals};
 
 use crate::entry::Entry;
-use sat_clause::{FalseLiterals, Lit};
+use sat_clause::{FalseLiterals, Lit, VARIABLE_LIMIT};
 use std::alloc::{AllocError, Global};
 use std::marker::Model;
 
@@ -48,7 +48,7 @@ impl FalseLiterals for Trail {
 impl Trail {
     /// The trail of so many variables on which nothing stands.
     pub(crate) fn new(alloc: Global, vars: u32) -> Result<Trail, AllocError>
-        requires { vars ≤ 100000000 }
+        requires { vars ≤ VARIABLE_LIMIT }
         ensures { IfOk result (λ t. t ≡ record { vars = vars; entries = [] }) }
     {
         Ok(Trail {
