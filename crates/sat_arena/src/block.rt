@@ -1,6 +1,6 @@
 //! A row of words in one block of memory, which grows on request alone.
 
-ghost use Rattle.std.specs.Prelude.{◌≡◌, ◌+◌, ◌-◌, ◌<◌, ◌≤◌, [], ◌∷◌, ◌++◌, length, take, drop, slice_set, IfOk, OnOk, Some};
+ghost use Rattle.std.specs.Prelude.{◌≡◌, ◌+◌, ◌-◌, ◌^◌, ◌<◌, ◌≤◌, [], ◌∷◌, ◌++◌, length, take, drop, slice_set, IfOk, OnOk, Some};
 ghost use Rattle.sat_arena.specs.Block.{slid, word_at};
 ghost use Rattle.sat_arena.specs.Layout.{lower as lower_of, upper as upper_of, written_new};
 
@@ -36,7 +36,7 @@ impl Block {
     /// A block without words, with room for so many.
     pub(crate) fn with_room(alloc: Global, capacity: usize) -> Result<Block, AllocError>
         ensures block { IfOk result (λ b. b ≡ record { words = []; spare = capacity }) }
-        ensures small { OnOk result (capacity < 9223372036854775808) }
+        ensures small { OnOk result (capacity < 2 ^ 63) }
     {
         if !may_hold::<Lit>(capacity) {
             return Err(AllocError);
@@ -55,7 +55,7 @@ impl Block {
     /// How many words there are.
     pub(crate) fn len(&self) -> usize
         ensures value { result ≡ length self.now.words }
-        ensures small { length self.now.words + self.now.spare < 9223372036854775808 }
+        ensures small { length self.now.words + self.now.spare < 2 ^ 63 }
     {
         self.len
     }
@@ -94,7 +94,7 @@ impl Block {
     /// Writes the halves of a number over two words.
     pub(crate) fn set_number(&mut self, index: usize, n: u64)
         requires inside { index + 1 < length self.old.words }
-        requires small { index + 1 < 18446744073709551616 }
+        requires small { index + 1 < 2 ^ 64 }
         ensures { self.new ≡ record self.old {
           words = slice_set (slice_set self.old.words index (lower_of n)) (index + 1) (upper_of n);
         } }
@@ -145,7 +145,7 @@ impl Block {
         requires { length self.now.words ≤ capacity }
         ensures words { IfOk result (λ b. b.words ≡ self.now.words) }
         ensures spare { IfOk result (λ b. b.spare ≡ capacity - length self.now.words) }
-        ensures small { OnOk result (capacity < 9223372036854775808) }
+        ensures small { OnOk result (capacity < 2 ^ 63) }
     {
         let mut next = Block::with_room(alloc, capacity)?;
         next.extend(self.run(0, self.len));
@@ -180,7 +180,7 @@ impl Block {
     pub(crate) fn slide(&mut self, from: usize, to: usize, len: usize)
         requires earlier { to ≤ from }
         requires inside { from + len ≤ length self.old.words }
-        requires small { from + len < 18446744073709551616 }
+        requires small { from + len < 2 ^ 64 }
         ensures words { self.new.words ≡ slid self.old.words from to len }
         ensures spare { self.new.spare ≡ self.old.spare }
     {
