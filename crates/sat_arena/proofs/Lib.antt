@@ -8,4 +8,5 @@ pub mod ReadLemmas
 pub mod RowMemory
 pub mod SearchLemmas
 pub mod Steps
+pub mod StoreLaws
 pub mod WriteLemmas

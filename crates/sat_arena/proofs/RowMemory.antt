@@ -68,31 +68,34 @@ owner = vstruct (vcons (vstruct vnil) vnil)
 pub owner_made : (E : El) {M : Type 1} {𝓤 : Ura M} (𝓛 : Logic 𝓤) →
     ent 𝓤 (emp 𝓤) (sem 𝓛 ((OwnerType E).own_val (tt, tt) (owner ∷ [])))
 owner_made E 𝓛 =
-    makes_shadow 𝓛 ((OwnerType E).own_val (tt, tt) (owner ∷ [])) (λ vss. (tt, ((λ uss. (tt, tt)), tt)))
+    makes_shadow 𝓛 ((OwnerType E).own_val (tt, tt) (owner ∷ []))
+    (λ vss. (tt, ((λ uss. (tt, tt)), tt)))
     ((vstruct vnil ∷ [], tt), (refl, ((tt, (refl, tt)), tt)))
 
-module _ {M : Type 1} {𝓤 : Ura M} {𝓛 : Logic 𝓤} {K : Type 0} {Γ : List (Item 𝓤)} {G : Goal 𝓤 𝓛.H} where
-  -- a pointer that is owned is this machine value
-  pub pointer_had : K → (p : Ptr) (vs : List Val) → (vs ≡ word p ∷ [] → Seq K 𝓛 Γ G) →
-      Seq K 𝓛 (‵ (PointerType.own_val (p, tt) vs) ∷ Γ) G
-  pointer_had t p vs on =
-      fpick t (λ vss. fsplit t $ feq_l t (λ whole. fsplit t $ feq_l t (λ part. skip t $
-      on (subst (λ (ws : List Val). vs ≡ vstruct (of_list (ws ++ [])) ∷ []) part whole))))
+module _ {M : Type 1} {𝓤 : Ura M} {𝓛 : Logic 𝓤} {K : Type 0} {Γ : List (Item 𝓤)} {G : Goal 𝓤 𝓛.H}
+  where
+    -- a pointer that is owned is this machine value
+    pub pointer_had : K → (p : Ptr) (vs : List Val) → (vs ≡ word p ∷ [] → Seq K 𝓛 Γ G) →
+        Seq K 𝓛 (‵ (PointerType.own_val (p, tt) vs) ∷ Γ) G
+    pointer_had t p vs on =
+        fpick t (λ vss. fsplit t $ feq_l t (λ whole. fsplit t $ feq_l t (λ part. skip t $
+        on (subst (λ (ws : List Val). vs ≡ vstruct (of_list (ws ++ [])) ∷ []) part whole))))
 
-  pub pointer_made : K → (p : Ptr) →
-      Step K 𝓛 (‵ (PointerType.own_val (p, tt) (word p ∷ [])) ∷ Γ) G Γ G
-  pointer_made t p = step (λ s.
-      nothing t $ feq_i t (List Val) (ptr_val p ∷ []) (ptr_val p ∷ []) refl $ fjoin t $
-      feq_i t (List Val) (word p ∷ []) (word p ∷ []) refl $ fjoin t $
-      fpack t (Valss (RawPtr ∷ [])) (within pointer_shape (p, tt) (word p ∷ [])) (ptr_val p ∷ [], tt) $ s)
+    pub pointer_made : K → (p : Ptr) →
+        Step K 𝓛 (‵ (PointerType.own_val (p, tt) (word p ∷ [])) ∷ Γ) G Γ G
+    pointer_made t p = step (λ s.
+        nothing t $ feq_i t (List Val) (ptr_val p ∷ []) (ptr_val p ∷ []) refl $ fjoin t $
+        feq_i t (List Val) (word p ∷ []) (word p ∷ []) refl $ fjoin t $
+        fpack t (Valss (RawPtr ∷ [])) (within pointer_shape (p, tt) (word p ∷ []))
+        (ptr_val p ∷ [], tt) $ s)
 
-  -- places, and a claim, are this machine value
-  pub owner_had : K → (E : El) (vs : List Val) → (vs ≡ owner ∷ [] → Seq K 𝓛 Γ G) →
-      Seq K 𝓛 (‵ ((OwnerType E).own_val (tt, tt) vs) ∷ Γ) G
-  owner_had t E vs on =
-      fpick t (λ vss. fsplit t $ feq_l t (λ whole. fsplit t $ fpick t (λ uss. fsplit t $
-      feq_l t (λ part. skip t $ skip t $
-      on (subst (λ (ws : List Val). vs ≡ vstruct (of_list (ws ++ [])) ∷ []) part whole)))))
+    -- places, and a claim, are this machine value
+    pub owner_had : K → (E : El) (vs : List Val) → (vs ≡ owner ∷ [] → Seq K 𝓛 Γ G) →
+        Seq K 𝓛 (‵ ((OwnerType E).own_val (tt, tt) vs) ∷ Γ) G
+    owner_had t E vs on =
+        fpick t (λ vss. fsplit t $ feq_l t (λ whole. fsplit t $ fpick t (λ uss. fsplit t $
+        feq_l t (λ part. skip t $ skip t $
+        on (subst (λ (ws : List Val). vs ≡ vstruct (of_list (ws ++ [])) ∷ []) part whole)))))
 
 one_value : (τ : Ty) (vs : List Val) → Typed (τ ∷ []) vs → (v : Val) × ((vs ≡ v ∷ []) × Good τ v)
 one_value τ [] t = absurd t
@@ -116,15 +119,18 @@ triple_val u v w = vstruct (vcons u (vcons v (vcons w vnil)))
 -- three values make a triple
 pub triple_made : {M : Type 1} {𝓤 : Ura M} (𝓛 : Logic 𝓤) (A B C : RattleType)
     (x : A.Denot) (y : B.Denot) (z : C.Denot) (u v w : Val) →
-    ent 𝓤 (sep 𝓤 (sem 𝓛 (A.own_val x (u ∷ []))) (sep 𝓤 (sem 𝓛 (B.own_val y (v ∷ []))) (sem 𝓛 (C.own_val z (w ∷ [])))))
+    ent 𝓤 (sep 𝓤 (sem 𝓛 (A.own_val x (u ∷ [])))
+    (sep 𝓤 (sem 𝓛 (B.own_val y (v ∷ []))) (sem 𝓛 (C.own_val z (w ∷ [])))))
     (sem 𝓛 ((Tuple (A ∷ B ∷ C ∷ [])).own_val (x, y, z) (triple_val u v w ∷ [])))
 triple_made 𝓛 A B C x y z u v w =
-    let parts = ‵ (A.own_val x (u ∷ [])) ∷ ‵ (B.own_val y (v ∷ [])) ∷ ‵ (C.own_val z (w ∷ [])) ∷ [] in
+    let parts = ‵ (A.own_val x (u ∷ [])) ∷ ‵ (B.own_val y (v ∷ [])) ∷ ‵ (C.own_val z (w ∷ []))
+    ∷ [] in
     qed 𝓛 parts ∵ nothing ! $ move ! (3 ∷ 0 ∷ []) $ fjoin ! $ move ! (2 ∷ 0 ∷ []) $ fjoin ! $
     move ! (1 ∷ 0 ∷ []) $ fjoin ! $
     feq_i ! (List Val) (triple_val u v w ∷ []) (triple_val u v w ∷ []) refl $ fjoin ! $
     fpack ! (Valss (A ∷ B ∷ C ∷ []))
-    (within (Declared.shape (tuple_type (A ∷ B ∷ C ∷ []))) (x, (y, (z, tt))) (triple_val u v w ∷ []))
+    (within (Declared.shape (tuple_type (A ∷ B ∷ C ∷ []))) (x, (y, (z, tt)))
+    (triple_val u v w ∷ []))
     (u ∷ [], (v ∷ [], (w ∷ [], tt))) $ done !
 
 -- a place that holds a value is one of the row
@@ -156,14 +162,16 @@ module _ (E : El) {M : Type 1} {𝓤 : Ura M} (𝓛 : Logic 𝓤) (b : ℕ) wher
       qed 𝓛 (‵ (owns_place (R E) b o (Some x)) ∷ []) ∵
       use1 𝓛 (some (λ (v : Val). ‵ (fat full_share (elτ E) b o v) ⊛ ‵ (E.row.own_val x (v ∷ []))))
       (part_out 𝓛 (R E) refl full_share x b o) $ pick ! (λ v. split ! $ keep ! (0 ∷ []) $
-      use1 𝓛 (‵ (froom (elτ E) b o)) (𝓛.laws.at_room (elτ E) b o v) $ by ! (𝓛.laws.room-raw (elτ E) b o))
+      use1 𝓛 (‵ (froom (elτ E) b o)) (𝓛.laws.at_room (elτ E) b o v) $
+      by ! (𝓛.laws.room-raw (elτ E) b o))
 
   -- two rows of which the second begins where the first ends are one, and the other way round
   parted : (xs ys : List (Slot E)) (o at : ℕ) → at ≡ length xs * w + o →
       ent 𝓤 (sem 𝓛 (Row o (xs ++ ys))) (sep 𝓤 (sem 𝓛 (Row o xs)) (sem 𝓛 (Row at ys)))
   parted [] ys o at e =
       qed 𝓛 (‵ (Row o ys) ∷ []) ∵
-      rewrite ! 0 (λ (k : ℕ). ‵ (Row k ys)) {x = at} (omega (arith, zero-mul w)) refl $ nothing ! $ done !
+      rewrite ! 0 (λ (k : ℕ). ‵ (Row k ys)) {x = at} (omega (arith, zero-mul w)) refl $ nothing ! $
+      done !
   parted (x ∷ xs) ys o at e =
       let next : at ≡ suc (length xs) * w + o = e in
       qed 𝓛 (‵ (Row o (x ∷ xs ++ ys)) ∷ []) ∵ fsplit ! $ move ! (1 ∷ []) $
@@ -201,10 +209,12 @@ module _ (E : El) {M : Type 1} {𝓤 : Ura M} (𝓛 : Logic 𝓤) (b : ℕ) wher
         let rest = get_or slots i None ∷ drop (suc i) slots in
         qed 𝓛 (‵ (Row o slots) ∷ []) ∵
         rewrite ! 0 (λ (l : List (Slot E)). ‵ (Row o l))
-        (sym (take-append-drop i slots) ∙ ap (λ l. take i slots ++ l) (drop-cons slots i None lt)) refl $
+        (sym (take-append-drop i slots) ∙ ap (λ l. take i slots ++ l) (drop-cons slots i None lt))
+        refl $
         use1 𝓛 (‵ (Row o (take i slots)) ⊛ ‵ (Row (i * w + o) rest))
         (parted (take i slots) rest o (i * w + o) (offset (omega arith))) $
-        split ! $ move ! (1 ∷ []) $ fsplit ! $ move ! (2 ∷ 1 ∷ []) $ fjoin ! $ move ! (1 ∷ []) $ done !
+        split ! $ move ! (1 ∷ []) $ fsplit ! $ move ! (2 ∷ 1 ∷ []) $ fjoin ! $ move ! (1 ∷ []) $
+        done !
 
     -- the place comes back into the row with another slot
     pub place_in : i < length slots → (slot : Slot E) →
@@ -212,11 +222,13 @@ module _ (E : El) {M : Type 1} {𝓤 : Ura M} (𝓛 : Logic 𝓤) (b : ℕ) wher
         (sem 𝓛 (Row o (set slots i slot)))
     place_in lt slot =
         let rest = slot ∷ drop (suc i) slots in
-        qed 𝓛 (‵ (owns_place (R E) b (i * w + o) slot) ∷ ‵ Others ∷ []) ∵ move ! (1 ∷ []) $ fsplit ! $
+        qed 𝓛 (‵ (owns_place (R E) b (i * w + o) slot) ∷ ‵ Others ∷ []) ∵ move ! (1 ∷ []) $
+        fsplit ! $
         move ! (2 ∷ 1 ∷ []) $ fjoin ! $ move ! (1 ∷ 0 ∷ []) $
         use2 𝓛 (‵ (Row o (take i slots ++ rest)))
         (joined (take i slots) rest o (i * w + o) (offset (omega arith))) $
-        rewrite ! 0 (λ (l : List (Slot E)). ‵ (Row o l)) (sym (set_split slots i slot lt)) refl $ done !
+        rewrite ! 0 (λ (l : List (Slot E)). ‵ (Row o l)) (sym (set_split slots i slot lt)) refl $
+        done !
 
   -- the room of a new block is a row of empty places
   pub row_of_room : (count o : ℕ) →
@@ -265,15 +277,19 @@ module _ (E : El) {M : Type 1} {𝓤 : Ura M} (𝓛 : Logic 𝓤) (b : ℕ) wher
 
     -- what a row lends of one place
     pub place_lent : (o : ℕ) (slots : List (Slot E)) (i : ℕ) → i < length slots →
-        ent 𝓤 (sem 𝓛 (Lent o slots)) (sem 𝓛 (lends_place (R E) b (i * w + o) (get_or slots i None) κ))
+        ent 𝓤 (sem 𝓛 (Lent o slots))
+        (sem 𝓛 (lends_place (R E) b (i * w + o) (get_or slots i None) κ))
     place_lent o slots i lt =
         qed 𝓛 (‵ (Lent o slots) ∷ []) ∵
-        use1 𝓛 (‵ (Lent (i * w + o) (drop i slots))) (lent_from slots i o (i * w + o) (omega arith) refl) $
-        rewrite ! 0 (λ (l : List (Slot E)). ‵ (Lent (i * w + o) l)) (drop-cons slots i None lt) refl $
+        use1 𝓛 (‵ (Lent (i * w + o) (drop i slots)))
+        (lent_from slots i o (i * w + o) (omega arith) refl) $
+        rewrite ! 0 (λ (l : List (Slot E)). ‵ (Lent (i * w + o) l)) (drop-cons slots i None lt) refl
+        $
         fsplit ! $ keep ! (0 ∷ []) $ done !
 
     -- what a row lends of a run of places
-    pub run_lent : (o : ℕ) (slots : List (Slot E)) (i n : ℕ) (xs : List (el_x E)) → i ≤ length slots →
+    pub run_lent : (o : ℕ) (slots : List (Slot E)) (i n : ℕ) (xs : List (el_x E)) →
+        i ≤ length slots →
         take n (drop i slots) ≡ map Some xs →
         ent 𝓤 (sem 𝓛 (Lent o slots)) (sem 𝓛 (elements_shared (R E) xs b (i * w + o) κ))
     run_lent o slots i n xs le e =

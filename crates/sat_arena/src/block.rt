@@ -1,9 +1,8 @@
 //! A row of words in one block of memory, which grows on request alone.
 
-ghost use Rattle.std.specs.Prelude.{◌≡◌, ◌+◌, ◌-◌, ◌<◌, ◌≤◌, [], ◌∷◌, ◌++◌, length, take, drop, get_or, slice_set, pos, IfOk, Some};
-ghost use Rattle.sat_clause.specs.Literal.{lit};
-ghost use Rattle.sat_arena.specs.Layout.{lower as lower_of, upper as upper_of, written};
-ghost use Rattle.sat_arena.specs.Store.{new_clause, ref};
+ghost use Rattle.std.specs.Prelude.{◌≡◌, ◌+◌, ◌-◌, ◌^◌, ◌<◌, ◌≤◌, [], ◌∷◌, ◌++◌, length, take, drop, slice_set, IfOk, OnOk, Some};
+ghost use Rattle.sat_arena.specs.Block.{slid, word_at};
+ghost use Rattle.sat_arena.specs.Layout.{lower as lower_of, upper as upper_of, written_new};
 
 use crate::layout::{head, lower, upper, word};
 use crate::places::{Claim, Places, Start, allocate, deallocate};
@@ -36,7 +35,8 @@ impl Model for Block {
 impl Block {
     /// A block without words, with room for so many.
     pub(crate) fn with_room(alloc: Global, capacity: usize) -> Result<Block, AllocError>
-        ensures { IfOk result (λ b. b ≡ record { words = []; spare = capacity }) }
+        ensures block { IfOk result (λ b. b ≡ record { words = []; spare = capacity }) }
+        ensures small { OnOk result (capacity < 2 ^ 63) }
     {
         if !may_hold::<Lit>(capacity) {
             return Err(AllocError);
@@ -55,7 +55,7 @@ impl Block {
     /// How many words there are.
     pub(crate) fn len(&self) -> usize
         ensures value { result ≡ length self.now.words }
-        ensures small { length self.now.words + self.now.spare < 9223372036854775808 }
+        ensures small { length self.now.words + self.now.spare < 2 ^ 63 }
     {
         self.len
     }
@@ -70,7 +70,7 @@ impl Block {
     /// The word at an index.
     pub(crate) fn word(&self, index: usize) -> Lit
         requires { index < length self.now.words }
-        ensures { result ≡ get_or self.now.words index (lit (pos 0)) }
+        ensures { result ≡ word_at self.now.words index }
     {
         *self.places.get(self.start, index)
     }
@@ -93,12 +93,12 @@ impl Block {
 
     /// Writes the halves of a number over two words.
     pub(crate) fn set_number(&mut self, index: usize, n: u64)
-        requires { index + 1 < length self.old.words }
+        requires inside { index + 1 < length self.old.words }
+        requires small { index + 1 < 2 ^ 64 }
         ensures { self.new ≡ record self.old {
           words = slice_set (slice_set self.old.words index (lower_of n)) (index + 1) (upper_of n);
         } }
     {
-        let _small = self.len();
         self.set(index, lower(n));
         self.set(index + 1, upper(n));
     }
@@ -108,7 +108,9 @@ impl Block {
         requires i { i < length self.old.words }
         requires j { j < length self.old.words }
         ensures { self.new ≡ record self.old {
-          words = slice_set (slice_set self.old.words i (get_or self.old.words j (lit (pos 0)))) j (get_or self.old.words i (lit (pos 0)));
+          words =
+              slice_set (slice_set self.old.words i (word_at self.old.words j)) j
+              (word_at self.old.words i);
         } }
     {
         let first = self.word(i);
@@ -143,6 +145,7 @@ impl Block {
         requires { length self.now.words ≤ capacity }
         ensures words { IfOk result (λ b. b.words ≡ self.now.words) }
         ensures spare { IfOk result (λ b. b.spare ≡ capacity - length self.now.words) }
+        ensures small { OnOk result (capacity < 2 ^ 63) }
     {
         let mut next = Block::with_room(alloc, capacity)?;
         next.extend(self.run(0, self.len));
@@ -153,7 +156,7 @@ impl Block {
     pub(crate) fn append_clause(&mut self, lits: &[Lit], id: u32)
         requires few { length lits.now ≤ LITERAL_LIMIT }
         requires room { length lits.now + 6 ≤ self.old.spare }
-        ensures words { self.new.words ≡ self.old.words ++ written (new_clause (ref 0) id lits.now) }
+        ensures words { self.new.words ≡ self.old.words ++ written_new id lits.now }
         ensures spare { self.new.spare ≡ self.old.spare - (length lits.now + 6) }
     {
         self.append(head(lits.len() as u32, false));
@@ -177,10 +180,10 @@ impl Block {
     pub(crate) fn slide(&mut self, from: usize, to: usize, len: usize)
         requires earlier { to ≤ from }
         requires inside { from + len ≤ length self.old.words }
-        ensures words { self.new.words ≡ take to self.old.words ++ (take len (drop from self.old.words) ++ drop (to + len) self.old.words) }
+        requires small { from + len < 2 ^ 64 }
+        ensures words { self.new.words ≡ slid self.old.words from to len }
         ensures spare { self.new.spare ≡ self.old.spare }
     {
-        let _small = self.len();
         if from == to {
             return;
         }

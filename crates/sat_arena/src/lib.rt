@@ -1,4 +1,6 @@
 //! Clauses in one block of raw memory, each found by its reference.
+//!
+//! Five functions of the module `places` hold the pointer to the block; all else is safe code.
 #![tactic(auto)]
 
 mod arena;

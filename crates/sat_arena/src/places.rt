@@ -53,7 +53,7 @@ pub struct Claim<T, A: Allocator> {
 }
 
 impl<T, A: Allocator> Model for Claim<T, A> {
-    ghost also_owns = { λ claim. owns_claim T.row (A.dealloc_token claim.alloc) claim.start claim.count };
+    ghost also_owns = { λ c. owns_claim T.row (A.dealloc_token c.alloc) c.start c.count };
 
     ghost also_shares = { λ _ _ _. ftrue };
 }
@@ -64,7 +64,9 @@ pub(crate) fn allocate<T, A: Allocator>(
     count: usize,
 ) -> Result<(Start<T>, Places<T>, Claim<T, A>), AllocError>
     requires { FitsInBlock T.row count }
-    ensures { IfOk result (λ r. (r.1.start ≡ r.0.address) × (r.1.slots ≡ replicate count None) × (r.2.start ≡ r.0.address) × (r.2.count ≡ count) × (r.2.alloc ≡ alloc.now)) }
+    ensures { IfOk result (λ r.
+        (r.1.start ≡ r.0.address) × (r.1.slots ≡ replicate count None)
+        × (r.2.start ≡ r.0.address) × (r.2.count ≡ count) × (r.2.alloc ≡ alloc.now)) }
 {
     match alloc.allocate(count * size_of::<T>(), align_of::<T>()) {
         Ok(block) => {
@@ -89,7 +91,8 @@ pub(crate) fn deallocate<T, A: Allocator>(
     places: Places<T>,
     claim: Claim<T, A>,
 )
-    requires { (places.start ≡ start.address) × (length places.slots ≡ count) × (claim.start ≡ start.address) × (claim.count ≡ count) × (claim.alloc ≡ alloc.now) }
+    requires { (places.start ≡ start.address) × (length places.slots ≡ count)
+        × (claim.start ≡ start.address) × (claim.count ≡ count) × (claim.alloc ≡ alloc.now) }
 {
     let Places { owner: _ } = places;
     let Claim { owner: _ } = claim;
@@ -106,7 +109,8 @@ impl<T> Places<T> {
     /// Puts a value into a place. What the place held is forgotten.
     pub(crate) fn write(&mut self, start: Start<T>, index: usize, value: T)
         requires { (start.address ≡ self.old.start) × (index < length self.old.slots) }
-        ensures { (self.new.start ≡ self.old.start) × (self.new.slots ≡ slice_set self.old.slots index (Some value)) }
+        ensures { (self.new.start ≡ self.old.start)
+            × (self.new.slots ≡ slice_set self.old.slots index (Some value)) }
     {
         unsafe { start.address.add(index).write(value) }
     }

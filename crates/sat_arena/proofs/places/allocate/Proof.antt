@@ -65,8 +65,16 @@ module _ (E : El) (Z : Al) {M : Type 1} {𝓤 : Ura M} (𝓛 : Logic 𝓤) (at_m
   others = ‵ (flft κ₁ q₁) ⊛ ‵ (flft κ₂ q₂) ⊛ ‵ ftrue
 
   abbrev bound : (walk_of 𝓛 (ended E Z) (stayed E Z) (clauses E Z 𝓛 at_mem run)).Ghost
-  bound =
-      (((κ, (κ₁, (κ₂, tt))), (q, (q₁, (q₂, tt))), (short, tt), (self, (count, tt)), (us0, (us1, tt))), tt)
+  bound = (
+    (
+      (κ, (κ₁, (κ₂, tt))),
+      (q, (q₁, (q₂, tt))),
+      (short, tt),
+      (self, (count, tt)),
+      (us0, (us1, tt)),
+    ),
+    tt,
+  )
 
   abbrev Post : Val → SProp 𝓤
   Post = (walk_of 𝓛 (ended E Z) (stayed E Z) (clauses E Z 𝓛 at_mem run)).post bound
@@ -80,7 +88,8 @@ module _ (E : El) (Z : Al) {M : Type 1} {𝓤 : Ura M} (𝓛 : Logic 𝓤) (at_m
       qed 𝓛 (Left r v) ∵
       suffices ! _ (ends_at 𝓛 (ended E Z) (stayed E Z) (clauses E Z 𝓛 at_mem run) bound v r
       (tt, (tt, tt)) (tt, (tt, tt))) $ says ! given $
-      move ! (1 ∷ 2 ∷ []) $ join ! $ frame ! $ nothing ! $ nothing ! $ fjoin ! $ nothing ! $ fjoin ! $ done !
+      move ! (1 ∷ 2 ∷ []) $ join ! $ frame ! $ nothing ! $ nothing ! $ fjoin ! $ nothing ! $
+      fjoin ! $ done !
 
   abbrev Had : List (Item 𝓤)
   Had = ‵ (hidden_shr (P E Z) κ alloc rb ro) ∷ ‵ (flft κ q) ∷ others ∷ []
@@ -95,7 +104,8 @@ module _ (E : El) (Z : Al) {M : Type 1} {𝓤 : Ura M} (𝓛 : Logic 𝓤) (at_m
       let locals : Env 𝓤 H = env (function E Z).locals l in
       let arms : Body = head (after 2 (function E Z).body) in
       let then : After 𝓤 H =
-      any_q (after_seq 𝓤 H (Wp 𝓤 H C Λ locals (after 3 (function E Z).body) (at_return 𝓤 H locals Post))
+      any_q (after_seq 𝓤 H
+      (Wp 𝓤 H C Λ locals (after 3 (function E Z).body) (at_return 𝓤 H locals Post))
       (at_return 𝓤 H locals Post)) in
       let al : ℕ = capped (align (elτ E)) in let row = block_ty E count in
       let y : (Takes Z 𝓛 at_mem run).Ghost =
@@ -107,7 +117,8 @@ module _ (E : El) (Z : Al) {M : Type 1} {𝓤 : Ura M} (𝓛 : Logic 𝓤) (at_m
       (Takes-goes Z 𝓛 at_mem run κ q (rb, ro) alloc (Incl-trans short within) (count * w) al row
       (block_size E count bytes) (block_align E count) bytes (capped_fits (align (elτ E)))) $
       calls_at ! fm (Takes Z 𝓛 at_mem run) callee y
-      (and_then ! (get ! refl) (and_then ! (get ! refl) (and_then ! (align_word !) (no_more !)))) (λ v.
+      (and_then ! (get ! refl) (and_then ! (get ! refl) (and_then ! (align_word !) (no_more !))))
+      (λ v.
       use1 𝓛 (later (raw (Answered Z 𝓛 at_mem run alloc row v) ⊛ ‵ (flft κ q)))
       (Takes-gives Z 𝓛 at_mem run κ q (rb, ro) alloc (count * w) al row v) $ await ! tt $ split ! $
       answers Z ! at_mem run alloc row v
@@ -126,26 +137,31 @@ module _ (E : El) (Z : Al) {M : Type 1} {𝓤 : Ura M} (𝓛 : Logic 𝓤) (at_m
       lands_as ! e refl (Answer-typed true b o) $
       first ! $ switches_on ! (get_tag ! (vrt ! refl (fld ! refl (stop !))) (whole !)) $
       exec ! C Λ locals (arm_body 0 arms) then $
-      sets ! (of_opd ! (get_in ! (vrt ! refl (fld ! refl (stop !))) (in_variant ! 0 0 refl refl (whole !))))
+      sets ! (of_opd ! (get_in ! (vrt ! refl (fld ! refl (stop !)))
+      (in_variant ! 0 0 refl refl (whole !))))
       refl (tt, tt) $ sets ! (of_opd ! (get ! refl)) refl (tt, tt) $
       sets ! (agg ! (and_then ! (get ! refl) (no_more !))) refl (word-Good [] p) $
       sets ! (agg ! (no_more !)) refl (tt, tt) $
       sets ! (agg ! (and_then ! (get ! refl) (no_more !))) refl (tt, (tt, tt)) $
       sets ! (agg ! (no_more !)) refl (tt, tt) $
       sets ! (agg ! (and_then ! (get ! refl) (no_more !))) refl (tt, (tt, tt)) $
-      sets ! (agg ! (and_then ! (get ! refl) (and_then ! (get ! refl) (and_then ! (get ! refl) (no_more !)))))
+      sets ! (agg ! (and_then ! (get ! refl)
+      (and_then ! (get ! refl) (and_then ! (get ! refl) (no_more !)))))
       refl typed $
       sets_last ! (agg ! (and_then ! (lit ! tt) (and_then ! (get ! refl) (no_more !)))) refl ok $
       exec ! C Λ locals (after 3 (function E Z).body) (at_ret locals Post) $
       sets ! (of_opd ! (get ! refl)) refl ok $ move ! (1 ∷ []) $
-      use0 𝓛 (‵ ((OwnerType E).own_val (tt, tt) (owner ∷ []))) (owner_made E 𝓛) $ fjoin ! $ move ! (1 ∷ []) $
+      use0 𝓛 (‵ ((OwnerType E).own_val (tt, tt) (owner ∷ []))) (owner_made E 𝓛) $ fjoin ! $
+      move ! (1 ∷ []) $
       as_written ! (ty_array (elτ E) count) b o $
       use1 𝓛 (‵ (owns_places (R E) b o places.slots)) (row_of_room E 𝓛 b count o) $
       flt_i ! (length places.slots * w) (2 ^ 63)
       (subst (λ k. k * w < 2 ^ 63) (sym (length-replicate count None)) small) $ fjoin ! $
-      use0 𝓛 (‵ ((OwnerType E).own_val (tt, tt) (owner ∷ []))) (owner_made E 𝓛) $ fjoin ! $ pointer_made ! p $
+      use0 𝓛 (‵ ((OwnerType E).own_val (tt, tt) (owner ∷ []))) (owner_made E 𝓛) $ fjoin ! $
+      pointer_made ! p $
       use3 𝓛 (‵ ((Made E Z).own_val all (made ∷ [])))
-      (triple_made 𝓛 (StartType E) (PlacesType E) (ClaimType E Z) start places right (word p) owner owner) $
+      (triple_made 𝓛 (StartType E) (PlacesType E) (ClaimType E Z) start places right (word p) owner
+      owner) $
       use1 𝓛 (‵ ((Answer E Z).own_val (Ok all) (live 0 (vcons made vnil) ∷ [])))
       (ok_of 𝓛 (Made E Z) Refused.the_row all made) $
       returns ! (look_at ! 0 refl) $ free_all ! refl $ keep ! (0 ∷ 1 ∷ 2 ∷ []) $
@@ -157,13 +173,15 @@ module _ (E : El) (Z : Al) {M : Type 1} {𝓤 : Ura M} (𝓛 : Logic 𝓤) (at_m
       lands_as ! e refl (Answer-typed false 0 0) $
       first ! $ switches_on ! (get_tag ! (vrt ! refl (fld ! refl (stop !))) (whole !)) $
       exec ! C Λ locals (arm_body 1 arms) then $
-      sets ! (of_opd ! (get_in ! (vrt ! refl (fld ! refl (stop !))) (in_variant ! 1 0 refl refl (whole !))))
+      sets ! (of_opd ! (get_in ! (vrt ! refl (fld ! refl (stop !)))
+      (in_variant ! 1 0 refl refl (whole !))))
       refl (tt, tt) $
       sets_last ! (agg ! (and_then ! (lit ! tt) (and_then ! (get ! refl) (no_more !)))) refl
       (tt, (record { fits = lit< tt }, (tt, tt))) $
       exec ! C Λ locals (after 3 (function E Z).body) (at_ret locals Post) $
       sets ! (of_opd ! (get ! refl)) refl (tt, (record { fits = lit< tt }, (tt, tt))) $
-      owned ! Short (Is Short) (Struct-Makes 𝓛 (Declared.shape Refused.the_type) tt) tt (vstruct vnil ∷ [])
+      owned ! Short (Is Short) (Struct-Makes 𝓛 (Declared.shape Refused.the_type) tt) tt
+      (vstruct vnil ∷ [])
       (tt, (refl, tt)) $
       use1 𝓛 (‵ ((Answer E Z).own_val (Err (record {})) (made ∷ [])))
       (err_of 𝓛 (Made E Z) Refused.the_row (record {}) (vstruct vnil)) $
@@ -171,7 +189,8 @@ module _ (E : El) (Z : Al) {M : Type 1} {𝓤 : Ura M} (𝓛 : Logic 𝓤) (at_m
       by ! (exits (Err (record {})) made tt))))
 
   entry : FitsInBlock (R E) count →
-      ent 𝓤 (on_entry 𝓛 (ended E Z).signature (κ, (κ₁, (κ₂, tt))) (q, (q₁, (q₂, tt))) (self, (count, tt))
+      ent 𝓤 (on_entry 𝓛 (ended E Z).signature (κ, (κ₁, (κ₂, tt))) (q, (q₁, (q₂, tt)))
+      (self, (count, tt))
       (us0, (us1, tt))) (WpFn 𝓤 H C Λ (function E Z) (us0 ++ (us1 ++ [])) Post)
   entry asked =
       let types = ShrRef (named 0) κ (P E Z) ∷ usize ∷ [] in
@@ -197,8 +216,10 @@ meets E Z {𝓤 = 𝓤} 𝓛 at_mem run 𝓣 callee =
     (λ z. let κs = z.0.0 in let qs = z.0.1 in let a = z.0.3 in let vs = z.0.4 in
     let On : SProp 𝓤 = on_entry 𝓛 (ended E Z).signature κs qs a vs in
     let asks = FitsInBlock (R E) a.1.0 in
-    second 𝓤 (κs.1.0 ⊑ E.row.lives) (κs.1.1.0 ⊑ Z.row.lives) On (fact 𝓤 asks) (λ within. needs 𝓤 asks On
-    (entry E Z 𝓛 at_mem run 𝓣.C 𝓣.Λ (fm_of 𝓤 𝓛.H 𝓛.laws 𝓣) callee κs.0 κs.1.0 κs.1.1.0 qs.0 qs.1.0 qs.1.1.0
+    second 𝓤 (κs.1.0 ⊑ E.row.lives) (κs.1.1.0 ⊑ Z.row.lives) On (fact 𝓤 asks)
+    (λ within. needs 𝓤 asks On
+    (entry E Z 𝓛 at_mem run 𝓣.C 𝓣.Λ (fm_of 𝓤 𝓛.H 𝓛.laws 𝓣) callee κs.0 κs.1.0 κs.1.1.0 qs.0 qs.1.0
+    qs.1.1.0
     z.0.2.0 within a.0.ref_ptr.0 a.0.ref_ptr.1 a.0.now a.1.0 vs.0 vs.1.0)))
 
 pub allocate_spec : {M : Type 1} → stated.statement M

@@ -33,13 +33,17 @@ module _ (E : El) (Z : Al) where
       stay_dropped (plain (λ _. StartType E)) no,
       (
         stay_dropped (plain (λ _. usize)) yes,
-        (stay_dropped (plain (λ _. PlacesType E)) no, (stay_dropped (plain (λ _. ClaimType)) no, tt)),
+        (
+          stay_dropped (plain (λ _. PlacesType E)) no,
+          (stay_dropped (plain (λ _. ClaimType)) no, tt),
+        ),
       ),
     ),
   )
 
   -- the parts are of one block, which is from this allocator
-  abbrev Asks : Z.row.Denot → (StartType E).Denot → ℕ → (PlacesType E).Denot → ClaimType.Denot → Type 0
+  abbrev Asks : Z.row.Denot → (StartType E).Denot → ℕ → (PlacesType E).Denot → ClaimType.Denot →
+      Type 0
   Asks alloc start count places right =
       (places.start ≡ start.address) × (length places.slots ≡ count)
       × (right.start ≡ start.address) × (right.count ≡ count) × (right.alloc ≡ alloc)
@@ -81,7 +85,8 @@ module _ (E : El) (Z : Al) {M : Type 1} {𝓤 : Ura M} (𝓛 : Logic 𝓤) (at_m
       (tt, (tt, (tt, (tt, (tt, tt))))) (tt, (tt, (tt, (tt, (tt, tt)))))) $
       join ! $ feq_i ! (List Val) (vunit ∷ []) (vunit ∷ []) refl $ nothing ! $
       nothing ! $ fjoin ! $ nothing ! $ fjoin ! $ nothing ! $ fjoin ! $ nothing ! $ fjoin ! $
-      nothing ! $ fjoin ! $ join ! $ move ! (1 ∷ 0 ∷ []) $ join ! $ nothing ! $ move ! (1 ∷ 0 ∷ []) $ done !
+      nothing ! $ fjoin ! $ join ! $ move ! (1 ∷ 0 ∷ []) $ join ! $ nothing ! $
+      move ! (1 ∷ 0 ∷ []) $ done !
 
   abbrev Had : List (Item 𝓤)
   Had =
@@ -117,7 +122,8 @@ module _ (E : El) (Z : Al) {M : Type 1} {𝓤 : Ura M} (𝓛 : Logic 𝓤) (at_m
       use1 𝓛 (‵ (froom (ty_array (elτ E) (length slots)) b o)) (room_of_row E 𝓛 b slots o) $
       rewrite ! 0 (λ (k : ℕ). ‵ (froom (ty_array (elτ E) k) b o)) asked.1 refl $
       as_raw ! (ty_array (elτ E) count) b o $ first ! $ blocks ! $
-      sets ! (is ! (of_opd ! (get_in ! (fld ! refl (stop !)) (sub ! 0 refl (whole !)))) (ap ptr_val e)) refl
+      sets ! (is ! (of_opd ! (get_in ! (fld ! refl (stop !)) (sub ! 0 refl (whole !))))
+      (ap ptr_val e)) refl
       (tt, tt) $
       sets ! (is ! (bin ! (get ! refl) (size_word !)
       (record { fits = subst (λ (k : ℕ). k < 2 ^ 64) (sym (uncapped count w bytes)) bytes }))
@@ -142,9 +148,11 @@ module _ (E : El) (Z : Al) {M : Type 1} {𝓤 : Ura M} (𝓛 : Logic 𝓤) (at_m
       (self, (start, (count, (places, (right, tt))))) (us0, (us1, (us2, (us3, (us4, tt))))))
       (WpFn 𝓤 H C Λ (function E Z) (us0 ++ (us1 ++ (us2 ++ (us3 ++ (us4 ++ []))))) Post)
   entry asked =
-      let types = ShrRef (named 0) κ (P E Z) ∷ StartType E ∷ usize ∷ PlacesType E ∷ ClaimType E Z ∷ [] in
+      let types = ShrRef (named 0) κ (P E Z) ∷ StartType E ∷ usize ∷ PlacesType E ∷ ClaimType E Z
+      ∷ [] in
       qed 𝓛 ((‵ (flft κ q) ⊛ others)
-      ∷ ‵ (owns types (self, (start, (count, (places, (right, tt))))) (us0, (us1, (us2, (us3, (us4, tt))))))
+      ∷ ‵ (owns types (self, (start, (count, (places, (right, tt)))))
+      (us0, (us1, (us2, (us3, (us4, tt))))))
       ∷ []) ∵ split ! $ move ! (2 ∷ []) $ fsplit3 ! $ fsplit ! $ feq_l ! (λ e0. move ! (1 ∷ []) $
       pointer_had ! start.address us1 (λ e1. move ! (1 ∷ []) $ fsplit3 ! $ fsplit ! $
       feq_l ! (λ e2. flt_l ! (λ fits. fsplit ! $ owner_had ! E us3 (λ e3. move ! (1 ∷ []) $
@@ -178,8 +186,10 @@ meets E Z {𝓤 = 𝓤} 𝓛 at_mem run 𝓣 callee =
     (λ z. let κs = z.0.0 in let qs = z.0.1 in let a = z.0.3 in let vs = z.0.4 in
     let On : SProp 𝓤 = on_entry 𝓛 (ended E Z).signature κs qs a vs in
     let asks = Asks E Z a.0.now a.1.0 a.1.1.0 a.1.1.1.0 a.1.1.1.1.0 in
-    second 𝓤 (κs.1.0 ⊑ E.row.lives) (κs.1.1.0 ⊑ Z.row.lives) On (fact 𝓤 asks) (λ within. needs 𝓤 asks On
-    (entry E Z 𝓛 at_mem run 𝓣.C 𝓣.Λ (fm_of 𝓤 𝓛.H 𝓛.laws 𝓣) callee κs.0 κs.1.0 κs.1.1.0 qs.0 qs.1.0 qs.1.1.0
+    second 𝓤 (κs.1.0 ⊑ E.row.lives) (κs.1.1.0 ⊑ Z.row.lives) On (fact 𝓤 asks)
+    (λ within. needs 𝓤 asks On
+    (entry E Z 𝓛 at_mem run 𝓣.C 𝓣.Λ (fm_of 𝓤 𝓛.H 𝓛.laws 𝓣) callee κs.0 κs.1.0 κs.1.1.0 qs.0 qs.1.0
+    qs.1.1.0
     z.0.2.0 within a.0.ref_ptr.0 a.0.ref_ptr.1 a.0.now a.1.0 a.1.1.0 a.1.1.1.0 a.1.1.1.1.0
     vs.0 vs.1.0 vs.1.1.0 vs.1.1.1.0 vs.1.1.1.1.0)))
 

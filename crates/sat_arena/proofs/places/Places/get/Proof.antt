@@ -46,8 +46,10 @@ module _ (E : El) where
     ensures = λ _ r ends. fact 𝓤 (Gives a.0.now a.1.1.0 r);
   }
 
-module _ (E : El) {M : Type 1} {𝓤 : Ura M} (𝓛 : Logic 𝓤) (C : Calls 𝓤 𝓛.H) (Λ : Loops 𝓤 𝓛.H) (κ : Lft)
-    (q : Share) (rb ro : ℕ) (places : (PlacesType E).Denot) (start : (StartType E).Denot) (index : ℕ)
+module _ (E : El) {M : Type 1} {𝓤 : Ura M} (𝓛 : Logic 𝓤) (C : Calls 𝓤 𝓛.H) (Λ : Loops 𝓤 𝓛.H)
+    (κ : Lft)
+    (q : Share) (rb ro : ℕ) (places : (PlacesType E).Denot) (start : (StartType E).Denot)
+    (index : ℕ)
     (us0 us1 us2 : List Val) where
   open 𝓛 use {H}
 
@@ -67,7 +69,8 @@ module _ (E : El) {M : Type 1} {𝓤 : Ura M} (𝓛 : Logic 𝓤) (C : Calls �
   exits : (r : Bor (el_x E)) (v : Val) → Gives E places index r → ent 𝓤 (⋆ 𝓛 (Left r v)) (Post v)
   exits r v given =
       qed 𝓛 (Left r v) ∵
-      suffices ! _ (ends_at 𝓛 (ended E) (stayed E) (spec E 𝓛) bound v r (tt, (tt, (tt, tt))) (tt, (tt, (tt, tt)))) $
+      suffices ! _ (ends_at 𝓛 (ended E) (stayed E) (spec E 𝓛) bound v r (tt, (tt, (tt, tt)))
+      (tt, (tt, (tt, tt)))) $
       says ! given $ nothing ! $ move ! (1 ∷ 0 ∷ []) $ join ! $ frame ! $ nothing ! $
       nothing ! $ fjoin ! $ nothing ! $ fjoin ! $ nothing ! $ fjoin ! $ done !
 
@@ -80,14 +83,16 @@ module _ (E : El) {M : Type 1} {𝓤 : Ura M} (𝓛 : Logic 𝓤) (C : Calls �
   walk asked fits =
       let slots = places.slots in let x = asked.1.0 in let w = width E in
       let inside = held_inside slots index x asked.1.1 in
-      qed 𝓛 Had ∵ enter ! C Λ (function E) (vptr rb ro ∷ word start.address ∷ vint w64 index ∷ []) _ $
+      qed 𝓛 Had ∵ enter ! C Λ (function E) (vptr rb ro ∷ word start.address ∷ vint w64 index ∷ []) _
+      $
       alloc_all ! (λ l. pass_all ! refl
       ((tt, tt), (word-Good [] start.address, ((tt, record { fits = fits }), tt))) $
       let locals : Env 𝓤 H = env (function E).locals l in
       unhide ! $ fsplit ! $ drop ! $
       in_a_block ! places.start (λ p. lends_row (R E) p slots κ) (id⊢ 𝓤 (never 𝓤)) (λ b o e.
       fsplit ! $ flt_l ! (λ small.
-      let tiny : w < 2 ^ 64 = omega (arith, one_below (length slots) w (2 ^ 63) (omega arith) small) in
+      let tiny : w < 2 ^ 64 =
+      omega (arith, one_below (length slots) w (2 ^ 63) (omega arith) small) in
       let far : index * w < 2 ^ 64 =
       omega (arith, times_below index (length slots) w (2 ^ 63) (omega arith) small) in
       let at = index * w + o in
@@ -96,7 +101,8 @@ module _ (E : El) {M : Type 1} {𝓤 : Ura M} (𝓛 : Logic 𝓤) (C : Calls �
       (asked.0 ∙ e) refl $ give_at ! 2 $ first ! $ blocks ! $
       sets ! (bin ! (get ! refl) (size_lit ! (record { fits = tiny })) (record { fits = far })) refl
       (tt, record { fits = far }) $
-      sets ! (bin ! (get_in ! (fld ! refl (stop !)) (sub ! 0 refl (whole !))) (get ! refl) tt) refl (tt, tt) $
+      sets ! (bin ! (get_in ! (fld ! refl (stop !)) (sub ! 0 refl (whole !))) (get ! refl) tt) refl
+      (tt, tt) $
       use1 𝓛 (‵ (lends_place (R E) b at (get_or slots index None) κ))
       (place_lent E 𝓛 b κ o slots index inside) $
       rewrite ! 0 (λ (slot : Slot E). ‵ (lends_place (R E) b at slot κ)) asked.1.1 refl $ hide ! $
@@ -126,7 +132,8 @@ meets : (E : El) {M : Type 1} {𝓤 : Ura M} (𝓛 : Logic 𝓤) (𝓣 : Tables 
     Meets 𝓛 (ended E).signature (WpFn 𝓤 𝓛.H 𝓣.C 𝓣.Λ (function E)) (closing 𝓛 (ended E) (spec E 𝓛))
 meets E {𝓤 = 𝓤} 𝓛 𝓣 =
     walk_Meets 𝓛 (ended E) (stayed E) (
-      Goes-dropped 𝓛 1 (RefOf (0 ∷ []) tt (plain (λ _. PlacesType E)) (λ _. tt)) yes (λ κs x f. refl),
+      Goes-dropped 𝓛 1 (RefOf (0 ∷ []) tt (plain (λ _. PlacesType E)) (λ _. tt)) yes
+          (λ κs x f. refl),
       (
         Goes-dropped 𝓛 1 (plain (λ _. StartType E)) no (λ κs x f. refl),
         (Goes-dropped 𝓛 1 (plain (λ _. usize)) no (λ κs x f. refl), tt),
@@ -144,7 +151,8 @@ get_spec 𝓤 𝓛 𝓜 𝓡 wired X laws y =
     let E : El = record { row = X; laws = laws } in
     let 𝓣 : Tables 𝓤 𝓛.H = tables_of 𝓤 𝓛.H 𝓜 (tables 𝓤 𝓛.H 𝓜 𝓡 𝓡.env) in
     let k = key (args E) in let told = closing 𝓛 (ended E) (spec E 𝓛) in
-    spared 𝓛 (ended E).signature (𝓡.run (𝓡.env k)) (run_framed 𝓤 𝓛.H 𝓜 𝓡 (𝓡.env k)) 1 (X.lives, tt) told
+    spared 𝓛 (ended E).signature (𝓡.run (𝓡.env k)) (run_framed 𝓤 𝓛.H 𝓜 𝓡 (𝓡.env k)) 1 (X.lives, tt)
+    told
     (entered 𝓤 𝓛.H (triple_of 𝓛 (ended E).signature told) 𝓣.C 𝓣.Λ k (function E)
     (code.unfolded 𝓤 𝓛.H 𝓜 𝓡 wired (X, tt)) (meets E 𝓛 𝓣))
     ((y.0.0, y.0.1, tt, y.0.3, y.0.4), y.1)

@@ -51,8 +51,10 @@ module _ (E : El) where
     ensures = λ _ r ends. fact 𝓤 (Gives a.0.now a.1.1.0 a.1.1.1.0 r);
   }
 
-module _ (E : El) {M : Type 1} {𝓤 : Ura M} (𝓛 : Logic 𝓤) (C : Calls 𝓤 𝓛.H) (Λ : Loops 𝓤 𝓛.H) (κ : Lft)
-    (q : Share) (rb ro : ℕ) (places : (PlacesType E).Denot) (start : (StartType E).Denot) (from len : ℕ)
+module _ (E : El) {M : Type 1} {𝓤 : Ura M} (𝓛 : Logic 𝓤) (C : Calls 𝓤 𝓛.H) (Λ : Loops 𝓤 𝓛.H)
+    (κ : Lft)
+    (q : Share) (rb ro : ℕ) (places : (PlacesType E).Denot) (start : (StartType E).Denot)
+    (from len : ℕ)
     (us0 us1 us2 us3 : List Val) where
   open 𝓛 use {H}
 
@@ -60,8 +62,10 @@ module _ (E : El) {M : Type 1} {𝓤 : Ura M} (𝓛 : Logic 𝓤) (C : Calls �
   self = record { ref_ptr = (rb, ro); now = places }
 
   abbrev bound : (walk_of 𝓛 (ended E) (stayed E) (spec E 𝓛)).Ghost
-  bound =
-      (((κ, tt), (q, tt), tt, (self, (start, (from, (len, tt)))), (us0, (us1, (us2, (us3, tt))))), tt)
+  bound = (
+    ((κ, tt), (q, tt), tt, (self, (start, (from, (len, tt)))), (us0, (us1, (us2, (us3, tt))))),
+    tt,
+  )
 
   abbrev Post : Val → SProp 𝓤
   Post = (walk_of 𝓛 (ended E) (stayed E) (spec E 𝓛)).post bound
@@ -118,7 +122,8 @@ module _ (E : El) {M : Type 1} {𝓤 : Ura M} (𝓛 : Logic 𝓤) (C : Calls �
       sets ! (is ! (bin ! (get ! refl) (size_word !)
       (record { fits = subst (λ (k : ℕ). k < 2 ^ 64) (sym (uncapped from w far)) far }))
       (ap (vint w64) (uncapped from w far))) refl (tt, record { fits = far }) $
-      sets ! (bin ! (get_in ! (fld ! refl (stop !)) (sub ! 0 refl (whole !))) (get ! refl) tt) refl (tt, tt) $
+      sets ! (bin ! (get_in ! (fld ! refl (stop !)) (sub ! 0 refl (whole !))) (get ! refl) tt) refl
+      (tt, tt) $
       let at : ℕ × ℕ = (b, from * w + o) in
       use1 𝓛 (‵ (elements_shared (R E) xs b (from * w + o) κ))
       (run_lent E 𝓛 b κ o slots from len xs (omega arith) held) $ hide ! $
@@ -143,7 +148,8 @@ module _ (E : El) {M : Type 1} {𝓤 : Ura M} (𝓛 : Logic 𝓤) (C : Calls �
       qed 𝓛 ((‵ (flft κ q) ⊛ ‵ ftrue)
       ∷ ‵ (owns types (self, (start, (from, (len, tt)))) (us0, (us1, (us2, (us3, tt))))) ∷ []) ∵
       split ! $ move ! (2 ∷ []) $ fsplit ! $ fsplit ! $ feq_l ! (λ e0. move ! (1 ∷ []) $ fsplit ! $
-      pointer_had ! start.address us1 (λ e1. fsplit ! $ fsplit ! $ feq_l ! (λ e2. flt_l ! (λ fits_from.
+      pointer_had ! start.address us1
+      (λ e1. fsplit ! $ fsplit ! $ feq_l ! (λ e2. flt_l ! (λ fits_from.
       fsplit ! $ fsplit ! $ feq_l ! (λ e3. flt_l ! (λ fits_len. keep ! (1 ∷ 2 ∷ []) $
       by ! (subst (λ (us : List Val × List Val × List Val × List Val).
       ent 𝓤 (⋆ 𝓛 Had) (WpFn 𝓤 H C Λ (function E) (us.0 ++ (us.1 ++ (us.2 ++ (us.3 ++ [])))) Post))
@@ -153,7 +159,8 @@ meets : (E : El) {M : Type 1} {𝓤 : Ura M} (𝓛 : Logic 𝓤) (𝓣 : Tables 
     Meets 𝓛 (ended E).signature (WpFn 𝓤 𝓛.H 𝓣.C 𝓣.Λ (function E)) (closing 𝓛 (ended E) (spec E 𝓛))
 meets E {𝓤 = 𝓤} 𝓛 𝓣 =
     walk_Meets 𝓛 (ended E) (stayed E) (
-      Goes-dropped 𝓛 1 (RefOf (0 ∷ []) tt (plain (λ _. PlacesType E)) (λ _. tt)) yes (λ κs x f. refl),
+      Goes-dropped 𝓛 1 (RefOf (0 ∷ []) tt (plain (λ _. PlacesType E)) (λ _. tt)) yes
+          (λ κs x f. refl),
       (
         Goes-dropped 𝓛 1 (plain (λ _. StartType E)) no (λ κs x f. refl),
         (
@@ -174,7 +181,8 @@ slice_spec 𝓤 𝓛 𝓜 𝓡 wired X laws y =
     let E : El = record { row = X; laws = laws } in
     let 𝓣 : Tables 𝓤 𝓛.H = tables_of 𝓤 𝓛.H 𝓜 (tables 𝓤 𝓛.H 𝓜 𝓡 𝓡.env) in
     let k = key (args E) in let told = closing 𝓛 (ended E) (spec E 𝓛) in
-    spared 𝓛 (ended E).signature (𝓡.run (𝓡.env k)) (run_framed 𝓤 𝓛.H 𝓜 𝓡 (𝓡.env k)) 1 (X.lives, tt) told
+    spared 𝓛 (ended E).signature (𝓡.run (𝓡.env k)) (run_framed 𝓤 𝓛.H 𝓜 𝓡 (𝓡.env k)) 1 (X.lives, tt)
+    told
     (entered 𝓤 𝓛.H (triple_of 𝓛 (ended E).signature told) 𝓣.C 𝓣.Λ k (function E)
     (code.unfolded 𝓤 𝓛.H 𝓜 𝓡 wired (X, tt)) (meets E 𝓛 𝓣))
     ((y.0.0, y.0.1, tt, y.0.3, y.0.4), y.1)

@@ -49,8 +49,10 @@ module _ (E : El) where
     ensures = λ _ r ends. fact 𝓤 (Gives a.0.now a.1.1.0 a.1.1.1.0 ends.0.now);
   }
 
-module _ (E : El) {M : Type 1} {𝓤 : Ura M} (𝓛 : Logic 𝓤) (C : Calls 𝓤 𝓛.H) (Λ : Loops 𝓤 𝓛.H) (κ : Lft)
-    (q : Share) (rb ro : ℕ) (γ : GName) (places : (PlacesType E).Denot) (start : (StartType E).Denot)
+module _ (E : El) {M : Type 1} {𝓤 : Ura M} (𝓛 : Logic 𝓤) (C : Calls 𝓤 𝓛.H) (Λ : Loops 𝓤 𝓛.H)
+    (κ : Lft)
+    (q : Share) (rb ro : ℕ) (γ : GName) (places : (PlacesType E).Denot)
+    (start : (StartType E).Denot)
     (index : ℕ) (value : (R E).Denot) (us0 us1 us2 us3 : List Val) where
   open 𝓛 use {H}
 
@@ -58,8 +60,16 @@ module _ (E : El) {M : Type 1} {𝓤 : Ura M} (𝓛 : Logic 𝓤) (C : Calls �
   self = record { ref_ptr = (rb, ro); ghost_name = γ; now = places }
 
   abbrev bound : (walk_of 𝓛 (ended E) (stayed E) (spec E 𝓛)).Ghost
-  bound =
-      (((κ, tt), (q, tt), tt, (self, (start, (index, (value, tt)))), (us0, (us1, (us2, (us3, tt))))), tt)
+  bound = (
+    (
+      (κ, tt),
+      (q, tt),
+      tt,
+      (self, (start, (index, (value, tt)))),
+      (us0, (us1, (us2, (us3, tt)))),
+    ),
+    tt,
+  )
 
   abbrev Post : Val → SProp 𝓤
   Post = (walk_of 𝓛 (ended E) (stayed E) (spec E 𝓛)).post bound
@@ -67,7 +77,8 @@ module _ (E : El) {M : Type 1} {𝓤 : Ura M} (𝓛 : Logic 𝓤) (C : Calls �
   -- the reference whose places are these, and what else the function has at its end
   abbrev Left : (PlacesType E).Denot → List (Item 𝓤)
   Left new =
-      ‵ (fobs γ ((PlacesType E).coded.code new)) ∷ ‵ (fbor κ (Borrowed (mem (PlacesType E)) rb ro γ))
+      ‵ (fobs γ ((PlacesType E).coded.code new))
+      ∷ ‵ (fbor κ (Borrowed (mem (PlacesType E)) rb ro γ))
       ∷ ‵ (flft κ q) ∷ ‵ (unit.own_val tt (vunit ∷ [])) ∷ []
 
   exits : us0 ≡ vptr rb ro ∷ [] → (new : (PlacesType E).Denot) → Gives E places index value new →
@@ -82,7 +93,8 @@ module _ (E : El) {M : Type 1} {𝓤 : Ura M} (𝓛 : Logic 𝓤) (C : Calls �
 
   abbrev Had : Val → List (Item 𝓤)
   Had v =
-      ‵ (fobs γ ((PlacesType E).coded.code places)) ∷ ‵ (fbor κ (Borrowed (mem (PlacesType E)) rb ro γ))
+      ‵ (fobs γ ((PlacesType E).coded.code places))
+      ∷ ‵ (fbor κ (Borrowed (mem (PlacesType E)) rb ro γ))
       ∷ ‵ (flft κ q) ∷ ‵ ((R E).own_val value (v ∷ [])) ∷ []
 
   walk : us0 ≡ vptr rb ro ∷ [] → Asks E places start index → index < 2 ^ 64 → (v : Val) →
@@ -90,7 +102,8 @@ module _ (E : El) {M : Type 1} {𝓤 : Ura M} (𝓛 : Logic 𝓤) (C : Calls �
       ent 𝓤 (⋆ 𝓛 (Had v))
       (WpFn 𝓤 H C Λ (function E) (vptr rb ro ∷ word start.address ∷ vint w64 index ∷ v ∷ []) Post)
   walk passed asked fits v good =
-      let inside = asked.1 in let slots = places.slots in let after_it = set slots index (Some value) in
+      let inside = asked.1 in let slots = places.slots in
+      let after_it = set slots index (Some value) in
       let new : (PlacesType E).Denot =
       record { owner = places.owner; start = places.start; slots = after_it } in
       let w = width E in
@@ -99,10 +112,12 @@ module _ (E : El) {M : Type 1} {𝓤 : Ura M} (𝓛 : Logic 𝓤) (C : Calls �
       alloc_all ! (λ l. pass_all ! refl
       ((tt, tt), (word-Good [] start.address, ((tt, record { fits = fits }), (good, tt)))) $
       let locals : Env 𝓤 H = env (function E).locals l in
-      opens ! tt (PlacesType E) {h = places} rb ro (λ vs. move ! (1 ∷ []) $ fsplit ! $ move ! (1 ∷ []) $
+      opens ! tt (PlacesType E) {h = places} rb ro
+      (λ vs. move ! (1 ∷ []) $ fsplit ! $ move ! (1 ∷ []) $
       in_a_block ! places.start (λ p. owns_row (R E) p slots) (id⊢ 𝓤 (never 𝓤)) (λ b o e.
       fsplit ! $ flt_l ! (λ small.
-      let tiny : w < 2 ^ 64 = omega (arith, one_below (length slots) w (2 ^ 63) (omega arith) small) in
+      let tiny : w < 2 ^ 64 =
+      omega (arith, one_below (length slots) w (2 ^ 63) (omega arith) small) in
       let far : index * w < 2 ^ 64 =
       omega (arith, times_below index (length slots) w (2 ^ 63) (omega arith) small) in
       let Here = owns_place (R E) b (index * w + o) in
@@ -111,7 +126,8 @@ module _ (E : El) {M : Type 1} {𝓤 : Ura M} (𝓛 : Logic 𝓤) (C : Calls �
       (asked.0 ∙ e) refl $ give_at ! 2 $ first ! $ blocks ! $
       sets ! (bin ! (get ! refl) (size_lit ! (record { fits = tiny })) (record { fits = far })) refl
       (tt, record { fits = far }) $
-      sets ! (bin ! (get_in ! (fld ! refl (stop !)) (sub ! 0 refl (whole !))) (get ! refl) tt) refl (tt, tt) $
+      sets ! (bin ! (get_in ! (fld ! refl (stop !)) (sub ! 0 refl (whole !))) (get ! refl) tt) refl
+      (tt, tt) $
       use1 𝓛 (‵ (Here (get_or slots index None)) ⊛ ‵ (Others E 𝓛 b o slots index))
       (place_out E 𝓛 b o slots index inside) $ split ! $
       use1 𝓛 (‵ (Here None)) (emptied E 𝓛 b (get_or slots index None) (index * w + o)) $
@@ -122,11 +138,13 @@ module _ (E : El) {M : Type 1} {𝓤 : Ura M} (𝓛 : Logic 𝓤) (C : Calls �
       exec ! C Λ locals (after 1 (function E).body) (at_ret locals Post) $
       sets ! (of_opd ! (unit_lit !)) refl (tt, tt) $ move ! (0 ∷ 7 ∷ []) $
       use2 𝓛 (‵ (Here (Some value))) (filled E 𝓛 b value (index * w + o) v) $
-      use2 𝓛 (‵ (owns_places (R E) b o after_it)) (place_in E 𝓛 b o slots index inside (Some value)) $
+      use2 𝓛 (‵ (owns_places (R E) b o after_it)) (place_in E 𝓛 b o slots index inside (Some value))
+      $
       flt_i ! (length after_it * w) (2 ^ 63)
       (subst (λ k. k * w < 2 ^ 63) (sym (length-set slots index (Some value))) small) $ fjoin ! $
       rewrite ! 0 (λ (p : Ptr). ‵ (owns_row (R E) p after_it)) (sym e) refl $
-      move ! (1 ∷ 0 ∷ []) $ fjoin ! $ move ! (1 ∷ 0 ∷ []) $ closes ! tt (PlacesType E) new vs rb ro $
+      move ! (1 ∷ 0 ∷ []) $ fjoin ! $ move ! (1 ∷ 0 ∷ []) $
+      closes ! tt (PlacesType E) new vs rb ro $
       returns ! (look_at ! 0 refl) $ free_all ! refl $ keep ! (0 ∷ 1 ∷ 2 ∷ []) $
       feq_i ! (List Val) (vunit ∷ []) (vunit ∷ []) refl $ move ! (1 ∷ 2 ∷ 3 ∷ 0 ∷ []) $
       by ! (exits passed new (refl, refl))))))
@@ -143,7 +161,8 @@ module _ (E : El) {M : Type 1} {𝓤 : Ura M} (𝓛 : Logic 𝓤) (C : Calls �
       pointer_had ! start.address us1 (λ e1. fsplit ! $ fsplit ! $ feq_l ! (λ e2. flt_l ! (λ fits.
       fsplit ! $ value_had E.row E.laws ! value us3 (λ v e3 good. keep ! (2 ∷ 3 ∷ 4 ∷ 0 ∷ []) $
       by ! (subst (λ (us : List Val × List Val × List Val × List Val).
-      ent 𝓤 (⋆ 𝓛 (Had v)) (WpFn 𝓤 H C Λ (function E) (us.0 ++ (us.1 ++ (us.2 ++ (us.3 ++ [])))) Post))
+      ent 𝓤 (⋆ 𝓛 (Had v)) (WpFn 𝓤 H C Λ (function E) (us.0 ++ (us.1 ++ (us.2 ++ (us.3 ++ []))))
+      Post))
       (λ j. (sym e0 j, sym e1 j, sym e2 j, sym e3 j)) (walk e0 asked fits v good)))))))
 
 meets : (E : El) {M : Type 1} {𝓤 : Ura M} (𝓛 : Logic 𝓤) (𝓣 : Tables 𝓤 𝓛.H) →
@@ -162,7 +181,8 @@ meets E {𝓤 = 𝓤} 𝓛 𝓣 =
     (spec E 𝓛) (WpFn 𝓤 𝓛.H 𝓣.C 𝓣.Λ (function E)) (WpFn-mono 𝓤 𝓛.H 𝓛.laws 𝓣 (function E))
     (λ z. let a = z.0.3 in let vs = z.0.4 in
     needs 𝓤 (Asks E a.0.now a.1.0 a.1.1.0) _
-    (entry E 𝓛 𝓣.C 𝓣.Λ z.0.0.0 z.0.1.0 a.0.ref_ptr.0 a.0.ref_ptr.1 a.0.ghost_name a.0.now a.1.0 a.1.1.0
+    (entry E 𝓛 𝓣.C 𝓣.Λ z.0.0.0 z.0.1.0 a.0.ref_ptr.0 a.0.ref_ptr.1 a.0.ghost_name a.0.now a.1.0
+    a.1.1.0
     a.1.1.1.0 vs.0 vs.1.0 vs.1.1.0 vs.1.1.1.0))
 
 pub write_spec : {M : Type 1} → stated.statement M
@@ -171,7 +191,8 @@ write_spec 𝓤 𝓛 𝓜 𝓡 wired X laws y =
     let E : El = record { row = X; laws = laws } in
     let 𝓣 : Tables 𝓤 𝓛.H = tables_of 𝓤 𝓛.H 𝓜 (tables 𝓤 𝓛.H 𝓜 𝓡 𝓡.env) in
     let k = key (args E) in let told = closing 𝓛 (ended E) (spec E 𝓛) in
-    spared 𝓛 (ended E).signature (𝓡.run (𝓡.env k)) (run_framed 𝓤 𝓛.H 𝓜 𝓡 (𝓡.env k)) 1 (X.lives, tt) told
+    spared 𝓛 (ended E).signature (𝓡.run (𝓡.env k)) (run_framed 𝓤 𝓛.H 𝓜 𝓡 (𝓡.env k)) 1 (X.lives, tt)
+    told
     (entered 𝓤 𝓛.H (triple_of 𝓛 (ended E).signature told) 𝓣.C 𝓣.Λ k (function E)
     (code.unfolded 𝓤 𝓛.H 𝓜 𝓡 wired (X, tt)) (meets E 𝓛 𝓣))
     ((y.0.0, y.0.1, tt, y.0.3, y.0.4), y.1)
