@@ -1,5 +1,5 @@
 -- The faults of a route text, taken line by line.
-use Rattle.std.proofs.Common.{◌≡◌, ℕ, ◌+◌, Bool, true, false, List, [], ◌∷◌, Option, Some, None, refl, sym, ap, subst, ◌∙◌}
+use Rattle.std.proofs.Common.{◌≡◌, ℕ, ◌+◌, false, List, [], ◌∷◌, Option, Some, None, refl, sym, ap, subst, ◌∙◌}
 use Rattle.std.specs.Option.{option_map_or, option_or}
 use Rattle.std.proofs.lemmas.List.Sums.{fold-append}
 use Rattle.fpga_types.specs.Size.{Size}
@@ -13,9 +13,9 @@ use Rattle.fpga_text.proofs.CodeLemmas.{faults_behind-from}
 use Rattle.fpga_text.proofs.FaultLemmas.{IsPast, fault-first, past-line, refusal-line}
 use Rattle.fpga_text.proofs.ReadingLemmas.{IsTaken}
 use Rattle.fpga_route.specs.declared.head.Head.{Head}
-use Rattle.fpga_route.specs.Codes.{Context, START, behind, forms, later_forms, lines_faults, route_codes, size_said}
+use Rattle.fpga_route.specs.Codes.{START, behind, forms, later_forms, lines_faults, route_codes}
 use Rattle.fpga_route.specs.Drafts.{Progress, TakesLine, standing_of}
-use Rattle.fpga_route.specs.Forms.{Form, Array, Routing, OtherHead, SizeWords, array_form, later_form, routing_form, size_words}
+use Rattle.fpga_route.specs.Forms.{Form, Array, OtherHead, SizeWords, array_form, later_form, routing_form, size_words}
 use Rattle.fpga_route.specs.Heads.{IsHead, array_fault, said_grid}
 use Rattle.fpga_route.specs.Nets.{faults_ahead}
 use Rattle.fpga_route.specs.Standings.{context_at, later_fault}

@@ -1,6 +1,6 @@
 -- Each value that was read can be printed, and with other tracks too.
 use Rattle.std.proofs.Common.{◌≡◌, ℕ, zero, suc, ◌+◌, ◌-◌, ◌<◌, ◌^◌, Bool, true, false, List, [], ◌∷◌, length, take, drop, slice_index, Option, Some, None, refl, sym, ap, subst, ◌∙◌, arith}
-use Rattle.std.specs.Prelude.{All, map, cond, not, ◌&&◌, nat_eq, nat_le, nat_lt, codes, slice_range, option_map, option_and_then, unwrap_or, if◌then◌else◌}
+use Rattle.std.specs.Prelude.{All, map, not, ◌&&◌, nat_eq, nat_le, nat_lt, codes, slice_range, option_map, option_and_then, unwrap_or, if◌then◌else◌}
 use Rattle.std.specs.List.{list_all, AllByRecursion, enumerate_from, starts_with, ends_with}
 use Rattle.std.specs.Option.{option_map_or, option_or}
 use Rattle.std.specs.Str.Parse.{digits_value}
@@ -29,15 +29,15 @@ use Rattle.fpga_text.proofs.FaultLemmas.{faultless-line}
 use Rattle.fpga_text.proofs.PartLemmas.{IsWhole, whole-lines, words-are_words}
 use Rattle.fpga_text.proofs.PrintedWords.{IsWord, is_word_byte}
 use Rattle.fpga_route.specs.declared.standing.Standing.{Standing}
-use Rattle.fpga_route.specs.Codes.{START, behind, forms, is_number, is_32_bits, later_forms, lines_faults, number_of, route_codes, size_said}
+use Rattle.fpga_route.specs.Codes.{START, behind, forms, is_number, is_32_bits, later_forms, lines_faults, number_of, route_codes}
 use Rattle.fpga_route.specs.Forms.{Form, Array, Routing, OtherHead, Net, Elem as ElemForm, Block, NetWords, ElemWords, SizeWords, array_form, enclosed, is_global_frame, is_routing, later_form, named_net, net_words, routing_form, size_words}
 use Rattle.fpga_route.specs.Heads.{array_fault, said_grid}
-use Rattle.fpga_route.specs.Standings.{context_at, later_fault}
+use Rattle.fpga_route.specs.Standings.{later_fault}
 use Rattle.fpga_route.specs.Value.{begins_net, elem_of, elems_of, kept_of, own_lines, with_net, nets_of, grid_of, value_of, Reads}
 use Rattle.fpga_route.specs.ReadBack.{ReadsBack}
 use Rattle.fpga_route.proofs.FormLemmas.{net_form-words}
 use Rattle.fpga_route.proofs.FaultLemmas.{by_context, array-behind, in_head}
-use Rattle.fpga_route.proofs.SoundLemmas.{IsClean, faults_at, in_net, no_fault, own_sound, nets_limited, passed, sound_elem, standing_behind}
+use Rattle.fpga_route.proofs.SoundLemmas.{IsClean, faults_at, no_fault, own_sound, nets_limited, passed, sound_elem, standing_behind}
 use Rattle.fpga_route.proofs.PrintedLemmas.{IsPrintableElem, IsKeptLine, IsPrintableNet, IsPrintable}
 use Rattle.fpga_route.proofs.ReadBackLemmas.{reads_back}
 

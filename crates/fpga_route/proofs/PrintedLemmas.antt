@@ -8,7 +8,7 @@ use Rattle.std.specs.Option.{option_map_or}
 use Rattle.std.proofs.lemmas.Bool.{and_parts, le-leb, not-true}
 use Rattle.std.proofs.lemmas.Grind.{flat_map-append}
 use Rattle.fpga_types.specs.Size.{Size, AreLimited}
-use Rattle.fpga_types.specs.Sound.{IsSoundElem, IsSoundNet}
+use Rattle.fpga_types.specs.Sound.{IsSoundElem}
 use Rattle.fpga_types.specs.declared.limits.TheConstants.{NET_LIMIT, SIDE_LIMIT}
 use Rattle.fpga_types.specs.declared.route.Elem.{Elem}
 use Rattle.fpga_types.specs.declared.route.ElemKind.{ElemKind}
@@ -18,14 +18,14 @@ use Rattle.fpga_types.specs.declared.route.Label.TheVariants.{Class, Pin, Pad, T
 use Rattle.fpga_types.specs.declared.route.RouteNet.{RouteNet}
 use Rattle.fpga_types.specs.declared.route.RouteText.{RouteText}
 use Rattle.fpga_text.specs.declared.style.Style.TheVariants.{Hash}
-use Rattle.fpga_text.specs.Bytes.{Bytes, is_newline, is_blank, is_empty}
+use Rattle.fpga_text.specs.Bytes.{Bytes, is_newline, is_empty}
 use Rattle.fpga_text.specs.Words.{Words, lines, words}
 use Rattle.fpga_text.proofs.CutLemmas.{position_or_len-cons_no}
 use Rattle.fpga_text.proofs.LineLemmas.{lines-next}
 use Rattle.fpga_text.proofs.PrintedLines.{ended, said, said-line}
 use Rattle.fpga_text.proofs.PrintedWords.{IsWord, both-pass, decimal-pass, decimal-word, digit-differs, is_line_byte, is_word_byte, lacks, lacks-each, line-newline, word-line, words-end, words-word}
-use Rattle.fpga_route.specs.Forms.{ElemWords, Form, Array, Net, Elem as ElemForm, Block, Span, OtherLine, NetWords, SizeWords, array_form, is_comma, comma_parts, enclosed, named_net, kind_word, kind_of, label_word, label_of, later_form, place_words, elem_of_parts, net_words}
-use Rattle.fpga_route.specs.Printed.{after_name, before_name, in_six_places, printed_elem, printed_kept, printed_lines, printed_net, printed_head, printed}
+use Rattle.fpga_route.specs.Forms.{ElemWords, Form, Array, Net, Elem as ElemForm, Block, Span, OtherLine, NetWords, SizeWords, array_form, is_comma, comma_parts, enclosed, named_net, kind_word, kind_of, label_word, label_of, later_form, place_words, elem_of_parts}
+use Rattle.fpga_route.specs.Printed.{after_name, before_name, in_six_places, printed_elem, printed_lines, printed_net, printed_head, printed}
 
 -- the element is sound, and its numbers fit 32 bits
 pub record IsPrintableElem (grid : Size) (e : Elem) : Type 0 where

@@ -1,5 +1,5 @@
 -- What the lines of a printed route read as.
-use Rattle.std.proofs.Common.{◌≡◌, ℕ, ◌+◌, ◌<◌, ◌≤◌, ◌^◌, Bool, true, false, List, [], ◌∷◌, ◌++◌, length, Option, Some, None, refl, sym, ap, subst, ◌∙◌, arith, append_assoc}
+use Rattle.std.proofs.Common.{◌≡◌, ℕ, ◌+◌, ◌<◌, ◌≤◌, ◌^◌, Bool, true, false, List, [], ◌∷◌, ◌++◌, length, Some, None, refl, sym, ap, subst, ◌∙◌, arith, append_assoc}
 use Rattle.std.specs.Prelude.{codes, map, flat_map, not, cond, ◌&&◌, decimal, nat_lt, option_map, option_and_then, unwrap_or, if◌then◌else◌}
 use Rattle.std.specs.List.{AllByRecursion, cons_option}
 use Rattle.std.specs.Option.{option_map_or, option_or}
@@ -12,18 +12,17 @@ use Rattle.fpga_types.specs.declared.route.Elem.{Elem}
 use Rattle.fpga_types.specs.declared.route.RouteNet.{RouteNet}
 use Rattle.fpga_types.specs.declared.route.RouteText.{RouteText}
 use Rattle.fpga_text.specs.declared.style.Style.TheVariants.{Hash}
-use Rattle.fpga_text.specs.declared.fault.TextFault.{TextFault}
 use Rattle.fpga_text.specs.declared.fault.TextFault.TheVariants.{Bad, Limit}
 use Rattle.fpga_text.specs.Bytes.{Bytes, is_empty}
-use Rattle.fpga_text.specs.Codes.{faults_from, line_fault}
+use Rattle.fpga_text.specs.Codes.{faults_from}
 use Rattle.fpga_text.specs.FirstFault.{IsFaultless, first_fault}
 use Rattle.fpga_text.specs.Words.{TextLine, Words, text_line, text_lines, line_count}
 use Rattle.fpga_text.specs.Numbers.{whole_number_of}
 use Rattle.fpga_text.proofs.PrintedLines.{numbered, said, seen, seen-line}
 use Rattle.fpga_text.proofs.PrintedWords.{whole_number_of-decimal}
 use Rattle.fpga_route.specs.declared.standing.Standing.{Standing}
-use Rattle.fpga_route.specs.Codes.{behind, START, forms, is_number, is_32_bits, is_misplaced, lacks_elem, later_forms, lines_faults, number_of, route_codes}
-use Rattle.fpga_route.specs.Forms.{Form, Array, Routing, OtherLine, Net, Elem as ElemForm, Block, array_form, later_form, routing_form}
+use Rattle.fpga_route.specs.Codes.{behind, START, is_number, is_32_bits, is_misplaced, lacks_elem, later_forms, lines_faults, number_of, route_codes}
+use Rattle.fpga_route.specs.Forms.{Form, Array, Routing, OtherLine, Net, Elem as ElemForm, Block, array_form, later_form}
 use Rattle.fpga_route.specs.Heads.{array_fault, said_grid}
 use Rattle.fpga_route.specs.Standings.{context_at, later_fault}
 use Rattle.fpga_route.specs.Value.{begins_net, elems_of, form_elem, form_kept, kept_of, net_of, own_lines, with_net, nets_of, value_of, route_value}

@@ -1,5 +1,5 @@
 -- What was read is what the text reads as.
-use Rattle.std.proofs.Common.{◌≡◌, ◌<◌, ◌^◌, ℕ, List, [], ◌∷◌, Some, None, Result, refl, sym, ap, subst, ◌∙◌, arith}
+use Rattle.std.proofs.Common.{◌≡◌, ◌<◌, ◌^◌, ℕ, List, [], ◌∷◌, None, refl, sym, ap, subst, ◌∙◌, arith}
 use Rattle.std.specs.Prelude.{map, ◌+◌}
 use Rattle.fpga_types.specs.Size.{Size}
 use Rattle.fpga_types.specs.Sound.{IsSound, RisesWithin, net_numbers}
@@ -15,7 +15,7 @@ use Rattle.fpga_text.proofs.FaultLemmas.{IsPast, refusal-past}
 use Rattle.fpga_route.specs.declared.head.Head.{Head}
 use Rattle.fpga_route.specs.declared.standing.Standing.{Standing}
 use Rattle.fpga_route.specs.Codes.{lines_faults, route_faults}
-use Rattle.fpga_route.specs.Drafts.{Progress, nets_begun, nets_with, standing_of}
+use Rattle.fpga_route.specs.Drafts.{Progress, nets_begun, nets_with}
 use Rattle.fpga_route.specs.Heads.{IsHead}
 use Rattle.fpga_route.specs.Nets.{ReadsNets, faults_ahead}
 use Rattle.fpga_route.specs.Refusals.{IsRefused, untold}

@@ -1,5 +1,5 @@
 -- Lines without a fault read as a sound route.
-use Rattle.std.proofs.Common.{◌≡◌, ℕ, ◌+◌, ◌≤◌, ◌<◌, ◌++◌, Bool, true, false, List, [], ◌∷◌, length, Option, Some, None, refl, sym, ap, subst, ◌∙◌, arith}
+use Rattle.std.proofs.Common.{◌≡◌, ℕ, ◌+◌, ◌≤◌, ◌<◌, ◌++◌, Bool, true, false, List, [], ◌∷◌, length, Option, Some, None, refl, sym, subst, ◌∙◌, arith}
 use Rattle.std.specs.Prelude.{All, map, filter, option_map, unwrap_or, not, ◌==◌, ◌&&◌, cond, if◌then◌else◌}
 use Rattle.std.specs.List.{enumerate_from}
 use Rattle.std.specs.Option.{option_map_or, option_or}
@@ -9,13 +9,11 @@ use Rattle.fpga_types.specs.Size.{Size}
 use Rattle.fpga_types.specs.Sound.{has_place, IsSoundElem, IsSoundNet, RisesWithin, net_numbers}
 use Rattle.fpga_types.specs.declared.limits.TheConstants.{NET_LIMIT}
 use Rattle.fpga_types.specs.declared.route.Elem.{Elem}
-use Rattle.fpga_types.specs.declared.route.RouteNet.{RouteNet}
 use Rattle.fpga_text.specs.Bytes.{Bytes, is_empty}
 use Rattle.fpga_text.specs.Codes.{faults_from}
 use Rattle.fpga_text.specs.FirstFault.{Faults, IsFaultless}
 use Rattle.fpga_text.specs.Numbers.{whole_number_of}
 use Rattle.fpga_text.specs.Words.{TextLine, text_line}
-use Rattle.fpga_text.specs.declared.fault.TextFault.{TextFault}
 use Rattle.fpga_text.specs.declared.fault.TextFault.TheVariants.{Bad, Limit}
 use Rattle.fpga_text.specs.declared.style.Style.{Style}
 use Rattle.fpga_text.proofs.FaultLemmas.{faultless-line}
@@ -23,7 +21,7 @@ use Rattle.fpga_route.specs.declared.standing.Standing.{Standing}
 use Rattle.fpga_route.specs.Codes.{behind, is_number, is_32_bits, is_misplaced, lacks_elem, later_forms, number_of, route_codes}
 use Rattle.fpga_route.specs.Forms.{NetWords, ElemWords, Form, Array, Routing, Net, Elem as ElemForm, Block, later_form}
 use Rattle.fpga_route.specs.Standings.{context_at, later_fault}
-use Rattle.fpga_route.specs.Value.{begins_net, elem_of, elems_of, form_elem, form_kept, kept_of, net_of, nets_of, own_lines, with_net}
+use Rattle.fpga_route.specs.Value.{begins_net, elem_of, elems_of, kept_of, net_of, nets_of, own_lines, with_net}
 use Rattle.fpga_route.proofs.FormLemmas.{is_later, later_form-later, takes-elem}
 
 -- the faults of lines that stand here, and of the end, which has this number

@@ -1,5 +1,5 @@
 -- Which form a line of a route text has, by its words: a profile of the route text of VPR 4.30.
-use Rattle.std.specs.Prelude.{ℕ, ◌+◌, ◌-◌, ◌==◌, nat_eq, nat_le, Bool, true, false, ◌&&◌, ◌||◌, List, [], ◌∷◌, length, slice_range, find, codes, bytes_eq, Option, Some, None, is_some, if◌then◌else◌}
+use Rattle.std.specs.Prelude.{ℕ, ◌+◌, ◌-◌, ◌==◌, nat_eq, nat_le, Bool, true, false, ◌&&◌, ◌||◌, [], ◌∷◌, length, slice_range, find, codes, bytes_eq, Option, Some, None, is_some, if◌then◌else◌}
 use Rattle.std.specs.List.{starts_with, ends_with, before_first, after_first, list_any}
 use Rattle.std.specs.Option.{option_map_or}
 use Rattle.fpga_text.specs.Bytes.{Bytes}

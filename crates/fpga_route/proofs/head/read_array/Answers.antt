@@ -1,6 +1,6 @@
-use Rattle.std.proofs.Common.{◌≡◌, Some, ap, sym}
+use Rattle.std.proofs.Common.{◌≡◌, ap, sym}
 use Rattle.std.specs.Option.{option_map_or}
-use Rattle.fpga_route.specs.Forms.{Array, Form, OtherHead, array_form}
+use Rattle.fpga_route.specs.Forms.{Array, OtherHead, array_form}
 use Rattle.fpga_route.specs.Lines.{array_said}
 use Rattle.fpga_route.proofs.head.read_array.Goals as goal
 use Rattle.fpga_route.proofs.head.read_array.Goals.{In-Some}

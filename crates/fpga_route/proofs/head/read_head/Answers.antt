@@ -1,6 +1,6 @@
 use Rattle.std.proofs.Common.{◌∷◌, refl, sym, ap, ◌∙◌}
 use Rattle.fpga_text.proofs.ReadingLemmas.{IsTaken, next_line-taken, next_line-past}
-use Rattle.fpga_route.proofs.FaultLemmas.{refused-array, refused-empty, refused-routing, refused-short}
+use Rattle.fpga_route.proofs.FaultLemmas.{refused-array, refused-empty, refused-short}
 use Rattle.fpga_route.proofs.head.read_head.Goals as goal
 use Rattle.fpga_route.proofs.head.read_head.Goals.{In-Some, In-Some-next_line}
 

@@ -1,11 +1,10 @@
 use Rattle.std.proofs.Common.{length, refl, sym, ap, ◌∙◌, arith}
 use Rattle.std.proofs.lemmas.Result.{err_from_is_err_and}
 use Rattle.fpga_text.proofs.FaultLemmas.{past-nothing}
-use Rattle.fpga_text.proofs.ReadingLemmas.{IsTaken, next_line-taken, next_line-past}
+use Rattle.fpga_text.proofs.ReadingLemmas.{IsTaken, next_line-taken}
 use Rattle.fpga_route.specs.Drafts.{nets_with}
 use Rattle.fpga_route.specs.Nets.{faults_ahead}
-use Rattle.fpga_route.proofs.DraftLemmas.{nets_with-end}
-use Rattle.fpga_route.proofs.FaultLemmas.{past_end, past_line, refused_line}
+use Rattle.fpga_route.proofs.FaultLemmas.{past_line, refused_line}
 use Rattle.fpga_route.proofs.read.read_nets.Goals as goal
 use Rattle.fpga_route.proofs.read.read_nets.Goals.{In-Some}
 
