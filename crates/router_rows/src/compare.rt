@@ -106,7 +106,7 @@ fn compare_files(alloc: Global, files: &[WantedFile], shelf: &MemShelf) -> Resul
     for file in files {
         if !is_met(file, shelf) {
             let came = shelf.file(&file.name).unwrap_or(b"no file");
-            return differs(alloc, "the file", &file.name, &file.text, came);
+            return differs(alloc, &file.name, &file.text, came);
         }
     }
     Ok(())
@@ -129,7 +129,7 @@ fn is_met(file: &WantedFile, shelf: &MemShelf) -> bool
 }
 
 // Whether two numbers are the same.
-fn same_number(alloc: Global, what: &'static str, expected: u64, came: u64) -> Result<(), RowStop>
+fn same_number(alloc: Global, what: &str, expected: u64, came: u64) -> Result<(), RowStop>
     ensures { OnOk result (came ≡ expected) }
 {
     if expected == came {
@@ -137,32 +137,25 @@ fn same_number(alloc: Global, what: &'static str, expected: u64, came: u64) -> R
     }
     let (mut left, mut right) = (Buffer::new(), Buffer::new());
     let (left, right) = (left.format(expected), right.format(came));
-    differs(alloc, what, "", left.as_bytes(), right.as_bytes())
+    differs(alloc, what, left.as_bytes(), right.as_bytes())
 }
 
 // Whether two texts are the same.
-fn same_text(alloc: Global, what: &'static str, expected: &[u8], came: &[u8]) -> Result<(), RowStop>
+fn same_text(alloc: Global, what: &str, expected: &[u8], came: &[u8]) -> Result<(), RowStop>
     ensures { OnOk result (came.now ≡ expected.now) }
 {
     if expected == came {
         return Ok(());
     }
-    differs(alloc, what, "", expected, came)
+    differs(alloc, what, expected, came)
 }
 
 // Tells two texts that differ.
-fn differs(
-    alloc: Global,
-    what: &'static str,
-    name: &str,
-    expected: &[u8],
-    came: &[u8],
-) -> Result<(), RowStop>
+fn differs(alloc: Global, what: &str, expected: &[u8], came: &[u8]) -> Result<(), RowStop>
     ensures { IsErr result }
 {
     Err(RowStop::Differs {
-        what,
-        name: String::from_str(alloc, name)?,
+        what: String::from_str(alloc, what)?,
         expected: shown(alloc, expected)?,
         came: shown(alloc, came)?,
     })

@@ -16,7 +16,12 @@ use desk_io::{FileDesk, read_file};
 use std::str;
 
 // The files of cases. The first says how they are written.
-const FILES: [&str; 3] = ["worked.rows", "failing_calls.rows", "route_texts.rows"];
+const FILES: [&str; 4] = [
+    "worked.rows",
+    "failing_calls.rows",
+    "route_texts.rows",
+    "proof_texts.rows",
+];
 
 // No file of cases is longer.
 const LIMIT: u64 = 1 << 20;

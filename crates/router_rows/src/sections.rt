@@ -30,12 +30,12 @@ fn heading_of(line: &str) -> Option<Heading<'_>> {
     }
 }
 
-/// The sections of a text, without the lines that are empty or begin with `#`. What stands before
-/// the first heading is a section of lines in common.
+/// The sections of a text, without the lines that are empty or begin with `#`. The first is what
+/// stands before the first heading, as a part, so that nothing else is taken there.
 pub fn sections(alloc: Global, text: &str) -> Result<Vec<Section<'_>>, AllocError> {
     let mut all = Vec::new(alloc);
     let mut open = Section {
-        heading: Heading::Common,
+        heading: Heading::Part("the front"),
         lines: Vec::new(alloc),
     };
     for line in text.lines() {

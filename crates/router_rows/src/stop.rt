@@ -34,10 +34,9 @@ pub enum RowStop {
     NotUnderstood(String),
     #[error("there is no line `{0}`")]
     Lacks(&'static str),
-    #[error("{what} {name}: expected {expected}, came {came}")]
+    #[error("{what}: expected {expected}, came {came}")]
     Differs {
-        what: &'static str,
-        name: String,
+        what: String,
         expected: String,
         came: String,
     },
