@@ -8,7 +8,7 @@ use Rattle.sat_clause.specs.Formula.{Cnf}
 use Rattle.sat_clause.specs.Judge.{Judgement, judge}
 use Rattle.sat_clause.specs.Step.{Step}
 use Rattle.sat_text.specs.CnfText.{cnf_faults}
-use Rattle.sat_text.specs.FirstFault.{IsFirst}
+use Rattle.fpga_text.specs.FirstFault.{IsFirst}
 use Rattle.sat_text.specs.LratText.{lrat_faults}
 use Rattle.router_top.specs.Command.{CheckJob}
 use Rattle.router_top.specs.Finding.{BadCnf, BadLrat, ChecksFiles, IsCnfFile, IsLratFile, LongCnf, LongLrat, PROOF_LIMIT}

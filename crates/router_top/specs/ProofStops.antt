@@ -3,7 +3,7 @@ use Rattle.std.specs.Prelude.{ℕ, ◌+◌, ⊤}
 use Rattle.desk_io.specs.DeskState.{DeskState}
 use Rattle.desk_io.specs.Files.{Bytes}
 use Rattle.fpga_text.specs.declared.fault.TextFault.TheVariants.{Bad as IsBad, Limit as IsPastLimit}
-use Rattle.sat_text.specs.FirstFault.{Faults, IsFirst}
+use Rattle.fpga_text.specs.FirstFault.{Faults, IsFirst}
 use Rattle.router_top.specs.Finding.{PROOF_LIMIT}
 use Rattle.router_top.specs.Inputs.{FailsToRead, HasText, IsLonger}
 use Rattle.router_top.specs.declared.outcome.Outcome.{Outcome}
