@@ -11,7 +11,7 @@ use Rattle.sat_clause.specs.Formula.{Cnf}
 use Rattle.sat_clause.specs.Judge.{judge}
 use Rattle.sat_clause.specs.Step.{Step}
 use Rattle.sat_text.specs.CnfText.{ReadsCnf, cnf_faults}
-use Rattle.sat_text.specs.FirstFault.{Faults, IsFaultless, IsFirst}
+use Rattle.fpga_text.specs.FirstFault.{Faults, IsFaultless, IsFirst}
 use Rattle.sat_text.specs.LratText.{ReadsLrat, lrat_faults}
 use Rattle.router_top.specs.Asked.{HasFew, IsRouteFile, IsTrueOfClauses, IsUnbuilt, Poses, ROUTE_LIMIT, clause_count, route_file}
 use Rattle.router_top.specs.Command.{CheckJob, Checks, Encodes, Job, RouteJob, Routes, Word, job_of}
@@ -25,32 +25,10 @@ use Rattle.router_top.proofs.FileLaws.{halted-reads, one-halt, one-text}
 -- ---- of the faults of a text one is the first
 
 faultless-first : (faults : Faults) (f : TextFault) → IsFaultless faults → IsFirst faults f → ⊥
-faultless-first faults f clean h =
-    let whole : IsFaultless (h.before ++ Some f ∷ h.after) = subst IsFaultless h.split clean in
-    let inside : length h.before < length (h.before ++ Some f ∷ h.after) =
-    omega (arith, length-append h.before (Some f ∷ h.after)) in
-    let here : Some f ≡ None =
-    sym (get_or-append_seam h.before (Some f) h.after None) ∙ whole (length h.before) None inside in
-    cc
-
--- the same where the clean front parts and what follows them are at hand
-first-split : (a b c d : Faults) (f g : TextFault) → IsFaultless a → IsFaultless c →
-    a ++ Some f ∷ b ≡ c ++ Some g ∷ d → f ≡ g
-first-split [] b [] d f g clean_a clean_c e = cc
-first-split [] b (o ∷ c) d f g clean_a clean_c e =
-    let none : o ≡ None = clean_c 0 o (omega arith) in let here : Some f ≡ o = cc in cc
-first-split (o ∷ a) b [] d f g clean_a clean_c e =
-    let none : o ≡ None = clean_a 0 o (omega arith) in let here : o ≡ Some g = cc in cc
-first-split (o ∷ a) b (p ∷ c) d f g clean_a clean_c e =
-    first-split a b c d f g (λ k x inside. clean_a (suc k) x (omega arith))
-    (λ k x inside. clean_c (suc k) x (omega arith)) (tails e)
-  where
-    tails : o ∷ (a ++ Some f ∷ b) ≡ p ∷ (c ++ Some g ∷ d) → a ++ Some f ∷ b ≡ c ++ Some g ∷ d
-    tails h = cc
+faultless-first faults f clean first = let clash : None ≡ Some f = sym clean ∙ first in cc
 
 first-same : (faults : Faults) (f g : TextFault) → IsFirst faults f → IsFirst faults g → f ≡ g
-first-same faults f g h k =
-    first-split h.before h.after k.before k.after f g h.clean k.clean (sym h.split ∙ k.split)
+first-same faults f g h k = let both : Some f ≡ Some g = sym h ∙ k in cc
 
 -- ---- of a command that works on the clauses of its route file
 
