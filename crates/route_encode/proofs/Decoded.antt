@@ -29,8 +29,8 @@ use Rattle.route_encode.specs.Said.{AreSaid}
 use Rattle.route_encode.proofs.Exactness.{bits_exact, obeys-legal, said-bits}
 use Rattle.route_encode.proofs.Models.{satisfies-obeys}
 
-pub unsat-none : (route found : RouteText) (width : ℕ) → IsFit route → IsUnsat (cnf_subset width route) → IsRouting width route found → ⊥
-unsat-none route found width fit none h =
+pub unsat-none : (route : RouteText) (width : ℕ) → IsFit route → IsUnsat (cnf_subset width route) → (found : RouteText) → IsRouting width route found → ⊥
+unsat-none route width fit none found h =
     none (bits width (tracks_of route found)) ((bits_exact width route fit (tracks_of route found) h.legal.each).1 h.legal)
 
 -- an element of a retracked net is of the same slot

@@ -1,5 +1,5 @@
 -- The literals of slots and tracks that are there are of variables that are there.
-use Rattle.std.proofs.Common.{◌≡◌, ℕ, ◌+◌, ◌*◌, ◌<◌, ◌≤◌, arith}
+use Rattle.std.proofs.Common.{ℕ, ◌*◌, ◌<◌, arith}
 use Rattle.std.specs.Prelude.{All}
 use Rattle.std.proofs.lemmas.List.Elements.{All-map}
 use Rattle.list_laws.proofs.Members.{all-from_In, from_In-range}

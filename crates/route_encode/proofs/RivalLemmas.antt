@@ -8,7 +8,6 @@ use Rattle.std.proofs.lemmas.Bool.Decides.{nat_tests}
 use Rattle.std.specs.BTreeMap.{BTreeMap, get, is_at}
 use Rattle.std.proofs.lemmas.List.{append-nil, get_or-set_other, get_or-set_same}
 use Rattle.std.proofs.lemmas.List.Elements.{filter-append, filter_map-append}
-use Rattle.std.proofs.lemmas.Grind.{flat_map-append}
 use Rattle.list_laws.proofs.Members.{from_In-range}
 use Rattle.list_laws.proofs.Numbered.{enumerate-map}
 use Rattle.list_laws.proofs.Rows.{filter_map-map, rows-alike, rows-map, rows-rows}

@@ -1,5 +1,10 @@
 -- The clause of the negated decisions is new, and goes back to where the last decision was made.
-use Rattle.std.proofs.Common.{inl, inr, ◌≡◌, ◌≢◌, ℕ, suc, false, List, [], ◌∷◌, ◌++◌, length, Option, None, Some, slice_get, Contains, All, AllPairs, refl, sym, ap, ◌∙◌, subst, arith}
+use Rattle.sat_core.specs.SearchStore.{IsFalseAt, IsLesson}
+use Rattle.sat_core.specs.Lesson.{id_at, reason_ids}
+use Rattle.sat_clause.specs.Literal.{IsLiteral}
+use Rattle.sat_core.proofs.LessonLemmas.{hints_lead}
+use Rattle.sat_clause.specs.Formula.{Cnf}
+use Rattle.std.proofs.Common.{inl, inr, ◌≡◌, ◌≢◌, ℕ, suc, false, List, [], ◌∷◌, ◌++◌, length, Option, None, Some, slice_get, Contains, All, AllPairs, refl, sym, ap, ◌∙◌, subst, arith, ℤ, ◌≤◌}
 use Rattle.std.proofs.lemmas.Bool.{both_ways}
 use Rattle.std.proofs.lemmas.List.{append-nil}
 use Rattle.std.proofs.lemmas.List.Elements.{All-head, All-tail, All-cons, All-nil, All-weaker, All-append, All-push, All-contains, All-contains_itself, Contains-push}
@@ -196,3 +201,15 @@ learned_caused clauses older l n once free caused is =
       causes_push clauses (lesson_of older l) (negation l) older once (open_negation (literals older) l free)
           (Contains-push (negated_decisions older) (negation l)) agree caused,
     )
+
+-- the lesson of a trail where a clause is false
+pub lesson_is : (known : Cnf) (entries : List Entry) (i : ℕ) (clause : Clause) (hints : List ℤ) → known.vars ≤ 100000000 →
+    AreWithin known.vars entries → IsOnce (literals entries) → AreCaused known.clauses entries →
+    IsFalseAt (record { known = known; entries = entries }) i → clause ≡ negated_decisions entries →
+    hints ≡ reason_ids entries ++ id_at i ∷ [] → IsLesson (record { known = known; entries = entries }) clause hints
+lesson_is known entries i clause hints few within once caused conflict is hints_are = record {
+  is = is;
+  simple = rw is (decisions_simple known.vars entries within once);
+  literals = rw is (All-weaker (IsWithin known.vars) IsLiteral (λ l inside. (inside.0, omega (arith, inside.1, few))) (negated_decisions entries) (decisions_within known.vars entries within));
+  follows = λ live are. rw (is, hints_are) (hints_lead live known.clauses (negated_decisions entries) entries i are.at once caused (decisions_agree entries once) conflict);
+}

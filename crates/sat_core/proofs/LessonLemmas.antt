@@ -1,18 +1,16 @@
 -- The negated decisions of a trail, and where they stand in its causes.
 use Rattle.std.specs.Prelude.{⊤}
-use Rattle.std.proofs.Common.{suc, ◌≡◌, ◌≢◌, ◌⊎◌, ◌<◌, ℕ, ℤ, true, false, List, [], ◌∷◌, ◌++◌, length, Option, None, Some, slice_get, All, refl, sym, ap, ◌∙◌, subst, arith, inl, inr, get_or}
+use Rattle.std.proofs.Common.{◌≡◌, ◌≢◌, ◌⊎◌, ◌<◌, ℕ, ℤ, true, false, List, [], ◌∷◌, ◌++◌, length, Option, None, Some, slice_get, All, refl, sym, ap, ◌∙◌, subst, inl, inr, get_or}
 use Rattle.std.proofs.lemmas.Bool.{both_ways, false_from_ne_true}
 use Rattle.std.proofs.lemmas.List.{append_assoc}
-use Rattle.std.proofs.lemmas.List.Elements.{All-head, All-tail, All-cons, All-nil, All-weaker, All-append, All-push}
+use Rattle.std.proofs.lemmas.List.Elements.{All-head, All-tail, All-weaker}
 use Rattle.sat_clause.specs.declared.literal.Lit.{Lit}
-use Rattle.sat_clause.specs.declared.reading.Reading.{Reading}
 use Rattle.sat_clause.specs.declared.reading.Reading.TheVariants.{Conflict, Unit}
 use Rattle.sat_clause.specs.Live.{Live, named}
 use Rattle.sat_clause.specs.Rup.{Reads, reading_of, rup}
 use Rattle.sat_core.specs.declared.entry.Entry.{Entry}
 use Rattle.sat_core.specs.Lesson.{decided, id_at, negated_decisions, reason_id, reason_ids}
-use Rattle.sat_core.specs.SearchLog.{IsEarlier}
-use Rattle.std.proofs.lemmas.Option.{slice_get_within, slice_get-get_or}
+use Rattle.std.proofs.lemmas.Option.{slice_get-get_or}
 use Rattle.sat_clause.specs.Literal.{Clause, is_among, negation, variable}
 use Rattle.sat_clause.specs.Trail.{IsOnce, IsOpen, falses}
 use Rattle.sat_clause.specs.Settled.{IsQuiet, IsSettled}
@@ -190,45 +188,6 @@ decisions_agree (e ∷ older) once = (
       (λ l other m is same. other (sym same ∙ ap variable (decided_is e.lit m e.reason is) ∙ variable_negation e.lit)) (literals older) once.0)
       (decisions_agree older once.1),
 )
-
--- the hints of a lesson are earlier than it
-id_is_earlier : (clauses : List Clause) (i : ℕ) → i < length clauses → IsEarlier (suc (length clauses)) (id_at i)
-id_is_earlier clauses i within = record {
-  number = suc i;
-  is = refl;
-  some = omega arith;
-  before = omega arith;
-}
-
-reads_within : (set : List Lit) (clauses : List Clause) (i : ℕ) (r : Reading) → Reads set (slice_get clauses i) r →
-    i < length clauses
-reads_within set clauses i r reads = by (slice_get clauses i) refl reads
-  where
-    by : (o : Option Clause) → slice_get clauses i ≡ o → Reads set o r → i < length clauses
-    by None is none = absurd none
-    by (Some c) is _ = slice_get_within clauses i c is
-
-reason_is_earlier : (clauses : List Clause) (older : List Entry) (l : Lit) (r : Option ℕ) → HasCause clauses older l r →
-    All (IsEarlier (suc (length clauses))) (reason_id r)
-reason_is_earlier clauses older l None cause = All-nil (IsEarlier (suc (length clauses)))
-reason_is_earlier clauses older l (Some i) cause =
-    let within = reads_within (falses (literals older)) clauses i (Unit l) cause in
-    All-cons (IsEarlier (suc (length clauses))) (id_at i) [] (id_is_earlier clauses i within) (All-nil (IsEarlier (suc (length clauses))))
-
-reasons_are_earlier : (clauses : List Clause) (entries : List Entry) → AreCaused clauses entries →
-    All (IsEarlier (suc (length clauses))) (reason_ids entries)
-reasons_are_earlier clauses [] caused = All-nil (IsEarlier (suc (length clauses)))
-reasons_are_earlier clauses (e ∷ older) caused =
-    All-append (IsEarlier (suc (length clauses))) (reason_ids older) (reason_id e.reason)
-    (reasons_are_earlier clauses older caused.1) (reason_is_earlier clauses older e.lit e.reason caused.0)
-
-pub hints_are_earlier : (clauses : List Clause) (entries : List Entry) (i : ℕ) → AreCaused clauses entries →
-    Reads (falses (literals entries)) (slice_get clauses i) Conflict →
-    All (IsEarlier (suc (length clauses))) (reason_ids entries ++ id_at i ∷ [])
-hints_are_earlier clauses entries i caused conflict =
-    let within = reads_within (falses (literals entries)) clauses i Conflict conflict in
-    All-push (IsEarlier (suc (length clauses))) (reason_ids entries) (id_at i) (reasons_are_earlier clauses entries caused)
-    (id_is_earlier clauses i within)
 
 -- a literal that a clause makes true is open
 pub unit_is_free : (entries : List Entry) (l : Lit) (o : Option Clause) → Reads (falses (literals entries)) o (Unit l) →

@@ -5,3 +5,4 @@ pub mod StoreLemmas
 pub mod LearnLemmas
 pub mod ModelLemmas
 pub mod UnderwayLemmas
+pub mod EarlierLaw

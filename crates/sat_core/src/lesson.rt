@@ -32,10 +32,9 @@ impl Lesson {
         conflict: u32,
     ) -> Result<Lesson, AllocError>
         requires { AreWithin 100000000 entries.now }
-        ensures clause { IfOk result (λ lesson.
-            lesson.clause.items ≡ negated_decisions (reverse entries.now)) }
-        ensures hints { IfOk result (λ lesson.
-            lesson.hints.items ≡ reason_ids (reverse entries.now) ++ id_at conflict ∷ []) }
+        ensures { IfOk result (λ lesson.
+            (lesson.clause.items ≡ negated_decisions (reverse entries.now))
+            × (lesson.hints.items ≡ reason_ids (reverse entries.now) ++ id_at conflict ∷ [])) }
     {
         let mut clause = Vec::new(alloc);
         let mut hints = Vec::new(alloc);

@@ -1,11 +1,10 @@
 use Rattle.std.proofs.Common.{◌≡◌, length}
 use Rattle.sat_core.specs.Underway.{IsUnderway}
-use Rattle.sat_core.proofs.solving.solve.Given as goal
+use Rattle.sat_core.proofs.solving.search_for_values.Given as goal
 
 -- the log is under way, and each turn so far has added a clause
 abbrev pub invariant-loop : goal.invariant-loop
 invariant-loop l = record {
-  formula : l.search.formula ≡ l.formula.cnf;
-  underway : IsUnderway l.formula.cnf l.search.learned l.log.steps;
+  underway : IsUnderway l.formula.cnf l.search.known l.log.steps;
   many : length l.log.steps ≡ l.counter;
 }
