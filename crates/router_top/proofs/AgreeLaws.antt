@@ -6,6 +6,7 @@ use Rattle.desk_io.specs.Files.{Bytes, FileMap}
 use Rattle.fpga_types.specs.Fit.{IsFit}
 use Rattle.fpga_types.specs.declared.route.RouteText.{RouteText}
 use Rattle.fpga_text.specs.declared.fault.TextFault.{TextFault}
+use Rattle.fpga_route.specs.Codes.{route_faults}
 use Rattle.fpga_route.specs.Value.{Reads}
 use Rattle.sat_clause.specs.Formula.{Cnf}
 use Rattle.sat_clause.specs.Judge.{judge}
@@ -46,9 +47,7 @@ module _ (files : FileMap) (name : Bytes) where
     where
       clash : (text : Bytes) (f : TextFault) → Reads text r → (route_file name).refuses text f → ⊥
       clash text f read refused =
-          let coded = refused.1 in
-          let none : None ≡ Some coded.1 = sym (read.0 coded.0 coded.2) ∙ coded.3 in
-          cc
+          faultless-first (route_faults text) refused.1.0 read.0 refused.1.1
 
   module _ (width : ℕ) where
     unbuilt-reads : (a : Outcome) → IsUnbuilt (Some files) name width a →
