@@ -66,8 +66,8 @@ fn crossing(rt: &impl Abort, alloc: Global) -> Result<Problem, Fail> {
     Ok(problem)
 }
 
-// 8,943 nets through CHANX (1,0). Those below the first number go on to CHANX (2,0), then those below
-// the second to CHANY (1,1), and then those below the third to CHANY (0,1).
+// 8,943 nets through CHANX (1,0). Those below the first number go on to CHANX (2,0), then those
+// below the second to CHANY (1,1), and then those below the third to CHANY (0,1).
 fn crowd(rt: &impl Abort, alloc: Global, until: [u32; 3]) -> Result<Problem, Fail> {
     let further = [
         [(ElemKind::ChanX, 2, 0)],
@@ -95,8 +95,8 @@ fn crowd(rt: &impl Abort, alloc: Global, until: [u32; 3]) -> Result<Problem, Fai
     Ok(problem)
 }
 
-// At width 1 each slot, each step and each two slots of a cell have a clause. 8,943 nets of one cell
-// make 39,993,096, and n of them that go on to another cell make 2n + n(n - 1)/2 more.
+// At width 1 each slot, each step and each two slots of a cell have a clause. 8,943 nets of one
+// cell make 39,993,096, and n of them that go on to another cell make 2n + n(n - 1)/2 more.
 #[test]
 fn the_most_clauses_and_one_more_are_counted(rt: HostRuntime) -> Result<(), Fail> {
     let alloc = rt.alloc();
