@@ -102,7 +102,7 @@ module _ (files : FileMap) (name : Bytes) where
     -- two true outcomes are one, or both are true of one problem
     clauses-agree : (says : RouteText → Outcome → Type 0) (a b : Outcome) →
         IsTrueOfClauses name width says (Some files) a
-            → IsTrueOfClauses name width says (Some files) b →
+        → IsTrueOfClauses name width says (Some files) b →
         (a ≡ b) ⊎ ((route : RouteText) × says route a × says route b)
     clauses-agree says a b (inl h) (inl g) =
         inl (one-halt files (route_file name) (λ t f k one two. one.0 ∙ sym two.0) a b h g)
@@ -157,7 +157,7 @@ module _ (job : CheckJob) (files : FileMap) where
       go (inr h) (inr g) =
           let t = one-text files job.lrat PROOF_LIMIT (reads-log h.0) (reads-log g.0) h.1 g.1 in
           h.2 ∙ ap (λ (log : List Step). judgement_outcome (judge cnf log))
-              (t.1.steps ∙ sym t.2.steps)
+          (t.1.steps ∙ sym t.2.steps)
           ∙ sym g.2
 
   cnf-clash : (cnf : Cnf) (text : Bytes) (f : TextFault) → ReadsCnf text cnf →
@@ -174,7 +174,7 @@ module _ (job : CheckJob) (files : FileMap) where
       (λ text. ReadsCnf text h.0) (cnf-clash h.0) b g h.1)
   check-agree a b (inr h) (inr g) =
       let t = one-text files job.cnf PROOF_LIMIT (λ text. ReadsCnf text h.0)
-          (λ text. ReadsCnf text g.0) h.1 g.1 in
+      (λ text. ReadsCnf text g.0) h.1 g.1 in
       let same : g.0 ≡ h.0 = t.2.formula ∙ sym t.1.formula in
       log-agree h.0 a b h.2
       (subst (λ (c : Cnf). ChecksLog (IsHalted (Some files)) job (Some files) c b) same g.2)

@@ -33,7 +33,7 @@ module _ (files : FileMap) (name : Bytes) where
 -- a file whose text is refused with one fault alone
 module _ (files : FileMap) (file : InputFile)
     (one : (text : Bytes) (f g : TextFault) → file.refuses text f → file.refuses text g
-        → f ≡ g) where
+    → f ≡ g) where
   pub one-halt : (a b : Outcome) → IsHalted (Some files) file a → IsHalted (Some files) file b
       → a ≡ b
   one-halt a b (inl h) (inl g) = h.1 ∙ sym g.1
@@ -43,7 +43,7 @@ module _ (files : FileMap) (file : InputFile)
       absurd (long-text files file.name file.limit (λ t. file.refuses t h.0) g.0 h.1)
   one-halt a b (inr h) (inr g) =
       let t = one-text files file.name file.limit (λ t. file.refuses t h.0)
-          (λ t. file.refuses t g.0) h.1 g.1 in
+      (λ t. file.refuses t g.0) h.1 g.1 in
       h.2 ∙ ap (fault_outcome file.number) (one t.0 h.0 g.0 t.1 t.2) ∙ sym g.2
 
 -- a file that reads is not halted

@@ -37,9 +37,11 @@ learned-within vars live (l ∷ ls) h = (h (λ e. cc)).0.within
 of-search : (formula : Cnf) (log : List Step) → IsSearchLog formula log
     → AreOfSearch formula.vars log
 of-search formula log h =
-    λ k id clause hints here.
-    (learned-within formula.vars _ clause
-    (h.new k id clause hints here), h.earlier k id clause hints here)
+    λ k id clause hints here. (
+      learned-within formula.vars _ clause
+          (h.new k id clause hints here),
+      h.earlier k id clause hints here,
+    )
 
 within-more : (n m : ℕ) (clause : Clause) → n ≤ m → All (IsWithin n) clause
     → All (IsWithin m) clause
@@ -62,10 +64,15 @@ printable vars above (Added id clause hints ∷ steps) few numbered none room ea
     let here = each 0 id clause hints refl in
     let top : id ≤ 4294967295 = omega (arith, numbered.0, room) in
     let next : IsPrintableLog (suc above) steps =
-        printable vars (suc above) steps few numbered.1 none (omega (arith, room))
-        (λ k. each (suc k)) in (
-      (omega (arith, numbered.0), top, within-more vars 100000000 clause few here.0, earlier-ids id
-      hints top here.1),
+    printable vars (suc above) steps few numbered.1 none (omega (arith, room))
+    (λ k. each (suc k)) in (
+      (
+        omega (arith, numbered.0),
+        top,
+        within-more vars 100000000 clause few here.0,
+        earlier-ids id
+            hints top here.1,
+      ),
       subst (λ (n : ℕ). IsPrintableLog n steps) (sym (higher above id numbered.0)) next,
     )
 printable vars above (Erased id ids ∷ steps) few numbered none room each =
@@ -77,8 +84,8 @@ pub log-reads : (formula : Cnf) (log : List Step) (budget : ℕ) → formula.var
     → added_count log ≤ budget → ReadsLrat (length formula.clauses) (log_text log) log
 log-reads formula log budget few room search none within =
     printed_log_reads (length formula.clauses) log
-        (printable formula.vars (length formula.clauses) log few search.numbered none
-        (omega (arith, room, within)) (of-search formula log search))
+    (printable formula.vars (length formula.clauses) log few search.numbered none
+    (omega (arith, room, within)) (of-search formula log search))
 
 -- where the clauses of a route are refuted, no tracks are legal
 pub none-legal : (width : ℕ) (route : RouteText) (log : List Step) → IsFit route
@@ -92,4 +99,4 @@ pub routing-reads : (width : ℕ) (route found : RouteText) → width ≤ 64 →
     → IsRouting width route found → ReadsBackWithTracks found → ReadsBack found
 routing-reads width route found narrow read routing reads =
     reads read.0 route (tracks_of route found) read.1 (λ k d inside. let t =
-        routing.legal.within k d inside in omega (arith, t, narrow)) routing.is
+    routing.legal.within k d inside in omega (arith, t, narrow)) routing.is

@@ -128,7 +128,7 @@ module _ (desk desk_now : DeskState) (shelf between : ShelfState) where
       → Type 0)
       (says : RouteText → Outcome → Type 0) (o : Outcome)
       (settles : (route : RouteText) → works route shelf between o
-          → Settles shelf between (says route) o)
+      → Settles shelf between (says route) o)
     where
       clauses-kept : LeavesClauses name width works desk desk_now shelf between o →
           shelf.faults ≤ between.faults
@@ -247,7 +247,7 @@ module _ (words : List Word) (desk desk_now : DeskState) (shelf between : ShelfS
   -- a search has come to its end
   search-left : (leaves : RouteJob → RouteText → Type 0) (width : ℕ) (o : Outcome) → IsOfEnd o →
       (o ≡ Accepted → ⊥)
-          → ((job : EncodeJob) (route : RouteText) → WritesCnf job route shelf between o → ⊥) →
+      → ((job : EncodeJob) (route : RouteText) → WritesCnf job route shelf between o → ⊥) →
       ((job : RouteJob) (route : RouteText) → WritesFound job route shelf between o →
       (width ≡ job.width) × leaves job route) →
       Leaves words desk desk_now shelf between o → IsSearched words desk.files width leaves
@@ -300,7 +300,7 @@ module _ (words : List Word) (desk desk_now : DeskState) (shelf between : ShelfS
       }
       go (Ok (Checks job)) asked h =
           absurd (let other : Done
-              ≡ Accepted = (check-ends desk desk_now Done tt job words asked h.0).0 in cc)
+          ≡ Accepted = (check-ends desk desk_now Done tt job words asked h.0).0 in cc)
       go (Err code) asked h = absurd (let other : Done ≡ Usage code = h.0 in cc)
 
   log-accepted : Leaves words desk desk_now shelf between Accepted → IsProved words desk.files
@@ -369,7 +369,7 @@ module _ (words : List Word) (desk desk_now : DeskState) (shelf now : ShelfState
   runs-undecided width learned e =
       let w = reported (Undecided width learned) tt e in
       search-left words desk desk_now shelf r.between
-          (IsLeftOpen shelf.files now.files learned) width
+      (IsLeftOpen shelf.files now.files learned) width
       (Undecided width learned) tt (λ f. cc) (λ job route f. f) (λ job route f. (
         f.0,
         record {
@@ -398,7 +398,7 @@ module _ (words : List Word) (desk desk_now : DeskState) (shelf now : ShelfState
     | inl h ↦ h
     | inr h ↦ absurd (quiet (risen-then shelf.faults r.between.faults now.faults
         (kept desk desk_now shelf r.between words r.outcome r.leaves)
-            (has_risen _ _ h.1.failed.risen)))
+        (has_risen _ _ h.1.failed.risen)))
   ]
 
   pub runs-complete : IsComplete words desk desk_now shelf now answer

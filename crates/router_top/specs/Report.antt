@@ -22,7 +22,7 @@ status_of OutOfMemory = 7
 abbrev pub FILE_WORDS : List (List ℕ)
 FILE_WORDS =
     codes "architecture" ∷ codes "netlist" ∷ codes "placement" ∷ codes "route" ∷ codes "cnf"
-        ∷ codes "lrat"
+    ∷ codes "lrat"
     ∷ codes "routed" ∷ []
 
 -- the word for a file, by its number
@@ -41,14 +41,14 @@ report_of (Routed width) = codes "routed " ++ decimal width
 report_of (Unroutable width) = codes "unroutable " ++ decimal width
 report_of (Undecided width learned) =
     codes "undecided " ++ decimal width ++ codes " after " ++ decimal learned
-        ++ codes " learned clauses"
+    ++ codes " learned clauses"
 report_of Done = codes "done"
 report_of Accepted = codes "accepted"
 report_of (NotAccepted step cause) =
     codes "not accepted: step " ++ decimal step ++ codes " cause " ++ decimal cause
 report_of (InputFault file line code) =
     codes "fault: " ++ file_word file ++ codes " line " ++ decimal line ++ codes " code "
-        ++ decimal code
+    ++ decimal code
 report_of (Limit code count) = codes "limit: code " ++ decimal code ++ codes " count "
     ++ decimal count
 report_of (Usage code) = codes "usage: code " ++ decimal code

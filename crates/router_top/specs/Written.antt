@@ -17,7 +17,7 @@ use Rattle.router_top.specs.declared.outcome.Outcome.TheVariants.{Done, WriteFau
 abbrev pub after_proof : ShelfState → Word → Cnf → List Step → ShelfState
 after_proof shelf prefix cnf log =
     after_writing (after_writing shelf (cnf_name prefix) (cnf_text cnf)) (lrat_name prefix)
-        (log_text log)
+    (log_text log)
 
 -- the clauses were not written whole, which is slot 2; or they were, but not the log behind them,
 -- which is slot 3

@@ -13,7 +13,7 @@ returns-in-Ok-Refuted-clause-writes g c =
     let log = c.solve.new.log.steps in
     let ended = Unroutable c.args.job.now.width in
     let ending : IsEnding job c.in-Ok.formula.cnf log ended before now c.write_proof.result =
-        record {
+    record {
       few_vars = subst (λ s. s.cnf.vars ≤ 100000000) c.formula.view_is c.formula.invariant.few_vars;
       search = c.in-Ok-Refuted.ensures.logged;
       end = inl (
