@@ -6,7 +6,7 @@ use Rattle.sat_clause.specs.Formula.{Cnf}
 use Rattle.sat_clause.specs.Judge.{Judgement, Accepted as IsAccepted, Refused as IsRefused, judge}
 use Rattle.sat_clause.specs.Step.{Step}
 use Rattle.sat_text.specs.CnfText.{ReadsCnf, cnf_faults}
-use Rattle.sat_text.specs.FirstFault.{IsFirst}
+use Rattle.fpga_text.specs.FirstFault.{IsFirst}
 use Rattle.sat_text.specs.LratText.{ReadsLrat, lrat_faults}
 use Rattle.router_top.specs.Command.{CheckJob}
 use Rattle.router_top.specs.Inputs.{HasText, InputFile}
