@@ -4,9 +4,7 @@ use Rattle.std.specs.Prelude.{MatchResult}
 use Rattle.desk_io.specs.Files.{Bytes, FileMap}
 use Rattle.fpga_types.specs.Fit.{IsFit}
 use Rattle.fpga_types.specs.declared.route.RouteText.{RouteText}
-use Rattle.fpga_text.specs.declared.style.Style.TheVariants.{Hash}
-use Rattle.fpga_text.specs.Words.{text_lines}
-use Rattle.fpga_route.specs.Codes.{HasCode}
+use Rattle.fpga_route.specs.Refusals.{HasFault}
 use Rattle.fpga_route.specs.Value.{route_value}
 use Rattle.router_top.specs.Truth.{Agrees, IsOfSearch, IsPastLimit, IsRefused, IsRouteFault, IsRouteTooLong, IsTrueOf, IsTrueOfEncode, IsTrueOfJob, IsTrueOfRoute}
 use Rattle.router_top.specs.Asked.{HasFew, HasTooMany, IsBadText, IsRouteFile, IsTooLong, Poses}
@@ -40,8 +38,8 @@ module _ (files : FileMap) (name : Bytes) where
       let bad = h files refl in
       let read = g files refl in
       let same : bad.0 ≡ read.0 = some_same bad.0 read.0 (sym bad.1 ∙ read.1) in
-      let coded : HasCode (text_lines Hash read.0) = subst (λ (t : Bytes). HasCode (text_lines Hash t)) same bad.3 in
-      let clash : None ≡ Some coded.1 = sym (read.3.0 coded.0 coded.2) ∙ coded.3 in
+      let refused : HasFault read.0 = subst HasFault same bad.3 in
+      let clash : None ≡ Some refused.0 = sym read.3.0 ∙ refused.1 in
       cc
 
   same-route : (r s : RouteText) → IsRouteFile (Some files) name r → IsRouteFile (Some files) name s → r ≡ s

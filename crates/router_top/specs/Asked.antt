@@ -4,9 +4,7 @@ use Rattle.desk_io.specs.Files.{Bytes, FileMap}
 use Rattle.fpga_types.specs.Fit.{IsFit}
 use Rattle.fpga_types.specs.Legal.{IsLegalSubset}
 use Rattle.fpga_types.specs.declared.route.RouteText.{RouteText}
-use Rattle.fpga_text.specs.declared.style.Style.TheVariants.{Hash}
-use Rattle.fpga_text.specs.Words.{text_lines}
-use Rattle.fpga_route.specs.Codes.{HasCode}
+use Rattle.fpga_route.specs.Refusals.{HasFault}
 use Rattle.fpga_route.specs.Value.{Reads}
 use Rattle.route_encode.specs.Encoding.{encoding_subset}
 use Rattle.router_top.specs.Command.{Word}
@@ -22,7 +20,7 @@ IsTooLong files name = IsLonger ROUTE_LIMIT files name
 
 -- the file with this name is within its limit and has a fault
 abbrev pub IsBadText : Option FileMap → Bytes → Type 0
-IsBadText files name = HasText ROUTE_LIMIT files name (λ text. HasCode (text_lines Hash text))
+IsBadText files name = HasText ROUTE_LIMIT files name (λ text. HasFault text)
 
 -- the file with this name is within its limit and reads as this route
 abbrev pub IsRouteFile : Option FileMap → Bytes → RouteText → Type 0

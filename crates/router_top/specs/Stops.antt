@@ -4,9 +4,7 @@ use Rattle.desk_io.specs.DeskState.{DeskState}
 use Rattle.desk_io.specs.Files.{Bytes}
 use Rattle.fpga_types.specs.Fit.{IsFit}
 use Rattle.fpga_types.specs.declared.route.RouteText.{RouteText}
-use Rattle.fpga_text.specs.declared.style.Style.TheVariants.{Hash}
-use Rattle.fpga_text.specs.Words.{text_lines}
-use Rattle.fpga_route.specs.Codes.{HasCode}
+use Rattle.fpga_route.specs.Refusals.{HasFault}
 use Rattle.fpga_route.specs.Value.{Reads}
 use Rattle.router_top.specs.Asked.{IsBadText, IsMisfit, IsTooLong, ROUTE_LIMIT}
 use Rattle.router_top.specs.Inputs.{FailsToRead}
@@ -35,6 +33,6 @@ IsStoppedBy before now name Memory = Unit {0}
 abbrev pub IsRefusedFor : Bytes → Stop → Type 0
 IsRefusedFor text Fault = ⊥
 IsRefusedFor text TooLong = ⊥
-IsRefusedFor text BadText = HasCode (text_lines Hash text)
+IsRefusedFor text BadText = HasFault text
 IsRefusedFor text Unfit = (route : RouteText) × Reads text route × ¬ IsFit route
 IsRefusedFor text Memory = Unit {0}
