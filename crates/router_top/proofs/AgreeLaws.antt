@@ -1,7 +1,7 @@
 -- Outcomes that are true of the same words and files agree: they are one, or answers of a search.
 use Rattle.std.proofs.Common.{◌≡◌, ◌∙◌, ◌⊎◌, ℕ, suc, ◌<◌, ◌++◌, List, [], ◌∷◌, length, Some, None, Ok, Err, Result, refl, sym, ap, subst, inl, inr, arith, length-append}
 use Rattle.std.specs.Prelude.{MatchResult}
-use Rattle.std.proofs.Math.Seq.{get_or-append_seam}
+use Rattle.list_laws.proofs.Places.{none_is_not_some, some_is}
 use Rattle.desk_io.specs.Files.{Bytes, FileMap}
 use Rattle.fpga_types.specs.Fit.{IsFit}
 use Rattle.fpga_types.specs.declared.route.RouteText.{RouteText}
@@ -11,7 +11,7 @@ use Rattle.sat_clause.specs.Formula.{Cnf}
 use Rattle.sat_clause.specs.Judge.{judge}
 use Rattle.sat_clause.specs.Step.{Step}
 use Rattle.sat_text.specs.CnfText.{ReadsCnf, cnf_faults}
-use Rattle.sat_text.specs.FirstFault.{Faults, IsFaultless, IsFirst}
+use Rattle.fpga_text.specs.FirstFault.{Faults, IsFaultless, IsFirst}
 use Rattle.sat_text.specs.LratText.{ReadsLrat, lrat_faults}
 use Rattle.router_top.specs.Asked.{HasFew, IsRouteFile, IsTrueOfClauses, IsUnbuilt, Poses, ROUTE_LIMIT, clause_count, route_file}
 use Rattle.router_top.specs.Command.{CheckJob, Checks, Encodes, Job, RouteJob, Routes, Word, job_of}
@@ -25,32 +25,10 @@ use Rattle.router_top.proofs.FileLaws.{halted-reads, one-halt, one-text}
 -- ---- of the faults of a text one is the first
 
 faultless-first : (faults : Faults) (f : TextFault) → IsFaultless faults → IsFirst faults f → ⊥
-faultless-first faults f clean h =
-    let whole : IsFaultless (h.before ++ Some f ∷ h.after) = subst IsFaultless h.split clean in
-    let inside : length h.before < length (h.before ++ Some f ∷ h.after) =
-    omega (arith, length-append h.before (Some f ∷ h.after)) in
-    let here : Some f ≡ None =
-    sym (get_or-append_seam h.before (Some f) h.after None) ∙ whole (length h.before) None inside in
-    cc
-
--- the same where the clean front parts and what follows them are at hand
-first-split : (a b c d : Faults) (f g : TextFault) → IsFaultless a → IsFaultless c →
-    a ++ Some f ∷ b ≡ c ++ Some g ∷ d → f ≡ g
-first-split [] b [] d f g clean_a clean_c e = cc
-first-split [] b (o ∷ c) d f g clean_a clean_c e =
-    let none : o ≡ None = clean_c 0 o (omega arith) in let here : Some f ≡ o = cc in cc
-first-split (o ∷ a) b [] d f g clean_a clean_c e =
-    let none : o ≡ None = clean_a 0 o (omega arith) in let here : o ≡ Some g = cc in cc
-first-split (o ∷ a) b (p ∷ c) d f g clean_a clean_c e =
-    first-split a b c d f g (λ k x inside. clean_a (suc k) x (omega arith))
-    (λ k x inside. clean_c (suc k) x (omega arith)) (tails e)
-  where
-    tails : o ∷ (a ++ Some f ∷ b) ≡ p ∷ (c ++ Some g ∷ d) → a ++ Some f ∷ b ≡ c ++ Some g ∷ d
-    tails h = cc
+faultless-first faults f clean first = none_is_not_some (sym clean ∙ first)
 
 first-same : (faults : Faults) (f g : TextFault) → IsFirst faults f → IsFirst faults g → f ≡ g
-first-same faults f g h k =
-    first-split h.before h.after k.before k.after f g h.clean k.clean (sym h.split ∙ k.split)
+first-same faults f g h k = some_is (sym h ∙ k)
 
 -- ---- of a command that works on the clauses of its route file
 
@@ -68,10 +46,7 @@ module _ (files : FileMap) (name : Bytes) where
   reads-on r a h g = halted-reads files (route_file name) (λ text. Reads text r) clash a h g
     where
       clash : (text : Bytes) (f : TextFault) → Reads text r → (route_file name).refuses text f → ⊥
-      clash text f read refused =
-          let coded = refused.1 in
-          let none : None ≡ Some coded.1 = sym (read.0 coded.0 coded.2) ∙ coded.3 in
-          cc
+      clash text f read refused = none_is_not_some (sym read.0 ∙ refused.1.1)
 
   module _ (width : ℕ) where
     unbuilt-reads : (a : Outcome) → IsUnbuilt (Some files) name width a →

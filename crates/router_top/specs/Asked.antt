@@ -6,9 +6,7 @@ use Rattle.fpga_types.specs.Fit.{IsFit}
 use Rattle.fpga_types.specs.Legal.{IsLegalSubset}
 use Rattle.fpga_types.specs.declared.route.RouteText.{RouteText}
 use Rattle.fpga_text.specs.declared.fault.TextFault.TheVariants.{Bad}
-use Rattle.fpga_text.specs.declared.style.Style.TheVariants.{Hash}
-use Rattle.fpga_text.specs.Words.{text_lines}
-use Rattle.fpga_route.specs.Codes.{HasCode}
+use Rattle.fpga_route.specs.Refusals.{HasFault}
 use Rattle.fpga_route.specs.Value.{Reads}
 use Rattle.route_encode.specs.Encoding.{encoding_subset}
 use Rattle.router_top.specs.Command.{Word}
@@ -26,7 +24,7 @@ route_file name = record {
   number = 4;
   name = name;
   limit = ROUTE_LIMIT;
-  refuses = λ text fault. (fault ≡ Bad 0 400) × HasCode (text_lines Hash text);
+  refuses = λ text fault. (fault ≡ Bad 0 400) × HasFault text;
 }
 
 -- the file with this name is within its limit and reads as this route
