@@ -56,7 +56,8 @@ impl Formula {
     }
 
     /// Sets the number of variables, and makes room for so many more clauses with so many literals
-    /// in all. Room that is there already stays, so two calls make room for the larger number of each.
+    /// in all. Room that is there already stays, so two calls make room for the larger number of
+    /// each.
     ///
     /// A formula with clauses can't get fewer variables, and none has more than 100,000,000.
     ///

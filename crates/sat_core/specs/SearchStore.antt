@@ -1,5 +1,6 @@
 -- A search: what contracts see, and what it knows.
 use Rattle.std.specs.Prelude.{◌≡◌, ℕ, suc, ◌+◌, ◌<◌, ◌≤◌, ◌^◌, ◌++◌, ℤ, List, [], ◌∷◌, length, slice_get, All, Contains, None}
+use Rattle.sat_clause.specs.declared.reading.Reading.{Reading}
 use Rattle.sat_clause.specs.declared.reading.Reading.TheVariants.{Conflict}
 use Rattle.sat_clause.specs.Formula.{Cnf}
 use Rattle.sat_clause.specs.Learned.{IsSimple}
@@ -34,9 +35,14 @@ pub record IsSearchStore (formula learned : Cnf) (vars : ℕ) (entries : List En
   pub few : length formula.clauses + length learned.clauses < 2 ^ 32
   pub caused : AreCaused (formula.clauses ++ learned.clauses) entries
 
--- the clause at the position is false
+-- what the clause at a position says
+abbrev pub ReadsAt : SearchState → ℕ → Reading → Type 0
+ReadsAt state i reading =
+    Reads (falses (literals state.entries)) (slice_get state.known.clauses i) reading
+
+-- it is false
 abbrev pub IsFalseAt : SearchState → ℕ → Type 0
-IsFalseAt state i = Reads (falses (literals state.entries)) (slice_get state.known.clauses i) Conflict
+IsFalseAt state i = ReadsAt state i Conflict
 
 -- no clause is false and none makes a literal true
 abbrev pub IsSettledState : SearchState → Type 0

@@ -24,8 +24,8 @@ fn id_of(position: u32) -> i64
 }
 
 impl Lesson {
-    /// The lesson of a trail, oldest entry first, where the clause at a position is false: the negated
-    /// decisions, by the reasons in the order of the trail and then the false clause.
+    /// The lesson of a trail, oldest entry first, where the clause at a position is false: the
+    /// negated decisions, by the reasons in the order of the trail and then the false clause.
     pub(crate) fn of_conflict(
         alloc: Global,
         entries: &[Entry],
