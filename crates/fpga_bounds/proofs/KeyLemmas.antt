@@ -5,7 +5,8 @@ use Rattle.std.specs.Cmp.{unsigned_ties, both_ways}
 use Rattle.std.specs.Ordering.{is_eq, nat_cmp, ordering_then}
 use Rattle.std.specs.declared.cmp.Ordering.{Ordering}
 use Rattle.std.specs.declared.cmp.Ordering.TheVariants.{Less, Equal, Greater}
-use Rattle.fpga_types.specs.Fit.{is_channel, is_pin, same_kind, same_label, same_elem, same_pin}
+use Rattle.fpga_types.specs.Fit.{same_elem, same_pin}
+use Rattle.fpga_types.specs.Kinds.{is_channel, is_pin, same_kind, same_label}
 use Rattle.fpga_types.specs.contracts.route.ElemKindOrd.TheImpl as kind_ord
 use Rattle.fpga_types.specs.contracts.route.LabelOrd.TheImpl as label_ord
 use Rattle.fpga_types.specs.declared.route.Elem.{Elem}

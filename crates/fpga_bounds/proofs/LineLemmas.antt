@@ -6,7 +6,8 @@ use Rattle.std.proofs.Math.Seq.{take-length}
 use Rattle.std.proofs.lemmas.Bool.{false≢true, cases_eq}
 use Rattle.std.proofs.lemmas.Bool.Decides.{nat_tests}
 use Rattle.fpga_types.specs.Size.{Size}
-use Rattle.fpga_types.specs.Fit.{RouteLine, fit_code, is_510, is_511, is_512, is_513, is_514, is_515, is_channel, same_elem}
+use Rattle.fpga_types.specs.Fit.{RouteLine, fit_code, is_510, is_511, is_512, is_513, is_514, is_515, same_elem}
+use Rattle.fpga_types.specs.Kinds.{is_channel}
 use Rattle.fpga_types.specs.Slots.{channel_at, elem_slot, same_slot, slots_of}
 use Rattle.fpga_types.specs.declared.grid.Cell.{Cell}
 use Rattle.fpga_types.specs.declared.problem.Slot.{Slot}

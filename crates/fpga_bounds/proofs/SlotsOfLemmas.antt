@@ -10,7 +10,8 @@ use Rattle.std.proofs.lemmas.Grind.{flat_map-append}
 use Rattle.std.proofs.lemmas.List.{append-nil}
 use Rattle.std.proofs.lemmas.List.Elements.{filter_map-append}
 use Rattle.std.proofs.lemmas.List.Folds.{list_any-append}
-use Rattle.fpga_types.specs.Fit.{same_kind, same_place, same_elem, is_channel, same_label}
+use Rattle.fpga_types.specs.Fit.{same_place, same_elem}
+use Rattle.fpga_types.specs.Kinds.{same_kind, is_channel, same_label}
 use Rattle.fpga_types.specs.Slots.{first_seen, channel_at, elem_slot, same_slot, slots_of}
 use Rattle.fpga_types.specs.declared.grid.Cell.{Cell}
 use Rattle.fpga_types.specs.declared.problem.Slot.{Slot}

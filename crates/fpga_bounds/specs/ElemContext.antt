@@ -3,8 +3,10 @@ use Rattle.std.specs.Prelude.{◌==◌, Bool, false, not, ◌&&◌, ◌||◌, Li
 use Rattle.std.specs.List.{list_any}
 use Rattle.std.specs.Option.{option_map_or}
 use Rattle.fpga_types.specs.Size.{Size}
-use Rattle.fpga_types.specs.Fit.{RouteLine, previous, is_again, nets_before, are_apart, may_follow, is_source, is_ipin, is_sink, is_channel, same_pin}
+use Rattle.fpga_types.specs.Fit.{RouteLine, previous, is_again, nets_before, are_apart, same_pin}
+use Rattle.fpga_types.specs.Kinds.{may_follow, is_source, is_ipin, is_sink, is_channel}
 use Rattle.fpga_types.specs.Slots.{elem_cell, slots_of}
+use Rattle.fpga_types.specs.declared.limits.TheConstants.{SLOT_LIMIT}
 use Rattle.fpga_types.specs.declared.route.Elem.{Elem}
 use Rattle.fpga_types.specs.declared.route.RouteNet.{RouteNet}
 use Rattle.fpga_bounds.specs.declared.elem_context.ElemContext.{ElemContext}
@@ -19,7 +21,7 @@ context_of line e = record {
   previous = previous line;
   again = is_again line e;
   taken = is_pin_of line.earlier e;
-  full = length (slots_of (nets_before line)) == 200000;
+  full = length (slots_of (nets_before line)) == SLOT_LIMIT;
   last = length line.after == 0;
   global = line.net.global;
 }

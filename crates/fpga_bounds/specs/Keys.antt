@@ -3,7 +3,8 @@ use Rattle.std.specs.Prelude.{◌≡◌, Bool, ◌&&◌, ◌||◌, List, if◌th
 use Rattle.std.specs.List.{list_any}
 use Rattle.std.specs.declared.cmp.Ordering.{Ordering}
 use Rattle.std.specs.BTreeSet.{BTreeSet, contains}
-use Rattle.fpga_types.specs.Fit.{is_channel, is_pin, same_elem, same_pin}
+use Rattle.fpga_types.specs.Fit.{same_elem, same_pin}
+use Rattle.fpga_types.specs.Kinds.{is_channel, is_pin}
 use Rattle.fpga_types.specs.declared.route.Elem.{Elem}
 use Rattle.fpga_types.specs.declared.route.ElemKind.TheVariants.{Ipin}
 use Rattle.fpga_bounds.specs.declared.keys.ElemKey.{ElemKey}

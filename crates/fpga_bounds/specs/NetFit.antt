@@ -5,6 +5,7 @@ use Rattle.std.specs.Option.{option_map_or}
 use Rattle.fpga_types.specs.Size.{Size}
 use Rattle.fpga_types.specs.Fit.{RouteLine, fit_code}
 use Rattle.fpga_types.specs.Slots.{elem_slot, same_slot, slots_of}
+use Rattle.fpga_types.specs.declared.limits.TheConstants.{SLOT_LIMIT}
 use Rattle.fpga_types.specs.declared.problem.Slot.{Slot}
 use Rattle.fpga_types.specs.declared.route.Elem.{Elem}
 use Rattle.fpga_types.specs.declared.route.RouteNet.{RouteNet}
@@ -55,4 +56,4 @@ slots_so_far earlier net count = slots_of (earlier ++ record net { elems = take 
 -- where the element brings a slot that is none of these, there are fewer than 200,000
 abbrev pub HasRoomFor : List Slot → ℕ → Elem → Type 0
 HasRoomFor all net e = (s : Slot) → elem_slot net e ≡ Some s → list_any (same_slot s) all ≡ false
-    → length all < 200000
+    → length all < SLOT_LIMIT

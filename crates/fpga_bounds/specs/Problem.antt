@@ -1,9 +1,10 @@
 -- A route that is set up to be solved: it fits, and its slots and steps are at hand.
-use Rattle.std.specs.Prelude.{◌≡◌, ℕ, ◌*◌, ◌^◌, ◌<◌, ◌≤◌, List, length}
+use Rattle.std.specs.Prelude.{◌≡◌, ℕ, ◌*◌, ◌<◌, ◌≤◌, List, length}
 use Rattle.fpga_types.specs.Fabric.{Meets}
 use Rattle.fpga_types.specs.Fit.{IsFit}
 use Rattle.fpga_types.specs.Size.{Size}
 use Rattle.fpga_types.specs.Slots.{pairs, slots, steps, slot_at}
+use Rattle.fpga_types.specs.declared.limits.TheConstants.{NET_LIMIT, SLOT_LIMIT, STEP_LIMIT}
 use Rattle.fpga_types.specs.declared.problem.RouteStep.{RouteStep}
 use Rattle.fpga_types.specs.declared.problem.Slot.{Slot}
 use Rattle.fpga_types.specs.declared.route.RouteText.{RouteText}
@@ -12,13 +13,13 @@ use Rattle.fpga_types.specs.declared.route.RouteText.{RouteText}
 -- the pairs of its slots that take one cell
 pub record IsSetUp
     (route : RouteText) (all : List Slot) (found : List RouteStep) (count : ℕ) : Type 0 where
-  pub few : length route.nets ≤ 65535
+  pub few : length route.nets ≤ NET_LIMIT
   pub fits : IsFit route
   pub pairs : count ≡ length (pairs (slots route))
   pub slots : all ≡ slots route
   pub steps : found ≡ steps route
-  pub few_steps : length found ≤ 2 ^ 40
-  pub few_pairs : count ≤ 200000 * 200000
+  pub few_steps : length found ≤ STEP_LIMIT
+  pub few_pairs : count ≤ SLOT_LIMIT * SLOT_LIMIT
 
 -- both slots of the step are some of these
 abbrev pub IsStepWithin : List Slot → RouteStep → Type 0

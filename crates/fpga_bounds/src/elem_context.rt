@@ -2,12 +2,11 @@
 ghost use Rattle.std.specs.Prelude.{◌≡◌, option_and_then};
 ghost use Rattle.fpga_bounds.specs.ElemContext.{is_branching, comes_again, starts_loose};
 ghost use Rattle.fpga_bounds.specs.ElemContext.{is_misplaced, is_one_too_many, has_fault};
-ghost use Rattle.fpga_types.specs.Fit.{are_apart, may_follow, is_channel};
+ghost use Rattle.fpga_types.specs.Fit.{are_apart};
 ghost use Rattle.fpga_types.specs.Slots.{elem_cell};
 
-use crate::keys::is_of_channel;
 use crate::meets::cells_meet;
-use fpga_types::{Axis, Cell, Elem, ElemKind, Grid};
+use fpga_types::{Elem, ElemKind, Grid};
 
 /// What the codes ask about the lines round an element line.
 #[derive(Clone, Copy, Debug)]
@@ -38,22 +37,6 @@ pub(crate) fn is_faulty(grid: Grid, at: ElemContext, e: Elem) -> bool
         || is_past_limit(at, e)
 }
 
-/// The cell of a channel line.
-pub(crate) fn cell_of(e: Elem) -> Option<Cell>
-    ensures { result ≡ elem_cell e }
-{
-    let axis = match e.kind {
-        ElemKind::ChanX => Axis::X,
-        ElemKind::ChanY => Axis::Y,
-        _ => return None,
-    };
-    Some(Cell {
-        axis,
-        x: e.x,
-        y: e.y,
-    })
-}
-
 /// Whether a channel stands after a channel whose cell does not meet its own.
 fn is_leap(grid: Grid, previous: Option<Elem>, e: Elem) -> bool
     ensures { result ≡ are_apart grid (option_and_then elem_cell previous) (elem_cell e) }
@@ -61,10 +44,10 @@ fn is_leap(grid: Grid, previous: Option<Elem>, e: Elem) -> bool
     let Some(before) = previous else {
         return false;
     };
-    let Some(from) = cell_of(before) else {
+    let Some(from) = before.cell() else {
         return false;
     };
-    let Some(to) = cell_of(e) else {
+    let Some(to) = e.cell() else {
         return false;
     };
     !cells_meet(grid, from, to)
@@ -105,7 +88,7 @@ fn is_out_of_place(at: ElemContext, e: Elem) -> bool
         return false;
     }
     let in_order = match at.previous {
-        Some(before) => may_come_after(before.kind, e.kind),
+        Some(before) => before.kind.may_precede(e.kind),
         None => matches!(e.kind, ElemKind::Source),
     };
     !in_order || at.last && !matches!(e.kind, ElemKind::Sink)
@@ -115,18 +98,5 @@ fn is_out_of_place(at: ElemContext, e: Elem) -> bool
 fn is_past_limit(at: ElemContext, e: Elem) -> bool
     ensures { result ≡ is_one_too_many at e }
 {
-    is_of_channel(e.kind) && !at.again && at.full
-}
-
-/// Whether the second kind may stand after the first.
-fn may_come_after(before: ElemKind, next: ElemKind) -> bool
-    ensures { result ≡ may_follow before next }
-{
-    match before {
-        ElemKind::Source => matches!(next, ElemKind::Opin),
-        ElemKind::Opin => is_of_channel(next),
-        ElemKind::ChanX | ElemKind::ChanY => is_of_channel(next) || matches!(next, ElemKind::Ipin),
-        ElemKind::Ipin => matches!(next, ElemKind::Sink),
-        ElemKind::Sink => matches!(next, ElemKind::Source | ElemKind::Opin) || is_of_channel(next),
-    }
+    e.kind.is_channel() && !at.again && at.full
 }

@@ -1,7 +1,6 @@
 //! Sets of elements and of pins.
 ghost use Rattle.std.specs.Prelude.{◌≡◌, OnOk};
 ghost use Rattle.fpga_bounds.specs.Keys.{elem_key, pin_key, has_elem, has_pin, GainsElem, GainsPin, GainsPins};
-ghost use Rattle.fpga_types.specs.Fit.{is_channel, is_pin};
 
 use fpga_types::{Elem, ElemKind, Label};
 use std::alloc::AllocError;
@@ -17,20 +16,6 @@ pub(crate) struct ElemKey {
     pub number: u32,
 }
 
-/// Whether the kind is one of a channel.
-pub(crate) fn is_of_channel(kind: ElemKind) -> bool
-    ensures { result ≡ is_channel kind }
-{
-    matches!(kind, ElemKind::ChanX | ElemKind::ChanY)
-}
-
-/// Whether the kind is one of a pin.
-pub(crate) fn is_of_pin(kind: ElemKind) -> bool
-    ensures { result ≡ is_pin kind }
-{
-    matches!(kind, ElemKind::Opin | ElemKind::Ipin)
-}
-
 /// The key by which equal elements are one.
 fn key_of_elem(e: Elem) -> ElemKey
     ensures { result ≡ elem_key e }
@@ -40,7 +25,7 @@ fn key_of_elem(e: Elem) -> ElemKey
         x: e.x,
         y: e.y,
         label: e.label,
-        number: if is_of_channel(e.kind) { 0 } else { e.number },
+        number: if e.kind.is_channel() { 0 } else { e.number },
     }
 }
 
@@ -76,7 +61,7 @@ pub(crate) fn see(seen: &mut BTreeSet<ElemKey>, e: Elem) -> Result<(), AllocErro
 pub(crate) fn is_taken(pins: &BTreeSet<ElemKey>, e: Elem) -> bool
     ensures { result ≡ has_pin pins.now e }
 {
-    is_of_pin(e.kind) && pins.contains(&key_of_pin(e))
+    e.kind.is_pin() && pins.contains(&key_of_pin(e))
 }
 
 /// Puts the pins of a net into the set.
@@ -93,7 +78,7 @@ pub(crate) fn take_pins(pins: &mut BTreeSet<ElemKey>, elems: &[Elem]) -> Result<
 fn take_pin(pins: &mut BTreeSet<ElemKey>, e: Elem) -> Result<(), AllocError>
     ensures { OnOk result (GainsPin pins.old e pins.new) }
 {
-    if !is_of_pin(e.kind) {
+    if !e.kind.is_pin() {
         return Ok(());
     }
     pins.insert(key_of_pin(e))?;

@@ -1,7 +1,7 @@
 //! Whether two cells of an array meet at a switch block.
 ghost use Rattle.std.specs.Prelude.{◌≡◌, ◌+◌, ◌≤◌, ◌==◌, IsTrue, ◌↔◌};
 ghost use Rattle.fpga_bounds.specs.Meets.{are_next, is_at_or_above, do_cross, do_touch};
-ghost use Rattle.fpga_types.specs.Fabric.{is_cell, Meets};
+ghost use Rattle.fpga_types.specs.Fabric.{Meets};
 
 use fpga_types::{Axis, Cell, Grid};
 
@@ -10,23 +10,13 @@ use fpga_types::{Axis, Cell, Grid};
 pub fn cells_meet(grid: Grid, a: Cell, b: Cell) -> bool
     ensures { IsTrue result ↔ Meets grid a b }
 {
-    if !has_cell(grid, a) {
+    if !grid.has_cell(a) {
         return false;
     }
-    if !has_cell(grid, b) {
+    if !grid.has_cell(b) {
         return false;
     }
     touch(a, b)
-}
-
-/// Whether the cell is one of the array.
-fn has_cell(grid: Grid, cell: Cell) -> bool
-    ensures { result ≡ is_cell grid cell }
-{
-    match cell.axis {
-        Axis::X => 1 <= cell.x && cell.x <= grid.nx && cell.y <= grid.ny,
-        Axis::Y => cell.x <= grid.nx && 1 <= cell.y && cell.y <= grid.ny,
-    }
 }
 
 /// Whether the cells have an end in common.

@@ -4,14 +4,14 @@ ghost use Rattle.std.specs.Result.{IsErrOf};
 ghost use Rattle.fpga_bounds.specs.ElemContext.{is_pin_of};
 ghost use Rattle.fpga_bounds.specs.Keys.{has_pin};
 ghost use Rattle.fpga_bounds.specs.NetFit.{IsFitAt, HasRoomFor, with_elem};
-ghost use Rattle.fpga_types.specs.Slots.{elem_slot, slots_of};
+ghost use Rattle.fpga_types.specs.Slots.{slots_of};
 ghost use Rattle.fpga_types.specs.declared.route.Elem.{Elem};
 
-use crate::elem_context::{ElemContext, cell_of, is_faulty};
+use crate::elem_context::{ElemContext, is_faulty};
 use crate::fit_stop::FitStop;
 use crate::keys::{ElemKey, is_seen, is_taken, see};
 use crate::slot_table::SlotTable;
-use fpga_types::{Elem, Grid, RouteNet, Slot};
+use fpga_types::{Elem, Grid, NET_LIMIT, RouteNet};
 use std::alloc::{AllocError, Global};
 use std::collections::BTreeSet;
 
@@ -25,7 +25,7 @@ pub(crate) fn check_net(
     slots: &mut SlotTable,
 ) -> Result<(), FitStop>
     requires at { n < length nets.now }
-    requires nets { length nets.now ≤ 65535 }
+    requires nets { length nets.now ≤ NET_LIMIT }
     requires pins { (e : Elem) → has_pin pins.now e ≡ is_pin_of (take n nets.now) e }
     requires slots { slots.old ≡ slots_of (take n nets.now) }
     ensures fits { OnOk result (IsFitAt grid nets.now n) }
@@ -69,20 +69,12 @@ fn is_bare(net: &RouteNet) -> bool
     net.elems.as_slice().is_empty() && !net.global
 }
 
-/// The slot of a channel line of the net at this position.
-pub(crate) fn slot_of(net: u32, e: Elem) -> Option<Slot>
-    ensures { result ≡ elem_slot net e }
-{
-    let cell = cell_of(e)?;
-    Some(Slot { net, cell })
-}
-
 /// Puts the slot of an element into the table, if it is a channel.
 fn add_slot(slots: &mut SlotTable, net: u32, e: Elem) -> Result<(), AllocError>
     requires room { HasRoomFor slots.old net e }
     ensures { OnOk result (slots.new ≡ with_elem slots.old net e) }
 {
-    let Some(slot) = slot_of(net, e) else {
+    let Some(slot) = e.slot(net) else {
         return Ok(());
     };
     slots.add(slot)

@@ -14,12 +14,9 @@ use crate::route_check::fitting_slots;
 use crate::slot_table::SlotTable;
 use crate::step_list::steps_of;
 use fpga_text::TextFault;
-use fpga_types::{RouteStep, RouteText, Slot};
+use fpga_types::{NET_LIMIT, RouteStep, RouteText, SLOT_LIMIT, STEP_LIMIT, Slot};
 use std::alloc::{AllocError, Global};
 use std::marker::Model;
-
-/// How many steps a problem may have. They would take 8 TiB, so one more counts as want of memory.
-const STEP_LIMIT: usize = 1 << 40;
 
 /// A route that fits its array, with its slots and steps. Contracts see the route.
 #[derive(Debug, Drop)]
@@ -44,7 +41,7 @@ impl Model for Problem {
 /// Takes a route that fits. `Bad`, at line 0 with code 500, comes only where one of the codes 510
 /// to 515 holds at one of its lines, `Memory` where there was no memory left, and `Limit` never.
 pub fn fit_route(alloc: Global, route: RouteText) -> Result<Problem, TextFault>
-    requires nets { length route.nets ≤ 65535 }
+    requires nets { length route.nets ≤ NET_LIMIT }
     ensures ok { IfOk result (λ problem. problem ≡ route) }
     ensures fits { OnOk result (IsFit route) }
     ensures err { IfErr result (IsRefusalOf route) }
@@ -82,7 +79,7 @@ impl Problem {
     /// The slots, by number.
     pub fn slots(&self) -> &[Slot]
         ensures value { result.now ≡ slots self.now }
-        ensures limit { length result.now ≤ 200000 }
+        ensures limit { length result.now ≤ SLOT_LIMIT }
         ensures fits { IsFit self.now }
     {
         self.table.as_slice()
@@ -91,7 +88,7 @@ impl Problem {
     /// The steps, in line order.
     pub fn steps(&self) -> &[RouteStep]
         ensures value { result.now ≡ steps self.now }
-        ensures limit { length result.now ≤ 2 ^ 40 }
+        ensures limit { length result.now ≤ STEP_LIMIT }
         ensures within { All (IsStepWithin (slots self.now)) result.now }
         ensures meet { All (IsStepMeeting self.now.grid (slots self.now)) result.now }
     {
@@ -101,7 +98,7 @@ impl Problem {
     /// How many pairs of slots are of different nets and take one cell.
     pub fn pairs(&self) -> u64
         ensures value { result ≡ length (pairs (slots self.now)) }
-        ensures limit { result ≤ 200000 * 200000 }
+        ensures limit { result ≤ SLOT_LIMIT * SLOT_LIMIT }
     {
         self.pairs
     }

@@ -6,13 +6,13 @@ ghost use Rattle.fpga_types.specs.Slots.{slots};
 
 use crate::slot_table::SlotTable;
 use crate::step_list::number_of_elem;
-use fpga_types::{Elem, Items, RouteNet, RouteText};
+use fpga_types::{Elem, Items, NET_LIMIT, RouteNet, RouteText};
 use std::alloc::Global;
 use std::mem;
 
 /// The route in which each channel line has the track of its slot. Takes no memory.
 pub(crate) fn retracked(route: RouteText, table: &SlotTable, tracks: &[u32]) -> RouteText
-    requires nets { length route.nets ≤ 65535 }
+    requires nets { length route.nets ≤ NET_LIMIT }
     requires slots { table.now ≡ slots route }
     ensures { result ≡ route_of route tracks.now }
 {
@@ -26,7 +26,7 @@ pub(crate) fn retracked(route: RouteText, table: &SlotTable, tracks: &[u32]) -> 
 
 /// Gives each channel line the track of its slot, net by net. Takes no memory.
 fn retrack_nets(alloc: Global, nets: &mut [RouteNet], table: &SlotTable, tracks: &[u32])
-    requires { length nets.old ≤ 65535 }
+    requires { length nets.old ≤ NET_LIMIT }
     ensures { nets.new ≡ nets_with_tracks table.now tracks.now nets.old }
 {
     for (n, net) in nets.iter_mut().enumerate() {

@@ -8,13 +8,13 @@ use crate::fit_stop::FitStop;
 use crate::keys::take_pins;
 use crate::net_check::check_net;
 use crate::slot_table::SlotTable;
-use fpga_types::RouteText;
+use fpga_types::{NET_LIMIT, RouteText};
 use std::alloc::Global;
 use std::collections::BTreeSet;
 
 /// The table of the slots of a route, if the route fits.
 pub(crate) fn fitting_slots(alloc: Global, route: &RouteText) -> Result<SlotTable, FitStop>
-    requires nets { length route.now.nets ≤ 65535 }
+    requires nets { length route.now.nets ≤ NET_LIMIT }
     ensures ok { IfOk result (λ table. table ≡ slots route.now) }
     ensures fits { OnOk result (IsFit route.now) }
     ensures unfit { IsErrOf result FitStop.Unfit → ¬ IsFit route.now }

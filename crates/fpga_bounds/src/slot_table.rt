@@ -4,13 +4,10 @@ ghost use Rattle.std.specs.List.{list_any};
 ghost use Rattle.fpga_bounds.specs.SlotTable.{with_slot};
 ghost use Rattle.fpga_types.specs.Slots.{same_slot, slot_number};
 
-use fpga_types::Slot;
+use fpga_types::{SLOT_LIMIT, Slot};
 use std::alloc::{AllocError, Global};
 use std::collections::BTreeMap;
 use std::marker::Model;
-
-/// The greatest number of slots.
-pub(crate) const SLOT_LIMIT: usize = 200_000;
 
 /// Slots in the order in which they came, each once. Contracts see the list of them.
 #[derive(Debug, Drop)]
@@ -45,15 +42,15 @@ impl SlotTable {
     /// The slots, by number.
     pub(crate) fn as_slice(&self) -> &[Slot]
         ensures value { result.now ≡ self.now }
-        ensures limit { length self.now ≤ 200000 }
+        ensures limit { length self.now ≤ SLOT_LIMIT }
     {
         self.slots.as_slice()
     }
 
     /// Whether there is no room for one slot more.
     pub(crate) fn is_full(&self) -> bool
-        ensures value { result ≡ (length self.now == 200000) }
-        ensures limit { length self.now ≤ 200000 }
+        ensures value { result ≡ (length self.now == SLOT_LIMIT) }
+        ensures limit { length self.now ≤ SLOT_LIMIT }
     {
         self.slots.len() == SLOT_LIMIT
     }
@@ -77,7 +74,7 @@ impl SlotTable {
 
     /// Puts the slot at the end, unless the table has it. After an error the table is as it was.
     pub(crate) fn add(&mut self, slot: Slot) -> Result<(), AllocError>
-        requires room { list_any (same_slot slot) self.old ≡ false → length self.old < 200000 }
+        requires room { list_any (same_slot slot) self.old ≡ false → length self.old < SLOT_LIMIT }
         ensures ok { OnOk result (self.new ≡ with_slot self.old slot) }
         ensures err { OnErr result (self.new ≡ self.old) }
     {

@@ -3,9 +3,8 @@ ghost use Rattle.std.specs.Prelude.{◌≡◌, ◌≤◌, ◌++◌, length, IfOk
 ghost use Rattle.std.specs.Option.{option_to_list};
 ghost use Rattle.fpga_bounds.specs.StepList.{elem_number, step_between, net_steps, steps_in};
 
-use crate::net_check::slot_of;
 use crate::slot_table::SlotTable;
-use fpga_types::{Elem, RouteNet, RouteStep};
+use fpga_types::{Elem, NET_LIMIT, RouteNet, RouteStep};
 use std::alloc::{AllocError, Global};
 
 /// The steps of some nets, in line order.
@@ -14,7 +13,7 @@ pub(crate) fn steps_of(
     nets: &[RouteNet],
     table: &SlotTable,
 ) -> Result<Vec<RouteStep>, AllocError>
-    requires { length nets.now ≤ 65535 }
+    requires { length nets.now ≤ NET_LIMIT }
     ensures { IfOk result (λ found. found.items ≡ steps_in table.now nets.now) }
 {
     let mut found = Vec::new(alloc);
@@ -46,7 +45,7 @@ fn add_steps(
 pub(crate) fn number_of_elem(table: &SlotTable, net: u32, e: Elem) -> Option<u32>
     ensures { result ≡ elem_number table.now net e }
 {
-    let slot = slot_of(net, e)?;
+    let slot = e.slot(net)?;
     Some(table.number_of(slot))
 }
 

@@ -15,7 +15,8 @@ use Rattle.fpga_text.specs.declared.style.Style.TheVariants.{Hash}
 use Rattle.fpga_text.specs.Bytes.{Bytes, is_newline, is_blank, is_hash, is_empty}
 use Rattle.fpga_text.specs.Words.{lines, words, without_comment}
 use Rattle.fpga_text.proofs.LineLemmas.{lines-next}
-use Rattle.fpga_route.specs.Forms.{size_words, named_net, net_words, kind_word, kind_of, label_word, label_of, takes, place_words, comma_parts, elem_of_parts, elem_words, is_block}
+use Rattle.fpga_route.specs.Forms.{size_words, named_net, net_words, kind_word, kind_of, label_word, label_of, place_words, comma_parts, elem_of_parts, elem_words, is_block}
+use Rattle.fpga_types.specs.Kinds.{takes}
 use Rattle.fpga_route.specs.Codes.{is_out_of_place}
 use Rattle.fpga_route.specs.Printed.{after_name, before_name, in_six_places, printed_elem, printed_kept, printed_lines, printed_net, printed_head, printed}
 use Rattle.fpga_route.proofs.ByteLemmas.{is_name_byte, is_line_byte, lacks, all_both, name_lacks_blank, name_in_line, line_lacks_newline, line_lacks_hash, none_pass, before_none, comma_parts-between, enclosed-between, decimal_is_name, decimal_lacks_comma, decimal_some, word_then, word_last}

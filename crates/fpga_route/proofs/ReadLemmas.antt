@@ -16,7 +16,7 @@ use Rattle.fpga_route.specs.Drafts.{Progress, standing_of, nets_begun}
 use Rattle.fpga_route.specs.Faults.{IsHead, later_fault, route_fault, first_standing}
 use Rattle.fpga_route.specs.Nets.{ReadsNets}
 use Rattle.fpga_route.specs.Refusals.{IsFirstFault}
-use Rattle.fpga_route.specs.Sound.{IsSound}
+use Rattle.fpga_types.specs.Sound.{IsSound}
 use Rattle.fpga_route.specs.Value.{Reads, IsFirstBad, nets_of, value_of}
 use Rattle.fpga_route.proofs.HeadLemmas.{route_fault-head}
 use Rattle.fpga_route.proofs.FaultLemmas.{clean_route, first_fault}

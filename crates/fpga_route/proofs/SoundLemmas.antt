@@ -1,28 +1,25 @@
 -- Lines without a fault read as sound nets.
 use Rattle.std.proofs.Common.{◌≡◌, ℕ, ◌+◌, ◌≤◌, Bool, true, false, List, [], ◌∷◌, length, Option, Some, None, refl, sym, ap, ◌∙◌, arith}
-use Rattle.std.specs.Prelude.{All, filter_map, option_map, unwrap_or, is_none, not, ◌==◌, ◌&&◌, ◌||◌, nat_lt, if◌then◌else◌}
+use Rattle.std.specs.Prelude.{All, filter_map, option_map, unwrap_or, is_none, not, ◌==◌, ◌&&◌, if◌then◌else◌}
 use Rattle.std.specs.List.{cons_option}
 use Rattle.std.specs.Option.{option_map_or}
 use Rattle.std.proofs.lemmas.List.Elements.{All-cons, All-nil}
 use Rattle.std.proofs.lemmas.List.Sums.{take_while-cons}
 use Rattle.fpga_types.specs.Size.{Size}
-use Rattle.fpga_types.specs.Fabric.{is_channel_place}
-use Rattle.fpga_types.specs.declared.grid.Axis.TheVariants.{X, Y}
+use Rattle.fpga_types.specs.Kinds.{takes}
 use Rattle.fpga_types.specs.declared.route.Elem.{Elem}
 use Rattle.fpga_types.specs.declared.route.ElemKind.{ElemKind}
-use Rattle.fpga_types.specs.declared.route.ElemKind.TheVariants.{Source, Opin, ChanX, ChanY, Ipin, Sink}
 use Rattle.fpga_types.specs.declared.route.Label.{Label}
-use Rattle.fpga_types.specs.declared.route.Label.TheVariants.{Class, Pin, Pad, Track}
 use Rattle.fpga_text.specs.Bytes.{Bytes}
 use Rattle.fpga_text.specs.Words.{TextLine}
 use Rattle.fpga_text.specs.Numbers.{whole_number_of}
 use Rattle.fpga_route.specs.declared.standing.Standing.{Standing}
-use Rattle.fpga_route.specs.Forms.{NetWords, ElemWords, net_words, elem_words, elem_of_parts, kind_of, label_of, place_words, takes, is_block}
+use Rattle.fpga_route.specs.Forms.{NetWords, ElemWords, net_words, elem_words, elem_of_parts, kind_of, label_of, place_words, is_block}
 use Rattle.fpga_route.specs.Codes.{is_number, is_32_bits, number_of, lacks_number, is_misplaced, is_out_of_place, is_in_ordinary}
 use Rattle.fpga_route.specs.Standings.{context_at, standing_after, later_code, net_code, elem_code, block_code}
 use Rattle.fpga_route.specs.Faults.{fault_or, later_fault}
 use Rattle.fpga_route.specs.Value.{elem_of, line_elem, line_kept, net_of, with_net, own_lines, nets_of}
-use Rattle.fpga_route.specs.Sound.{IsInPlace, IsSoundElem, IsSoundNet}
+use Rattle.fpga_types.specs.Sound.{has_place, IsSoundElem, IsSoundNet}
 use Rattle.fpga_route.proofs.CodeLemmas.{later_code-net, later_code-elem, later_code-block}
 use Rattle.fpga_route.proofs.FormLemmas.{parts_of_net, parts_of_elem, parts_of_block}
 
@@ -50,50 +47,10 @@ takes-elem (kind ∷ place ∷ label ∷ number ∷ []) e said = go (kind_of kin
         taken false t g = absurd (let clash : None ≡ Some e = g in cc)
 takes-elem _ e said = absurd (let clash : None ≡ Some e = said in cc)
 
--- a number that is not below another
-not_below : (m n : ℕ) (b : Bool) → nat_lt m n ≡ b → b ≡ false → n ≤ m
-not_below m n true e f = absurd (let clash : true ≡ false = f in cc)
-not_below m n false e f = grind arith
-
--- neither of two tests is passed
-neither : (a b : Bool) → (a || b) ≡ false → (a ≡ false) × (b ≡ false)
-neither false b e = (refl, e)
-neither true b e = absurd (let clash : true ≡ false = e in cc)
-
--- at most one place beyond the array
-within : (grid : Size) (x y : ℕ) → (nat_lt (grid.nx + 1) x || nat_lt (grid.ny + 1) y) ≡ false → (x ≤ grid.nx + 1) × (y ≤ grid.ny + 1)
-within grid x y here =
-    let parts = neither (nat_lt (grid.nx + 1) x) (nat_lt (grid.ny + 1) y) here in
-    (not_below (grid.nx + 1) x (nat_lt (grid.nx + 1) x) refl parts.0, not_below (grid.ny + 1) y (nat_lt (grid.ny + 1) y) refl parts.1)
-
--- a place that is not out of place is in place
-in_place : (grid : Size) (kind : ElemKind) (label : Label) (x y : ℕ) → takes kind label ≡ true → is_out_of_place grid kind x y ≡ false → IsInPlace grid kind label x y
-in_place grid ChanX label x y taken here = (track label taken, on_cell (is_channel_place grid X x y) here)
-  where
-    track : (l : Label) → takes ChanX l ≡ true → l ≡ Track
-    track Track t = refl
-    track Class t = absurd (let clash : false ≡ true = t in cc)
-    track Pin t = absurd (let clash : false ≡ true = t in cc)
-    track Pad t = absurd (let clash : false ≡ true = t in cc)
-
-    on_cell : (b : Bool) → not b ≡ false → b ≡ true
-    on_cell true e = refl
-    on_cell false e = absurd (let clash : true ≡ false = e in cc)
-in_place grid ChanY label x y taken here = (track label taken, on_cell (is_channel_place grid Y x y) here)
-  where
-    track : (l : Label) → takes ChanY l ≡ true → l ≡ Track
-    track Track t = refl
-    track Class t = absurd (let clash : false ≡ true = t in cc)
-    track Pin t = absurd (let clash : false ≡ true = t in cc)
-    track Pad t = absurd (let clash : false ≡ true = t in cc)
-
-    on_cell : (b : Bool) → not b ≡ false → b ≡ true
-    on_cell true e = refl
-    on_cell false e = absurd (let clash : true ≡ false = e in cc)
-in_place grid Source label x y taken here = within grid x y here
-in_place grid Opin label x y taken here = within grid x y here
-in_place grid Ipin label x y taken here = within grid x y here
-in_place grid Sink label x y taken here = within grid x y here
+-- a test that does not fail is passed
+not_false : (b : Bool) → not b ≡ false → b ≡ true
+not_false true e = refl
+not_false false e = absurd (let clash : true ≡ false = e in cc)
 
 -- numbers that are there stand for themselves
 pub placed : (x y : Option ℕ) (number : Bool) (fits : ℕ → Bool) (misplaced : ℕ → ℕ → Bool) → not (option_map_or fits x false && option_map_or fits y false && number) ≡ false
@@ -126,8 +83,10 @@ passed at e clean = go (lacks_number e) (is_in_ordinary (context_at at)) (is_mis
 sound_elem : (at : Standing) (line : ℕ) (words : List Bytes) (e : ElemWords) → elem_words words ≡ Some e → elem_code at e ≡ None → IsSoundElem at.grid (elem_of line e)
 sound_elem at line words e said clean =
     let facts = passed at e clean in
-    in_place at.grid e.kind e.label (number_of e.x) (number_of e.y) (takes-elem words e said)
-    (placed (whole_number_of e.x) (whole_number_of e.y) (is_number is_32_bits e.number) is_32_bits (is_out_of_place at.grid e.kind) facts.there facts.here)
+    record {
+      label = takes-elem words e said;
+      place = not_false (has_place at.grid e.kind (number_of e.x) (number_of e.y)) (placed (whole_number_of e.x) (whole_number_of e.y) (is_number is_32_bits e.number) is_32_bits (is_out_of_place at.grid e.kind) facts.there facts.here);
+    }
 
 -- the elements and the kept lines of a net that is global or not
 pub record AreOwn (grid : Size) (global : Bool) (elems : List Elem) (kept : List Bytes) : Type 0 where

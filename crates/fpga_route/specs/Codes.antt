@@ -3,10 +3,9 @@ use Rattle.std.specs.Prelude.{◌≡◌, ℕ, ◌+◌, ◌^◌, ◌<◌, ◌≤�
 use Rattle.std.specs.List.{last_or}
 use Rattle.std.specs.Option.{option_map_or}
 use Rattle.fpga_types.specs.Size.{Size}
-use Rattle.fpga_types.specs.Fabric.{is_channel_place}
-use Rattle.fpga_types.specs.declared.grid.Axis.TheVariants.{X, Y}
+use Rattle.fpga_types.specs.Sound.{has_place}
+use Rattle.fpga_types.specs.declared.limits.TheConstants.{NET_LIMIT, SIDE_LIMIT}
 use Rattle.fpga_types.specs.declared.route.ElemKind.{ElemKind}
-use Rattle.fpga_types.specs.declared.route.ElemKind.TheVariants.{ChanX, ChanY}
 use Rattle.fpga_text.specs.Bytes.{Bytes}
 use Rattle.fpga_text.specs.Words.{TextLine}
 use Rattle.fpga_text.specs.Numbers.{whole_number_of}
@@ -102,11 +101,9 @@ is_404 context words = is_span words
 abbrev pub is_405 : Context → List Bytes → Bool
 is_405 context words = is_later context && is_some (elem_words words) && not (is_in_ordinary context)
 
--- an element of this kind cannot stand at (x,y): a channel only at its cells, another at most one place beyond the array
+-- an element of this kind cannot stand at (x,y)
 abbrev pub is_out_of_place : Size → ElemKind → ℕ → ℕ → Bool
-is_out_of_place size ChanX x y = not (is_channel_place size X x y)
-is_out_of_place size ChanY x y = not (is_channel_place size Y x y)
-is_out_of_place size _ x y = nat_lt (size.nx + 1) x || nat_lt (size.ny + 1) y
+is_out_of_place size kind x y = not (has_place size kind x y)
 
 -- the element cannot stand where its numbers say
 abbrev pub is_misplaced : Option Size → ElemWords → Bool
@@ -119,12 +116,12 @@ is_406 context words = is_later context && option_map_or (is_misplaced context.s
 
 -- 407: an array of more than 100 columns or rows, or a Net line after 65,535 others
 abbrev pub is_407 : Context → List Bytes → Bool
-is_407 context words = is_first context && option_map_or (λ size. is_number (nat_lt 100) size.nx || is_number (nat_lt 100) size.ny) (size_words words) false
-    || is_later context && is_some (net_words words) && context.nets == 65535
+is_407 context words = is_first context && option_map_or (λ size. is_number (nat_lt SIDE_LIMIT) size.nx || is_number (nat_lt SIDE_LIMIT) size.ny) (size_words words) false
+    || is_later context && is_some (net_words words) && context.nets == NET_LIMIT
 
 -- what a limit counts: the first number above 100, or the nets
 abbrev pub limit_count : Context → List Bytes → ℕ
-limit_count context words = if is_first context then option_map_or (λ size. if is_number (nat_lt 100) size.nx then number_of size.nx else number_of size.ny) (size_words words) 0 else 65536
+limit_count context words = if is_first context then option_map_or (λ size. if is_number (nat_lt SIDE_LIMIT) size.nx then number_of size.nx else number_of size.ny) (size_words words) 0 else NET_LIMIT + 1
 
 -- the codes of a line, least first
 abbrev pub route_codes : List (ℕ × (Context → List Bytes → Bool))

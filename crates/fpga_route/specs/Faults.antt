@@ -1,6 +1,7 @@
 -- The first fault of a route text: the number of its line, and the least code that holds there.
 use Rattle.std.specs.Prelude.{◌≡◌, ℕ, ◌+◌, nat_lt, ◌||◌, List, [], ◌∷◌, Option, Some, None, if◌then◌else◌}
 use Rattle.fpga_types.specs.Size.{Size}
+use Rattle.fpga_types.specs.declared.limits.TheConstants.{SIDE_LIMIT}
 use Rattle.fpga_text.specs.Bytes.{Bytes}
 use Rattle.fpga_text.specs.Words.{TextLine}
 use Rattle.fpga_text.specs.Reading.{LinesAhead}
@@ -45,7 +46,7 @@ route_fault (first ∷ second ∷ more) count =
 abbrev pub size_code : SizeWords → Option ℕ
 size_code size =
     if lacks_size size then Some 403
-    else if is_number (nat_lt 100) size.nx || is_number (nat_lt 100) size.ny then Some 407 else None
+    else if is_number (nat_lt SIDE_LIMIT) size.nx || is_number (nat_lt SIDE_LIMIT) size.ny then Some 407 else None
 
 -- both head lines were taken, and this is what they say
 pub record IsHead (old new : LinesAhead) (head : Head) : Type 0 where

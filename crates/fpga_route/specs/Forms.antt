@@ -2,6 +2,7 @@
 use Rattle.std.specs.Prelude.{ℕ, ◌+◌, ◌-◌, ◌==◌, nat_eq, nat_le, Bool, true, false, ◌&&◌, ◌||◌, List, [], ◌∷◌, length, slice_range, find, codes, bytes_eq, Option, Some, None, is_some, if◌then◌else◌}
 use Rattle.std.specs.List.{starts_with, ends_with, before_first, after_first, list_any}
 use Rattle.fpga_text.specs.Bytes.{Bytes}
+use Rattle.fpga_types.specs.Kinds.{takes}
 use Rattle.fpga_types.specs.declared.route.ElemKind.{ElemKind}
 use Rattle.fpga_types.specs.declared.route.ElemKind.TheVariants.{Source, Opin, ChanX, ChanY, Ipin, Sink}
 use Rattle.fpga_types.specs.declared.route.Label.{Label}
@@ -94,20 +95,6 @@ label_word Track = codes "Track:"
 -- the label that a word names
 abbrev pub label_of : Bytes → Option Label
 label_of word = find (λ label. bytes_eq word (label_word label)) (Class ∷ Pin ∷ Pad ∷ Track ∷ [])
-
--- an element of this kind takes this label
-abbrev pub takes : ElemKind → Label → Bool
-takes Source Class = true
-takes Source Pad = true
-takes Sink Class = true
-takes Sink Pad = true
-takes Opin Pin = true
-takes Opin Pad = true
-takes Ipin Pin = true
-takes Ipin Pad = true
-takes ChanX Track = true
-takes ChanY Track = true
-takes _ _ = false
 
 -- the byte is a comma
 abbrev pub is_comma : ℕ → Bool

@@ -9,6 +9,5 @@ pub mod Places
 pub mod Printed
 pub mod ReadBack
 pub mod Refusals
-pub mod Sound
 pub mod Standings
 pub mod Value

@@ -1,5 +1,6 @@
 -- The codes of a line after the head, by its form and by where it stands.
 use Rattle.std.specs.Prelude.{ℕ, ◌+◌, ◌==◌, true, not, List, Option, Some, None, if◌then◌else◌}
+use Rattle.fpga_types.specs.declared.limits.TheConstants.{NET_LIMIT}
 use Rattle.fpga_text.specs.Bytes.{Bytes}
 use Rattle.fpga_route.specs.declared.standing.Standing.{Standing}
 use Rattle.fpga_route.specs.Forms.{NetWords, ElemWords}
@@ -20,7 +21,7 @@ standing_after at (Some net) = record at { nets = at.nets + 1; in_global = Some 
 
 -- the least code of a Net line
 abbrev pub net_code : Standing → NetWords → Option ℕ
-net_code at net = if not (is_number (λ _. true) net.k) then Some 403 else if at.nets == 65535 then Some 407 else None
+net_code at net = if not (is_number (λ _. true) net.k) then Some 403 else if at.nets == NET_LIMIT then Some 407 else None
 
 -- the least code of an element line
 abbrev pub elem_code : Standing → ElemWords → Option ℕ

@@ -24,13 +24,14 @@ pub struct Draft {
 
 impl Model for Draft {
     ghost use Rattle.std.specs.Prelude.{◌+◌, ◌≤◌, length, option_to_list};
+    ghost use Rattle.fpga_types.specs.declared.limits.TheConstants.{NET_LIMIT};
     ghost use Rattle.fpga_route.specs.Drafts.{Progress};
 
     ghost Value = { Progress };
 
     ghost view = { λ d. record { grid = d.grid; closed = d.closed.items; open_net = d.open_net } };
 
-    ghost invariant = { λ d. length d.closed.items + length (option_to_list d.open_net) ≤ 65535 };
+    ghost invariant = { λ d. length d.closed.items + length (option_to_list d.open_net) ≤ NET_LIMIT };
 }
 
 impl Draft {

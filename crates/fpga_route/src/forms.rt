@@ -4,7 +4,7 @@ ghost use Rattle.fpga_route.specs.Forms as spec;
 ghost use Rattle.fpga_route.specs.Lines.{IsFormOf, array_said, net_said, elem_said};
 
 use crate::first_words::FirstWords;
-use crate::words::{enclosed, is_text, kind_named, label_named, place_said, takes};
+use crate::words::{enclosed, is_text, kind_named, label_named, place_said};
 use fpga_text::Line;
 use fpga_types::{ElemKind, Label};
 
@@ -175,7 +175,7 @@ fn elem_line<'a>(words: &[&'a [u8]]) -> Option<ElemLine<'a>>
     let Some(label) = label_named(label) else {
         return None;
     };
-    if !takes(kind, label) {
+    if !kind.takes(label) {
         return None;
     }
     Some(ElemLine {

@@ -12,10 +12,7 @@ use crate::cause::{Cause, ReadFault};
 use crate::first_words::FirstWords;
 use crate::forms::{SizeLine, is_routing, size_line};
 use fpga_text::{Line, Lines, whole_number};
-use fpga_types::Grid;
-
-/// The greatest number of columns or rows of an array.
-const SIDE_LIMIT: u64 = 100;
+use fpga_types::{Grid, SIDE_LIMIT};
 
 /// What the head says: the array, and the number of the line that says it.
 #[derive(Clone, Copy, Debug)]
@@ -107,10 +104,10 @@ fn read_size(size: &SizeLine<'_>) -> Result<Grid, Cause>
     if ny == 0 {
         return Err(Cause::NoNumber);
     }
-    if nx > SIDE_LIMIT {
+    if nx > u64::from(SIDE_LIMIT) {
         return Err(Cause::PastLimit);
     }
-    if ny > SIDE_LIMIT {
+    if ny > u64::from(SIDE_LIMIT) {
         return Err(Cause::PastLimit);
     }
     Ok(Grid {

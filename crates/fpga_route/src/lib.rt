@@ -16,5 +16,4 @@ mod write;
 
 pub use cause::{Cause, ReadFault};
 pub use read::{read_route, read_route_or_fault};
-pub use standing::NET_LIMIT;
 pub use write::write_route;

@@ -5,7 +5,7 @@ ghost use Rattle.fpga_route.specs.Drafts.{standing_of};
 ghost use Rattle.fpga_route.specs.Nets.{ReadsNets};
 ghost use Rattle.fpga_route.specs.Faults.{later_fault};
 ghost use Rattle.fpga_route.specs.Refusals.{IsFirstFault, IsRefusal};
-ghost use Rattle.fpga_route.specs.Sound.{IsSound};
+ghost use Rattle.fpga_types.specs.Sound.{IsSound};
 ghost use Rattle.fpga_route.specs.Value.{Reads};
 
 use crate::cause::ReadFault;

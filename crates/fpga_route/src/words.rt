@@ -63,17 +63,6 @@ pub fn label_named(word: &[u8]) -> Option<Label>
     None
 }
 
-/// Whether an element of this kind takes this label.
-pub fn takes(kind: ElemKind, label: Label) -> bool
-    ensures { result ≡ spec.takes kind label }
-{
-    match kind {
-        ElemKind::Source | ElemKind::Sink => matches!(label, Label::Class | Label::Pad),
-        ElemKind::Opin | ElemKind::Ipin => matches!(label, Label::Pin | Label::Pad),
-        ElemKind::ChanX | ElemKind::ChanY => matches!(label, Label::Track),
-    }
-}
-
 /// What stands between an opening and a closing text at the ends of a word.
 pub fn enclosed<'a>(word: &'a [u8], opening: &[u8], closing: &[u8]) -> Option<&'a [u8]>
     ensures { option_map (λ r. r.now) result ≡ spec.enclosed opening.now closing.now word.now }

@@ -1,7 +1,12 @@
+pub mod CodeLemmas
 pub mod CutLemmas
+pub mod FaultLemmas
 pub mod FrontLemmas
 pub mod LineLemmas
 pub mod NumberLemmas
+pub mod PartLemmas
+pub mod PrintedLines
+pub mod PrintedWords
 pub mod ReadingLemmas
 pub mod Rows
 pub mod ShortLemmas

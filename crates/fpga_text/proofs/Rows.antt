@@ -1,9 +1,14 @@
 -- Worked rows of lines, words and numbers, each by computation.
 use Rattle.std.proofs.Common.{◌≡◌, ℕ, true, false, List, [], ◌∷◌, Some, None, refl}
-use Rattle.std.specs.Prelude.{codes, map}
+use Rattle.std.specs.Prelude.{◌+◌, nat_lt, Bool, not, ◌&&◌, codes, bytes_eq, length, map, Option, if◌then◌else◌}
+use Rattle.std.specs.List.{list_any}
+use Rattle.fpga_text.specs.declared.fault.TextFault.{TextFault}
+use Rattle.fpga_text.specs.declared.fault.TextFault.TheVariants.{Bad, Limit}
 use Rattle.fpga_text.specs.declared.style.Style.TheVariants.{Plain, Hash}
-use Rattle.fpga_text.specs.Bytes.{Bytes}
-use Rattle.fpga_text.specs.Words.{TextLine, lines, words, text_lines}
+use Rattle.fpga_text.specs.Bytes.{Bytes, is_empty}
+use Rattle.fpga_text.specs.Codes.{Codes, At, Past, End, text_faults}
+use Rattle.fpga_text.specs.FirstFault.{first_fault}
+use Rattle.fpga_text.specs.Words.{TextLine, Words, lines, words, text_lines, line_count}
 use Rattle.fpga_text.specs.Numbers.{whole_number_of, is_short_number}
 
 -- a line's number and words
@@ -22,10 +27,12 @@ lines_of_nothing = refl
 pub words_of_line : words (codes "  Net 0\t(a)\r") ≡ codes "Net" ∷ codes "0" ∷ codes "(a)" ∷ []
 words_of_line = refl
 
-pub plain_lines : seen (text_lines Plain (codes "a # b\n\n c\\")) ≡ (1, codes "a" ∷ codes "#" ∷ codes "b" ∷ []) ∷ (3, codes "c\\" ∷ []) ∷ []
+pub plain_lines : seen (text_lines Plain (codes "a # b\n\n c\\"))
+    ≡ (1, codes "a" ∷ codes "#" ∷ codes "b" ∷ []) ∷ (3, codes "c\\" ∷ []) ∷ []
 plain_lines = refl
 
-pub hash_lines : seen (text_lines Hash (codes "a # b\n#\n c\\")) ≡ (1, codes "a" ∷ []) ∷ (3, codes "c\\" ∷ []) ∷ []
+pub hash_lines : seen (text_lines Hash (codes "a # b\n#\n c\\")) ≡ (1, codes "a" ∷ [])
+    ∷ (3, codes "c\\" ∷ []) ∷ []
 hash_lines = refl
 
 pub leading_zeros : whole_number_of (codes "0012") ≡ Some 12
@@ -51,3 +58,40 @@ long_number = refl
 
 pub sign_alone : is_short_number (codes "-") ≡ false
 sign_alone = refl
+
+-- a format of lines that begin with `a`: at most two of them, of which only the last has more words
+abbrev begins : Words → Bool
+begins (word ∷ more) = bytes_eq word (codes "a")
+begins [] = false
+
+abbrev letters : Codes (List Words) Words
+letters = record {
+  context = λ before. before;
+  of_line = At 1 (λ before words. not (begins words))
+      ∷ At 2 (λ before words. list_any (λ other. begins other && nat_lt 1 (length other)) before)
+      ∷ Past 3 (λ before words. if nat_lt 1 (length before) then Some (length before + 1) else None)
+      ∷ [];
+  of_end = End 4 is_empty ∷ [];
+}
+
+-- the first fault of a text
+abbrev found : Bytes → Option TextFault
+found text = first_fault (text_faults letters (text_lines Plain text) (line_count text + 1))
+
+pub no_fault : found (codes "a\n\na b\n") ≡ None
+no_fault = refl
+
+pub first_line_first : found (codes "\nb\na b\nc") ≡ Some (Bad 2 1)
+first_line_first = refl
+
+pub least_code_first : found (codes "a b\nb c") ≡ Some (Bad 2 1)
+least_code_first = refl
+
+pub by_earlier_line : found (codes "a b\na") ≡ Some (Bad 2 2)
+by_earlier_line = refl
+
+pub past_limit : found (codes "a\na\n\na") ≡ Some (Limit 3 3)
+past_limit = refl
+
+pub at_end : found (codes "\n \n") ≡ Some (Bad 3 4)
+at_end = refl

@@ -15,8 +15,12 @@ ended_parts (part ∷ next ∷ more) = part ∷ ended_parts (next ∷ more)
 abbrev pub lines : Bytes → List Bytes
 lines text = ended_parts (slice_split is_newline text)
 
+-- the words of a line
+abbrev pub Words : Type 0
+Words = List Bytes
+
 -- the words of a line: what stands between blanks
-abbrev pub words : Bytes → List Bytes
+abbrev pub words : Bytes → Words
 words line = filter (λ part. not (is_empty part)) (slice_split is_blank line)
 
 -- the line without its comment, where the style has comments
@@ -28,7 +32,7 @@ without_comment Hash line = before_first is_hash line
 pub record TextLine : Type 0 where
   pub number : ℕ
   pub raw : Bytes
-  pub words : List Bytes
+  pub words : Words
 
 -- the line with this number and these bytes
 abbrev pub text_line : Style → ℕ → Bytes → TextLine

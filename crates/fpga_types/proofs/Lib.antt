@@ -1,5 +1,10 @@
+pub mod BoxLemmas
+pub mod CellLemmas
 pub mod FabricLemmas
+mod FabricRows
 pub mod FitLemmas
 pub mod MeetingLemmas
 mod MeetingRows
+mod RowValues
 pub mod SlotLemmas
+pub mod TrackLemmas

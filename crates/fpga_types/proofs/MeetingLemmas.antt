@@ -14,7 +14,7 @@ use Rattle.fpga_types.specs.declared.grid.Cell.{Cell}
 use Rattle.fpga_types.specs.declared.grid.Side.{Side}
 use Rattle.fpga_types.specs.declared.grid.Side.TheVariants.{Left, Right, Bottom, Top}
 use Rattle.fpga_types.specs.declared.grid.SwitchAt.{SwitchAt}
-use Rattle.fpga_types.proofs.FabricLemmas.{In, In-map, from_In-map, In-flat_map, from_In-flat_map, In-range, from_In-range, find-In, find-some}
+use Rattle.list_laws.proofs.Members.{In, In-map, from_In-map, In-flat_map, from_In-flat_map, In-range, from_In-range, find-In, find-some}
 
 pub both_true : (a b : Bool) → (a && b) ≡ true → (a ≡ true) × (b ≡ true)
 both_true true b h = (refl, h)

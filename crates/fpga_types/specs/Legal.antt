@@ -1,8 +1,10 @@
 -- What a legal routing is: one track for each cell of each net, joined by switches, open to the pins, and shared with no other net.
 use Rattle.std.specs.Prelude.{◌≡◌, ◌≢◌, ℕ, ◌<◌, Bool, false, List, length, map, find, All, slice_get, slice_index, option_and_then, ⊤}
 use Rattle.std.specs.Option.{option_map_or}
-use Rattle.fpga_types.specs.Tracks.{AreJoined, subset_track}
+use Rattle.fpga_types.specs.Boxes.{Opens}
+use Rattle.fpga_types.specs.Tracks.{AreJoined, mapped_track, subset_track}
 use Rattle.fpga_types.specs.Slots.{elem_slot, same_slot, slots, steps, pin_steps, slot_at, slot_number, numbered_nets}
+use Rattle.fpga_types.specs.declared.arch.Arch.{Arch}
 use Rattle.fpga_types.specs.declared.grid.PinAt.{PinAt}
 use Rattle.fpga_types.specs.declared.grid.Wire.{Wire}
 use Rattle.fpga_types.specs.declared.route.Elem.{Elem}
@@ -26,6 +28,12 @@ pub record IsLegal (joins : Wire → Wire → Type 0) (open_to : PinAt → ℕ �
 -- legal with subset switch blocks and connection boxes that open each track
 abbrev pub IsLegalSubset : ℕ → RouteText → List ℕ → Type 0
 IsLegalSubset width route tracks = IsLegal (AreJoined subset_track route.grid) (λ _ _. ⊤) width route tracks
+
+-- legal with the switch blocks and the connection boxes of an architecture
+abbrev pub IsLegalFor : Arch → ℕ → RouteText → List ℕ → Type 0
+IsLegalFor arch width route tracks =
+    IsLegal (AreJoined (mapped_track arch.pattern width) route.grid) (Opens arch width)
+    width route tracks
 
 -- the channel line with its slot's track, and any other line as it is
 abbrev pub with_track : List Slot → List ℕ → ℕ → Elem → Elem

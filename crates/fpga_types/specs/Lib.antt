@@ -1,6 +1,13 @@
+pub mod Boxes
+pub mod CellNumbers
 pub mod Fabric
+pub mod Fc
 pub mod Fit
+pub mod Kinds
 pub mod Legal
+pub mod Pins
 pub mod Size
 pub mod Slots
+pub mod Sound
+pub mod Touching
 pub mod Tracks

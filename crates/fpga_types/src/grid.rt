@@ -1,4 +1,6 @@
 //! The array and what lies in it, numbered as in VPR 4.30.
+ghost use Rattle.std.specs.Prelude.{◌≡◌};
+
 use std::marker::Model;
 
 /// A side of a block or of a switch block.
@@ -34,6 +36,20 @@ impl Model for Grid {
     ghost invariant = { λ g. AreLimited g.nx g.ny };
 
     ghost inverse = { λ s. record { nx = s.nx; ny = s.ny } };
+}
+
+impl Grid {
+    ghost use Rattle.fpga_types.specs.Fabric.{is_cell};
+
+    /// Whether the cell is one of the array.
+    pub fn has_cell(self, cell: Cell) -> bool
+        ensures { result ≡ is_cell self cell }
+    {
+        match cell.axis {
+            Axis::X => 1 <= cell.x && cell.x <= self.nx && cell.y <= self.ny,
+            Axis::Y => cell.x <= self.nx && 1 <= cell.y && cell.y <= self.ny,
+        }
+    }
 }
 
 /// A cell: one unit of a channel. `X` at (x,y) lies above row y, `Y` to the right of column x.

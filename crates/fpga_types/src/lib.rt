@@ -3,12 +3,18 @@
 //! array, and which routings are legal.
 #![tactic(auto)]
 
+mod arch;
+mod cells;
 mod grid;
 mod items;
+mod limits;
 mod problem;
 mod route;
 
+pub use arch::{Arch, FcSpec, Pattern, PinSpec, SideSet};
+pub use cells::{cell_number, cell_of};
 pub use grid::{Axis, Cell, Grid, PinAt, Side, SwitchAt, Wire};
 pub use items::Items;
+pub use limits::{NET_LIMIT, SIDE_LIMIT, SLOT_LIMIT, STEP_LIMIT, WIDTH_LIMIT};
 pub use problem::{PinStep, RouteStep, Slot};
 pub use route::{Elem, ElemKind, Label, Name, RouteNet, RouteText};

@@ -7,6 +7,7 @@ use Rattle.std.proofs.lemmas.List.{append-nil}
 use Rattle.std.specs.List.{range_with_len}
 use Rattle.std.proofs.lemmas.List.FromFn.{get_or-range_with_len, length-range_with_len}
 use Rattle.std.proofs.lemmas.List.Sums.{sum_by-append}
+use Rattle.list_laws.proofs.Places.{split-at}
 use Rattle.sat_clause.specs.FormulaStore.{FormulaState, reserved}
 use Rattle.sat_clause.specs.Literal.{Clause}
 use Rattle.route_encode.specs.Encoding.{below}
@@ -38,12 +39,6 @@ room-second a b xs ys h f = record {
   clause_room = omega (arith, h.clause_room, length-append xs ys, f.clause_room);
   lit_room = omega (arith, h.lit_room, sum_by-append length xs ys, f.lit_room);
 }
-
--- a list round one of its elements
-pub split-at : {X : Type 0} (xs : List X) (k : ℕ) (d : X) → k < length xs → xs ≡ take k xs ++ get_or xs k d ∷ drop (suc k) xs
-split-at [] k d h = absurd (omega arith)
-split-at (x ∷ xs) zero d h = refl
-split-at {X} (x ∷ xs) (suc k) d h = ap (λ (ys : List X). x ∷ ys) (split-at xs k d (omega arith))
 
 -- clauses that are added part by part
 module _ {X : Type 0} (g : X → List Clause) (xs : List X) (k : ℕ) (d : X) (inside : k < length xs) where

@@ -1,17 +1,18 @@
 -- How many clauses and literals the encoding has, and the encoding as the code makes it.
-use Rattle.std.proofs.Common.{◌≡◌, ℕ, zero, suc, ◌+◌, ◌-◌, ◌*◌, ◌/◌, true, not, List, [], ◌∷◌, ◌++◌, length, Option, refl, ap, ◌∙◌, arith, length-append, inl, inr}
+use Rattle.std.proofs.Common.{◌≡◌, ℕ, zero, suc, ◌+◌, ◌-◌, ◌*◌, ◌/◌, true, not, List, [], ◌∷◌, ◌++◌, length, Option, refl, ap, ◌∙◌, arith, length-append}
 use Rattle.std.specs.Prelude.{map, filter, flat_map, option_map, option_to_list}
 use Rattle.std.specs.List.{range_with_len}
 use Rattle.std.proofs.lemmas.List.{append-nil, length-map}
 use Rattle.std.proofs.lemmas.List.FromFn.{length-map-range_with_len, length-range_with_len}
 use Rattle.std.proofs.lemmas.List.Sums.{sum_by-append, sum_by-cons}
+use Rattle.list_laws.proofs.Members.{In-all}
+use Rattle.list_laws.proofs.Rows.{length-rows, map-alike, rows-alike}
 use Rattle.fpga_types.specs.Fit.{IsFit}
 use Rattle.fpga_types.specs.Slots.{pairs, pin_steps, slot_at, slots, steps}
 use Rattle.fpga_types.specs.Tracks.{subset_track, track_across}
 use Rattle.fpga_types.specs.declared.problem.PinStep.{PinStep}
 use Rattle.fpga_types.specs.declared.problem.Slot.{Slot}
 use Rattle.fpga_types.specs.declared.route.RouteText.{RouteText}
-use Rattle.fpga_types.proofs.FabricLemmas.{In}
 use Rattle.fpga_bounds.proofs.PairLemmas.{slots-distinct}
 use Rattle.fpga_bounds.proofs.StepFacts.{IsGoodStep, good-steps}
 use Rattle.sat_clause.specs.Literal.{Clause}
@@ -20,13 +21,7 @@ use Rattle.route_encode.specs.Encoding.{above, apart_track, below, encoding_subs
 use Rattle.route_encode.specs.Rivals.{apart_from_rivals, rivals_after}
 use Rattle.route_encode.specs.Subset.{clauses_subset, same_tracks}
 use Rattle.route_encode.proofs.Exactness.{subset-across}
-use Rattle.route_encode.proofs.Members.{In-all}
 use Rattle.route_encode.proofs.RivalLemmas.{pairs-regroup}
-
--- as many from each
-flat_map-each : {A B : Type 0} (g : A → List B) (m : ℕ) (xs : List A) → ((x : A) → length (g x) ≡ m) → length (flat_map g xs) ≡ length xs * m
-flat_map-each g m [] h = omega arith
-flat_map-each g m (x ∷ xs) h = rw (length-append (g x) (flat_map g xs), h x, flat_map-each g m xs h) (omega arith)
 
 -- each clause has two literals
 abbrev AreTwos : List Clause → Type 0
@@ -70,22 +65,13 @@ none-closed width (p ∷ pins) = rw (nothing (below width), none-closed width pi
     nothing [] = refl
     nothing (t ∷ ts) = nothing ts
 
--- lists that are made alike, member by member
-flat_map-members : {A B : Type 0} (f g : A → List B) (xs : List A) → ((x : A) → In xs x → f x ≡ g x) → flat_map f xs ≡ flat_map g xs
-flat_map-members f g [] h = refl
-flat_map-members {A} {B} f g (x ∷ xs) h = let here = h x (inl refl) in let rest = flat_map-members f g xs (λ y i. h y (inr i)) in λ i. here i ++ rest i
-
-map-alike : {A B : Type 0} (f g : A → B) (xs : List A) → ((x : A) → f x ≡ g x) → map f xs ≡ map g xs
-map-alike f g [] h = refl
-map-alike {A} {B} f g (x ∷ xs) h = let here = h x in let rest = map-alike f g xs h in λ i. here i ∷ rest i
-
 -- of a route that fits the encoding is what the code makes
 pub strict-encoding : (width : ℕ) (route : RouteText) → IsFit route → encoding_subset width route ≡ clauses_subset width (slots route) (steps route)
 strict-encoding width route fit =
     let all : List Slot = slots route in
     let first : List Clause = map (some_track width) (below (length all)) ++ flat_map (one_track width) (below (length all)) in
     let joined : flat_map (joined_track (track_across subset_track route.grid) width all) (steps route) ≡ flat_map (same_tracks width) (steps route) =
-    flat_map-members (joined_track (track_across subset_track route.grid) width all) (same_tracks width) (steps route) (λ step i.
+    rows-alike (joined_track (track_across subset_track route.grid) width all) (same_tracks width) (steps route) (λ step i.
     let good = In-all (IsGoodStep route) (steps route) step (good-steps route fit) i in
     map-alike (λ t. lacks width step.from t ∷ option_to_list (option_map (has width step.to) (track_after (track_across subset_track route.grid) all step t))) (λ t. lacks width step.from t ∷ has width step.to t ∷ []) (below width) (λ t.
     ap (λ (o : Option ℕ). lacks width step.from t ∷ option_to_list (option_map (has width step.to) o)) (subset-across route.grid (slot_at all step.from).cell (slot_at all step.to).cell t good.1))) in
@@ -103,10 +89,10 @@ length-encoding width route fit =
     let slot_count = length-range_with_len 0 (length all) in
     let len_a : length a ≡ length all = length-map-range_with_len (some_track width) 0 (length all) in
     let len_b : length b ≡ length all * (width * (width - 1) / 2) =
-    flat_map-each (one_track width) (width * (width - 1) / 2) (below (length all)) (length-one_track width) ∙ ap (λ (n : ℕ). n * (width * (width - 1) / 2)) slot_count in
+    length-rows (one_track width) (width * (width - 1) / 2) (below (length all)) (length-one_track width) ∙ ap (λ (n : ℕ). n * (width * (width - 1) / 2)) slot_count in
     let len_d : length d ≡ length (steps route) * width =
-    flat_map-each (joined_track (track_across subset_track route.grid) width all) width (steps route) (λ step. length-map-range_with_len (λ t. lacks width step.from t ∷ option_to_list (option_map (has width step.to) (track_after (track_across subset_track route.grid) all step t))) 0 width) in
-    let len_e : length e ≡ length (pairs all) * width = flat_map-each (apart_track width) width (pairs all) (λ p. length-map-range_with_len (λ t. not_both width p.0 t p.1 t) 0 width) in
+    length-rows (joined_track (track_across subset_track route.grid) width all) width (steps route) (λ step. length-map-range_with_len (λ t. lacks width step.from t ∷ option_to_list (option_map (has width step.to) (track_after (track_across subset_track route.grid) all step t))) 0 width) in
+    let len_e : length e ≡ length (pairs all) * width = length-rows (apart_track width) width (pairs all) (λ p. length-map-range_with_len (λ t. not_both width p.0 t p.1 t) 0 width) in
     rw (none-closed width (pin_steps route), append-nil (a ++ b), length-append (a ++ b ++ d) e, length-append (a ++ b) d, length-append a b, len_a, len_b, len_d, len_e) refl
 
 -- how many literals they have

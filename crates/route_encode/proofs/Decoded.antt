@@ -5,6 +5,9 @@ use Rattle.std.specs.List.{list_any, enumerate_from, position_or_len}
 use Rattle.std.specs.Option.{option_map_or}
 use Rattle.std.proofs.lemmas.Bool.{false≢true}
 use Rattle.std.proofs.lemmas.List.{ext_get_or, get_or-map, length-map}
+use Rattle.list_laws.proofs.Members.{In, In-get, In-list_any, from_In-filter_map, from_In-flat_map, list_any-from_In}
+use Rattle.list_laws.proofs.Numbered.{from_In-enumerate, made_numbered}
+use Rattle.list_laws.proofs.Places.{some_is}
 use Rattle.fpga_types.specs.Fit.{IsFit}
 use Rattle.fpga_types.specs.Legal.{IsLegalSubset, is_of_slot, route_of, track_in, tracks_of, with_track}
 use Rattle.fpga_types.specs.Slots.{NO_SLOT, elem_cell, elem_slot, same_slot, slot_at, slot_number, slots}
@@ -14,7 +17,6 @@ use Rattle.fpga_types.specs.declared.problem.Slot.{Slot}
 use Rattle.fpga_types.specs.declared.route.Elem.{Elem}
 use Rattle.fpga_types.specs.declared.route.RouteNet.{RouteNet}
 use Rattle.fpga_types.specs.declared.route.RouteText.{RouteText}
-use Rattle.fpga_types.proofs.FabricLemmas.{In, In-list_any, from_In-flat_map, list_any-from_In}
 use Rattle.fpga_bounds.specs.Pairs.{AreDistinct}
 use Rattle.fpga_bounds.proofs.PairLemmas.{slots-distinct}
 use Rattle.fpga_bounds.proofs.SlotTableLemmas.{same_slot-is, same_slot-itself}
@@ -24,12 +26,11 @@ use Rattle.route_encode.specs.Bits.{bits}
 use Rattle.route_encode.specs.Encoding.{cnf_subset}
 use Rattle.route_encode.specs.Good.{IsRouting}
 use Rattle.route_encode.specs.Said.{AreSaid}
-use Rattle.route_encode.proofs.Exactness.{bits_exact, obeys-legal}
-use Rattle.route_encode.proofs.Members.{In-get, enumerated-at, from_In-filter_map, place-in}
+use Rattle.route_encode.proofs.Exactness.{bits_exact, obeys-legal, said-bits}
 use Rattle.route_encode.proofs.Models.{satisfies-obeys}
 
-pub unsat-none : (route found : RouteText) (width : ℕ) → IsFit route → IsUnsat (cnf_subset width route) → IsRouting width route found → ⊥
-unsat-none route found width fit none h =
+pub unsat-none : (route : RouteText) (width : ℕ) → IsFit route → IsUnsat (cnf_subset width route) → (found : RouteText) → IsRouting width route found → ⊥
+unsat-none route width fit none found h =
     none (bits width (tracks_of route found)) ((bits_exact width route fit (tracks_of route found) h.legal.each).1 h.legal)
 
 -- an element of a retracked net is of the same slot
@@ -83,19 +84,16 @@ record IsThere (route : RouteText) (s : Slot) : Type 0 where
 slot-net : (n : ℕ) (e : Elem) (s : Slot) → elem_slot n e ≡ Some s → s.net ≡ n
 slot-net n e s h = go (elem_cell e) h
   where
-    some_is : (a b : Slot) → Some a ≡ Some b → a ≡ b
-    some_is a b g = cc
-
     go : (o : Option Cell) → option_map {T = Cell} {U = Slot} (λ cell. record { net = n; cell = cell }) o ≡ Some s → s.net ≡ n
     go None g = cc
-    go (Some c) g = ap (λ (t : Slot). t.net) (sym (some_is (record { net = n; cell = c }) s g))
+    go (Some c) g = ap (λ (t : Slot). t.net) (sym (some_is g))
 
 slot-there : (route : RouteText) (s : Slot) → list_any (same_slot s) (slots route) ≡ true → IsThere route s
 slot-there route s h =
     let any = In-list_any (same_slot s) (channel_slots route.nets) (sym (any-first_seen s (channel_slots route.nets)) ∙ h) in
     let at_net = from_In-flat_map (λ (n : ℕ × RouteNet). filter_map (elem_slot n.0) n.1.elems) (enumerate_from 0 route.nets) any.0 any.1 in
     let at_elem = from_In-filter_map (elem_slot at_net.0.0) at_net.0.1.elems any.0 at_net.2 in
-    let place = place-in 0 route.nets at_net.0 at_net.1 in
+    let place = from_In-enumerate 0 route.nets at_net.0 at_net.1 in
     let one : s ≡ any.0 = same_slot-is s any.0 any.2 in
     let is : elem_slot at_net.0.0 at_elem.0 ≡ Some s = at_elem.2 ∙ ap (λ (t : Slot). Some t) (sym one) in
     let net : s.net ≡ at_net.0.0 = slot-net at_net.0.0 at_elem.0 s is in
@@ -116,7 +114,7 @@ track-shown route tracks s h =
     let retracked : ℕ × RouteNet → RouteNet = λ n. (let net : RouteNet = n.1 in record net { elems = map (with_track all tracks n.0) net.elems }) in
     let number : 0 + s.net ≡ s.net = omega arith in
     let at_net : slice_get (route_of route tracks).nets s.net ≡ Some (retracked (s.net, there.net)) =
-    enumerated-at retracked 0 route.nets s.net there.net there.here ∙ ap (λ (n : ℕ). Some (retracked (n, there.net))) number in
+    made_numbered retracked 0 route.nets s.net there.net there.here ∙ ap (λ (n : ℕ). Some (retracked (n, there.net))) number in
     ap (λ (o : Option RouteNet). option_map_or (λ (e : Elem). e.number) (option_and_then (λ (net : RouteNet). find (is_of_slot s) net.elems) o) 0) at_net
     ∙ found-number all tracks s there.net.elems there.elem there.among there.is
 
@@ -157,3 +155,10 @@ pub model-legal : (width : ℕ) (route : RouteText) (values : List Bool) (tracks
     → AreSaid values width tracks (length (slots route)) → IsLegalSubset width route tracks
 model-legal width route values tracks fit h each said =
     obeys-legal width route fit values tracks (satisfies-obeys (track_across subset_track route.grid) (λ _ _. true) width route values h) each said
+
+-- the values are the bits of the tracks that the decoded route shows
+pub model-chosen : (width : ℕ) (route found : RouteText) (values : List Bool) (tracks : List ℕ) → IsFit route → Satisfies values (cnf_subset width route) → length tracks ≡ length (slots route)
+    → AreSaid values width tracks (length (slots route)) → found ≡ route_of route tracks → values ≡ bits width (tracks_of route found)
+model-chosen width route found values tracks fit h each said is =
+    let shown : tracks_of route found ≡ tracks = ap (tracks_of route) is ∙ tracks-shown route tracks each in
+    said-bits width route fit values tracks (satisfies-obeys (track_across subset_track route.grid) (λ _ _. true) width route values h) each said ∙ ap (bits width) (sym shown)

@@ -5,6 +5,10 @@ use Rattle.std.specs.List.{enumerate_from}
 use Rattle.std.proofs.lemmas.Bool.{cases_lt, false≢true}
 use Rattle.std.proofs.lemmas.Bool.Decides.{Decides-eqb, nat_tests}
 use Rattle.std.proofs.lemmas.List.{get_or-append-add, get_or_append_left, get_or_default}
+use Rattle.std.proofs.lemmas.Option.{get_or_from_slice_get, slice_get_within}
+use Rattle.list_laws.proofs.Members.{In, In-all, In-filter_map, In-flat_map, all-from_In, from_In-filter_map, from_In-flat_map}
+use Rattle.list_laws.proofs.Numbered.{In-enumerate, from_In-enumerate}
+use Rattle.list_laws.proofs.Places.{some_is}
 use Rattle.fpga_types.specs.Fabric.{Meets, same_cell}
 use Rattle.fpga_types.specs.Fit.{IsFit}
 use Rattle.fpga_types.specs.Legal.{IsLegalSubset, wire_of}
@@ -16,7 +20,6 @@ use Rattle.fpga_types.specs.declared.grid.Wire.{Wire}
 use Rattle.fpga_types.specs.declared.problem.RouteStep.{RouteStep}
 use Rattle.fpga_types.specs.declared.problem.Slot.{Slot}
 use Rattle.fpga_types.specs.declared.route.RouteText.{RouteText}
-use Rattle.fpga_types.proofs.FabricLemmas.{In, In-flat_map, from_In-flat_map}
 use Rattle.fpga_types.proofs.MeetingLemmas.{both_true, joined-across, joined_subset, same_cell-is, same_cell-itself}
 use Rattle.fpga_bounds.proofs.PairLemmas.{pair_of}
 use Rattle.fpga_bounds.proofs.StepFacts.{IsGoodStep, good-steps}
@@ -24,13 +27,9 @@ use Rattle.sat_clause.specs.Formula.{Satisfies}
 use Rattle.route_encode.specs.Bits.{bits}
 use Rattle.route_encode.specs.Encoding.{cnf_subset}
 use Rattle.route_encode.specs.Exact.{BitsAreExact, ModelsAreBits}
-use Rattle.route_encode.proofs.BitLemmas.{length-bits, same-values, says-bits}
-use Rattle.route_encode.proofs.Members.{In-all, In-enumerate, In-filter_map, all-from_In, from_In-enumerate, from_In-filter_map}
+use Rattle.route_encode.proofs.BitLemmas.{bits-within, length-bits, same-values, says-bits}
 use Rattle.route_encode.specs.Said.{AreSaid, says}
 use Rattle.route_encode.proofs.Models.{Obeys, obeys-satisfies, satisfies-obeys}
-
-some_is : {A : Type 0} {x y : A} → Some x ≡ Some y → x ≡ y
-some_is h = cc
 
 -- two slots that compete are a pair, the lower first
 pair-in : (all : List Slot) (a b : ℕ) → a < b → b < length all → compete (slot_at all a) (slot_at all b) ≡ true → In (pairs all) (a, b)
@@ -57,20 +56,22 @@ from-pair : (all : List Slot) (p : ℕ × ℕ) → In (pairs all) p → IsPair a
 from-pair all p i =
     let r = from_In-flat_map (λ s. filter_map (pair_of s) (enumerate_from 0 all)) (enumerate_from 0 all) p i in
     let q = from_In-filter_map (pair_of r.0) (enumerate_from 0 all) p r.2 in
-    let a = from_In-enumerate 0 all NO_SLOT r.0 r.1 in
-    let b = from_In-enumerate 0 all NO_SLOT q.0 q.1 in
-    let num_a : r.0.0 ≡ a.0 = omega (arith, a.2) in
-    let num_b : q.0.0 ≡ b.0 = omega (arith, b.2) in
+    let a = from_In-enumerate 0 all r.0 r.1 in
+    let b = from_In-enumerate 0 all q.0 q.1 in
+    let num_a : r.0.0 ≡ a.0 = omega (arith, a.1) in
+    let num_b : q.0.0 ≡ b.0 = omega (arith, b.1) in
+    let at_a : slot_at all a.0 ≡ r.0.1 = get_or_from_slice_get all a.0 r.0.1 NO_SLOT a.2 in
+    let at_b : slot_at all b.0 ≡ q.0.1 = get_or_from_slice_get all b.0 q.0.1 NO_SLOT b.2 in
     let made = go r.0.0 q.0.0 (compete r.0.1 q.0.1) q.2 in
     let first : p.0 ≡ a.0 = made.2 ∙ num_a in
     let second : p.1 ≡ b.0 = made.3 ∙ num_b in
     record {
       order = omega (arith, made.0, made.2, made.3);
-      within = omega (arith, second, b.1);
+      within = omega (arith, second, slice_get_within all b.0 q.0.1 b.2);
       compete =
           subst (λ (m : ℕ). compete (slot_at all m) (slot_at all p.1) ≡ true) (sym first)
           (subst (λ (m : ℕ). compete (slot_at all a.0) (slot_at all m) ≡ true) (sym second)
-          (subst (λ (x : Slot). compete x (slot_at all b.0) ≡ true) (sym a.3) (subst (λ (y : Slot). compete r.0.1 y ≡ true) (sym b.3) made.1)));
+          (subst (λ (x : Slot). compete x (slot_at all b.0) ≡ true) (sym at_a) (subst (λ (y : Slot). compete r.0.1 y ≡ true) (sym at_b) made.1)));
     }
   where
     go : (m n : ℕ) (c : Bool) → (if nat_lt m n && c then Some (m, n) else None) ≡ Some p → (m < n) × (c ≡ true) × (p.0 ≡ m) × (p.1 ≡ n)
@@ -185,7 +186,8 @@ module _ (width : ℕ) (route : RouteText) (fit : IsFit route) where
   }
     where
       said : (s t : ℕ) → s < length (slots route) → t < width → says (bits width tracks) width s t ≡ (t == get_or tracks s 0)
-      said s t low inside = says-bits width tracks s t (omega (arith, low, h.each)) inside
+      said s t low inside =
+          says-bits width tracks s t (λ k here. h.within k 0 here) (omega (arith, low, h.each)) inside
 
       track-is : (s t : ℕ) → s < length (slots route) → t < width → says (bits width tracks) width s t ≡ true → t ≡ get_or tracks s 0
       track-is s t low inside f = (Decides-eqb t (get_or tracks s 0)).0 (sym (said s t low inside) ∙ f)
@@ -194,7 +196,8 @@ module _ (width : ℕ) (route : RouteText) (fit : IsFit route) where
   pub said-bits : (values : List Bool) (tracks : List ℕ) → Fits values → length tracks ≡ length (slots route) → AreSaid values width tracks (length (slots route)) → values ≡ bits width tracks
   said-bits values tracks h each are =
       same-values width (length (slots route)) values (bits width tracks) h.many (length-bits width tracks ∙ ap (λ (n : ℕ). n * width) each) (λ s t low inside.
-      go s t low inside (says values width s t) refl ∙ sym (says-bits width tracks s t (omega (arith, low, each)) inside))
+      go s t low inside (says values width s t) refl
+      ∙ sym (says-bits width tracks s t (λ k here. (are k (omega (arith, here, each))).0) (omega (arith, low, each)) inside))
     where
       go : (s t : ℕ) → s < length (slots route) → t < width → (b : Bool) → says values width s t ≡ b → says values width s t ≡ (t == get_or tracks s 0)
       go s t low inside true e = e ∙ sym ((Decides-eqb t (get_or tracks s 0)).1 (one-track values h s t (get_or tracks s 0) low inside (are s low).0 e (are s low).1))
@@ -233,10 +236,15 @@ bits_exact width route fit tracks each = (legal, satisfied)
     obeys h = satisfies-obeys (track_across subset_track route.grid) (λ _ _. true) width route (bits width tracks) h
 
     legal : Satisfies (bits width tracks) (cnf_subset width route) → IsLegalSubset width route tracks
-    legal h = obeys-legal width route fit (bits width tracks) tracks (obeys h) each (λ s low.
-        let m = (obeys h).some s low in
-        let same : m.0 ≡ get_or tracks s 0 = (Decides-eqb m.0 (get_or tracks s 0)).0 (sym (says-bits width tracks s m.0 (omega (arith, low, each)) m.1) ∙ m.2) in
-        (subst (λ (t : ℕ). t < width) same m.1, subst (λ (t : ℕ). says (bits width tracks) width s t ≡ true) same m.2))
+    legal h =
+        let within = bits-within width tracks (λ s low. (obeys h).some s (omega (arith, low, each))) in
+        obeys-legal width route fit (bits width tracks) tracks (obeys h) each (λ s low.
+        let here : s < length tracks = omega (arith, low, each) in
+        let below = within s here in (
+          below,
+          says-bits width tracks s (get_or tracks s 0) within here below
+              ∙ (Decides-eqb (get_or tracks s 0) (get_or tracks s 0)).1 refl,
+        ))
 
     satisfied : IsLegalSubset width route tracks → Satisfies (bits width tracks) (cnf_subset width route)
     satisfied h =

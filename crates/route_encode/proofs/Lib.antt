@@ -4,6 +4,5 @@ pub mod CountLemmas
 pub mod Decoded
 pub mod Exactness
 pub mod LiteralLemmas
-pub mod Members
 pub mod Models
 pub mod RivalLemmas

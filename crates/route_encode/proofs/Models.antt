@@ -1,21 +1,51 @@
 -- What values that satisfy the clauses of a route say of each slot and track.
-use Rattle.std.proofs.Common.{◌≡◌, ℕ, zero, suc, ◌+◌, ◌-◌, ◌*◌, ◌<◌, ◌≤◌, Bool, true, false, List, [], ◌∷◌, ◌++◌, length, get_or, Option, Some, None, refl, sym, ap, subst, ◌∙◌, inl, inr, arith}
+use Rattle.std.proofs.Common.{◌≡◌, ℕ, zero, suc, ◌+◌, ◌-◌, ◌*◌, ◌<◌, Bool, true, false, List, [], ◌∷◌, ◌++◌, length, get_or, Option, Some, None, refl, sym, ap, subst, ◌∙◌, inl, inr, arith}
 use Rattle.std.specs.Prelude.{IsTrue, not, map, flat_map, filter, option_map, option_to_list}
-use Rattle.std.proofs.Math.Nat.{mul-le-mul_right}
 use Rattle.std.proofs.lemmas.Bool.{false≢true}
+use Rattle.list_laws.proofs.Members.{In, In-all, In-any, In-append_cases, In-append_left, In-append_right, In-filter, In-flat_map, In-map, In-range, all-from_In, any-from_In, from_In-filter, from_In-flat_map, from_In-map, from_In-range}
 use Rattle.fpga_types.specs.Slots.{pairs, pin_steps, slots, steps}
 use Rattle.fpga_types.specs.declared.grid.Cell.{Cell}
 use Rattle.fpga_types.specs.declared.grid.PinAt.{PinAt}
 use Rattle.fpga_types.specs.declared.problem.PinStep.{PinStep}
 use Rattle.fpga_types.specs.declared.problem.RouteStep.{RouteStep}
 use Rattle.fpga_types.specs.declared.route.RouteText.{RouteText}
-use Rattle.fpga_types.proofs.FabricLemmas.{In, In-map, from_In-map, In-flat_map, from_In-flat_map, In-range, from_In-range}
 use Rattle.sat_clause.specs.declared.literal.Lit.{Lit}
 use Rattle.sat_clause.specs.Formula.{Cnf, IsTrueClause, Satisfies, makes_true}
 use Rattle.sat_clause.specs.Literal.{Clause}
 use Rattle.route_encode.specs.Encoding.{above, apart_track, below, encoding, has, joined_track, lacks, one_track, open_track, place_of, some_track, track_after}
 use Rattle.route_encode.specs.Said.{says}
-use Rattle.route_encode.proofs.Members.{In-all, In-any, In-filter, from_In-filter, all-from_In, any-from_In, five_cases, in_first, in_second, in_third, in_fourth, in_fifth}
+use Rattle.route_encode.proofs.BitLemmas.{place-inside}
+
+-- membership in five lists, one behind another
+module _ {A : Type 0} (a b c d e : List A) (x : A) where
+  pub in_first : In a x → In (a ++ b ++ c ++ d ++ e) x
+  in_first h = In-append_left (a ++ b ++ c ++ d) e x (In-append_left (a ++ b ++ c) d x (In-append_left (a ++ b) c x (In-append_left a b x h)))
+
+  pub in_second : In b x → In (a ++ b ++ c ++ d ++ e) x
+  in_second h = In-append_left (a ++ b ++ c ++ d) e x (In-append_left (a ++ b ++ c) d x (In-append_left (a ++ b) c x (In-append_right a b x h)))
+
+  pub in_third : In c x → In (a ++ b ++ c ++ d ++ e) x
+  in_third h = In-append_left (a ++ b ++ c ++ d) e x (In-append_left (a ++ b ++ c) d x (In-append_right (a ++ b) c x h))
+
+  pub in_fourth : In d x → In (a ++ b ++ c ++ d ++ e) x
+  in_fourth h = In-append_left (a ++ b ++ c ++ d) e x (In-append_right (a ++ b ++ c) d x h)
+
+  pub in_fifth : In e x → In (a ++ b ++ c ++ d ++ e) x
+  in_fifth h = In-append_right (a ++ b ++ c ++ d) e x h
+
+  -- what follows from membership in each follows from membership in all
+  pub five_cases : (P : Type 0) → (In a x → P) → (In b x → P) → (In c x → P) → (In d x → P) → (In e x → P) → In (a ++ b ++ c ++ d ++ e) x → P
+  five_cases P f g h k m i =
+      elim (In-append_cases (a ++ b ++ c ++ d) e x i) [
+        | inl i4 ↦ (elim (In-append_cases (a ++ b ++ c) d x i4) [
+          | inl i3 ↦ (elim (In-append_cases (a ++ b) c x i3) [
+            | inl i2 ↦ (elim (In-append_cases a b x i2) [ inl i1 ↦ f i1 | inr j1 ↦ g j1 ])
+            | inr j2 ↦ h j2
+          ])
+          | inr j3 ↦ k j3
+        ])
+        | inr j4 ↦ m j4
+      ]
 
 -- a value that is true without one past the end is true with it
 true_anyway : (values : List Bool) (k : ℕ) → get_or values k false ≡ true → get_or values k true ≡ true
@@ -192,10 +222,7 @@ module _ (across : Cell → Cell → ℕ → Option ℕ) (opens : PinAt → ℕ 
       where
         room : (s t : ℕ) → s < length (slots route) → t < width → place_of width s t < length values
         room s t f g =
-            let f' : s + 1 ≤ length (slots route) = omega (arith, f) in
-            let row : (s + 1) * width ≤ length (slots route) * width = mul-le-mul_right width f' in
-            let next : (s + 1) * width ≡ s * width + width = omega arith in
-            subst (λ (n : ℕ). place_of width s t < n) (sym h.many) (omega (arith, row, next, g))
+            subst (λ (n : ℕ). place_of width s t < n) (sym h.many) (place-inside (length (slots route)) width s t f g)
 
         from_first : (c : Clause) → In first c → IsTrueClause values c
         from_first c i =

@@ -8,7 +8,10 @@ use Rattle.std.proofs.lemmas.Bool.Decides.{nat_tests}
 use Rattle.std.specs.BTreeMap.{BTreeMap, get, is_at}
 use Rattle.std.proofs.lemmas.List.{append-nil, get_or-set_other, get_or-set_same}
 use Rattle.std.proofs.lemmas.List.Elements.{filter-append, filter_map-append}
-use Rattle.std.proofs.lemmas.Grind.{flat_map-append}
+use Rattle.list_laws.proofs.Members.{from_In-range}
+use Rattle.list_laws.proofs.Numbered.{enumerate-map}
+use Rattle.list_laws.proofs.Rows.{filter_map-map, rows-alike, rows-map, rows-rows}
+use Rattle.list_laws.proofs.Searches.{filter-none}
 use Rattle.fpga_types.specs.Fabric.{same_cell}
 use Rattle.fpga_types.specs.Slots.{NO_SLOT, compete, pairs, slot_at}
 use Rattle.fpga_types.specs.contracts.grid.CellOrd.TheImpl.{cmp-value}
@@ -28,15 +31,6 @@ range-append a (suc m) n =
     let e : suc m + n ≡ suc (m + n) = omega arith in
     let f : a + 1 + m ≡ a + suc m = omega arith in
     ap (range_with_len a) e ∙ ap (λ (ks : List ℕ). a ∷ ks) (range-append (a + 1) m n ∙ ap (λ (b : ℕ). range_with_len (a + 1) m ++ range_with_len b n) f)
-
--- a search that finds nothing leaves nothing
-pub none-passes : {T : Type 0} (p : T → Bool) (xs : List T) → find p xs ≡ None → filter p xs ≡ []
-none-passes p [] h = refl
-none-passes {T} p (x ∷ xs) h = go (p x) h (none-passes p xs)
-  where
-    go : (b : Bool) → cond b (Some x) (find p xs) ≡ None → (find p xs ≡ None → filter p xs ≡ []) → cond b (x ∷ filter p xs) (filter p xs) ≡ []
-    go true h f = cc
-    go false h f = f h
 
 -- what a search among numbers finds: it passes, and none before it does
 pub record IsFirst (p : ℕ → Bool) (a n b : ℕ) : Type 0 where
@@ -84,7 +78,7 @@ slots_from-cons all a h = let count : length all - a ≡ suc (length all - (a + 
 
 pub walk-end : (all : List Slot) (slot : ℕ) (done : List ℕ) → IsWalked all slot None done → done ≡ rivals_after all slot
 walk-end all slot done h =
-    let rest : filter (share_cell all slot) (slots_from all h.at) ≡ [] = none-passes (share_cell all slot) (slots_from all h.at) (sym h.next_is) in
+    let rest : filter (share_cell all slot) (slots_from all h.at) ≡ [] = filter-none (share_cell all slot) (slots_from all h.at) (sym h.next_is) in
     h.done_is ∙ sym (rw (slots-split all (slot + 1) h.at (omega (arith, h.above)) h.within, filter-append (share_cell all slot) (range_with_len (slot + 1) (h.at - (slot + 1))) (slots_from all h.at), rest) (append-nil (filter (share_cell all slot) (range_with_len (slot + 1) (h.at - (slot + 1))))))
 
 -- the next rivals of the slots from s on, with one slot more before them
@@ -162,34 +156,6 @@ walk-step all slot b done h =
 pub next-later : (all : List Slot) (b c : ℕ) → next_rival all b ≡ Some c → b < c
 next-later all b c h = let first = found-first (share_cell all b) (b + 1) (length all - (b + 1)) c h in omega (arith, first.low)
 
--- each element with its number, as its number and what stands there
-pub enumerate-map : {T : Type 0} (f : ℕ → T) (d : T) (a : ℕ) (xs : List T) → ((k : ℕ) → k < length xs → get_or xs k d ≡ f (a + k)) → enumerate_from a xs ≡ map (λ i. (i, f i)) (range_with_len a (length xs))
-enumerate-map f d a [] h = refl
-enumerate-map {T} f d a (x ∷ xs) h =
-    let here : x ≡ f a = h 0 (omega arith) ∙ ap f (let e : a + 0 ≡ a = omega arith in e) in
-    let rest = enumerate-map f d (a + 1) xs (λ k low. h (suc k) (omega arith) ∙ ap f (let e : a + suc k ≡ a + 1 + k = omega arith in e)) in
-    λ i. (a, here i) ∷ rest i
-
-pub flat_map-map : {A B C : Type 0} (g : B → List C) (f : A → B) (xs : List A) → flat_map g (map f xs) ≡ flat_map (λ x. g (f x)) xs
-flat_map-map g f [] = refl
-flat_map-map {A} {B} {C} g f (x ∷ xs) = ap (λ (ys : List C). g (f x) ++ ys) (flat_map-map g f xs)
-
-pub flat_map-flat_map : {A B C : Type 0} (g : B → List C) (f : A → List B) (xs : List A) → flat_map g (flat_map f xs) ≡ flat_map (λ x. flat_map g (f x)) xs
-flat_map-flat_map g f [] = refl
-flat_map-flat_map {A} {B} {C} g f (x ∷ xs) = flat_map-append g (f x) (flat_map f xs) ∙ ap (λ (ys : List C). flat_map g (f x) ++ ys) (flat_map-flat_map g f xs)
-
-filter_map-map : {A B C : Type 0} (h : B → Option C) (f : A → B) (xs : List A) → filter_map h (map f xs) ≡ filter_map (λ x. h (f x)) xs
-filter_map-map h f [] = refl
-filter_map-map {A} {B} {C} h f (x ∷ xs) = ap (λ (ys : List C). cons_option (h (f x)) ys) (filter_map-map h f xs)
-
--- lists that are made alike number by number are one
-flat_map-alike : {C : Type 0} (f g : ℕ → List C) (a n : ℕ) → ((k : ℕ) → a ≤ k → k < a + n → f k ≡ g k) → flat_map f (range_with_len a n) ≡ flat_map g (range_with_len a n)
-flat_map-alike f g a zero h = refl
-flat_map-alike {C} f g a (suc n) h =
-    let here = h a (omega arith) (omega arith) in
-    let rest = flat_map-alike f g (a + 1) n (λ k low high. h k (omega arith) (omega arith)) in
-    λ i. here i ++ rest i
-
 module _ (all : List Slot) (distinct : AreDistinct all) (a : ℕ) where
   earlier-none : (k n : ℕ) → k + n ≤ a + 1 → filter_map (λ b. pair_of (a, slot_at all a) (b, slot_at all b)) (range_with_len k n) ≡ []
   earlier-none k zero h = refl
@@ -238,11 +204,12 @@ module _ (all : List Slot) (distinct : AreDistinct all) (a : ℕ) where
 pub pairs-regroup : {C : Type 0} (all : List Slot) → AreDistinct all → (g : ℕ × ℕ → List C)
     → flat_map g (pairs all) ≡ flat_map (λ a. flat_map (λ b. g (a, b)) (rivals_after all a)) (below (length all))
 pairs-regroup {C} all distinct g =
-    flat_map-flat_map g (λ z. filter_map (pair_of z) (enumerate_from 0 all)) (enumerate_from 0 all)
+    rows-rows g (λ z. filter_map (pair_of z) (enumerate_from 0 all)) (enumerate_from 0 all)
     ∙ ap (flat_map (λ (z : ℕ × Slot). flat_map g (filter_map (pair_of z) (enumerate_from 0 all)))) (enumerate-map (slot_at all) NO_SLOT 0 all (λ k inside. ap (slot_at all) (let e : k ≡ 0 + k = omega arith in e)))
-    ∙ flat_map-map (λ (z : ℕ × Slot). flat_map g (filter_map (pair_of z) (enumerate_from 0 all))) (λ i. (i, slot_at all i)) (below (length all))
-    ∙ flat_map-alike (λ a. flat_map g (filter_map (pair_of (a, slot_at all a)) (enumerate_from 0 all))) (λ a. flat_map (λ b. g (a, b)) (rivals_after all a)) 0 (length all) (λ a low high.
-    ap (flat_map g) (pairs-of all distinct a (omega arith)) ∙ flat_map-map g (λ b. (a, b)) (rivals_after all a))
+    ∙ rows-map (λ (z : ℕ × Slot). flat_map g (filter_map (pair_of z) (enumerate_from 0 all))) (λ i. (i, slot_at all i)) (below (length all))
+    ∙ rows-alike (λ a. flat_map g (filter_map (pair_of (a, slot_at all a)) (enumerate_from 0 all))) (λ a. flat_map (λ b. g (a, b)) (rivals_after all a)) (below (length all)) (λ a i.
+    let low = from_In-range 0 (length all) a i in
+    ap (flat_map g) (pairs-of all distinct a (omega (arith, low.1))) ∙ rows-map g (λ b. (a, b)) (rivals_after all a))
 
 -- how many slots are left behind the next one falls
 pub fewer-left : (all : List Slot) (b : ℕ) → b < length all → option_map_or (λ c. length all - c) (next_rival all b) 0 < length all - b

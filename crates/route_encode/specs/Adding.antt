@@ -1,11 +1,16 @@
 -- What it is to add clauses to a formula that has the room.
-use Rattle.std.specs.Prelude.{◌≡◌, ℕ, ◌+◌, ◌≤◌, ◌++◌, List, length, sum_by}
+use Rattle.std.specs.Prelude.{◌≡◌, ℕ, ◌+◌, ◌*◌, ◌≤◌, ◌++◌, List, length, sum_by}
 use Rattle.sat_clause.specs.FormulaStore.{FormulaState}
 use Rattle.sat_clause.specs.Literal.{Clause}
+use Rattle.route_encode.specs.declared.variables.Variables.{Variables}
 
 -- how many literals the clauses have together
 abbrev pub lit_count : List Clause → ℕ
 lit_count clauses = sum_by length clauses
+
+-- the formula is over these variables
+abbrev pub HasVariables : Variables → FormulaState → Type 0
+HasVariables variables state = state.cnf.vars ≡ variables.slots * variables.width
 
 -- there is room for the clauses
 pub record HasRoom (state : FormulaState) (clauses : List Clause) : Type 0 where

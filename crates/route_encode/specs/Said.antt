@@ -6,6 +6,10 @@ use Rattle.route_encode.specs.Encoding.{place_of}
 abbrev pub says : List Bool → (width s t : ℕ) → Bool
 says values width s t = slice_index_or values (place_of width s t) false
 
+-- the values say a track of the slot
+abbrev pub SaysTrack : List Bool → (width s : ℕ) → Type 0
+SaysTrack values width s = (t : ℕ) × (t < width) × (says values width s t ≡ true)
+
 -- of the first n slots each has its track, as the values say
 abbrev pub AreSaid : List Bool → ℕ → List ℕ → ℕ → Type 0
 AreSaid values width tracks n =

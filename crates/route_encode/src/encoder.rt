@@ -41,5 +41,5 @@ pub trait Encoder {
     ) -> Result<RouteText, AllocError>
         requires width { (1 ≤ width) × (width ≤ 64) }
         requires model { Satisfies values.now (formula_of self.now problem.now width) }
-        ensures { IfOk result (is_good self.now problem.now width) };
+        ensures good { IfOk result (is_good self.now problem.now width) };
 }

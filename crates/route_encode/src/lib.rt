@@ -4,12 +4,12 @@
 mod clauses;
 mod encoder;
 mod laws;
-mod literals;
 mod rivals;
 mod strict;
 #[cfg(test)]
 mod tests;
 mod tracks;
+mod variables;
 mod walk;
 
 pub use encoder::Encoder;

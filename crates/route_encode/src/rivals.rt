@@ -36,14 +36,6 @@ impl<'a> RivalChains<'a> {
         Ok(RivalChains { slots, next })
     }
 
-    /// The number of slots.
-    pub(crate) fn count(&self) -> u32
-        ensures value { result ≡ length self.now }
-        ensures few { result ≤ 200000 }
-    {
-        self.slots.len() as u32
-    }
-
     /// The next slot after this one that takes its cell.
     pub(crate) fn next_after(&self, slot: u32) -> Option<u32>
         requires { slot < length self.now }

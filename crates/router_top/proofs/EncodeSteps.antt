@@ -19,11 +19,4 @@ module _ (job : EncodeJob) (route : RouteText) (desk desk_now : DeskState) (read
   writes-leaves (WriteFault slot) h = (h.0, cnf_text (cnf_subset job.width route), record { route = route; reads = reads; fits = fits; few = h.1; is = refl }, h.2)
   writes-leaves (Limit code count) h = (inr (h.0, (route, reads, fits, h.1)), h.2)
   writes-leaves OutOfMemory h = h
-  writes-leaves (Routed w) h = absurd h
-  writes-leaves (Unroutable w) h = absurd h
-  writes-leaves (Undecided w n) h = absurd h
-  writes-leaves (InputFault f l c) h = absurd h
-  writes-leaves (Usage c) h = absurd h
-  writes-leaves (ReadFault f) h = absurd h
-  writes-leaves Accepted h = absurd h
-  writes-leaves (NotAccepted s c) h = absurd h
+  writes-leaves o h = absurd h

@@ -9,10 +9,10 @@ use Rattle.std.proofs.lemmas.List.{get_or-set_same, get_or-set_other}
 use Rattle.std.proofs.lemmas.Map.Made.{lookup-map_values}
 use Rattle.sat_clause.proofs.PartsLaws.{none_is_not_some}
 use Rattle.sat_clause.specs.Literal.{Clause, IsWithin}
-use Rattle.sat_clause.specs.Live.{Live, clause_at, put, without}
+use Rattle.sat_clause.specs.Live.{Live, clause_at, put, without, SameLive}
 use Rattle.sat_clause.proofs.LiveLaws.{clause_at-without}
 use Rattle.sat_check.specs.Cells.{filled}
-use Rattle.sat_check.specs.LiveStore.{AllWithin, SameClauses}
+use Rattle.sat_check.specs.LiveStore.{AllWithin}
 
 pub eqb_sym : (a b : ℕ) → eqb a b ≡ eqb b a
 eqb_sym a b = grind (arith, nat_tests)
@@ -141,17 +141,17 @@ changes-map f old new id value changes q =
 module _ (old new : Live) (id : ℕ) where
   -- a clause that comes under an id was put in
   pub same_as_put : (clause : Clause) → ChangesAt old new id (Some clause) →
-      SameClauses new (put old id clause)
+      SameLive new (put old id clause)
   same_as_put clause changes q =
       changes q ∙ ap (λ b. cond b (Some clause) (clause_at old q)) (eqb_sym id q)
 
   -- where none is left under an id, it was taken out
-  pub same_as_without : ChangesAt old new id None → SameClauses new (without old id)
+  pub same_as_without : ChangesAt old new id None → SameLive new (without old id)
   same_as_without changes q = changes q ∙ sym (clause_at-without old id q)
 
 -- where there is none under an id, none has to be taken out
 pub same_without_none : (live : Live) (id : ℕ) → clause_at live id ≡ None →
-    SameClauses live (without live id)
+    SameLive live (without live id)
 same_without_none live id none q = by (eqb id q) refl ∙ sym (clause_at-without live id q)
   where
     by : (b : Bool) → eqb id q ≡ b → clause_at live q ≡ cond b None (clause_at live q)
@@ -159,7 +159,7 @@ same_without_none live id none q = by (eqb id q) refl ∙ sym (clause_at-without
     by false other = refl
 
 -- what is left has the variables that it had
-pub without_is_within : (n : ℕ) (live next : Live) (id : ℕ) → SameClauses next (without live id) →
+pub without_is_within : (n : ℕ) (live next : Live) (id : ℕ) → SameLive next (without live id) →
     AllWithin n live → AllWithin n next
 without_is_within n live next id same within q clause is =
     by (eqb id q) (sym (same q ∙ clause_at-without live id q) ∙ is)

@@ -4,12 +4,11 @@ use Rattle.std.specs.Prelude.{is_some, if◌then◌else◌}
 use Rattle.std.proofs.Math.Seq.{drop-cons, take-suc}
 use Rattle.std.proofs.lemmas.List.Sums.{fold_push}
 use Rattle.sat_clause.specs.declared.cause.Cause.TheVariants.{DeletesNotLive}
-use Rattle.sat_clause.specs.Live.{Live, clause_at, named}
+use Rattle.sat_clause.specs.Live.{Live, clause_at, named, SameLive}
 use Rattle.sat_clause.specs.Judge.{take_out, erase, erase_fault}
 use Rattle.sat_clause.proofs.Alike.{take_out_alike, erase_fault_alike}
-use Rattle.sat_check.specs.LiveStore.{SameClauses}
 
-module _ (start live next : Live) (ids : List ℤ) (i : ℕ) (d : ℤ) (below : i < length ids) (taken : SameClauses next (take_out live (get_or ids i d))) where
+module _ (start live next : Live) (ids : List ℤ) (i : ℕ) (d : ℤ) (below : i < length ids) (taken : SameLive next (take_out live (get_or ids i d))) where
   -- the ids that are left have the fault that they had with this one, which was live
   pub erase_fault-next : is_some (named live (get_or ids i d)) ≡ true →
       erase_fault next (drop (suc i) ids) ≡ erase_fault live (drop i ids)
@@ -19,8 +18,8 @@ module _ (start live next : Live) (ids : List ℤ) (i : ℕ) (d : ℤ) (below : 
       ∙ erase_fault_alike (take_out live (get_or ids i d)) next (drop (suc i) ids) (λ n. sym (taken n)))
 
   -- this one is out, with those before
-  pub clause_at-next : SameClauses live (erase start (take i ids)) →
-      SameClauses next (erase start (take (suc i) ids))
+  pub clause_at-next : SameLive live (erase start (take i ids)) →
+      SameLive next (erase start (take (suc i) ids))
   clause_at-next same n =
       let more : erase start (take (suc i) ids) ≡ take_out (erase start (take i ids)) (get_or ids i d) =
       ap (erase start) (take-suc ids i d below)

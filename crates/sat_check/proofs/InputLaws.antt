@@ -1,7 +1,7 @@
 -- The input clauses with a mark.
 use Rattle.std.proofs.Common.{◌≡◌, ℕ, zero, suc, ◌<◌, ◌≤◌, Bool, true, false, cond, List, [], ◌∷◌, length, get_or, set, replicate, None, Some, slice_get, refl, ap, sym, ◌∙◌, arith}
 use Rattle.sat_clause.specs.Literal.{Clause}
-use Rattle.sat_clause.specs.Live.{clause_at, numbered, without}
+use Rattle.sat_clause.specs.Live.{clause_at, numbered, without, SameLive}
 use Rattle.sat_clause.proofs.PartsLaws.{none_is_not_some}
 use Rattle.std.specs.Prelude.{is_some, nat_lt}
 use Rattle.std.proofs.lemmas.Option.{slice_get-get_or}
@@ -9,7 +9,6 @@ use Rattle.std.proofs.lemmas.List.{get_or_past}
 use Rattle.std.proofs.lemmas.Bool.{both_ways, ltb-true, ltb-false}
 use Rattle.sat_check.specs.Cells.{filled}
 use Rattle.sat_check.specs.InputStore.{cells_of, marked, position_of}
-use Rattle.sat_check.specs.LiveStore.{SameClauses}
 use Rattle.sat_check.proofs.ChangeLaws.{filled_below, filled_at, changes-cell, same_as_without}
 
 -- a position of a mark is within them
@@ -94,7 +93,7 @@ module _ (marks : List Bool) (clauses : List Clause) (many : length marks ≡ le
 
   -- where the mark of an id is taken away, its clause is taken out
   pub marked-without : (id at : ℕ) → position_of marks id ≡ Some at →
-      SameClauses (marked (set marks at false) clauses) (without (marked marks clauses) id)
+      SameLive (marked (set marks at false) clauses) (without (marked marks clauses) id)
   marked-without zero at is = absurd (none_is_not_some is)
   marked-without (suc i) at is =
       let within : at < length marks = position-within marks (suc i) at is in

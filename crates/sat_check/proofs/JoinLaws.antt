@@ -5,10 +5,9 @@ use Rattle.std.specs.Option.{option_or}
 use lib.Signed.{le_z}
 use Rattle.std.proofs.lemmas.Bool.{both_ways}
 use Rattle.sat_clause.specs.Literal.{Clause}
-use Rattle.sat_clause.specs.Live.{Live, clause_at, named, put, without}
+use Rattle.sat_clause.specs.Live.{Live, clause_at, named, put, without, SameLive}
 use Rattle.sat_clause.specs.Judge.{take_out}
 use Rattle.sat_clause.proofs.LiveLaws.{clause_at-without}
-use Rattle.sat_check.specs.LiveStore.{SameClauses}
 use Rattle.sat_check.proofs.ChangeLaws.{lookup-append, eqb_sym}
 
 -- a positive number names the clause with that id
@@ -62,9 +61,9 @@ module _ (inputs derived : Live) where
     joined_after q = lookup-append (eqb q) inputs_after derived_after
 
     -- a clause that comes among the derived ones, with no input left under its id, was put in
-    pub put-joined : (id : ℕ) (clause : Clause) → SameClauses inputs_after (without inputs id) →
-        SameClauses derived_after (put derived id clause) →
-        SameClauses (inputs_after ++ derived_after) (put (inputs ++ derived) id clause)
+    pub put-joined : (id : ℕ) (clause : Clause) → SameLive inputs_after (without inputs id) →
+        SameLive derived_after (put derived id clause) →
+        SameLive (inputs_after ++ derived_after) (put (inputs ++ derived) id clause)
     put-joined id clause out in_place q =
         rw (joined_after q, out q, clause_at-without inputs id q, in_place q, joined q, eqb_sym q id)
         (by (eqb id q))
@@ -75,9 +74,9 @@ module _ (inputs derived : Live) where
 
     -- a clause that is out of both was taken out
     pub take_out-joined : (id : ℤ) → le_z id (pos 0) ≡ false →
-        SameClauses inputs_after (without inputs (nat_abs id)) →
-        SameClauses derived_after (without derived (nat_abs id)) →
-        SameClauses (inputs_after ++ derived_after) (take_out (inputs ++ derived) id)
+        SameLive inputs_after (without inputs (nat_abs id)) →
+        SameLive derived_after (without derived (nat_abs id)) →
+        SameLive (inputs_after ++ derived_after) (take_out (inputs ++ derived) id)
     take_out-joined id above out too q =
         joined_after q
         ∙ rw (out q, clause_at-without inputs (nat_abs id) q, too q, clause_at-without derived (nat_abs id) q) (by (eqb (nat_abs id) q))

@@ -3,7 +3,7 @@ use Rattle.std.proofs.Common.{◌≡◌, ℕ, suc, Bool, true, false, List, [], 
 use Rattle.std.proofs.Math.Seq.{drop-cons}
 use Rattle.std.proofs.lemmas.Option.{slice_get_within, get_or_from_slice_get}
 use Rattle.sat_clause.specs.declared.cause.Cause.{Cause}
-use Rattle.sat_clause.specs.Live.{Live}
+use Rattle.sat_clause.specs.Live.{Live, SameLive}
 use Rattle.std.specs.Prelude.{IsTrue, if◌then◌else◌}
 use Rattle.sat_clause.specs.declared.log.StepView.{StepView}
 use Rattle.sat_clause.specs.Literal.{IsWithin}
@@ -11,7 +11,7 @@ use Rattle.sat_clause.specs.Formula.{Cnf}
 use Rattle.sat_clause.specs.Step.{Step, Added, Erased}
 use Rattle.sat_clause.specs.Judge.{Accepted, Refused, fault, after, is_empty_clause, judge_step, judge_from}
 use Rattle.sat_clause.proofs.Alike.{judge_from_alike}
-use Rattle.sat_check.specs.LiveStore.{HasVars, SameClauses}
+use Rattle.sat_check.specs.LiveStore.{HasVars}
 use Rattle.sat_check.specs.Verdict.{step_of}
 
 module _ (n : ℕ) (live : Live) (log : List Step) (i : ℕ) (step : Step) (at : slice_get log i ≡ Some step) where
@@ -40,7 +40,7 @@ module _ (n : ℕ) (live : Live) (log : List Step) (i : ℕ) (step : Step) (at :
 
   -- another good step leads on, from any map that has the clauses after it
   pub judge_from-next : (next : Live) → fault live step ≡ None → is_empty_clause step ≡ false →
-      SameClauses next (after live step) →
+      SameLive next (after live step) →
       judge_from (suc n) next (drop (suc i) log) ≡ judge_from n live (drop i log)
   judge_from-next next good more same =
       judge_from_alike (suc n) next (after live step) (drop (suc i) log) same

@@ -10,10 +10,6 @@ pub record LiveState : Type 0 where
   pub vars : ℕ
   pub live : Live
 
--- two maps have the same clauses
-abbrev pub SameClauses : Live → Live → Type 0
-SameClauses a b = (id : ℕ) → clause_at a id ≡ clause_at b id
-
 -- the clauses have the variables 1 to n alone
 abbrev pub AllWithin : ℕ → Live → Type 0
 AllWithin n live = (id : ℕ) (clause : Clause) → clause_at live id ≡ Some clause →

@@ -1,10 +1,10 @@
 //! What a log says of a formula, step by step.
 
+ghost use Rattle.sat_clause.specs.Live.{SameLive};
 ghost use Rattle.std.specs.Prelude.{◌≡◌, ◌≤◌, [], All, IfOk, OnOk, None};
 ghost use Rattle.sat_clause.specs.Literal.{IsWithin};
 ghost use Rattle.sat_clause.specs.Formula.{IsUnsat};
 ghost use Rattle.sat_clause.specs.Judge.{after, fault, is_empty_clause, judge};
-ghost use Rattle.sat_check.specs.LiveStore.{SameClauses};
 ghost use Rattle.sat_check.specs.Verdict.{judgement_of, step_of};
 
 use crate::Verdict;
@@ -37,7 +37,7 @@ fn take_step<'a>(
     ensures empty { OnOk result (set.new.set ≡ []) }
     ensures fault { IfOk result (λ r. r ≡ fault live.old.live (step_of step.entry)) }
     ensures live { IfOk result (λ r. r ≡ None
-        → SameClauses live.new.live (after live.old.live (step_of step.entry))) }
+        → SameLive live.new.live (after live.old.live (step_of step.entry))) }
 {
     if step.erase {
         return Ok(live.erase(step.hints));

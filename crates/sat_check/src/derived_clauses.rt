@@ -1,8 +1,7 @@
 //! The live clauses that a log has added.
 
 ghost use Rattle.std.specs.Prelude.{◌≡◌, ◌⊎◌, ◌<◌, ◌≤◌, ◌+◌, [], IfNone, IfOk, IfSome, OnErr, OnOk, is_some, option_map};
-ghost use Rattle.sat_clause.specs.Live.{clause_at, put as put_in, without};
-ghost use Rattle.sat_check.specs.LiveStore.{SameClauses};
+ghost use Rattle.sat_clause.specs.Live.{clause_at, put as put_in, without, SameLive};
 
 use indexmap::IndexMap;
 use sat_clause::Lit;
@@ -75,8 +74,8 @@ impl<'a> DerivedClauses<'a> {
 
     /// Puts a clause in under an id, in place of any other.
     pub(crate) fn put(&mut self, id: u64, clause: &'a [Lit]) -> Result<(), AllocError>
-        ensures ok { OnOk result (SameClauses self.new (put_in self.old id clause.now)) }
-        ensures err { OnErr result (SameClauses self.new self.old) }
+        ensures ok { OnOk result (SameLive self.new (put_in self.old id clause.now)) }
+        ensures err { OnErr result (SameLive self.new self.old) }
     {
         let Some(at) = cell_of(self.first, self.table.len(), id) else {
             self.others.insert(id, clause)?;
@@ -89,7 +88,7 @@ impl<'a> DerivedClauses<'a> {
     /// Takes out the clause with an id, and says whether there was one.
     pub(crate) fn take_out(&mut self, id: u64) -> bool
         ensures found { result ≡ is_some (clause_at self.old id) }
-        ensures clauses { SameClauses self.new (without self.old id) }
+        ensures clauses { SameLive self.new (without self.old id) }
     {
         let Some(at) = cell_of(self.first, self.table.len(), id) else {
             return self.others.swap_remove(&id).is_some();

@@ -4,7 +4,7 @@ ghost use Rattle.std.specs.Prelude.{◌≡◌, ◌+◌, ◌*◌, ◌<◌, false,
 ghost use Rattle.sat_clause.specs.Literal.{IsWithin, is_among};
 ghost use Rattle.sat_check.specs.FalseStore.{slot_of};
 
-use sat_clause::Lit;
+use sat_clause::{FalseLiterals, Lit};
 use std::alloc::{AllocError, Global};
 use std::marker::Model;
 
@@ -59,6 +59,16 @@ fn unmark(marks: &mut [bool], lits: &[Lit], size: u32)
     }
 }
 
+impl FalseLiterals for FalseSet {
+    ghost most = { λ s. s.size };
+
+    ghost falses = { λ s. s.set };
+
+    fn is_false(&self, l: Lit) -> bool {
+        self.marks[slot(l, self.size)]
+    }
+}
+
 impl FalseSet {
     /// The empty set.
     pub(crate) fn new(alloc: Global, size: u32) -> Result<FalseSet, AllocError>
@@ -69,14 +79,6 @@ impl FalseSet {
             marks: vec![in alloc; false; 2 * size as usize + 2]?,
             trail: Vec::new(alloc),
         })
-    }
-
-    /// Whether the literal is in the set.
-    pub(crate) fn has(&self, l: Lit) -> bool
-        requires { IsWithin self.now.size l }
-        ensures { result ≡ is_among self.now.set l }
-    {
-        self.marks[slot(l, self.size)]
     }
 
     /// Puts a literal into the set.

@@ -6,8 +6,7 @@ ghost use Rattle.sat_clause.specs.Rup.{rup};
 
 use crate::false_set::FalseSet;
 use crate::live_clauses::LiveClauses;
-use crate::reading::read_clause;
-use sat_clause::{Cause, Lit, Reading};
+use sat_clause::{Cause, Lit, Reading, read_clause};
 use std::alloc::AllocError;
 
 /// Why the hints, in order, do not lead from the false literals of the set to a false clause; none
@@ -27,7 +26,6 @@ fn follow_hints(
             return Ok(Some(Cause::NotLive));
         };
         match read_clause(set, clause) {
-            Reading::Missing => unreachable!(),
             Reading::Conflict => {
                 if i + 1 == hints.len() {
                     return Ok(None);

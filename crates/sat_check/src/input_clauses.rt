@@ -2,10 +2,9 @@
 
 ghost use Rattle.std.specs.Prelude.{◌≡◌, All, IfOk, IfSome, is_some, option_map};
 ghost use Rattle.sat_clause.specs.Literal.{IsWithin};
-ghost use Rattle.sat_clause.specs.Live.{clause_at, without};
+ghost use Rattle.sat_clause.specs.Live.{clause_at, without, SameLive};
 ghost use Rattle.sat_clause.specs.Judge.{inputs as inputs_of};
 ghost use Rattle.sat_check.specs.InputStore.{position_of};
-ghost use Rattle.sat_check.specs.LiveStore.{SameClauses};
 
 use sat_clause::{Formula, Lit};
 use std::alloc::{AllocError, Global};
@@ -74,7 +73,7 @@ impl<'a> InputClauses<'a> {
     pub(crate) fn take_out(&mut self, id: u64) -> bool
         ensures vars { self.new.vars ≡ self.old.vars }
         ensures found { result ≡ is_some (clause_at self.old.live id) }
-        ensures live { SameClauses self.new.live (without self.old.live id) }
+        ensures live { SameLive self.new.live (without self.old.live id) }
     {
         let Some(at) = live_position(&self.live, id) else {
             return false;

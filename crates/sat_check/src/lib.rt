@@ -7,7 +7,6 @@ mod false_set;
 mod hints;
 mod input_clauses;
 mod live_clauses;
-mod reading;
 #[cfg(test)]
 mod tests;
 mod variables;

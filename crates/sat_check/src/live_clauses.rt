@@ -2,9 +2,8 @@
 
 ghost use Rattle.std.specs.Prelude.{◌≡◌, ◌≤◌, All, IfOk, IfSome, IsTrue, IsNone, OnOk, is_some, option_map};
 ghost use Rattle.sat_clause.specs.Literal.{IsWithin};
-ghost use Rattle.sat_clause.specs.Live.{named as named_of, put as put_in};
+ghost use Rattle.sat_clause.specs.Live.{named as named_of, put as put_in, SameLive};
 ghost use Rattle.sat_clause.specs.Judge.{inputs as inputs_of, take_out as taken_out, erase as erased, erase_fault};
-ghost use Rattle.sat_check.specs.LiveStore.{SameClauses};
 
 use crate::derived_clauses::DerivedClauses;
 use crate::input_clauses::InputClauses;
@@ -45,7 +44,7 @@ impl<'a> LiveClauses<'a> {
     ) -> Result<LiveClauses<'a>, AllocError>
         requires { formula.now.cnf.vars ≤ vars }
         ensures vars { IfOk result (λ c. c.vars ≡ vars) }
-        ensures live { IfOk result (λ c. SameClauses c.live (inputs_of formula.now.cnf)) }
+        ensures live { IfOk result (λ c. SameLive c.live (inputs_of formula.now.cnf)) }
     {
         let first = formula.len() as u64 + 1;
         Ok(LiveClauses {
@@ -74,7 +73,7 @@ impl<'a> LiveClauses<'a> {
     pub(crate) fn put(&mut self, id: u32, clause: &'a [Lit]) -> Result<(), AllocError>
         requires { All (IsWithin self.old.vars) clause.now }
         ensures vars { self.new.vars ≡ self.old.vars }
-        ensures live { OnOk result (SameClauses self.new.live (put_in self.old.live id clause.now)) }
+        ensures live { OnOk result (SameLive self.new.live (put_in self.old.live id clause.now)) }
     {
         let id = id as u64;
         let _ = self.inputs.take_out(id);
@@ -86,7 +85,7 @@ impl<'a> LiveClauses<'a> {
     pub(crate) fn take_out(&mut self, id: i64) -> bool
         ensures vars { self.new.vars ≡ self.old.vars }
         ensures found { result ≡ is_some (named_of self.old.live id) }
-        ensures live { IsTrue result → SameClauses self.new.live (taken_out self.old.live id) }
+        ensures live { IsTrue result → SameLive self.new.live (taken_out self.old.live id) }
     {
         if id <= 0 {
             return false;
@@ -101,7 +100,7 @@ impl<'a> LiveClauses<'a> {
     pub(crate) fn erase(&mut self, ids: &[i64]) -> Option<Cause>
         ensures vars { self.new.vars ≡ self.old.vars }
         ensures fault { result ≡ erase_fault self.old.live ids.now }
-        ensures live { IsNone result → SameClauses self.new.live (erased self.old.live ids.now) }
+        ensures live { IsNone result → SameLive self.new.live (erased self.old.live ids.now) }
     {
         for id in ids {
             if !self.take_out(*id) {

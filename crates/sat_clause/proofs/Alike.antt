@@ -1,11 +1,11 @@
 -- Judging a step asks the live clauses and the false literals nothing but what they answer.
-use Rattle.std.proofs.Common.{◌≡◌, ℕ, zero, suc, ◌==◌, ℤ, pos, negsuc, cond, ◌||◌, List, [], ◌∷◌, Option, None, Some, refl, sym, ap, ◌∙◌}
+use Rattle.std.proofs.Common.{◌≡◌, ℕ, zero, suc, ◌==◌, ℤ, pos, negsuc, cond, ◌||◌, List, [], ◌∷◌, None, Some, refl, sym, ap, ◌∙◌}
 use Rattle.std.specs.Ordering.{int_eq}
 use Rattle.sat_clause.specs.declared.literal.Lit.{Lit}
-use Rattle.sat_clause.specs.declared.reading.Reading.TheVariants.{Missing, Conflict, Unit, Satisfied, Unresolved}
+use Rattle.sat_clause.specs.declared.reading.Reading.TheVariants.{Conflict, Unit, Satisfied, Unresolved}
 use Rattle.sat_clause.specs.Literal.{Clause, negation, is_among}
-use Rattle.sat_clause.specs.Live.{Live, clause_at, named, put}
-use Rattle.sat_clause.specs.Rup.{rup, open_literals, reading_of, reading_by, lead_on}
+use Rattle.sat_clause.specs.Live.{Live, SameLive, named, put}
+use Rattle.sat_clause.specs.Rup.{follow, lead_on, open_literals, reading_by, reading_of, rup}
 use Rattle.sat_clause.specs.Step.{Step, Added, Erased}
 use Rattle.sat_clause.specs.Judge.{take_out, erase, erase_fault, fault, after, is_empty_clause, judge_from, judge_step}
 use Rattle.sat_clause.proofs.LiveLaws.{clause_at-without}
@@ -13,10 +13,6 @@ use Rattle.sat_clause.proofs.LiveLaws.{clause_at-without}
 -- two lists have the same literals
 abbrev pub SameSet : List Lit → List Lit → Type 0
 SameSet s t = (l : Lit) → is_among s l ≡ is_among t l
-
--- two maps have the same clauses
-abbrev pub SameLive : Live → Live → Type 0
-SameLive a b = (id : ℕ) → clause_at a id ≡ clause_at b id
 
 open_alike : (s t : List Lit) (clause : Clause) → SameSet s t →
     open_literals s clause ≡ open_literals t clause
@@ -29,10 +25,8 @@ reading_by_alike s t [] same = refl
 reading_by_alike s t (l ∷ []) same = rw (same (negation l)) refl
 reading_by_alike s t (l ∷ m ∷ ls) same = refl
 
-reading_alike : (s t : List Lit) (clause : Option Clause) → SameSet s t →
-    reading_of s clause ≡ reading_of t clause
-reading_alike s t None same = refl
-reading_alike s t (Some clause) same =
+reading_alike : (s t : List Lit) (clause : Clause) → SameSet s t → reading_of s clause ≡ reading_of t clause
+reading_alike s t clause same =
     rw (open_alike s t clause same) (reading_by_alike s t (open_literals t clause) same)
 
 named_alike : (a b : Live) (h : ℤ) → SameLive a b → named a h ≡ named b h
@@ -45,13 +39,16 @@ pub rup_alike : (a b : Live) (s t : List Lit) (hints : List ℤ) → SameLive a 
     rup a s hints ≡ rup b t hints
 rup_alike a b s t [] live set = refl
 rup_alike a b s t (h ∷ hints) live set =
-    rw (named_alike a b h live, reading_alike s t (named b h) set)
-    (elim (reading_of t (named b h)) as (λ r. lead_on r hints (λ l. rup a (negation l ∷ s) hints) ≡ lead_on r hints (λ l. rup b (negation l ∷ t) hints)) [
-      | Missing ↦ refl
-      | Conflict ↦ refl
-      | Unit l ↦ rup_alike a b (negation l ∷ s) (negation l ∷ t) hints live (λ m. ap (λ x. int_eq (negation l).code m.code || x) (set m))
-      | Satisfied ↦ refl
-      | Unresolved ↦ refl
+    rw (named_alike a b h live)
+    (elim (named b h) as (λ o. follow s o hints (λ l. rup a (negation l ∷ s) hints) ≡ follow t o hints (λ l. rup b (negation l ∷ t) hints)) [
+      | None ↦ refl
+      | Some clause ↦ rw (reading_alike s t clause set)
+          (elim (reading_of t clause) as (λ r. lead_on r hints (λ l. rup a (negation l ∷ s) hints) ≡ lead_on r hints (λ l. rup b (negation l ∷ t) hints)) [
+            | Conflict ↦ refl
+            | Unit l ↦ rup_alike a b (negation l ∷ s) (negation l ∷ t) hints live (λ m. ap (λ x. int_eq (negation l).code m.code || x) (set m))
+            | Satisfied ↦ refl
+            | Unresolved ↦ refl
+          ])
     ])
 
 pub put_alike : (a b : Live) (id : ℕ) (clause : Clause) → SameLive a b →

@@ -1,11 +1,9 @@
 -- Clauses as numbers with one digit of base three for each variable: how many different ones there are.
-use Rattle.std.proofs.Common.{◌≡◌, ◌≢◌, ℕ, zero, suc, ◌+◌, ◌*◌, ◌/◌, ◌^◌, eqb, ◌<◌, ◌≤◌, ℤ, pos, negsuc, Bool, true, false, cond, List, [], ◌∷◌, map, length, get_or, slice_index_or, All, AllPairs, Contains, refl, sym, ap, ◌∙◌, arith, inl, inr}
-use Rattle.std.specs.Ordering.{int_eq}
+use Rattle.std.proofs.Common.{◌≡◌, ◌≢◌, ℕ, zero, suc, ◌+◌, ◌*◌, ◌/◌, ◌^◌, eqb, ◌<◌, ◌≤◌, ℤ, pos, negsuc, Bool, true, false, cond, List, [], ◌∷◌, map, length, get_or, All, AllPairs, Contains, refl, sym, ap, ◌∙◌, arith, inl, inr}
 use Rattle.std.specs.List.{IsDistinct, list_any}
 use Rattle.std.proofs.lemmas.Map.Steps.{length-le_from_distinct_below}
 use Rattle.std.proofs.lemmas.Map.Keys.{IsDistinct-from_apart}
-use Rattle.std.proofs.lemmas.Bool.{both_ways, or_cases, or_left, or_right, cases_order, eqb-true, ne_eqb}
-use Rattle.std.proofs.lemmas.Bool.Decides.{Decides-int_eq}
+use Rattle.std.proofs.lemmas.Bool.{both_ways, or_cases, cases_order, eqb-true, ne_eqb}
 use Rattle.std.proofs.lemmas.List.Elements.{All-cons, Contains-get_or}
 use Rattle.std.proofs.lemmas.List.Kept.{AllPairs-cons}
 use Rattle.std.proofs.lemmas.List.{get_or-map, get_or_default, length-map}
@@ -13,8 +11,8 @@ use Rattle.std.proofs.lemmas.Nat.{mul-add-lt, div-mul-add}
 use Rattle.std.proofs.lemmas.Bool.{false_from_ne_true}
 use Rattle.std.proofs.Math.Nat.{pow-suc}
 use borrow.Author.Count.{below_more}
-use Rattle.sat_clause.specs.declared.literal.Lit.{Lit}
-use Rattle.sat_clause.specs.Literal.{Clause, lit, variable, is_among, IsWithin}
+use Rattle.sat_clause.specs.Literal.{Clause, is_positive, lit, variable, is_among, IsWithin}
+use Rattle.sat_clause.proofs.LiteralLaws.{among_contains, contains_among}
 use Rattle.sat_clause.specs.Learned.{IsSimple, SameLiterals, AreDifferent}
 
 -- 1 for the variable itself, 2 for its negation and 0 where the clause has neither
@@ -51,33 +49,6 @@ same_digits c d (suc n) is i below =
     let parts = same_digit (digit c n) (digit d n) (3 ^ n) (number c n) (number d n) (number-small c n) (number-small d n) is in
     below_more (λ k. digit c k ≡ digit d k) n (same_digits c d n parts.1) parts.0 i (omega arith)
 
--- what a list has by the test, and by the word
-among_contains : (c : Clause) (l : Lit) → is_among c l ≡ true → Contains c l
-among_contains [] l h = absurd (both_ways _ refl h)
-among_contains (m ∷ c) l h =
-    elim (or_cases (int_eq m.code l.code) (is_among c l) h) [
-      | inl same ↦ (0, omega arith, ap lit ((Decides-int_eq m.code l.code).0 same))
-      | inr later ↦ let rest = among_contains c l later in (suc rest.0, omega arith, rest.2)
-    ]
-
-contains_at : (c : Clause) (l : Lit) (k : ℕ) → k < length c → slice_index_or c k l ≡ l →
-    is_among c l ≡ true
-contains_at [] l k within is = absurd (omega arith)
-contains_at (m ∷ c) l zero within is =
-    or_left _ _ ((Decides-int_eq m.code l.code).1 (ap (λ (x : Lit). x.code) is))
-contains_at (m ∷ c) l (suc k) within is = or_right _ _ (contains_at c l k (omega arith) is)
-
-contains_among : (c : Clause) (l : Lit) → Contains c l → is_among c l ≡ true
-contains_among c l has = contains_at c l has.0 has.1 has.2
-
-is_plain : ℤ → Bool
-is_plain (pos n) = true
-is_plain (negsuc n) = false
-
-plain_is_not_negated : (i : ℕ) → lit (pos (suc i)) ≡ lit (negsuc i) → ⊥
-unfolding is_plain
-plain_is_not_negated i e = both_ways _ (ap (λ (x : Lit). is_plain x.code) e) refl
-
 -- no clause with each variable once has a variable and its negation
 not_twice : (n : ℕ) (c : Clause) → IsSimple n c → (i : ℕ) → Contains c (lit (pos (suc i))) →
     Contains c (lit (negsuc i)) → ⊥
@@ -87,7 +58,7 @@ not_twice n c simple i (j, j_in, j_is) (k, k_in, k_is) =
     let j_var : variable (get_or c j no) ≡ suc i = ap variable (get_or_default c j no yes j_in ∙ j_is) in
     let k_var : variable (get_or c k yes) ≡ suc i = ap variable (get_or_default c k yes no k_in ∙ k_is) in
     elim (cases_order j k) [
-      | inl same ↦ plain_is_not_negated i (sym j_is ∙ get_or_default c j yes no j_in ∙ ap (λ x. get_or c x no) same ∙ k_is)
+      | inl same ↦ both_ways _ (ap is_positive (sym j_is ∙ get_or_default c j yes no j_in ∙ ap (λ x. get_or c x no) same ∙ k_is)) refl
       | inr apart ↦ elim apart [
         | inl below ↦ simple.once j k yes below k_in (ap variable j_is ∙ sym k_var)
         | inr above ↦ simple.once k j no above j_in (ap variable k_is ∙ sym j_var)

@@ -12,8 +12,8 @@ use Rattle.sat_clause.specs.Literal.{Clause, negation, is_among}
 use Rattle.sat_clause.specs.Formula.{Cnf, makes_true, makes_number_true, IsTrueClause, IsUnsat}
 use Rattle.sat_clause.specs.Live.{Live, clause_at, named, without, numbered}
 use Rattle.sat_clause.specs.declared.reading.Reading.{Reading}
-use Rattle.sat_clause.specs.declared.reading.Reading.TheVariants.{Missing, Conflict, Unit, Satisfied, Unresolved}
-use Rattle.sat_clause.specs.Rup.{rup, open_literals, reading_of, reading_by, lead_on}
+use Rattle.sat_clause.specs.declared.reading.Reading.TheVariants.{Conflict, Unit, Satisfied, Unresolved}
+use Rattle.sat_clause.specs.Rup.{follow, lead_on, open_literals, reading_by, reading_of, rup}
 use Rattle.sat_clause.specs.Step.{Step, Added, Erased}
 use Rattle.sat_clause.specs.Judge.{judge_from, fault, after, erase, take_out, is_empty_clause, inputs, judge_step, Accepts, Accepted, Refused}
 use Rattle.sat_clause.proofs.LiveLaws.{clause_at-without}
@@ -96,7 +96,6 @@ open_true values set clause none = let beside = rw none at (open_beside values s
 
 -- what the reading of a true clause can be: no conflict, and a unit only of a true literal
 abbrev IsReadingOfTrue : List Bool → Reading → Type 0
-IsReadingOfTrue values Missing = ⊤
 IsReadingOfTrue values Conflict = ⊥
 IsReadingOfTrue values (Unit l) = makes_true values l ≡ true
 IsReadingOfTrue values Satisfied = ⊤
@@ -113,28 +112,27 @@ reading_by_true values set (l ∷ []) h =
 reading_by_true values set (l ∷ m ∷ ls) h = tt
 
 -- a clause that is named is live, so it is true
-reading_true : (values : List Bool) (live : Live) (set : List Lit) (h : ℤ) → AllTrue values live →
-    any_true values set ≡ false → IsReadingOfTrue values (reading_of set (named live h))
-reading_true values live set (pos zero) all none = tt
-reading_true values live set (pos (suc n)) all none =
-    elim (clause_at live (suc n)) as (λ o. clause_at live (suc n) ≡ o → IsReadingOfTrue values (reading_of set o)) [
-      | None ↦ λ _. tt
-      | Some clause ↦ λ is. reading_by_true values set (open_literals set clause) (open_true values set clause none ∙ all (suc n) clause is)
-    ] refl
-reading_true values live set (negsuc n) all none = tt
+named_true : (values : List Bool) (live : Live) (h : ℤ) → AllTrue values live → (clause : Clause) →
+    named live h ≡ Some clause → any_true values clause ≡ true
+named_true values live (pos zero) all clause is = absurd (some_is_not_none (sym is))
+named_true values live (pos (suc n)) all clause is = all (suc n) clause is
+named_true values live (negsuc n) all clause is = absurd (some_is_not_none (sym is))
 
 -- good hints do not lead on from false literals where each live clause is true
 rup_sound : (values : List Bool) (live : Live) → AllTrue values live →
     (set : List Lit) (hints : List ℤ) → any_true values set ≡ false → rup live set hints ≡ None → ⊥
 rup_sound values live all set [] none good = some_is_not_none good
 rup_sound values live all set (h ∷ hints) none good =
-    elim (reading_of set (named live h)) as (λ r. IsReadingOfTrue values r → lead_on r hints (λ l. rup live (negation l ∷ set) hints) ≡ None → ⊥) [
-      | Missing ↦ λ _ e. some_is_not_none e
-      | Conflict ↦ λ no _. no
-      | Unit l ↦ λ is e. rup_sound values live all (negation l ∷ set) hints (rw (not_both values l.code is) none) e
-      | Satisfied ↦ λ _ e. some_is_not_none e
-      | Unresolved ↦ λ _ e. some_is_not_none e
-    ] (reading_true values live set h all none) good
+    elim (named live h) as (λ o. ((c : Clause) → o ≡ Some c → any_true values c ≡ true) → follow set o hints (λ l. rup live (negation l ∷ set) hints) ≡ None → ⊥) [
+      | None ↦ λ _ e. some_is_not_none e
+      | Some clause ↦ λ true_if.
+          elim (reading_of set clause) as (λ r. IsReadingOfTrue values r → lead_on r hints (λ l. rup live (negation l ∷ set) hints) ≡ None → ⊥) [
+            | Conflict ↦ λ no _. no
+            | Unit l ↦ λ is e. rup_sound values live all (negation l ∷ set) hints (rw (not_both values l.code is) none) e
+            | Satisfied ↦ λ _ e. some_is_not_none e
+            | Unresolved ↦ λ _ e. some_is_not_none e
+          ] (reading_by_true values set (open_literals set clause) (open_true values set clause none ∙ true_if clause refl))
+    ] (named_true values live h all) good
 
 -- what is live after a deletion was live before it
 take_out_true : (values : List Bool) (live : Live) (id : ℤ) → AllTrue values live →

@@ -5,7 +5,7 @@ use Rattle.sat_clause.specs.Literal.{Clause, IsWithin, negation, variable}
 use Rattle.sat_clause.specs.Formula.{Cnf}
 use Rattle.sat_clause.specs.Live.{Live, clause_at, named}
 use Rattle.sat_clause.specs.declared.reading.Reading.TheVariants.{Unit}
-use Rattle.sat_clause.specs.Rup.{reading_of}
+use Rattle.sat_clause.specs.Rup.{Reads}
 use Rattle.sat_clause.specs.Step.{Step, Added, Erased}
 use Rattle.sat_clause.specs.Judge.{inputs, after, erase_fault}
 
@@ -65,7 +65,7 @@ HintHas live l h = (clause : Clause) × (named live h ≡ Some clause) × Contai
 abbrev pub EachIsUsed : Live → List Lit → List ℤ → Type 0
 EachIsUsed live set [] = ⊤
 EachIsUsed live set (h ∷ []) = ⊤
-EachIsUsed live set (h ∷ next ∷ hints) = (l : Lit) × (reading_of set (named live h) ≡ Unit l)
+EachIsUsed live set (h ∷ next ∷ hints) = (l : Lit) × Reads set (named live h) (Unit l)
     × Any (HintHas live (negation l)) (next ∷ hints)
     × EachIsUsed live (negation l ∷ set) (next ∷ hints)
 

@@ -1,5 +1,5 @@
 -- Literals and clauses as in DIMACS: a positive number is a variable, a negative one its negation.
-use Rattle.std.specs.Prelude.{ℕ, ◌≤◌, ℤ, neg_ℤ, nat_abs, Bool, List}
+use Rattle.std.specs.Prelude.{ℕ, zero, suc, ◌≤◌, ℤ, pos, negsuc, neg_ℤ, nat_abs, Bool, false, true, List}
 use Rattle.std.specs.Ordering.{int_eq}
 use Rattle.std.specs.List.{list_any}
 use Rattle.sat_clause.specs.declared.literal.Lit.{Lit}
@@ -19,6 +19,20 @@ negation l = lit (neg_ℤ l.code)
 -- the number of a literal's variable
 abbrev pub variable : Lit → ℕ
 variable l = nat_abs l.code
+
+-- the literal of a variable that is not negated
+abbrev pub positive : ℕ → Lit
+positive n = lit (pos n)
+
+-- the number is above zero
+abbrev pub is_above_zero : ℤ → Bool
+is_above_zero (pos zero) = false
+is_above_zero (pos (suc n)) = true
+is_above_zero (negsuc n) = false
+
+-- the literal is a variable and not a negation
+abbrev pub is_positive : Lit → Bool
+is_positive l = is_above_zero l.code
 
 -- the literal is one of the variables 1 to n or of their negations
 abbrev pub IsWithin : ℕ → Lit → Type 0

@@ -17,5 +17,5 @@ pub use formula::Formula;
 pub use laws::{accepted_is_unsat, different_clauses_are_few, new_clauses_are_few};
 pub use literal::Lit;
 pub use log::{Log, StepView};
-pub use reading::Reading;
+pub use reading::{FalseLiterals, Reading, read_clause};
 pub use truth::holds;

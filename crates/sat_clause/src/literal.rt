@@ -1,7 +1,7 @@
 //! Literals as DIMACS writes them.
 
-ghost use Rattle.std.specs.Prelude.{◌≡◌, length};
-ghost use Rattle.sat_clause.specs.Literal.{IsLiteral, IsWithin, negation as negation_of, variable as variable_of};
+ghost use Rattle.std.specs.Prelude.{◌≡◌, ◌≤◌, length};
+ghost use Rattle.sat_clause.specs.Literal.{IsLiteral, IsWithin, is_positive as is_positive_of, negation as negation_of, positive as positive_of, variable as variable_of};
 ghost use Rattle.sat_clause.specs.Formula.{makes_true};
 
 /// A literal: a variable, or its negation.
@@ -14,6 +14,23 @@ pub struct Lit {
 }
 
 impl Lit {
+    /// The literal of a variable that is not negated.
+    pub fn positive(variable: u32) -> Lit
+        requires { variable ≤ 2147483647 }
+        ensures { result ≡ positive_of variable }
+    {
+        Lit {
+            code: variable as i32,
+        }
+    }
+
+    /// Whether it is a variable and not a negation.
+    pub fn is_positive(self) -> bool
+        ensures { result ≡ is_positive_of self }
+    {
+        self.code > 0
+    }
+
     /// The number of its variable: its own number without a sign.
     pub fn variable(self) -> u32
         ensures { result ≡ variable_of self }
@@ -37,6 +54,6 @@ impl Lit {
         requires { IsWithin (length values.now) self }
         ensures { result ≡ makes_true values.now self }
     {
-        values[self.variable() as usize - 1] == (self.code > 0)
+        values[self.variable() as usize - 1] == self.is_positive()
     }
 }

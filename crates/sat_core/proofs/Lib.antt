@@ -1,6 +1,3 @@
-pub mod LiteralLemmas
-pub mod ReadingLemmas
-pub mod TrailLemmas
 pub mod LessonLemmas
 pub mod LogLemmas
 pub mod ValueLemmas
@@ -8,3 +5,4 @@ pub mod StoreLemmas
 pub mod LearnLemmas
 pub mod ModelLemmas
 pub mod UnderwayLemmas
+pub mod EarlierLaw

@@ -1,5 +1,5 @@
 -- One more step of a log.
-use Rattle.std.proofs.Common.{inl, inr, ◌⊎◌, ◌≡◌, ◌≢◌, ◌==◌, ◌<◌, ◌+◌, ℕ, zero, suc, ℤ, Bool, true, false, cond, List, [], ◌∷◌, ◌++◌, length, take, fold, Option, None, Some, slice_get, All, refl, sym, ap, ◌∙◌, arith}
+use Rattle.std.proofs.Common.{inl, inr, ◌⊎◌, ◌≡◌, ◌≢◌, ◌==◌, ◌<◌, ◌+◌, ℕ, zero, suc, ℤ, true, false, cond, List, [], ◌∷◌, ◌++◌, length, take, fold, None, Some, slice_get, All, refl, sym, ap, ◌∙◌, subst, arith}
 use Rattle.std.proofs.lemmas.Bool.{both_ways, eqb-true, eq-eqb, ne_eqb}
 use Rattle.std.proofs.lemmas.List.{take-append-le, take_at}
 use Rattle.std.proofs.lemmas.List.Elements.{All-nil, All-cons}
@@ -8,13 +8,14 @@ use Rattle.std.proofs.lemmas.Option.{slice_get_within}
 use Rattle.sat_clause.specs.declared.cause.Cause.{Cause}
 use Rattle.sat_clause.specs.declared.cause.Cause.TheVariants.{NoEmptyClause}
 use Rattle.sat_clause.specs.Formula.{Cnf}
-use Rattle.sat_clause.specs.Literal.{Clause}
 use Rattle.sat_clause.specs.Live.{Live, clause_at, numbered, put}
 use Rattle.sat_clause.specs.Step.{Step, Added, Erased}
-use Rattle.sat_clause.specs.Judge.{Judgement, Accepted, Refused, IsGoodSoFar, after, fault, inputs, is_empty_clause, judge, judge_from, judge_step}
+use Rattle.sat_clause.specs.Judge.{Accepted, Refused, after, inputs, is_empty_clause, judge_from, judge_step}
 use Rattle.sat_clause.specs.Learned.{AddsFrom, EachAdded, Sparse, deletions}
-use Rattle.sat_core.specs.SearchLog.{AreNumbered, HintsAreEarlier, IsEarlier, added_count}
-use Rattle.sat_core.specs.Underway.{AreLive, live_after}
+use Rattle.sat_core.specs.SearchLog.{AreNumbered, EndsAtEmpty, added_count}
+use Rattle.sat_core.specs.Underway.{AreGood, live_after}
+use Rattle.sat_core.specs.SearchStore.{AreLive}
+use Rattle.sat_clause.specs.Literal.{Clause}
 
 -- the last of a list with one more
 pub slice_get_last : {X : Type 0} (xs : List X) (x : X) (i : ℕ) → i ≡ length xs → slice_get (xs ++ x ∷ []) i ≡ Some x
@@ -42,31 +43,31 @@ slice_get_cases (z ∷ xs) x y (suc i) is =
       | inr earlier ↦ inr earlier
     ]
 
--- a step that is not the end of a log whose steps are all good
-step_on : (n k : ℕ) (f : Option Cause) (b : Bool) (rest : Judgement) → n < k →
-    judge_step n f b rest ≡ Refused k NoEmptyClause →
-    (f ≡ None) × (b ≡ false) × (rest ≡ Refused k NoEmptyClause)
-step_on n k (Some cause) b rest below e = let same : n ≡ k = cc in absurd (omega arith)
-step_on n k None true rest below e = cc
-step_on n k None false rest below e = (refl, refl, e)
+-- steps without a refused one, and more of them
+pub good_behind : (live : Live) (log more : List Step) → AreGood live log → AreGood (fold after live log) more →
+    AreGood live (log ++ more)
+good_behind live [] more good rest = rest
+good_behind live (step ∷ log) more good rest = (good.0, good_behind (after live step) log more good.1 rest)
 
--- behind steps that are all good and add no empty clause, one more good step decides
-pub judge_from-push : (n k : ℕ) (live : Live) (log : List Step) (step : Step) → k ≡ n + length log →
-    judge_from n live log ≡ Refused k NoEmptyClause → fault (fold after live log) step ≡ None →
-    judge_from n live (log ++ step ∷ []) ≡ judge_step k None (is_empty_clause step) (Refused (suc k) NoEmptyClause)
-judge_from-push n k live [] step at undecided good =
-    let same : k ≡ n = omega arith in rw (good, same) refl
-judge_from-push n k live (s ∷ log) step at undecided good =
-    let parts = step_on n k (fault live s) (is_empty_clause s) (judge_from (suc n) (after live s) log) (omega arith) undecided in
-    rw (parts.0, parts.1) (judge_from-push (suc n) k (after live s) log step (omega arith) parts.2 good)
+-- if the judge refuses them, it is for want of an empty clause
+pub good_so_far : (n : ℕ) (live : Live) (log : List Step) → AreGood live log → (m : ℕ) (cause : Cause) →
+    judge_from n live log ≡ Refused m cause → cause ≡ NoEmptyClause
+good_so_far n live [] good m cause e = cc
+good_so_far n live (step ∷ log) good m cause e =
+    elim (is_empty_clause step) as (λ b. judge_step n None b (judge_from (suc n) (after live step) log) ≡ Refused m cause → cause ≡ NoEmptyClause) [
+      | true ↦ λ is. cc
+      | false ↦ λ is. good_so_far (suc n) (after live step) log good.1 m cause is
+    ] (ap (λ f. judge_step n f (is_empty_clause step) (judge_from (suc n) (after live step) log)) (sym good.0) ∙ e)
 
-pub good_undecided : (formula : Cnf) (log : List Step) (k : ℕ) → judge formula log ≡ Refused k NoEmptyClause → IsGoodSoFar formula log
-good_undecided formula log k is n cause e =
-    let both : Refused n cause ≡ Refused k NoEmptyClause = sym e ∙ is in cc
-
-pub good_accepted : (formula : Cnf) (log : List Step) → judge formula log ≡ Accepted → IsGoodSoFar formula log
-good_accepted formula log is n cause e =
-    let both : Refused n cause ≡ Accepted = sym e ∙ is in cc
+-- with an empty clause it accepts them
+pub good_accepted : (n : ℕ) (live : Live) (log : List Step) (id : ℕ) (hints : List ℤ) →
+    AreGood live (log ++ Added id [] hints ∷ []) → judge_from n live (log ++ Added id [] hints ∷ []) ≡ Accepted
+good_accepted n live [] id hints good = rw good.0 refl
+good_accepted n live (step ∷ log) id hints good =
+    rw good.0 (elim (is_empty_clause step) as (λ b. judge_step n None b (judge_from (suc n) (after live step) (log ++ Added id [] hints ∷ [])) ≡ Accepted) [
+      | true ↦ refl
+      | false ↦ good_accepted (suc n) (after live step) log id hints good.1
+    ])
 
 -- the input clauses are live at the start
 numbered_at : (n id i : ℕ) (clauses : List Clause) → id ≡ n + i → clause_at (numbered n clauses) id ≡ slice_get clauses i
@@ -123,17 +124,6 @@ EachAdded-push P formula log id clause hints each more k i c h is =
           rw front (each k i c h earlier)
     ]
 
-pub earlier-push : (log : List Step) (id : ℕ) (clause : Clause) (hints : List ℤ) → HintsAreEarlier log →
-    All (IsEarlier id) hints → HintsAreEarlier (log ++ Added id clause hints ∷ [])
-earlier-push log id clause hints each more k i c h is =
-    elim (slice_get_cases log (Added id clause hints) (Added i c h) k is) [
-      | inl last ↦
-          let same : id ≡ i = cc in
-          let hints_same : hints ≡ h = cc in
-          rw (sym same, sym hints_same) more
-      | inr earlier ↦ each k i c h earlier
-    ]
-
 pub AddsFrom-push : (id new : ℕ) (log : List Step) (clause : Clause) (hints : List ℤ) → AddsFrom id log →
     clause ≢ [] → new ≡ id + length log → AddsFrom id (log ++ Added new clause hints ∷ [])
 AddsFrom-push id new [] clause hints adds some is = (omega arith, some, tt)
@@ -141,39 +131,33 @@ AddsFrom-push id new (Added n c h ∷ log) clause hints adds some is =
     (adds.0, adds.1, AddsFrom-push (suc id) new log clause hints adds.2 some (omega arith))
 AddsFrom-push id new (Erased n ids ∷ log) clause hints adds some is = absurd adds
 
-pub numbered_from_adds : (id : ℕ) (log : List Step) → AddsFrom id log → AreNumbered id log
-numbered_from_adds id [] adds = tt
-numbered_from_adds id (Added n c h ∷ log) adds = (adds.0, numbered_from_adds (suc id) log adds.2)
-numbered_from_adds id (Erased n ids ∷ log) adds = absurd adds
+-- what holds behind steps that add clauses alone
+module _ (more : List Step) where
+  pub numbered_behind : (id next : ℕ) (log : List Step) → AddsFrom id log → next ≡ id + length log →
+      AreNumbered next more → AreNumbered id (log ++ more)
+  numbered_behind id next [] adds is numbered =
+      subst (λ n. AreNumbered n more) (let same : next ≡ id = omega (arith, is) in same) numbered
+  numbered_behind id next (Added n c h ∷ log) adds is numbered =
+      (adds.0, numbered_behind (suc id) next log adds.2 (omega (arith, is)) numbered)
+  numbered_behind id next (Erased n ids ∷ log) adds is numbered = absurd adds
 
-pub numbered_push : (id new : ℕ) (log : List Step) (clause : Clause) (hints : List ℤ) → AddsFrom id log →
-    new ≡ id + length log → AreNumbered id (log ++ Added new clause hints ∷ [])
-numbered_push id new [] clause hints adds is = (omega arith, tt)
-numbered_push id new (Added n c h ∷ log) clause hints adds is =
-    (adds.0, numbered_push (suc id) new log clause hints adds.2 (omega arith))
-numbered_push id new (Erased n ids ∷ log) clause hints adds is = absurd adds
+  pub ends_behind : (id : ℕ) (log : List Step) → AddsFrom id log → EndsAtEmpty more → EndsAtEmpty (log ++ more)
+  ends_behind id [] adds ends = ends
+  ends_behind id (Added n [] h ∷ log) adds ends = absurd (adds.1 refl)
+  ends_behind id (Added n (l ∷ ls) h ∷ log) adds ends =
+      (λ is. absurd (both_ways false refl is), ends_behind (suc id) log adds.2 ends)
+  ends_behind id (Erased n ids ∷ log) adds ends = absurd adds
 
-pub count_from_adds : (id : ℕ) (log : List Step) → AddsFrom id log → added_count log ≡ length log
-count_from_adds id [] adds = refl
-count_from_adds id (Added n c h ∷ log) adds = ap suc (count_from_adds (suc id) log adds.2)
-count_from_adds id (Erased n ids ∷ log) adds = absurd adds
+  pub count_behind : (id : ℕ) (log : List Step) → AddsFrom id log →
+      added_count (log ++ more) ≡ length log + added_count more
+  count_behind id [] adds = omega arith
+  count_behind id (Added n c h ∷ log) adds = let rest = count_behind (suc id) log adds.2 in omega (arith, rest)
+  count_behind id (Erased n ids ∷ log) adds = absurd adds
 
-pub count_push : (log : List Step) (id : ℕ) (clause : Clause) (hints : List ℤ) →
-    added_count (log ++ Added id clause hints ∷ []) ≡ suc (added_count log)
-count_push [] id clause hints = refl
-count_push (Added n c h ∷ log) id clause hints = ap suc (count_push log id clause hints)
-count_push (Erased n ids ∷ log) id clause hints = count_push log id clause hints
-
-pub deletions_from_adds : (id : ℕ) (log : List Step) → AddsFrom id log → deletions log ≡ 0
-deletions_from_adds id [] adds = refl
-deletions_from_adds id (Added n c h ∷ log) adds = deletions_from_adds (suc id) log adds.2
-deletions_from_adds id (Erased n ids ∷ log) adds = absurd adds
-
-pub deletions_push : (log : List Step) (id : ℕ) (clause : Clause) (hints : List ℤ) →
-    deletions (log ++ Added id clause hints ∷ []) ≡ deletions log
-deletions_push [] id clause hints = refl
-deletions_push (Added n c h ∷ log) id clause hints = deletions_push log id clause hints
-deletions_push (Erased n ids ∷ log) id clause hints = ap suc (deletions_push log id clause hints)
+  pub deletions_behind : (id : ℕ) (log : List Step) → AddsFrom id log → deletions (log ++ more) ≡ deletions more
+  deletions_behind id [] adds = refl
+  deletions_behind id (Added n c h ∷ log) adds = deletions_behind (suc id) log adds.2
+  deletions_behind id (Erased n ids ∷ log) adds = absurd adds
 
 -- where nothing is deleted
 not_erased : (log : List Step) (k id : ℕ) (ids : List ℤ) → deletions log ≡ 0 →

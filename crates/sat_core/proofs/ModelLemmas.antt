@@ -1,14 +1,13 @@
 -- Where the clauses are settled and each literal is false or true, the values satisfy them.
-use Rattle.std.proofs.Common.{inl, inr, ◌≡◌, ◌⊎◌, ℕ, suc, Bool, true, false, List, [], ◌∷◌, ◌++◌, length, get_or, Any, Some, All, refl, subst, arith}
+use Rattle.std.proofs.Common.{inl, inr, ◌≡◌, ◌⊎◌, ℕ, suc, Bool, true, false, List, [], ◌∷◌, length, get_or, Any, All, refl, arith}
 use Rattle.std.specs.Prelude.{IfOk, IsTrue, Result, Ok, Err}
-use Rattle.std.proofs.lemmas.List.{get_or_append_left, length-append}
 use Rattle.std.proofs.lemmas.List.Elements.{All-head, All-tail, All-cons, All-nil}
 use Rattle.sat_clause.specs.declared.literal.Lit.{Lit}
-use Rattle.sat_clause.specs.Literal.{Clause, IsWithin, is_among}
 use Rattle.sat_clause.specs.Formula.{Cnf, IsTrueClause, Satisfies, makes_true}
 use Rattle.sat_clause.specs.Rup.{reading_of}
-use Rattle.sat_core.specs.Settled.{IsQuiet, IsSettled}
-use Rattle.sat_core.proofs.ReadingLemmas.{nil_from_all}
+use Rattle.sat_clause.specs.Literal.{Clause, IsWithin, is_among}
+use Rattle.sat_clause.specs.Settled.{IsQuiet, IsSettled}
+use Rattle.sat_clause.proofs.ReadingLaws.{none_open}
 
 any-cons : {X : Type 0} (P : X → Type 0) (x : X) (xs : List X) → Any P xs → Any P (x ∷ xs)
 any-cons P x xs (k, y, within, at, is) = (suc k, y, omega arith, at, is)
@@ -29,24 +28,20 @@ false_or_true vars values set (l ∷ ls) truth within =
 
 quiet_is_true : (vars : ℕ) (values : List Bool) (set : List Lit) (c : Clause) →
     ((l : Lit) → IsWithin vars l → is_among set l ≡ false → IsTrue (makes_true values l)) → All (IsWithin vars) c →
-    IsQuiet (reading_of set (Some c)) → IsTrueClause values c
+    IsQuiet (reading_of set c) → IsTrueClause values c
 quiet_is_true vars values set c truth within quiet =
     elim (false_or_true vars values set c truth within) [
-      | inl all ↦ absurd (quiet.no_conflict (rw (nil_from_all set c all) refl))
+      | inl all ↦ absurd (quiet.no_conflict (rw (none_open set c all) refl))
       | inr some ↦ some
     ]
 
-pub satisfied : (formula : Cnf) (learned : List Clause) (set : List Lit) (values : List Bool) →
-    IsSettled (formula.clauses ++ learned) set → All (All (IsWithin formula.vars)) formula.clauses →
-    length values ≡ formula.vars →
-    ((l : Lit) → IsWithin formula.vars l → is_among set l ≡ false → IsTrue (makes_true values l)) →
-    Satisfies values formula
-satisfied formula learned set values settled within many truth = record {
+pub satisfied : (known : Cnf) (set : List Lit) (values : List Bool) → IsSettled known.clauses set →
+    All (All (IsWithin known.vars)) known.clauses → length values ≡ known.vars →
+    ((l : Lit) → IsWithin known.vars l → is_among set l ≡ false → IsTrue (makes_true values l)) →
+    Satisfies values known
+satisfied known set values settled within many truth = record {
   one_each = many;
-  each_clause = λ k d inside.
-      let same : get_or (formula.clauses ++ learned) k d ≡ get_or formula.clauses k d = get_or_append_left formula.clauses learned d k inside in
-      quiet_is_true formula.vars values set (get_or formula.clauses k d) truth (within k d inside)
-      (subst (λ (c : Clause). IsQuiet (reading_of set (Some c))) same (settled k d (omega (arith, inside, length-append formula.clauses learned))));
+  each_clause = λ k d inside. quiet_is_true known.vars values set (get_or known.clauses k d) truth (within k d inside) (settled k d inside);
 }
 
 -- two facts of a value that may be there give a third

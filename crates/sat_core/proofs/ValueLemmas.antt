@@ -1,25 +1,16 @@
 -- The values of the variables beside a trail.
-use Rattle.std.proofs.Common.{inl, inr, ◌≡◌, ◌≢◌, ◌==◌, ◌<◌, ◌≤◌, ◌+◌, ◌-◌, ℕ, zero, suc, ℤ, pos, negsuc, nat_abs, neg_ℤ, Bool, true, false, not, List, [], ◌∷◌, length, slice_index_or, set, replicate, reverse, Option, None, Some, All, refl, sym, ap, ◌∙◌, subst, arith}
+use Rattle.std.proofs.Common.{inl, inr, ◌≡◌, ◌≢◌, ◌==◌, ◌<◌, ◌≤◌, ◌+◌, ◌-◌, ℕ, zero, suc, ℤ, pos, negsuc, nat_abs, Bool, true, false, not, List, [], ◌∷◌, length, slice_index_or, set, replicate, reverse, Option, None, Some, All, refl, sym, ap, ◌∙◌, subst, arith}
 use Rattle.std.specs.Prelude.{IsTrue, is_some, unwrap_or}
 use Rattle.sat_clause.specs.Formula.{makes_number_true, makes_true}
 use Rattle.std.proofs.lemmas.Bool.{both_ways, eqb-true, eq-eqb}
 use Rattle.std.proofs.lemmas.List.{get_or-replicate, get_or-set_same, get_or-set_other, reverse-append}
 use Rattle.std.proofs.lemmas.List.Elements.{All-head, All-tail, All-push}
 use Rattle.sat_clause.specs.declared.literal.Lit.{Lit}
-use Rattle.sat_clause.specs.Literal.{IsWithin, is_among, lit, negation, variable}
-use Rattle.sat_clause.proofs.LiteralLaws.{variable_negation}
-use Rattle.sat_core.specs.declared.entry.Entry.{Entry}
-use Rattle.sat_core.specs.Trail.{IsClosed, IsOpen, falses, is_above_zero, is_falsified, is_positive, open_count}
-use Rattle.sat_core.proofs.LiteralLemmas.{among_here, among_more, never, not_among, same_variable}
-use Rattle.sat_core.proofs.TrailLemmas.{is_open, open_not_false, open_not_true}
-
--- the sign of a negation is the other one
-positive_negation : (l : Lit) → 1 ≤ variable l → is_positive (negation l) ≡ not (is_positive l)
-positive_negation l some = of_number l.code some where
-  of_number : (z : ℤ) → 1 ≤ nat_abs z → is_above_zero (neg_ℤ z) ≡ not (is_above_zero z)
-  of_number (pos zero) some = absurd (omega arith)
-  of_number (pos (suc n)) some = refl
-  of_number (negsuc n) some = refl
+use Rattle.sat_clause.specs.Literal.{IsWithin, is_above_zero, is_among, is_positive, lit, negation, variable}
+use Rattle.sat_clause.specs.Trail.{IsClosed, IsOpen, falses}
+use Rattle.sat_clause.proofs.LiteralLaws.{negation_differs, among_here, same_variable, variable_negation, positive_negation, among_other}
+use Rattle.sat_clause.proofs.TrailLaws.{is_open, open_not_false, open_not_true}
+use Rattle.sat_core.specs.Trail.{is_falsified, open_count, AreValued}
 
 -- a literal with its own sign as the value is not false
 falsified_self : (l : Lit) → is_falsified (Some (is_positive l)) l ≡ false
@@ -45,77 +36,56 @@ value_none l (Some true) some not_false not_true =
     let one : not (is_positive (negation l)) ≡ false = not_true in
     let two : not (not (is_positive l)) ≡ false = subst (λ b. not b ≡ false) (positive_negation l some) one in
     let both : not (not (not (is_positive l))) ≡ not false = ap not two in
-    absurd (never (not (is_positive l)) (not_not_not (is_positive l) both) not_false)
+    absurd (both_ways (not (is_positive l)) not_false (not_not_not (is_positive l) both))
   where
     not_not_not : (b : Bool) → not (not (not b)) ≡ not false → not b ≡ true
     not_not_not true e = e
     not_not_not false e = refl
 value_none l (Some false) some not_false not_true =
     let two : not (is_positive l) ≡ false = sym (positive_negation l some) ∙ not_true in
-    absurd (never (not (is_positive l)) (ap not not_false) two)
+    absurd (both_ways (not (is_positive l)) two (ap not not_false))
 
--- the values say which literals the entries make false
-abbrev pub AreValued : ℕ → List Entry → List (Option Bool) → Type 0
-AreValued vars entries values = (l : Lit) → IsWithin vars l →
-    is_falsified (slice_index_or values (variable l - 1) None) l ≡ is_among (falses entries) l
-
-among_other : (s : List Lit) (m l : Lit) → m ≢ l → is_among (m ∷ s) l ≡ is_among s l
-among_other s m l other =
-    elim (is_among s l) as (λ b. is_among s l ≡ b → is_among (m ∷ s) l ≡ b) [
-      | true ↦ λ is. among_more s m l is
-      | false ↦ λ is. not_among s m l other is
-    ] refl
-
-negation_differs : (l : Lit) → 1 ≤ variable l → negation l ≢ l
-negation_differs l some same =
-    let signs : is_positive l ≡ not (is_positive l) = ap is_positive (sym same) ∙ positive_negation l some in
-    own (is_positive l) signs
-  where
-    own : (b : Bool) → b ≡ not b → ⊥
-    own true e = both_ways true e refl
-    own false e = both_ways false refl e
-
-module _ (vars : ℕ) (older : List Entry) (e : Entry) (values : List (Option Bool)) (within : IsWithin vars e.lit) (free : IsOpen older e.lit) (many : length values ≡ vars) where
-  other_variable : (l : Lit) → variable l ≢ variable e.lit → is_among (negation e.lit ∷ falses older) l ≡ is_among (falses older) l
+module _ (vars : ℕ) (older : List Lit) (m : Lit) (values : List (Option Bool)) (within : IsWithin vars m) (free : IsOpen older m) (many : length values ≡ vars) where
+  other_variable : (l : Lit) → variable l ≢ variable m → is_among (negation m ∷ falses older) l ≡ is_among (falses older) l
   other_variable l other =
-      among_other (falses older) (negation e.lit) l (λ same. other (ap variable (sym same) ∙ variable_negation e.lit))
+      among_other (falses older) (negation m) l (λ same. other (ap variable (sym same) ∙ variable_negation m))
 
   pub push_valued : AreValued vars older values →
-      AreValued vars (e ∷ older) (set values (variable e.lit - 1) (Some (is_positive e.lit)))
+      AreValued vars (m ∷ older) (set values (variable m - 1) (Some (is_positive m)))
   push_valued valued l l_within =
-      elim (variable l == variable e.lit) as (λ b. (variable l == variable e.lit) ≡ b → is_falsified (slice_index_or (set values (variable e.lit - 1) (Some (is_positive e.lit))) (variable l - 1) None) l ≡ is_among (negation e.lit ∷ falses older) l) [
+      elim (variable l == variable m) as (λ b. (variable l == variable m) ≡ b → is_falsified (slice_index_or (set values (variable m - 1) (Some (is_positive m))) (variable l - 1) None) l ≡ is_among (negation m ∷ falses older) l) [
         | true ↦ λ is.
-            let same = eqb-true (variable l) (variable e.lit) is in
-            let at : variable l - 1 ≡ variable e.lit - 1 = ap (λ n. n - 1) same in
-            let read : slice_index_or (set values (variable e.lit - 1) (Some (is_positive e.lit))) (variable e.lit - 1) None ≡ Some (is_positive e.lit) =
-            get_or-set_same values (variable e.lit - 1) (Some (is_positive e.lit)) None (omega (arith, within.0, within.1)) in
-            rw (at, read) (elim (same_variable l e.lit same) [
-              | inl eq ↦ subst (λ (x : Lit). is_falsified (Some (is_positive e.lit)) x ≡ is_among (negation e.lit ∷ falses older) x) (sym eq) (falsified_self e.lit ∙ sym (not_among (falses older) (negation e.lit) e.lit (negation_differs e.lit within.0) (open_not_false older e.lit free)))
-              | inr eq ↦ subst (λ (x : Lit). is_falsified (Some (is_positive e.lit)) x ≡ is_among (negation e.lit ∷ falses older) x) (sym eq) (falsified_negation e.lit within.0 ∙ sym (among_here (falses older) (negation e.lit)))
+            let same = eqb-true (variable l) (variable m) is in
+            let at : variable l - 1 ≡ variable m - 1 = ap (λ n. n - 1) same in
+            let read : slice_index_or (set values (variable m - 1) (Some (is_positive m))) (variable m - 1) None ≡ Some (is_positive m) =
+            get_or-set_same values (variable m - 1) (Some (is_positive m)) None (omega (arith, within.0, within.1)) in
+            rw (at, read) (elim (same_variable l m same) [
+              | inl eq ↦ subst (λ (x : Lit). is_falsified (Some (is_positive m)) x ≡ is_among (negation m ∷ falses older) x) (sym eq) (falsified_self m ∙ sym (among_other (falses older) (negation m) m (negation_differs m within.0) ∙ open_not_false older m free))
+              | inr eq ↦ subst (λ (x : Lit). is_falsified (Some (is_positive m)) x ≡ is_among (negation m ∷ falses older) x) (sym eq) (falsified_negation m within.0 ∙ sym (among_here (falses older) (negation m)))
             ])
         | false ↦ λ is.
-            let other : variable l ≢ variable e.lit = λ same. both_ways _ is (eq-eqb (variable l) (variable e.lit) same) in
-            let read : slice_index_or (set values (variable e.lit - 1) (Some (is_positive e.lit))) (variable l - 1) None ≡ slice_index_or values (variable l - 1) None =
-            get_or-set_other values (variable e.lit - 1) (variable l - 1) (Some (is_positive e.lit)) None (λ same. other (omega (arith, within.0, l_within.0))) in
+            let other : variable l ≢ variable m = λ same. both_ways _ is (eq-eqb (variable l) (variable m) same) in
+            let read : slice_index_or (set values (variable m - 1) (Some (is_positive m))) (variable l - 1) None ≡ slice_index_or values (variable l - 1) None =
+            get_or-set_other values (variable m - 1) (variable l - 1) (Some (is_positive m)) None (λ same. other (omega (arith, within.0, l_within.0))) in
             rw read (valued l l_within ∙ sym (other_variable l other))
       ] refl
 
-  pub pop_valued : AreValued vars (e ∷ older) values → AreValued vars older (set values (variable e.lit - 1) None)
+  pub pop_valued : AreValued vars (m ∷ older) values → AreValued vars older (set values (variable m - 1) None)
   pop_valued valued l l_within =
-      elim (variable l == variable e.lit) as (λ b. (variable l == variable e.lit) ≡ b → is_falsified (slice_index_or (set values (variable e.lit - 1) None) (variable l - 1) None) l ≡ is_among (falses older) l) [
+      elim (variable l == variable m) as (λ b. (variable l == variable m) ≡ b → is_falsified (slice_index_or (set values (variable m - 1) None) (variable l - 1) None) l ≡ is_among (falses older) l) [
         | true ↦ λ is.
-            let same = eqb-true (variable l) (variable e.lit) is in
-            let at : variable l - 1 ≡ variable e.lit - 1 = ap (λ n. n - 1) same in
-            let read : slice_index_or (set values (variable e.lit - 1) None) (variable e.lit - 1) None ≡ None =
-            get_or-set_same values (variable e.lit - 1) None None (omega (arith, within.0, within.1)) in
-            rw (at, read) (elim (same_variable l e.lit same) [
-              | inl eq ↦ subst (λ (x : Lit). false ≡ is_among (falses older) x) (sym eq) (sym (open_not_false older e.lit free))
-              | inr eq ↦ subst (λ (x : Lit). false ≡ is_among (falses older) x) (sym eq) (sym (open_not_true older e.lit free))
+            let same = eqb-true (variable l) (variable m) is in
+            let at : variable l - 1 ≡ variable m - 1 = ap (λ n. n - 1) same in
+            let read : slice_index_or (set values (variable m - 1) None) (variable m - 1) None ≡ None =
+            get_or-set_same values (variable m - 1) None None (omega (arith, within.0, within.1)) in
+            rw (at, read) (elim (same_variable l m same) [
+              | inl eq ↦ subst (λ (x : Lit). false ≡ is_among (falses older) x) (sym eq) (sym (open_not_false older m free))
+              | inr eq ↦ subst (λ (x : Lit). false ≡ is_among (falses older) x) (sym eq) (sym (open_not_true older m free))
             ])
         | false ↦ λ is.
-            let other : variable l ≢ variable e.lit = λ same. both_ways _ is (eq-eqb (variable l) (variable e.lit) same) in
-            let read : slice_index_or (set values (variable e.lit - 1) None) (variable l - 1) None ≡ slice_index_or values (variable l - 1) None =
-            get_or-set_other values (variable e.lit - 1) (variable l - 1) None None (λ same. other (omega (arith, within.0, l_within.0))) in
+            let other : variable l ≢ variable m = λ same. both_ways _ is (eq-eqb (variable l) (variable m) same) in
+            let read : slice_index_or (set values (variable m - 1) None) (variable l - 1) None ≡ slice_index_or values (variable l - 1) None =
+            get_or-set_other values (variable m - 1) (variable l - 1) None None (λ same. other (omega (arith, within.0, l_within.0))) in
             rw read (valued l l_within ∙ other_variable l other)
       ] refl
 
@@ -154,13 +124,13 @@ All-reverse P (x ∷ xs) all =
     (All-push P (reverse xs) x (All-reverse P xs (All-tail P x xs all)) (All-head P x xs all))
 
 -- a variable without a value is open
-pub none_is_open : (vars : ℕ) (entries : List Entry) (values : List (Option Bool)) (l : Lit) → AreValued vars entries values →
-    IsWithin vars l → slice_index_or values (variable l - 1) None ≡ None → IsOpen entries l
-none_is_open vars entries values l valued within none =
+pub none_is_open : (vars : ℕ) (trail : List Lit) (values : List (Option Bool)) (l : Lit) → AreValued vars trail values →
+    IsWithin vars l → slice_index_or values (variable l - 1) None ≡ None → IsOpen trail l
+none_is_open vars trail values l valued within none =
     let of_negation = valued (negation l) (rw (variable_negation l) within) in
     let at : slice_index_or values (variable (negation l) - 1) None ≡ None =
     ap (λ n. slice_index_or values (n - 1) None) (variable_negation l) ∙ none in
-    is_open entries l
+    is_open trail l
     (sym (valued l within) ∙ ap (λ v. is_falsified v l) none)
     (sym of_negation ∙ ap (λ v. is_falsified v (negation l)) at)
 
@@ -174,9 +144,9 @@ falsified_other l (Some false) some is_some not_false =
     positive_negation l some ∙ ap not not_false
 
 -- where each variable has a value, each literal is false or its negation is
-pub closed_from_values : (vars : ℕ) (entries : List Entry) (values : List (Option Bool)) → AreValued vars entries values →
-    ((k : ℕ) → k < vars → slice_index_or values k None ≢ None) → IsClosed vars entries
-closed_from_values vars entries values valued all l within not_false =
+pub closed_from_values : (vars : ℕ) (trail : List Lit) (values : List (Option Bool)) → AreValued vars trail values →
+    ((k : ℕ) → k < vars → slice_index_or values k None ≢ None) → IsClosed vars trail
+closed_from_values vars trail values valued all l within not_false =
     let value = slice_index_or values (variable l - 1) None in
     let here : is_falsified value l ≡ false = valued l within ∙ not_false in
     let other : is_falsified value (negation l) ≡ true =
@@ -212,11 +182,11 @@ true_by_sign values l some is = of_number l.code some is where
       let at : n ≡ suc n - 1 = omega arith in ap (λ k. not (slice_index_or values k true)) at ∙ ap not (is true)
 
 -- read off the values of the trail, values make true what is not false
-pub values_are_true : (vars : ℕ) (entries : List Entry) (values : List (Option Bool)) (made : List Bool) → AreValued vars entries values →
-    IsClosed vars entries →
+pub values_are_true : (vars : ℕ) (trail : List Lit) (values : List (Option Bool)) (made : List Bool) → AreValued vars trail values →
+    IsClosed vars trail →
     ((k : ℕ) (d : Bool) → k < vars → slice_index_or made k d ≡ unwrap_or (slice_index_or values k None) false) →
-    (l : Lit) → IsWithin vars l → is_among (falses entries) l ≡ false → IsTrue (makes_true made l)
-values_are_true vars entries values made valued closed read l within not_false =
+    (l : Lit) → IsWithin vars l → is_among (falses trail) l ≡ false → IsTrue (makes_true made l)
+values_are_true vars trail values made valued closed read l within not_false =
     let value = slice_index_or values (variable l - 1) None in
     let other : is_falsified (slice_index_or values (variable (negation l) - 1) None) (negation l) ≡ true =
     valued (negation l) (rw (variable_negation l) within) ∙ closed l within not_false in
@@ -233,11 +203,11 @@ none_valued vars l within =
     rw none refl
 
 -- the variable of a place without a value is open
-pub place_is_open : (vars : ℕ) (entries : List Entry) (values : List (Option Bool)) (i : ℕ) → AreValued vars entries values →
-    i < vars → is_some (slice_index_or values i None) ≡ false → IsOpen entries (lit (pos (i + 1)))
-place_is_open vars entries values i valued below none =
+pub place_is_open : (vars : ℕ) (trail : List Lit) (values : List (Option Bool)) (i : ℕ) → AreValued vars trail values →
+    i < vars → is_some (slice_index_or values i None) ≡ false → IsOpen trail (lit (pos (i + 1)))
+place_is_open vars trail values i valued below none =
     let at : i ≡ i + 1 - 1 = omega arith in
-    none_is_open vars entries values (lit (pos (i + 1))) valued (omega arith, omega arith)
+    none_is_open vars trail values (lit (pos (i + 1))) valued (omega arith, omega arith)
     (ap (λ k. slice_index_or values k None) (sym at) ∙ is_none (slice_index_or values i None) none)
   where
     is_none : (value : Option Bool) → is_some value ≡ false → value ≡ None

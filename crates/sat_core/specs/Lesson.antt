@@ -1,8 +1,8 @@
 -- What is learned where a clause is false: that not all decisions hold, by the reasons of the trail.
 use Rattle.std.specs.Prelude.{ℕ, suc, ℤ, pos, List, [], ◌∷◌, ◌++◌, Option, None, Some}
 use Rattle.sat_clause.specs.declared.literal.Lit.{Lit}
-use Rattle.sat_clause.specs.Literal.{Clause, negation}
 use Rattle.sat_core.specs.declared.entry.Entry.{Entry}
+use Rattle.sat_clause.specs.Literal.{Clause, negation}
 
 -- the id of the clause at a position
 abbrev pub id_at : ℕ → ℤ

@@ -1,7 +1,7 @@
 pub mod Answer
+pub mod Causes
 pub mod Lesson
 pub mod SearchLog
 pub mod SearchStore
-pub mod Settled
 pub mod Trail
 pub mod Underway

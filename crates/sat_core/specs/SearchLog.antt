@@ -1,7 +1,7 @@
 -- What a search leaves in its log.
-use Rattle.std.specs.Prelude.{◌≡◌, ℕ, suc, ◌<◌, ◌≤◌, ℤ, pos, ⊤, List, [], ◌∷◌, length, slice_get, All, Some}
+use Rattle.std.specs.Prelude.{◌≡◌, ℕ, suc, ◌<◌, ◌≤◌, ℤ, pos, true, ⊤, List, [], ◌∷◌, length, slice_get, All, Some}
 use Rattle.sat_clause.specs.Formula.{Cnf}
-use Rattle.sat_clause.specs.Judge.{IsGoodSoFar}
+use Rattle.sat_clause.specs.Judge.{IsGoodSoFar, is_empty_clause}
 use Rattle.sat_clause.specs.Learned.{LearnedNew, Sparse}
 use Rattle.sat_clause.specs.Literal.{Clause}
 use Rattle.sat_clause.specs.Step.{Step, Added, Erased}
@@ -12,11 +12,16 @@ added_count [] = 0
 added_count (Added id clause hints ∷ steps) = suc (added_count steps)
 added_count (Erased id ids ∷ steps) = added_count steps
 
--- the added clauses have the ids from this one on
+-- the added clauses have the ids from this one on; a deletion's own number is an id before the next
 abbrev pub AreNumbered : ℕ → List Step → Type 0
 AreNumbered id [] = ⊤
 AreNumbered id (Added new clause hints ∷ steps) = (new ≡ id) × AreNumbered (suc id) steps
-AreNumbered id (Erased other ids ∷ steps) = AreNumbered id steps
+AreNumbered id (Erased own ids ∷ steps) = (1 ≤ own) × (own < id) × AreNumbered id steps
+
+-- no step but the last adds the empty clause
+abbrev pub EndsAtEmpty : List Step → Type 0
+EndsAtEmpty [] = ⊤
+EndsAtEmpty (step ∷ steps) = (is_empty_clause step ≡ true → steps ≡ []) × EndsAtEmpty steps
 
 -- the hint is an id below this one
 pub record IsEarlier (id : ℕ) (hint : ℤ) : Type 0 where
@@ -30,10 +35,11 @@ abbrev pub HintsAreEarlier : List Step → Type 0
 HintsAreEarlier log = (k id : ℕ) (clause : Clause) (hints : List ℤ) →
     slice_get log k ≡ Some (Added id clause hints) → All (IsEarlier id) hints
 
--- no step is refused, the added clauses are numbered behind the inputs and follow from earlier ones,
--- each of them is new, and few steps delete clauses
+-- no step is refused, and an empty clause ends the log; the added clauses are numbered behind the
+-- inputs and follow from earlier ones, each of them is new, and few steps delete clauses
 pub record IsSearchLog (formula : Cnf) (log : List Step) : Type 0 where
   pub good : IsGoodSoFar formula log
+  pub ends : EndsAtEmpty log
   pub numbered : AreNumbered (suc (length formula.clauses)) log
   pub earlier : HintsAreEarlier log
   pub new : LearnedNew formula log

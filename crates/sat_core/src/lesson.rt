@@ -1,7 +1,8 @@
 //! What is learned where a clause is false.
 
-ghost use Rattle.std.specs.Prelude.{◌≡◌, ◌≤◌, ◌∷◌, [], ◌++◌, ℕ, IfOk, length, reverse};
+ghost use Rattle.std.specs.Prelude.{◌≡◌, ◌≤◌, ◌∷◌, [], ◌++◌, ℕ, IfOk, length, reverse, All};
 ghost use Rattle.sat_core.specs.Lesson.{id_at, negated_decisions, reason_ids};
+ghost use Rattle.sat_clause.specs.Literal.{IsWithin};
 ghost use Rattle.sat_core.specs.Trail.{AreWithin};
 
 use crate::entry::Entry;
@@ -31,10 +32,9 @@ impl Lesson {
         conflict: u32,
     ) -> Result<Lesson, AllocError>
         requires { AreWithin 100000000 entries.now }
-        ensures clause { IfOk result (λ lesson.
-            lesson.clause.items ≡ negated_decisions (reverse entries.now)) }
-        ensures hints { IfOk result (λ lesson.
-            lesson.hints.items ≡ reason_ids (reverse entries.now) ++ id_at conflict ∷ []) }
+        ensures { IfOk result (λ lesson.
+            (lesson.clause.items ≡ negated_decisions (reverse entries.now))
+            × (lesson.hints.items ≡ reason_ids (reverse entries.now) ++ id_at conflict ∷ [])) }
     {
         let mut clause = Vec::new(alloc);
         let mut hints = Vec::new(alloc);

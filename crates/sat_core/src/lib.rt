@@ -4,7 +4,6 @@
 mod answer;
 mod entry;
 mod lesson;
-mod reading;
 mod scan;
 mod search;
 mod solving;

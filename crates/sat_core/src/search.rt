@@ -1,23 +1,19 @@
 //! A search: what it knows, and how it goes on.
 
-ghost use Rattle.std.specs.Prelude.{◌≡◌, ◌≢◌, ◌<◌, ◌≤◌, ◌+◌, ◌∷◌, [], ◌++◌, All, IfNone, IfOk, IfSome, IsTrue, OnOk, None, Some, length, slice_get, suc, true, false};
+ghost use Rattle.std.specs.Prelude.{◌≡◌, ◌≢◌, ◌<◌, ◌≤◌, ◌+◌, [], All, IfNone, IfOk, IfSome, IsTrue, OnOk, None, Some, length, slice_get, false};
 ghost use Rattle.sat_clause.specs.Formula.{Satisfies};
-ghost use Rattle.sat_clause.specs.Learned.{IsSimple};
-ghost use Rattle.sat_clause.specs.Literal.{IsLiteral, IsWithin};
-ghost use Rattle.sat_clause.specs.Live.{Live};
-ghost use Rattle.sat_clause.specs.Rup.{reading_of, rup};
+ghost use Rattle.sat_clause.specs.Literal.{IsWithin};
+ghost use Rattle.sat_clause.specs.Rup.{Reads};
+ghost use Rattle.sat_clause.specs.Trail.{IsClosed, falses};
 ghost use Rattle.sat_core.specs.Lesson.{negated_decisions};
-ghost use Rattle.sat_core.specs.SearchLog.{IsEarlier};
-ghost use Rattle.sat_core.specs.SearchStore.{IsFalseAt, IsNewTo, IsSettledState, ScanSays, clauses_of};
-ghost use Rattle.sat_core.specs.Trail.{IsClosed, falses};
-ghost use Rattle.sat_core.specs.Underway.{AreLive};
+ghost use Rattle.sat_core.specs.SearchStore.{IsFalseAt, IsLesson, IsNewTo, IsSettledState, ScanSays, with_clause};
+ghost use Rattle.sat_core.specs.Trail.{literals};
 
 use crate::entry::Entry;
 use crate::lesson::Lesson;
-use crate::reading::read_clause;
 use crate::scan::Scan;
 use crate::trail::Trail;
-use sat_clause::{Formula, Lit, Reading};
+use sat_clause::{Formula, Lit, Reading, read_clause};
 use std::alloc::{AllocError, Global};
 use std::marker::Model;
 
@@ -31,13 +27,16 @@ pub(crate) struct Search<'a> {
 }
 
 impl<'a> Model for Search<'a> {
+    ghost use Rattle.std.specs.Prelude.{◌++◌};
     ghost use Rattle.sat_core.specs.SearchStore.{SearchState, IsSearchStore};
 
     ghost Value = { SearchState };
 
     ghost view = { λ s. record {
-      formula = s.formula.now.cnf;
-      learned = s.learned.cnf.clauses;
+      known = record {
+        vars = s.formula.now.cnf.vars;
+        clauses = s.formula.now.cnf.clauses ++ s.learned.cnf.clauses;
+      };
       entries = s.trail.entries;
     } };
 
@@ -49,11 +48,7 @@ impl<'a> Search<'a> {
     /// The search that has learned and decided nothing.
     pub(crate) fn new(alloc: Global, formula: &'a Formula) -> Result<Search<'a>, AllocError>
         requires { length formula.now.cnf.clauses < 4294967296 }
-        ensures { IfOk result (λ s. s ≡ record {
-          formula = formula.now.cnf;
-          learned = [];
-          entries = [];
-        }) }
+        ensures { IfOk result (λ s. s ≡ record { known = formula.now.cnf; entries = [] }) }
     {
         let vars = formula.vars();
         let mut learned = Formula::new(alloc);
@@ -68,16 +63,16 @@ impl<'a> Search<'a> {
 
     /// How many clauses it knows.
     pub(crate) fn clause_count(&self) -> u32
-        ensures { result ≡ length (clauses_of self.now) }
+        ensures { result ≡ length self.now.known.clauses }
     {
         self.formula.len() + self.learned.len()
     }
 
     /// The clause at a position: those of the formula come first.
     fn clause(&self, i: u32) -> &[Lit]
-        requires { i < length (clauses_of self.now) }
-        ensures value { slice_get (clauses_of self.now) i ≡ Some result.now }
-        ensures within { All (IsWithin self.now.formula.vars) result.now }
+        requires { i < length self.now.known.clauses }
+        ensures value { slice_get self.now.known.clauses i ≡ Some result.now }
+        ensures within { All (IsWithin self.now.known.vars) result.now }
     {
         let inputs = self.formula.len();
         if i < inputs {
@@ -88,21 +83,20 @@ impl<'a> Search<'a> {
 
     /// What the clause at a position says.
     fn reading(&self, i: u32) -> Reading
-        requires { i < length (clauses_of self.now) }
-        ensures value { result ≡ reading_of (falses self.now.entries) (slice_get (clauses_of self.now) i) }
-        ensures within { (l : Lit) → result ≡ Reading.Unit l → IsWithin self.now.formula.vars l }
+        requires { i < length self.now.known.clauses }
+        ensures value { Reads (falses (literals self.now.entries)) (slice_get self.now.known.clauses i) result }
+        ensures within { (l : Lit) → result ≡ Reading.Unit l → IsWithin self.now.known.vars l }
     {
         read_clause(&self.trail, self.clause(i))
     }
 
     /// Makes the literal true that the clause at a position makes true.
     fn imply(&mut self, l: Lit, i: u32)
-        requires within { IsWithin self.old.formula.vars l }
-        requires reason { reading_of (falses self.old.entries) (slice_get (clauses_of self.old) i) ≡ Reading.Unit l }
-        ensures formula { self.new.formula ≡ self.old.formula }
-        ensures learned { self.new.learned ≡ self.old.learned }
+        requires within { IsWithin self.old.known.vars l }
+        requires reason { Reads (falses (literals self.old.entries)) (slice_get self.old.known.clauses i) (Reading.Unit l) }
+        ensures known { self.new.known ≡ self.old.known }
         ensures longer { length self.new.entries ≡ length self.old.entries + 1 }
-        ensures few { length self.new.entries ≤ self.new.formula.vars }
+        ensures few { length self.new.entries ≤ self.new.known.vars }
     {
         self.trail.push(Entry {
             lit: l,
@@ -112,10 +106,9 @@ impl<'a> Search<'a> {
 
     /// Goes over the clauses once, and makes true what they make true.
     fn scan(&mut self) -> Scan
-        ensures formula { self.new.formula ≡ self.old.formula }
-        ensures learned { self.new.learned ≡ self.old.learned }
+        ensures known { self.new.known ≡ self.old.known }
         ensures longer { length self.old.entries ≤ length self.new.entries }
-        ensures few { result ≡ Scan.Implied → length self.new.entries ≤ self.new.formula.vars }
+        ensures few { result ≡ Scan.Implied → length self.new.entries ≤ self.new.known.vars }
         ensures says { ScanSays self.old self.new result }
     {
         let before = self.trail.len();
@@ -135,8 +128,7 @@ impl<'a> Search<'a> {
     /// Makes true what the clauses make true, until one of them is false, whose position it gives, or
     /// none makes a literal true any more.
     fn settle(&mut self) -> Option<u32>
-        ensures formula { self.new.formula ≡ self.old.formula }
-        ensures learned { self.new.learned ≡ self.old.learned }
+        ensures known { self.new.known ≡ self.old.known }
         ensures longer { length self.old.entries ≤ length self.new.entries }
         ensures conflict { IfSome result (IsFalseAt self.new) }
         ensures settled { IfNone result (IsSettledState self.new) }
@@ -153,12 +145,11 @@ impl<'a> Search<'a> {
     /// Decides that the least open variable is true, where one is open. The clauses are settled.
     fn decide(&mut self) -> bool
         requires { IsSettledState self.old }
-        ensures formula { self.new.formula ≡ self.old.formula }
-        ensures learned { self.new.learned ≡ self.old.learned }
+        ensures known { self.new.known ≡ self.old.known }
         ensures longer { IsTrue result → length self.new.entries ≡ length self.old.entries + 1 }
-        ensures few { IsTrue result → length self.new.entries ≤ self.new.formula.vars }
+        ensures few { IsTrue result → length self.new.entries ≤ self.new.known.vars }
         ensures none { result ≡ false → self.new ≡ self.old }
-        ensures closed { result ≡ false → IsClosed self.old.formula.vars self.old.entries }
+        ensures closed { result ≡ false → IsClosed self.old.known.vars (literals self.old.entries) }
     {
         let Some(lit) = self.trail.open_literal() else {
             return false;
@@ -170,11 +161,10 @@ impl<'a> Search<'a> {
     /// Decides variable after variable until a clause is false, whose position it gives, or each
     /// variable has a value. Each variable is decided once at the most.
     pub(crate) fn next_conflict(&mut self) -> Option<u32>
-        ensures formula { self.new.formula ≡ self.old.formula }
-        ensures learned { self.new.learned ≡ self.old.learned }
+        ensures known { self.new.known ≡ self.old.known }
         ensures conflict { IfSome result (IsFalseAt self.new) }
         ensures settled { IfNone result (IsSettledState self.new) }
-        ensures closed { IfNone result (IsClosed self.new.formula.vars self.new.entries) }
+        ensures closed { IfNone result (IsClosed self.new.known.vars (literals self.new.entries)) }
     {
         loop {
             if let Some(i) = self.settle() {
@@ -189,8 +179,8 @@ impl<'a> Search<'a> {
     /// The value of each variable, where each has one and the clauses are settled.
     pub(crate) fn model(&self, alloc: Global) -> Result<Vec<bool>, AllocError>
         requires settled { IsSettledState self.now }
-        requires closed { IsClosed self.now.formula.vars self.now.entries }
-        ensures { IfOk result (λ values. Satisfies values.items self.now.formula) }
+        requires closed { IsClosed self.now.known.vars (literals self.now.entries) }
+        ensures { IfOk result (λ values. Satisfies values.items self.now.known) }
     {
         self.trail.values(alloc)
     }
@@ -198,13 +188,7 @@ impl<'a> Search<'a> {
     /// What is learned where the clause at a position is false.
     pub(crate) fn lesson(&self, alloc: Global, conflict: u32) -> Result<Lesson, AllocError>
         requires { IsFalseAt self.now conflict }
-        ensures clause { IfOk result (λ lesson. lesson.clause.items ≡ negated_decisions self.now.entries) }
-        ensures simple { IfOk result (λ lesson. IsSimple self.now.formula.vars lesson.clause.items) }
-        ensures literals { IfOk result (λ lesson. All IsLiteral lesson.clause.items) }
-        ensures follows { IfOk result (λ lesson. (live : Live) → AreLive (clauses_of self.now) live
-            → rup live lesson.clause.items lesson.hints.items ≡ None) }
-        ensures earlier { IfOk result (λ lesson.
-            All (IsEarlier (suc (length (clauses_of self.now)))) lesson.hints.items) }
+        ensures { IfOk result (λ lesson. IsLesson self.now lesson.clause.items lesson.hints.items) }
     {
         Lesson::of_conflict(alloc, self.trail.entries(), conflict)
     }
@@ -213,12 +197,11 @@ impl<'a> Search<'a> {
     /// where the last of them was made, and makes its negation true.
     pub(crate) fn learn(&mut self, clause: &[Lit]) -> Result<(), AllocError>
         requires lesson { clause.now ≡ negated_decisions self.old.entries }
-        requires within { All (IsWithin self.old.formula.vars) clause.now }
+        requires within { All (IsWithin self.old.known.vars) clause.now }
         requires some { clause.now ≢ [] }
-        requires few { length (clauses_of self.old) < 4294967295 }
-        ensures formula { self.new.formula ≡ self.old.formula }
-        ensures learned { OnOk result (self.new.learned ≡ self.old.learned ++ clause.now ∷ []) }
-        ensures fresh { OnOk result (IsNewTo (clauses_of self.old) clause.now) }
+        requires few { length self.old.known.clauses < 4294967295 }
+        ensures known { OnOk result (self.new.known ≡ with_clause self.old.known clause.now) }
+        ensures fresh { OnOk result (IsNewTo self.old.known.clauses clause.now) }
     {
         let position = self.clause_count();
         let vars = self.formula.vars();

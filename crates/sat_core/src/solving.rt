@@ -4,12 +4,35 @@ ghost use Rattle.std.specs.Prelude.{◌≡◌, ◌+◌, ◌≤◌, [], length, I
 ghost use Rattle.sat_clause.specs.Learned.{deletions};
 ghost use Rattle.sat_core.specs.Answer.{IsAnswer};
 ghost use Rattle.sat_core.specs.SearchLog.{IsSearchLog, added_count};
+ghost use Rattle.sat_core.specs.Underway.{HasSearched};
 
 use crate::Answer;
 use crate::search::Search;
 use crate::turn::{Turn, take_turn};
 use sat_clause::{Formula, Log};
 use std::alloc::{AllocError, Global};
+
+/// The search for values that satisfy a formula, which keeps each clause that it learns.
+fn search_for_values(
+    alloc: Global,
+    formula: &Formula,
+    budget: u64,
+    log: &mut Log,
+) -> Result<Answer, AllocError>
+    requires ids { length formula.now.cnf.clauses + budget ≤ 4294967295 }
+    requires fresh { log.old.steps ≡ [] }
+    ensures { HasSearched formula.now.cnf budget log.new.steps result }
+{
+    let mut search = Search::new(alloc, formula)?;
+    for _ in 0..budget {
+        match take_turn(alloc, &mut search, log)? {
+            Turn::Learned => {}
+            Turn::Model(values) => return Ok(Answer::Model(values)),
+            Turn::Refuted => return Ok(Answer::Refuted),
+        }
+    }
+    Ok(Answer::Spent)
+}
 
 /// Searches for values that satisfy a formula, and logs each clause that it learns with the clauses
 /// that it follows from.
@@ -41,13 +64,5 @@ pub fn solve(
     ensures kept { IsTrue keep → deletions log.new.steps ≡ 0 }
 {
     let _ = keep;
-    let mut search = Search::new(alloc, formula)?;
-    for _ in 0..budget {
-        match take_turn(alloc, &mut search, log)? {
-            Turn::Learned => {}
-            Turn::Model(values) => return Ok(Answer::Model(values)),
-            Turn::Refuted => return Ok(Answer::Refuted),
-        }
-    }
-    Ok(Answer::Spent)
+    search_for_values(alloc, formula, budget, log)
 }

@@ -1,13 +1,14 @@
 //! The literals that a search has made true, in order.
 
-ghost use Rattle.std.specs.Prelude.{◌≡◌, ◌≤◌, ◌∷◌, [], length, reverse, false, pos, IfNone, IfOk, IfSome, IsTrue};
-ghost use Rattle.sat_clause.specs.Literal.{IsWithin, is_among, lit};
+ghost use Rattle.std.specs.Prelude.{◌≡◌, ◌≤◌, ◌∷◌, [], length, reverse, false, pos, IfNone, IfOk, IfSome, IsTrue, All};
 ghost use Rattle.sat_clause.specs.Formula.{makes_true};
 ghost use Rattle.sat_core.specs.Lesson.{from_decision};
-ghost use Rattle.sat_core.specs.Trail.{AreWithin, IsClosed, IsOnce, IsOpen, falses, is_positive as is_positive_of};
+ghost use Rattle.sat_clause.specs.Literal.{IsWithin, is_among, lit};
+ghost use Rattle.sat_clause.specs.Trail.{IsClosed, IsOnce, IsOpen, falses};
+ghost use Rattle.sat_core.specs.Trail.{AreWithin, literals};
 
 use crate::entry::Entry;
-use sat_clause::Lit;
+use sat_clause::{FalseLiterals, Lit};
 use std::alloc::{AllocError, Global};
 use std::marker::Model;
 
@@ -31,20 +32,16 @@ impl Model for Trail {
     ghost invariant = { λ t. IsTrailStore t.vars t.entries t.values };
 }
 
-/// Whether the literal is a variable and not a negation.
-fn is_positive(l: Lit) -> bool
-    ensures { result ≡ is_positive_of l }
-{
-    l.code > 0
-}
+impl FalseLiterals for Trail {
+    ghost most = { λ t. t.vars };
 
-/// The literal that is a variable and not a negation.
-fn plain_literal(variable: u32) -> Lit
-    requires { variable ≤ 100000000 }
-    ensures { result ≡ lit (pos variable) }
-{
-    Lit {
-        code: variable as i32,
+    ghost falses = { λ t. falses (literals t.entries) };
+
+    fn is_false(&self, l: Lit) -> bool {
+        match self.values[l.variable() as usize - 1] {
+            None => false,
+            Some(value) => value != l.is_positive(),
+        }
     }
 }
 
@@ -61,17 +58,6 @@ impl Trail {
         })
     }
 
-    /// Whether the literal is false.
-    pub(crate) fn is_false(&self, l: Lit) -> bool
-        requires { IsWithin self.now.vars l }
-        ensures { result ≡ is_among (falses self.now.entries) l }
-    {
-        match self.values[l.variable() as usize - 1] {
-            None => false,
-            Some(value) => value != is_positive(l),
-        }
-    }
-
     /// How many literals stand on it.
     pub(crate) fn len(&self) -> u32
         ensures value { result ≡ length self.now.entries }
@@ -84,7 +70,7 @@ impl Trail {
     pub(crate) fn entries(&self) -> &[Entry]
         ensures value { reverse result.now ≡ self.now.entries }
         ensures within { AreWithin self.now.vars result.now }
-        ensures once { IsOnce self.now.entries }
+        ensures once { IsOnce (literals self.now.entries) }
     {
         &self.entries
     }
@@ -92,14 +78,14 @@ impl Trail {
     /// Puts a literal on it whose variable is open.
     pub(crate) fn push(&mut self, entry: Entry)
         requires within { IsWithin self.old.vars entry.lit }
-        requires open { IsOpen self.old.entries entry.lit }
+        requires open { IsOpen (literals self.old.entries) entry.lit }
         ensures vars { self.new.vars ≡ self.old.vars }
         ensures entries { self.new.entries ≡ entry ∷ self.old.entries }
         ensures few { length self.new.entries ≤ self.new.vars }
     {
         let at = entry.lit.variable() as usize - 1;
         self.entries.push_reserved(entry);
-        self.values[at] = Some(is_positive(entry.lit));
+        self.values[at] = Some(entry.lit.is_positive());
     }
 
     /// Takes the newest entry off, if there is one.
@@ -109,8 +95,8 @@ impl Trail {
         ensures none { IfNone result (self.old.entries ≡ []) }
         ensures left { IfNone result (self.new.entries ≡ []) }
         ensures within { IfSome result (λ entry. IsWithin self.old.vars entry.lit) }
-        ensures open { IfSome result (λ entry. IsOpen self.new.entries entry.lit) }
-        ensures once { IfSome result (λ _. IsOnce self.new.entries) }
+        ensures open { IfSome result (λ entry. IsOpen (literals self.new.entries) entry.lit) }
+        ensures once { IfSome result (λ _. IsOnce (literals self.new.entries)) }
     {
         let Some(entry) = self.entries.pop() else {
             return None;
@@ -126,8 +112,8 @@ impl Trail {
         ensures some { IfSome result (λ e. from_decision self.old.entries ≡ e ∷ self.new.entries) }
         ensures none { IfNone result (from_decision self.old.entries ≡ []) }
         ensures within { IfSome result (λ entry. IsWithin self.old.vars entry.lit) }
-        ensures open { IfSome result (λ entry. IsOpen self.new.entries entry.lit) }
-        ensures once { IfSome result (λ _. IsOnce self.new.entries) }
+        ensures open { IfSome result (λ entry. IsOpen (literals self.new.entries) entry.lit) }
+        ensures once { IfSome result (λ _. IsOnce (literals self.new.entries)) }
     {
         while let Some(entry) = self.pop() {
             if entry.reason.is_none() {
@@ -140,12 +126,12 @@ impl Trail {
     /// The least open variable, as a literal that is no negation.
     pub(crate) fn open_literal(&self) -> Option<Lit>
         ensures within { IfSome result (IsWithin self.now.vars) }
-        ensures open { IfSome result (IsOpen self.now.entries) }
-        ensures none { IfNone result (IsClosed self.now.vars self.now.entries) }
+        ensures open { IfSome result (IsOpen (literals self.now.entries)) }
+        ensures none { IfNone result (IsClosed self.now.vars (literals self.now.entries)) }
     {
         for (i, value) in self.values.iter().enumerate() {
             if value.is_none() {
-                return Some(plain_literal(i as u32 + 1));
+                return Some(Lit::positive(i as u32 + 1));
             }
         }
         None
@@ -153,10 +139,10 @@ impl Trail {
 
     /// The value of each variable, where none is open.
     pub(crate) fn values(&self, alloc: Global) -> Result<Vec<bool>, AllocError>
-        requires closed { IsClosed self.now.vars self.now.entries }
+        requires closed { IsClosed self.now.vars (literals self.now.entries) }
         ensures many { IfOk result (λ values. length values.items ≡ self.now.vars) }
         ensures truth { IfOk result (λ values. (l : Lit) → IsWithin self.now.vars l
-            → is_among (falses self.now.entries) l ≡ false → IsTrue (makes_true values.items l)) }
+            → is_among (falses (literals self.now.entries)) l ≡ false → IsTrue (makes_true values.items l)) }
     {
         let mut values = Vec::with_capacity(alloc, self.vars as usize)?;
         for value in &self.values {

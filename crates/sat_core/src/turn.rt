@@ -1,7 +1,7 @@
 //! One turn of a search: on to the next false clause, and what is learned from it.
 
 ghost use Rattle.std.specs.Prelude.{◌≡◌, ◌<◌, IfOk, OnErr, length};
-ghost use Rattle.sat_core.specs.SearchStore.{clauses_of};
+ghost use Rattle.sat_clause.specs.Formula.{Cnf};
 ghost use Rattle.sat_core.specs.Underway.{IsTurn, IsUnderway};
 
 use crate::search::Search;
@@ -28,10 +28,10 @@ pub(crate) fn take_turn(
     search: &mut Search<'_>,
     log: &mut Log,
 ) -> Result<Turn, AllocError>
-    requires underway { IsUnderway search.old.formula search.old.learned log.old.steps }
-    requires few { length (clauses_of search.old) < 4294967295 }
-    ensures formula { search.new.formula ≡ search.old.formula }
-    ensures ok { IfOk result (IsTurn search.old.formula search.new.learned log.old.steps log.new.steps) }
+    requires few { length search.old.known.clauses < 4294967295 }
+    ensures ok { IfOk result (λ turn. (formula : Cnf)
+        → IsUnderway formula search.old.known log.old.steps
+        → IsTurn formula search.new.known log.old.steps log.new.steps turn) }
     ensures err { OnErr result (log.new.steps ≡ log.old.steps) }
 {
     let Some(conflict) = search.next_conflict() else {

@@ -1,6 +1,6 @@
 use Rattle.std.proofs.Common.{◌∙◌, ap, ◌≡◌, true, Bool, rules}
 use Rattle.std.specs.Prelude.{◌&&◌}
-use Rattle.fpga_types.specs.Fit.{is_pin}
+use Rattle.fpga_types.specs.Kinds.{is_pin}
 use Rattle.fpga_bounds.specs.Keys.{pin_key}
 use Rattle.fpga_bounds.proofs.KeyLemmas.{one_more_pin}
 use Rattle.fpga_bounds.proofs.keys.take_pin.Goals as goal

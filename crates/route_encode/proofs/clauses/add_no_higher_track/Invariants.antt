@@ -9,5 +9,5 @@ use Rattle.route_encode.proofs.clauses.add_no_higher_track.Given as goal
 abbrev pub invariant-loop-higher : goal.invariant-loop-higher
 invariant-loop-higher l =
     Adds l.initial.formula
-    (flat_map (λ u. not_both l.width l.slot l.track l.slot u ∷ [])
+    (flat_map (λ u. not_both l.variables.width l.slot l.track l.slot u ∷ [])
     (range_with_len (l.track + 1) (l.higher - (l.track + 1)))) l.formula

@@ -18,7 +18,7 @@ on all slot rival next done e h = walk-step all slot rival done (subst (λ (o : 
 pub add_apart_track-requires-clause-within : goal.add_apart_track-requires-clause-within
 add_apart_track-requires-clause-within c =
     let step = on c.args.chains.now c.args.slot c.in-Some.rival c.loop-next.next c.loop-next.invariant.done c.in-Some.is c.loop-next.invariant.walked in
-    (omega (arith, c.requires.slot, c.count-count.ensures.value), omega (arith, step.within, c.count-count.ensures.value))
+    (omega (arith, c.requires.slot, c.requires.each), omega (arith, step.within, c.requires.each))
 
 pub add_apart_track-requires-clause-room : goal.add_apart_track-requires-clause-room
 add_apart_track-requires-clause-room c =
@@ -27,7 +27,7 @@ add_apart_track-requires-clause-room c =
     let rival : ℕ = c.in-Some.rival in
     let done : List ℕ = c.loop-next.invariant.done in
     let step = on all slot rival c.loop-next.next done c.in-Some.is c.loop-next.invariant.walked in
-    let g : ℕ → List Clause = λ b. apart_track c.args.width (slot, b) in
+    let g : ℕ → List Clause = λ b. apart_track c.args.variables.width (slot, b) in
     let rest : List ℕ = filter (share_cell all slot) (slots_from all (rival + 1)) in
     let whole : flat_map g (rivals_after all slot) ≡ flat_map g done ++ g rival ++ flat_map g rest =
     ap (flat_map g) step.split ∙ flat_map-append g (done ++ rival ∷ []) rest
@@ -52,7 +52,7 @@ loop-next-preserved c =
     let rival : ℕ = c.in-Some.rival in
     let done : List ℕ = c.loop-next.invariant.done in
     let step = on all slot rival c.loop-next.next done c.in-Some.is c.loop-next.invariant.walked in
-    let g : ℕ → List Clause = λ b. apart_track c.args.width (slot, b) in
+    let g : ℕ → List Clause = λ b. apart_track c.args.variables.width (slot, b) in
     let more : flat_map g (done ++ rival ∷ []) ≡ flat_map g done ++ g rival =
     flat_map-append g done (rival ∷ []) ∙ ap (λ (ys : List Clause). flat_map g done ++ ys) (append-nil (g rival)) in
     record {
@@ -67,4 +67,4 @@ returns c =
     let all : List Slot = c.args.chains.now in
     let done : List ℕ = c.loop-next.invariant.done in
     let end : IsWalked all c.args.slot None done = subst (λ (o : Option ℕ). IsWalked all c.args.slot o done) c.in_default.is c.loop-next.invariant.walked in
-    subst (λ (ks : List ℕ). Adds c.args.formula.now (flat_map (λ b. apart_track c.args.width (c.args.slot, b)) ks) c.loop-next.formula) (walk-end all c.args.slot done end) c.loop-next.invariant.added
+    subst (λ (ks : List ℕ). Adds c.args.formula.now (flat_map (λ b. apart_track c.args.variables.width (c.args.slot, b)) ks) c.loop-next.formula) (walk-end all c.args.slot done end) c.loop-next.invariant.added

@@ -1,8 +1,8 @@
-use Rattle.std.proofs.Common.{◌≡◌, ◌++◌, List, length, ap, sym, ◌∙◌, arith}
+use Rattle.std.proofs.Common.{◌≡◌, length, ap, sym, ◌∙◌, arith}
 use Rattle.sat_clause.specs.Formula.{Cnf}
-use Rattle.sat_clause.specs.Literal.{Clause}
-use Rattle.sat_core.specs.SearchStore.{SearchState, clauses_of}
-use Rattle.sat_core.specs.Trail.{falses}
+use Rattle.sat_clause.specs.Trail.{falses}
+use Rattle.sat_core.specs.SearchStore.{SearchState}
+use Rattle.sat_core.specs.Trail.{literals}
 use Rattle.sat_core.proofs.LessonLemmas.{settled_from_places}
 use Rattle.sat_core.proofs.search.Search.scan.Goals as goal
 
@@ -12,7 +12,5 @@ returns-then-len-before-clause-says c =
     let count = λ (s : SearchState). length s.entries in
     let same : length state.entries ≡ length c.args.self.now.entries =
     ap count (sym c.self-2.view_is) ∙ sym c.len.ensures.value ∙ c.if-len-before.true ∙ c.len-before.ensures.value ∙ ap count c.self.view_is in
-    let many : length (clauses_of state) ≡ length (clauses_of c.args.self.now) =
-    ap (λ (f : Cnf). length (f.clauses ++ state.learned)) c.loop-i.invariant.formula
-    ∙ ap (λ (l : List Clause). length (c.args.self.now.formula.clauses ++ l)) c.loop-i.invariant.learned in
-    settled_from_places (clauses_of state) (falses state.entries) (λ k within. c.loop-i.invariant.quiet same k (omega (arith, within, many, c.clause_count-i-end.ensures, c.loop-i-test.false)))
+    let many = ap (λ (known : Cnf). length known.clauses) c.loop-i.invariant.known in
+    settled_from_places state.known.clauses (falses (literals state.entries)) (λ k clause within. c.loop-i.invariant.quiet same k clause (omega (arith, within, many, c.clause_count-i-end.ensures, c.loop-i-test.false)))

@@ -3,11 +3,10 @@ use Rattle.sat_core.proofs.search.Search.settle.Given as goal
 
 -- each pass that goes on makes a literal true
 abbrev pub decreases-loop-i : goal.decreases-loop-i
-decreases-loop-i l = l.self.formula.vars - length l.self.entries
+decreases-loop-i l = l.self.known.vars - length l.self.entries
 
 abbrev pub invariant-loop-i : goal.invariant-loop-i
 invariant-loop-i l = record {
-  formula : l.self.formula ≡ l.initial.self.formula;
-  learned : l.self.learned ≡ l.initial.self.learned;
+  known : l.self.known ≡ l.initial.self.known;
   longer : length l.initial.self.entries ≤ length l.self.entries;
 }

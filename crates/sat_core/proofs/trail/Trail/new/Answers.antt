@@ -1,6 +1,6 @@
 use Rattle.std.proofs.Common.{◌≡◌, rules, ◌∙◌, ap, arith, None, replicate}
-use Rattle.sat_core.specs.Trail.{open_count}
 use Rattle.sat_core.proofs.ValueLemmas.{none_valued, open_count-replicate}
+use Rattle.sat_core.specs.Trail.{open_count}
 use Rattle.sat_core.proofs.trail.Trail.new.Goals as goal
 
 pub invariant_of-result : goal.invariant_of-result
