@@ -6,9 +6,11 @@ use fpga_types::{Axis, Cell, Grid};
 use std::alloc::Global;
 use std::test::Fail;
 
-const BRANCH: &[u8] = b"Array size: 2 x 2 logic blocks.\nRouting:\nNet 0 (a)\nSOURCE (1,1) Class: 1\nOPIN (1,1) Pin: 4\nCHANX (1,1) Track: 0\nCHANX (2,1) Track: 0\nIPIN (2,1) Pin: 0\nSINK (2,1) Class: 0\nCHANX (1,1) Track: 0\nCHANY (1,2) Track: 0\nIPIN (1,2) Pin: 0\nSINK (1,2) Class: 0\n";
+const BRANCH: &[u8] =
+    b"Array size: 2 x 2 logic blocks.\nRouting:\nNet 0 (a)\nSOURCE (1,1) Class: 1\nOPIN (1,1) Pin: 4\nCHANX (1,1) Track: 0\nCHANX (2,1) Track: 0\nIPIN (2,1) Pin: 0\nSINK (2,1) Class: 0\nCHANX (1,1) Track: 0\nCHANY (1,2) Track: 0\nIPIN (1,2) Pin: 0\nSINK (1,2) Class: 0\n";
 
-const LEAP: &[u8] = b"Array size: 2 x 2 logic blocks.\nRouting:\nNet 0 (a)\nSOURCE (1,1) Class: 1\nOPIN (1,1) Pin: 4\nCHANX (1,1) Track: 0\nCHANX (1,2) Track: 0\nIPIN (1,2) Pin: 0\nSINK (1,2) Class: 0\n";
+const LEAP: &[u8] =
+    b"Array size: 2 x 2 logic blocks.\nRouting:\nNet 0 (a)\nSOURCE (1,1) Class: 1\nOPIN (1,1) Pin: 4\nCHANX (1,1) Track: 0\nCHANX (1,2) Track: 0\nIPIN (1,2) Pin: 0\nSINK (1,2) Class: 0\n";
 
 /// The problem that a route text says.
 fn problem(alloc: Global, text: &[u8]) -> Result<Problem, Fail> {
@@ -94,7 +96,10 @@ fn long_net(alloc: Global) -> Result<Vec<u8>, Fail> {
 fn no_limit_on_steps_keeps_a_long_net_from_fitting(rt: HostRuntime) -> Result<(), Fail> {
     let text = long_net(rt.alloc())?;
     let problem = problem(rt.alloc(), text.as_slice())?;
-    assert_eq!(rt; (problem.slots().len(), problem.steps().len()), (10_200, 10_199));
+    assert_eq!(rt;
+        (problem.slots().len(), problem.steps().len()),
+        (10_200, 10_199)
+    );
     Ok(())
 }
 

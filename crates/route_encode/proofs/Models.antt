@@ -31,7 +31,8 @@ module _ {A B : Type 0} (P : B → Type 0) where
   of-rows f xs h x i = all-from_In P (f x) (λ y j.
       In-all P (flat_map f xs) y h (In-flat_map f xs x y i j))
 
-  to-rows : (f : A → List B) (xs : List A) → ((x : A) → In xs x → All P (f x)) → All P (flat_map f xs)
+  to-rows : (f : A → List B) (xs : List A) → ((x : A) → In xs x → All P (f x))
+      → All P (flat_map f xs)
   to-rows f xs h = all-from_In P (flat_map f xs) (λ y i.
       let r = from_In-flat_map f xs y i in In-all P (f r.0) y (h r.0 r.1) r.2)
 
@@ -50,7 +51,8 @@ of-below n k i = let r = from_In-range 0 n k i in omega (arith, r.1)
 -- ---- what makes a clause true
 
 -- a value that is true without one past the end is true with it
-true_anyway : (values : List Bool) (k : ℕ) → get_or values k false ≡ true → get_or values k true ≡ true
+true_anyway : (values : List Bool) (k : ℕ) → get_or values k false ≡ true → get_or values k true
+    ≡ true
 true_anyway [] k h = refl
 true_anyway (v ∷ values) zero h = h
 true_anyway (v ∷ values) (suc k) h = true_anyway values k h
@@ -115,7 +117,8 @@ module _ (values : List Bool) (width : ℕ) where
       says values width a t ≡ true → says values width b u ≡ true → ⊥
   two-lack a t b u h f g = none values (unless b u [] (unless a t (lacks width b u ∷ []) h f) g)
 
-  lack-two : (a t b u : ℕ) → place_of width a t < length values → place_of width b u < length values →
+  lack-two : (a t b u : ℕ) → place_of width a t < length values
+      → place_of width b u < length values →
       (says values width a t ≡ true → says values width b u ≡ true → ⊥) →
       IsTrueClause values (not_both width a t b u)
   lack-two a t b u in_a in_b h =
@@ -131,7 +134,8 @@ module _ (values : List Bool) (width : ℕ) where
     | inr r ↦ absurd (none values r)
   ]
 
-  lead-on : (to : ℕ) (after : Option ℕ) → (u : ℕ) × (after ≡ Some u) × (says values width to u ≡ true) →
+  lead-on : (to : ℕ) (after : Option ℕ) → (u : ℕ) × (after ≡ Some u)
+      × (says values width to u ≡ true) →
       IsTrueClause values (option_to_list (option_map (has width to) after))
   lead-on to after r =
       subst (λ (o : Option ℕ). IsTrueClause values (option_to_list (option_map (has width to) o)))
@@ -144,12 +148,18 @@ pub record Obeys
     (across : Cell → Cell → ℕ → Option ℕ) (opens : PinAt → ℕ → Bool) (width : ℕ)
     (route : RouteText) (values : List Bool) : Type 0 where
   pub many : length values ≡ length (slots route) * width
-  pub some : (s : ℕ) → s < length (slots route) → (t : ℕ) × (t < width) × (says values width s t ≡ true)
-  pub one : (s t u : ℕ) → s < length (slots route) → t < u → u < width → says values width s t ≡ true → says values width s u ≡ true → ⊥
-  pub open_to : (p : PinStep) (t : ℕ) → In (pin_steps route) p → t < width → opens p.pin t ≡ false → says values width p.slot t ≡ true → ⊥
-  pub joined : (step : RouteStep) (t : ℕ) → In (steps route) step → t < width → says values width step.from t ≡ true
-      → (u : ℕ) × (track_after across (slots route) step t ≡ Some u) × (says values width step.to u ≡ true)
-  pub apart : (p : ℕ × ℕ) (t : ℕ) → In (pairs (slots route)) p → t < width → says values width p.0 t ≡ true → says values width p.1 t ≡ true → ⊥
+  pub some : (s : ℕ) → s < length (slots route) → (t : ℕ) × (t < width)
+      × (says values width s t ≡ true)
+  pub one : (s t u : ℕ) → s < length (slots route) → t < u → u < width → says values width s t
+      ≡ true → says values width s u ≡ true → ⊥
+  pub open_to : (p : PinStep) (t : ℕ) → In (pin_steps route) p → t < width → opens p.pin t ≡ false
+      → says values width p.slot t ≡ true → ⊥
+  pub joined : (step : RouteStep) (t : ℕ) → In (steps route) step → t < width
+      → says values width step.from t ≡ true
+      → (u : ℕ) × (track_after across (slots route) step t ≡ Some u)
+      × (says values width step.to u ≡ true)
+  pub apart : (p : ℕ × ℕ) (t : ℕ) → In (pairs (slots route)) p → t < width → says values width p.0 t
+      ≡ true → says values width p.1 t ≡ true → ⊥
 
 module _ (across : Cell → Cell → ℕ → Option ℕ) (opens : PinAt → ℕ → Bool) (width : ℕ)
     (route : RouteText) where
@@ -180,7 +190,8 @@ module _ (across : Cell → Cell → ℕ → Option ℕ) (opens : PinAt → ℕ 
   closed_tracks p = filter (λ t. not (opens p.pin t)) (below width)
 
   abbrev led_to : RouteStep → ℕ → Clause
-  led_to step t = option_to_list (option_map (has width step.to) (track_after across (slots route) step t))
+  led_to step t =
+      option_to_list (option_map (has width step.to) (track_after across (slots route) step t))
 
   -- the clauses that values satisfy are obeyed
   pub satisfies-obeys : (values : List Bool) → Satisfies values cnf_of →
@@ -221,12 +232,15 @@ module _ (across : Cell → Cell → ℕ → Option ℕ) (opens : PinAt → ℕ 
         apart = λ p t inside low f g.
             let row = of-rows P (apart_track width) (pairs (slots route)) four.1 p inside in
             two-lack values width p.0 t p.1 t
-            (of-map P (λ v. not_both width p.0 v p.1 v) (below width) row t (in-below width t low)) f g;
+            (of-map P (λ v. not_both width p.0 v p.1 v) (below width) row t
+            (in-below width t low)) f g;
       }
 
   -- values that obey the clauses satisfy them, where all that is named is there
-  module _ (steps_in : (step : RouteStep) → In (steps route) step → (step.from < count) × (step.to < count))
-      (pins_in : (p : PinStep) (t : ℕ) → In (pin_steps route) p → opens p.pin t ≡ false → p.slot < count)
+  module _ (steps_in : (step : RouteStep) → In (steps route) step → (step.from < count)
+      × (step.to < count))
+      (pins_in : (p : PinStep) (t : ℕ) → In (pin_steps route) p → opens p.pin t ≡ false
+      → p.slot < count)
       (pairs_in : (p : ℕ × ℕ) → In (pairs (slots route)) p → (p.0 < count) × (p.1 < count)) where
     pub obeys-satisfies : (values : List Bool) → Obeys across opens width route values →
         Satisfies values cnf_of
@@ -235,13 +249,15 @@ module _ (across : Cell → Cell → ℕ → Option ℕ) (opens : PinAt → ℕ 
       each_clause =
           All-append (IsTrueClause values) (first ++ second ++ third ++ fourth) fifth
           (All-append (IsTrueClause values) (first ++ second ++ third) fourth
-          (All-append (IsTrueClause values) (first ++ second) third (All-append (IsTrueClause values) first second some_each one_each) open_each)
+          (All-append (IsTrueClause values) (first ++ second) third
+          (All-append (IsTrueClause values) first second some_each one_each) open_each)
           joined_each) apart_each;
     }
       where
         room : (s t : ℕ) → s < count → t < width → place_of width s t < length values
         room s t f g =
-            subst (λ (n : ℕ). place_of width s t < n) (sym h.many) (place-inside count width s t f g)
+            subst (λ (n : ℕ). place_of width s t < n) (sym h.many)
+            (place-inside count width s t f g)
 
         some_each : All (IsTrueClause values) first
         some_each = to-map (IsTrueClause values) (some_track width) (below count) (λ s i.
@@ -270,8 +286,10 @@ module _ (across : Cell → Cell → ℕ → Option ℕ) (opens : PinAt → ℕ 
             (λ f. absurd (h.open_to p t i low closed f))))
 
         joined_each : All (IsTrueClause values) fourth
-        joined_each = to-rows (IsTrueClause values) (joined_track across width (slots route)) (steps route) (λ step i.
-            to-map (IsTrueClause values) (λ t. lacks width step.from t ∷ led_to step t) (below width) (λ t j.
+        joined_each = to-rows (IsTrueClause values) (joined_track across width (slots route))
+            (steps route) (λ step i.
+            to-map (IsTrueClause values) (λ t. lacks width step.from t ∷ led_to step t)
+            (below width) (λ t j.
             let low = of-below width t j in
             unless-had values width step.from t (led_to step t)
             (room step.from t (steps_in step i).0 low)

@@ -21,8 +21,8 @@ pub trait Encoder {
         requires width { (1 ≤ width) × (width ≤ WIDTH_LIMIT) }
         ensures { result ≡ length (formula_of self.now problem.now width).clauses };
 
-    /// The clauses, of which there are at most 40,000,000. Where no values satisfy them, the problem
-    /// has no routing.
+    /// The clauses, of which there are at most 40,000,000. Where no values satisfy them, the
+    /// problem has no routing.
     fn build(&self, alloc: Global, problem: &Problem, width: u32) -> Result<Formula, AllocError>
         requires width { (1 ≤ width) × (width ≤ WIDTH_LIMIT) }
         requires few { length (formula_of self.now problem.now width).clauses ≤ CLAUSE_LIMIT }

@@ -1,12 +1,11 @@
 -- Outcomes that are true of the same words and files agree: they are one, or answers of a search.
 use Rattle.std.proofs.Common.{◌≡◌, ◌∙◌, ◌⊎◌, ℕ, suc, ◌<◌, ◌++◌, List, [], ◌∷◌, length, Some, None, Ok, Err, Result, refl, sym, ap, subst, inl, inr, arith, length-append}
 use Rattle.std.specs.Prelude.{MatchResult}
-use Rattle.std.proofs.Math.Seq.{get_or-append_seam}
+use Rattle.list_laws.proofs.Places.{none_is_not_some, some_is}
 use Rattle.desk_io.specs.Files.{Bytes, FileMap}
 use Rattle.fpga_types.specs.Fit.{IsFit}
 use Rattle.fpga_types.specs.declared.route.RouteText.{RouteText}
 use Rattle.fpga_text.specs.declared.fault.TextFault.{TextFault}
-use Rattle.fpga_route.specs.Codes.{route_faults}
 use Rattle.fpga_route.specs.Value.{Reads}
 use Rattle.sat_clause.specs.Formula.{Cnf}
 use Rattle.sat_clause.specs.Judge.{judge}
@@ -26,15 +25,16 @@ use Rattle.router_top.proofs.FileLaws.{halted-reads, one-halt, one-text}
 -- ---- of the faults of a text one is the first
 
 faultless-first : (faults : Faults) (f : TextFault) → IsFaultless faults → IsFirst faults f → ⊥
-faultless-first faults f clean first = let clash : None ≡ Some f = sym clean ∙ first in cc
+faultless-first faults f clean first = none_is_not_some (sym clean ∙ first)
 
 first-same : (faults : Faults) (f g : TextFault) → IsFirst faults f → IsFirst faults g → f ≡ g
-first-same faults f g h k = let both : Some f ≡ Some g = sym h ∙ k in cc
+first-same faults f g h k = some_is (sym h ∙ k)
 
 -- ---- of a command that works on the clauses of its route file
 
 module _ (files : FileMap) (name : Bytes) where
-  same-route : (r s : RouteText) → IsRouteFile (Some files) name r → IsRouteFile (Some files) name s →
+  same-route : (r s : RouteText) → IsRouteFile (Some files) name r
+      → IsRouteFile (Some files) name s →
       r ≡ s
   same-route r s h g =
       let t = one-text files name ROUTE_LIMIT (λ text. Reads text r) (λ text. Reads text s) h g in
@@ -46,8 +46,7 @@ module _ (files : FileMap) (name : Bytes) where
   reads-on r a h g = halted-reads files (route_file name) (λ text. Reads text r) clash a h g
     where
       clash : (text : Bytes) (f : TextFault) → Reads text r → (route_file name).refuses text f → ⊥
-      clash text f read refused =
-          faultless-first (route_faults text) refused.1.0 read.0 refused.1.1
+      clash text f read refused = none_is_not_some (sym read.0 ∙ refused.1.1)
 
   module _ (width : ℕ) where
     unbuilt-reads : (a : Outcome) → IsUnbuilt (Some files) name width a →
@@ -77,7 +76,8 @@ module _ (files : FileMap) (name : Bytes) where
 
     -- two true outcomes are one, or both are true of one problem
     clauses-agree : (says : RouteText → Outcome → Type 0) (a b : Outcome) →
-        IsTrueOfClauses name width says (Some files) a → IsTrueOfClauses name width says (Some files) b →
+        IsTrueOfClauses name width says (Some files) a
+        → IsTrueOfClauses name width says (Some files) b →
         (a ≡ b) ⊎ ((route : RouteText) × says route a × says route b)
     clauses-agree says a b (inl h) (inl g) =
         inl (one-halt files (route_file name) (λ t f k one two. one.0 ∙ sym two.0) a b h g)
@@ -131,7 +131,8 @@ module _ (job : CheckJob) (files : FileMap) where
           (reads-log h.0) (clash h.0) b g h.1)
       go (inr h) (inr g) =
           let t = one-text files job.lrat PROOF_LIMIT (reads-log h.0) (reads-log g.0) h.1 g.1 in
-          h.2 ∙ ap (λ (log : List Step). judgement_outcome (judge cnf log)) (t.1.steps ∙ sym t.2.steps)
+          h.2 ∙ ap (λ (log : List Step). judgement_outcome (judge cnf log))
+          (t.1.steps ∙ sym t.2.steps)
           ∙ sym g.2
 
   cnf-clash : (cnf : Cnf) (text : Bytes) (f : TextFault) → ReadsCnf text cnf →
@@ -147,7 +148,8 @@ module _ (job : CheckJob) (files : FileMap) where
   check-agree a b (inr h) (inl g) = absurd (halted-reads files (cnf_file job.cnf)
       (λ text. ReadsCnf text h.0) (cnf-clash h.0) b g h.1)
   check-agree a b (inr h) (inr g) =
-      let t = one-text files job.cnf PROOF_LIMIT (λ text. ReadsCnf text h.0) (λ text. ReadsCnf text g.0) h.1 g.1 in
+      let t = one-text files job.cnf PROOF_LIMIT (λ text. ReadsCnf text h.0)
+      (λ text. ReadsCnf text g.0) h.1 g.1 in
       let same : g.0 ≡ h.0 = t.2.formula ∙ sym t.1.formula in
       log-agree h.0 a b h.2
       (subst (λ (c : Cnf). ChecksLog (IsHalted (Some files)) job (Some files) c b) same g.2)

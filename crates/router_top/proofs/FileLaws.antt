@@ -32,15 +32,18 @@ module _ (files : FileMap) (name : Bytes) where
 
 -- a file whose text is refused with one fault alone
 module _ (files : FileMap) (file : InputFile)
-    (one : (text : Bytes) (f g : TextFault) → file.refuses text f → file.refuses text g → f ≡ g) where
-  pub one-halt : (a b : Outcome) → IsHalted (Some files) file a → IsHalted (Some files) file b → a ≡ b
+    (one : (text : Bytes) (f g : TextFault) → file.refuses text f → file.refuses text g
+    → f ≡ g) where
+  pub one-halt : (a b : Outcome) → IsHalted (Some files) file a → IsHalted (Some files) file b
+      → a ≡ b
   one-halt a b (inl h) (inl g) = h.1 ∙ sym g.1
   one-halt a b (inl h) (inr g) =
       absurd (long-text files file.name file.limit (λ t. file.refuses t g.0) h.0 g.1)
   one-halt a b (inr h) (inl g) =
       absurd (long-text files file.name file.limit (λ t. file.refuses t h.0) g.0 h.1)
   one-halt a b (inr h) (inr g) =
-      let t = one-text files file.name file.limit (λ t. file.refuses t h.0) (λ t. file.refuses t g.0) h.1 g.1 in
+      let t = one-text files file.name file.limit (λ t. file.refuses t h.0)
+      (λ t. file.refuses t g.0) h.1 g.1 in
       h.2 ∙ ap (fault_outcome file.number) (one t.0 h.0 g.0 t.1 t.2) ∙ sym g.2
 
 -- a file that reads is not halted
@@ -62,7 +65,8 @@ stop-halts file before now o (inl h) calm = inr h
 stop-halts file before now o (inr (inl h)) calm = absurd (calm (has_risen _ _ h.0.risen))
 stop-halts file before now o (inr (inr h)) calm = inl h
 
--- a file that was not read from a later state of the desk was not read from an earlier one that tells
+-- a file that was not read from a later state of the desk was not read from an earlier one that
+-- tells
 -- the same of it
 pub stop-before : (file : InputFile) (before between now : DeskState) (o : Outcome) →
     between.files ≡ before.files → between.faults ≡ before.faults → IsStopped file between now o →

@@ -124,9 +124,11 @@ module _ (desk desk_now : DeskState) (shelf between : ShelfState) where
   same_faults : between ≡ shelf → shelf.faults ≤ between.faults
   same_faults e = omega (arith, ap (λ (s : ShelfState). s.faults) e)
 
-  module _ (name : Bytes) (width : ℕ) (works : RouteText → ShelfState → ShelfState → Outcome → Type 0)
+  module _ (name : Bytes) (width : ℕ) (works : RouteText → ShelfState → ShelfState → Outcome
+      → Type 0)
       (says : RouteText → Outcome → Type 0) (o : Outcome)
-      (settles : (route : RouteText) → works route shelf between o → Settles shelf between (says route) o)
+      (settles : (route : RouteText) → works route shelf between o
+      → Settles shelf between (says route) o)
     where
       clauses-kept : LeavesClauses name width works desk desk_now shelf between o →
           shelf.faults ≤ between.faults
@@ -244,7 +246,8 @@ module _ (desk desk_now : DeskState) (o : Outcome) (of : IsOfEnd o) where
 module _ (words : List Word) (desk desk_now : DeskState) (shelf between : ShelfState) where
   -- a search has come to its end
   search-left : (leaves : RouteJob → RouteText → Type 0) (width : ℕ) (o : Outcome) → IsOfEnd o →
-      (o ≡ Accepted → ⊥) → ((job : EncodeJob) (route : RouteText) → WritesCnf job route shelf between o → ⊥) →
+      (o ≡ Accepted → ⊥)
+      → ((job : EncodeJob) (route : RouteText) → WritesCnf job route shelf between o → ⊥) →
       ((job : RouteJob) (route : RouteText) → WritesFound job route shelf between o →
       (width ≡ job.width) × leaves job route) →
       Leaves words desk desk_now shelf between o → IsSearched words desk.files width leaves
@@ -253,7 +256,8 @@ module _ (words : List Word) (desk desk_now : DeskState) (shelf between : ShelfS
       go : (r : Result Job ℕ) → job_of words ≡ r →
           MatchResult r (λ job. LeavesJob job desk desk_now shelf between o)
           (λ code. (o ≡ Usage code) × (between ≡ shelf)) → IsSearched words desk.files width leaves
-      go (Ok (Routes job)) asked (inl h) = absurd (early-ends desk desk_now o of job.file job.width h.0)
+      go (Ok (Routes job)) asked (inl h) =
+          absurd (early-ends desk desk_now o of job.file job.width h.0)
       go (Ok (Routes job)) asked (inr p) =
           let found = left job p.0 p.3 in
           record {
@@ -265,9 +269,11 @@ module _ (words : List Word) (desk desk_now : DeskState) (shelf between : ShelfS
             few = p.2;
             left = found.1;
           }
-      go (Ok (Encodes job)) asked (inl h) = absurd (early-ends desk desk_now o of job.file job.width h.0)
+      go (Ok (Encodes job)) asked (inl h) =
+          absurd (early-ends desk desk_now o of job.file job.width h.0)
       go (Ok (Encodes job)) asked (inr p) = absurd (no_cnf job p.0 p.3)
-      go (Ok (Checks job)) asked h = absurd (other (check-ends desk desk_now o of job words asked h.0).0)
+      go (Ok (Checks job)) asked h =
+          absurd (other (check-ends desk desk_now o of job words asked h.0).0)
       go (Err code) asked h = absurd (subst IsOfEnd h.0 of)
 
   clauses-left : Leaves words desk desk_now shelf between Done →
@@ -278,9 +284,11 @@ module _ (words : List Word) (desk desk_now : DeskState) (shelf between : ShelfS
           MatchResult r (λ job. LeavesJob job desk desk_now shelf between Done)
           (λ code. (Done ≡ Usage code) × (between ≡ shelf)) →
           IsEncoded words desk.files shelf.files between.files
-      go (Ok (Routes job)) asked (inl h) = absurd (early-ends desk desk_now Done tt job.file job.width h.0)
+      go (Ok (Routes job)) asked (inl h) =
+          absurd (early-ends desk desk_now Done tt job.file job.width h.0)
       go (Ok (Routes job)) asked (inr p) = absurd p.3
-      go (Ok (Encodes job)) asked (inl h) = absurd (early-ends desk desk_now Done tt job.file job.width h.0)
+      go (Ok (Encodes job)) asked (inl h) =
+          absurd (early-ends desk desk_now Done tt job.file job.width h.0)
       go (Ok (Encodes job)) asked (inr p) = record {
         job = job;
         route = p.0;
@@ -291,7 +299,8 @@ module _ (words : List Word) (desk desk_now : DeskState) (shelf between : ShelfS
         written = ap (λ (s : ShelfState). s.files) p.3.1;
       }
       go (Ok (Checks job)) asked h =
-          absurd (let other : Done ≡ Accepted = (check-ends desk desk_now Done tt job words asked h.0).0 in cc)
+          absurd (let other : Done
+          ≡ Accepted = (check-ends desk desk_now Done tt job words asked h.0).0 in cc)
       go (Err code) asked h = absurd (let other : Done ≡ Usage code = h.0 in cc)
 
   log-accepted : Leaves words desk desk_now shelf between Accepted → IsProved words desk.files
@@ -300,9 +309,11 @@ module _ (words : List Word) (desk desk_now : DeskState) (shelf between : ShelfS
       go : (r : Result Job ℕ) → job_of words ≡ r →
           MatchResult r (λ job. LeavesJob job desk desk_now shelf between Accepted)
           (λ code. (Accepted ≡ Usage code) × (between ≡ shelf)) → IsProved words desk.files
-      go (Ok (Routes job)) asked (inl h) = absurd (early-ends desk desk_now Accepted tt job.file job.width h.0)
+      go (Ok (Routes job)) asked (inl h) =
+          absurd (early-ends desk desk_now Accepted tt job.file job.width h.0)
       go (Ok (Routes job)) asked (inr p) = absurd p.3
-      go (Ok (Encodes job)) asked (inl h) = absurd (early-ends desk desk_now Accepted tt job.file job.width h.0)
+      go (Ok (Encodes job)) asked (inl h) =
+          absurd (early-ends desk desk_now Accepted tt job.file job.width h.0)
       go (Ok (Encodes job)) asked (inr p) = absurd p.3
       go (Ok (Checks job)) asked h = (check-ends desk desk_now Accepted tt job words asked h.0).1
       go (Err code) asked h = absurd (let other : Accepted ≡ Usage code = h.0 in cc)
@@ -357,7 +368,8 @@ module _ (words : List Word) (desk desk_now : DeskState) (shelf now : ShelfState
   pub runs-undecided : LeavesOpenOnlyTruly words desk.files shelf.files now.files answer
   runs-undecided width learned e =
       let w = reported (Undecided width learned) tt e in
-      search-left words desk desk_now shelf r.between (IsLeftOpen shelf.files now.files learned) width
+      search-left words desk desk_now shelf r.between
+      (IsLeftOpen shelf.files now.files learned) width
       (Undecided width learned) tt (λ f. cc) (λ job route f. f) (λ job route f. (
         f.0,
         record {
@@ -378,13 +390,15 @@ module _ (words : List Word) (desk desk_now : DeskState) (shelf now : ShelfState
   runs-accepted e =
       log-accepted words desk desk_now shelf r.between (reported Accepted tt e).0
 
-  -- a run whose count of faults has not risen has said its report, and answers what the work came to
+  -- a run whose count of faults has not risen has said its report, and answers what the work came
+  -- to
   said : ¬ HasRisen shelf.faults now.faults →
       (answer ≡ r.outcome) × (now ≡ after_say r.between (line_of r.outcome))
   said quiet = elim r.reports [
     | inl h ↦ h
     | inr h ↦ absurd (quiet (risen-then shelf.faults r.between.faults now.faults
-        (kept desk desk_now shelf r.between words r.outcome r.leaves) (has_risen _ _ h.1.failed.risen)))
+        (kept desk desk_now shelf r.between words r.outcome r.leaves)
+        (has_risen _ _ h.1.failed.risen)))
   ]
 
   pub runs-complete : IsComplete words desk desk_now shelf now answer
@@ -393,7 +407,8 @@ module _ (words : List Word) (desk desk_now : DeskState) (shelf now : ShelfState
       let faults = ap (λ (s : ShelfState). s.faults) done.1 in
       elim (settled desk desk_now shelf r.between words r.outcome r.leaves calm
       (λ risen. quiet (subst (λ (n : ℕ). HasRisen shelf.faults n) (sym faults) risen))) [
-        | inl h ↦ (let true_too = subst (λ (f : Option FileMap). IsTrueOf words f r.outcome) told h in
+        | inl h ↦ (let true_too =
+            subst (λ (f : Option FileMap). IsTrueOf words f r.outcome) told h in
             inl (subst (λ (a : Outcome). IsTrueOf words (Some files) a × Agrees a o) (sym done.0)
             (true_too, outcomes_agree words files r.outcome o true_too true_of)))
         | inr spent ↦ inr (done.0 ∙ spent)

@@ -45,7 +45,8 @@ module _ (job : RouteJob) (route : RouteText) (before now : ShelfState) (log : L
   read-back : added_count log ≤ job.budget → ReadsCnf (cnf_text cnf) cnf → ReadBack cnf log
   read-back within reads = record {
     clauses = reads;
-    steps = log-reads cnf log job.budget h.few_vars (omega (arith, few, few_learned)) h.search kept within;
+    steps = log-reads cnf log job.budget h.few_vars
+        (omega (arith, few, few_learned)) h.search kept within;
   }
 
   -- both were written
@@ -80,7 +81,8 @@ module _ (job : RouteJob) (route : RouteText) (before now : ShelfState) (log : L
   has-ended (inl end) = inl end.1
   has-ended (inr end) = inr end.1
 
-  leaves : WritesProof before job.prefix cnf log ended now outcome → WritesFound job route before now outcome
+  leaves : WritesProof before job.prefix cnf log ended now outcome
+      → WritesFound job route before now outcome
   leaves (inl w) = subst (WritesFound job route before now) (sym w.0) (both h.end w.1 w.2)
   leaves (inr (inl w)) = subst (WritesFound job route before now) (sym w.2) (inr (record {
     log = log;

@@ -48,7 +48,8 @@ Reports before outcome now answer =
     ((answer ≡ outcome) × (now ≡ after_say before (line_of outcome)))
     ⊎ ((answer ≡ unsaid outcome) × FailsToSay before (line_of outcome) now)
 
--- a run: the work leaves a shelf with an outcome, which is reported; the files of the desk stay, and
+-- a run: the work leaves a shelf with an outcome, which is reported; the files of the desk stay,
+-- and
 -- where the desk has not failed, its count of faults is as it was
 pub record Runs
     (words : List Word) (desk desk_now : DeskState) (shelf shelf_now : ShelfState)
@@ -60,7 +61,8 @@ pub record Runs
   pub quiet : ¬ IsReadFault outcome → desk_now.faults ≡ desk.faults
   pub reports : Reports between outcome shelf_now answer
 
--- where the files are told, no fault has risen, memory sufficed and some outcome is true, the answer
+-- where the files are told, no fault has risen, memory sufficed and some outcome is true, the
+-- answer
 -- is true and agrees with that outcome
 abbrev pub IsComplete : List Word → (desk desk_now : DeskState) → (shelf shelf_now : ShelfState)
     → Outcome → Type 0

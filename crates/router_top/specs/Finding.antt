@@ -41,7 +41,8 @@ IsCnfFile files name cnf = HasText PROOF_LIMIT files name (λ text. ReadsCnf tex
 
 -- the LRAT file reads as this log, behind so many input clauses
 abbrev pub IsLratFile : Option FileMap → Bytes → ℕ → List Step → Type 0
-IsLratFile files name inputs log = HasText PROOF_LIMIT files name (λ text. ReadsLrat inputs text log)
+IsLratFile files name inputs log =
+    HasText PROOF_LIMIT files name (λ text. ReadsLrat inputs text log)
 
 -- what a run comes to by the judgement of a log
 abbrev pub judgement_outcome : Judgement → Outcome
@@ -57,7 +58,8 @@ ChecksLog stops job files cnf outcome =
     × (outcome ≡ judgement_outcome (judge cnf log)))
 
 -- a file gives no value, the CNF file first; or both read, and the outcome is the judgement
-abbrev pub ChecksFiles : (InputFile → Outcome → Type 0) → CheckJob → Option FileMap → Outcome → Type 0
+abbrev pub ChecksFiles : (InputFile → Outcome → Type 0) → CheckJob → Option FileMap → Outcome
+    → Type 0
 ChecksFiles stops job files outcome =
     stops (cnf_file job.cnf) outcome
     ⊎ ((cnf : Cnf) × IsCnfFile files job.cnf cnf × ChecksLog stops job files cnf outcome)

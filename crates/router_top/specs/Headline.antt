@@ -1,4 +1,5 @@
--- The headline: what it means that a run answers that a routing or the clauses were written, that no
+-- The headline: what it means that a run answers that a routing or the clauses were written, that
+-- no
 -- routing is legal, that it is left open, or that a refutation is accepted.
 use Rattle.std.specs.Prelude.{◌≡◌, ℕ, List, length, Ok, Option, option_map}
 use Rattle.std.specs.FinMap.{insert}
@@ -30,7 +31,8 @@ WritesProofAlone before now prefix cnf log =
     now ≡ option_map (λ files. insert files (lrat_name prefix) (log_text log))
     (option_map (λ files. insert files (cnf_name prefix) (cnf_text cnf)) before)
 
--- the words ask for a routing of this width, the route file reads as a route that fits its array and
+-- the words ask for a routing of this width, the route file reads as a route that fits its array
+-- and
 -- has few enough clauses, and what was left has this property
 pub record IsSearched
     (words : List Word) (desk_files : Option FileMap) (width : ℕ)
@@ -45,7 +47,8 @@ pub record IsSearched
 
 -- of all files one alone was written: that of the job, which holds a printed route that reads back;
 -- it is the route asked for with the tracks of a legal routing
-pub record IsRouted (before now : Option FileMap) (job : RouteJob) (route : RouteText) : Type 0 where
+pub record IsRouted (before now : Option FileMap) (job : RouteJob)
+    (route : RouteText) : Type 0 where
   pub found : RouteText
   pub routing : IsRouting job.width route found
   pub read_back : ReadsBack found
@@ -56,15 +59,18 @@ abbrev pub RoutesOnlyTruly : List Word → (desk_files before now : Option FileM
 RoutesOnlyTruly words desk_files before now answer =
     (width : ℕ) → answer ≡ Routed width → IsSearched words desk_files width (IsRouted before now)
 
--- of all files two were written: the clauses of the route, and a log that refutes them; so no tracks
+-- of all files two were written: the clauses of the route, and a log that refutes them; so no
+-- tracks
 -- are legal
-pub record IsRefuted (before now : Option FileMap) (job : RouteJob) (route : RouteText) : Type 0 where
+pub record IsRefuted (before now : Option FileMap) (job : RouteJob)
+    (route : RouteText) : Type 0 where
   pub log : List Step
   pub refuted : IsRefutedBy job route log
   pub written : WritesProofAlone before now job.prefix (cnf_subset job.width route) log
 
 -- an answer that no routing is legal is true
-abbrev pub RefutesOnlyTruly : List Word → (desk_files before now : Option FileMap) → Outcome → Type 0
+abbrev pub RefutesOnlyTruly : List Word → (desk_files before now : Option FileMap) → Outcome
+    → Type 0
 RefutesOnlyTruly words desk_files before now answer =
     (width : ℕ) → answer ≡ Unroutable width
     → IsSearched words desk_files width (IsRefuted before now)

@@ -26,7 +26,8 @@ pub record ReadBack (cnf : Cnf) (log : List Step) : Type 0 where
   pub clauses : ReadsCnf (cnf_text cnf) cnf
   pub steps : ReadsLrat (length cnf.clauses) (log_text log) log
 
--- the log is of a search through the clauses of the route that deleted nothing, and refutes them within
+-- the log is of a search through the clauses of the route that deleted nothing, and refutes them
+-- within
 -- the budget; so no tracks are legal
 pub record IsRefutedBy (job : RouteJob) (route : RouteText) (log : List Step) : Type 0 where
   pub search : IsSearchLog (cnf_subset job.width route) log

@@ -16,19 +16,23 @@ use Rattle.router_top.specs.declared.outcome.Outcome.TheVariants.{Done, WriteFau
 -- a shelf after the clauses were written, and then the log
 abbrev pub after_proof : ShelfState → Word → Cnf → List Step → ShelfState
 after_proof shelf prefix cnf log =
-    after_writing (after_writing shelf (cnf_name prefix) (cnf_text cnf)) (lrat_name prefix) (log_text log)
+    after_writing (after_writing shelf (cnf_name prefix) (cnf_text cnf)) (lrat_name prefix)
+    (log_text log)
 
 -- the clauses were not written whole, which is slot 2; or they were, but not the log behind them,
 -- which is slot 3
-abbrev pub FailsToWriteProof : ShelfState → Word → Cnf → List Step → (slot : ℕ) → ShelfState → Type 0
+abbrev pub FailsToWriteProof : ShelfState → Word → Cnf → List Step → (slot : ℕ) → ShelfState
+    → Type 0
 FailsToWriteProof before prefix cnf log slot now =
     ((slot ≡ 2) × FailsToWrite before (cnf_name prefix) (cnf_text cnf) now)
     ⊎ ((slot ≡ 3) × FailsToWrite (after_writing before (cnf_name prefix) (cnf_text cnf))
     (lrat_name prefix) (log_text log) now)
 
--- what is left where the clauses and the log behind them were to be written, and the run was to come
+-- what is left where the clauses and the log behind them were to be written, and the run was to
+-- come
 -- to this: both were written, and the clauses read back; or one of them was not
-abbrev pub WritesProof : ShelfState → Word → Cnf → List Step → (ended : Outcome) → (now : ShelfState)
+abbrev pub WritesProof : ShelfState → Word → Cnf → List Step → (ended : Outcome)
+    → (now : ShelfState)
     → Outcome → Type 0
 WritesProof before prefix cnf log ended now outcome =
     ((outcome ≡ ended) × (now ≡ after_proof before prefix cnf log) × ReadsCnf (cnf_text cnf) cnf)

@@ -1,4 +1,4 @@
-//! The bytes of the files that a command reads, and what the run comes to where it does not get them.
+//! The bytes of the files that a command reads, and what the run comes to without them.
 ghost use Rattle.std.specs.Prelude.{◌≡◌, ◌≤◌, ◌<◌, ◌^◌, vec_len, IfErr, IfOk};
 ghost use Rattle.router_top.specs.Inputs.{HasBytes, IsStopped, bytes_file, fault_outcome};
 ghost use Rattle.router_top.specs.Report.{IsReadFaultErr, NamesKnownFile};

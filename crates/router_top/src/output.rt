@@ -56,7 +56,8 @@ pub fn write_route_file<S: Shelf>(
 /// Writes a formula to a file, and to no other.
 pub fn write_cnf_file<S: Shelf>(shelf: &mut S, name: &str, formula: &Formula) -> Result<(), Failed>
     ensures ok { OnOk result
-        (S.state shelf.new ≡ after_writing (S.state shelf.old) name.now (cnf_text formula.now.cnf)) }
+        (S.state shelf.new
+        ≡ after_writing (S.state shelf.old) name.now (cnf_text formula.now.cnf)) }
     ensures err { OnErr result
         (FailsToWrite (S.state shelf.old) name.now (cnf_text formula.now.cnf) (S.state shelf.new)) }
     ensures reads { length formula.now.cnf.clauses ≤ 40000000

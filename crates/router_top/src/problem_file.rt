@@ -21,8 +21,8 @@ const ROUTE_FILE: u32 = 4;
 // How many clauses may be built.
 const MOST_CLAUSES: u64 = 40_000_000;
 
-/// The problem that a route file gives, where it has not too many clauses at the width. The error is
-/// what the run comes to.
+/// The problem that a route file gives, where it has not too many clauses at the width. The error
+/// is what the run comes to.
 pub fn pose_problem<D: Desk>(
     alloc: Global,
     desk: &mut D,

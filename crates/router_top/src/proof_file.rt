@@ -40,7 +40,8 @@ pub fn read_formula<D: Desk>(alloc: Global, desk: &mut D, name: &str) -> Result<
     }
 }
 
-/// The log of an LRAT file that goes with so many input clauses. The error is what the run comes to.
+/// The log of an LRAT file that goes with so many input clauses. The error is what the run comes
+/// to.
 pub fn read_log<D: Desk>(
     alloc: Global,
     desk: &mut D,

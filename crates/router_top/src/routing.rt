@@ -115,8 +115,8 @@ fn find_routing<S: Shelf>(
     }
 }
 
-/// Reads the route file, searches for a legal routing, and writes it; or else writes the clauses and
-/// the log of the search.
+/// Reads the route file, searches for a legal routing, and writes it; or else writes the clauses
+/// and the log of the search.
 pub fn route<D: Desk, S: Shelf>(
     alloc: Global,
     job: &RouteWords<'_>,

@@ -60,10 +60,11 @@ fn say_report<S: Shelf>(shelf: &mut S, outcome: Outcome) -> Outcome
 /// Runs a command: reads the words and the files, does what they ask for, and last says the report
 /// line of the outcome.
 ///
-/// `route FILE WIDTH BUDGET PREFIX` searches for a routing of the route in FILE with WIDTH tracks, from
-/// 1 to 64, and learns at most BUDGET clauses, from 1 to 100,000,000. It writes PREFIX.route, or else
-/// PREFIX.cnf and PREFIX.lrat. `encode FILE WIDTH PREFIX` writes PREFIX.cnf alone, and `check CNF LRAT`
-/// writes nothing. After want of memory no file has changed.
+/// `route FILE WIDTH BUDGET PREFIX` searches for a routing of the route in FILE with WIDTH tracks,
+/// from 1 to 64, and learns at most BUDGET clauses, from 1 to 100,000,000. It writes PREFIX.route,
+/// or else PREFIX.cnf and PREFIX.lrat. `encode FILE WIDTH PREFIX` writes PREFIX.cnf alone, and
+/// `check CNF LRAT` writes nothing. After want of memory no file has changed, and the files of the
+/// desk stay in any case.
 pub fn run<D: Desk, S: Shelf>(
     alloc: Global,
     words: &[String],

@@ -36,6 +36,6 @@ returns c =
     let nets : List RouteNet = c.as_slice-nets.result.now in
     let end : c.loop-n.n ≡ length nets = omega arith in (
       subst (λ (all : List RouteNet). IsFaultless (nets_faults c.args.route.now.grid all 0)) c.as_slice-nets.ensures
-      (c.loop-n.invariant.past ∙ past-nets c.args.route.now.grid nets c.loop-n.n (get-none nets c.loop-n.n (omega arith))),
+          (c.loop-n.invariant.past ∙ past-nets c.args.route.now.grid nets c.loop-n.n (get-none nets c.loop-n.n (omega arith))),
       c.loop-n.invariant.table ∙ ap slots_of (ap (λ m. take m nets) end ∙ take-length nets ∙ c.as_slice-nets.ensures),
     )

@@ -18,7 +18,8 @@ returns-in-Err-read_log-clause-checks g c =
       cnf,
       c.in-Ok.ensures.reads,
       inl (
-          stop-before (lrat_file (length cnf.clauses) name) (g.D.Desk.state c.args.desk.now) between now
+          stop-before (lrat_file (length cnf.clauses) name)
+          (g.D.Desk.state c.args.desk.now) between now
           outcome c.in-Ok.ensures.files (c.in-Ok.ensures.quiet (λ e. e))
           (subst (λ n. IsStopped (lrat_file n name) between now outcome) c.len.ensures
           c.in-Err-read_log.ensures.stop)

@@ -9,7 +9,11 @@ the_value (Some x) h = (x, refl)
 pub returns-in-Err-TooLong-clause-stop : goal.returns-in-Err-TooLong-clause-stop
 returns-in-Err-TooLong-clause-stop g c = inr (inr (inl (
   (λ files told.
-      let there = the_value _ (c.in-Err-TooLong.ensures.there (λ e. cc) files told) in
-      (there.0, there.1, (c.in-Err-TooLong.ensures.too_long (λ i. Err (c.in-Err-TooLong.field-0-is i)) files told there.0 there.1).0)),
+      let there = the_value _ (c.in-Err-TooLong.ensures.there (λ e. cc) files told) in (
+        there.0,
+        there.1,
+        (c.in-Err-TooLong.ensures.too_long
+            (λ i. Err (c.in-Err-TooLong.field-0-is i)) files told there.0 there.1).0,
+      )),
   refl,
 )))

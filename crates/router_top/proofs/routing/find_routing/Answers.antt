@@ -12,7 +12,8 @@ returns-in-Ok-Refuted-clause-writes g c =
     let now = g.S.Shelf.state c.write_proof.new.shelf in
     let log = c.solve.new.log.steps in
     let ended = Unroutable c.args.job.now.width in
-    let ending : IsEnding job c.in-Ok.formula.cnf log ended before now c.write_proof.result = record {
+    let ending : IsEnding job c.in-Ok.formula.cnf log ended before now c.write_proof.result =
+    record {
       few_vars = subst (λ s. s.cnf.vars ≤ 100000000) c.formula.view_is c.formula.invariant.few_vars;
       search = c.in-Ok-Refuted.ensures.logged;
       end = inl (
@@ -24,7 +25,8 @@ returns-in-Ok-Refuted-clause-writes g c =
     } in
     ending-found job c.args.problem.now before now log ended c.write_proof.result c.requires.fits
     c.requires.few c.args.job.now.affordable.1 (c.in-Ok-Refuted.ensures.kept refl)
-    (subst (λ f. IsEnding job f log ended before now c.write_proof.result) c.in-Ok.ensures.formula ending)
+    (subst (λ f. IsEnding job f log ended before now c.write_proof.result) c.in-Ok.ensures.formula
+    ending)
 
 pub returns-in-Ok-Spent-clause-writes : goal.returns-in-Ok-Spent-clause-writes
 returns-in-Ok-Spent-clause-writes g c =
