@@ -21,7 +21,8 @@ pub enum Reading {
     Unresolved,
 }
 
-/// What knows of each literal of the variables 1 to a number whether it is false.
+/// What knows of each literal of the variables 1 to `most` whether it is one of `falses`, which are
+/// false.
 pub trait FalseLiterals {
     ghost use Rattle.sat_clause.specs.declared.literal.Lit.{Lit};
 
