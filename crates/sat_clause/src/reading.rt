@@ -21,8 +21,7 @@ pub enum Reading {
     Unresolved,
 }
 
-/// What knows of each literal of the variables 1 to `most` whether it is one of `falses`, which are
-/// false.
+/// What knows of each literal of the variables 1 to a number whether it is false.
 pub trait FalseLiterals {
     ghost use Rattle.sat_clause.specs.declared.literal.Lit.{Lit};
 
