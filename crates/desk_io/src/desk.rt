@@ -3,8 +3,11 @@ ghost use Rattle.std.specs.Prelude.{◌≡◌, ◌<◌, ◌≤◌, true, length,
 ghost use Rattle.desk_io.specs.DeskState.{AreNext, DeskState, FailsToRead, FailsToStart, after_read, after_start};
 ghost use Rattle.desk_io.specs.Files.{IsThere};
 
+use thiserror::Error;
+
 /// The answer of a call that failed: the system refused it, or there was no memory for it.
-#[derive(Clone, Copy, Debug, PartialEq, Eq)]
+#[derive(Clone, Copy, Debug, PartialEq, Eq, Error)]
+#[error("a file was refused")]
 pub struct Failed;
 
 /// A source of named files, of which one at a time is read from its start.

@@ -5,12 +5,15 @@ ghost use Rattle.desk_io.specs.SystemFiles.{file_shelf_state};
 use crate::desk::Failed;
 use crate::shelf::Shelf;
 use crate::shelf_faults::ShelfFaults;
-use std::fs;
+use std::fs::{self, OpenFile};
 use std::io::{self, Write};
 use std::marker::Model;
 use std::rt::Files;
 
 /// Writes files of the system, whose names are paths, and says bytes to standard output.
+///
+/// Every error that the system reports is a fault. `finish` asks the system to put the file on its
+/// disk; that a disk keeps what it took is not known. `say` writes through to standard output.
 #[derive(Drop)]
 pub struct FileShelf<'a, R: Files + Print> {
     rt: &'a R,
@@ -74,7 +77,7 @@ impl<'a, R: Files + Print> Shelf for FileShelf<'a, R> {
         let Some(mut file) = self.file.take() else {
             unreachable!()
         };
-        let Ok(()) = file.flush() else {
+        let Ok(()) = put_down(&mut file) else {
             return Err(self.faults.add(false));
         };
         Ok(())
@@ -85,6 +88,16 @@ impl<'a, R: Files + Print> Shelf for FileShelf<'a, R> {
             return Err(self.faults.add(true));
         };
         Ok(())
+    }
+}
+
+// Waits until the system has the bytes of a file on its disk, and hears of a write that fails late.
+// What takes no such call, as a pipe or a terminal, has no disk.
+fn put_down<F: Write + OpenFile>(file: &mut F) -> io::Result<()> {
+    file.flush()?;
+    match file.sync_all() {
+        Err(e) if e.kind() == io::ErrorKind::InvalidInput => Ok(()),
+        answer => answer,
     }
 }
 

@@ -5,15 +5,19 @@ ghost use Rattle.desk_io.specs.Reading.{FaultIsOn, HasTaken, HasTakenOneMore, Is
 
 use crate::desk::Desk;
 use std::alloc::Global;
+use thiserror::Error;
 
 /// Why a file was not read.
-#[derive(Clone, Copy, Debug, PartialEq, Eq)]
+#[derive(Clone, Copy, Debug, PartialEq, Eq, Error)]
 pub enum ReadStop {
     /// The desk failed: the file is not there, or a read of it was refused.
+    #[error("the file is not there, or a read of it was refused")]
     Fault,
     /// The file has more bytes than the limit.
+    #[error("the file has more bytes than its limit")]
     TooLong,
     /// There was no memory for the bytes.
+    #[error("there is no memory for the file")]
     Memory,
 }
 
@@ -22,9 +26,10 @@ const BLOCK: usize = 16384;
 
 /// The bytes of a file, of which there may be at most `limit`.
 ///
-/// It gives `Fault` where no file has this name or the desk fails, and only then one fault is
-/// counted, and not once more bytes than the limit were taken; `TooLong` where the file has more bytes than the limit, of which one more than the
-/// limit was then taken; and `Memory` where there was no room for its bytes.
+/// It gives `Fault` where no file has this name or the desk fails, and only then a fault is counted,
+/// and no more than one; it does not come once more bytes than the limit were taken. It gives
+/// `TooLong` where the file has more bytes than the limit, of which one more than the limit was then
+/// taken; and `Memory` where there was no room for its bytes.
 pub fn read_file<D: Desk>(
     alloc: Global,
     desk: &mut D,

@@ -1,5 +1,5 @@
 //! Tests of what no clause says: that calls succeed, and worked examples of the definitions.
-ghost use Rattle.std.specs.Prelude.{◌≡◌, true, OnOk};
+ghost use Rattle.std.specs.Prelude.{◌≡◌, true, flat_map, OnOk};
 
 use super::*;
 use std::alloc::{AllocError, Global};
@@ -26,6 +26,38 @@ fn a_run_of(alloc: Global, byte: u8, count: usize) -> Result<Vec<u8>, AllocError
     let mut bytes = Vec::new(alloc);
     bytes.resize(count, byte)?;
     Ok(bytes)
+}
+
+// The text of a piece is the piece.
+struct Piece;
+
+impl Prints<Vec<u8>> for Piece {
+    ghost text = { λ piece. piece.items };
+
+    fn print<S: Shelf>(
+        &self,
+        writer: &mut BlockWriter,
+        shelf: &mut S,
+        piece: &Vec<u8>,
+    ) -> Result<(), Failed> {
+        writer.write(shelf, piece)
+    }
+}
+
+// The text of pieces is each of them, one behind the other.
+struct Pieces;
+
+impl Prints<Vec<Vec<u8>>> for Pieces {
+    ghost text = { λ pieces. flat_map (λ piece. piece.items) pieces.items };
+
+    fn print<S: Shelf>(
+        &self,
+        writer: &mut BlockWriter,
+        shelf: &mut S,
+        pieces: &Vec<Vec<u8>>,
+    ) -> Result<(), Failed> {
+        print_each(&Piece, writer, shelf, pieces)
+    }
 }
 
 // Copies a file of at most 100,000 bytes.
@@ -123,67 +155,121 @@ fn each_listed_call_of_a_shelf_fails(rt: HostRuntime) -> Result<(), Fail> {
     Ok(())
 }
 
-// Writes pieces one after another, and says whether all came out.
-fn write_pieces(shelf: &mut MemShelf, pieces: &[&[u8]]) -> bool {
-    let mut writer = BlockWriter::new();
-    let Ok(()) = shelf.create("a") else {
-        return false;
-    };
-    for piece in pieces {
-        let Ok(()) = writer.write(shelf, piece) else {
-            return false;
-        };
+// Five pieces, of which one is longer than a block, and all in one.
+fn five_pieces(alloc: Global) -> Result<(Vec<Vec<u8>>, Vec<u8>), AllocError> {
+    let mut pieces = Vec::new(alloc);
+    let mut whole = Vec::new(alloc);
+    for (byte, count) in [
+        (b'-', 20_000),
+        (b'x', 1),
+        (b'+', 10_000),
+        (b'*', 10_000),
+        (b'.', 0),
+    ] {
+        let piece = a_run_of(alloc, byte, count)?;
+        whole.extend_from_slice(&piece)?;
+        pieces.push(piece)?;
     }
-    writer.flush(shelf).is_ok()
+    Ok((pieces, whole))
 }
 
 #[test]
 fn pieces_come_out_in_their_order(rt: HostRuntime) -> Result<(), Fail> {
     let alloc = rt.alloc();
-    let long = a_run_of(alloc, b'-', 20_000)?;
-    let half = a_run_of(alloc, b'+', 10_000)?;
-    let pieces = [
-        b"head ".as_slice(),
-        &long,
-        b"x",
-        &half,
-        &half,
-        b"",
-        b" tail",
-    ];
-    let mut want = Vec::new(alloc);
-    for piece in pieces {
-        want.extend_from_slice(piece)?;
-    }
+    let (pieces, whole) = five_pieces(alloc)?;
     let mut shelf = shelf(alloc, &[])?;
-    assert!(rt; write_pieces(&mut shelf, &pieces));
-    assert_eq!(rt; shelf.file("a"), Some(want.as_slice()));
+    assert!(rt; write_file(&Pieces, &mut shelf, "a", &pieces).is_ok());
+    assert_eq!(rt; shelf.file("a"), Some(whole.as_slice()));
+    assert!(rt; matches!(shelf.create("b"), Ok(())));
+    assert!(rt; append_text(&Pieces, &mut shelf, &pieces).is_ok());
+    assert_eq!(rt; shelf.file("b"), Some(whole.as_slice()));
+    let mut writer = BlockWriter::new();
+    assert!(rt; matches!(shelf.create("c"), Ok(())));
+    assert!(rt; writer.write_both(&mut shelf, b"one ", b"two").is_ok());
+    assert!(rt; writer.flush(&mut shelf).is_ok());
+    assert_eq!(rt; shelf.file("c"), Some(b"one two".as_slice()));
     Ok(())
 }
 
 #[test]
 fn a_failed_append_leaves_a_front(rt: HostRuntime) -> Result<(), Fail> {
     let alloc = rt.alloc();
-    let half = a_run_of(alloc, b'+', 10_000)?;
-    // The third call is the append of the second half.
+    let (pieces, _) = five_pieces(alloc)?;
+    let front = a_run_of(alloc, b'-', 20_000)?;
+    // The third call is the append of what waits behind the first piece.
     let mut shelf = shelf(alloc, &[3])?;
-    assert!(rt; !write_pieces(&mut shelf, &[&half, &half, &half]));
-    assert_eq!(rt; shelf.file("a"), Some(half.as_slice()));
+    assert!(rt; write_file(&Pieces, &mut shelf, "a", &pieces).is_err());
+    assert_eq!(rt; shelf.file("a"), Some(front.as_slice()));
     Ok(())
+}
+
+// Bytes that differ from place to place, more than two blocks of them.
+fn long_text(alloc: Global) -> Result<Vec<u8>, AllocError> {
+    let mut bytes = Vec::new(alloc);
+    for i in 0..40_001u32 {
+        bytes.push((i % 251) as u8)?;
+    }
+    Ok(bytes)
 }
 
 #[test]
 fn files_of_the_system_are_read_and_written(rt: HostRuntime) -> Result<(), Fail> {
     let alloc = rt.alloc();
-    let mut path = String::from_str(alloc, std::env::temp_dir(&rt)?.as_str())?;
-    path.push_str("/desk_io_test_file")?;
-    let mut shelf = FileShelf::new(&rt);
-    assert!(rt; copy(alloc, &mut desk(alloc, &[])?, &mut shelf, "a", &path));
-    let mut back = self::shelf(alloc, &[])?;
-    let mut desk = FileDesk::new(&rt);
-    assert!(rt; copy(alloc, &mut desk, &mut back, &path, "back"));
-    assert_eq!(rt; back.file("back"), Some(b"one".as_slice()));
-    fs::remove_file(&rt, path.as_str())?;
-    assert!(rt; matches!(read_file(alloc, &mut desk, &path, 3), Err(ReadStop::Fault)));
+    let (mut desk, mut shelf) = (FileDesk::new(&rt), FileShelf::new(&rt));
+    let long = long_text(alloc)?;
+    assert!(rt; write_file(&Piece, &mut shelf, "written.tmp", &long).is_ok());
+    let back = read_file(alloc, &mut desk, "written.tmp", 100_000)?;
+    assert_eq!(rt; back.as_slice(), long.as_slice());
+    // What was written over has no tail of the old file.
+    let short = Vec::from_slice(alloc, b"short")?;
+    assert!(rt; write_file(&Piece, &mut shelf, "written.tmp", &short).is_ok());
+    assert_eq!(rt;
+        read_file(alloc, &mut desk, "written.tmp", 5)?.as_slice(),
+        b"short".as_slice()
+    );
+    assert_eq!(rt;
+        read_file(alloc, &mut desk, "written.tmp", 4).err(),
+        Some(ReadStop::TooLong)
+    );
+    fs::remove_file(&rt, "written.tmp")?;
+    assert_eq!(rt;
+        read_file(alloc, &mut desk, "written.tmp", 5).err(),
+        Some(ReadStop::Fault)
+    );
+    Ok(())
+}
+
+#[test]
+fn what_the_system_refuses_is_a_fault(rt: HostRuntime) -> Result<(), Fail> {
+    let alloc = rt.alloc();
+    let (mut desk, mut shelf) = (FileDesk::new(&rt), FileShelf::new(&rt));
+    // A folder is no file, and a file needs its folder.
+    for name in [".", "no_folder/file"] {
+        assert!(rt; read_file(alloc, &mut desk, name, 5).is_err(), "{name}");
+        assert!(rt; matches!(shelf.create(name), Err(Failed)), "{name}");
+    }
+    // A device that is full takes no byte, where the system has one.
+    let byte = Vec::from_slice(alloc, b"x")?;
+    if fs::open(&rt, "/dev/full").is_ok() {
+        assert!(rt; write_file(&Piece, &mut shelf, "/dev/full", &byte).is_err());
+    }
+    Ok(())
+}
+
+#[test]
+fn an_error_says_what_was_refused(rt: HostRuntime) -> Result<(), Fail> {
+    let alloc = rt.alloc();
+    let texts = format!(in alloc;
+        "{Failed}|{}|{}|{}",
+        ReadStop::Fault,
+        ReadStop::TooLong,
+        ReadStop::Memory
+    )?;
+    assert_eq!(rt;
+        texts.as_str(),
+        "a file was refused\
+        |the file is not there, or a read of it was refused\
+        |the file has more bytes than its limit|there is no memory for the file"
+    );
     Ok(())
 }

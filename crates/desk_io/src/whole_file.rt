@@ -24,9 +24,7 @@ pub fn append_text<T, P: Prints<T>, S: Shelf>(
     ensures known { IsOk result → P.known item.now }
 {
     let mut writer = BlockWriter::new();
-    let Ok(()) = printer.print(&mut writer, shelf, item) else {
-        return Err(Failed);
-    };
+    printer.print(&mut writer, shelf, item)?;
     let Ok(()) = writer.flush(shelf) else {
         return Err(Failed);
     };
@@ -50,9 +48,7 @@ pub fn write_file<T, P: Prints<T>, S: Shelf>(
         (FailsToWrite (S.state shelf.old) name.now (P.text item.now) (S.state shelf.new)) }
     ensures known { IsOk result → P.known item.now }
 {
-    let Ok(()) = shelf.create(name) else {
-        return Err(Failed);
-    };
+    shelf.create(name)?;
     let Ok(()) = append_text(printer, shelf, item) else {
         return Err(Failed);
     };

@@ -4,7 +4,7 @@ use Rattle.std.specs.Prelude.{map, slice_set}
 use Rattle.std.specs.List.{enumerate_from}
 use Rattle.std.proofs.Math.Seq.{take-suc, take-length}
 use Rattle.std.proofs.lemmas.List.{map-append, take-append-le}
-use Rattle.fpga_bounds.proofs.SlotsOfLemmas.{enumerate-push}
+use Rattle.list_laws.proofs.Numbered.{enumerate-push}
 
 module _ {T : Type 0} (whole : List T → List T) where
   -- the first elements are changed, and the others are as they were
@@ -63,7 +63,3 @@ map-push f xs x = map-append f xs (x ∷ [])
 -- a change of each element by its number
 pub numbered-map-push : {T : Type 0} (f : ℕ × T → T) (xs : List T) (x : T) → map f (enumerate_from 0 (xs ++ x ∷ [])) ≡ map f (enumerate_from 0 xs) ++ f (length xs, x) ∷ []
 numbered-map-push {T} f xs x = rw (enumerate-push 0 xs x, zero-add) (map-append {A = ℕ × T} {B = T} f (enumerate_from 0 xs) ((length xs, x) ∷ []))
-
--- what a vector has once its elements were lent, changed and given back
-pub given-back : {T : Type 0} (old new : List T) (n : ℕ) → n ≡ length new → take n (new ++ drop (length new) old) ≡ new
-given-back old new n e = let all : length new ≤ length new = omega arith in rw (e, take-append-le (length new) new (drop (length new) old)) (take-length new)

@@ -1,17 +1,22 @@
 -- Keys are tied exactly where elements are equal, and where pins are one.
-use Rattle.std.proofs.Common.{◌≡◌, ℕ, Bool, true, false, cond, refl, sym, ◌∙◌, eq-eqb}
-use Rattle.std.specs.Prelude.{◌&&◌, ◌||◌, ◌==◌, if◌then◌else◌}
+use Rattle.std.proofs.Common.{◌≡◌, ℕ, ◌+◌, Bool, true, false, cond, Some, List, [], ◌∷◌, take, refl, sym, ◌∙◌, eq-eqb, add-one}
+use Rattle.std.specs.Prelude.{◌&&◌, ◌||◌, ◌==◌, slice_get, if◌then◌else◌}
+use Rattle.std.specs.List.{list_any}
+use Rattle.std.proofs.Math.Bool.{or-false}
+use Rattle.std.proofs.lemmas.List.Folds.{list_any-append}
+use Rattle.list_laws.proofs.Places.{take-get}
 use Rattle.std.specs.Cmp.{unsigned_ties, both_ways}
 use Rattle.std.specs.Ordering.{is_eq, nat_cmp, ordering_then}
 use Rattle.std.specs.declared.cmp.Ordering.{Ordering}
 use Rattle.std.specs.declared.cmp.Ordering.TheVariants.{Less, Equal, Greater}
-use Rattle.fpga_types.specs.Fit.{same_elem, same_pin}
+use Rattle.fpga_types.specs.Fit.{is_pin_of, same_elem, same_pin}
 use Rattle.fpga_types.specs.Kinds.{is_channel, is_pin, same_kind, same_label}
 use Rattle.fpga_types.specs.contracts.route.ElemKindOrd.TheImpl as kind_ord
 use Rattle.fpga_types.specs.contracts.route.LabelOrd.TheImpl as label_ord
 use Rattle.fpga_types.specs.declared.route.Elem.{Elem}
 use Rattle.fpga_types.specs.declared.route.ElemKind.{ElemKind}
 use Rattle.fpga_types.specs.declared.route.ElemKind.TheVariants.{Source, Opin, ChanX, ChanY, Ipin, Sink}
+use Rattle.fpga_types.specs.declared.route.RouteNet.{RouteNet}
 use Rattle.fpga_types.specs.declared.route.Label.{Label}
 use Rattle.fpga_types.specs.declared.route.Label.TheVariants.{Class, Pin, Pad, Track}
 use Rattle.fpga_bounds.specs.Keys.{key_cmp, elem_key, pin_key}
@@ -147,3 +152,13 @@ no_pin q e h = rw h (go (is_pin q.kind))
     go : (b : Bool) → (b && false && (q.x == e.x && q.y == e.y && same_label q.label e.label) && q.number == e.number) ≡ false
     go true = refl
     go false = refl
+
+-- one net more whose pins are taken
+pub pins-more : (nets : List RouteNet) (n : ℕ) (net : RouteNet) (e : Elem) → slice_get nets n ≡ Some net
+    → is_pin_of (take (n + 1) nets) e ≡ (is_pin_of (take n nets) e || list_any (same_pin e) net.elems)
+pins-more nets n net e here = rw (
+  add-one,
+  take-get nets n net here,
+  list_any-append (λ (m : RouteNet). list_any (same_pin e) m.elems) (take n nets) (net ∷ []),
+  or-false (list_any (same_pin e) net.elems),
+) refl

@@ -4,7 +4,6 @@ pub mod KeyLemmas
 pub mod LineLemmas
 pub mod MeetsLemmas
 pub mod PairLemmas
-pub mod RouteLemmas
 pub mod SlotTableLemmas
 pub mod SlotsOfLemmas
 pub mod StepFacts

@@ -1,14 +1,23 @@
--- The codes of a line by what stands round it, and a net's lines read one by one.
-use Rattle.std.proofs.Common.{◌≡◌, ℕ, zero, suc, ◌+◌, ◌-◌, ◌<◌, ◌≤◌, Bool, true, false, cond, Option, Some, None, List, [], ◌∷◌, ◌++◌, length, take, drop, get_or, refl, sym, ap, subst, ◌∙◌, arith, length-drop, add-one, inl, inr}
-use Rattle.std.specs.Prelude.{◌&&◌, ◌||◌, ◌==◌, not, is_some, slice_get, option_map}
+-- The faults of a net's lines, taken line by line.
+use Rattle.std.proofs.Common.{◌≡◌, ℕ, zero, suc, ◌+◌, ◌-◌, ◌<◌, ◌≤◌, Bool, true, false, Option, Some, None, List, [], ◌∷◌, ◌++◌, length, take, drop, get_or, refl, sym, ap, subst, ◌∙◌, arith, length-drop, add-one}
+use Rattle.std.specs.Prelude.{◌&&◌, ◌||◌, ◌==◌, not, map, flat_map, slice_get, option_map, if◌then◌else◌}
 use Rattle.std.specs.List.{list_any, last_or}
+use Rattle.std.specs.Option.{option_map_or, option_or}
 use Rattle.std.proofs.Math.Seq.{take-length}
-use Rattle.std.proofs.lemmas.Bool.{false≢true, cases_eq}
+use Rattle.std.proofs.lemmas.Bool.{false≢true}
 use Rattle.std.proofs.lemmas.Bool.Decides.{nat_tests}
+use Rattle.std.proofs.lemmas.List.{map-append}
+use Rattle.list_laws.proofs.Places.{take-get}
+use Rattle.fpga_text.specs.Codes.{Past, first_code}
+use Rattle.fpga_text.specs.FirstFault.{Faults, IsFaultOf, IsRefusal, first_fault}
+use Rattle.fpga_text.specs.declared.fault.TextFault.{TextFault}
+use Rattle.fpga_text.specs.declared.fault.TextFault.TheVariants.{Bad, Limit, Memory}
+use Rattle.fpga_text.proofs.FaultLemmas.{fault-first}
 use Rattle.fpga_types.specs.Size.{Size}
-use Rattle.fpga_types.specs.Fit.{RouteLine, fit_code, is_510, is_511, is_512, is_513, is_514, is_515, same_elem}
+use Rattle.fpga_types.specs.Fit.{LineContext, RouteLine, comes_again, context_of, fit_codes, fit_faults, is_out_of_order, is_pin_of, leaps, line_fault, net_lines, same_elem, slots_past, splits, starts_loose}
 use Rattle.fpga_types.specs.Kinds.{is_channel}
 use Rattle.fpga_types.specs.Slots.{channel_at, elem_slot, same_slot, slots_of}
+use Rattle.fpga_types.specs.declared.limits.TheConstants.{SLOT_LIMIT}
 use Rattle.fpga_types.specs.declared.grid.Cell.{Cell}
 use Rattle.fpga_types.specs.declared.problem.Slot.{Slot}
 use Rattle.fpga_types.specs.declared.route.Elem.{Elem}
@@ -16,101 +25,187 @@ use Rattle.fpga_types.specs.declared.route.ElemKind.{ElemKind}
 use Rattle.fpga_types.specs.declared.route.ElemKind.TheVariants.{Source, Opin, ChanX, ChanY, Ipin, Sink}
 use Rattle.fpga_types.specs.declared.route.Label.TheVariants.{Class}
 use Rattle.fpga_types.specs.declared.route.RouteNet.{RouteNet}
-use Rattle.fpga_bounds.specs.NetFit.{head_line, elem_line, AreFit, IsNetFit, IsFitAt, slots_so_far}
-use Rattle.fpga_bounds.specs.ElemContext.{context_of, is_pin_of, has_fault, leaps, comes_again, starts_loose, is_misplaced, is_one_too_many}
-use Rattle.fpga_bounds.specs.declared.elem_context.ElemContext.{ElemContext}
-use Rattle.fpga_bounds.proofs.SlotsOfLemmas.{again-slot, take-get}
+use Rattle.fpga_types.specs.declared.route.RouteText.{RouteText}
+use Rattle.fpga_types.proofs.FitLemmas.{drop-splits, drop-splits_none}
+use Rattle.fpga_bounds.specs.ElemContext.{context_at}
+use Rattle.fpga_bounds.specs.NetFit.{nets_faults, slots_so_far}
+use Rattle.fpga_bounds.specs.Refusal.{IsRefusalOf, untold}
+use Rattle.fpga_bounds.proofs.SlotsOfLemmas.{again-slot}
+
+-- the Net line of a net
+abbrev pub head_line : List RouteNet → RouteNet → RouteLine
+head_line earlier net =
+    record { earlier = earlier; net = net; before = []; elem = None; after = net.elems }
+
+-- the line of an element that stands between these
+abbrev pub line_at : List RouteNet → RouteNet → List Elem × Elem × List Elem → RouteLine
+line_at earlier net s =
+    record { earlier = earlier; net = net; before = s.0; elem = Some s.1; after = s.2 }
+
+-- the line of the element at this position
+abbrev pub elem_line : List RouteNet → RouteNet → ℕ → Elem → RouteLine
+elem_line earlier net i e = line_at earlier net (take i net.elems, e, drop (suc i) net.elems)
+
+-- the faults of the lines of a net from an element on
+abbrev pub elems_faults : Size → List RouteNet → RouteNet → ℕ → Faults
+elems_faults grid earlier net i =
+    map (line_fault grid) (map (line_at earlier net) (drop i (splits net.elems)))
+
+-- the first fault of the nets from this one on stands behind the first elements of the net
+abbrev pub IsPastElems : Size → List RouteNet → ℕ → RouteNet → ℕ → Type 0
+IsPastElems grid nets n net i = first_fault (nets_faults grid nets n)
+    ≡ first_fault (elems_faults grid (take n nets) net i ++ nets_faults grid nets (n + 1))
 
 -- what is read past the end of a net's elements
 abbrev pub NO_ELEM : Elem
 NO_ELEM = record { kind = Source; x = 0; y = 0; label = Class; number = 0; line = 0 }
 
--- the element that a loop reads
-pub get-read : (xs : List Elem) (i : ℕ) → i < length xs → slice_get xs i ≡ Some (get_or xs i NO_ELEM)
-get-read [] i h = absurd (omega arith)
-get-read (x ∷ xs) zero h = refl
-get-read (x ∷ xs) (suc i) h = get-read xs i (omega (arith, h))
+module _ (grid : Size) (nets : List RouteNet) (n : ℕ) (net : RouteNet)
+    (here : slice_get nets n ≡ Some net) where
+  -- the lines of a net come before those of the next
+  nets_faults-net : nets_faults grid nets n
+      ≡ line_fault grid (head_line (take n nets) net)
+      ∷ (elems_faults grid (take n nets) net 0 ++ nets_faults grid nets (n + 1))
+  nets_faults-net =
+      ap (λ ss. map (line_fault grid) (flat_map (λ s. net_lines s.0 s.1) ss)) (drop-splits nets n net here)
+      ∙ map-append (line_fault grid) (net_lines (take n nets) net)
+      (flat_map (λ s. net_lines s.0 s.1) (drop (suc n) (splits nets)))
+      ∙ ap (λ m. line_fault grid (head_line (take n nets) net) ∷ (elems_faults grid (take n nets) net 0
+      ++ nets_faults grid nets m)) (sym (add-one n))
 
-first_code : (b : Bool) (c : ℕ × (RouteLine → Bool)) (rest : Option (ℕ × (RouteLine → Bool))) → is_some (option_map (λ d. d.0) (cond b (Some c) rest)) ≡ (b || is_some (option_map (λ d. d.0) rest))
-first_code true c rest = refl
-first_code false c rest = refl
+  -- the Net line has no fault
+  pub past-head : line_fault grid (head_line (take n nets) net) ≡ None → IsPastElems grid nets n net 0
+  past-head clean = ap first_fault nets_faults-net ∙ ap (λ o. option_or o
+      (first_fault (elems_faults grid (take n nets) net 0 ++ nets_faults grid nets (n + 1)))) clean
 
--- a line has a code where one of the six holds
-pub any_code : (grid : Size) (line : RouteLine) → is_some (fit_code grid line) ≡ (is_510 grid line || is_511 line || is_512 line || is_513 line || is_514 line || is_515 line)
-any_code grid line = simp first_code (ends (is_510 grid line) (is_511 line) (is_512 line) (is_513 line) (is_514 line) (is_515 line))
+  -- it has one
+  pub refused-head : (found : TextFault)
+      → IsFaultOf (line_fault grid (head_line (take n nets) net)) found
+      → IsRefusal (nets_faults grid nets n) found
+  refused-head found is =
+      subst (λ (faults : Faults). IsRefusal faults found) (sym nets_faults-net) (fault-first _ _ found is)
+
+  -- one line more has no fault
+  module _ (i : ℕ) (e : Elem) (there : slice_get net.elems i ≡ Some e) where
+    elems_faults-elem : elems_faults grid (take n nets) net i
+        ≡ line_fault grid (elem_line (take n nets) net i e) ∷ elems_faults grid (take n nets) net (i + 1)
+    elems_faults-elem =
+        ap (λ ss. map (line_fault grid) (map (line_at (take n nets) net) ss)) (drop-splits net.elems i e there)
+        ∙ ap (λ m. line_fault grid (elem_line (take n nets) net i e)
+        ∷ elems_faults grid (take n nets) net m) (sym (add-one i))
+
+    pub past-elem : IsPastElems grid nets n net i
+        → line_fault grid (elem_line (take n nets) net i e) ≡ None
+        → IsPastElems grid nets n net (i + 1)
+    past-elem past clean = past
+        ∙ ap (λ faults. first_fault (faults ++ nets_faults grid nets (n + 1))) elems_faults-elem
+        ∙ ap (λ o. option_or o (first_fault (elems_faults grid (take n nets) net (i + 1)
+        ++ nets_faults grid nets (n + 1)))) clean
+
+    -- or it has one
+    pub refused-elem : (found : TextFault) → IsPastElems grid nets n net i
+        → IsFaultOf (line_fault grid (elem_line (take n nets) net i e)) found
+        → IsRefusal (nets_faults grid nets n) found
+    refused-elem found past is = subst (λ fault. IsFaultOf fault found)
+        (sym (past ∙ ap (λ faults. first_fault (faults ++ nets_faults grid nets (n + 1))) elems_faults-elem))
+        (fault-first _ _ found is)
+
+  -- no line is left
+  pub past-elems : (i : ℕ) → slice_get net.elems i ≡ None → IsPastElems grid nets n net i
+      → first_fault (nets_faults grid nets n) ≡ first_fault (nets_faults grid nets (n + 1))
+  past-elems i none past = past
+      ∙ ap (λ ss. first_fault (map (line_fault grid) (map (line_at (take n nets) net) ss)
+      ++ nets_faults grid nets (n + 1))) (drop-splits_none net.elems i none)
+
+-- nothing stands past the end
+pub get-none : {T : Type 0} (xs : List T) (i : ℕ) → length xs ≤ i → slice_get xs i ≡ None
+get-none [] i past = refl
+get-none (x ∷ xs) zero past = absurd (omega arith)
+get-none (x ∷ xs) (suc i) past = get-none xs i (omega arith)
+
+-- no net is left
+pub past-nets : (grid : Size) (nets : List RouteNet) (n : ℕ) → slice_get nets n ≡ None
+    → first_fault (nets_faults grid nets n) ≡ None
+past-nets grid nets n none =
+    ap (λ ss. first_fault (map (line_fault grid) (flat_map (λ s. net_lines s.0 s.1) ss)))
+    (drop-splits_none nets n none)
+
+-- a fault that was found is one of the line
+pub found-fault : (fault : Option TextFault) (found : TextFault) → Some found ≡ fault
+    → IsFaultOf fault found
+found-fault fault (Bad line code) is = sym is
+found-fault fault (Limit code count) is = sym is
+found-fault fault Memory is = tt
+
+-- the fault of an element that a loop reads, by what it has at hand
+pub fault-at : (grid : Size) (earlier : List RouteNet) (net : RouteNet) (elems : List Elem) (i : ℕ)
+    (slots : List Slot) (previous : Option Elem) (again taken full : Bool) (fault : Option TextFault)
+    → elems ≡ net.elems → i < length elems → slots ≡ slots_so_far earlier net i
+    → previous ≡ last_or None (take i elems)
+    → again ≡ list_any (same_elem (get_or elems i NO_ELEM)) (take i elems)
+    → taken ≡ is_pin_of earlier (get_or elems i NO_ELEM) → full ≡ (length slots == SLOT_LIMIT)
+    → fault ≡ first_code fit_codes grid (get_or elems i NO_ELEM).line (context_at (record {
+      elem = get_or elems i NO_ELEM;
+      previous = previous;
+      again = again;
+      taken = taken;
+      full = full;
+      last = i + 1 == length elems;
+      global = net.global;
+    }))
+    → fault ≡ line_fault grid (elem_line earlier net i (get_or elems i NO_ELEM))
+fault-at grid earlier net elems i slots previous again taken full fault own within so_far p a t f is =
+    is ∙ (λ k. first_code fit_codes grid e.line (record {
+      elem = Some e;
+      previous = (p ∙ ap (λ (es : List Elem). last_or None (take i es)) own) k;
+      again = (a ∙ ap (λ (es : List Elem). list_any (same_elem e) (take i es)) own) k;
+      taken = t k;
+      full = (f ∙ ap (λ (zs : List Slot). length zs == SLOT_LIMIT) so_far) k;
+      last = (last ∙ ap (λ (es : List Elem). length (drop (suc i) es) == 0) own) k;
+      global = net.global;
+    }))
   where
-    ends : (a b c d e f : Bool) → (a || (b || (c || (d || (e || (f || false)))))) ≡ (a || b || c || d || e || f)
-    ends true b c d e f = refl
-    ends false true c d e f = refl
-    ends false false true d e f = refl
-    ends false false false true e f = refl
-    ends false false false false true f = refl
-    ends false false false false false true = refl
-    ends false false false false false false = refl
+    e : Elem
+    e = get_or elems i NO_ELEM
 
--- the codes of an element line, by what stands round it
-pub elem-code : (grid : Size) (earlier : List RouteNet) (net : RouteNet) (i : ℕ) (e : Elem)
-    → is_some (fit_code grid (elem_line earlier net i e)) ≡ has_fault grid (context_of (elem_line earlier net i e) e) e
-elem-code grid earlier net i e = any_code grid (elem_line earlier net i e)
-
-is_none-some : {T : Type 0} (o : Option T) → is_some o ≡ false → o ≡ None
-is_none-some None h = refl
-is_none-some (Some x) h = cc
-
-pub last-push : {T : Type 0} (o : Option T) (xs : List T) (x : T) → last_or o (xs ++ x ∷ []) ≡ Some x
-last-push o [] x = refl
-last-push o (y ∷ ys) x = last-push (Some y) ys x
-
--- where an element stands, by what a loop has at hand
-pub context-is : (at : ElemContext) (earlier : List RouteNet) (net : RouteNet) (i : ℕ) (e : Elem) (slots : List Slot)
-    → i < length net.elems → slots ≡ slots_so_far earlier net i
-    → at.previous ≡ last_or None (take i net.elems) → at.again ≡ list_any (same_elem e) (take i net.elems) → at.taken ≡ is_pin_of earlier e
-    → at.full ≡ (length slots == 200000) → at.last ≡ (i + 1 == length net.elems) → at.global ≡ net.global
-    → at ≡ context_of (elem_line earlier net i e) e
-context-is at earlier net i e slots h s previous again taken full last global =
-    let full_is : at.full ≡ (length (slots_so_far earlier net i) == 200000) = full ∙ ap (λ (zs : List Slot). length zs == 200000) s in
-    let last_is : at.last ≡ (length (drop (suc i) net.elems) == 0) = last ∙ rw (length-drop) (ends i (length net.elems) h) in
-    λ k. record { previous = previous k; again = again k; taken = taken k; full = full_is k; last = last_is k; global = global k }
-  where
     ends : (a n : ℕ) → a < n → (a + 1 == n) ≡ (n - suc a == 0)
     ends a n g = grind (arith, nat_tests)
 
--- one line more that has no code
-pub fit-more : (grid : Size) (earlier : List RouteNet) (net : RouteNet) (i : ℕ) (e : Elem) → AreFit grid earlier net i → slice_get net.elems i ≡ Some e
-    → has_fault grid (context_of (elem_line earlier net i e) e) e ≡ false → AreFit grid earlier net (i + 1)
-fit-more grid earlier net i e fits here h = record {
-  head = fits.head;
-  elems = λ k x below there. elim (cases_eq k i) [
-    | inl same ↦ (
-        let there_too : slice_get net.elems i ≡ Some x = subst (λ (m : ℕ). slice_get net.elems m ≡ Some x) same there in
-        let one : e ≡ x = (let both : Some e ≡ Some x = sym here ∙ there_too in cc) in
-        let none : fit_code grid (elem_line earlier net i e) ≡ None = is_none-some (fit_code grid (elem_line earlier net i e)) (elem-code grid earlier net i e ∙ h) in
-        subst (λ (m : ℕ). fit_code grid (elem_line earlier net m x) ≡ None) (sym same) (subst (λ (y : Elem). fit_code grid (elem_line earlier net i y) ≡ None) one none))
-    | inr other ↦ fits.elems k x (omega (arith, below)) there
-  ];
-}
+    last : (i + 1 == length elems) ≡ (length (drop (suc i) elems) == 0)
+    last = rw length-drop (ends i (length elems) within)
 
--- a line with a code keeps its net from fitting
-pub fault-unfit : (grid : Size) (nets : List RouteNet) (n : ℕ) (net : RouteNet) (i : ℕ) (e : Elem) → slice_get nets n ≡ Some net → i < length net.elems → slice_get net.elems i ≡ Some e
-    → has_fault grid (context_of (elem_line (take n nets) net i e) e) e ≡ true → IsFitAt grid nets n → ⊥
-fault-unfit grid nets n net i e here below there h fits =
-    let none = (fits net here).elems i e below there in
-    let some : is_some (fit_code grid (elem_line (take n nets) net i e)) ≡ true = elem-code grid (take n nets) net i e ∙ h in
-    absurd (false≢true (let k : is_some {T = ℕ} None ≡ true = rw none at some in k))
+-- a fault is not told
+pub refused : (route : RouteText) (found : TextFault) → IsRefusal (fit_faults route) found
+    → IsRefusalOf route (untold found)
+refused route (Bad line code) is =
+    (refl, refl, λ fit. let clash : None ≡ Some (Bad line code) = sym fit ∙ is in cc)
+refused route (Limit code count) is =
+    (refl, refl, λ fit. let clash : None ≡ Some (Limit code count) = sym fit ∙ is in cc)
+refused route Memory is = tt
 
-both_false : (a b : Bool) → (a || b) ≡ false → (a ≡ false) × (b ≡ false)
-both_false true b h = cc
-both_false false b h = (refl, h)
+-- a line without a fault passes each test
+pub record Passes (grid : Size) (at : LineContext) : Type 0 where
+  pub leaps : leaps grid at ≡ false
+  pub past : slots_past at ≡ None
 
--- an element without a fault neither leaps nor is one too many
-pub no-fault : (grid : Size) (at : ElemContext) (e : Elem) → has_fault grid at e ≡ false → (leaps grid at e ≡ false) × (is_one_too_many at e ≡ false)
-no-fault grid at e h =
-    let ends = both_false (leaps grid at e || comes_again at e || starts_loose at e || at.taken || is_misplaced at e) (is_one_too_many at e) h in
-    let fifth = both_false (leaps grid at e || comes_again at e || starts_loose at e || at.taken) (is_misplaced at e) ends.0 in
-    let fourth = both_false (leaps grid at e || comes_again at e || starts_loose at e) at.taken fifth.0 in
-    let third = both_false (leaps grid at e || comes_again at e) (starts_loose at e) fourth.0 in
-    let second = both_false (leaps grid at e) (comes_again at e) third.0 in
-    (second.0, ends.1)
+pub passes : (grid : Size) (n : ℕ) (at : LineContext) → first_code fit_codes grid n at ≡ None
+    → Passes grid at
+passes grid n at clean =
+    go (leaps grid at) (comes_again at) (starts_loose at) at.taken (is_out_of_order at) (slots_past at)
+    refl refl clean
+  where
+    go : (a b c d e : Bool) (o : Option ℕ) → leaps grid at ≡ a → slots_past at ≡ o
+        → (if a then Some (Bad n 510) else if b then Some (Bad n 511) else if c then Some (Bad n 512)
+        else if d then Some (Bad n 513) else if e then Some (Bad n 514)
+        else option_or (option_map (λ m. Limit 515 m) o) None) ≡ None → Passes grid at
+    go true b c d e o p q f = absurd (let clash : Some (Bad n 510) ≡ None = f in cc)
+    go false true c d e o p q f = absurd (let clash : Some (Bad n 511) ≡ None = f in cc)
+    go false false true d e o p q f = absurd (let clash : Some (Bad n 512) ≡ None = f in cc)
+    go false false false true e o p q f = absurd (let clash : Some (Bad n 513) ≡ None = f in cc)
+    go false false false false true o p q f = absurd (let clash : Some (Bad n 514) ≡ None = f in cc)
+    go false false false false false (Some m) p q f =
+        absurd (let clash : Some (Limit 515 m) ≡ None = f in cc)
+    go false false false false false None p q f = record { leaps = p; past = q }
 
 slot_channel : (n : ℕ) (k : ElemKind) (x y : ℕ) (s : Slot) → option_map {T = Cell} {U = Slot} (λ cell. record { net = n; cell = cell }) (channel_at k x y) ≡ Some s → is_channel k ≡ true
 slot_channel n Source x y s h = cc
@@ -121,65 +216,49 @@ slot_channel n Ipin x y s h = cc
 slot_channel n Sink x y s h = cc
 
 -- a slot that an element without a fault brings has room
-pub slot-room : (grid : Size) (earlier : List RouteNet) (net : RouteNet) (i : ℕ) (e : Elem) (s : Slot) → has_fault grid (context_of (elem_line earlier net i e) e) e ≡ false
-    → elem_slot (length earlier) e ≡ Some s → list_any (same_slot s) (slots_so_far earlier net i) ≡ false → length (slots_so_far earlier net i) ≤ 200000 → length (slots_so_far earlier net i) < 200000
-slot-room grid earlier net i e s h slot new limit =
+pub slot-room : (grid : Size) (earlier : List RouteNet) (net : RouteNet) (i : ℕ) (e : Elem) (s : Slot)
+    → line_fault grid (elem_line earlier net i e) ≡ None → elem_slot (length earlier) e ≡ Some s
+    → list_any (same_slot s) (slots_so_far earlier net i) ≡ false
+    → length (slots_so_far earlier net i) ≤ SLOT_LIMIT
+    → length (slots_so_far earlier net i) < SLOT_LIMIT
+slot-room grid earlier net i e s clean slot new limit =
     below (length (slots_so_far earlier net i)) limit
-    (open_at (is_channel e.kind) (list_any (same_elem e) (take i net.elems)) (length (slots_so_far earlier net i) == 200000) (slot_channel (length earlier) e.kind e.x e.y s slot)
+    (open_at (is_channel e.kind) (list_any (same_elem e) (take i net.elems))
+    (length (slots_so_far earlier net i) == SLOT_LIMIT)
+    (slot_channel (length earlier) e.kind e.x e.y s slot)
     (first_time (list_any (same_elem e) (take i net.elems)) refl)
-    (no-fault grid at e h).1)
+    (passes grid e.line (context_of (elem_line earlier net i e)) clean).past)
   where
-    at : ElemContext
-    at = context_of (elem_line earlier net i e) e
-
     first_time : (b : Bool) → list_any (same_elem e) (take i net.elems) ≡ b → b ≡ false
     first_time false f = refl
     first_time true f = absurd (false≢true (sym new ∙ again-slot earlier net i e s slot f))
 
-    open_at : (c a f : Bool) → c ≡ true → a ≡ false → (c && not a && f) ≡ false → f ≡ false
-    open_at true false f p q r = r
+    open_at : (c a f : Bool) → c ≡ true → a ≡ false
+        → (if c && not a && f then Some (SLOT_LIMIT + 1) else None) ≡ None → f ≡ false
+    open_at true false false p q r = refl
+    open_at true false true p q r = absurd (let clash : Some (SLOT_LIMIT + 1) ≡ None = r in cc)
     open_at false a f p q r = cc
     open_at true true f p q r = cc
 
-    below : (m : ℕ) → m ≤ 200000 → (m == 200000) ≡ false → m < 200000
+    below : (m : ℕ) → m ≤ SLOT_LIMIT → (m == SLOT_LIMIT) ≡ false → m < SLOT_LIMIT
     below m p q = grind (arith, nat_tests)
 
--- the whole net fits once each element is read
-pub fit-all : (grid : Size) (nets : List RouteNet) (n : ℕ) (net : RouteNet) (i : ℕ) → slice_get nets n ≡ Some net → i ≡ length net.elems → AreFit grid (take n nets) net i → IsFitAt grid nets n
-fit-all grid nets n net i here e fits = λ other there.
-    let both : Some net ≡ Some other = sym here ∙ there in
-    let one : net ≡ other = cc in
-    subst (λ (m : RouteNet). IsNetFit grid (take n nets) m) one (subst (λ (k : ℕ). AreFit grid (take n nets) net k) e fits)
-
 -- the slots once each element is read
-pub slots-all : (nets : List RouteNet) (n : ℕ) (net : RouteNet) (i : ℕ) → slice_get nets n ≡ Some net → i ≡ length net.elems → slots_so_far (take n nets) net i ≡ slots_of (take (n + 1) nets)
-slots-all nets n net i here e = rw (e, take-length net.elems, add-one, take-get nets n net here) refl
+pub slots-all : (nets : List RouteNet) (n : ℕ) (net : RouteNet) (i : ℕ) → slice_get nets n ≡ Some net
+    → i ≡ length net.elems → slots_so_far (take n nets) net i ≡ slots_of (take (n + 1) nets)
+slots-all nets n net i here e =
+    rw (e, take-length net.elems, add-one, take-get nets n net here) refl
 
--- the answer of the test at an element that a loop reads
-pub fault-at : (grid : Size) (earlier : List RouteNet) (net : RouteNet) (elems : List Elem) (i : ℕ) (slots : List Slot) (previous : Option Elem) (again taken full result : Bool)
-    → elems ≡ net.elems → i < length elems → slots ≡ slots_so_far earlier net i → previous ≡ last_or None (take i elems)
-    → again ≡ list_any (same_elem (get_or elems i NO_ELEM)) (take i elems) → taken ≡ is_pin_of earlier (get_or elems i NO_ELEM) → full ≡ (length slots == 200000)
-    → result ≡ has_fault grid (record { previous = previous; again = again; taken = taken; full = full; last = i + 1 == length elems; global = net.global }) (get_or elems i NO_ELEM)
-    → result ≡ has_fault grid (context_of (elem_line earlier net i (get_or elems i NO_ELEM)) (get_or elems i NO_ELEM)) (get_or elems i NO_ELEM)
-fault-at grid earlier net elems i slots previous again taken full result e lt s p a t f r =
-    let E : Elem = get_or elems i NO_ELEM in
-    let at : ElemContext = record { previous = previous; again = again; taken = taken; full = full; last = i + 1 == length elems; global = net.global } in
-    r ∙ ap (λ (z : ElemContext). has_fault grid z E)
-    (context-is at earlier net i E slots (subst (λ (zs : List Elem). i < length zs) e lt) s
-    (subst (λ (zs : List Elem). previous ≡ last_or None (take i zs)) e p)
-    (subst (λ (zs : List Elem). again ≡ list_any (same_elem E) (take i zs)) e a)
-    t f (ap (λ (zs : List Elem). i + 1 == length zs) e) refl)
-
--- the element that a loop reads, in its net
-pub read-here : (net : RouteNet) (elems : List Elem) (i : ℕ) → elems ≡ net.elems → i < length elems → slice_get net.elems i ≡ Some (get_or elems i NO_ELEM)
-read-here net elems i e lt = rw (← e) (get-read elems i lt)
-
--- the Net line has no code where the net is global or has elements
-pub head-fits : (grid : Size) (earlier : List RouteNet) (net : RouteNet) → ((length net.elems == 0) && not net.global) ≡ false → fit_code grid (head_line earlier net) ≡ None
-head-fits grid earlier net h = is_none-some (fit_code grid (head_line earlier net)) (any_code grid (head_line earlier net) ∙ go (length net.elems == 0) net.global h)
+-- the Net line has no fault where the net is global or has elements, and else is out of order
+pub head-fault : (grid : Size) (earlier : List RouteNet) (net : RouteNet) (bare : Bool)
+    → bare ≡ ((length net.elems == 0) && not net.global) → line_fault grid (head_line earlier net)
+    ≡ (if bare then Some (Bad net.line 514) else None)
+head-fault grid earlier net bare is =
+    go (length net.elems == 0) net.global ∙ ap (λ b. if b then Some (Bad net.line 514) else None) (sym is)
   where
-    go : (b g : Bool) → (b && not g) ≡ false → (not g && (b && true) || false) ≡ false
-    go true true h = refl
-    go true false h = cc
-    go false true h = refl
-    go false false h = refl
+    go : (b g : Bool) → (if not g && (false || b && true) then Some (Bad net.line 514) else None)
+        ≡ (if b && not g then Some (Bad net.line 514) else None)
+    go true true = refl
+    go true false = refl
+    go false true = refl
+    go false false = refl

@@ -20,7 +20,8 @@ use Rattle.fpga_types.specs.declared.route.RouteText.{RouteText}
 use Rattle.fpga_types.proofs.MeetingLemmas.{same_cell-is, same_cell-itself}
 use Rattle.fpga_bounds.specs.Pairs.{AreDistinct, crowd_in}
 use Rattle.fpga_bounds.proofs.CellOrder.{cell_order}
-use Rattle.fpga_bounds.proofs.SlotsOfLemmas.{channel_slots, enumerate-push}
+use Rattle.list_laws.proofs.Numbered.{enumerate-push}
+use Rattle.fpga_bounds.proofs.SlotsOfLemmas.{channel_slots}
 
 -- all that a row makes with another
 module _ {A B : Type 0} (g : A → A → Option B) where

@@ -10,6 +10,8 @@ use Rattle.std.proofs.lemmas.Grind.{flat_map-append}
 use Rattle.std.proofs.lemmas.List.{append-nil}
 use Rattle.std.proofs.lemmas.List.Elements.{filter_map-append}
 use Rattle.std.proofs.lemmas.List.Folds.{list_any-append}
+use Rattle.list_laws.proofs.Numbered.{enumerate-push}
+use Rattle.list_laws.proofs.Places.{take-get}
 use Rattle.fpga_types.specs.Fit.{same_place, same_elem}
 use Rattle.fpga_types.specs.Kinds.{same_kind, is_channel, same_label}
 use Rattle.fpga_types.specs.Slots.{first_seen, channel_at, elem_slot, same_slot, slots_of}
@@ -28,13 +30,6 @@ use Rattle.fpga_bounds.proofs.SlotTableLemmas.{same_slot-is, same_slot-itself}
 -- the slot of each channel line, as often as it stands there
 abbrev pub channel_slots : List RouteNet → List Slot
 channel_slots nets = flat_map (λ n. filter_map (elem_slot n.0) n.1.elems) (enumerate_from 0 nets)
-
--- one element more, with its number
-pub enumerate-push : {T : Type 0} (k : ℕ) (xs : List T) (x : T) → enumerate_from k (xs ++ x ∷ []) ≡ enumerate_from k xs ++ (k + length xs, x) ∷ []
-enumerate-push k [] x = let e : k ≡ k + 0 = omega arith in ap (λ (m : ℕ). (m, x) ∷ []) e
-enumerate-push {T} k (y ∷ ys) x =
-    let e : k + 1 + length ys ≡ k + length (y ∷ ys) = omega arith in
-    ap (λ zs. (k, y) ∷ zs) (enumerate-push (k + 1) ys x ∙ ap (λ (m : ℕ). enumerate_from (k + 1) ys ++ (m, x) ∷ []) e)
 
 -- one net more brings the slots of its channel lines
 pub channel_slots-push : (nets : List RouteNet) (net : RouteNet) → channel_slots (nets ++ net ∷ []) ≡ channel_slots nets ++ filter_map (elem_slot (length nets)) net.elems
@@ -79,12 +74,6 @@ any-swap s (x ∷ xs) = rw (same_slot-swap x s, any-swap s xs) refl
 -- one slot more among those first seen
 pub first_seen-with : (xs : List Slot) (s : Slot) → first_seen same_slot (xs ++ s ∷ []) ≡ with_slot (first_seen same_slot xs) s
 first_seen-with xs s = rw (first_seen-push same_slot xs s, any-swap s xs, ← any-first_seen s xs) refl
-
--- an element of a list, and those up to it
-pub take-get : {T : Type 0} (xs : List T) (i : ℕ) (x : T) → slice_get xs i ≡ Some x → take (suc i) xs ≡ take i xs ++ x ∷ []
-take-get [] i x h = cc
-take-get (y ∷ ys) zero x h = let e : y ≡ x = cc in rw e refl
-take-get (y ∷ ys) (suc i) x h = ap (λ zs. y ∷ zs) (take-get ys i x h)
 
 first_seen-elem : (xs : List Slot) (n : ℕ) (e : Elem) → first_seen same_slot (xs ++ filter_map (elem_slot n) (e ∷ [])) ≡ with_elem (first_seen same_slot xs) n e
 first_seen-elem xs n e = go (elem_slot n e)

@@ -1,13 +1,20 @@
 -- The steps of a route that fits: their slots are slots of the route, and the cells of those meet.
-use Rattle.std.proofs.Common.{◌≡◌, ℕ, zero, suc, ◌+◌, ◌<◌, Bool, true, false, cond, Option, Some, None, List, [], ◌∷◌, ◌++◌, length, take, get_or, refl, sym, ap, subst, ◌∙◌, arith, All}
+use Rattle.std.proofs.Common.{◌≡◌, ℕ, zero, suc, ◌+◌, ◌<◌, Bool, true, false, cond, Option, Some, None, List, [], ◌∷◌, ◌++◌, length, take, drop, get_or, inl, inr, refl, sym, ap, subst, ◌∙◌, arith, All}
 use Rattle.std.specs.Prelude.{◌||◌, not, is_some, is_none, filter_map, flat_map, slice_get, option_map, option_and_then}
 use Rattle.std.specs.List.{AllByRecursion, cons_option, enumerate_from, last_or, list_any, position_or_len}
 use Rattle.std.proofs.Math.Bool.{or-true}
 use Rattle.std.proofs.lemmas.Bool.{false≢true}
 use Rattle.std.proofs.lemmas.List.Folds.{list_any-append}
 use Rattle.std.proofs.lemmas.List.Sums.{passes_at_first}
+use Rattle.list_laws.proofs.Members.{In, In-flat_map, In-map}
+use Rattle.list_laws.proofs.Numbered.{numbered-here, numbered-there}
+use Rattle.list_laws.proofs.Places.{last-push, take-get}
+use Rattle.list_laws.proofs.Searches.{position-below}
+use Rattle.fpga_text.specs.FirstFault.{Faults, IsFaultless}
+use Rattle.fpga_text.specs.declared.fault.TextFault.{TextFault}
+use Rattle.fpga_text.proofs.FaultLemmas.{faultless-line}
 use Rattle.fpga_types.specs.Fabric.{Meeting, Meets, meeting}
-use Rattle.fpga_types.specs.Fit.{IsFit, are_apart}
+use Rattle.fpga_types.specs.Fit.{IsFit, are_apart, context_of, fit_faults, line_fault, net_lines, route_lines, splits}
 use Rattle.fpga_types.specs.Size.{Size}
 use Rattle.fpga_types.specs.Slots.{adjacent, elem_cell, elem_slot, same_slot, slot_at, slot_number, slots, slots_of, step_of, steps, NO_SLOT}
 use Rattle.fpga_types.specs.declared.grid.Cell.{Cell}
@@ -16,14 +23,12 @@ use Rattle.fpga_types.specs.declared.problem.Slot.{Slot}
 use Rattle.fpga_types.specs.declared.route.Elem.{Elem}
 use Rattle.fpga_types.specs.declared.route.RouteNet.{RouteNet}
 use Rattle.fpga_types.specs.declared.route.RouteText.{RouteText}
+use Rattle.fpga_types.proofs.FitLemmas.{In-splits}
 use Rattle.fpga_types.proofs.MeetingLemmas.{meeting-is}
-use Rattle.fpga_bounds.specs.NetFit.{elem_line, IsFitAt}
 use Rattle.fpga_bounds.specs.Problem.{IsStepWithin, IsStepMeeting}
-use Rattle.fpga_bounds.specs.ElemContext.{context_of, has_fault}
-use Rattle.fpga_bounds.proofs.LineLemmas.{elem-code, last-push, no-fault}
-use Rattle.fpga_bounds.proofs.RouteLemmas.{fit-each, get-below}
+use Rattle.fpga_bounds.proofs.LineLemmas.{elem_line, line_at, passes}
 use Rattle.fpga_bounds.proofs.SlotTableLemmas.{same_slot-is, same_slot-itself}
-use Rattle.fpga_bounds.proofs.SlotsOfLemmas.{any-first_seen, channel_slots, take-get}
+use Rattle.fpga_bounds.proofs.SlotsOfLemmas.{any-first_seen, channel_slots}
 
 module _ {B : Type 0} (P : B → Type 0) where
   each-append : (xs ys : List B) → AllByRecursion P xs → AllByRecursion P ys → AllByRecursion P (xs ++ ys)
@@ -52,19 +57,6 @@ module _ {B : Type 0} (P : B → Type 0) where
       at rest zero d below = h.0
       at rest (suc k) d below = rest k d (omega (arith, below))
 
-numbered-there : {T : Type 0} (a : ℕ) (xs : List T) (k : ℕ) (z : ℕ × T) → slice_get (enumerate_from a xs) k ≡ Some z → (z.0 ≡ a + k) × (slice_get xs k ≡ Some z.1)
-numbered-there a [] k z h = cc
-numbered-there {T} a (x ∷ xs) zero z h = let e : (a, x) ≡ z = first h in (let f : a ≡ z.0 = ap (λ (w : ℕ × T). w.0) e in omega arith, ap (λ (w : ℕ × T). Some w.1) e)
-  where
-    first : {u v : ℕ × T} → Some u ≡ Some v → u ≡ v
-    first g = cc
-numbered-there a (x ∷ xs) (suc k) z h = let rest = numbered-there (a + 1) xs k z h in (omega (arith, rest.0), rest.1)
-
-numbered-here : {T : Type 0} (a : ℕ) (xs : List T) (k : ℕ) (x : T) → slice_get xs k ≡ Some x → slice_get (enumerate_from a xs) k ≡ Some (a + k, x)
-numbered-here a [] k x h = cc
-numbered-here {T} a (y ∷ ys) zero x h = let e : y ≡ x = cc in let f : a ≡ a + 0 = omega arith in λ i. Some (f i, e i)
-numbered-here {T} a (y ∷ ys) (suc k) x h = numbered-here (a + 1) ys k x h ∙ (let f : a + 1 + k ≡ a + suc k = omega arith in λ i. Some (f i, x))
-
 adjacent-there : {T : Type 0} (xs : List T) (k : ℕ) (p : T × T) → slice_get (adjacent xs) k ≡ Some p → (slice_get xs k ≡ Some p.0) × (slice_get xs (suc k) ≡ Some p.1)
 adjacent-there [] k p h = cc
 adjacent-there (x ∷ []) k p h = cc
@@ -73,15 +65,6 @@ adjacent-there {T} (x ∷ y ∷ ys) zero p h = let e : (x, y) ≡ p = first h in
     first : {u v : T × T} → Some u ≡ Some v → u ≡ v
     first g = cc
 adjacent-there (x ∷ y ∷ ys) (suc k) p h = adjacent-there (y ∷ ys) k p h
-
--- a list in which an element passes has a first place where one does
-found-below : {T : Type 0} (p : T → Bool) (xs : List T) → list_any p xs ≡ true → position_or_len p xs < length xs
-found-below p [] h = absurd (false≢true h)
-found-below {T} p (x ∷ xs) h = go (p x) h (found-below p xs)
-  where
-    go : (b : Bool) → (b || list_any p xs) ≡ true → (list_any p xs ≡ true → position_or_len p xs < length xs) → cond (not b) (1 + position_or_len p xs) 0 < length (x ∷ xs)
-    go true h f = omega arith
-    go false h f = let g = f h in omega (arith, g)
 
 any-made : {A B : Type 0} (p : B → Bool) (f : A → Option B) (xs : List A) (k : ℕ) (x : A) (y : B) → slice_get xs k ≡ Some x → f x ≡ Some y → p y ≡ true → list_any p (filter_map f xs) ≡ true
 any-made p f [] k x y h e g = cc
@@ -106,7 +89,7 @@ slot-in nets n net i e s here there slot =
 
 -- what stands at the number of a slot is the slot
 slot-there : (all : List Slot) (s : Slot) → list_any (same_slot s) all ≡ true → slot_at all (slot_number all s) ≡ s
-slot-there all s h = sym (same_slot-is s (slot_at all (slot_number all s)) (passes_at_first (same_slot s) all NO_SLOT (found-below (same_slot s) all h)))
+slot-there all s h = sym (same_slot-is s (slot_at all (slot_number all s)) (passes_at_first (same_slot s) all NO_SLOT (position-below (same_slot s) all h)))
 
 slot-cell : (n : ℕ) (e : Elem) (s : Slot) → elem_slot n e ≡ Some s → elem_cell e ≡ Some s.cell
 slot-cell n e s h = go (elem_cell e) h
@@ -118,20 +101,43 @@ slot-cell n e s h = go (elem_cell e) h
     go None g = cc
     go (Some c) g = ap (λ (t : Slot). Some t.cell) (some_is (record { net = n; cell = c }) s g)
 
+-- a line of a route that fits has no fault
+line-faultless : (route : RouteText) → IsFit route → (n : ℕ) (net : RouteNet) (i : ℕ) (e : Elem)
+    → slice_get route.nets n ≡ Some net → slice_get net.elems i ≡ Some e
+    → line_fault route.grid (elem_line (take n route.nets) net i e) ≡ None
+line-faultless route fit n net i e here there =
+    no_fault (fit_faults route) (line_fault route.grid (elem_line (take n route.nets) net i e)) fit
+    (In-map (line_fault route.grid) (route_lines route) (elem_line (take n route.nets) net i e)
+    (In-flat_map (λ s. net_lines s.0 s.1) (splits route.nets) (take n route.nets, net, drop (suc n) route.nets)
+    (elem_line (take n route.nets) net i e)
+    (In-splits route.nets n net here)
+    (inr (In-map (line_at (take n route.nets) net) (splits net.elems) (take i net.elems, e, drop (suc i) net.elems)
+    (In-splits net.elems i e there)))))
+  where
+    no_fault : (faults : Faults) (fault : Option TextFault) → IsFaultless faults → In faults fault
+        → fault ≡ None
+    no_fault [] fault clean within = absurd within
+    no_fault (first ∷ more) fault clean within =
+        let parts = faultless-line first more clean in
+        elim within [ inl same ↦ sym same ∙ parts.0 | inr later ↦ no_fault more fault parts.1 later ]
+
 -- of a net that fits, the cells of two channels next to each other meet
-neighbours-meet : (grid : Size) (nets : List RouteNet) (n : ℕ) (net : RouteNet) (i : ℕ) (a b : Elem) (p q : Slot) → IsFitAt grid nets n → slice_get nets n ≡ Some net
-    → slice_get net.elems i ≡ Some a → slice_get net.elems (suc i) ≡ Some b → elem_slot n a ≡ Some p → elem_slot n b ≡ Some q → Meets grid p.cell q.cell
-neighbours-meet grid nets n net i a b p q fit here at_a at_b slot_a slot_b =
-    let none = (fit net here).elems (suc i) b (get-below net.elems (suc i) b at_b) at_b in
-    let line = elem_line (take n nets) net (suc i) b in
-    let whole : has_fault grid (context_of line b) b ≡ false = sym (elem-code grid (take n nets) net (suc i) b) ∙ ap (λ (o : Option ℕ). is_some o) none in
-    let leap : are_apart grid (option_and_then elem_cell (last_or None (take (suc i) net.elems))) (elem_cell b) ≡ false = (no-fault grid (context_of line b) b whole).0 in
+neighbours-meet : (route : RouteText) → IsFit route → (n : ℕ) (net : RouteNet) (i : ℕ) (a b : Elem)
+    (p q : Slot) → slice_get route.nets n ≡ Some net → slice_get net.elems i ≡ Some a
+    → slice_get net.elems (suc i) ≡ Some b → elem_slot n a ≡ Some p → elem_slot n b ≡ Some q
+    → Meets route.grid p.cell q.cell
+neighbours-meet route fit n net i a b p q here at_a at_b slot_a slot_b =
+    let grid = route.grid in
+    let line = elem_line (take n route.nets) net (suc i) b in
+    let leap : are_apart grid (option_and_then elem_cell (last_or None (take (suc i) net.elems))) (elem_cell b) ≡ false
+    = (passes grid b.line (context_of line) (line-faultless route fit n net (suc i) b here at_b)).leaps in
     go (meeting grid p.cell q.cell) refl
     (rw (take-get net.elems i a at_a, last-push None (take i net.elems) a, slot-cell n a p slot_a, slot-cell n b q slot_b) at leap)
   where
-    go : (o : Option Meeting) → meeting grid p.cell q.cell ≡ o → is_none (meeting grid p.cell q.cell) ≡ false → Meets grid p.cell q.cell
+    go : (o : Option Meeting) → meeting route.grid p.cell q.cell ≡ o
+        → is_none (meeting route.grid p.cell q.cell) ≡ false → Meets route.grid p.cell q.cell
     go None e f = absurd (false≢true (sym f ∙ rw e refl))
-    go (Some m) e f = (m, meeting-is grid p.cell q.cell m e)
+    go (Some m) e f = (m, meeting-is route.grid p.cell q.cell m e)
 
 step-parts : (all : List Slot) (a b : Option Slot) (s : RouteStep) → step_of all a b ≡ Some s → (p : Slot) × (q : Slot) × (a ≡ Some p) × (b ≡ Some q) × (record { from = slot_number all p; to = slot_number all q } ≡ s)
 step-parts all None b s h = cc
@@ -150,8 +156,8 @@ good-step : (route : RouteText) → IsFit route → (n : ℕ) (net : RouteNet) (
 good-step route fit n net i a b p q here at_a at_b slot_a slot_b =
     let in_p = slot-in route.nets n net i a p here at_a slot_a in
     let in_q = slot-in route.nets n net (suc i) b q here at_b slot_b in (
-      (found-below (same_slot p) (slots route) in_p, found-below (same_slot q) (slots route) in_q),
-      rw (slot-there (slots route) p in_p, slot-there (slots route) q in_q) (neighbours-meet route.grid route.nets n net i a b p q (fit-each route.grid route.nets fit n) here at_a at_b slot_a slot_b),
+      (position-below (same_slot p) (slots route) in_p, position-below (same_slot q) (slots route) in_q),
+      rw (slot-there (slots route) p in_p, slot-there (slots route) q in_q) (neighbours-meet route fit n net i a b p q here at_a at_b slot_a slot_b),
     )
 
 each-step : (route : RouteText) → IsFit route → AllByRecursion (IsGoodStep route) (steps route)

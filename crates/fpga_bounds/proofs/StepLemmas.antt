@@ -11,7 +11,8 @@ use Rattle.fpga_types.specs.declared.problem.Slot.{Slot}
 use Rattle.fpga_types.specs.declared.route.Elem.{Elem}
 use Rattle.fpga_types.specs.declared.route.RouteNet.{RouteNet}
 use Rattle.fpga_bounds.specs.StepList.{elem_number, step_between, net_steps, steps_in}
-use Rattle.fpga_bounds.proofs.SlotsOfLemmas.{enumerate-push, take-get}
+use Rattle.list_laws.proofs.Numbered.{enumerate-push}
+use Rattle.list_laws.proofs.Places.{take-get}
 
 -- what is made of two neighbours, with one element more
 adjacent-push : {T B : Type 0} (f : T × T → Option B) (xs : List T) (x : T)

@@ -1,9 +1,10 @@
--- What it is for one net of a route to fit, and the slots once some of its elements are read.
-use Rattle.std.specs.Prelude.{◌≡◌, ℕ, suc, List, [], ◌∷◌, ◌++◌, take, drop, slice_get, None, Some, length, ◌<◌, false}
+-- The faults of the nets of a route from one on, and the slots once some of its elements are read.
+use Rattle.std.specs.Prelude.{◌≡◌, ℕ, List, [], ◌∷◌, ◌++◌, map, flat_map, take, drop, Some, length, ◌<◌, false}
 use Rattle.std.specs.List.{list_any}
 use Rattle.std.specs.Option.{option_map_or}
+use Rattle.fpga_text.specs.FirstFault.{Faults}
 use Rattle.fpga_types.specs.Size.{Size}
-use Rattle.fpga_types.specs.Fit.{RouteLine, fit_code}
+use Rattle.fpga_types.specs.Fit.{line_fault, net_lines, splits}
 use Rattle.fpga_types.specs.Slots.{elem_slot, same_slot, slots_of}
 use Rattle.fpga_types.specs.declared.limits.TheConstants.{SLOT_LIMIT}
 use Rattle.fpga_types.specs.declared.problem.Slot.{Slot}
@@ -11,39 +12,10 @@ use Rattle.fpga_types.specs.declared.route.Elem.{Elem}
 use Rattle.fpga_types.specs.declared.route.RouteNet.{RouteNet}
 use Rattle.fpga_bounds.specs.SlotTable.{with_slot}
 
--- the Net line of a net
-abbrev pub head_line : List RouteNet → RouteNet → RouteLine
-head_line earlier net = record {
-  earlier = earlier;
-  net = net;
-  before = [];
-  elem = None;
-  after = net.elems;
-}
-
--- the line of the element at this position
-abbrev pub elem_line : List RouteNet → RouteNet → ℕ → Elem → RouteLine
-elem_line earlier net i e = record {
-  earlier = earlier;
-  net = net;
-  before = take i net.elems;
-  elem = Some e;
-  after = drop (suc i) net.elems;
-}
-
--- no code holds at the net's first lines: the Net line and this many element lines
-pub record AreFit (grid : Size) (earlier : List RouteNet) (net : RouteNet) (count : ℕ) : Type 0 where
-  pub head : fit_code grid (head_line earlier net) ≡ None
-  pub elems : (i : ℕ) (e : Elem) → i < count → slice_get net.elems i ≡ Some e
-      → fit_code grid (elem_line earlier net i e) ≡ None
-
--- no code holds at a line of the net
-abbrev pub IsNetFit : Size → List RouteNet → RouteNet → Type 0
-IsNetFit grid earlier net = AreFit grid earlier net (length net.elems)
-
--- no code holds at a line of the net at this position
-abbrev pub IsFitAt : Size → List RouteNet → ℕ → Type 0
-IsFitAt grid nets n = (net : RouteNet) → slice_get nets n ≡ Some net → IsNetFit grid (take n nets) net
+-- the faults of the lines of the nets from this position on
+abbrev pub nets_faults : Size → List RouteNet → ℕ → Faults
+nets_faults grid nets n =
+    map (line_fault grid) (flat_map (λ s. net_lines s.0 s.1) (drop n (splits nets)))
 
 -- the slots with that of the element, if it is a channel
 abbrev pub with_elem : List Slot → ℕ → Elem → List Slot

@@ -3,17 +3,18 @@ use Rattle.std.specs.Prelude.{◌≡◌, ℕ, ◌*◌, ◌<◌, ◌≤◌, List,
 use Rattle.fpga_types.specs.Fabric.{Meets}
 use Rattle.fpga_types.specs.Fit.{IsFit}
 use Rattle.fpga_types.specs.Size.{Size}
+use Rattle.fpga_types.specs.Sound.{IsSound}
 use Rattle.fpga_types.specs.Slots.{pairs, slots, steps, slot_at}
-use Rattle.fpga_types.specs.declared.limits.TheConstants.{NET_LIMIT, SLOT_LIMIT, STEP_LIMIT}
+use Rattle.fpga_types.specs.declared.limits.TheConstants.{SLOT_LIMIT, STEP_LIMIT}
 use Rattle.fpga_types.specs.declared.problem.RouteStep.{RouteStep}
 use Rattle.fpga_types.specs.declared.problem.Slot.{Slot}
 use Rattle.fpga_types.specs.declared.route.RouteText.{RouteText}
 
--- the route has at most 65,535 nets and fits, these are its slots and its steps, and so many are
--- the pairs of its slots that take one cell
+-- the route is one that was read and fits, these are its slots and its steps, and so many are the
+-- pairs of its slots that take one cell
 pub record IsSetUp
     (route : RouteText) (all : List Slot) (found : List RouteStep) (count : ℕ) : Type 0 where
-  pub few : length route.nets ≤ NET_LIMIT
+  pub sound : IsSound route
   pub fits : IsFit route
   pub pairs : count ≡ length (pairs (slots route))
   pub slots : all ≡ slots route

@@ -1,16 +1,19 @@
-//! Whether a code holds at an element line, from what the codes ask about the lines round it.
-ghost use Rattle.std.specs.Prelude.{◌≡◌, option_and_then};
-ghost use Rattle.fpga_bounds.specs.ElemContext.{is_branching, comes_again, starts_loose};
-ghost use Rattle.fpga_bounds.specs.ElemContext.{is_misplaced, is_one_too_many, has_fault};
-ghost use Rattle.fpga_types.specs.Fit.{are_apart};
-ghost use Rattle.fpga_types.specs.Slots.{elem_cell};
+//! What is wrong with an element line, from what the codes look at.
+ghost use Rattle.std.specs.Prelude.{◌≡◌, is_some, option_and_then};
+ghost use Rattle.fpga_text.specs.Codes.{first_code};
+ghost use Rattle.fpga_bounds.specs.ElemContext.{context_at};
+ghost use Rattle.fpga_types.specs.Fit as fit;
+ghost use Rattle.fpga_types.specs.Fit.{fit_codes, leaps, comes_again, starts_loose, is_out_of_order, slots_past};
 
 use crate::meets::cells_meet;
-use fpga_types::{Elem, ElemKind, Grid};
+use fpga_text::TextFault;
+use fpga_types::{Elem, ElemKind, FitCause, Grid, SLOT_LIMIT};
 
-/// What the codes ask about the lines round an element line.
+/// What the codes of an element line look at.
 #[derive(Clone, Copy, Debug)]
 pub(crate) struct ElemContext {
+    /// The element.
+    pub elem: Elem,
     /// The element before it in its net.
     pub previous: Option<Elem>,
     /// Whether it equals an earlier one of its net.
@@ -25,29 +28,43 @@ pub(crate) struct ElemContext {
     pub global: bool,
 }
 
-/// Whether one of the codes 510 to 515 holds.
-pub(crate) fn is_faulty(grid: Grid, at: ElemContext, e: Elem) -> bool
-    ensures { result ≡ has_fault grid at e }
+/// What is wrong with the line, by the least code that holds there.
+pub(crate) fn elem_fault(grid: Grid, at: ElemContext) -> Option<TextFault>
+    ensures { result ≡ first_code fit_codes grid at.elem.line (context_at at) }
 {
-    is_leap(grid, at.previous, e)
-        || is_repeat(at, e)
-        || is_loose_branch(at, e)
-        || at.taken
-        || is_out_of_place(at, e)
-        || is_past_limit(at, e)
+    let line = at.elem.line;
+    if is_leap(grid, at) {
+        return Some(FitCause::CellsApart.at(line));
+    }
+    if is_repeat(at) {
+        return Some(FitCause::RepeatedElement.at(line));
+    }
+    if is_loose_branch(at) {
+        return Some(FitCause::LooseBranch.at(line));
+    }
+    if at.taken {
+        return Some(FitCause::SharedPin.at(line));
+    }
+    if is_out_of_place(at) {
+        return Some(FitCause::OutOfOrder.at(line));
+    }
+    if is_past_limit(at) {
+        return Some(FitCause::PastLimit.past(SLOT_LIMIT as u64 + 1));
+    }
+    None
 }
 
 /// Whether a channel stands after a channel whose cell does not meet its own.
-fn is_leap(grid: Grid, previous: Option<Elem>, e: Elem) -> bool
-    ensures { result ≡ are_apart grid (option_and_then elem_cell previous) (elem_cell e) }
+fn is_leap(grid: Grid, at: ElemContext) -> bool
+    ensures { result ≡ leaps grid (context_at at) }
 {
-    let Some(before) = previous else {
+    let Some(before) = at.previous else {
         return false;
     };
     let Some(from) = before.cell() else {
         return false;
     };
-    let Some(to) = e.cell() else {
+    let Some(to) = at.elem.cell() else {
         return false;
     };
     !cells_meet(grid, from, to)
@@ -55,7 +72,7 @@ fn is_leap(grid: Grid, previous: Option<Elem>, e: Elem) -> bool
 
 /// Whether the element stands after a SINK.
 fn is_branch(at: ElemContext) -> bool
-    ensures { result ≡ is_branching at }
+    ensures { result ≡ fit.is_branch (context_at at) }
 {
     match at.previous {
         Some(before) => matches!(before.kind, ElemKind::Sink),
@@ -64,39 +81,40 @@ fn is_branch(at: ElemContext) -> bool
 }
 
 /// Whether an element comes a second time where no branch starts.
-fn is_repeat(at: ElemContext, e: Elem) -> bool
-    ensures { result ≡ comes_again at e }
+fn is_repeat(at: ElemContext) -> bool
+    ensures { result ≡ comes_again (context_at at) }
 {
-    !matches!(e.kind, ElemKind::Sink) && !is_branch(at) && at.again
+    !matches!(at.elem.kind, ElemKind::Sink) && !is_branch(at) && at.again
 }
 
 /// Whether a branch starts at an element that the net does not have yet.
-fn is_loose_branch(at: ElemContext, e: Elem) -> bool
-    ensures { result ≡ starts_loose at e }
+fn is_loose_branch(at: ElemContext) -> bool
+    ensures { result ≡ starts_loose (context_at at) }
 {
-    !matches!(e.kind, ElemKind::Ipin)
-        && !matches!(e.kind, ElemKind::Sink)
+    !matches!(at.elem.kind, ElemKind::Ipin)
+        && !matches!(at.elem.kind, ElemKind::Sink)
         && is_branch(at)
         && !at.again
 }
 
 /// Whether an element of an ordinary net is out of order, or ends it without being a SINK.
-fn is_out_of_place(at: ElemContext, e: Elem) -> bool
-    ensures { result ≡ is_misplaced at e }
+fn is_out_of_place(at: ElemContext) -> bool
+    ensures { result ≡ is_out_of_order (context_at at) }
 {
     if at.global {
         return false;
     }
+    let kind = at.elem.kind;
     let in_order = match at.previous {
-        Some(before) => before.kind.may_precede(e.kind),
-        None => matches!(e.kind, ElemKind::Source),
+        Some(before) => before.kind.may_precede(kind),
+        None => matches!(kind, ElemKind::Source),
     };
-    !in_order || at.last && !matches!(e.kind, ElemKind::Sink)
+    !in_order || at.last && !matches!(kind, ElemKind::Sink)
 }
 
-/// Whether the element would bring the 200,001st slot.
-fn is_past_limit(at: ElemContext, e: Elem) -> bool
-    ensures { result ≡ is_one_too_many at e }
+/// Whether the element would bring one slot more than may be.
+fn is_past_limit(at: ElemContext) -> bool
+    ensures { result ≡ is_some (slots_past (context_at at)) }
 {
-    e.kind.is_channel() && !at.again && at.full
+    at.elem.kind.is_channel() && !at.again && at.full
 }

@@ -3,7 +3,6 @@
 
 mod copy;
 mod elem_context;
-mod fit_stop;
 mod keys;
 mod meets;
 mod net_check;

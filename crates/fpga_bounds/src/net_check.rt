@@ -1,17 +1,17 @@
 //! Whether one net of a route fits, after the nets before it.
-ghost use Rattle.std.specs.Prelude.{◌≡◌, ◌+◌, ◌<◌, ◌≤◌, ◌==◌, length, take, not, ◌&&◌, OnOk};
-ghost use Rattle.std.specs.Result.{IsErrOf};
-ghost use Rattle.fpga_bounds.specs.ElemContext.{is_pin_of};
+ghost use Rattle.std.specs.Prelude.{◌≡◌, ◌+◌, ◌<◌, ◌≤◌, ◌==◌, length, take, not, ◌&&◌, OnOk, IfErr};
+ghost use Rattle.fpga_text.specs.FirstFault.{IsRefusal, first_fault};
 ghost use Rattle.fpga_bounds.specs.Keys.{has_pin};
-ghost use Rattle.fpga_bounds.specs.NetFit.{IsFitAt, HasRoomFor, with_elem};
+ghost use Rattle.fpga_bounds.specs.NetFit.{HasRoomFor, nets_faults, with_elem};
+ghost use Rattle.fpga_types.specs.Fit.{is_pin_of};
 ghost use Rattle.fpga_types.specs.Slots.{slots_of};
 ghost use Rattle.fpga_types.specs.declared.route.Elem.{Elem};
 
-use crate::elem_context::{ElemContext, is_faulty};
-use crate::fit_stop::FitStop;
+use crate::elem_context::{ElemContext, elem_fault};
 use crate::keys::{ElemKey, is_seen, is_taken, see};
 use crate::slot_table::SlotTable;
-use fpga_types::{Elem, Grid, NET_LIMIT, RouteNet};
+use fpga_text::TextFault;
+use fpga_types::{Elem, FitCause, Grid, NET_LIMIT, RouteNet};
 use std::alloc::{AllocError, Global};
 use std::collections::BTreeSet;
 
@@ -23,24 +23,26 @@ pub(crate) fn check_net(
     n: usize,
     pins: &BTreeSet<ElemKey>,
     slots: &mut SlotTable,
-) -> Result<(), FitStop>
+) -> Result<(), TextFault>
     requires at { n < length nets.now }
     requires nets { length nets.now ≤ NET_LIMIT }
     requires pins { (e : Elem) → has_pin pins.now e ≡ is_pin_of (take n nets.now) e }
     requires slots { slots.old ≡ slots_of (take n nets.now) }
-    ensures fits { OnOk result (IsFitAt grid nets.now n) }
+    ensures fits { OnOk result (first_fault (nets_faults grid nets.now n)
+        ≡ first_fault (nets_faults grid nets.now (n + 1))) }
     ensures slots { OnOk result (slots.new ≡ slots_of (take (n + 1) nets.now)) }
-    ensures unfit { IsErrOf result FitStop.Unfit → ¬ IsFitAt grid nets.now n }
+    ensures refused { IfErr result (IsRefusal (nets_faults grid nets.now n)) }
 {
     let net = &nets[n];
     if is_bare(net) {
-        return Err(FitStop::Unfit);
+        return Err(FitCause::OutOfOrder.at(net.line));
     }
     let elems = net.elems.as_slice();
     let mut seen = BTreeSet::new(alloc);
     let mut previous: Option<Elem> = None;
     for (i, e) in elems.iter().enumerate() {
         let at = ElemContext {
+            elem: *e,
             previous,
             again: is_seen(&seen, *e),
             taken: is_taken(pins, *e),
@@ -48,14 +50,14 @@ pub(crate) fn check_net(
             last: i + 1 == elems.len(),
             global: net.global,
         };
-        if is_faulty(grid, at, *e) {
-            return Err(FitStop::Unfit);
+        if let Some(fault) = elem_fault(grid, at) {
+            return Err(fault);
         }
         let Ok(()) = see(&mut seen, *e) else {
-            return Err(FitStop::Memory);
+            return Err(TextFault::Memory);
         };
         let Ok(()) = add_slot(slots, n as u32, *e) else {
-            return Err(FitStop::Memory);
+            return Err(TextFault::Memory);
         };
         previous = Some(*e);
     }

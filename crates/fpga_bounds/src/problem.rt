@@ -1,20 +1,20 @@
 //! A route that fits its array, with its slots and steps.
 ghost use Rattle.std.specs.Prelude.{◌≡◌, ◌≤◌, ◌*◌, ◌^◌, All, length, IfOk, IfErr, OnOk};
 ghost use Rattle.fpga_bounds.specs.Problem.{IsStepMeeting, IsStepWithin};
-ghost use Rattle.fpga_bounds.specs.Refusal.{IsRefusalOf};
+ghost use Rattle.fpga_bounds.specs.Refusal.{IsRefusalOf, untold as untold_fault};
 ghost use Rattle.fpga_types.specs.Fit.{IsFit};
 ghost use Rattle.fpga_types.specs.Legal.{route_of};
 ghost use Rattle.fpga_types.specs.Slots.{pairs, slots, steps};
+ghost use Rattle.fpga_types.specs.Sound.{IsSound};
 
 use crate::copy::copied_route;
-use crate::fit_stop::FitStop;
 use crate::pairs::pair_count;
 use crate::retrack::retracked;
 use crate::route_check::fitting_slots;
 use crate::slot_table::SlotTable;
 use crate::step_list::steps_of;
 use fpga_text::TextFault;
-use fpga_types::{NET_LIMIT, RouteStep, RouteText, SLOT_LIMIT, STEP_LIMIT, Slot};
+use fpga_types::{RouteStep, RouteText, SLOT_LIMIT, STEP_LIMIT, Slot};
 use std::alloc::{AllocError, Global};
 use std::marker::Model;
 
@@ -38,21 +38,23 @@ impl Model for Problem {
     ghost invariant = { λ p. IsSetUp p.route p.table p.steps.items p.pairs };
 }
 
-/// Takes a route that fits. `Bad`, at line 0 with code 500, comes only where one of the codes 510
-/// to 515 holds at one of its lines, `Memory` where there was no memory left, and `Limit` never.
+/// Takes a route that was read, if it fits. `Bad`, at line 0 with code 500, comes only where one of
+/// the codes 510 to 515 holds at one of its lines, `Memory` where there was no memory left, and
+/// `Limit` never.
 pub fn fit_route(alloc: Global, route: RouteText) -> Result<Problem, TextFault>
-    requires nets { length route.nets ≤ NET_LIMIT }
+    requires { IsSound route }
     ensures ok { IfOk result (λ problem. problem ≡ route) }
     ensures fits { OnOk result (IsFit route) }
     ensures err { IfErr result (IsRefusalOf route) }
 {
     let table = match fitting_slots(alloc, &route) {
         Ok(table) => table,
-        Err(stop) => return Err(stop.fault()),
+        Err(fault) => return Err(untold(fault)),
     };
     let Ok(steps) = steps_of(alloc, route.nets.as_slice(), &table) else {
         return Err(TextFault::Memory);
     };
+    // One more step would take more than 8 TiB.
     if steps.len() > STEP_LIMIT {
         return Err(TextFault::Memory);
     }
@@ -67,10 +69,21 @@ pub fn fit_route(alloc: Global, route: RouteText) -> Result<Problem, TextFault>
     })
 }
 
+/// The fault that stands for this one, as long as the faults of a route are not told.
+fn untold(fault: TextFault) -> TextFault
+    ensures { result ≡ untold_fault fault }
+{
+    match fault {
+        TextFault::Memory => TextFault::Memory,
+        _ => TextFault::Bad { line: 0, code: 500 },
+    }
+}
+
 impl Problem {
     /// The route.
     pub fn route(&self) -> &RouteText
         ensures value { result.now ≡ self.now }
+        ensures sound { IsSound self.now }
         ensures fits { IsFit self.now }
     {
         &self.route

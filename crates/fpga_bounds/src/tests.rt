@@ -1,340 +1,118 @@
-//! Small routes on an array of two columns and two rows.
+//! Small routes, and a long one.
 use crate::{Problem, cells_meet, fit_route};
+use fpga_route::read_route;
 use fpga_text::TextFault;
-use fpga_types::{Axis, Cell, Elem, ElemKind, Grid, Items, Label, Name, RouteNet, RouteText};
+use fpga_types::{Axis, Cell, Grid};
 use std::alloc::Global;
-use std::process::Abort;
 use std::test::Fail;
 
-const GRID: Grid = Grid { nx: 2, ny: 2 };
+const BRANCH: &[u8] =
+    b"Array size: 2 x 2 logic blocks.\nRouting:\nNet 0 (a)\nSOURCE (1,1) Class: 1\nOPIN (1,1) Pin: 4\nCHANX (1,1) Track: 0\nCHANX (2,1) Track: 0\nIPIN (2,1) Pin: 0\nSINK (2,1) Class: 0\nCHANX (1,1) Track: 0\nCHANY (1,2) Track: 0\nIPIN (1,2) Pin: 0\nSINK (1,2) Class: 0\n";
 
-fn elem(kind: ElemKind, x: u32, y: u32, label: Label, number: u32) -> Elem {
-    Elem {
-        kind,
-        x,
-        y,
-        label,
-        number,
-        line: 0,
-    }
-}
+const LEAP: &[u8] =
+    b"Array size: 2 x 2 logic blocks.\nRouting:\nNet 0 (a)\nSOURCE (1,1) Class: 1\nOPIN (1,1) Pin: 4\nCHANX (1,1) Track: 0\nCHANX (1,2) Track: 0\nIPIN (1,2) Pin: 0\nSINK (1,2) Class: 0\n";
 
-fn source(x: u32, y: u32) -> Elem {
-    elem(ElemKind::Source, x, y, Label::Class, 1)
-}
-
-fn opin(x: u32, y: u32) -> Elem {
-    elem(ElemKind::Opin, x, y, Label::Pin, 4)
-}
-
-fn chan_x(x: u32, y: u32) -> Elem {
-    elem(ElemKind::ChanX, x, y, Label::Track, 0)
-}
-
-fn chan_y(x: u32, y: u32) -> Elem {
-    elem(ElemKind::ChanY, x, y, Label::Track, 0)
-}
-
-fn ipin(x: u32, y: u32) -> Elem {
-    elem(ElemKind::Ipin, x, y, Label::Pin, 0)
-}
-
-fn sink(x: u32, y: u32) -> Elem {
-    elem(ElemKind::Sink, x, y, Label::Class, 0)
-}
-
-fn fit(
-    rt: &impl Abort,
-    alloc: Global,
-    nets: &[&[Elem]],
-) -> Result<Result<Problem, TextFault>, Fail> {
-    let mut row = Vec::new(alloc);
-    for elems in nets {
-        row.push(RouteNet {
-            k: 0,
-            name: Name {
-                bytes: Items::of(Vec::new(alloc)),
-            },
-            global: false,
-            line: 0,
-            elems: Items::of(elems.to_vec(alloc)?),
-            kept: Items::of(Vec::new(alloc)),
-        })?;
-    }
-    assert!(rt; row.len() <= 65535);
-    let route = RouteText {
-        grid: GRID,
-        grid_line: 1,
-        lines: 1,
-        nets: Items::of(row),
-    };
-    Ok(fit_route(alloc, route))
-}
-
-#[test]
-fn nets_that_fit_and_nets_that_do_not(rt: HostRuntime) -> Result<(), Fail> {
-    let cases: [(&str, &[Elem], bool); 13] = [
-        (
-            "two cells of a row",
-            &[
-                source(1, 1),
-                opin(1, 1),
-                chan_x(1, 1),
-                chan_x(2, 1),
-                ipin(2, 1),
-                sink(2, 1),
-            ],
-            true,
-        ),
-        (
-            "a branch from a cell of the net",
-            &[
-                source(1, 1),
-                opin(1, 1),
-                chan_x(1, 1),
-                ipin(1, 1),
-                sink(1, 1),
-                chan_x(1, 1),
-                chan_y(1, 2),
-                ipin(1, 2),
-                sink(1, 2),
-            ],
-            true,
-        ),
-        (
-            "cells of two rows",
-            &[
-                source(1, 1),
-                opin(1, 1),
-                chan_x(1, 1),
-                chan_x(1, 2),
-                ipin(1, 2),
-                sink(1, 2),
-            ],
-            false,
-        ),
-        (
-            "a cell outside",
-            &[
-                source(1, 1),
-                opin(1, 1),
-                chan_x(2, 1),
-                chan_x(3, 1),
-                ipin(2, 1),
-                sink(2, 1),
-            ],
-            false,
-        ),
-        (
-            "a cell twice",
-            &[
-                source(1, 1),
-                opin(1, 1),
-                chan_x(1, 1),
-                chan_x(2, 1),
-                chan_x(1, 1),
-                ipin(1, 1),
-                sink(1, 1),
-            ],
-            false,
-        ),
-        (
-            "a branch from nowhere",
-            &[
-                source(1, 1),
-                opin(1, 1),
-                chan_x(1, 1),
-                ipin(1, 1),
-                sink(1, 1),
-                chan_y(2, 2),
-                ipin(2, 2),
-                sink(2, 2),
-            ],
-            false,
-        ),
-        (
-            "a branch from a second SOURCE",
-            &[
-                source(1, 1),
-                opin(1, 1),
-                chan_x(1, 1),
-                ipin(1, 1),
-                sink(1, 1),
-                source(2, 2),
-                opin(2, 2),
-                chan_x(2, 2),
-                ipin(2, 2),
-                sink(2, 2),
-            ],
-            false,
-        ),
-        (
-            "no OPIN",
-            &[source(1, 1), chan_x(1, 1), ipin(1, 1), sink(1, 1)],
-            false,
-        ),
-        (
-            "no SOURCE",
-            &[opin(1, 1), chan_x(1, 1), ipin(1, 1), sink(1, 1)],
-            false,
-        ),
-        (
-            "no SINK",
-            &[source(1, 1), opin(1, 1), chan_x(1, 1), ipin(1, 1)],
-            false,
-        ),
-        (
-            "an OPIN after a channel",
-            &[
-                source(1, 1),
-                opin(1, 1),
-                chan_x(1, 1),
-                opin(1, 2),
-                chan_x(1, 2),
-                ipin(1, 2),
-                sink(1, 2),
-            ],
-            false,
-        ),
-        (
-            "a SINK without an IPIN",
-            &[source(1, 1), opin(1, 1), chan_x(1, 1), sink(1, 1)],
-            false,
-        ),
-        ("nothing", &[], false),
-    ];
-    for (what, elems, fits) in cases {
-        let got = fit(&rt, rt.alloc(), &[elems])?;
-        assert_eq!(rt; got.is_ok(), fits, "{what}");
-        assert_eq!(rt;
-            matches!(got, Err(TextFault::Bad { line: 0, code: 500 })),
-            !fits,
-            "{what}"
-        );
-    }
-    Ok(())
-}
-
-#[test]
-fn two_nets_at_one_pin(rt: HostRuntime) -> Result<(), Fail> {
-    let first = [
-        source(1, 1),
-        opin(1, 1),
-        chan_x(1, 1),
-        ipin(1, 2),
-        sink(1, 2),
-    ];
-    let other = [
-        source(2, 1),
-        opin(2, 1),
-        chan_x(2, 1),
-        ipin(2, 2),
-        sink(2, 2),
-    ];
-    let same = [
-        source(2, 1),
-        opin(2, 1),
-        chan_x(2, 1),
-        chan_x(1, 1),
-        ipin(1, 2),
-        sink(1, 2),
-    ];
-    let Ok(problem) = fit(&rt, rt.alloc(), &[&first, &other])? else {
-        return Err(Fail::from("refused"));
-    };
-    assert_eq!(rt; problem.pairs(), 0);
-    assert!(rt;
-        matches!(
-            fit(&rt, rt.alloc(), &[&first, &same])?,
-            Err(TextFault::Bad { line: 0, code: 500 })
-        )
-    );
-    Ok(())
+/// The problem that a route text says.
+fn problem(alloc: Global, text: &[u8]) -> Result<Problem, Fail> {
+    let route = read_route(alloc, text)?;
+    Ok(fit_route(alloc, route)?)
 }
 
 #[test]
 fn slots_steps_and_tracks_of_a_branching_net(rt: HostRuntime) -> Result<(), Fail> {
-    let elems = [
-        source(1, 1),
-        opin(1, 1),
-        chan_x(1, 1),
-        chan_x(2, 1),
-        ipin(2, 1),
-        sink(2, 1),
-        chan_x(1, 1),
-        chan_y(1, 2),
-        ipin(1, 2),
-        sink(1, 2),
-    ];
-    let Ok(problem) = fit(&rt, rt.alloc(), &[&elems])? else {
-        return Err(Fail::from("refused"));
-    };
+    let problem = problem(rt.alloc(), BRANCH)?;
+    let cell = |axis, x, y| Cell { axis, x, y };
     let cells = [
-        Cell {
-            axis: Axis::X,
-            x: 1,
-            y: 1,
-        },
-        Cell {
-            axis: Axis::X,
-            x: 2,
-            y: 1,
-        },
-        Cell {
-            axis: Axis::Y,
-            x: 1,
-            y: 2,
-        },
+        cell(Axis::X, 1, 1),
+        cell(Axis::X, 2, 1),
+        cell(Axis::Y, 1, 2),
     ];
     assert_eq!(rt; problem.slots().len(), 3);
     for (slot, cell) in problem.slots().iter().zip(&cells) {
-        assert_eq!(rt; slot.net, 0);
-        assert_eq!(rt; slot.cell, *cell);
+        assert_eq!(rt; (slot.net, slot.cell), (0, *cell));
     }
     let steps = [(0, 1), (0, 2)];
     assert_eq!(rt; problem.steps().len(), 2);
-    for (step, (from, to)) in problem.steps().iter().zip(&steps) {
-        assert_eq!(rt; (step.from, step.to), (*from, *to));
+    for (step, want) in problem.steps().iter().zip(&steps) {
+        assert_eq!(rt; (step.from, step.to), *want);
     }
+    assert_eq!(rt; (problem.pairs(), problem.route().lines), (0, 13));
     let tracks = [5, 6, 7];
     assert!(rt; problem.slots().len() == tracks.len());
     let copy = problem.copy_with_tracks(rt.alloc(), &tracks)?;
     let route = problem.with_tracks(&tracks);
-    let [same] = copy.nets.as_slice() else {
+    let [net] = route.nets.as_slice() else {
         return Err(Fail::from("one net"));
     };
-    let [net] = route.nets.as_slice() else {
+    let [same] = copy.nets.as_slice() else {
         return Err(Fail::from("one net"));
     };
     let numbers = [1, 4, 5, 6, 0, 0, 5, 7, 0, 0];
     assert_eq!(rt; net.elems.as_slice().len(), 10);
-    for ((got, was), number) in net.elems.as_slice().iter().zip(&elems).zip(&numbers) {
-        let want = Elem {
-            number: *number,
-            ..*was
-        };
-        assert_eq!(rt; *got, want);
+    for (elem, number) in net.elems.as_slice().iter().zip(&numbers) {
+        assert_eq!(rt; elem.number, *number);
     }
     assert_eq!(rt; same.elems.as_slice(), net.elems.as_slice());
     Ok(())
 }
 
 #[test]
+fn a_net_whose_cells_do_not_meet(rt: HostRuntime) -> Result<(), Fail> {
+    let route = read_route(rt.alloc(), LEAP)?;
+    assert!(rt;
+        matches!(
+            fit_route(rt.alloc(), route),
+            Err(TextFault::Bad { line: 0, code: 500 })
+        )
+    );
+    Ok(())
+}
+
+/// A route text of one net through each cell of the rows of an array of 100 by 100, row by row and
+/// to and fro, by the cells of columns at its sides.
+fn long_net(alloc: Global) -> Result<Vec<u8>, Fail> {
+    let mut text = Vec::from_slice(
+        alloc,
+        b"Array size: 100 x 100 logic blocks.\nRouting:\nNet 0 (a)\n",
+    )?;
+    text.extend_from_slice(b"SOURCE (1,1) Class: 1\nOPIN (1,1) Pin: 4\n")?;
+    for y in 0..101u32 {
+        for step in 0..100u32 {
+            let x = if y % 2 == 0 { step + 1 } else { 100 - step };
+            let line = format!(in alloc; "CHANX ({x},{y}) Track: 0\n")?;
+            text.extend_from_slice(line.as_bytes())?;
+        }
+        if y < 100 {
+            let x = if y % 2 == 0 { 100 } else { 0 };
+            let line = format!(in alloc; "CHANY ({x},{}) Track: 0\n", y + 1)?;
+            text.extend_from_slice(line.as_bytes())?;
+        }
+    }
+    text.extend_from_slice(b"IPIN (1,1) Pin: 0\nSINK (1,1) Class: 0\n")?;
+    Ok(text)
+}
+
+#[test]
+fn no_limit_on_steps_keeps_a_long_net_from_fitting(rt: HostRuntime) -> Result<(), Fail> {
+    let text = long_net(rt.alloc())?;
+    let problem = problem(rt.alloc(), text.as_slice())?;
+    assert_eq!(rt;
+        (problem.slots().len(), problem.steps().len()),
+        (10_200, 10_199)
+    );
+    Ok(())
+}
+
+#[test]
 fn cells_that_meet_and_cells_that_do_not(rt: HostRuntime) {
+    let grid = Grid { nx: 2, ny: 2 };
     let cell = |axis, x, y| Cell { axis, x, y };
     let row = cell(Axis::X, 1, 1);
-    let cases = [
-        (cell(Axis::X, 2, 1), true),
-        (cell(Axis::X, 1, 1), false),
-        (cell(Axis::X, 0, 1), false),
-        (cell(Axis::X, 2, 2), false),
-        (cell(Axis::Y, 0, 1), true),
+    for (other, meet) in [
         (cell(Axis::Y, 1, 2), true),
+        (cell(Axis::X, 0, 1), false),
         (cell(Axis::Y, 2, 1), false),
-        (cell(Axis::Y, 1, 3), false),
-    ];
-    for (other, meet) in cases {
-        assert_eq!(rt; cells_meet(GRID, row, other), meet, "{other:?}");
-        assert_eq!(rt; cells_meet(GRID, other, row), meet, "{other:?}");
+    ] {
+        assert_eq!(rt; cells_meet(grid, row, other), meet, "{other:?}");
     }
 }

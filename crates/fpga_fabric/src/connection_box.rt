@@ -4,7 +4,7 @@ ghost use Rattle.fpga_types.specs.Boxes.{Opens, box_count, open_count, opens, pi
 ghost use Rattle.fpga_types.specs.Pins.{HasPin};
 ghost use Rattle.fpga_fabric.specs.Laws.{IsOnSwitch, opened_count};
 
-use fpga_types::{Arch, PinAt};
+use fpga_types::{Arch, PinAt, WIDTH_LIMIT};
 
 /// How many tracks of a channel of `width`, from 1 to 64, the pin's connection box opens: its share
 /// of the width, rounded to the nearest, or its number of tracks, each given in millionths by the
@@ -13,7 +13,7 @@ use fpga_types::{Arch, PinAt};
 ///
 /// Takes constant time and no memory.
 pub fn fc(arch: &Arch, width: u32, pin: PinAt) -> u32
-    requires width { (1 ≤ width) × (width ≤ 64) }
+    requires width { (1 ≤ width) × (width ≤ WIDTH_LIMIT) }
     requires pin { HasPin arch.now pin }
     ensures count { result ≡ open_count arch.now width pin }
     ensures within { (1 ≤ result) × (result ≤ width) }
@@ -24,7 +24,7 @@ pub fn fc(arch: &Arch, width: u32, pin: PinAt) -> u32
 
 /// The number of tracks by the architecture's shares.
 fn box_tracks(arch: &Arch, width: u32, pin: PinAt) -> u32
-    requires width { (1 ≤ width) × (width ≤ 64) }
+    requires width { (1 ≤ width) × (width ≤ WIDTH_LIMIT) }
     requires pin { HasPin arch.now pin }
     ensures count { result ≡ open_count arch.now width pin }
     ensures within { (1 ≤ result) × (result ≤ width) }
@@ -45,7 +45,7 @@ fn box_tracks(arch: &Arch, width: u32, pin: PinAt) -> u32
 
 /// How many tracks of a width a share in millionths is: at least 1 and at most the width.
 fn track_count(fractional: bool, width: u32, share: u64) -> u32
-    requires width { (1 ≤ width) × (width ≤ 64) }
+    requires width { (1 ≤ width) × (width ≤ WIDTH_LIMIT) }
     requires share { share ≤ 10 ^ 15 }
     ensures count { result ≡ box_count fractional width share }
     ensures within { (1 ≤ result) × (result ≤ width) }
@@ -74,7 +74,7 @@ fn shift(pin: PinAt) -> u32
 ///
 /// Takes at most as many steps as the pin opens tracks, and no memory.
 pub fn opens(arch: &Arch, width: u32, pin: PinAt, track: u32) -> bool
-    requires width { (1 ≤ width) × (width ≤ 64) }
+    requires width { (1 ≤ width) × (width ≤ WIDTH_LIMIT) }
     requires pin { HasPin arch.now pin }
     ensures found { result ≡ opens arch.now width pin track }
     ensures is { IsTrue result ↔ Opens arch.now width pin track }
@@ -85,7 +85,7 @@ pub fn opens(arch: &Arch, width: u32, pin: PinAt, track: u32) -> bool
 
 /// Whether one of so many switches, spread evenly over the width from a number on, is on the track.
 fn is_on_switch(width: u32, count: u32, number: u32, track: u32) -> bool
-    requires width { (1 ≤ width) × (width ≤ 64) }
+    requires width { (1 ≤ width) × (width ≤ WIDTH_LIMIT) }
     requires count { (1 ≤ count) × (count ≤ width) }
     ensures { IsTrue result ↔ IsOnSwitch width count number track }
 {

@@ -4,7 +4,7 @@ ghost use Rattle.fpga_fabric.specs.Answers.{meeting_parts};
 ghost use Rattle.fpga_fabric.specs.Ends.{lower_end, lower_side, meet_by_ends, side_on, upper_end, upper_side};
 ghost use Rattle.fpga_types.specs.Fabric.{Meets, MeetsAt, cell_on, is_cell, same_axis, same_cell};
 
-use fpga_types::{Axis, Cell, Grid, Side, SwitchAt};
+use fpga_types::{Axis, Cell, Grid, SIDE_LIMIT, Side, SwitchAt};
 
 /// The switch block at which two different cells of the array meet, the side of it that `a` is on
 /// and the side that `b` is on. None where no switch block has both. They never meet at two.
@@ -24,7 +24,7 @@ pub fn meet(grid: Grid, a: Cell, b: Cell) -> Option<(SwitchAt, Side, Side)>
 
 /// The same by the ends of `a`.
 fn meet_ends(a: Cell, b: Cell) -> Option<(SwitchAt, Side, Side)>
-    requires { (a.x ≤ 100) × (a.y ≤ 100) }
+    requires { (a.x ≤ SIDE_LIMIT) × (a.y ≤ SIDE_LIMIT) }
     ensures { result ≡ meet_by_ends a b }
 {
     if is_same(a, b) {
@@ -79,7 +79,7 @@ fn high_side(axis: Axis) -> Side
 
 /// The side of a switch block that a cell is on.
 fn side_of(at: SwitchAt, cell: Cell) -> Option<Side>
-    requires { (at.i ≤ 100) × (at.j ≤ 100) }
+    requires { (at.i ≤ SIDE_LIMIT) × (at.j ≤ SIDE_LIMIT) }
     ensures { result ≡ side_on at cell }
 {
     if is_same(cell, cell_at(Side::Left, at)) {
@@ -99,7 +99,7 @@ fn side_of(at: SwitchAt, cell: Cell) -> Option<Side>
 
 /// The cell on a side of a switch block.
 fn cell_at(side: Side, at: SwitchAt) -> Cell
-    requires { (at.i ≤ 100) × (at.j ≤ 100) }
+    requires { (at.i ≤ SIDE_LIMIT) × (at.j ≤ SIDE_LIMIT) }
     ensures { result ≡ cell_on side at }
 {
     match side {

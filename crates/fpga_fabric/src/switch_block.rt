@@ -3,7 +3,7 @@ ghost use Rattle.std.specs.Prelude.{◌≡◌, ◌≢◌, ◌<◌, ◌≤◌};
 ghost use Rattle.fpga_fabric.specs.Laws.{IsMappedAlone};
 ghost use Rattle.fpga_types.specs.Tracks.{mapped_track, universal_track, wilton_track};
 
-use fpga_types::{Pattern, Side};
+use fpga_types::{Pattern, Side, WIDTH_LIMIT};
 
 /// The track on side `to` of a switch block that `track` of side `from` is joined to, in a channel
 /// of `width` tracks, from 1 to 64. Back from `to` to `from` it leads to `track` again, and no
@@ -14,7 +14,7 @@ use fpga_types::{Pattern, Side};
 /// the tables. Takes constant time and no memory.
 pub fn joined_track(pattern: Pattern, width: u32, from: Side, to: Side, track: u32) -> u32
     requires sides { from ≢ to }
-    requires width { (1 ≤ width) × (width ≤ 64) }
+    requires width { (1 ≤ width) × (width ≤ WIDTH_LIMIT) }
     requires track { track < width }
     ensures joined { result ≡ mapped_track pattern width from to track }
     ensures within { result < width }
@@ -30,7 +30,7 @@ pub fn joined_track(pattern: Pattern, width: u32, from: Side, to: Side, track: u
 
 /// The track of the Wilton table.
 fn wilton(width: u32, from: Side, to: Side, track: u32) -> u32
-    requires width { (1 ≤ width) × (width ≤ 64) }
+    requires width { (1 ≤ width) × (width ≤ WIDTH_LIMIT) }
     requires track { track < width }
     ensures { result ≡ wilton_track width from to track }
 {

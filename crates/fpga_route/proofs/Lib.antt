@@ -1,12 +1,8 @@
-pub mod ByteLemmas
-pub mod CodeLemmas
 pub mod CodeRows
-pub mod ContextLemmas
 pub mod DraftLemmas
 pub mod FaultLemmas
 pub mod FitRows
 pub mod FormLemmas
-pub mod HeadLemmas
 pub mod LegalRows
 pub mod PrintableLemmas
 pub mod PrintedLemmas
@@ -18,4 +14,3 @@ pub mod RowTexts
 pub mod SlotRows
 pub mod SoundLemmas
 pub mod WordLemmas
-pub mod WriteLemmas

@@ -1,26 +1,27 @@
 -- What was read is what the text reads as.
-use Rattle.std.proofs.Common.{◌≡◌, ℕ, List, [], ◌∷◌, Some, None, refl, sym, ap, ◌∙◌, arith}
+use Rattle.std.proofs.Common.{◌≡◌, ◌<◌, ◌^◌, ℕ, List, [], ◌∷◌, None, refl, sym, ap, subst, ◌∙◌, arith}
+use Rattle.std.specs.Prelude.{map, ◌+◌}
 use Rattle.fpga_types.specs.Size.{Size}
+use Rattle.fpga_types.specs.Sound.{IsSound, RisesWithin, net_numbers}
 use Rattle.fpga_types.specs.declared.route.RouteNet.{RouteNet}
+use Rattle.fpga_text.specs.declared.fault.TextFault.{TextFault}
+use Rattle.fpga_text.specs.declared.fault.TextFault.TheVariants.{Bad, Limit, Memory}
 use Rattle.fpga_text.specs.declared.style.Style.TheVariants.{Hash}
 use Rattle.fpga_text.specs.Bytes.{Bytes}
-use Rattle.fpga_text.specs.Words.{TextLine, text_lines, line_count}
+use Rattle.fpga_text.specs.FirstFault.{IsFaultless, IsRefusal, first_fault}
 use Rattle.fpga_text.specs.Reading.{LinesAhead}
-use Rattle.fpga_route.specs.declared.cause.Cause.{Cause}
-use Rattle.fpga_route.specs.declared.cause.ReadFault.{ReadFault}
-use Rattle.fpga_route.specs.declared.cause.ReadFault.TheVariants.{Bad, Memory}
+use Rattle.fpga_text.specs.Words.{TextLine, lines, text_lines, line_count}
+use Rattle.fpga_text.proofs.FaultLemmas.{IsPast, refusal-past}
 use Rattle.fpga_route.specs.declared.head.Head.{Head}
-use Rattle.fpga_route.specs.Causes.{IsFaultIn, code_of}
-use Rattle.fpga_route.specs.Codes.{size_in, HasCode}
-use Rattle.fpga_route.specs.Drafts.{Progress, standing_of, nets_begun}
-use Rattle.fpga_route.specs.Faults.{IsHead, later_fault, route_fault, first_standing}
-use Rattle.fpga_route.specs.Nets.{ReadsNets}
-use Rattle.fpga_route.specs.Refusals.{IsFirstFault}
-use Rattle.fpga_types.specs.Sound.{IsSound}
-use Rattle.fpga_route.specs.Value.{Reads, IsFirstBad, nets_of, value_of}
-use Rattle.fpga_route.proofs.HeadLemmas.{route_fault-head}
-use Rattle.fpga_route.proofs.FaultLemmas.{clean_route, first_fault}
-use Rattle.fpga_route.proofs.SoundLemmas.{nets_sound, nets_limited}
+use Rattle.fpga_route.specs.declared.standing.Standing.{Standing}
+use Rattle.fpga_route.specs.Codes.{lines_faults, route_faults}
+use Rattle.fpga_route.specs.Drafts.{Progress, nets_begun, nets_with}
+use Rattle.fpga_route.specs.Heads.{IsHead}
+use Rattle.fpga_route.specs.Nets.{ReadsNets, faults_ahead}
+use Rattle.fpga_route.specs.Refusals.{IsRefused, untold}
+use Rattle.fpga_route.specs.Value.{Reads, nets_of, value_of}
+use Rattle.fpga_route.proofs.FaultLemmas.{past_head}
+use Rattle.fpga_route.proofs.SoundLemmas.{faults_at, lines_rise, nets_limited, nets_rise, nets_sound, rises-later, rises-lower}
 
 -- a reader before the text
 abbrev pub whole_text : Bytes → LinesAhead
@@ -30,59 +31,74 @@ whole_text bytes = record { ahead = text_lines Hash bytes; taken = 0; total = li
 abbrev pub no_nets : Size → Progress
 no_nets grid = record { grid = grid; closed = []; open_net = None }
 
--- a fault after the head
-pub bad_nets : (bytes : Bytes) (old new : LinesAhead) (head : Head) (draft : Progress) (fault : ReadFault) → old ≡ whole_text bytes → IsHead old new head → draft ≡ no_nets head.grid
-    → IsFaultIn (later_fault (standing_of draft) new.ahead) fault → IsFaultIn (route_fault (text_lines Hash bytes) (line_count bytes)) fault
-bad_nets bytes old new head draft fault text h begun found =
-    let same : later_fault (standing_of draft) new.ahead ≡ route_fault (text_lines Hash bytes) (line_count bytes)
-    = ap (λ d. later_fault (standing_of d) new.ahead) begun ∙ sym (route_fault-head old new head h) ∙ ap (λ (r : LinesAhead). route_fault r.ahead r.total) text in
-    rw same at found
+-- what was read of a text with this head
+module _ (bytes : Bytes) (old new : LinesAhead) (head : Head) (draft : Progress)
+    (text : old ≡ whole_text bytes) (h : IsHead old new head) (begun : draft ≡ no_nets head.grid) where
+  past : IsPast (route_faults bytes) (faults_ahead draft new)
+  past = record {
+    same = sym (ap (λ (r : LinesAhead). first_fault (lines_faults r.ahead r.total)) text)
+        ∙ (past_head old new head draft h begun).same;
+  }
 
--- what the lines with this head read as
-value_of-head : (lines ahead : List TextLine) (count : ℕ) (first second : TextLine) (grid : Size) → lines ≡ first ∷ second ∷ ahead → size_in (first ∷ []) ≡ Some grid
-    → value_of lines count ≡ record { grid = grid; grid_line = first.number; lines = count; nets = nets_of ahead }
-value_of-head lines ahead count first second grid e size = rw (e, size) refl
+  -- a fault after the head
+  pub refused_later : (found : TextFault) → IsRefusal (faults_ahead draft new) found
+      → IsRefusal (route_faults bytes) found
+  refused_later found is = refusal-past found past is
 
--- no fault, and all lines were taken
-pub reads : (bytes : Bytes) (old new after : LinesAhead) (head : Head) (draft draft_after : Progress) (nets : List RouteNet) (lines : ℕ) → old ≡ whole_text bytes → IsHead old new head
-    → draft ≡ no_nets head.grid → ReadsNets new draft after draft_after → nets ≡ nets_begun draft_after → lines ≡ after.taken
-    → Reads bytes (record { grid = head.grid; grid_line = head.line; lines = lines; nets = nets })
-reads bytes old new after head draft draft_after nets lines text h begun rest last count = (clean_route (text_lines Hash bytes) (line_count bytes) clean, value)
-  where
-    clean : route_fault (text_lines Hash bytes) (line_count bytes) ≡ None
-    clean = sym (ap (λ (r : LinesAhead). route_fault r.ahead r.total) text) ∙ route_fault-head old new head h ∙ ap (λ d. later_fault (standing_of d) new.ahead) (sym begun) ∙ rest.clean
-
+  module _ (after : LinesAhead) (draft_after : Progress) (nets : List RouteNet) (count : ℕ)
+      (rest : ReadsNets new draft after draft_after) (last : nets ≡ nets_begun draft_after)
+      (taken : count ≡ after.taken) where
     all_nets : nets ≡ nets_of new.ahead
-    all_nets = last ∙ rest.nets ∙ (rw begun refl)
+    all_nets = last ∙ rest.nets ∙ (λ i. nets_with (begun i) new.ahead)
 
-    all_lines : lines ≡ line_count bytes
-    all_lines = count ∙ rest.taken ∙ h.total ∙ ap (λ (r : LinesAhead). r.total) text
+    all_lines : count ≡ line_count bytes
+    all_lines = taken ∙ rest.taken ∙ h.total ∙ ap (λ (r : LinesAhead). r.total) text
 
-    value : record { grid = head.grid; grid_line = head.line; lines = lines; nets = nets } ≡ value_of (text_lines Hash bytes) (line_count bytes)
-    value = (λ i. record { grid = head.grid; grid_line = h.line i; lines = all_lines i; nets = all_nets i })
-        ∙ sym (value_of-head (text_lines Hash bytes) new.ahead (line_count bytes) h.first h.second head.grid (sym (ap (λ (r : LinesAhead). r.ahead) text) ∙ h.ahead) h.grid)
+    ahead : text_lines Hash bytes ≡ h.first ∷ h.second ∷ new.ahead
+    ahead = sym (ap (λ (r : LinesAhead). r.ahead) text) ∙ h.ahead
 
--- what was read is sound
-pub sound : (new after : LinesAhead) (grid : Size) (line lines : ℕ) (draft draft_after : Progress) (nets : List RouteNet) → draft ≡ no_nets grid
-    → ReadsNets new draft after draft_after → nets ≡ nets_begun draft_after → IsSound (record { grid = grid; grid_line = line; lines = lines; nets = nets })
-sound new after grid line lines draft draft_after nets begun rest last = record {
-  limit = rw all_nets (omega (arith, nets_limited (first_standing grid) new.ahead clean (omega arith)));
-  nets = rw all_nets (nets_sound (first_standing grid) new.ahead clean);
-}
-  where
-    clean : later_fault (first_standing grid) new.ahead ≡ None
-    clean = ap (λ d. later_fault (standing_of d) new.ahead) (sym begun) ∙ rest.clean
+    -- no fault, and all lines were taken
+    pub reads : Reads bytes (record { grid = head.grid; grid_line = head.line; lines = count; nets = nets })
+    reads = (
+      past.same ∙ rest.clean,
+      (λ i. record { grid = head.grid; grid_line = h.line i; lines = all_lines i; nets = all_nets i })
+          ∙ sym (value_of-head (line_count bytes)),
+    )
+      where
+        value_of-head : (n : ℕ) → value_of (text_lines Hash bytes) n
+            ≡ record { grid = head.grid; grid_line = h.first.number; lines = n; nets = nets_of new.ahead }
+        value_of-head n = rw (ahead, h.grid) refl
 
-    all_nets : nets ≡ nets_of new.ahead
-    all_nets = last ∙ rest.nets ∙ (rw begun refl)
+    -- what was read is sound
+    pub sound : count < 2 ^ 63 → IsSound (record { grid = head.grid; grid_line = head.line; lines = count; nets = nets })
+    sound small = record {
+      limit = rw all_nets (omega (arith, nets_limited start new.ahead (new.total + 1) clean (omega arith)));
+      nets = rw all_nets (nets_sound start new.ahead (new.total + 1) clean);
+      order = rw (h.line, all_nets, all_lines) (
+        numbers.0,
+        numbers.1,
+        rises-lower h.first.number h.second.number (line_count bytes) (net_numbers (nets_of new.ahead))
+            (omega (arith, numbers.2.0))
+            (rises-later h.second.number (line_count bytes) _ _
+            (nets_rise h.second.number (line_count bytes) new.ahead numbers.2.2)),
+      );
+      lines = omega (arith, small);
+    }
+      where
+        start : Standing
+        start = record { grid = head.grid; nets = 0; in_global = None }
 
--- a fault that was found is the first
-pub found_first : (bytes : Bytes) (fault : ReadFault) → IsFaultIn (route_fault (text_lines Hash bytes) (line_count bytes)) fault → IsFirstFault bytes fault
-found_first bytes (Bad line cause) found =
-    let fault = first_fault (text_lines Hash bytes) (line_count bytes) line (code_of cause) found in
-    (fault.place, fault.first, fault.line)
-found_first bytes Memory found = tt
+        clean : IsFaultless (faults_at start new.ahead (new.total + 1))
+        clean = (λ i. first_fault (faults_ahead (sym begun i) new)) ∙ rest.clean
 
--- a first fault is one
-pub refusal : (bytes : Bytes) (line : ℕ) (cause : Cause) → IsFirstBad bytes line (code_of cause) → HasCode (text_lines Hash bytes)
-refusal bytes line cause fault = (fault.0, code_of cause, fault.1.within, fault.1.holds)
+        numbers : RisesWithin 0 (line_count bytes)
+            (map (λ (l : TextLine). l.number) (h.first ∷ h.second ∷ new.ahead))
+        numbers = subst (λ ls. RisesWithin 0 (line_count bytes) (map (λ (l : TextLine). l.number) ls))
+            ahead (lines_rise Hash 0 1 (line_count bytes) (lines bytes) (omega arith) (omega arith))
+
+-- a fault is not told
+pub refused : (bytes : Bytes) (found : TextFault) → IsRefusal (route_faults bytes) found
+    → IsRefused bytes (untold found)
+refused bytes (Bad line code) is = (refl, refl, (Bad line code, is))
+refused bytes (Limit code count) is = (refl, refl, (Limit code count, is))
+refused bytes Memory is = tt

@@ -1,13 +1,14 @@
 -- The value of a route text as far as it was read.
-use Rattle.std.specs.Prelude.{◌≡◌, ℕ, ◌+◌, List, [], ◌∷◌, ◌++◌, length, filter_map, Option, Some, None, option_map, option_to_list}
+use Rattle.std.specs.Prelude.{◌≡◌, ℕ, ◌+◌, List, [], ◌∷◌, ◌++◌, length, Option, Some, None, option_map, option_to_list}
 use Rattle.fpga_types.specs.Size.{Size}
 use Rattle.fpga_types.specs.declared.route.RouteNet.{RouteNet}
 use Rattle.fpga_text.specs.Bytes.{Bytes}
 use Rattle.fpga_text.specs.Words.{TextLine}
 use Rattle.fpga_route.specs.declared.standing.Standing.{Standing}
-use Rattle.fpga_route.specs.Forms.{NetWords, ElemWords, net_words}
-use Rattle.fpga_route.specs.Standings.{later_code, standing_after, net_code, elem_code, block_code}
-use Rattle.fpga_route.specs.Value.{elem_of, line_elem, line_kept, net_of, own_lines, nets_of}
+use Rattle.fpga_route.specs.Codes.{behind}
+use Rattle.fpga_route.specs.Forms.{NetWords, ElemWords, Net, Elem, Block, later_form}
+use Rattle.fpga_route.specs.Standings.{context_at, later_fault}
+use Rattle.fpga_route.specs.Value.{elem_of, elems_of, kept_of, net_of, own_lines, nets_of}
 
 -- the array, the nets whose lines were all read, and the net that the next line stands in
 pub record Progress : Type 0 where
@@ -29,33 +30,38 @@ nets_begun draft = draft.closed ++ option_to_list draft.open_net
 
 -- the net with these lines too
 abbrev pub with_lines : List TextLine → RouteNet → RouteNet
-with_lines own net = record net { elems = net.elems ++ filter_map line_elem own; kept = net.kept ++ filter_map line_kept own }
+with_lines own net =
+    record net { elems = net.elems ++ elems_of own; kept = net.kept ++ kept_of own }
 
 -- the nets that were begun and those that these lines begin, with their lines
 abbrev pub nets_with : Progress → List TextLine → List RouteNet
-nets_with draft ahead = draft.closed ++ option_to_list (option_map (with_lines (own_lines ahead)) draft.open_net) ++ nets_of ahead
+nets_with draft ahead =
+    draft.closed ++ option_to_list (option_map (with_lines (own_lines ahead)) draft.open_net)
+    ++ nets_of ahead
 
 -- a Net line without a fault was taken: it closes the net before it
 pub record BeginsNet (old new : Progress) (net : NetWords) (line : ℕ) : Type 0 where
-  pub clean : net_code (standing_of old) net ≡ None
+  pub clean : later_fault (standing_of old) line (Net net) ≡ None
   pub is : new ≡ record old { closed = nets_begun old; open_net = Some (net_of net line []) }
 
 -- an element line without a fault was taken: the open net has the element too
 pub record AddsElem (old new : Progress) (e : ElemWords) (line : ℕ) : Type 0 where
-  pub clean : elem_code (standing_of old) e ≡ None
+  pub clean : later_fault (standing_of old) line (Elem e) ≡ None
   pub net : RouteNet
   pub was : old.open_net ≡ Some net
-  pub is : new ≡ record old { open_net = Some (record net { elems = net.elems ++ elem_of line e ∷ [] }) }
+  pub is : new
+      ≡ record old { open_net = Some (record net { elems = net.elems ++ elem_of line e ∷ [] }) }
 
 -- a Block line without a fault was taken: the open net keeps its bytes too
-pub record KeepsLine (old new : Progress) (raw : Bytes) : Type 0 where
-  pub clean : block_code (standing_of old) ≡ None
+pub record KeepsLine (old new : Progress) (raw : Bytes) (line : ℕ) : Type 0 where
+  pub clean : later_fault (standing_of old) line Block ≡ None
   pub net : RouteNet
   pub was : old.open_net ≡ Some net
   pub is : new ≡ record old { open_net = Some (record net { kept = net.kept ++ raw ∷ [] }) }
 
 -- a line without a fault was taken
 pub record TakesLine (old new : Progress) (line : TextLine) : Type 0 where
-  pub clean : later_code (standing_of old) line.words ≡ None
-  pub after : standing_of new ≡ standing_after (standing_of old) (net_words line.words)
+  pub clean : later_fault (standing_of old) line.number (later_form line.words) ≡ None
+  pub after : context_at (standing_of new)
+      ≡ behind (context_at (standing_of old)) (later_form line.words)
   pub value : (more : List TextLine) → nets_with new more ≡ nets_with old (line ∷ more)

@@ -1,7 +1,9 @@
 -- Which form a line of a route text has, by its words: a profile of the route text of VPR 4.30.
-use Rattle.std.specs.Prelude.{ℕ, ◌+◌, ◌-◌, ◌==◌, nat_eq, nat_le, Bool, true, false, ◌&&◌, ◌||◌, List, [], ◌∷◌, length, slice_range, find, codes, bytes_eq, Option, Some, None, is_some, if◌then◌else◌}
+use Rattle.std.specs.Prelude.{ℕ, ◌+◌, ◌-◌, ◌==◌, nat_eq, nat_le, Bool, true, false, ◌&&◌, ◌||◌, [], ◌∷◌, length, slice_range, find, codes, bytes_eq, Option, Some, None, is_some, if◌then◌else◌}
 use Rattle.std.specs.List.{starts_with, ends_with, before_first, after_first, list_any}
+use Rattle.std.specs.Option.{option_map_or}
 use Rattle.fpga_text.specs.Bytes.{Bytes}
+use Rattle.fpga_text.specs.Words.{Words}
 use Rattle.fpga_types.specs.Kinds.{takes}
 use Rattle.fpga_types.specs.declared.route.ElemKind.{ElemKind}
 use Rattle.fpga_types.specs.declared.route.ElemKind.TheVariants.{Source, Opin, ChanX, ChanY, Ipin, Sink}
@@ -37,13 +39,13 @@ is_size_frame array size by logic blocks =
     bytes_eq array (codes "Array") && bytes_eq size (codes "size:") && bytes_eq by (codes "x") && bytes_eq logic (codes "logic") && is_blocks blocks
 
 -- `Array size: nx x ny logic blocks.`
-abbrev pub size_words : List Bytes → Option SizeWords
+abbrev pub size_words : Words → Option SizeWords
 size_words (array ∷ size ∷ nx ∷ by ∷ ny ∷ logic ∷ blocks ∷ []) =
     if is_size_frame array size by logic blocks then Some (record { nx = nx; ny = ny }) else None
 size_words _ = None
 
 -- `Routing:`
-abbrev pub is_routing : List Bytes → Bool
+abbrev pub is_routing : Words → Bool
 is_routing (word ∷ []) = bytes_eq word (codes "Routing:")
 is_routing _ = false
 
@@ -65,7 +67,7 @@ is_global_frame net global word connecting =
     bytes_eq net (codes "Net") && bytes_eq global (codes "global") && bytes_eq word (codes "net") && bytes_eq connecting (codes "connecting:")
 
 -- `Net k (name)`, or `Net k (name): global net connecting:`
-abbrev pub net_words : List Bytes → Option NetWords
+abbrev pub net_words : Words → Option NetWords
 net_words (net ∷ k ∷ name ∷ []) =
     if bytes_eq net (codes "Net") then named_net k false (enclosed (codes "(") (codes ")") name) else None
 net_words (net ∷ k ∷ name ∷ global ∷ word ∷ connecting ∷ []) =
@@ -116,16 +118,41 @@ elem_of_parts (Some kind) (Some place) (Some label) number =
 elem_of_parts _ _ _ number = None
 
 -- a kind, a place, a label of the kind and a number
-abbrev pub elem_words : List Bytes → Option ElemWords
+abbrev pub elem_words : Words → Option ElemWords
 elem_words (kind ∷ place ∷ label ∷ number ∷ []) = elem_of_parts (kind_of kind) (place_words place) (label_of label) number
 elem_words _ = None
 
 -- the first word is `Block`
-abbrev pub is_block : List Bytes → Bool
+abbrev pub is_block : Words → Bool
 is_block [] = false
 is_block (word ∷ more) = bytes_eq word (codes "Block")
 
 -- the first word is a kind and the third is `to`
-abbrev pub is_span : List Bytes → Bool
+abbrev pub is_span : Words → Bool
 is_span (kind ∷ place ∷ to ∷ more) = is_some (kind_of kind) && bytes_eq to (codes "to")
 is_span _ = false
+
+-- what a line says: the head has an array line and `Routing:`, and after it come Net lines, element
+-- lines, Block lines, and channels that span several cells
+pub data Form : Type 0 where
+  Array : SizeWords → Form
+  Routing : Form
+  OtherHead : Form
+  Net : NetWords → Form
+  Elem : ElemWords → Form
+  Block : Form
+  Span : Form
+  OtherLine : Form
+
+-- the form of the first line
+abbrev pub array_form : Words → Form
+array_form words = option_map_or Array (size_words words) OtherHead
+
+-- the form of the second line
+abbrev pub routing_form : Words → Form
+routing_form words = if is_routing words then Routing else OtherHead
+
+-- the form of a line after the head
+abbrev pub later_form : Words → Form
+later_form words = option_map_or Net (net_words words) (option_map_or Elem (elem_words words)
+    (if is_block words then Block else if is_span words then Span else OtherLine))

@@ -1,11 +1,10 @@
 pub mod Causes
 pub mod Codes
 pub mod Drafts
-pub mod Faults
 pub mod Forms
+pub mod Heads
 pub mod Lines
 pub mod Nets
-pub mod Places
 pub mod Printed
 pub mod ReadBack
 pub mod Refusals

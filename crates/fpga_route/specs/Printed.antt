@@ -37,14 +37,22 @@ printed_lines false net = flat_map printed_elem net.elems
 abbrev pub printed_net_line : RouteNet → Bytes
 printed_net_line net = before_name net.k ++ (net.name ++ after_name net.global)
 
+-- the lines of a net, by what it is
+abbrev pub printed_own : RouteNet → Bytes
+printed_own net = printed_lines net.global net
+
 -- a net
 abbrev pub printed_net : RouteNet → Bytes
-printed_net net = printed_net_line net ++ printed_lines net.global net
+printed_net net = printed_net_line net ++ printed_own net
 
 -- the two head lines
 abbrev pub printed_head : Size → Bytes
 printed_head grid = codes "Array size: " ++ decimal grid.nx ++ codes " x " ++ decimal grid.ny ++ codes " logic blocks.\n\nRouting:"
 
+-- the nets, and the newline at the end
+abbrev pub printed_body : RouteText → Bytes
+printed_body route = flat_map printed_net route.nets ++ codes "\n"
+
 -- a route
 abbrev pub printed : RouteText → Bytes
-printed route = printed_head route.grid ++ (flat_map printed_net route.nets ++ codes "\n")
+printed route = printed_head route.grid ++ printed_body route

@@ -1,6 +1,9 @@
-//! What can be wrong with a line of a route text.
+//! What can be wrong with a route text.
 ghost use Rattle.std.specs.Prelude.{◌≡◌};
+ghost use Rattle.fpga_text.specs.declared.fault.TextFault.TheVariants.{Bad, Limit};
 ghost use Rattle.fpga_route.specs.Causes.{code_of};
+
+use fpga_text::TextFault;
 
 /// What is wrong with a line of a route text.
 #[derive(Clone, Copy, Debug, PartialEq, Eq)]
@@ -17,7 +20,7 @@ pub enum Cause {
     StrayElement,
     /// A place that the array does not have.
     NoPlace,
-    /// An array or a number of nets past the limit.
+    /// More columns, rows or nets than may be.
     PastLimit,
 }
 
@@ -36,13 +39,24 @@ impl Cause {
             Cause::PastLimit => 407,
         }
     }
-}
 
-/// What keeps a route text from being read.
-#[derive(Clone, Copy, Debug, PartialEq, Eq)]
-pub enum ReadFault {
-    /// The first bad line, and the least code that holds there.
-    Bad { line: u64, cause: Cause },
-    /// Memory ran out.
-    Memory,
+    /// The fault of the line with this number.
+    pub fn at(self, line: u64) -> TextFault
+        ensures { result ≡ Bad line (code_of self) }
+    {
+        TextFault::Bad {
+            line,
+            code: self.code(),
+        }
+    }
+
+    /// The fault of a text with so many of something.
+    pub fn past(self, count: u64) -> TextFault
+        ensures { result ≡ Limit (code_of self) count }
+    {
+        TextFault::Limit {
+            code: self.code(),
+            count,
+        }
+    }
 }

@@ -1,14 +1,15 @@
 //! The value of a route text as far as it was read.
 ghost use Rattle.std.specs.Prelude.{◌≡◌, [], None, OnOk, IfOk, IfErr};
-ghost use Rattle.fpga_route.specs.Causes.{IsFaultAt};
+ghost use Rattle.fpga_text.specs.FirstFault.{IsFaultOf};
+ghost use Rattle.fpga_route.specs.Forms.{Net, Elem as ElemForm, Block, later_form};
 ghost use Rattle.fpga_route.specs.Lines.{net_said, elem_said};
-ghost use Rattle.fpga_route.specs.Standings.{net_code, elem_code, block_code, later_code};
+ghost use Rattle.fpga_route.specs.Standings.{later_fault};
 
-use crate::cause::{Cause, ReadFault};
+use crate::cause::Cause;
 use crate::forms::{ElemLine, LineForm, NetLine, form_of};
 use crate::open_net::OpenNet;
 use crate::standing::{Standing, net_number, read_elem};
-use fpga_text::Line;
+use fpga_text::{Line, TextFault};
 use fpga_types::{Grid, Items, Name, RouteNet};
 use std::alloc::{AllocError, Global};
 use std::marker::Model;
@@ -85,17 +86,15 @@ impl Draft {
         let Some(net) = self.open_net.take() else {
             return Ok(());
         };
-        let Ok(()) = self.closed.push(net.close()) else {
-            return Err(AllocError);
-        };
+        self.closed.push(net.close())?;
         Ok(())
     }
 
     /// Takes a line after the head, of which no word was taken yet.
-    pub fn take_line(&mut self, line: &mut Line<'_>) -> Result<(), ReadFault>
+    pub fn take_line(&mut self, line: &mut Line<'_>) -> Result<(), TextFault>
         ensures ok { OnOk result (TakesLine self.old self.new line.old) }
-        ensures err { IfErr result (IsFaultAt line.old.number
-            (later_code (standing_of self.old) line.old.words)) }
+        ensures err { IfErr result (IsFaultOf
+            (later_fault (standing_of self.old) line.old.number (later_form line.old.words))) }
     {
         let number = line.number();
         let raw = line.raw();
@@ -103,75 +102,66 @@ impl Draft {
             LineForm::Net(net) => self.begin_net(&net, number),
             LineForm::Elem(elem) => self.add_elem(&elem, number),
             LineForm::Block => self.keep_line(raw, number),
-            LineForm::Span => Err(ReadFault::Bad {
-                line: number,
-                cause: Cause::SpannedChannel,
-            }),
-            LineForm::Other => Err(ReadFault::Bad {
-                line: number,
-                cause: Cause::LineForm,
-            }),
+            LineForm::Span => Err(Cause::SpannedChannel.at(number)),
+            LineForm::Other => Err(Cause::LineForm.at(number)),
         }
     }
 
     /// Takes a Net line.
-    fn begin_net(&mut self, net: &NetLine<'_>, line: u64) -> Result<(), ReadFault>
+    fn begin_net(&mut self, net: &NetLine<'_>, line: u64) -> Result<(), TextFault>
         ensures ok { OnOk result (BeginsNet self.old self.new (net_said net.now) line) }
-        ensures err { IfErr result (IsFaultAt line
-            (net_code (standing_of self.old) (net_said net.now))) }
+        ensures err { IfErr result (IsFaultOf
+            (later_fault (standing_of self.old) line (Net (net_said net.now)))) }
     {
-        let k = match net_number(self.standing(), net) {
+        let k = match net_number(self.standing(), net, line) {
             Ok(k) => k,
-            Err(cause) => return Err(ReadFault::Bad { line, cause }),
+            Err(fault) => return Err(fault),
         };
         let Ok(name) = name_of(self.alloc, net.name) else {
-            return Err(ReadFault::Memory);
+            return Err(TextFault::Memory);
         };
         let Ok(()) = self.close_net() else {
-            return Err(ReadFault::Memory);
+            return Err(TextFault::Memory);
         };
         self.open_net = Some(OpenNet::new(self.alloc, k, name, net.global, line));
         Ok(())
     }
 
     /// Takes an element line.
-    fn add_elem(&mut self, parts: &ElemLine<'_>, line: u64) -> Result<(), ReadFault>
+    fn add_elem(&mut self, parts: &ElemLine<'_>, line: u64) -> Result<(), TextFault>
         ensures ok { OnOk result (AddsElem self.old self.new (elem_said parts.now) line) }
-        ensures err { IfErr result (IsFaultAt line
-            (elem_code (standing_of self.old) (elem_said parts.now))) }
+        ensures err { IfErr result (IsFaultOf
+            (later_fault (standing_of self.old) line (ElemForm (elem_said parts.now)))) }
     {
         let elem = match read_elem(self.standing(), parts, line) {
             Ok(elem) => elem,
-            Err(cause) => return Err(ReadFault::Bad { line, cause }),
+            Err(fault) => return Err(fault),
         };
         let Some(net) = &mut self.open_net else {
             unreachable!()
         };
         let Ok(()) = net.push_elem(elem) else {
-            return Err(ReadFault::Memory);
+            return Err(TextFault::Memory);
         };
         Ok(())
     }
 
     /// Takes a Block line with these bytes.
-    fn keep_line(&mut self, raw: &[u8], line: u64) -> Result<(), ReadFault>
-        ensures ok { OnOk result (KeepsLine self.old self.new raw.now) }
-        ensures err { IfErr result (IsFaultAt line (block_code (standing_of self.old))) }
+    fn keep_line(&mut self, raw: &[u8], line: u64) -> Result<(), TextFault>
+        ensures ok { OnOk result (KeepsLine self.old self.new raw.now line) }
+        ensures err { IfErr result (IsFaultOf (later_fault (standing_of self.old) line Block)) }
     {
         if self.standing().in_global != Some(true) {
-            return Err(ReadFault::Bad {
-                line,
-                cause: Cause::LineForm,
-            });
+            return Err(Cause::LineForm.at(line));
         }
         let Ok(name) = name_of(self.alloc, raw) else {
-            return Err(ReadFault::Memory);
+            return Err(TextFault::Memory);
         };
         let Some(net) = &mut self.open_net else {
             unreachable!()
         };
         let Ok(()) = net.push_kept(name) else {
-            return Err(ReadFault::Memory);
+            return Err(TextFault::Memory);
         };
         Ok(())
     }
@@ -181,9 +171,7 @@ impl Draft {
         ensures { IfOk result (λ nets. nets.items ≡ nets_begun self) }
     {
         let mut draft = self;
-        let Ok(()) = draft.close_net() else {
-            return Err(AllocError);
-        };
+        draft.close_net()?;
         Ok(draft.closed)
     }
 }
@@ -192,9 +180,7 @@ impl Draft {
 fn name_of(alloc: Global, bytes: &[u8]) -> Result<Name, AllocError>
     ensures { IfOk result (λ name. name ≡ bytes.now) }
 {
-    let Ok(copy) = Vec::from_slice(alloc, bytes) else {
-        return Err(AllocError);
-    };
+    let copy = Vec::from_slice(alloc, bytes)?;
     Ok(Name {
         bytes: Items::of(copy),
     })

@@ -1,7 +1,7 @@
 //! Which form a line of a route text has, by its words.
 ghost use Rattle.std.specs.Prelude.{◌≡◌, map, option_map};
 ghost use Rattle.fpga_route.specs.Forms as spec;
-ghost use Rattle.fpga_route.specs.Lines.{IsFormOf, array_said, net_said, elem_said};
+ghost use Rattle.fpga_route.specs.Lines.{array_said, net_said, elem_said, form_said};
 
 use crate::first_words::FirstWords;
 use crate::words::{enclosed, is_text, kind_named, label_named, place_said};
@@ -49,18 +49,17 @@ pub enum LineForm<'a> {
 }
 
 /// The form of a line after the head, of which no word was taken yet.
-#[tactic(auto, using(crate::proofs::FormLemmas::is_form_of))]
+#[tactic(auto, using(crate::proofs::FormLemmas::later_form_take))]
 pub fn form_of<'a>(line: &mut Line<'a>) -> LineForm<'a>
-    ensures { IsFormOf line.old.words result }
+    ensures { form_said result ≡ spec.later_form line.old.words }
 {
     let words = FirstWords::of(line);
     sort_line(words.as_slice())
 }
 
 /// The form of a line after the head, by its words.
-#[tactic(auto, using(crate::proofs::FormLemmas::parts_of_net, crate::proofs::FormLemmas::parts_of_elem, crate::proofs::FormLemmas::parts_of_block))]
 fn sort_line<'a>(words: &[&'a [u8]]) -> LineForm<'a>
-    ensures { IsFormOf (map (λ w. w.now) words.now) result }
+    ensures { form_said result ≡ spec.later_form (map (λ w. w.now) words.now) }
 {
     if let Some(net) = net_line(words) {
         return LineForm::Net(net);

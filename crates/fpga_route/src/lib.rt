@@ -14,6 +14,5 @@ mod tests;
 mod words;
 mod write;
 
-pub use cause::{Cause, ReadFault};
 pub use read::{read_route, read_route_or_fault};
 pub use write::write_route;

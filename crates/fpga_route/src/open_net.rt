@@ -64,9 +64,7 @@ impl OpenNet {
     pub fn push_elem(&mut self, elem: Elem) -> Result<(), AllocError>
         ensures { OnOk result (self.new ≡ record self.old { elems = self.old.elems ++ elem ∷ [] }) }
     {
-        let Ok(()) = self.elems.push(elem) else {
-            return Err(AllocError);
-        };
+        self.elems.push(elem)?;
         Ok(())
     }
 
@@ -74,9 +72,7 @@ impl OpenNet {
     pub fn push_kept(&mut self, line: Name) -> Result<(), AllocError>
         ensures { OnOk result (self.new ≡ record self.old { kept = self.old.kept ++ line ∷ [] }) }
     {
-        let Ok(()) = self.kept.push(line) else {
-            return Err(AllocError);
-        };
+        self.kept.push(line)?;
         Ok(())
     }
 

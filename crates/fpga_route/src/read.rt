@@ -1,14 +1,12 @@
 //! Reading a route text.
-ghost use Rattle.std.specs.Prelude.{OnOk, IfOk, IfErr};
-ghost use Rattle.fpga_route.specs.Causes.{IsFaultIn};
-ghost use Rattle.fpga_route.specs.Drafts.{standing_of};
-ghost use Rattle.fpga_route.specs.Nets.{ReadsNets};
-ghost use Rattle.fpga_route.specs.Faults.{later_fault};
-ghost use Rattle.fpga_route.specs.Refusals.{IsFirstFault, IsRefusal};
+ghost use Rattle.std.specs.Prelude.{◌≡◌, OnOk, IfOk, IfErr};
+ghost use Rattle.fpga_text.specs.FirstFault.{Answers, IsRefusal};
 ghost use Rattle.fpga_types.specs.Sound.{IsSound};
-ghost use Rattle.fpga_route.specs.Value.{Reads};
+ghost use Rattle.fpga_route.specs.Codes.{route_faults};
+ghost use Rattle.fpga_route.specs.Nets.{ReadsNets, faults_ahead};
+ghost use Rattle.fpga_route.specs.Refusals.{IsRefused, untold as untold_fault};
+ghost use Rattle.fpga_route.specs.Value.{Reads, route_value};
 
-use crate::cause::ReadFault;
 use crate::draft::Draft;
 use crate::head::read_head;
 use fpga_text::{Lines, Style, TextFault};
@@ -20,28 +18,47 @@ use std::alloc::Global;
 pub fn read_route(alloc: Global, bytes: &[u8]) -> Result<RouteText, TextFault>
     ensures ok { IfOk result (Reads bytes.now) }
     ensures sound { IfOk result IsSound }
-    ensures err { IfErr result (IsRefusal bytes.now) }
+    ensures err { IfErr result (IsRefused bytes.now) }
 {
     match read_route_or_fault(alloc, bytes) {
         Ok(route) => Ok(route),
-        Err(ReadFault::Bad { .. }) => Err(TextFault::Bad { line: 0, code: 400 }),
-        Err(ReadFault::Memory) => Err(TextFault::Memory),
+        Err(fault) => Err(untold(fault)),
     }
 }
 
-/// The value of a route text, or its first bad line and the least code that holds there. Where a
-/// head line is missing, the bad line is the one after the last.
-pub fn read_route_or_fault(alloc: Global, bytes: &[u8]) -> Result<RouteText, ReadFault>
-    ensures ok { IfOk result (Reads bytes.now) }
+/// The fault that stands for this one, as long as the faults of a route text are not told.
+fn untold(fault: TextFault) -> TextFault
+    ensures { result ≡ untold_fault fault }
+{
+    match fault {
+        TextFault::Memory => TextFault::Memory,
+        _ => TextFault::Bad { line: 0, code: 400 },
+    }
+}
+
+/// The value of a route text, or its first fault.
+///
+/// # Errors
+/// `Bad` has the first bad line, counted from 1, with the least code that holds there:
+/// - 401: a head line of another form, or none, which counts as the line after the last;
+/// - 402: a later line of no form, or a Block line outside a global net;
+/// - 403: a number is due, and is none or does not fit;
+/// - 404: a channel that spans several cells;
+/// - 405: an element before the first net or in a global net;
+/// - 406: a place that the array does not have.
+///
+/// `Limit` has the code 407 and a count: more than 100 columns or rows, or more than 65,535 nets.
+/// `Memory` comes where memory is short.
+pub fn read_route_or_fault(alloc: Global, bytes: &[u8]) -> Result<RouteText, TextFault>
+    ensures answers { Answers (route_faults bytes.now) (λ route. route ≡ route_value bytes.now) result }
     ensures sound { IfOk result IsSound }
-    ensures err { IfErr result (IsFirstFault bytes.now) }
 {
     let mut lines = Lines::new(bytes, Style::Hash);
     let head = read_head(&mut lines)?;
     let mut draft = Draft::new(alloc, head.grid);
     read_nets(&mut lines, &mut draft)?;
     let Ok(nets) = draft.finish() else {
-        return Err(ReadFault::Memory);
+        return Err(TextFault::Memory);
     };
     Ok(RouteText {
         grid: head.grid,
@@ -51,11 +68,10 @@ pub fn read_route_or_fault(alloc: Global, bytes: &[u8]) -> Result<RouteText, Rea
     })
 }
 
-// Takes the lines after the head.
-fn read_nets(lines: &mut Lines<'_>, draft: &mut Draft) -> Result<(), ReadFault>
+/// Takes the lines after the head.
+fn read_nets(lines: &mut Lines<'_>, draft: &mut Draft) -> Result<(), TextFault>
     ensures ok { OnOk result (ReadsNets lines.old draft.old lines.new draft.new) }
-    ensures err { IfErr result (IsFaultIn
-        (later_fault (standing_of draft.old) lines.old.ahead)) }
+    ensures err { IfErr result (IsRefusal (faults_ahead draft.old lines.old)) }
 {
     while let Some(mut line) = lines.next_line() {
         draft.take_line(&mut line)?;

@@ -1,16 +1,17 @@
-//! Which code a line after the head has, by its form and by where it stands.
-ghost use Rattle.std.specs.Prelude.{◌≡◌, ◌+◌, ◌||◌, nat_lt, not, true, false, Some, None, IfOk, IfErr, IfSome, IfNone};
+//! What a line after the head says, by where it stands.
+ghost use Rattle.std.specs.Prelude.{◌≡◌, not, true, false, Some, None, IfOk, IfErr, IfSome, IfNone};
 ghost use Rattle.std.specs.Option.{option_map_or};
+ghost use Rattle.fpga_text.specs.FirstFault.{IsFaultOf};
 ghost use Rattle.fpga_text.specs.Numbers.{whole_number_of};
 ghost use Rattle.fpga_route.specs.Codes.{is_number, is_32_bits, number_of};
+ghost use Rattle.fpga_route.specs.Forms.{Net, Elem as ElemForm};
 ghost use Rattle.fpga_route.specs.Lines.{net_said, elem_said};
-ghost use Rattle.fpga_route.specs.Causes.{code_of};
-ghost use Rattle.fpga_route.specs.Standings.{net_code, elem_code};
+ghost use Rattle.fpga_route.specs.Standings.{later_fault};
 ghost use Rattle.fpga_route.specs.Value.{elem_of};
 
 use crate::cause::Cause;
 use crate::forms::{ElemLine, NetLine};
-use fpga_text::whole_number;
+use fpga_text::{TextFault, whole_number};
 use fpga_types::{Elem, Grid, NET_LIMIT};
 
 /// Where a line after the head stands: the array, the Net lines before it, and whether the net
@@ -23,40 +24,40 @@ pub struct Standing {
 }
 
 /// The number of a net, or what is wrong with its Net line.
-pub fn net_number(at: Standing, net: &NetLine<'_>) -> Result<u64, Cause>
-    ensures clean { IfOk result (λ k. net_code at (net_said net.now) ≡ None) }
+pub fn net_number(at: Standing, net: &NetLine<'_>, line: u64) -> Result<u64, TextFault>
+    ensures clean { IfOk result (λ k. later_fault at line (Net (net_said net.now)) ≡ None) }
     ensures number { IfOk result (λ k. k ≡ number_of net.now.k.now) }
-    ensures err { IfErr result (λ cause. net_code at (net_said net.now) ≡ Some (code_of cause)) }
+    ensures err { IfErr result (IsFaultOf (later_fault at line (Net (net_said net.now)))) }
 {
     let Some(k) = whole_number(net.k) else {
-        return Err(Cause::NoNumber);
+        return Err(Cause::NoNumber.at(line));
     };
     if at.nets as usize == NET_LIMIT {
-        return Err(Cause::PastLimit);
+        return Err(Cause::PastLimit.past(u64::from(at.nets) + 1));
     }
     Ok(k)
 }
 
 /// The element that a line says, or what is wrong with the line.
-pub fn read_elem(at: Standing, parts: &ElemLine<'_>, line: u64) -> Result<Elem, Cause>
-    ensures clean { IfOk result (λ e. elem_code at (elem_said parts.now) ≡ None) }
+pub fn read_elem(at: Standing, parts: &ElemLine<'_>, line: u64) -> Result<Elem, TextFault>
+    ensures clean { IfOk result (λ e. later_fault at line (ElemForm (elem_said parts.now)) ≡ None) }
     ensures value { IfOk result (λ e. e ≡ elem_of line (elem_said parts.now)) }
-    ensures err { IfErr result (λ cause. elem_code at (elem_said parts.now) ≡ Some (code_of cause)) }
+    ensures err { IfErr result (IsFaultOf (later_fault at line (ElemForm (elem_said parts.now)))) }
 {
     let Some(x) = small_number(parts.x) else {
-        return Err(Cause::NoNumber);
+        return Err(Cause::NoNumber.at(line));
     };
     let Some(y) = small_number(parts.y) else {
-        return Err(Cause::NoNumber);
+        return Err(Cause::NoNumber.at(line));
     };
     let Some(number) = small_number(parts.number) else {
-        return Err(Cause::NoNumber);
+        return Err(Cause::NoNumber.at(line));
     };
     if !is_ordinary(at.in_global) {
-        return Err(Cause::StrayElement);
+        return Err(Cause::StrayElement.at(line));
     }
     if !at.grid.has_place(parts.kind, x, y) {
-        return Err(Cause::NoPlace);
+        return Err(Cause::NoPlace.at(line));
     }
     Ok(Elem {
         kind: parts.kind,

@@ -1,7 +1,7 @@
 //! What a single word of a route text says.
 ghost use Rattle.std.specs.Prelude.{◌≡◌, bytes_eq, option_map};
 ghost use Rattle.fpga_route.specs.Forms as spec;
-ghost use Rattle.fpga_route.specs.Places.{place_words_of};
+ghost use Rattle.fpga_route.specs.Lines.{place_said as said};
 
 use fpga_types::{ElemKind, Label};
 
@@ -81,7 +81,7 @@ pub fn enclosed<'a>(word: &'a [u8], opening: &[u8], closing: &[u8]) -> Option<&'
 
 /// The parts of a place `(x,y)`.
 pub fn place_said<'a>(word: &'a [u8]) -> Option<PlaceWord<'a>>
-    ensures { option_map place_words_of result ≡ spec.place_words word.now }
+    ensures { option_map said result ≡ spec.place_words word.now }
 {
     let Some(text) = enclosed(word, b"(", b")") else {
         return None;
@@ -91,7 +91,7 @@ pub fn place_said<'a>(word: &'a [u8]) -> Option<PlaceWord<'a>>
 
 /// The two sides of the first comma, where there is one.
 fn parts_at_comma<'a>(text: &'a [u8]) -> Option<PlaceWord<'a>>
-    ensures { option_map place_words_of result ≡ spec.comma_parts (Some text.now) }
+    ensures { option_map said result ≡ spec.comma_parts (Some text.now) }
 {
     for (i, b) in text.iter().enumerate() {
         if *b == b',' {

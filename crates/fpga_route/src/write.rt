@@ -1,24 +1,23 @@
 //! The printed form of a route text.
-ghost use Rattle.std.specs.Prelude.{◌≡◌, ◌++◌, ◌≤◌, ◌^◌, [], true, codes, decimal, flat_map, OnOk, OnErr};
+ghost use Rattle.std.specs.Prelude.{◌≡◌, ◌++◌, ◌≤◌, true, codes, decimal, OnOk, OnErr};
 ghost use Rattle.arrayvec.specs.ArrayString.{array_string_len};
 ghost use Rattle.desk_io.specs.ShelfState.{after_append, FailsToAppend};
-ghost use Rattle.desk_io.specs.Writing.{Writes};
 ghost use Rattle.fpga_text.specs.Bytes.{Bytes};
 ghost use Rattle.fpga_route.specs.Forms.{kind_word, label_word};
-ghost use Rattle.fpga_route.specs.Printed.{after_name, before_name, in_six_places, printed, printed_elem, printed_kept, printed_head, printed_lines, printed_net, printed_net_line};
+ghost use Rattle.fpga_route.specs.Printed.{after_name, before_name, in_six_places, printed, printed_elem, printed_head};
 ghost use Rattle.fpga_route.specs.ReadBack.{ReadsBack, ReadsBackWithTracks};
 ghost use Rattle.fpga_route.specs.Value.{Reads};
 
 use arrayvec::ArrayString;
-use desk_io::{BlockWriter, Failed, Shelf};
+use desk_io::{BlockWriter, Failed, Prints, Shelf, append_text, print_both, print_each};
 use fpga_types::{Elem, ElemKind, Grid, Label, Name, RouteNet, RouteText};
 use itoa::Buffer;
 
-// Room for the longest line of an element: a kind in 6 places, three numbers of 10 digits, a label
-// of 6, and 10 signs.
+/// Room for the longest line of an element: a kind in 6 places, three numbers of 10 digits, a label
+/// of 6, and 10 signs.
 const LINE_ROOM: usize = 64;
 
-// The word of a kind, with the blanks before it that make it six places wide.
+/// The word of a kind, with the blanks before it that make it six places wide.
 fn kind_in_six_places(kind: ElemKind) -> &'static str
     ensures { result.now ≡ in_six_places (kind_word kind) }
 {
@@ -32,7 +31,7 @@ fn kind_in_six_places(kind: ElemKind) -> &'static str
     }
 }
 
-// The word of a label.
+/// The word of a label.
 fn label_text(label: Label) -> &'static str
     ensures { result.now ≡ label_word label }
 {
@@ -44,7 +43,7 @@ fn label_text(label: Label) -> &'static str
     }
 }
 
-// An element line.
+/// An element line.
 fn elem_line(elem: &Elem) -> ArrayString<LINE_ROOM>
     ensures { result.bytes ≡ printed_elem elem.now }
 {
@@ -56,7 +55,7 @@ fn elem_line(elem: &Elem) -> ArrayString<LINE_ROOM>
     line
 }
 
-// A place, with what stands round it.
+/// A place, with what stands round it.
 fn push_place(line: &mut ArrayString<LINE_ROOM>, x: u32, y: u32)
     requires { array_string_len line.old ≤ 6 }
     ensures bytes { line.new.bytes ≡ line.old.bytes ++ codes " (" ++ decimal x ++ codes "," ++ decimal y ++ codes ")  " }
@@ -69,7 +68,7 @@ fn push_place(line: &mut ArrayString<LINE_ROOM>, x: u32, y: u32)
     line.push_str(")  ");
 }
 
-// The number that ends an element line, with what stands round it.
+/// The number that ends an element line, with what stands round it.
 fn push_number(line: &mut ArrayString<LINE_ROOM>, number: u32)
     requires { array_string_len line.old ≤ 38 }
     ensures { line.new.bytes ≡ line.old.bytes ++ codes " " ++ decimal number ++ codes "  \n" }
@@ -79,7 +78,7 @@ fn push_number(line: &mut ArrayString<LINE_ROOM>, number: u32)
     line.push_str("  \n");
 }
 
-// What stands before the name of a net.
+/// What stands before the name of a net.
 fn net_line_start(k: u64) -> ArrayString<LINE_ROOM>
     ensures { result.bytes ≡ before_name k }
 {
@@ -90,7 +89,7 @@ fn net_line_start(k: u64) -> ArrayString<LINE_ROOM>
     line
 }
 
-// What stands behind the name of a net.
+/// What stands behind the name of a net.
 fn net_line_end(global: bool) -> &'static str
     ensures { result.now ≡ after_name global }
 {
@@ -101,8 +100,8 @@ fn net_line_end(global: bool) -> &'static str
     }
 }
 
-// The two head lines.
-fn head(grid: Grid) -> ArrayString<LINE_ROOM>
+/// The two head lines.
+fn head_lines(grid: Grid) -> ArrayString<LINE_ROOM>
     ensures { result.bytes ≡ printed_head grid }
 {
     let mut lines = ArrayString::new();
@@ -114,199 +113,192 @@ fn head(grid: Grid) -> ArrayString<LINE_ROOM>
     lines
 }
 
-// Writes two texts, one behind the other.
-fn write_both<S: Shelf>(
-    writer: &mut BlockWriter,
-    shelf: &mut S,
-    first: &[u8],
-    second: &[u8],
-) -> Result<(), Failed>
-    requires { (S.state shelf.old).is_created ≡ true }
-    ensures { Writes (S.state shelf.old) writer.old (first.now ++ second.now) (S.state shelf.new) writer.new result }
-{
-    let Ok(()) = writer.write(shelf, first) else {
-        return Err(Failed);
-    };
-    writer.write(shelf, second)
+/// Prints an element line.
+struct ElemLine;
+
+impl Prints<Elem> for ElemLine {
+    ghost use Rattle.fpga_route.specs.Printed.{printed_elem};
+
+    ghost text = { printed_elem };
+
+    fn print<S: Shelf>(
+        &self,
+        writer: &mut BlockWriter,
+        shelf: &mut S,
+        item: &Elem,
+    ) -> Result<(), Failed> {
+        writer.write(shelf, elem_line(item).as_bytes())
+    }
 }
 
-// Writes an element line.
-fn write_elem<S: Shelf>(writer: &mut BlockWriter, shelf: &mut S, elem: &Elem) -> Result<(), Failed>
-    requires { (S.state shelf.old).is_created ≡ true }
-    ensures { Writes (S.state shelf.old) writer.old (printed_elem elem.now) (S.state shelf.new) writer.new result }
-{
-    writer.write(shelf, elem_line(elem).as_bytes())
+/// Prints a kept line, with its newline.
+struct KeptLine;
+
+impl Prints<Name> for KeptLine {
+    ghost use Rattle.fpga_route.specs.Printed.{printed_kept};
+
+    ghost text = { printed_kept };
+
+    fn print<S: Shelf>(
+        &self,
+        writer: &mut BlockWriter,
+        shelf: &mut S,
+        item: &Name,
+    ) -> Result<(), Failed> {
+        writer.write_both(shelf, item.bytes.as_slice(), b"\n")
+    }
 }
 
-// Writes the element lines of a net.
-fn write_elems<S: Shelf>(
-    writer: &mut BlockWriter,
-    shelf: &mut S,
-    elems: &[Elem],
-) -> Result<(), Failed>
-    requires { (S.state shelf.old).is_created ≡ true }
-    ensures { Writes (S.state shelf.old) writer.old (flat_map printed_elem elems.now) (S.state shelf.new) writer.new result }
-{
-    for elem in elems {
-        let Ok(()) = write_elem(writer, shelf, elem) else {
+/// Prints what stands before the name of a net.
+struct LineStart;
+
+impl Prints<RouteNet> for LineStart {
+    ghost use Rattle.fpga_route.specs.Printed.{before_name};
+
+    ghost text = { λ net. before_name net.k };
+
+    fn print<S: Shelf>(
+        &self,
+        writer: &mut BlockWriter,
+        shelf: &mut S,
+        item: &RouteNet,
+    ) -> Result<(), Failed> {
+        writer.write(shelf, net_line_start(item.k).as_bytes())
+    }
+}
+
+/// Prints the name of a net and what stands behind it.
+struct LineEnd;
+
+impl Prints<RouteNet> for LineEnd {
+    ghost use Rattle.std.specs.Prelude.{◌++◌};
+    ghost use Rattle.fpga_route.specs.Printed.{after_name};
+
+    ghost text = { λ net. net.name ++ after_name net.global };
+
+    fn print<S: Shelf>(
+        &self,
+        writer: &mut BlockWriter,
+        shelf: &mut S,
+        item: &RouteNet,
+    ) -> Result<(), Failed> {
+        let end = net_line_end(item.global);
+        writer.write_both(shelf, item.name.bytes.as_slice(), end.as_bytes())
+    }
+}
+
+/// Prints the Net line of a net.
+struct NetLine;
+
+impl Prints<RouteNet> for NetLine {
+    ghost use Rattle.fpga_route.specs.Printed.{printed_net_line};
+
+    ghost text = { printed_net_line };
+
+    fn print<S: Shelf>(
+        &self,
+        writer: &mut BlockWriter,
+        shelf: &mut S,
+        item: &RouteNet,
+    ) -> Result<(), Failed> {
+        print_both(&LineStart, &LineEnd, writer, shelf, item)
+    }
+}
+
+/// Prints the lines of a net: its elements, or the kept lines of a global one.
+struct OwnLines;
+
+impl Prints<RouteNet> for OwnLines {
+    ghost use Rattle.fpga_route.specs.Printed.{printed_own};
+
+    ghost text = { printed_own };
+
+    fn print<S: Shelf>(
+        &self,
+        writer: &mut BlockWriter,
+        shelf: &mut S,
+        item: &RouteNet,
+    ) -> Result<(), Failed> {
+        if item.global {
+            return print_each(&KeptLine, writer, shelf, item.kept.as_slice());
+        }
+        print_each(&ElemLine, writer, shelf, item.elems.as_slice())
+    }
+}
+
+/// Prints a net: its Net line and its lines.
+struct WholeNet;
+
+impl Prints<RouteNet> for WholeNet {
+    ghost use Rattle.fpga_route.specs.Printed.{printed_net};
+
+    ghost text = { printed_net };
+
+    fn print<S: Shelf>(
+        &self,
+        writer: &mut BlockWriter,
+        shelf: &mut S,
+        item: &RouteNet,
+    ) -> Result<(), Failed> {
+        print_both(&NetLine, &OwnLines, writer, shelf, item)
+    }
+}
+
+/// Prints the two head lines of a route.
+struct HeadLines;
+
+impl Prints<RouteText> for HeadLines {
+    ghost use Rattle.fpga_route.specs.Printed.{printed_head};
+
+    ghost text = { λ route. printed_head route.grid };
+
+    fn print<S: Shelf>(
+        &self,
+        writer: &mut BlockWriter,
+        shelf: &mut S,
+        item: &RouteText,
+    ) -> Result<(), Failed> {
+        writer.write(shelf, head_lines(item.grid).as_bytes())
+    }
+}
+
+/// Prints the nets of a route and the newline at the end.
+struct Body;
+
+impl Prints<RouteText> for Body {
+    ghost use Rattle.fpga_route.specs.Printed.{printed_body};
+
+    ghost text = { printed_body };
+
+    fn print<S: Shelf>(
+        &self,
+        writer: &mut BlockWriter,
+        shelf: &mut S,
+        item: &RouteText,
+    ) -> Result<(), Failed> {
+        let Ok(()) = print_each(&WholeNet, writer, shelf, item.nets.as_slice()) else {
             return Err(Failed);
         };
+        writer.write(shelf, b"\n")
     }
-    Ok(())
 }
 
-// Writes a kept line, with its newline.
-fn write_kept_line<S: Shelf>(
-    writer: &mut BlockWriter,
-    shelf: &mut S,
-    line: &Name,
-) -> Result<(), Failed>
-    requires { (S.state shelf.old).is_created ≡ true }
-    ensures { Writes (S.state shelf.old) writer.old (printed_kept line.now) (S.state shelf.new) writer.new result }
-{
-    write_both(writer, shelf, line.bytes.as_slice(), b"\n")
-}
+/// Prints a route.
+struct WholeRoute;
 
-// Writes the kept lines of a net.
-fn write_kept<S: Shelf>(
-    writer: &mut BlockWriter,
-    shelf: &mut S,
-    kept: &[Name],
-) -> Result<(), Failed>
-    requires { (S.state shelf.old).is_created ≡ true }
-    ensures { Writes (S.state shelf.old) writer.old (flat_map printed_kept kept.now) (S.state shelf.new) writer.new result }
-{
-    for line in kept {
-        let Ok(()) = write_kept_line(writer, shelf, line) else {
-            return Err(Failed);
-        };
+impl Prints<RouteText> for WholeRoute {
+    ghost use Rattle.fpga_route.specs.Printed.{printed};
+
+    ghost text = { printed };
+
+    fn print<S: Shelf>(
+        &self,
+        writer: &mut BlockWriter,
+        shelf: &mut S,
+        item: &RouteText,
+    ) -> Result<(), Failed> {
+        print_both(&HeadLines, &Body, writer, shelf, item)
     }
-    Ok(())
-}
-
-// Writes the lines of a net: its elements, or the kept lines of a global one.
-fn write_lines<S: Shelf>(
-    writer: &mut BlockWriter,
-    shelf: &mut S,
-    net: &RouteNet,
-) -> Result<(), Failed>
-    requires { (S.state shelf.old).is_created ≡ true }
-    ensures { Writes (S.state shelf.old) writer.old (printed_lines (net.now).global net.now) (S.state shelf.new) writer.new result }
-{
-    if net.global {
-        return write_kept(writer, shelf, net.kept.as_slice());
-    }
-    write_elems(writer, shelf, net.elems.as_slice())
-}
-
-// Writes what stands before the name of a net.
-fn write_before_name<S: Shelf>(
-    writer: &mut BlockWriter,
-    shelf: &mut S,
-    k: u64,
-) -> Result<(), Failed>
-    requires { (S.state shelf.old).is_created ≡ true }
-    ensures { Writes (S.state shelf.old) writer.old (before_name k) (S.state shelf.new) writer.new result }
-{
-    writer.write(shelf, net_line_start(k).as_bytes())
-}
-
-// Writes the name of a net and what stands behind it.
-fn write_name<S: Shelf>(
-    writer: &mut BlockWriter,
-    shelf: &mut S,
-    net: &RouteNet,
-) -> Result<(), Failed>
-    requires { (S.state shelf.old).is_created ≡ true }
-    ensures { Writes (S.state shelf.old) writer.old ((net.now).name ++ after_name (net.now).global) (S.state shelf.new) writer.new result }
-{
-    let end = net_line_end(net.global);
-    write_both(writer, shelf, net.name.bytes.as_slice(), end.as_bytes())
-}
-
-// Writes the Net line of a net.
-fn write_net_line<S: Shelf>(
-    writer: &mut BlockWriter,
-    shelf: &mut S,
-    net: &RouteNet,
-) -> Result<(), Failed>
-    requires { (S.state shelf.old).is_created ≡ true }
-    ensures { Writes (S.state shelf.old) writer.old (printed_net_line net.now) (S.state shelf.new) writer.new result }
-{
-    let Ok(()) = write_before_name(writer, shelf, net.k) else {
-        return Err(Failed);
-    };
-    write_name(writer, shelf, net)
-}
-
-// Writes the Net line of a net and its lines.
-fn write_net<S: Shelf>(
-    writer: &mut BlockWriter,
-    shelf: &mut S,
-    net: &RouteNet,
-) -> Result<(), Failed>
-    requires { (S.state shelf.old).is_created ≡ true }
-    ensures { Writes (S.state shelf.old) writer.old (printed_net net.now) (S.state shelf.new) writer.new result }
-{
-    let Ok(()) = write_net_line(writer, shelf, net) else {
-        return Err(Failed);
-    };
-    write_lines(writer, shelf, net)
-}
-
-// Writes the nets.
-fn write_nets<S: Shelf>(
-    writer: &mut BlockWriter,
-    shelf: &mut S,
-    nets: &[RouteNet],
-) -> Result<(), Failed>
-    requires { (S.state shelf.old).is_created ≡ true }
-    ensures { Writes (S.state shelf.old) writer.old (flat_map printed_net nets.now) (S.state shelf.new) writer.new result }
-{
-    for net in nets {
-        let Ok(()) = write_net(writer, shelf, net) else {
-            return Err(Failed);
-        };
-    }
-    Ok(())
-}
-
-// Writes the two head lines.
-fn write_head<S: Shelf>(writer: &mut BlockWriter, shelf: &mut S, grid: Grid) -> Result<(), Failed>
-    requires { (S.state shelf.old).is_created ≡ true }
-    ensures { Writes (S.state shelf.old) writer.old (printed_head grid) (S.state shelf.new) writer.new result }
-{
-    writer.write(shelf, head(grid).as_bytes())
-}
-
-// Writes the nets and the newline at the end.
-fn write_body<S: Shelf>(
-    writer: &mut BlockWriter,
-    shelf: &mut S,
-    nets: &[RouteNet],
-) -> Result<(), Failed>
-    requires { (S.state shelf.old).is_created ≡ true }
-    ensures { Writes (S.state shelf.old) writer.old (flat_map printed_net nets.now ++ codes "\n") (S.state shelf.new) writer.new result }
-{
-    let Ok(()) = write_nets(writer, shelf, nets) else {
-        return Err(Failed);
-    };
-    writer.write(shelf, b"\n")
-}
-
-// Writes the whole route through a block.
-fn write_whole<S: Shelf>(
-    writer: &mut BlockWriter,
-    shelf: &mut S,
-    route: &RouteText,
-) -> Result<(), Failed>
-    requires { (S.state shelf.old).is_created ≡ true }
-    ensures { Writes (S.state shelf.old) writer.old (printed route.now) (S.state shelf.new) writer.new result }
-{
-    let Ok(()) = write_head(writer, shelf, route.grid) else {
-        return Err(Failed);
-    };
-    write_body(writer, shelf, route.nets.as_slice())
 }
 
 /// Appends the printed form of a route to the created file. It takes no memory of its own.
@@ -322,12 +314,5 @@ pub fn write_route<S: Shelf>(route: &RouteText, shelf: &mut S) -> Result<(), Fai
     ensures read_back { (text : Bytes) → Reads text route.now → ReadsBack route.now }
     ensures tracks_read_back { ReadsBackWithTracks route.now }
 {
-    let mut writer = BlockWriter::new();
-    let Ok(()) = write_whole(&mut writer, shelf, route) else {
-        return Err(Failed);
-    };
-    let Ok(()) = writer.flush(shelf) else {
-        return Err(Failed);
-    };
-    Ok(())
+    append_text(&WholeRoute, shelf, route)
 }

@@ -77,16 +77,3 @@ option_or-none (Some x) b none = absurd (let clash : Some x ≡ None = none in c
 pub faultless-line : (fault : Option TextFault) (rest : Faults) → IsFaultless (fault ∷ rest)
     → (fault ≡ None) × IsFaultless rest
 faultless-line fault rest clean = option_or-none fault (first_fault rest) clean
-
--- where no line is refused, no line of the first part is, and none of the second
-pub faultless-parts : (head rest : Faults) → IsFaultless (head ++ rest) → IsFaultless head
-    × IsFaultless rest
-faultless-parts head rest clean =
-    option_or-none (first_fault head) (first_fault rest) (sym (first_fault-append head rest)
-    ∙ clean)
-
--- two parts without a fault
-pub faultless-both : (head rest : Faults) → IsFaultless head → IsFaultless rest
-    → IsFaultless (head ++ rest)
-faultless-both head rest first second =
-    (past-part head rest (past-nothing (head ++ rest)) first).same ∙ second

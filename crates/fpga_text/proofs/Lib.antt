@@ -9,4 +9,3 @@ pub mod PrintedLines
 pub mod PrintedWords
 pub mod ReadingLemmas
 pub mod Rows
-pub mod ShortLemmas

@@ -1,5 +1,5 @@
 -- Worked rows of lines, words and numbers, each by computation.
-use Rattle.std.proofs.Common.{◌≡◌, ℕ, true, false, List, [], ◌∷◌, Some, None, refl}
+use Rattle.std.proofs.Common.{◌≡◌, ℕ, true, false, List, [], ◌∷◌, Some, None, negsuc, refl}
 use Rattle.std.specs.Prelude.{◌+◌, nat_lt, Bool, not, ◌&&◌, codes, bytes_eq, length, map, Option, if◌then◌else◌}
 use Rattle.std.specs.List.{list_any}
 use Rattle.fpga_text.specs.declared.fault.TextFault.{TextFault}
@@ -9,7 +9,7 @@ use Rattle.fpga_text.specs.Bytes.{Bytes, is_empty}
 use Rattle.fpga_text.specs.Codes.{Codes, At, Past, End, text_faults}
 use Rattle.fpga_text.specs.FirstFault.{first_fault}
 use Rattle.fpga_text.specs.Words.{TextLine, Words, lines, words, text_lines, line_count}
-use Rattle.fpga_text.specs.Numbers.{whole_number_of, is_short_number}
+use Rattle.fpga_text.specs.Numbers.{whole_number_of, signed_number_of}
 
 -- a line's number and words
 abbrev seen : List TextLine → List (ℕ × List Bytes)
@@ -50,13 +50,14 @@ no_number = refl
 pub no_digits : whole_number_of [] ≡ None
 no_digits = refl
 
-pub short_number : is_short_number (codes "-99999999999999999") ≡ true
-short_number = refl
+pub signed_least : signed_number_of (codes "-9223372036854775808")
+    ≡ Some (negsuc 9223372036854775807)
+signed_least = refl
 
-pub long_number : is_short_number (codes "000000000000000000") ≡ false
-long_number = refl
+pub signed_too_great : signed_number_of (codes "9223372036854775808") ≡ None
+signed_too_great = refl
 
-pub sign_alone : is_short_number (codes "-") ≡ false
+pub sign_alone : signed_number_of (codes "-") ≡ None
 sign_alone = refl
 
 -- a format of lines that begin with `a`: at most two of them, of which only the last has more words

@@ -31,9 +31,12 @@ IsFaultOf fault Memory = ⊤
 abbrev pub IsRefusal : Faults → TextFault → Type 0
 IsRefusal faults fault = IsFaultOf (first_fault faults) fault
 
--- the reader of a text with these faults gives a value, of which this is true, only where there is
--- no
--- fault; and else the first fault, or want of memory
+-- a reader gives a value, of which this is true, only where there is no fault; else it gives the
+-- fault, or want of memory
+abbrev pub AnswersFault : {T : Type 0} → Option TextFault → (T → Type 0) → Result T TextFault → Type 0
+AnswersFault fault says result =
+    MatchResult result (λ value. (fault ≡ None) × says value) (IsFaultOf fault)
+
+-- the same of a reader of a text with these faults, of which the first is given
 abbrev pub Answers : {T : Type 0} → Faults → (T → Type 0) → Result T TextFault → Type 0
-Answers faults says result =
-    MatchResult result (λ value. IsFaultless faults × says value) (IsRefusal faults)
+Answers faults says result = AnswersFault (first_fault faults) says result

@@ -34,6 +34,10 @@ pub record TextLine : Type 0 where
   pub raw : Bytes
   pub words : Words
 
+-- the words of each line
+abbrev pub line_words : List TextLine → List Words
+line_words lines = map (λ line. line.words) lines
+
 -- the line with this number and these bytes
 abbrev pub text_line : Style → ℕ → Bytes → TextLine
 text_line style number raw = record { number = number; raw = raw; words = words (without_comment style raw) }

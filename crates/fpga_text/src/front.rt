@@ -1,9 +1,9 @@
 //! Short numbers at the front of a text. Each is read in one pass over its bytes, since texts of many
 //! numbers are read no faster than those.
-ghost use Rattle.std.specs.Prelude.{◌≡◌, ◌<◌, ◌≤◌, ◌^◌, Some, IfSome, is_some, take, length, nat_abs, neg_ℤ, pos};
-ghost use Rattle.std.specs.List.{position_or_len, before_first};
+ghost use Rattle.std.specs.Prelude.{◌≡◌, ◌<◌, ◌≤◌, ◌^◌, Some, IfSome, take, length, nat_abs, neg_ℤ, pos};
+ghost use Rattle.std.specs.List.{position_or_len};
 ghost use Rattle.fpga_text.specs.Bytes.{is_blank};
-ghost use Rattle.fpga_text.specs.Numbers.{signed_number_of, whole_number_of, are_few_digits, is_short_number};
+ghost use Rattle.fpga_text.specs.Numbers.{signed_number_of, whole_number_of};
 
 use crate::cut::blank;
 use crate::number::digit_of;
@@ -26,9 +26,8 @@ pub struct FrontNumber {
     pub len: usize,
 }
 
-/// The size that the first word says, or None: exactly where it is not one to 17 digits.
+/// The size that the first word says, where it is one to 17 digits.
 fn front_digits(text: &[u8]) -> Option<FrontDigits>
-    ensures short { is_some result ≡ are_few_digits (before_first is_blank text.now) }
     ensures len { IfSome result (λ front. front.len ≡ position_or_len is_blank text.now) }
     ensures within { IfSome result (λ front. front.len ≤ length text.now) }
     ensures size { IfSome result (λ front. whole_number_of (take front.len text.now) ≡ Some front.size) }
@@ -64,10 +63,9 @@ fn negated(size: u64) -> i64
     -(size as i64)
 }
 
-/// The number that the first word says, or None: exactly where it is not one to 17 digits, behind a
-/// minus sign or without one.
+/// The number that the first word says, where it is one to 17 digits behind a minus sign or without
+/// one.
 pub fn front_number(text: &[u8]) -> Option<FrontNumber>
-    ensures short { is_some result ≡ is_short_number (before_first is_blank text.now) }
     ensures len { IfSome result (λ front. front.len ≡ position_or_len is_blank text.now) }
     ensures within { IfSome result (λ front. front.len ≤ length text.now) }
     ensures value { IfSome result (λ front. signed_number_of (take front.len text.now) ≡ Some front.value) }

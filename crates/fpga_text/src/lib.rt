@@ -14,5 +14,5 @@ mod tests;
 pub use fault::TextFault;
 pub use line::{Line, Word};
 pub use lines::Lines;
-pub use number::whole_number;
+pub use number::{signed_number, whole_number};
 pub use style::Style;

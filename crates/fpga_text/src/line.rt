@@ -1,11 +1,11 @@
 //! A line of a text, and its words.
-ghost use Rattle.std.specs.Prelude.{◌≡◌, ◌<◌, ◌^◌, false, not, drop, slice_get, nat_abs, Some, is_some, option_map, option_and_then, IfSome, IfNone};
-ghost use Rattle.std.specs.Option.{option_map_or};
+ghost use Rattle.std.specs.Prelude.{◌≡◌, not, drop, slice_get, option_map, option_and_then, IfSome, IfNone};
 ghost use Rattle.fpga_text.specs.Bytes.{is_empty};
-ghost use Rattle.fpga_text.specs.Numbers.{signed_number_of, is_short_number};
+ghost use Rattle.fpga_text.specs.Numbers.{signed_number_of};
 
 use crate::cut::{first_blank, from_first_word, part_at};
 use crate::front::front_number;
+use crate::number::signed_number;
 use std::marker::Model;
 
 /// A word, and the number of its line.
@@ -86,25 +86,38 @@ impl<'a> Line<'a> {
         })
     }
 
-    /// The number that the next word says, or None: exactly where there is no next word, or it is not
-    /// one to 17 digits, behind a minus sign or without one. The word is then not taken. It is the
-    /// fast way past a number; `next_word` takes any word.
+    /// The number that the next word says, or None: exactly where there is no next word, or it says no
+    /// number of 64 bits with its sign. That word is then not taken.
     // Inlined, so that what is left of the line stays in registers from one number to the next.
     #[inline(always)]
     pub fn next_number(&mut self) -> Option<i64>
-        ensures short { is_some result ≡ option_map_or is_short_number (slice_get self.old.words 0) false }
-        ensures number { IfSome result
-            (λ n. option_and_then signed_number_of (slice_get self.old.words 0) ≡ Some n) }
-        ensures small { IfSome result (λ n. nat_abs n < 10 ^ 18) }
+        ensures number { result ≡ option_and_then signed_number_of (slice_get self.old.words 0) }
         ensures after { IfSome result (λ _. self.new ≡ record self.old { words = drop 1 self.old.words }) }
         ensures kept { IfNone result (self.new ≡ self.old) }
     {
         let Some(front) = front_number(self.rest) else {
-            return None;
+            return self.next_long_number();
         };
         let (_, rest) = part_at(self.rest, front.len);
         self.rest = from_first_word(rest);
         Some(front.value)
+    }
+
+    /// The same, by the whole word.
+    fn next_long_number(&mut self) -> Option<i64>
+        ensures number { result ≡ option_and_then signed_number_of (slice_get self.old.words 0) }
+        ensures after { IfSome result (λ _. self.new ≡ record self.old { words = drop 1 self.old.words }) }
+        ensures kept { IfNone result (self.new ≡ self.old) }
+    {
+        let mut behind = self.again();
+        let Some(word) = behind.next_word() else {
+            return None;
+        };
+        let Some(number) = signed_number(word.text) else {
+            return None;
+        };
+        self.rest = behind.rest;
+        Some(number)
     }
 
     /// The same line, with the same words ahead.

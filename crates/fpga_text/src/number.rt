@@ -1,7 +1,10 @@
 //! Whole numbers, as the words of a text write them.
 ghost use Rattle.std.specs.Prelude.{◌≡◌, ◌+◌, ◌*◌, ◌^◌, ◌<◌, ◌≤◌, true, false, IfSome, IfNone};
 ghost use Rattle.std.specs.Char.{digit_value, is_ascii_digit};
-ghost use Rattle.fpga_text.specs.Numbers.{whole_number_of};
+ghost use Rattle.fpga_text.specs.Numbers.{negated_number, plain_number, signed_number_of, whole_number_of};
+
+/// The size of the least number of 64 bits with a sign.
+const LEAST_SIZE: u64 = 1 << 63;
 
 /// The whole number that a word says, or None: exactly where it is not one or more decimal digits
 /// or its value passes 64 bits.
@@ -45,4 +48,39 @@ fn followed_by(value: u64, digit: u64) -> Option<u64>
     ensures great { IfNone result (2 ^ 64 ≤ value * 10 + digit) }
 {
     value.checked_mul(10)?.checked_add(digit)
+}
+
+/// The number that a word says, or None: exactly where it is not one or more decimal digits behind a
+/// minus sign or without one, or passes 64 bits with a sign.
+pub fn signed_number(word: &[u8]) -> Option<i64>
+    ensures { result ≡ signed_number_of word.now }
+{
+    match word {
+        [] => None,
+        [b'-', digits @ ..] => whole_number(digits).and_then(negated),
+        _ => whole_number(word).and_then(plain),
+    }
+}
+
+/// The number, or None where it passes 64 bits with a sign.
+fn plain(size: u64) -> Option<i64>
+    ensures { result ≡ plain_number size }
+{
+    if size >= LEAST_SIZE {
+        return None;
+    }
+    Some(size as i64)
+}
+
+/// The number with a minus sign, or None where it passes 64 bits with a sign.
+fn negated(size: u64) -> Option<i64>
+    ensures { result ≡ negated_number size }
+{
+    if size > LEAST_SIZE {
+        return None;
+    }
+    if size == LEAST_SIZE {
+        return Some(i64::MIN);
+    }
+    Some(-(size as i64))
 }

@@ -1,6 +1,5 @@
 pub mod BoxLemmas
 pub mod CellLemmas
-pub mod FabricLemmas
 mod FabricRows
 pub mod FitLemmas
 pub mod MeetingLemmas

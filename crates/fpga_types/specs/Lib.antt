@@ -3,6 +3,7 @@ pub mod CellNumbers
 pub mod Fabric
 pub mod Fc
 pub mod Fit
+pub mod FitCauses
 pub mod Kinds
 pub mod Legal
 pub mod Pins

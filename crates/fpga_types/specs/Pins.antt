@@ -1,5 +1,5 @@
 -- The pins that an architecture has.
-use Rattle.std.specs.Prelude.{ℕ, ◌<◌, ⊤, length}
+use Rattle.std.specs.Prelude.{◌<◌, ⊤, length}
 use Rattle.fpga_types.specs.declared.arch.Arch.{Arch}
 use Rattle.fpga_types.specs.declared.grid.PinAt.{PinAt}
 use Rattle.fpga_types.specs.declared.grid.PinAt.TheVariants.{Pad as PadAt, Pin as PinOf}

@@ -5,6 +5,7 @@
 
 mod arch;
 mod cells;
+mod fit_cause;
 mod grid;
 mod items;
 mod limits;
@@ -13,6 +14,7 @@ mod route;
 
 pub use arch::{Arch, FcSpec, Pattern, PinSpec, SideSet};
 pub use cells::{cell_number, cell_of};
+pub use fit_cause::FitCause;
 pub use grid::{Axis, Cell, Grid, PinAt, Side, SwitchAt, Wire};
 pub use items::Items;
 pub use limits::{NET_LIMIT, SIDE_LIMIT, SLOT_LIMIT, STEP_LIMIT, WIDTH_LIMIT};

@@ -38,7 +38,8 @@ length-bits width tracks =
 taken-by : (width : ℕ) (tracks : List ℕ) (place : ℕ) → is_taken width tracks place ≡ true →
     (k : ℕ) × (k < length tracks) × (place_of width k (get_or tracks k 0) ≡ place)
 taken-by width tracks place h =
-    let some = In-list_any (λ (slot : ℕ × ℕ). place_of width slot.0 slot.1 == place) (enumerate_from 0 tracks) h in
+    let some = In-list_any (λ (slot : ℕ × ℕ). place_of width slot.0 slot.1 == place)
+    (enumerate_from 0 tracks) h in
     let at = from_In-enumerate 0 tracks some.0 some.1 in
     let number : some.0.0 ≡ at.0 = omega (arith, at.1) in
     let track : get_or tracks at.0 0 ≡ some.0.1 =
@@ -84,7 +85,8 @@ taken-own width tracks s t inside below h =
         | inr not_behind ↦
             (let same : by.0 ≡ s = omega (arith, not_before, not_behind) in
             let place : place_of width s (get_or tracks s 0) ≡ place_of width s t =
-            subst (λ (n : ℕ). place_of width n (get_or tracks n 0) ≡ place_of width s t) same by.2 in
+            subst (λ (n : ℕ). place_of width n (get_or tracks n 0)
+            ≡ place_of width s t) same by.2 in
             omega (arith, place))
       ]
     ]
@@ -106,7 +108,8 @@ says-bits width tracks s t within low inside =
         absurd (false≢true (sym f ∙ (Decides-eqb t (get_or tracks s 0)).1 own))
     go false true e f =
         let own : t ≡ get_or tracks s 0 = (Decides-eqb t (get_or tracks s 0)).0 f in
-        absurd (false≢true (sym e ∙ subst (λ (u : ℕ). is_taken width tracks (place_of width s u) ≡ true)
+        absurd (false≢true
+        (sym e ∙ subst (λ (u : ℕ). is_taken width tracks (place_of width s u) ≡ true)
         (sym own) (taken-here width tracks s low)))
 
 -- where the bits say a track below the width of each slot, all tracks are below the width

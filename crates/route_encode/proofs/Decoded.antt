@@ -29,20 +29,29 @@ use Rattle.route_encode.specs.Said.{AreSaid}
 use Rattle.route_encode.proofs.Exactness.{bits_exact, obeys-legal, said-bits}
 use Rattle.route_encode.proofs.Models.{satisfies-obeys}
 
-pub unsat-none : (route : RouteText) (width : ℕ) → IsFit route → IsUnsat (cnf_subset width route) → (found : RouteText) → IsRouting width route found → ⊥
+pub unsat-none : (route : RouteText) (width : ℕ) → IsFit route → IsUnsat (cnf_subset width route)
+    → (found : RouteText) → IsRouting width route found → ⊥
 unsat-none route width fit none found h =
-    none (bits width (tracks_of route found)) ((bits_exact width route fit (tracks_of route found) h.legal.each).1 h.legal)
+    none (bits width (tracks_of route found))
+    ((bits_exact width route fit (tracks_of route found) h.legal.each).1 h.legal)
 
 -- an element of a retracked net is of the same slot
-with_track-slot : (all : List Slot) (tracks : List ℕ) (n : ℕ) (e : Elem) → elem_slot n (with_track all tracks n e) ≡ elem_slot n e
+with_track-slot : (all : List Slot) (tracks : List ℕ) (n : ℕ) (e : Elem)
+    → elem_slot n (with_track all tracks n e) ≡ elem_slot n e
 with_track-slot all tracks n e = go (elem_slot n e)
   where
-    go : (o : Option Slot) → elem_slot n (option_map_or (λ slot. record e { number = slice_index tracks (slot_number all slot) }) o e) ≡ elem_slot n e
+    go : (o : Option Slot)
+        → elem_slot n
+        (option_map_or
+        (λ slot. record e { number = slice_index tracks (slot_number all slot) }) o e)
+        ≡ elem_slot n e
     go None = refl
     go (Some s) = refl
 
 -- an element of a slot has the slot's track once it is retracked
-with_track-number : (all : List Slot) (tracks : List ℕ) (n : ℕ) (e : Elem) (s : Slot) → elem_slot n e ≡ Some s → (with_track all tracks n e).number ≡ slice_index tracks (slot_number all s)
+with_track-number : (all : List Slot) (tracks : List ℕ) (n : ℕ) (e : Elem) (s : Slot)
+    → elem_slot n e ≡ Some s → (with_track all tracks n e).number
+    ≡ slice_index tracks (slot_number all s)
 with_track-number all tracks n e s h = rw h refl
 
 is_of_slot-is : (s : Slot) (e : Elem) → is_of_slot s e ≡ true → elem_slot s.net e ≡ Some s
@@ -56,20 +65,33 @@ is_of_slot-itself : (s : Slot) (e : Elem) → elem_slot s.net e ≡ Some s → i
 is_of_slot-itself s e h = rw (h, same_slot-itself s) refl
 
 -- the first element of a slot in a retracked net has the slot's track
-found-number : (all : List Slot) (tracks : List ℕ) (s : Slot) (elems : List Elem) (e : Elem) → In elems e → elem_slot s.net e ≡ Some s
-    → option_map_or (λ (f : Elem). f.number) (find (is_of_slot s) (map (with_track all tracks s.net) elems)) 0 ≡ slice_index tracks (slot_number all s)
+found-number : (all : List Slot) (tracks : List ℕ) (s : Slot) (elems : List Elem) (e : Elem)
+    → In elems e → elem_slot s.net e ≡ Some s
+    → option_map_or (λ (f : Elem). f.number)
+    (find (is_of_slot s) (map (with_track all tracks s.net) elems)) 0
+    ≡ slice_index tracks (slot_number all s)
 found-number all tracks s [] e i h = absurd i
-found-number all tracks s (f ∷ elems) e i h = go (is_of_slot s (with_track all tracks s.net f)) refl (λ there. found-number all tracks s elems e there h)
+found-number all tracks s (f ∷ elems) e i h =
+    go (is_of_slot s (with_track all tracks s.net f)) refl
+    (λ there. found-number all tracks s elems e there h)
   where
     same : is_of_slot s (with_track all tracks s.net f) ≡ is_of_slot s f
-    same = ap (λ (o : Option Slot). option_map_or (same_slot s) o false) (with_track-slot all tracks s.net f)
+    same = ap (λ (o : Option Slot). option_map_or (same_slot s) o false)
+        (with_track-slot all tracks s.net f)
 
     go : (b : Bool) → is_of_slot s (with_track all tracks s.net f) ≡ b
-        → (In elems e → option_map_or (λ (g : Elem). g.number) (find (is_of_slot s) (map (with_track all tracks s.net) elems)) 0 ≡ slice_index tracks (slot_number all s))
-        → option_map_or (λ (g : Elem). g.number) (cond b (Some (with_track all tracks s.net f)) (find (is_of_slot s) (map (with_track all tracks s.net) elems))) 0 ≡ slice_index tracks (slot_number all s)
+        → (In elems e → option_map_or (λ (g : Elem). g.number)
+        (find (is_of_slot s) (map (with_track all tracks s.net) elems)) 0
+        ≡ slice_index tracks (slot_number all s))
+        → option_map_or (λ (g : Elem). g.number)
+        (cond b (Some (with_track all tracks s.net f))
+        (find (is_of_slot s) (map (with_track all tracks s.net) elems))) 0
+        ≡ slice_index tracks (slot_number all s)
     go true g more = with_track-number all tracks s.net f s (is_of_slot-is s f (sym same ∙ g))
     go false g more = elim i [
-      | inl here ↦ absurd (false≢true (sym g ∙ same ∙ is_of_slot-itself s f (subst (λ (x : Elem). elem_slot s.net x ≡ Some s) (sym here) h)))
+      | inl here ↦ absurd
+          (false≢true (sym g ∙ same
+          ∙ is_of_slot-itself s f (subst (λ (x : Elem). elem_slot s.net x ≡ Some s) (sym here) h)))
       | inr there ↦ more there
     ]
 
@@ -84,20 +106,27 @@ record IsThere (route : RouteText) (s : Slot) : Type 0 where
 slot-net : (n : ℕ) (e : Elem) (s : Slot) → elem_slot n e ≡ Some s → s.net ≡ n
 slot-net n e s h = go (elem_cell e) h
   where
-    go : (o : Option Cell) → option_map {T = Cell} {U = Slot} (λ cell. record { net = n; cell = cell }) o ≡ Some s → s.net ≡ n
+    go : (o : Option Cell) → option_map {T = Cell} {U =
+        Slot} (λ cell. record { net = n; cell = cell }) o ≡ Some s → s.net ≡ n
     go None g = cc
     go (Some c) g = ap (λ (t : Slot). t.net) (sym (some_is g))
 
-slot-there : (route : RouteText) (s : Slot) → list_any (same_slot s) (slots route) ≡ true → IsThere route s
+slot-there : (route : RouteText) (s : Slot) → list_any (same_slot s) (slots route) ≡ true
+    → IsThere route s
 slot-there route s h =
-    let any = In-list_any (same_slot s) (channel_slots route.nets) (sym (any-first_seen s (channel_slots route.nets)) ∙ h) in
-    let at_net = from_In-flat_map (λ (n : ℕ × RouteNet). filter_map (elem_slot n.0) n.1.elems) (enumerate_from 0 route.nets) any.0 any.1 in
+    let any =
+    In-list_any (same_slot s) (channel_slots route.nets)
+    (sym (any-first_seen s (channel_slots route.nets)) ∙ h) in
+    let at_net = from_In-flat_map (λ (n : ℕ × RouteNet). filter_map (elem_slot n.0) n.1.elems)
+    (enumerate_from 0 route.nets) any.0 any.1 in
     let at_elem = from_In-filter_map (elem_slot at_net.0.0) at_net.0.1.elems any.0 at_net.2 in
     let place = from_In-enumerate 0 route.nets at_net.0 at_net.1 in
     let one : s ≡ any.0 = same_slot-is s any.0 any.2 in
-    let is : elem_slot at_net.0.0 at_elem.0 ≡ Some s = at_elem.2 ∙ ap (λ (t : Slot). Some t) (sym one) in
+    let is : elem_slot at_net.0.0 at_elem.0 ≡ Some s =
+    at_elem.2 ∙ ap (λ (t : Slot). Some t) (sym one) in
     let net : s.net ≡ at_net.0.0 = slot-net at_net.0.0 at_elem.0 s is in
-    let number : s.net ≡ place.0 = net ∙ place.1 ∙ (let z : 0 + place.0 ≡ place.0 = omega arith in z) in
+    let number : s.net ≡ place.0 = net ∙ place.1 ∙ (let z : 0 + place.0 ≡ place.0 = omega arith in
+    z) in
     record {
       net = at_net.0.1;
       elem = at_elem.0;
@@ -107,19 +136,28 @@ slot-there route s h =
     }
 
 -- a slot's track in the route with tracks
-track-shown : (route : RouteText) (tracks : List ℕ) (s : Slot) → list_any (same_slot s) (slots route) ≡ true → track_in (route_of route tracks) s ≡ slice_index tracks (slot_number (slots route) s)
+track-shown : (route : RouteText) (tracks : List ℕ) (s : Slot)
+    → list_any (same_slot s) (slots route) ≡ true → track_in (route_of route tracks) s
+    ≡ slice_index tracks (slot_number (slots route) s)
 track-shown route tracks s h =
     let there = slot-there route s h in
     let all : List Slot = slots route in
-    let retracked : ℕ × RouteNet → RouteNet = λ n. (let net : RouteNet = n.1 in record net { elems = map (with_track all tracks n.0) net.elems }) in
+    let retracked : ℕ × RouteNet → RouteNet =
+    λ n. (let net : RouteNet = n.1 in
+    record net { elems = map (with_track all tracks n.0) net.elems }) in
     let number : 0 + s.net ≡ s.net = omega arith in
-    let at_net : slice_get (route_of route tracks).nets s.net ≡ Some (retracked (s.net, there.net)) =
-    made_numbered retracked 0 route.nets s.net there.net there.here ∙ ap (λ (n : ℕ). Some (retracked (n, there.net))) number in
-    ap (λ (o : Option RouteNet). option_map_or (λ (e : Elem). e.number) (option_and_then (λ (net : RouteNet). find (is_of_slot s) net.elems) o) 0) at_net
+    let at_net : slice_get (route_of route tracks).nets s.net
+    ≡ Some (retracked (s.net, there.net)) =
+    made_numbered retracked 0 route.nets s.net there.net there.here
+    ∙ ap (λ (n : ℕ). Some (retracked (n, there.net))) number in
+    ap (λ (o : Option RouteNet). option_map_or (λ (e : Elem). e.number)
+    (option_and_then (λ (net : RouteNet). find (is_of_slot s) net.elems) o) 0) at_net
     ∙ found-number all tracks s there.net.elems there.elem there.among there.is
 
 -- the first place where an element passes
-first-place : {T : Type 0} (p : T → Bool) (xs : List T) (k : ℕ) (d : T) → k < length xs → p (get_or xs k d) ≡ true → ((j : ℕ) → j < k → p (get_or xs j d) ≡ false) → position_or_len p xs ≡ k
+first-place : {T : Type 0} (p : T → Bool) (xs : List T) (k : ℕ) (d : T) → k < length xs
+    → p (get_or xs k d) ≡ true → ((j : ℕ) → j < k → p (get_or xs j d) ≡ false)
+    → position_or_len p xs ≡ k
 first-place p [] k d inside here before = absurd (omega arith)
 first-place p (x ∷ xs) zero d inside here before = rw here refl
 first-place p (x ∷ xs) (suc k) d inside here before =
@@ -127,38 +165,54 @@ first-place p (x ∷ xs) (suc k) d inside here before =
     rw (before 0 (omega arith), rest) (omega arith)
 
 -- the number of the slot at a place is that place
-number-there : (all : List Slot) → AreDistinct all → (k : ℕ) → k < length all → slot_number all (slot_at all k) ≡ k
+number-there : (all : List Slot) → AreDistinct all → (k : ℕ) → k < length all
+    → slot_number all (slot_at all k) ≡ k
 number-there all distinct k inside =
-    first-place (same_slot (slot_at all k)) all k NO_SLOT inside (same_slot-itself (slot_at all k)) (λ j low. same_slot-swap (slot_at all k) (slot_at all j) ∙ distinct j k NO_SLOT low inside)
+    first-place (same_slot (slot_at all k)) all k NO_SLOT inside (same_slot-itself (slot_at all k))
+    (λ j low. same_slot-swap (slot_at all k) (slot_at all j) ∙ distinct j k NO_SLOT low inside)
 
 -- tracks that a route was given are those that it shows
-pub tracks-shown : (route : RouteText) (tracks : List ℕ) → length tracks ≡ length (slots route) → tracks_of route (route_of route tracks) ≡ tracks
+pub tracks-shown : (route : RouteText) (tracks : List ℕ) → length tracks ≡ length (slots route)
+    → tracks_of route (route_of route tracks) ≡ tracks
 tracks-shown route tracks each =
     let all : List Slot = slots route in
     let len = length-map all (track_in (route_of route tracks)) in
     ext_get_or 0 (tracks_of route (route_of route tracks)) tracks (len ∙ sym each) (λ k low.
     let inside : k < length all = omega (arith, len, low) in
-    let among : list_any (same_slot (slot_at all k)) all ≡ true = list_any-from_In (same_slot (slot_at all k)) all (slot_at all k) (In-get all k NO_SLOT inside) (same_slot-itself (slot_at all k)) in
-    get_or-map (track_in (route_of route tracks)) all k NO_SLOT 0 inside ∙ track-shown route tracks (slot_at all k) among ∙ ap (slice_index tracks) (number-there all (slots-distinct route) k inside))
+    let among : list_any (same_slot (slot_at all k)) all ≡ true =
+    list_any-from_In (same_slot (slot_at all k)) all (slot_at all k)
+    (In-get all k NO_SLOT inside) (same_slot-itself (slot_at all k)) in
+    get_or-map (track_in (route_of route tracks)) all k NO_SLOT 0 inside
+    ∙ track-shown route tracks (slot_at all k) among
+    ∙ ap (slice_index tracks) (number-there all (slots-distinct route) k inside))
 
 -- a route with the tracks of a legal routing is one
-pub routing-of : (width : ℕ) (route found : RouteText) (tracks : List ℕ) → found ≡ route_of route tracks → IsLegalSubset width route tracks → IsRouting width route found
+pub routing-of : (width : ℕ) (route found : RouteText) (tracks : List ℕ)
+    → found ≡ route_of route tracks → IsLegalSubset width route tracks → IsRouting width route found
 routing-of width route found tracks is legal =
-    let shown : tracks_of route found ≡ tracks = ap (tracks_of route) is ∙ tracks-shown route tracks legal.each in
+    let shown : tracks_of route found ≡ tracks =
+    ap (tracks_of route) is ∙ tracks-shown route tracks legal.each in
     record {
       is = is ∙ ap (route_of route) (sym shown);
       legal = subst (IsLegalSubset width route) (sym shown) legal;
     }
 
 -- tracks that a model says are those of a legal routing
-pub model-legal : (width : ℕ) (route : RouteText) (values : List Bool) (tracks : List ℕ) → IsFit route → Satisfies values (cnf_subset width route) → length tracks ≡ length (slots route)
+pub model-legal : (width : ℕ) (route : RouteText) (values : List Bool) (tracks : List ℕ)
+    → IsFit route → Satisfies values (cnf_subset width route) → length tracks ≡ length (slots route)
     → AreSaid values width tracks (length (slots route)) → IsLegalSubset width route tracks
 model-legal width route values tracks fit h each said =
-    obeys-legal width route fit values tracks (satisfies-obeys (track_across subset_track route.grid) (λ _ _. true) width route values h) each said
+    obeys-legal width route fit values tracks
+    (satisfies-obeys (track_across subset_track route.grid)
+    (λ _ _. true) width route values h) each said
 
 -- the values are the bits of the tracks that the decoded route shows
-pub model-chosen : (width : ℕ) (route found : RouteText) (values : List Bool) (tracks : List ℕ) → IsFit route → Satisfies values (cnf_subset width route) → length tracks ≡ length (slots route)
-    → AreSaid values width tracks (length (slots route)) → found ≡ route_of route tracks → values ≡ bits width (tracks_of route found)
+pub model-chosen : (width : ℕ) (route found : RouteText) (values : List Bool) (tracks : List ℕ)
+    → IsFit route → Satisfies values (cnf_subset width route) → length tracks ≡ length (slots route)
+    → AreSaid values width tracks (length (slots route)) → found ≡ route_of route tracks
+    → values ≡ bits width (tracks_of route found)
 model-chosen width route found values tracks fit h each said is =
-    let shown : tracks_of route found ≡ tracks = ap (tracks_of route) is ∙ tracks-shown route tracks each in
-    said-bits width route fit values tracks (satisfies-obeys (track_across subset_track route.grid) (λ _ _. true) width route values h) each said ∙ ap (bits width) (sym shown)
+    let shown : tracks_of route found ≡ tracks =
+    ap (tracks_of route) is ∙ tracks-shown route tracks each in
+    said-bits width route fit values tracks (satisfies-obeys (track_across subset_track route.grid)
+    (λ _ _. true) width route values h) each said ∙ ap (bits width) (sym shown)

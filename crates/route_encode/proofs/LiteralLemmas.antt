@@ -7,13 +7,20 @@ use Rattle.sat_clause.specs.Literal.{IsWithin}
 use Rattle.route_encode.specs.Encoding.{below, has, lacks, some_track}
 use Rattle.route_encode.proofs.BitLemmas.{place-inside}
 
-pub has-within : (count width s t : ℕ) → s < count → t < width → IsWithin (count * width) (has width s t)
-has-within count width s t low inside = let h = place-inside count width s t low inside in (omega arith, omega (arith, h))
+pub has-within : (count width s t : ℕ) → s < count → t < width
+    → IsWithin (count * width) (has width s t)
+has-within count width s t low inside = let h =
+    place-inside count width s t low inside in (omega arith, omega (arith, h))
 
-pub lacks-within : (count width s t : ℕ) → s < count → t < width → IsWithin (count * width) (lacks width s t)
-lacks-within count width s t low inside = let h = place-inside count width s t low inside in (omega arith, omega (arith, h))
+pub lacks-within : (count width s t : ℕ) → s < count → t < width
+    → IsWithin (count * width) (lacks width s t)
+lacks-within count width s t low inside = let h =
+    place-inside count width s t low inside in (omega arith, omega (arith, h))
 
-pub some_track-within : (count width s : ℕ) → s < count → All (IsWithin (count * width)) (some_track width s)
+pub some_track-within : (count width s : ℕ) → s < count
+    → All (IsWithin (count * width)) (some_track width s)
 some_track-within count width s low =
     All-map (IsWithin (count * width)) (has width s) (below width)
-    (all-from_In (λ t. IsWithin (count * width) (has width s t)) (below width) (λ t i. has-within count width s t low (let r = from_In-range 0 width t i in omega (arith, r.1))))
+    (all-from_In (λ t. IsWithin (count * width) (has width s t)) (below width)
+    (λ t i. has-within count width s t low (let r = from_In-range 0 width t i in
+    omega (arith, r.1))))

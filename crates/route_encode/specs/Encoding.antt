@@ -71,7 +71,8 @@ apart_track width pair = map (λ t. not_both width pair.0 t pair.1 t) (below wid
 
 -- the clauses of a route, by the track that a track is joined to across two cells, and the tracks
 -- that a pin opens
-abbrev pub encoding : (Cell → Cell → ℕ → Option ℕ) → (PinAt → ℕ → Bool) → ℕ → RouteText → List Clause
+abbrev pub encoding : (Cell → Cell → ℕ → Option ℕ) → (PinAt → ℕ → Bool) → ℕ → RouteText
+    → List Clause
 encoding across opens width route =
     let all : List Slot = slots route in
     map (some_track width) (below (length all))
@@ -82,7 +83,8 @@ encoding across opens width route =
 
 -- the clauses with subset switch blocks and connection boxes that open each track
 abbrev pub encoding_subset : ℕ → RouteText → List Clause
-encoding_subset width route = encoding (track_across subset_track route.grid) (λ _ _. true) width route
+encoding_subset width route =
+    encoding (track_across subset_track route.grid) (λ _ _. true) width route
 
 -- these clauses as a formula, with a variable for each track of each slot
 abbrev pub cnf_subset : ℕ → RouteText → Cnf

@@ -22,4 +22,5 @@ AreBitsOfLegal width route values =
 -- all values that satisfy the clauses are the bits of the tracks of a legal routing
 abbrev pub ModelsAreBits : ℕ → RouteText → Type 0
 ModelsAreBits width route =
-    (values : List Bool) → Satisfies values (cnf_subset width route) → AreBitsOfLegal width route values
+    (values : List Bool) → Satisfies values (cnf_subset width route)
+    → AreBitsOfLegal width route values

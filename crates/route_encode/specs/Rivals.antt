@@ -3,6 +3,7 @@ use Rattle.std.specs.Prelude.{◌≡◌, ℕ, ◌+◌, ◌-◌, ◌<◌, ◌≤�
 use Rattle.std.specs.List.{range_with_len}
 use Rattle.fpga_types.specs.Fabric.{same_cell}
 use Rattle.fpga_types.specs.Slots.{slot_at}
+use Rattle.fpga_types.specs.declared.limits.TheConstants.{SLOT_LIMIT}
 use Rattle.fpga_types.specs.declared.problem.Slot.{Slot}
 use Rattle.sat_clause.specs.Literal.{Clause}
 use Rattle.route_encode.specs.Encoding.{apart_track}
@@ -29,6 +30,6 @@ apart_from_rivals width all a = flat_map (λ b. apart_track width (a, b)) (rival
 
 -- of each slot the row has the next rival, and there are at most 200,000 slots
 pub record AreNextRivals (all : List Slot) (row : List (Option ℕ)) : Type 0 where
-  pub few : length all ≤ 200000
+  pub few : length all ≤ SLOT_LIMIT
   pub each : length row ≡ length all
   pub next : (s : ℕ) → s < length all → slice_index_or row s None ≡ next_rival all s

@@ -13,4 +13,5 @@ SaysTrack values width s = (t : ℕ) × (t < width) × (says values width s t �
 -- of the first n slots each has its track, as the values say
 abbrev pub AreSaid : List Bool → ℕ → List ℕ → ℕ → Type 0
 AreSaid values width tracks n =
-    (s : ℕ) → s < n → (slice_index tracks s < width) × (says values width s (slice_index tracks s) ≡ true)
+    (s : ℕ) → s < n → (slice_index tracks s < width)
+    × (says values width s (slice_index tracks s) ≡ true)

@@ -25,7 +25,8 @@ fn add_clause(formula: &mut Formula, clause: &[Lit])
 pub(crate) fn add_some_tracks(formula: &mut Formula, variables: Variables)
     requires vars { HasVariables variables formula.old }
     requires room { HasRoom formula.old (map (some_track variables.width) (below variables.slots)) }
-    ensures { Adds formula.old (map (some_track variables.width) (below variables.slots)) formula.new }
+    ensures { Adds formula.old
+        (map (some_track variables.width) (below variables.slots)) formula.new }
 {
     let mut row = [Lit { code: 1 }; MOST_TRACKS];
     for slot in 0..variables.slots {

@@ -4,8 +4,8 @@ ghost use Rattle.fpga_types.specs.declared.route.RouteText.{RouteText};
 ghost use Rattle.sat_clause.specs.Formula.{Cnf, IsUnsat, Satisfies};
 
 use fpga_bounds::Problem;
-use fpga_types::RouteText;
-use sat_clause::Formula;
+use fpga_types::{RouteText, WIDTH_LIMIT};
+use sat_clause::{CLAUSE_LIMIT, Formula};
 use std::alloc::{AllocError, Global};
 
 /// A way to say by clauses that a problem has a routing. A width is from 1 to 64 tracks.
@@ -18,14 +18,14 @@ pub trait Encoder {
 
     /// The number of clauses. Takes no memory.
     fn count(&self, problem: &Problem, width: u32) -> u64
-        requires width { (1 ≤ width) × (width ≤ 64) }
+        requires width { (1 ≤ width) × (width ≤ WIDTH_LIMIT) }
         ensures { result ≡ length (formula_of self.now problem.now width).clauses };
 
-    /// The clauses, of which there are at most 40,000,000. Where no values satisfy them, the problem
-    /// has no routing.
+    /// The clauses, of which there are at most 40,000,000. Where no values satisfy them, the
+    /// problem has no routing.
     fn build(&self, alloc: Global, problem: &Problem, width: u32) -> Result<Formula, AllocError>
-        requires width { (1 ≤ width) × (width ≤ 64) }
-        requires few { length (formula_of self.now problem.now width).clauses ≤ 40000000 }
+        requires width { (1 ≤ width) × (width ≤ WIDTH_LIMIT) }
+        requires few { length (formula_of self.now problem.now width).clauses ≤ CLAUSE_LIMIT }
         ensures formula { IfOk result
             (λ formula. formula.cnf ≡ formula_of self.now problem.now width) }
         ensures none_without_model { IsUnsat (formula_of self.now problem.now width)
@@ -39,7 +39,7 @@ pub trait Encoder {
         width: u32,
         values: &[bool],
     ) -> Result<RouteText, AllocError>
-        requires width { (1 ≤ width) × (width ≤ 64) }
+        requires width { (1 ≤ width) × (width ≤ WIDTH_LIMIT) }
         requires model { Satisfies values.now (formula_of self.now problem.now width) }
         ensures good { IfOk result (is_good self.now problem.now width) };
 }

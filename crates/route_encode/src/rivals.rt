@@ -2,7 +2,7 @@
 ghost use Rattle.std.specs.Prelude.{◌≡◌, ◌≤◌, ◌<◌, length, IfOk};
 ghost use Rattle.route_encode.specs.Rivals.{AreNextRivals, next_rival};
 
-use fpga_types::{Cell, Slot};
+use fpga_types::{Cell, SLOT_LIMIT, Slot};
 use std::alloc::{AllocError, Global};
 use std::collections::BTreeMap;
 use std::marker::Model;
@@ -29,7 +29,7 @@ impl<'a> Model for RivalChains<'a> {
 impl<'a> RivalChains<'a> {
     /// Links each slot to the next one of its cell.
     pub(crate) fn new(alloc: Global, slots: &'a [Slot]) -> Result<RivalChains<'a>, AllocError>
-        requires { length slots.now ≤ 200000 }
+        requires { length slots.now ≤ SLOT_LIMIT }
         ensures { IfOk result (λ chains. chains ≡ slots.now) }
     {
         let next = next_rivals(alloc, slots)?;
@@ -47,7 +47,7 @@ impl<'a> RivalChains<'a> {
 
 /// For each slot the next one that takes its cell.
 fn next_rivals(alloc: Global, slots: &[Slot]) -> Result<Vec<Option<u32>>, AllocError>
-    requires { length slots.now ≤ 200000 }
+    requires { length slots.now ≤ SLOT_LIMIT }
     ensures { IfOk result (λ next. AreNextRivals slots.now next.items) }
 {
     let mut first: BTreeMap<Cell, u32> = BTreeMap::new(alloc);

@@ -17,7 +17,7 @@ use crate::tracks::tracks_said;
 use crate::variables::Variables;
 use crate::walk::add_apart_tracks;
 use fpga_bounds::Problem;
-use fpga_types::{RouteStep, RouteText};
+use fpga_types::{RouteStep, RouteText, WIDTH_LIMIT};
 use sat_clause::Formula;
 use std::alloc::{AllocError, Global};
 
@@ -61,7 +61,7 @@ impl Encoder for Strict {
         width: u32,
         values: &[bool],
     ) -> Result<RouteText, AllocError>
-        requires width { (1 ≤ width) × (width ≤ 64) }
+        requires width { (1 ≤ width) × (width ≤ WIDTH_LIMIT) }
         requires model { Satisfies values.now (cnf_subset width problem.now) }
         ensures good { IfOk result (IsRouting width problem.now) }
         ensures chosen { IfOk result
@@ -79,7 +79,7 @@ impl Encoder for Strict {
 
 /// The number of clauses.
 fn clause_count(problem: &Problem, width: u32) -> u64
-    requires width { (1 ≤ width) × (width ≤ 64) }
+    requires width { (1 ≤ width) × (width ≤ WIDTH_LIMIT) }
     ensures count { result ≡ length (encoding_subset width problem.now) }
     ensures lits { length (slots problem.now) * width + 2 * (result - length (slots problem.now))
         ≡ lit_count (encoding_subset width problem.now) }

@@ -1,98 +1,62 @@
 //! Two nets that cross, and a net that branches, on small arrays.
 use crate::{Encoder, Strict};
 use fpga_bounds::{Problem, fit_route};
-use fpga_types::{Elem, ElemKind, Grid, Items, Label, Name, RouteNet, RouteText};
+use fpga_route::read_route;
 use sat_clause::{Lit, holds};
 use std::alloc::Global;
-use std::process::Abort;
 use std::test::Fail;
 
-const GRID: Grid = Grid { nx: 2, ny: 1 };
+const HEAD: &[u8] = b"Array size: 2 x 1 logic blocks.\nRouting:\n";
 
-fn elem(kind: ElemKind, x: u32, y: u32, label: Label, number: u32) -> Elem {
-    Elem {
-        kind,
-        x,
-        y,
-        label,
-        number,
-        line: 0,
+// Adds a net from the pad at (1,0) with this number, through CHANX (1,0) and this further cell, to a
+// pad below column `to.0`.
+fn push_net(
+    alloc: Global,
+    text: &mut Vec<u8>,
+    from: u32,
+    cell: &str,
+    to: (u32, u32),
+) -> Result<(), Fail> {
+    let (x, pad) = to;
+    let start = format!(in alloc; "Net 0 (n)\nSOURCE (1,0) Pad: {from}\nOPIN (1,0) Pad: {from}\n")?;
+    let end = format!(in alloc; "IPIN ({x},0) Pad: {pad}\nSINK ({x},0) Pad: {pad}\n")?;
+    for part in [start.as_str(), "CHANX (1,0) Track: 0\n", cell, end.as_str()] {
+        text.extend_from_slice(part.as_bytes())?;
     }
+    Ok(())
 }
 
-// From the pad at (1,0) with this number, through CHANX (1,0) and these further cells, to a pad.
-fn pad_net(
-    alloc: Global,
-    from: u32,
-    cells: &[(ElemKind, u32, u32)],
-    to: (u32, u32),
-) -> Result<RouteNet, Fail> {
-    let mut elems = Vec::new(alloc);
-    elems.push(elem(ElemKind::Source, 1, 0, Label::Pad, from))?;
-    elems.push(elem(ElemKind::Opin, 1, 0, Label::Pad, from))?;
-    elems.push(elem(ElemKind::ChanX, 1, 0, Label::Track, 0))?;
-    for (kind, x, y) in cells {
-        elems.push(elem(*kind, *x, *y, Label::Track, 0))?;
-    }
-    elems.push(elem(ElemKind::Ipin, to.0, 0, Label::Pad, to.1))?;
-    elems.push(elem(ElemKind::Sink, to.0, 0, Label::Pad, to.1))?;
-    Ok(RouteNet {
-        k: 0,
-        name: Name {
-            bytes: Items::of(Vec::new(alloc)),
-        },
-        global: false,
-        line: 0,
-        elems: Items::of(elems),
-        kept: Items::of(Vec::new(alloc)),
-    })
+// The problem that a route text says.
+fn problem(alloc: Global, text: &[u8]) -> Result<Problem, Fail> {
+    let route = read_route(alloc, text)?;
+    Ok(fit_route(alloc, route)?)
 }
 
 // A net through CHANX (1,0) and CHANX (2,0), and one through CHANX (1,0) alone.
-fn crossing(rt: &impl Abort, alloc: Global) -> Result<Problem, Fail> {
-    let mut nets = Vec::new(alloc);
-    nets.push(pad_net(alloc, 0, &[(ElemKind::ChanX, 2, 0)], (2, 0))?)?;
-    nets.push(pad_net(alloc, 1, &[], (1, 2))?)?;
-    assert!(rt; nets.len() <= 65535);
-    let route = RouteText {
-        grid: GRID,
-        grid_line: 1,
-        lines: 1,
-        nets: Items::of(nets),
-    };
-    let Ok(problem) = fit_route(alloc, route) else {
-        return Err(Fail::from("refused"));
-    };
-    Ok(problem)
+fn crossing(alloc: Global) -> Result<Problem, Fail> {
+    let mut text = Vec::from_slice(alloc, HEAD)?;
+    push_net(alloc, &mut text, 0, "CHANX (2,0) Track: 0\n", (2, 0))?;
+    push_net(alloc, &mut text, 1, "", (1, 2))?;
+    problem(alloc, text.as_slice())
 }
 
 // 8,943 nets through CHANX (1,0). Those below the first number go on to CHANX (2,0), then those below
 // the second to CHANY (1,1), and then those below the third to CHANY (0,1).
-fn crowd(rt: &impl Abort, alloc: Global, until: [u32; 3]) -> Result<Problem, Fail> {
+fn crowd(alloc: Global, until: [u32; 3]) -> Result<Problem, Fail> {
     let further = [
-        [(ElemKind::ChanX, 2, 0)],
-        [(ElemKind::ChanY, 1, 1)],
-        [(ElemKind::ChanY, 0, 1)],
+        "CHANX (2,0) Track: 0\n",
+        "CHANY (1,1) Track: 0\n",
+        "CHANY (0,1) Track: 0\n",
     ];
-    let mut nets = Vec::new(alloc);
+    let mut text = Vec::from_slice(alloc, HEAD)?;
     for k in 0..8_943 {
-        let cells = match until.iter().position(|end| k < *end) {
-            Some(turn) => further[turn].as_slice(),
-            None => &[],
+        let cell = match until.iter().position(|end| k < *end) {
+            Some(turn) => further[turn],
+            None => "",
         };
-        nets.push(pad_net(alloc, 2 * k, cells, (2, 2 * k + 1))?)?;
+        push_net(alloc, &mut text, 2 * k, cell, (2, 2 * k + 1))?;
     }
-    assert!(rt; nets.len() <= 65535);
-    let route = RouteText {
-        grid: GRID,
-        grid_line: 1,
-        lines: 1,
-        nets: Items::of(nets),
-    };
-    let Ok(problem) = fit_route(alloc, route) else {
-        return Err(Fail::from("refused"));
-    };
-    Ok(problem)
+    problem(alloc, text.as_slice())
 }
 
 // At width 1 each slot, each step and each two slots of a cell have a clause. 8,943 nets of one cell
@@ -100,16 +64,16 @@ fn crowd(rt: &impl Abort, alloc: Global, until: [u32; 3]) -> Result<Problem, Fai
 #[test]
 fn the_most_clauses_and_one_more_are_counted(rt: HostRuntime) -> Result<(), Fail> {
     let alloc = rt.alloc();
-    let most = crowd(&rt, alloc, [116, 117, 117])?;
+    let most = crowd(alloc, [116, 117, 117])?;
     assert_eq!(rt; Strict.count(&most, 1), 40_000_000);
-    let one_more = crowd(&rt, alloc, [114, 133, 139])?;
+    let one_more = crowd(alloc, [114, 133, 139])?;
     assert_eq!(rt; Strict.count(&one_more, 1), 40_000_001);
     Ok(())
 }
 
 #[test]
 fn clauses_and_a_routing_of_two_nets_that_cross(rt: HostRuntime) -> Result<(), Fail> {
-    let problem = crossing(&rt, rt.alloc())?;
+    let problem = crossing(rt.alloc())?;
     assert_eq!(rt; problem.pairs(), 1);
     let want: [&[i32]; 10] = [
         &[1, 2],
@@ -140,7 +104,7 @@ fn clauses_and_a_routing_of_two_nets_that_cross(rt: HostRuntime) -> Result<(), F
 
 #[test]
 fn route_of_a_model(rt: HostRuntime) -> Result<(), Fail> {
-    let problem = crossing(&rt, rt.alloc())?;
+    let problem = crossing(rt.alloc())?;
     assert_eq!(rt; Strict.count(&problem, 2), 10);
     let formula = Strict.build(rt.alloc(), &problem, 2)?;
     let values = [false, true, false, true, true, false];

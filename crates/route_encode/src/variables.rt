@@ -1,5 +1,6 @@
 //! The variables of an encoding, and the literals that say which track a slot has.
 ghost use Rattle.std.specs.Prelude.{◌≡◌, ◌≤◌, ◌<◌, ◌*◌, length, take};
+ghost use Rattle.fpga_types.specs.declared.limits.TheConstants.{SLOT_LIMIT, WIDTH_LIMIT};
 ghost use Rattle.route_encode.specs.Encoding.{has, lacks, some_track};
 
 use sat_clause::Lit;
@@ -11,8 +12,8 @@ pub(crate) struct Variables {
     pub slots: u32,
     /// How many tracks each of them may have.
     pub width: u32,
-    ghost few_slots: { slots ≤ 200000 },
-    ghost few_tracks: { width ≤ 64 },
+    ghost few_slots: { slots ≤ SLOT_LIMIT },
+    ghost few_tracks: { width ≤ WIDTH_LIMIT },
 }
 
 impl Variables {

@@ -21,7 +21,8 @@ pub(crate) fn add_apart_tracks(
     requires room { HasRoom formula.old
         (flat_map (apart_from_rivals variables.width chains.now) (below (length chains.now))) }
     ensures { Adds formula.old
-        (flat_map (apart_from_rivals variables.width chains.now) (below (length chains.now))) formula.new }
+        (flat_map (apart_from_rivals variables.width chains.now) (below (length chains.now)))
+        formula.new }
 {
     for slot in 0..variables.slots {
         add_apart_from_rivals(formula, variables, chains, slot);

@@ -1,9 +1,7 @@
-pub mod CheckSteps
+pub mod AgreeLaws
 pub mod CommandLemmas
-pub mod EncodeSteps
+pub mod FileLaws
 pub mod FileSteps
-pub mod FindingLemmas
 pub mod LogLemmas
 pub mod RunLaws
 pub mod SearchSteps
-pub mod UniqueLemmas

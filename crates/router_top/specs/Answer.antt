@@ -1,76 +1,39 @@
 -- What a run leaves: of the words, of the files, of the faults and of what was written.
-use Rattle.std.specs.Prelude.{◌≡◌, ◌⊎◌, List, MatchResult, Option, Some}
+use Rattle.std.specs.Prelude.{◌≡◌, ◌⊎◌, ℕ, List, MatchResult, Option, Some}
 use Rattle.std.specs.Option.{ForSome}
 use Rattle.desk_io.specs.DeskState.{DeskState}
-use Rattle.desk_io.specs.Files.{Bytes, FileMap, HasRisen}
+use Rattle.desk_io.specs.Files.{Bytes, HasRisen}
 use Rattle.desk_io.specs.ShelfState.{FailsToSay, ShelfState, after_say}
-use Rattle.desk_io.specs.WholeFile.{FailsToWrite, after_writing}
-use Rattle.fpga_types.specs.Fit.{IsFit}
 use Rattle.fpga_types.specs.declared.route.RouteText.{RouteText}
-use Rattle.sat_text.specs.Printed.{cnf_text}
-use Rattle.route_encode.specs.Encoding.{cnf_subset}
-use Rattle.router_top.specs.Asked.{HasFew, IsRouteFile, Poses, cnf_name}
-use Rattle.router_top.specs.Command.{CheckJob, Checks, EncodeJob, Encodes, Job, RouteJob, Routes, Word, job_of}
+use Rattle.router_top.specs.Asked.{EndsEarly, Poses}
+use Rattle.router_top.specs.Command.{Checks, Encodes, Job, Routes, Word, job_of}
 use Rattle.router_top.specs.Finding.{ChecksFiles}
-use Rattle.router_top.specs.Inputs.{FailsToRead}
+use Rattle.router_top.specs.Inputs.{IsStopped}
 use Rattle.router_top.specs.Report.{IsReadFault, line_of, unsaid}
 use Rattle.router_top.specs.Search.{WritesFound}
-use Rattle.router_top.specs.Truth.{Agrees, IsTrueOf, IsTrueOfEncode, IsTrueOfRoute}
+use Rattle.router_top.specs.Truth.{Agrees, IsTrueOf}
+use Rattle.router_top.specs.Written.{WritesCnf}
 use Rattle.router_top.specs.declared.outcome.Outcome.{Outcome}
-use Rattle.router_top.specs.declared.outcome.Outcome.TheVariants.{Done, InputFault, Limit, Usage, ReadFault, WriteFault, OutOfMemory}
+use Rattle.router_top.specs.declared.outcome.Outcome.TheVariants.{Usage, OutOfMemory}
 
--- the route file poses a problem with few enough clauses, and this is their text
-pub record FindsClauses (job : EncodeJob) (files : Option FileMap) (text : Bytes) : Type 0 where
-  pub route : RouteText
-  pub reads : IsRouteFile files job.file route
-  pub fits : IsFit route
-  pub few : HasFew job.width route
-  pub is : text ≡ cnf_text (cnf_subset job.width route)
+-- what a command leaves that works on the clauses of its route file: nothing is written where they
+-- are not built, and else what the work on them leaves
+abbrev pub LeavesClauses : Bytes → (width : ℕ)
+    → (RouteText → (before now : ShelfState) → Outcome → Type 0)
+    → (desk desk_now : DeskState) → (shelf shelf_now : ShelfState) → Outcome → Type 0
+LeavesClauses name width works desk desk_now shelf shelf_now outcome =
+    (EndsEarly name width desk desk_now outcome × (shelf_now ≡ shelf))
+    ⊎ Poses desk.files name width (λ route. works route shelf shelf_now outcome)
 
--- what the search for a routing leaves before its outcome is reported
-abbrev pub LeavesRoute : RouteJob → (desk desk_now : DeskState) → (shelf shelf_now : ShelfState)
-    → Outcome → Type 0
-LeavesRoute job desk desk_now shelf shelf_now (InputFault file line code) =
-    IsTrueOfRoute job desk.files (InputFault file line code) × (shelf_now ≡ shelf)
-LeavesRoute job desk desk_now shelf shelf_now (Limit code count) =
-    IsTrueOfRoute job desk.files (Limit code count) × (shelf_now ≡ shelf)
-LeavesRoute job desk desk_now shelf shelf_now (ReadFault file) =
-    (file ≡ 4) × FailsToRead desk desk_now job.file × (shelf_now ≡ shelf)
-LeavesRoute job desk desk_now shelf shelf_now OutOfMemory = shelf_now ≡ shelf
-LeavesRoute job desk desk_now shelf shelf_now outcome =
-    Poses desk.files job.file (λ r. HasFew job.width r × WritesFound job r shelf shelf_now outcome)
-
--- the same of the writing of the clauses
-abbrev pub LeavesEncode : EncodeJob → (desk desk_now : DeskState) → (shelf shelf_now : ShelfState)
-    → Outcome → Type 0
-LeavesEncode job desk desk_now shelf shelf_now Done =
-    (text : Bytes) × FindsClauses job desk.files text
-    × (shelf_now ≡ after_writing shelf (cnf_name job.prefix) text)
-LeavesEncode job desk desk_now shelf shelf_now (WriteFault slot) =
-    (slot ≡ 2)
-    × (text : Bytes) × FindsClauses job desk.files text
-    × FailsToWrite shelf (cnf_name job.prefix) text shelf_now
-LeavesEncode job desk desk_now shelf shelf_now (ReadFault file) =
-    (file ≡ 4) × FailsToRead desk desk_now job.file × (shelf_now ≡ shelf)
-LeavesEncode job desk desk_now shelf shelf_now OutOfMemory = shelf_now ≡ shelf
-LeavesEncode job desk desk_now shelf shelf_now outcome =
-    IsTrueOfEncode job desk.files outcome × (shelf_now ≡ shelf)
-
--- the same of the check of a refutation, which writes nothing
-abbrev pub LeavesCheck : CheckJob → (desk desk_now : DeskState) → (shelf shelf_now : ShelfState)
-    → Outcome → Type 0
-LeavesCheck job desk desk_now shelf shelf_now outcome =
-    ChecksFiles job desk desk_now outcome × (shelf_now ≡ shelf)
-
--- the same of whatever is asked for
+-- what each command leaves before its outcome is reported; a check writes nothing
 abbrev pub LeavesJob : Job → (desk desk_now : DeskState) → (shelf shelf_now : ShelfState)
     → Outcome → Type 0
 LeavesJob (Routes job) desk desk_now shelf shelf_now outcome =
-    LeavesRoute job desk desk_now shelf shelf_now outcome
+    LeavesClauses job.file job.width (WritesFound job) desk desk_now shelf shelf_now outcome
 LeavesJob (Encodes job) desk desk_now shelf shelf_now outcome =
-    LeavesEncode job desk desk_now shelf shelf_now outcome
+    LeavesClauses job.file job.width (WritesCnf job) desk desk_now shelf shelf_now outcome
 LeavesJob (Checks job) desk desk_now shelf shelf_now outcome =
-    LeavesCheck job desk desk_now shelf shelf_now outcome
+    ChecksFiles (λ file. IsStopped file desk desk_now) job desk.files outcome × (shelf_now ≡ shelf)
 
 -- by what the words ask for; where they are not taken, nothing is written
 abbrev pub Leaves : List Word → (desk desk_now : DeskState) → (shelf shelf_now : ShelfState)
@@ -85,7 +48,8 @@ Reports before outcome now answer =
     ((answer ≡ outcome) × (now ≡ after_say before (line_of outcome)))
     ⊎ ((answer ≡ unsaid outcome) × FailsToSay before (line_of outcome) now)
 
--- a run: the work leaves a shelf with an outcome, which is reported;
+-- a run: the work leaves a shelf with an outcome, which is reported; the files of the desk stay,
+-- and
 -- where the desk has not failed, its count of faults is as it was
 pub record Runs
     (words : List Word) (desk desk_now : DeskState) (shelf shelf_now : ShelfState)
@@ -93,10 +57,12 @@ pub record Runs
   pub outcome : Outcome
   pub between : ShelfState
   pub leaves : Leaves words desk desk_now shelf between outcome
+  pub files_stay : desk_now.files ≡ desk.files
   pub quiet : ¬ IsReadFault outcome → desk_now.faults ≡ desk.faults
   pub reports : Reports between outcome shelf_now answer
 
--- where the files are told, no fault has risen, memory sufficed and some outcome is true, the answer
+-- where the files are told, no fault has risen, memory sufficed and some outcome is true, the
+-- answer
 -- is true and agrees with that outcome
 abbrev pub IsComplete : List Word → (desk desk_now : DeskState) → (shelf shelf_now : ShelfState)
     → Outcome → Type 0

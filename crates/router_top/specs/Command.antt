@@ -7,7 +7,8 @@ use Rattle.fpga_text.specs.Numbers.{whole_number_of}
 abbrev pub Word : Type 0
 Word = List ℕ
 
--- to look for a routing: the name of the route file, the width, how many clauses may be learned, and
+-- to look for a routing: the name of the route file, the width, how many clauses may be learned,
+-- and
 -- what the names of written files begin with
 pub record RouteJob : Type 0 where
   pub file : Word

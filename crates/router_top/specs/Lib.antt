@@ -5,10 +5,8 @@ pub mod Finding
 pub mod Headline
 pub mod Inputs
 pub mod JobSaid
-pub mod ProofStops
 pub mod Report
 pub mod Search
-pub mod Stops
 pub mod Truth
 pub mod WordsCode
 pub mod Written

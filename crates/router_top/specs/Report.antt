@@ -1,5 +1,5 @@
 -- The exit status and the report line of each outcome.
-use Rattle.std.specs.Prelude.{ℕ, ◌-◌, ◌≤◌, ◌++◌, List, [], ◌∷◌, slice_index_or, codes, decimal}
+use Rattle.std.specs.Prelude.{ℕ, ◌-◌, ◌≤◌, ◌++◌, List, [], ◌∷◌, slice_index_or, codes, decimal, Result, Ok, Err}
 use Rattle.router_top.specs.declared.outcome.Outcome.{Outcome}
 use Rattle.router_top.specs.declared.outcome.Outcome.TheVariants.{Routed, Unroutable, Undecided, Done, Accepted, NotAccepted, InputFault, Limit, Usage, ReadFault, WriteFault, OutOfMemory}
 
@@ -21,7 +21,8 @@ status_of OutOfMemory = 7
 -- the words for the files, from number 1 on
 abbrev pub FILE_WORDS : List (List ℕ)
 FILE_WORDS =
-    codes "architecture" ∷ codes "netlist" ∷ codes "placement" ∷ codes "route" ∷ codes "cnf" ∷ codes "lrat"
+    codes "architecture" ∷ codes "netlist" ∷ codes "placement" ∷ codes "route" ∷ codes "cnf"
+    ∷ codes "lrat"
     ∷ codes "routed" ∷ []
 
 -- the word for a file, by its number
@@ -39,14 +40,17 @@ abbrev pub report_of : Outcome → List ℕ
 report_of (Routed width) = codes "routed " ++ decimal width
 report_of (Unroutable width) = codes "unroutable " ++ decimal width
 report_of (Undecided width learned) =
-    codes "undecided " ++ decimal width ++ codes " after " ++ decimal learned ++ codes " learned clauses"
+    codes "undecided " ++ decimal width ++ codes " after " ++ decimal learned
+    ++ codes " learned clauses"
 report_of Done = codes "done"
 report_of Accepted = codes "accepted"
 report_of (NotAccepted step cause) =
     codes "not accepted: step " ++ decimal step ++ codes " cause " ++ decimal cause
 report_of (InputFault file line code) =
-    codes "fault: " ++ file_word file ++ codes " line " ++ decimal line ++ codes " code " ++ decimal code
-report_of (Limit code count) = codes "limit: code " ++ decimal code ++ codes " count " ++ decimal count
+    codes "fault: " ++ file_word file ++ codes " line " ++ decimal line ++ codes " code "
+    ++ decimal code
+report_of (Limit code count) = codes "limit: code " ++ decimal code ++ codes " count "
+    ++ decimal count
 report_of (Usage code) = codes "usage: code " ++ decimal code
 report_of (ReadFault file) = codes "read fault: " ++ file_word file
 report_of (WriteFault slot) = codes "write fault: slot " ++ decimal slot
@@ -65,3 +69,8 @@ unsaid outcome = WriteFault 0
 abbrev pub IsReadFault : Outcome → Type 0
 IsReadFault (ReadFault file) = Unit {0}
 IsReadFault outcome = ⊥
+
+-- the same where it kept a value from being had
+abbrev pub IsReadFaultErr : {T : Type 0} → Result T Outcome → Type 0
+IsReadFaultErr (Ok value) = ⊥
+IsReadFaultErr (Err outcome) = IsReadFault outcome

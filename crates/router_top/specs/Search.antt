@@ -4,6 +4,7 @@ use Rattle.desk_io.specs.ShelfState.{ShelfState}
 use Rattle.desk_io.specs.WholeFile.{FailsToWrite, after_writing}
 use Rattle.fpga_types.specs.declared.route.RouteText.{RouteText}
 use Rattle.fpga_route.specs.Printed.{printed}
+use Rattle.fpga_route.specs.ReadBack.{ReadsBack}
 use Rattle.route_encode.specs.Encoding.{cnf_subset}
 use Rattle.route_encode.specs.Good.{IsRouting}
 use Rattle.sat_clause.specs.Formula.{Cnf}
@@ -14,18 +15,19 @@ use Rattle.sat_core.specs.SearchLog.{IsSearchLog}
 use Rattle.sat_text.specs.CnfText.{ReadsCnf}
 use Rattle.sat_text.specs.LratText.{ReadsLrat}
 use Rattle.sat_text.specs.Printed.{cnf_text, log_text}
-use Rattle.router_top.specs.Asked.{HasFew, HasTooMany, IsUnroutable, route_name}
+use Rattle.router_top.specs.Asked.{IsUnroutable, route_name}
 use Rattle.router_top.specs.Command.{RouteJob}
 use Rattle.router_top.specs.Written.{FailsToWriteProof, after_proof}
 use Rattle.router_top.specs.declared.outcome.Outcome.{Outcome}
-use Rattle.router_top.specs.declared.outcome.Outcome.TheVariants.{Routed, Unroutable, Undecided, Limit, WriteFault, OutOfMemory}
+use Rattle.router_top.specs.declared.outcome.Outcome.TheVariants.{Routed, Unroutable, Undecided, WriteFault, OutOfMemory}
 
 -- the printed clauses and the printed log read back as what they are printed of
 pub record ReadBack (cnf : Cnf) (log : List Step) : Type 0 where
   pub clauses : ReadsCnf (cnf_text cnf) cnf
   pub steps : ReadsLrat (length cnf.clauses) (log_text log) log
 
--- the log is of a search through the clauses of the route that deleted nothing, and refutes them within
+-- the log is of a search through the clauses of the route that deleted nothing, and refutes them
+-- within
 -- the budget; so no tracks are legal
 pub record IsRefutedBy (job : RouteJob) (route : RouteText) (log : List Step) : Type 0 where
   pub search : IsSearchLog (cnf_subset job.width route) log
@@ -62,7 +64,7 @@ pub record FailsToWriteRouting
 abbrev pub WritesFound : RouteJob → RouteText → (before now : ShelfState) → Outcome → Type 0
 WritesFound job route before now (Routed width) =
     (width ≡ job.width)
-    × (found : RouteText) × IsRouting job.width route found
+    × (found : RouteText) × IsRouting job.width route found × ReadsBack found
     × (now ≡ after_writing before (route_name job.prefix) (printed found))
 WritesFound job route before now (Unroutable width) =
     (width ≡ job.width)
@@ -76,11 +78,3 @@ WritesFound job route before now (WriteFault slot) =
     FailsToWriteRouting job route before now slot ⊎ FailsToWriteLog job route before now slot
 WritesFound job route before now OutOfMemory = now ≡ before
 WritesFound job route before now outcome = ⊥
-
--- the same, or that the route has too many clauses and nothing is written
-abbrev pub WritesSearch : RouteJob → RouteText → (before now : ShelfState) → Outcome → Type 0
-WritesSearch job route before now (Limit code count) =
-    (code ≡ 901) × HasTooMany job.width count route × (now ≡ before)
-WritesSearch job route before now OutOfMemory = now ≡ before
-WritesSearch job route before now outcome =
-    HasFew job.width route × WritesFound job route before now outcome

@@ -1,6 +1,7 @@
 //! The command `check`: whether a log refutes a formula.
 ghost use Rattle.std.specs.Prelude.{◌≡◌};
 ghost use Rattle.router_top.specs.Finding.{ChecksFiles};
+ghost use Rattle.router_top.specs.Inputs.{IsStopped};
 ghost use Rattle.router_top.specs.JobSaid.{check_said};
 ghost use Rattle.router_top.specs.Report.{IsReadFault, NamesKnownFile};
 
@@ -11,24 +12,21 @@ use desk_io::Desk;
 use sat_check::{Verdict, check};
 use std::alloc::Global;
 
-// The numbers of the CNF and the LRAT file among the files of a command.
-const CNF_FILE: u32 = 5;
-
-const LRAT_FILE: u32 = 6;
-
 /// Reads the two files, and replays the log.
 pub fn check_files<D: Desk>(alloc: Global, job: &CheckWords<'_>, desk: &mut D) -> Outcome
     ensures known { NamesKnownFile result }
-    ensures checks { ChecksFiles (check_said job.now) (D.state desk.old) (D.state desk.new) result }
+    ensures checks { ChecksFiles (λ file. IsStopped file (D.state desk.old) (D.state desk.new))
+        (check_said job.now) (D.state desk.old).files result }
+    ensures files { (D.state desk.new).files ≡ (D.state desk.old).files }
     ensures quiet { ¬ IsReadFault result → (D.state desk.new).faults ≡ (D.state desk.old).faults }
 {
     let formula = match read_formula(alloc, desk, job.cnf) {
         Ok(formula) => formula,
-        Err(stop) => return stop.outcome(CNF_FILE),
+        Err(outcome) => return outcome,
     };
     let log = match read_log(alloc, desk, job.lrat, formula.len()) {
         Ok(log) => log,
-        Err(stop) => return stop.outcome(LRAT_FILE),
+        Err(outcome) => return outcome,
     };
     match check(alloc, &formula, &log) {
         Ok(Verdict::Accepted) => Outcome::Accepted,

@@ -5,8 +5,6 @@
 
 mod checking;
 mod encoding;
-#[cfg(test)]
-mod hostile_texts;
 mod input;
 mod job_words;
 mod outcome;

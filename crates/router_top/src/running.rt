@@ -20,7 +20,9 @@ const SAID_SLOT: u32 = 0;
 // The work that the words ask for, but for the report.
 fn work<D: Desk, S: Shelf>(alloc: Global, words: &[String], desk: &mut D, shelf: &mut S) -> Outcome
     ensures known { NamesKnownFile result }
-    ensures leaves { Leaves (words_of words.now) (D.state desk.old) (D.state desk.new) (S.state shelf.old) (S.state shelf.new) result }
+    ensures leaves { Leaves (words_of words.now) (D.state desk.old) (D.state desk.new)
+        (S.state shelf.old) (S.state shelf.new) result }
+    ensures files { (D.state desk.new).files ≡ (D.state desk.old).files }
     ensures quiet { ¬ IsReadFault result → (D.state desk.new).faults ≡ (D.state desk.old).faults }
 {
     match read_words(words) {
@@ -58,10 +60,11 @@ fn say_report<S: Shelf>(shelf: &mut S, outcome: Outcome) -> Outcome
 /// Runs a command: reads the words and the files, does what they ask for, and last says the report
 /// line of the outcome.
 ///
-/// `route FILE WIDTH BUDGET PREFIX` searches for a routing of the route in FILE with WIDTH tracks, from
-/// 1 to 64, and learns at most BUDGET clauses, from 1 to 100,000,000. It writes PREFIX.route, or else
-/// PREFIX.cnf and PREFIX.lrat. `encode FILE WIDTH PREFIX` writes PREFIX.cnf alone, and `check CNF LRAT`
-/// writes nothing. After want of memory no file has changed.
+/// `route FILE WIDTH BUDGET PREFIX` searches for a routing of the route in FILE with WIDTH tracks,
+/// from 1 to 64, and learns at most BUDGET clauses, from 1 to 100,000,000. It writes PREFIX.route,
+/// or else PREFIX.cnf and PREFIX.lrat. `encode FILE WIDTH PREFIX` writes PREFIX.cnf alone, and
+/// `check CNF LRAT` writes nothing. After want of memory no file has changed, and the files of the
+/// desk stay in any case.
 pub fn run<D: Desk, S: Shelf>(
     alloc: Global,
     words: &[String],
@@ -69,13 +72,19 @@ pub fn run<D: Desk, S: Shelf>(
     shelf: &mut S,
 ) -> Outcome
     ensures known { NamesKnownFile result }
-    ensures routed { RoutesOnlyTruly (words_of words.now) (D.state desk.old).files (S.state shelf.old).files (S.state shelf.new).files result }
-    ensures refuted { RefutesOnlyTruly (words_of words.now) (D.state desk.old).files (S.state shelf.old).files (S.state shelf.new).files result }
-    ensures undecided { LeavesOpenOnlyTruly (words_of words.now) (D.state desk.old).files (S.state shelf.old).files (S.state shelf.new).files result }
-    ensures encoded { EncodesOnlyTruly (words_of words.now) (D.state desk.old).files (S.state shelf.old).files (S.state shelf.new).files result }
+    ensures routed { RoutesOnlyTruly (words_of words.now) (D.state desk.old).files
+        (S.state shelf.old).files (S.state shelf.new).files result }
+    ensures refuted { RefutesOnlyTruly (words_of words.now) (D.state desk.old).files
+        (S.state shelf.old).files (S.state shelf.new).files result }
+    ensures undecided { LeavesOpenOnlyTruly (words_of words.now) (D.state desk.old).files
+        (S.state shelf.old).files (S.state shelf.new).files result }
+    ensures encoded { EncodesOnlyTruly (words_of words.now) (D.state desk.old).files
+        (S.state shelf.old).files (S.state shelf.new).files result }
     ensures accepted { AcceptsOnlyTruly (words_of words.now) (D.state desk.old).files result }
-    ensures runs { Runs (words_of words.now) (D.state desk.old) (D.state desk.new) (S.state shelf.old) (S.state shelf.new) result }
-    ensures complete { IsComplete (words_of words.now) (D.state desk.old) (D.state desk.new) (S.state shelf.old) (S.state shelf.new) result }
+    ensures runs { Runs (words_of words.now) (D.state desk.old) (D.state desk.new)
+        (S.state shelf.old) (S.state shelf.new) result }
+    ensures complete { IsComplete (words_of words.now) (D.state desk.old) (D.state desk.new)
+        (S.state shelf.old) (S.state shelf.new) result }
 {
     let outcome = work(alloc, words, desk, shelf);
     say_report(shelf, outcome)

@@ -1,7 +1,6 @@
-pub mod FalseLaws
-pub mod ChangeLaws
-pub mod InputLaws
+pub mod BitsLaws
 pub mod DerivedLaws
-pub mod JoinLaws
-pub mod EraseLaws
+pub mod FalseLaws
+pub mod FinderLaws
+pub mod InputLaws
 pub mod StepLaws

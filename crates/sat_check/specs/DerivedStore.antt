@@ -1,16 +1,32 @@
 -- Clauses by their ids, in a table of the ids from a first one on and a map of the others.
-use Rattle.std.specs.Prelude.{◌≡◌, ℕ, ◌+◌, ◌<◌, ◌==◌, List, ◌++◌, map, length, Option, None}
+use Rattle.std.specs.Prelude.{ℕ, ◌-◌, ◌==◌, nat_lt, if◌then◌else◌, List, length, slice_index_or, Option, None, Some, option_map}
 use Rattle.std.specs.Borrow.{Bor}
 use Rattle.std.specs.Map.{lookup}
 use Rattle.sat_clause.specs.Literal.{Clause}
-use Rattle.sat_clause.specs.Live.{Live}
-use Rattle.sat_check.specs.Cells.{filled}
+use Rattle.sat_check.specs.Finder.{Finder}
 
--- the clauses that the table and the map hold
-abbrev pub clauses_of : ℕ → List (Option (Bor Clause)) → List (ℕ × Bor Clause) → Live
-clauses_of first table others = map (λ e. (e.0, e.1.now)) (filled first table ++ others)
+-- the cell of an id in a table of so many, of which the first has this id
+abbrev pub cell_at : (first count id : ℕ) → Option ℕ
+cell_at first count id =
+    if nat_lt id first then None else if nat_lt (id - first) count then Some (id - first) else None
 
--- the map has no id of the table
-abbrev pub HasNone : {X : Type 0} → ℕ → List (Option X) → List (ℕ × X) → Type 0
-HasNone first table others =
-    (at : ℕ) → at < length table → lookup (λ k. (first + at) == k) others ≡ None
+-- what stands in a cell, or else this
+abbrev pub cell_or : {X : Type 0} → Option ℕ → List (Option X) → Option X → Option X
+cell_or None table other = other
+cell_or (Some at) table other = slice_index_or table at None
+
+-- the clause behind a reference
+abbrev pub now : Bor Clause → Clause
+now c = c.now
+
+-- a table whose first cell has this id, and a map
+pub record DerivedState : Type 0 where
+  pub first : ℕ
+  pub table : List (Option (Bor Clause))
+  pub others : List (ℕ × Bor Clause)
+
+-- the clause with an id
+abbrev pub derived_at : DerivedState → Finder
+derived_at state id =
+    let cell = cell_at state.first (length state.table) id in
+    option_map now (cell_or cell state.table (lookup (λ k. id == k) state.others))

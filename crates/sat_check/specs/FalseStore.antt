@@ -1,7 +1,8 @@
 -- A set of false literals: what contracts see, and how it lies in marks and a list of the marked.
-use Rattle.std.specs.Prelude.{◌≡◌, ℕ, ◌+◌, ◌*◌, ℤ, pos, negsuc, Bool, false, List, length, All, Vec, slice_index_or, reverse}
+use Rattle.std.specs.Prelude.{◌≡◌, ℕ, ◌+◌, ◌*◌, ◌≤◌, ℤ, pos, negsuc, List, length, All, Vec, reverse}
 use Rattle.std.specs.Global.{Global}
 use Rattle.sat_clause.specs.declared.literal.Lit.{Lit}
+use Rattle.sat_check.specs.Bits.{is_set}
 use Rattle.sat_clause.specs.Literal.{IsWithin, is_among}
 
 -- the number of variables that it can hold, and its literals, the newest first
@@ -15,8 +16,8 @@ slot_of (pos n) = 2 * n
 slot_of (negsuc n) = 2 * n + 3
 
 -- the marks say which literals are on the trail
-pub record IsFalseStore (size : ℕ) (marks : Vec Bool Global) (trail : Vec Lit Global) : Type 0 where
-  pub many : length marks.items ≡ 2 * size + 2
+pub record IsFalseStore (size : ℕ) (marks : List ℕ) (trail : Vec Lit Global) : Type 0 where
+  pub many : 2 * size + 2 ≤ 64 * length marks
   pub within : All (IsWithin size) trail.items
   pub marked : (l : Lit) → IsWithin size l →
-      slice_index_or marks.items (slot_of l.code) false ≡ is_among (reverse trail.items) l
+      is_set marks (slot_of l.code) ≡ is_among (reverse trail.items) l

@@ -1,6 +1,7 @@
-pub mod Cells
+pub mod Bits
 pub mod DerivedStore
 pub mod FalseStore
+pub mod Finder
 pub mod InputStore
 pub mod LiveStore
 pub mod Verdict

@@ -1,22 +1,20 @@
 -- The live clauses: what contracts see.
-use Rattle.std.specs.Prelude.{◌≡◌, ℕ, ◌≤◌, ℤ, List, slice_get, All, Some}
-use Rattle.sat_clause.specs.Literal.{Clause, IsWithin}
-use Rattle.sat_clause.specs.Formula.{Cnf}
-use Rattle.sat_clause.specs.Step.{Step, Added}
-use Rattle.sat_clause.specs.Live.{Live, clause_at}
+use Rattle.std.specs.Prelude.{ℕ}
+use Rattle.std.specs.Option.{option_or}
+use Rattle.sat_check.specs.DerivedStore.{DerivedState, derived_at}
+use Rattle.sat_check.specs.Finder.{Finder}
+use Rattle.sat_check.specs.InputStore.{InputState, input_at}
 
--- the number of variables, and the live clauses in any order
+-- the number of variables, the inputs that are live, and the clauses that steps have added
 pub record LiveState : Type 0 where
   pub vars : ℕ
-  pub live : Live
+  pub inputs : InputState
+  pub derived : DerivedState
 
--- the clauses have the variables 1 to n alone
-abbrev pub AllWithin : ℕ → Live → Type 0
-AllWithin n live = (id : ℕ) (clause : Clause) → clause_at live id ≡ Some clause →
-    All (IsWithin n) clause
+-- the clauses of the first, and under other ids those of the second
+abbrev pub joined : Finder → Finder → Finder
+joined first second id = option_or (first id) (second id)
 
--- the formula and the clauses that the log adds have the variables 1 to n alone
-pub record HasVars (n : ℕ) (formula : Cnf) (log : List Step) : Type 0 where
-  pub inputs : formula.vars ≤ n
-  pub steps : (k id : ℕ) (clause : Clause) (hints : List ℤ) →
-      slice_get log k ≡ Some (Added id clause hints) → All (IsWithin n) clause
+-- the live clause with an id
+abbrev pub live_at : LiveState → Finder
+live_at state = joined (input_at state.inputs) (derived_at state.derived)

@@ -1,6 +1,8 @@
 //! What a log says of a formula, step by step.
 
-ghost use Rattle.sat_clause.specs.Live.{SameLive};
+ghost use Rattle.sat_clause.specs.Live.{Live};
+ghost use Rattle.sat_check.specs.Finder.{Finds};
+ghost use Rattle.sat_check.specs.LiveStore.{live_at};
 ghost use Rattle.std.specs.Prelude.{◌≡◌, ◌≤◌, [], All, IfOk, OnOk, None};
 ghost use Rattle.sat_clause.specs.Literal.{IsWithin};
 ghost use Rattle.sat_clause.specs.Formula.{IsUnsat};
@@ -35,9 +37,10 @@ fn take_step<'a>(
     ensures vars { live.new.vars ≡ live.old.vars }
     ensures size { set.new.size ≡ set.old.size }
     ensures empty { OnOk result (set.new.set ≡ []) }
-    ensures fault { IfOk result (λ r. r ≡ fault live.old.live (step_of step.entry)) }
-    ensures live { IfOk result (λ r. r ≡ None
-        → SameLive live.new.live (after live.old.live (step_of step.entry))) }
+    ensures fault { IfOk result (λ r. (clauses : Live) → Finds (live_at live.old) clauses
+        → r ≡ fault clauses (step_of step.entry)) }
+    ensures live { IfOk result (λ r. r ≡ None → (clauses : Live) → Finds (live_at live.old) clauses
+        → Finds (live_at live.new) (after clauses (step_of step.entry))) }
 {
     if step.erase {
         return Ok(live.erase(step.hints));

@@ -1,7 +1,8 @@
 //! The live clauses that a log has added.
 
-ghost use Rattle.std.specs.Prelude.{◌≡◌, ◌⊎◌, ◌<◌, ◌≤◌, ◌+◌, [], IfNone, IfOk, IfSome, OnErr, OnOk, is_some, option_map};
-ghost use Rattle.sat_clause.specs.Live.{clause_at, put as put_in, without, SameLive};
+ghost use Rattle.std.specs.Prelude.{◌≡◌, ◌<◌, ℕ, IfOk, IfSome, OnErr, OnOk, None, Some, is_some, option_map};
+ghost use Rattle.sat_check.specs.DerivedStore.{cell_at, derived_at};
+ghost use Rattle.sat_check.specs.Finder.{Changes};
 
 use indexmap::IndexMap;
 use sat_clause::Lit;
@@ -21,20 +22,21 @@ pub(crate) struct DerivedClauses<'a> {
 }
 
 impl<'a> Model for DerivedClauses<'a> {
-    ghost use Rattle.sat_clause.specs.Live.{Live};
-    ghost use Rattle.sat_check.specs.DerivedStore.{HasNone, clauses_of};
+    ghost use Rattle.sat_check.specs.DerivedStore.{DerivedState};
 
-    ghost Value = { Live };
+    ghost Value = { DerivedState };
 
-    ghost view = { λ c. clauses_of c.first c.table.items c.others.entries };
-
-    ghost invariant = { λ c. HasNone c.first c.table.items c.others.entries };
+    ghost view = { λ c. record {
+      first = c.first;
+      table = c.table.items;
+      others = c.others.entries;
+    } };
 }
 
 /// The cell of an id in a table of so many cells, where the first has this id.
 fn cell_of(first: u64, count: usize, id: u64) -> Option<usize>
-    ensures cell { IfSome result (λ at. (id ≡ first + at) × (at < count)) }
-    ensures none { IfNone result ((id < first) ⊎ (first + count ≤ id)) }
+    ensures value { result ≡ cell_at first count id }
+    ensures within { IfSome result (λ at. at < count) }
 {
     if id < first {
         return None;
@@ -53,7 +55,7 @@ impl<'a> DerivedClauses<'a> {
         first: u64,
         count: u64,
     ) -> Result<DerivedClauses<'a>, AllocError>
-        ensures { IfOk result (λ c. c ≡ []) }
+        ensures { IfOk result (λ c. (id : ℕ) → derived_at c id ≡ None) }
     {
         Ok(DerivedClauses {
             first,
@@ -64,7 +66,7 @@ impl<'a> DerivedClauses<'a> {
 
     /// The clause with an id.
     pub(crate) fn get(&self, id: u64) -> Option<&'a [Lit]>
-        ensures { option_map (λ c. c.now) result ≡ clause_at self.now id }
+        ensures { option_map (λ c. c.now) result ≡ derived_at self.now id }
     {
         let Some(at) = cell_of(self.first, self.table.len(), id) else {
             return self.others.get(&id).copied();
@@ -74,8 +76,9 @@ impl<'a> DerivedClauses<'a> {
 
     /// Puts a clause in under an id, in place of any other.
     pub(crate) fn put(&mut self, id: u64, clause: &'a [Lit]) -> Result<(), AllocError>
-        ensures ok { OnOk result (SameLive self.new (put_in self.old id clause.now)) }
-        ensures err { OnErr result (SameLive self.new self.old) }
+        ensures ok { OnOk result
+            (Changes (derived_at self.old) (derived_at self.new) id (Some clause.now)) }
+        ensures err { OnErr result ((q : ℕ) → derived_at self.new q ≡ derived_at self.old q) }
     {
         let Some(at) = cell_of(self.first, self.table.len(), id) else {
             self.others.insert(id, clause)?;
@@ -87,8 +90,8 @@ impl<'a> DerivedClauses<'a> {
 
     /// Takes out the clause with an id, and says whether there was one.
     pub(crate) fn take_out(&mut self, id: u64) -> bool
-        ensures found { result ≡ is_some (clause_at self.old id) }
-        ensures clauses { SameLive self.new (without self.old id) }
+        ensures found { result ≡ is_some (derived_at self.old id) }
+        ensures clauses { Changes (derived_at self.old) (derived_at self.new) id None }
     {
         let Some(at) = cell_of(self.first, self.table.len(), id) else {
             return self.others.swap_remove(&id).is_some();

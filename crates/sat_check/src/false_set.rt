@@ -1,9 +1,11 @@
-//! Sets of false literals, as a mark for each literal and a list of those that are marked.
+//! Sets of false literals, as a bit for each literal and a list of those whose bit is set.
 
-ghost use Rattle.std.specs.Prelude.{◌≡◌, ◌+◌, ◌*◌, ◌<◌, false, [], ◌∷◌, ◌++◌, IfOk, IsTrue, OnOk, OnErr, All, length, reverse, slice_index_or, ℕ};
+ghost use Rattle.sat_check.specs.Bits.{is_set};
+ghost use Rattle.std.specs.Prelude.{◌≡◌, ◌+◌, ◌*◌, ◌<◌, false, [], ◌∷◌, ◌++◌, IfOk, IsTrue, OnOk, OnErr, All, length, reverse, slice_index_or, ℕ, ◌≤◌};
 ghost use Rattle.sat_clause.specs.Literal.{IsWithin, is_among};
 ghost use Rattle.sat_check.specs.FalseStore.{slot_of};
 
+use crate::bits::Bits;
 use sat_clause::{FalseLiterals, Lit};
 use std::alloc::{AllocError, Global};
 use std::marker::Model;
@@ -15,7 +17,7 @@ use std::marker::Model;
 #[derive(Drop)]
 pub(crate) struct FalseSet {
     size: u32,
-    marks: Vec<bool>,
+    marks: Bits,
     trail: Vec<Lit>,
 }
 
@@ -44,18 +46,16 @@ fn slot(l: Lit, size: u32) -> usize
 }
 
 /// Takes the marks of these literals away.
-fn unmark(marks: &mut [bool], lits: &[Lit], size: u32)
-    requires many { length marks.old ≡ 2 * size + 2 }
+fn unmark(marks: &mut Bits, lits: &[Lit], size: u32)
+    requires many { 2 * size + 2 ≤ 64 * length marks.old }
     requires within { All (IsWithin size) lits.now }
     ensures many { length marks.new ≡ length marks.old }
     ensures unmarked { (l : Lit) → IsWithin size l → IsTrue (is_among lits.now l)
-        → slice_index_or marks.new (slot_of l.code) false ≡ false }
-    ensures others { (at : ℕ) → slice_index_or marks.old at false ≡ false
-        → slice_index_or marks.new at false ≡ false }
+        → is_set marks.new (slot_of l.code) ≡ false }
+    ensures others { (at : ℕ) → is_set marks.old at ≡ false → is_set marks.new at ≡ false }
 {
     for l in lits {
-        let at = slot(*l, size);
-        marks[at] = false;
+        marks.clear(slot(*l, size));
     }
 }
 
@@ -65,7 +65,7 @@ impl FalseLiterals for FalseSet {
     ghost falses = { λ s. s.set };
 
     fn is_false(&self, l: Lit) -> bool {
-        self.marks[slot(l, self.size)]
+        self.marks.get(slot(l, self.size))
     }
 }
 
@@ -76,7 +76,7 @@ impl FalseSet {
     {
         Ok(FalseSet {
             size,
-            marks: vec![in alloc; false; 2 * size as usize + 2]?,
+            marks: Bits::new(alloc, 2 * size as usize + 2)?,
             trail: Vec::new(alloc),
         })
     }
@@ -89,19 +89,20 @@ impl FalseSet {
         ensures err { OnErr result (self.new.set ≡ self.old.set) }
     {
         self.trail.push(l)?;
-        let at = slot(l, self.size);
-        self.marks[at] = true;
+        self.marks.set(slot(l, self.size));
         Ok(())
     }
 
-    /// Puts the literals into the set, one after another.
+    /// Puts the literals into the set, the first of them as the newest.
     pub(crate) fn put_all(&mut self, lits: &[Lit]) -> Result<(), AllocError>
         requires { All (IsWithin self.old.size) lits.now }
         ensures size { self.new.size ≡ self.old.size }
-        ensures ok { OnOk result (self.new.set ≡ reverse lits.now ++ self.old.set) }
+        ensures ok { OnOk result (self.new.set ≡ lits.now ++ self.old.set) }
     {
-        for l in lits {
-            self.put(*l)?;
+        let mut left = lits.len();
+        while left > 0 {
+            left -= 1;
+            self.put(lits[left])?;
         }
         Ok(())
     }

@@ -3,6 +3,9 @@
 ghost use Rattle.std.specs.Prelude.{◌≡◌, ◌≤◌, [], All, IfOk, OnOk};
 ghost use Rattle.sat_clause.specs.Literal.{IsWithin};
 ghost use Rattle.sat_clause.specs.Rup.{rup};
+ghost use Rattle.sat_clause.specs.Live.{Live};
+ghost use Rattle.sat_check.specs.Finder.{Finds};
+ghost use Rattle.sat_check.specs.LiveStore.{live_at};
 
 use crate::false_set::FalseSet;
 use crate::live_clauses::LiveClauses;
@@ -19,7 +22,8 @@ fn follow_hints(
     requires size { set.old.size ≡ live.now.vars }
     requires small { set.old.size ≤ 2147483647 }
     ensures size { set.new.size ≡ set.old.size }
-    ensures ok { IfOk result (λ r. r ≡ rup live.now.live set.old.set hints.now) }
+    ensures ok { IfOk result (λ r. (clauses : Live) → Finds (live_at live.now) clauses
+        → r ≡ rup clauses set.old.set hints.now) }
 {
     for (i, hint) in hints.iter().enumerate() {
         let Some(clause) = live.named(*hint) else {
@@ -54,7 +58,8 @@ pub(crate) fn check_clause(
     requires within { All (IsWithin set.old.size) clause.now }
     ensures size { set.new.size ≡ set.old.size }
     ensures empty { OnOk result (set.new.set ≡ []) }
-    ensures ok { IfOk result (λ r. r ≡ rup live.now.live clause.now hints.now) }
+    ensures ok { IfOk result (λ r. (clauses : Live) → Finds (live_at live.now) clauses
+        → r ≡ rup clauses clause.now hints.now) }
 {
     set.put_all(clause)?;
     let fault = follow_hints(live, set, hints)?;

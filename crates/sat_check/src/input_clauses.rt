@@ -1,10 +1,10 @@
 //! The input clauses that are live.
 
-ghost use Rattle.std.specs.Prelude.{◌≡◌, All, IfOk, IfSome, is_some, option_map};
+ghost use Rattle.std.specs.Prelude.{◌≡◌, All, IfOk, IfSome, None, is_some, option_map};
 ghost use Rattle.sat_clause.specs.Literal.{IsWithin};
-ghost use Rattle.sat_clause.specs.Live.{clause_at, without, SameLive};
 ghost use Rattle.sat_clause.specs.Judge.{inputs as inputs_of};
-ghost use Rattle.sat_check.specs.InputStore.{position_of};
+ghost use Rattle.sat_check.specs.InputStore.{input_at, position_of};
+ghost use Rattle.sat_check.specs.Finder.{Changes, Finds};
 
 use sat_clause::{Formula, Lit};
 use std::alloc::{AllocError, Global};
@@ -19,14 +19,14 @@ pub(crate) struct InputClauses<'a> {
 }
 
 impl<'a> Model for InputClauses<'a> {
-    ghost use Rattle.sat_check.specs.InputStore.{IsInputStore, marked};
-    ghost use Rattle.sat_check.specs.LiveStore.{LiveState};
+    ghost use Rattle.sat_check.specs.InputStore.{InputState, IsInputStore};
 
-    ghost Value = { LiveState };
+    ghost Value = { InputState };
 
     ghost view = { λ c. record {
       vars = c.formula.now.cnf.vars;
-      live = marked c.live.items c.formula.now.cnf.clauses;
+      marks = c.live.items;
+      clauses = c.formula.now.cnf.clauses;
     } };
 
     ghost invariant = { λ c. IsInputStore c.live.items c.formula.now.cnf.clauses };
@@ -50,7 +50,7 @@ impl<'a> InputClauses<'a> {
     /// All clauses of the formula.
     pub(crate) fn all(alloc: Global, formula: &'a Formula) -> Result<InputClauses<'a>, AllocError>
         ensures vars { IfOk result (λ c. c.vars ≡ formula.now.cnf.vars) }
-        ensures live { IfOk result (λ c. c.live ≡ inputs_of formula.now.cnf) }
+        ensures live { IfOk result (λ c. Finds (input_at c) (inputs_of formula.now.cnf)) }
     {
         Ok(InputClauses {
             formula,
@@ -60,7 +60,7 @@ impl<'a> InputClauses<'a> {
 
     /// The live clause with an id.
     pub(crate) fn get(&self, id: u64) -> Option<&'a [Lit]>
-        ensures value { option_map (λ c. c.now) result ≡ clause_at self.now.live id }
+        ensures value { option_map (λ c. c.now) result ≡ input_at self.now id }
         ensures within { IfSome result (λ c. All (IsWithin self.now.vars) c.now) }
     {
         let Some(at) = live_position(&self.live, id) else {
@@ -72,8 +72,8 @@ impl<'a> InputClauses<'a> {
     /// Takes out the clause with an id, and says whether it was live.
     pub(crate) fn take_out(&mut self, id: u64) -> bool
         ensures vars { self.new.vars ≡ self.old.vars }
-        ensures found { result ≡ is_some (clause_at self.old.live id) }
-        ensures live { SameLive self.new.live (without self.old.live id) }
+        ensures found { result ≡ is_some (input_at self.old id) }
+        ensures live { Changes (input_at self.old) (input_at self.new) id None }
     {
         let Some(at) = live_position(&self.live, id) else {
             return false;

@@ -1,6 +1,7 @@
 //! A checker of logs: it replays the hints of each step, and searches nothing.
 #![tactic(auto)]
 
+mod bits;
 mod checker;
 mod derived_clauses;
 mod false_set;

@@ -2,7 +2,9 @@
 
 ghost use Rattle.std.specs.Prelude.{◌≡◌, ◌≤◌, All, IfOk, IfSome, IsTrue, IsNone, OnOk, is_some, option_map};
 ghost use Rattle.sat_clause.specs.Literal.{IsWithin};
-ghost use Rattle.sat_clause.specs.Live.{named as named_of, put as put_in, SameLive};
+ghost use Rattle.sat_clause.specs.Live.{Live, put as put_in};
+ghost use Rattle.sat_check.specs.Finder.{Finds, named_by};
+ghost use Rattle.sat_check.specs.LiveStore.{live_at};
 ghost use Rattle.sat_clause.specs.Judge.{inputs as inputs_of, take_out as taken_out, erase as erased, erase_fault};
 
 use crate::derived_clauses::DerivedClauses;
@@ -13,8 +15,8 @@ use std::marker::Model;
 
 /// The live clauses of a formula and a log, which it borrows.
 ///
-/// An input clause is found by its mark until it is deleted, or a step adds another clause under its
-/// id, which then stands among the derived ones.
+/// An input clause is found by its mark until it is deleted, or a step adds another clause under
+/// its id, which then stands among the derived ones.
 #[derive(Drop)]
 pub(crate) struct LiveClauses<'a> {
     vars: u32,
@@ -23,14 +25,16 @@ pub(crate) struct LiveClauses<'a> {
 }
 
 impl<'a> Model for LiveClauses<'a> {
-    ghost use Rattle.std.specs.Prelude.{◌≤◌, ◌++◌};
-    ghost use Rattle.sat_check.specs.LiveStore.{AllWithin, LiveState};
+    ghost use Rattle.std.specs.Prelude.{◌≤◌};
+    ghost use Rattle.sat_check.specs.DerivedStore.{derived_at};
+    ghost use Rattle.sat_check.specs.Finder.{AllWithin};
+    ghost use Rattle.sat_check.specs.LiveStore.{LiveState};
 
     ghost Value = { LiveState };
 
-    ghost view = { λ c. record { vars = c.vars; live = c.inputs.live ++ c.derived } };
+    ghost view = { λ c. record { vars = c.vars; inputs = c.inputs; derived = c.derived } };
 
-    ghost invariant = { λ c. (c.inputs.vars ≤ c.vars) × AllWithin c.vars c.derived };
+    ghost invariant = { λ c. (c.inputs.vars ≤ c.vars) × AllWithin c.vars (derived_at c.derived) };
 }
 
 impl<'a> LiveClauses<'a> {
@@ -44,7 +48,7 @@ impl<'a> LiveClauses<'a> {
     ) -> Result<LiveClauses<'a>, AllocError>
         requires { formula.now.cnf.vars ≤ vars }
         ensures vars { IfOk result (λ c. c.vars ≡ vars) }
-        ensures live { IfOk result (λ c. SameLive c.live (inputs_of formula.now.cnf)) }
+        ensures live { IfOk result (λ c. Finds (live_at c) (inputs_of formula.now.cnf)) }
     {
         let first = formula.len() as u64 + 1;
         Ok(LiveClauses {
@@ -56,7 +60,7 @@ impl<'a> LiveClauses<'a> {
 
     /// The live clause that a hint names. A number that is zero or negative names none.
     pub(crate) fn named(&self, hint: i64) -> Option<&'a [Lit]>
-        ensures value { option_map (λ c. c.now) result ≡ named_of self.now.live hint }
+        ensures value { option_map (λ c. c.now) result ≡ named_by (live_at self.now) hint }
         ensures within { IfSome result (λ c. All (IsWithin self.now.vars) c.now) }
     {
         if hint <= 0 {
@@ -73,7 +77,8 @@ impl<'a> LiveClauses<'a> {
     pub(crate) fn put(&mut self, id: u32, clause: &'a [Lit]) -> Result<(), AllocError>
         requires { All (IsWithin self.old.vars) clause.now }
         ensures vars { self.new.vars ≡ self.old.vars }
-        ensures live { OnOk result (SameLive self.new.live (put_in self.old.live id clause.now)) }
+        ensures live { OnOk result ((live : Live) → Finds (live_at self.old) live
+            → Finds (live_at self.new) (put_in live id clause.now)) }
     {
         let id = id as u64;
         let _ = self.inputs.take_out(id);
@@ -84,8 +89,9 @@ impl<'a> LiveClauses<'a> {
     /// Takes out the clause that a deletion names, and says whether it was live.
     pub(crate) fn take_out(&mut self, id: i64) -> bool
         ensures vars { self.new.vars ≡ self.old.vars }
-        ensures found { result ≡ is_some (named_of self.old.live id) }
-        ensures live { IsTrue result → SameLive self.new.live (taken_out self.old.live id) }
+        ensures found { result ≡ is_some (named_by (live_at self.old) id) }
+        ensures live { IsTrue result → (live : Live) → Finds (live_at self.old) live
+            → Finds (live_at self.new) (taken_out live id) }
     {
         if id <= 0 {
             return false;
@@ -99,8 +105,10 @@ impl<'a> LiveClauses<'a> {
     /// Takes out the clauses with these ids, in order, up to the first that is not live.
     pub(crate) fn erase(&mut self, ids: &[i64]) -> Option<Cause>
         ensures vars { self.new.vars ≡ self.old.vars }
-        ensures fault { result ≡ erase_fault self.old.live ids.now }
-        ensures live { IsNone result → SameLive self.new.live (erased self.old.live ids.now) }
+        ensures fault { (live : Live) → Finds (live_at self.old) live
+            → result ≡ erase_fault live ids.now }
+        ensures live { IsNone result → (live : Live) → Finds (live_at self.old) live
+            → Finds (live_at self.new) (erased live ids.now) }
     {
         for id in ids {
             if !self.take_out(*id) {

@@ -2,7 +2,7 @@
 
 ghost use Rattle.std.specs.Prelude.{◌≤◌, All};
 ghost use Rattle.sat_clause.specs.Literal.{IsLiteral, IsWithin};
-ghost use Rattle.sat_check.specs.LiveStore.{HasVars};
+ghost use Rattle.sat_check.specs.Finder.{HasVars};
 
 use sat_clause::{Formula, Lit, Log};
 

@@ -2,15 +2,9 @@
 use Rattle.std.proofs.Common.{◌≡◌, ℕ, zero, suc, ◌+◌, ◌-◌, ◌<◌, ◌≤◌, List, [], ◌∷◌, ◌++◌, length, get_or, drop, Some, slice_get, slice_range, refl, sym, ap, arith}
 use Rattle.std.proofs.lemmas.List.{take-append-le, drop-append-le}
 use Rattle.std.proofs.Math.Seq.{drop-append_seam, take-length}
-use Rattle.std.proofs.Common.{length-drop, None, false, subst, All}
-use Rattle.std.specs.Prelude.{is_some}
-use Rattle.std.proofs.lemmas.Bool.{both_ways}
+use Rattle.std.proofs.Common.{length-drop, subst, All}
 use Rattle.std.proofs.lemmas.List.Elements.{All-take, All-drop}
 use Rattle.sat_clause.specs.Parts.{parts_from, RiseTo, start_of}
-
--- an option is not both
-pub none_is_not_some : {X : Type 0} {x : X} → None ≡ Some x → ⊥
-none_is_not_some e = absurd (both_ways false refl (ap is_some e))
 
 pub length-parts_from : {X : Type 0} (start : ℕ) (items : List X) (ends : List ℕ) →
     length (parts_from start items ends) ≡ length ends
@@ -89,7 +83,7 @@ start_of-before start ends (suc i) within some =
 pub parts-all : {X : Type 0} (P : X → Type 0) (start : ℕ) (items : List X) (ends : List ℕ) →
     All P items → (i : ℕ) (part : List X) → slice_get (parts_from start items ends) i ≡ Some part →
     All P part
-parts-all P start items [] all i part is = absurd (none_is_not_some is)
+parts-all P start items [] all i part is = cc
 parts-all P start items (end ∷ ends) all zero part is =
     let same : slice_range items start end ≡ part = cc in
     subst (λ (xs : List _). All P xs) same (All-take P (end - start) (drop start items) (All-drop P start items all))

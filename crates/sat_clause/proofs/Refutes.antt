@@ -1,6 +1,6 @@
 -- Where a log is accepted, no list of truth values satisfies the formula.
-use Rattle.std.specs.Prelude.{⊤, if◌then◌else◌, is_some}
-use Rattle.std.proofs.Common.{◌≡◌, ℕ, zero, suc, ℤ, pos, negsuc, neg_ℤ, Bool, true, false, cond, ◌||◌, ◌==◌, List, [], ◌∷◌, None, Some, refl, sym, ap, ◌∙◌, subst, slice_index_or, All, length, ◌<◌, arith, inl, inr}
+use Rattle.std.specs.Prelude.{⊤, if◌then◌else◌}
+use Rattle.std.proofs.Common.{◌≡◌, ℕ, zero, suc, ℤ, pos, negsuc, neg_ℤ, Bool, true, false, cond, ◌||◌, ◌==◌, List, [], ◌∷◌, None, Some, refl, sym, ◌∙◌, subst, slice_index_or, All, length, ◌<◌, arith, inl, inr}
 use Rattle.std.specs.List.{list_any}
 use Rattle.std.specs.Ordering.{int_eq}
 use Rattle.std.proofs.lemmas.Bool.{or_cases, or_parts, or_left, or_right, both_ways}
@@ -17,9 +17,6 @@ use Rattle.sat_clause.specs.Rup.{follow, lead_on, open_literals, reading_by, rea
 use Rattle.sat_clause.specs.Step.{Step, Added, Erased}
 use Rattle.sat_clause.specs.Judge.{judge_from, fault, after, erase, take_out, is_empty_clause, inputs, judge_step, Accepts, Accepted, Refused}
 use Rattle.sat_clause.proofs.LiveLaws.{clause_at-without}
-
-some_is_not_none : {X : Type 0} {x : X} → Some x ≡ None → ⊥
-some_is_not_none e = absurd (both_ways false refl (sym (ap is_some e)))
 
 -- a literal of the list is true
 abbrev any_true : List Bool → List Lit → Bool
@@ -114,23 +111,23 @@ reading_by_true values set (l ∷ m ∷ ls) h = tt
 -- a clause that is named is live, so it is true
 named_true : (values : List Bool) (live : Live) (h : ℤ) → AllTrue values live → (clause : Clause) →
     named live h ≡ Some clause → any_true values clause ≡ true
-named_true values live (pos zero) all clause is = absurd (some_is_not_none (sym is))
+named_true values live (pos zero) all clause is = cc
 named_true values live (pos (suc n)) all clause is = all (suc n) clause is
-named_true values live (negsuc n) all clause is = absurd (some_is_not_none (sym is))
+named_true values live (negsuc n) all clause is = cc
 
 -- good hints do not lead on from false literals where each live clause is true
 rup_sound : (values : List Bool) (live : Live) → AllTrue values live →
     (set : List Lit) (hints : List ℤ) → any_true values set ≡ false → rup live set hints ≡ None → ⊥
-rup_sound values live all set [] none good = some_is_not_none good
+rup_sound values live all set [] none good = cc
 rup_sound values live all set (h ∷ hints) none good =
     elim (named live h) as (λ o. ((c : Clause) → o ≡ Some c → any_true values c ≡ true) → follow set o hints (λ l. rup live (negation l ∷ set) hints) ≡ None → ⊥) [
-      | None ↦ λ _ e. some_is_not_none e
+      | None ↦ λ _ e. cc
       | Some clause ↦ λ true_if.
           elim (reading_of set clause) as (λ r. IsReadingOfTrue values r → lead_on r hints (λ l. rup live (negation l ∷ set) hints) ≡ None → ⊥) [
             | Conflict ↦ λ no _. no
             | Unit l ↦ λ is e. rup_sound values live all (negation l ∷ set) hints (rw (not_both values l.code is) none) e
-            | Satisfied ↦ λ _ e. some_is_not_none e
-            | Unresolved ↦ λ _ e. some_is_not_none e
+            | Satisfied ↦ λ _ e. cc
+            | Unresolved ↦ λ _ e. cc
           ] (reading_by_true values set (open_literals set clause) (open_true values set clause none ∙ true_if clause refl))
     ] (named_true values live h all) good
 
@@ -140,7 +137,7 @@ take_out_true : (values : List Bool) (live : Live) (id : ℤ) → AllTrue values
 take_out_true values live (pos id) all n clause is =
     let answer = clause_at-without live id n in
     elim (id == n) as (λ b. clause_at (without live id) n ≡ cond b None (clause_at live n) → any_true values clause ≡ true) [
-      | true ↦ λ e. absurd (some_is_not_none (sym is ∙ e))
+      | true ↦ λ e. let bad : Some clause ≡ None = sym is ∙ e in cc
       | false ↦ λ e. all n clause (sym e ∙ is)
     ] answer
 take_out_true values live (negsuc id) all n clause is = all n clause is
@@ -204,7 +201,7 @@ any_of values (m ∷ ls) (suc k) l within is h = or_right _ _ (any_of values ls 
 -- the clauses of a satisfied formula are true under whatever ids
 numbered_true : (values : List Bool) (first : ℕ) (clauses : List Clause) →
     All (IsTrueClause values) clauses → AllTrue values (numbered first clauses)
-numbered_true values first [] each n clause is = absurd (some_is_not_none (sym is))
+numbered_true values first [] each n clause is = cc
 numbered_true values first (c ∷ clauses) each n clause is =
     elim (n == first) as (λ b. cond b (Some c) (clause_at (numbered (suc first) clauses) n) ≡ Some clause → any_true values clause ≡ true) [
       | true ↦ λ e. let same : c ≡ clause = cc in

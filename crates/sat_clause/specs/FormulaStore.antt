@@ -1,6 +1,7 @@
 -- A formula with its room: what contracts see, and how it lies in two vectors.
 use Rattle.std.specs.Prelude.{ℕ, ◌+◌, ◌^◌, ◌<◌, ◌≤◌, max, All, Vec, vec_len, vec_capacity}
 use Rattle.std.specs.Global.{Global}
+use Rattle.sat_clause.specs.declared.limits.TheConstants.{VARIABLE_LIMIT}
 use Rattle.sat_clause.specs.declared.literal.Lit.{Lit}
 use Rattle.sat_clause.specs.Literal.{IsWithin}
 use Rattle.sat_clause.specs.Formula.{Cnf}
@@ -26,7 +27,7 @@ pub record IsFormulaStore
     : Type 0 where
   pub rise : RiseTo (vec_len lits) 0 ends.items
   pub within : All (IsWithin vars) lits.items
-  pub few_vars : vars ≤ 100000000
+  pub few_vars : vars ≤ VARIABLE_LIMIT
   pub few_clauses : vec_len ends + clause_room < 2 ^ 32
   pub clauses_fit : vec_len ends + clause_room ≤ vec_capacity ends
   pub few_lits : vec_len lits + lit_room < 2 ^ 32

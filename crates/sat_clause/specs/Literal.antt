@@ -2,6 +2,7 @@
 use Rattle.std.specs.Prelude.{ℕ, zero, suc, ◌≤◌, ℤ, pos, negsuc, neg_ℤ, nat_abs, Bool, false, true, List}
 use Rattle.std.specs.Ordering.{int_eq}
 use Rattle.std.specs.List.{list_any}
+use Rattle.sat_clause.specs.declared.limits.TheConstants.{LITERAL_LIMIT}
 use Rattle.sat_clause.specs.declared.literal.Lit.{Lit}
 
 -- a clause is its literals in order, and says that one of them is true
@@ -40,7 +41,7 @@ IsWithin n l = (1 ≤ variable l) × (variable l ≤ n)
 
 -- the signed number is not zero, and its negation fits 32 bits too
 abbrev pub IsLiteral : Lit → Type 0
-IsLiteral l = IsWithin 2147483647 l
+IsLiteral l = IsWithin LITERAL_LIMIT l
 
 -- the literal is among these
 abbrev pub is_among : List Lit → Lit → Bool

@@ -1,5 +1,5 @@
 -- The live clauses, a finite map from ids to clauses: of the entries with an id the first counts.
-use Rattle.std.specs.Prelude.{◌≡◌, ℕ, zero, suc, ◌==◌, not, ℤ, pos, negsuc, List, [], ◌∷◌, Option, None, filter}
+use Rattle.std.specs.Prelude.{ℕ, zero, suc, ◌==◌, not, ℤ, pos, negsuc, List, [], ◌∷◌, Option, None, filter}
 use Rattle.std.specs.Map.{lookup}
 use Rattle.sat_clause.specs.Literal.{Clause}
 
@@ -29,7 +29,3 @@ named live (negsuc n) = None
 abbrev pub numbered : ℕ → List Clause → Live
 numbered id [] = []
 numbered id (clause ∷ clauses) = (id, clause) ∷ numbered (suc id) clauses
-
--- two maps have the same clauses
-abbrev pub SameLive : Live → Live → Type 0
-SameLive a b = (id : ℕ) → clause_at a id ≡ clause_at b id

@@ -5,6 +5,7 @@ ghost use Rattle.sat_clause.specs.Literal.{IsWithin};
 ghost use Rattle.sat_clause.specs.FormulaStore.{reserved};
 
 use crate::Lit;
+use crate::limits::{ID_LIMIT, VARIABLE_LIMIT};
 use crate::parts::part;
 use std::alloc::{AllocError, Global};
 use std::marker::Model;
@@ -56,7 +57,8 @@ impl Formula {
     }
 
     /// Sets the number of variables, and makes room for so many more clauses with so many literals
-    /// in all. Room that is there already stays, so two calls make room for the larger number of each.
+    /// in all. Room that is there already stays, so two calls make room for the larger number of
+    /// each.
     ///
     /// A formula with clauses can't get fewer variables, and none has more than 100,000,000.
     ///
@@ -64,9 +66,9 @@ impl Formula {
     /// Where memory is short, or the literals in all would be more than 4,294,967,295; the formula
     /// is then as it was.
     pub fn reserve(&mut self, vars: u32, clauses: u32, lits: u64) -> Result<(), AllocError>
-        requires few_vars { vars ≤ 100000000 }
+        requires few_vars { vars ≤ VARIABLE_LIMIT }
         requires no_fewer { self.old.cnf.clauses ≢ [] → self.old.cnf.vars ≤ vars }
-        requires few_clauses { length self.old.cnf.clauses + clauses ≤ 4294967295 }
+        requires few_clauses { length self.old.cnf.clauses + clauses ≤ ID_LIMIT }
         ensures ok { OnOk result (self.new ≡ reserved self.old vars clauses lits) }
         ensures err { OnErr result (self.new ≡ self.old) }
     {
@@ -103,7 +105,7 @@ impl Formula {
     /// The number of variables, which are 1, 2 and so on. The literals of all clauses are of these.
     pub fn vars(&self) -> u32
         ensures value { result ≡ self.now.cnf.vars }
-        ensures few { result ≤ 100000000 }
+        ensures few { result ≤ VARIABLE_LIMIT }
         ensures within { All (All (IsWithin self.now.cnf.vars)) self.now.cnf.clauses }
     {
         self.vars

@@ -4,6 +4,7 @@
 mod cause;
 mod formula;
 mod laws;
+mod limits;
 mod literal;
 mod log;
 mod parts;
@@ -15,6 +16,7 @@ mod truth;
 pub use cause::Cause;
 pub use formula::Formula;
 pub use laws::{accepted_is_unsat, different_clauses_are_few, new_clauses_are_few};
+pub use limits::{CLAUSE_LIMIT, ID_LIMIT, LITERAL_LIMIT, VARIABLE_LIMIT};
 pub use literal::Lit;
 pub use log::{Log, StepView};
 pub use reading::{FalseLiterals, Reading, read_clause};

@@ -4,6 +4,8 @@ ghost use Rattle.std.specs.Prelude.{◌≡◌, ◌≤◌, length};
 ghost use Rattle.sat_clause.specs.Literal.{IsLiteral, IsWithin, is_positive as is_positive_of, negation as negation_of, positive as positive_of, variable as variable_of};
 ghost use Rattle.sat_clause.specs.Formula.{makes_true};
 
+use crate::limits::LITERAL_LIMIT;
+
 /// A literal: a variable, or its negation.
 ///
 /// The type itself keeps no fact. Calls that take literals ask for numbers that are not 0.
@@ -16,7 +18,7 @@ pub struct Lit {
 impl Lit {
     /// The literal of a variable that is not negated.
     pub fn positive(variable: u32) -> Lit
-        requires { variable ≤ 2147483647 }
+        requires { variable ≤ LITERAL_LIMIT }
         ensures { result ≡ positive_of variable }
     {
         Lit {

@@ -5,6 +5,7 @@ ghost use Rattle.sat_clause.specs.Literal.{IsWithin, is_among};
 ghost use Rattle.sat_clause.specs.Rup.{reading_of};
 
 use crate::Lit;
+use crate::limits::LITERAL_LIMIT;
 
 /// What a clause says where some literals are false. Its other literals are open, and one that
 /// stands in it twice counts once.
@@ -36,7 +37,7 @@ pub trait FalseLiterals {
 
 /// What the clause says, where these literals are false.
 pub fn read_clause<F: FalseLiterals>(literals: &F, clause: &[Lit]) -> Reading
-    requires few { F.most literals.now ≤ 2147483647 }
+    requires few { F.most literals.now ≤ LITERAL_LIMIT }
     requires within { All (IsWithin (F.most literals.now)) clause.now }
     ensures value { result ≡ reading_of (F.falses literals.now) clause.now }
     ensures within { (l : Lit) → result ≡ Reading.Unit l → IsWithin (F.most literals.now) l }

@@ -85,64 +85,23 @@ fn values_satisfy_a_formula(rt: HostRuntime) -> Result<(), Fail> {
     Ok(())
 }
 
-/// A step, as numbers.
-#[derive(Clone, Copy)]
-struct Row<'a> {
-    id: u32,
-    erase: bool,
-    codes: &'a [i32],
-    ids: &'a [i64],
-}
-
-/// The log of these steps.
-fn log_of(rt: &impl Abort, alloc: Global, rows: &[Row]) -> Result<Log, AllocError> {
-    let mut log = Log::new(alloc);
-    for row in rows {
-        let lits = literals(rt, alloc, 2147483647, row.codes)?;
-        log.reserve(1, 100)?;
-        assert!(rt; lits.len() < 50);
-        assert!(rt; row.ids.len() < 50);
-        if row.erase {
-            log.erase(row.id, row.ids);
-        } else {
-            log.add(row.id, &lits, row.ids);
-        }
-    }
-    Ok(log)
-}
-
 #[test]
 fn log_is_read_back(rt: HostRuntime) -> Result<(), Fail> {
-    let rows = [
-        Row {
-            id: 4,
-            erase: false,
-            codes: &[-1, 2],
-            ids: &[3, 1],
-        },
-        Row {
-            id: 4,
-            erase: true,
-            codes: &[],
-            ids: &[2, 9, -7],
-        },
-        Row {
-            id: 1,
-            erase: false,
-            codes: &[2147483647],
-            ids: &[],
-        },
-    ];
-    let log = log_of(&rt, rt.alloc(), &rows)?;
-    assert_eq!(rt; log.len(), 3);
-    for i in 0..3u64 {
-        assert!(rt; i < log.len());
-        let step = log.step(i);
-        let row = rows[i as usize];
-        assert_eq!(rt; (step.id, step.erase), (row.id, row.erase), "step {i}");
-        assert!(rt; are(step.lits, row.codes), "step {i}");
-        assert_eq!(rt; step.hints, row.ids, "step {i}");
-    }
+    let alloc = rt.alloc();
+    let lits = literals(&rt, alloc, 2147483647, &[-1, 2147483647])?;
+    assert!(rt; lits.len() == 2);
+    let mut log = Log::new(alloc);
+    log.reserve(2, 7)?;
+    log.add(4, &lits, &[3, 1]);
+    log.erase(4, &[2, 9, -7]);
+    assert!(rt; log.len() == 2);
+    let added = log.step(0);
+    assert_eq!(rt; (added.id, added.erase), (4, false));
+    assert!(rt; are(added.lits, &[-1, 2147483647]));
+    assert_eq!(rt; added.hints, [3, 1].as_slice());
+    let erased = log.step(1);
+    assert_eq!(rt; (erased.id, erased.erase), (4, true));
+    assert_eq!(rt; erased.hints, [2, 9, -7].as_slice());
     Ok(())
 }
 
@@ -150,7 +109,8 @@ fn log_is_read_back(rt: HostRuntime) -> Result<(), Fail> {
 fn literals_and_causes(rt: HostRuntime) {
     let l = Lit { code: -2 };
     assert_eq!(rt; l.variable(), 2);
-    assert_eq!(rt; l.negation(), Lit { code: 2 });
+    assert_eq!(rt; l.negation(), Lit::positive(2));
+    assert!(rt; !l.is_positive());
     assert!(rt; l.is_true(&[false, false]));
     assert_eq!(rt; Cause::NoEmptyClause.number(), 7);
 }

@@ -17,7 +17,7 @@ use Rattle.sat_clause.specs.Rup.{Reads, reading_of}
 use Rattle.sat_core.specs.declared.entry.Entry.{Entry}
 use Rattle.sat_core.specs.Lesson.{decided, from_decision, from_entry, negated_decisions}
 use Rattle.sat_core.proofs.LessonLemmas.{Agree, AgreesWith, decisions_agree, decisions_false}
-use Rattle.sat_core.proofs.LogLemmas.{slice_get_front, slice_get_last}
+use Rattle.list_laws.proofs.Places.{get-front, get-last}
 use Rattle.sat_clause.specs.Literal.{Clause, IsWithin, is_among, negation, variable}
 use Rattle.sat_clause.specs.Trail.{IsOnce, IsOpen, falses}
 use Rattle.sat_clause.specs.Settled.{IsQuiet, IsSettled}
@@ -82,7 +82,7 @@ cause_push clauses c p older l (Some i) free p_free other has agrees cause =
     kept None is none = absurd none
     kept (Some x) is reads =
         let within = slice_get_within clauses i x is in
-        let same : slice_get (clauses ++ c ∷ []) i ≡ Some x = slice_get_front clauses c i (λ last. absurd (omega (arith, within, last))) ∙ is in
+        let same : slice_get (clauses ++ c ∷ []) i ≡ Some x = get-front clauses c i (λ last. absurd (omega (arith, within, last))) ∙ is in
         rw same reads
 
 -- all entries do
@@ -197,7 +197,7 @@ pub learned_caused : (clauses : List Clause) (older : List Entry) (l : Lit) (n :
     AreCaused (clauses ++ lesson_of older l ∷ []) (record { lit = negation l; reason = Some n } ∷ older)
 learned_caused clauses older l n once free caused is =
     let agree = (decisions_agree (record { lit = l; reason = None } ∷ older) (free, once)).1 in (
-      rw (slice_get_last clauses (lesson_of older l) n is) (lesson_implies older l free),
+      rw (get-last clauses (lesson_of older l) n is) (lesson_implies older l free),
       causes_push clauses (lesson_of older l) (negation l) older once (open_negation (literals older) l free)
           (Contains-push (negated_decisions older) (negation l)) agree caused,
     )

@@ -1,10 +1,11 @@
 -- One more step of a log.
-use Rattle.std.proofs.Common.{inl, inr, ◌⊎◌, ◌≡◌, ◌≢◌, ◌==◌, ◌<◌, ◌+◌, ℕ, zero, suc, ℤ, true, false, cond, List, [], ◌∷◌, ◌++◌, length, take, fold, None, Some, slice_get, All, refl, sym, ap, ◌∙◌, subst, arith}
+use Rattle.std.proofs.Common.{inl, inr, ◌≡◌, ◌≢◌, ◌==◌, ◌+◌, ℕ, zero, suc, ℤ, true, false, cond, List, [], ◌∷◌, ◌++◌, length, take, fold, None, Some, slice_get, All, refl, sym, ap, ◌∙◌, subst, arith}
 use Rattle.std.proofs.lemmas.Bool.{both_ways, eqb-true, eq-eqb, ne_eqb}
 use Rattle.std.proofs.lemmas.List.{take-append-le, take_at}
 use Rattle.std.proofs.lemmas.List.Elements.{All-nil, All-cons}
 use Rattle.std.proofs.lemmas.List.Sums.{fold_push}
 use Rattle.std.proofs.lemmas.Option.{slice_get_within}
+use Rattle.list_laws.proofs.Places.{get-cases, get-front, get-last}
 use Rattle.sat_clause.specs.declared.cause.Cause.{Cause}
 use Rattle.sat_clause.specs.declared.cause.Cause.TheVariants.{NoEmptyClause}
 use Rattle.sat_clause.specs.Formula.{Cnf}
@@ -12,36 +13,11 @@ use Rattle.sat_clause.specs.Live.{Live, clause_at, numbered, put}
 use Rattle.sat_clause.specs.Step.{Step, Added, Erased}
 use Rattle.sat_clause.specs.Judge.{Accepted, Refused, after, inputs, is_empty_clause, judge_from, judge_step}
 use Rattle.sat_clause.specs.Learned.{AddsFrom, EachAdded, Sparse, deletions}
+use Rattle.sat_clause.proofs.LiveLaws.{inputs_at, inputs_none}
 use Rattle.sat_core.specs.SearchLog.{AreNumbered, EndsAtEmpty, added_count}
 use Rattle.sat_core.specs.Underway.{AreGood, live_after}
 use Rattle.sat_core.specs.SearchStore.{AreLive}
 use Rattle.sat_clause.specs.Literal.{Clause}
-
--- the last of a list with one more
-pub slice_get_last : {X : Type 0} (xs : List X) (x : X) (i : ℕ) → i ≡ length xs → slice_get (xs ++ x ∷ []) i ≡ Some x
-slice_get_last [] x zero is = refl
-slice_get_last [] x (suc i) is = absurd (omega arith)
-slice_get_last (y ∷ xs) x zero is = absurd (omega arith)
-slice_get_last (y ∷ xs) x (suc i) is = slice_get_last xs x i (omega arith)
-
--- the others of a list with one more
-pub slice_get_front : {X : Type 0} (xs : List X) (x : X) (i : ℕ) → i ≢ length xs → slice_get (xs ++ x ∷ []) i ≡ slice_get xs i
-slice_get_front [] x zero other = absurd (other refl)
-slice_get_front [] x (suc i) other = refl
-slice_get_front (y ∷ xs) x zero other = refl
-slice_get_front (y ∷ xs) x (suc i) other = slice_get_front xs x i (λ same. other (ap suc same))
-
--- a position is one of the list or the last of the longer list
-pub slice_get_cases : {X : Type 0} (xs : List X) (x y : X) (i : ℕ) → slice_get (xs ++ x ∷ []) i ≡ Some y →
-    ((i ≡ length xs) × (x ≡ y)) ⊎ (slice_get xs i ≡ Some y)
-slice_get_cases [] x y zero is = inl (refl, cc)
-slice_get_cases [] x y (suc i) is = cc
-slice_get_cases (z ∷ xs) x y zero is = inr is
-slice_get_cases (z ∷ xs) x y (suc i) is =
-    elim (slice_get_cases xs x y i is) [
-      | inl last ↦ inl (ap suc last.0, last.1)
-      | inr earlier ↦ inr earlier
-    ]
 
 -- steps without a refused one, and more of them
 pub good_behind : (live : Live) (log more : List Step) → AreGood live log → AreGood (fold after live log) more →
@@ -70,25 +46,8 @@ good_accepted n live (step ∷ log) id hints good =
     ])
 
 -- the input clauses are live at the start
-numbered_at : (n id i : ℕ) (clauses : List Clause) → id ≡ n + i → clause_at (numbered n clauses) id ≡ slice_get clauses i
-numbered_at n id i [] is = refl
-numbered_at n id zero (c ∷ clauses) is =
-    let here : (id == n) ≡ true = eq-eqb id n (omega arith) in rw here refl
-numbered_at n id (suc i) (c ∷ clauses) is =
-    let other : (id == n) ≡ false = ne_eqb id n (omega arith) in
-    rw other (numbered_at (suc n) id i clauses (omega arith))
-
-numbered_below : (n id : ℕ) (clauses : List Clause) → id < n → clause_at (numbered n clauses) id ≡ None
-numbered_below n id [] below = refl
-numbered_below n id (c ∷ clauses) below =
-    let other : (id == n) ≡ false = ne_eqb id n (omega arith) in
-    rw other (numbered_below (suc n) id clauses (omega arith))
-
 pub live_start : (formula : Cnf) → AreLive formula.clauses (inputs formula)
-live_start formula = record {
-  at = λ i. numbered_at 1 (suc i) i formula.clauses (omega arith);
-  none = numbered_below 1 0 formula.clauses (omega arith);
-}
+live_start formula = record { at = inputs_at formula; none = inputs_none formula }
 
 -- one more clause is live
 pub live_push : (clauses : List Clause) (live : Live) (id : ℕ) (clause : Clause) → AreLive clauses live →
@@ -96,9 +55,9 @@ pub live_push : (clauses : List Clause) (live : Live) (id : ℕ) (clause : Claus
 live_push clauses live id clause are is = record {
   at = λ i.
       elim (suc i == id) as (λ b. (suc i == id) ≡ b → cond b (Some clause) (clause_at live (suc i)) ≡ slice_get (clauses ++ clause ∷ []) i) [
-        | true ↦ λ same. let last = eqb-true (suc i) id same in sym (slice_get_last clauses clause i (omega arith))
+        | true ↦ λ same. let last = eqb-true (suc i) id same in sym (get-last clauses clause i (omega arith))
         | false ↦ λ differ. are.at i
-            ∙ sym (slice_get_front clauses clause i (λ same. both_ways _ differ (eq-eqb (suc i) id (omega arith))))
+            ∙ sym (get-front clauses clause i (λ same. both_ways _ differ (eq-eqb (suc i) id (omega arith))))
       ] refl;
   none = let other : (0 == id) ≡ false = ne_eqb 0 id (omega arith) in rw other are.none;
 }
@@ -112,7 +71,7 @@ pub EachAdded-push : (P : Live → Clause → List ℤ → Type 0) (formula : Cn
     EachAdded P formula log → P (live_after formula log) clause hints →
     EachAdded P formula (log ++ Added id clause hints ∷ [])
 EachAdded-push P formula log id clause hints each more k i c h is =
-    elim (slice_get_cases log (Added id clause hints) (Added i c h) k is) [
+    elim (get-cases log (Added id clause hints) (Added i c h) k is) [
       | inl last ↦
           let same : clause ≡ c = cc in
           let hints_same : hints ≡ h = cc in

@@ -20,30 +20,18 @@ falsified_self l =
       | false ↦ λ is. is
     ] refl
 
--- and its negation is
-falsified_negation : (l : Lit) → 1 ≤ variable l → is_falsified (Some (is_positive l)) (negation l) ≡ true
-falsified_negation l some =
-    elim (is_positive l) as (λ b. is_positive l ≡ b → is_falsified (Some b) (negation l) ≡ true) [
-      | true ↦ λ is. rw (positive_negation l some, is) refl
-      | false ↦ λ is. rw (positive_negation l some, is) refl
-    ] refl
+-- of a literal and its negation a value makes one false
+falsified_opposite : (l : Lit) (value : Bool) → 1 ≤ variable l →
+    is_falsified (Some value) (negation l) ≡ not (is_falsified (Some value) l)
+falsified_opposite l true some = ap not (positive_negation l some)
+falsified_opposite l false some = positive_negation l some
 
 -- a variable none of whose literals is false has no value
 pub value_none : (l : Lit) (value : Option Bool) → 1 ≤ variable l → is_falsified value l ≡ false →
     is_falsified value (negation l) ≡ false → value ≡ None
 value_none l None some not_false not_true = refl
-value_none l (Some true) some not_false not_true =
-    let one : not (is_positive (negation l)) ≡ false = not_true in
-    let two : not (not (is_positive l)) ≡ false = subst (λ b. not b ≡ false) (positive_negation l some) one in
-    let both : not (not (not (is_positive l))) ≡ not false = ap not two in
-    absurd (both_ways (not (is_positive l)) not_false (not_not_not (is_positive l) both))
-  where
-    not_not_not : (b : Bool) → not (not (not b)) ≡ not false → not b ≡ true
-    not_not_not true e = e
-    not_not_not false e = refl
-value_none l (Some false) some not_false not_true =
-    let two : not (is_positive l) ≡ false = sym (positive_negation l some) ∙ not_true in
-    absurd (both_ways (not (is_positive l)) two (ap not not_false))
+value_none l (Some value) some not_false not_true =
+    absurd (both_ways _ (sym (falsified_opposite l value some) ∙ not_true) (ap not not_false))
 
 module _ (vars : ℕ) (older : List Lit) (m : Lit) (values : List (Option Bool)) (within : IsWithin vars m) (free : IsOpen older m) (many : length values ≡ vars) where
   other_variable : (l : Lit) → variable l ≢ variable m → is_among (negation m ∷ falses older) l ≡ is_among (falses older) l
@@ -61,7 +49,7 @@ module _ (vars : ℕ) (older : List Lit) (m : Lit) (values : List (Option Bool))
             get_or-set_same values (variable m - 1) (Some (is_positive m)) None (omega (arith, within.0, within.1)) in
             rw (at, read) (elim (same_variable l m same) [
               | inl eq ↦ subst (λ (x : Lit). is_falsified (Some (is_positive m)) x ≡ is_among (negation m ∷ falses older) x) (sym eq) (falsified_self m ∙ sym (among_other (falses older) (negation m) m (negation_differs m within.0) ∙ open_not_false older m free))
-              | inr eq ↦ subst (λ (x : Lit). is_falsified (Some (is_positive m)) x ≡ is_among (negation m ∷ falses older) x) (sym eq) (falsified_negation m within.0 ∙ sym (among_here (falses older) (negation m)))
+              | inr eq ↦ subst (λ (x : Lit). is_falsified (Some (is_positive m)) x ≡ is_among (negation m ∷ falses older) x) (sym eq) (falsified_opposite m (is_positive m) within.0 ∙ ap not (falsified_self m) ∙ sym (among_here (falses older) (negation m)))
             ])
         | false ↦ λ is.
             let other : variable l ≢ variable m = λ same. both_ways _ is (eq-eqb (variable l) (variable m) same) in
@@ -138,10 +126,7 @@ none_is_open vars trail values l valued within none =
 falsified_other : (l : Lit) (value : Option Bool) → 1 ≤ variable l → value ≢ None → is_falsified value l ≡ false →
     is_falsified value (negation l) ≡ true
 falsified_other l None some is_some not_false = absurd (is_some refl)
-falsified_other l (Some true) some is_some not_false =
-    ap not (positive_negation l some) ∙ ap not not_false
-falsified_other l (Some false) some is_some not_false =
-    positive_negation l some ∙ ap not not_false
+falsified_other l (Some value) some is_some not_false = falsified_opposite l value some ∙ ap not not_false
 
 -- where each variable has a value, each literal is false or its negation is
 pub closed_from_values : (vars : ℕ) (trail : List Lit) (values : List (Option Bool)) → AreValued vars trail values →

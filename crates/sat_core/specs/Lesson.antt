@@ -1,4 +1,4 @@
--- What is learned where a clause is false: that not all decisions hold, by the reasons of the trail.
+-- What is learned where a clause is false: not all decisions hold, by the reasons of the trail.
 use Rattle.std.specs.Prelude.{ℕ, suc, ℤ, pos, List, [], ◌∷◌, ◌++◌, Option, None, Some}
 use Rattle.sat_clause.specs.declared.literal.Lit.{Lit}
 use Rattle.sat_core.specs.declared.entry.Entry.{Entry}

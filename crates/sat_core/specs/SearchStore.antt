@@ -1,5 +1,7 @@
 -- A search: what contracts see, and what it knows.
 use Rattle.std.specs.Prelude.{◌≡◌, ℕ, suc, ◌+◌, ◌<◌, ◌≤◌, ◌^◌, ◌++◌, ℤ, List, [], ◌∷◌, length, slice_get, All, Contains, None}
+use Rattle.sat_clause.specs.declared.limits.TheConstants.{VARIABLE_LIMIT}
+use Rattle.sat_clause.specs.declared.reading.Reading.{Reading}
 use Rattle.sat_clause.specs.declared.reading.Reading.TheVariants.{Conflict}
 use Rattle.sat_clause.specs.Formula.{Cnf}
 use Rattle.sat_clause.specs.Learned.{IsSimple}
@@ -27,16 +29,21 @@ with_clause known clause = record known { clauses = known.clauses ++ clause ∷ 
 
 -- learned clauses and trail are of the formula's variables, and each entry has its cause
 pub record IsSearchStore (formula learned : Cnf) (vars : ℕ) (entries : List Entry) : Type 0 where
-  pub few_vars : formula.vars ≤ 100000000
+  pub few_vars : formula.vars ≤ VARIABLE_LIMIT
   pub within : All (All (IsWithin formula.vars)) (formula.clauses ++ learned.clauses)
   pub learned_vars : learned.vars ≡ formula.vars
   pub trail_vars : vars ≡ formula.vars
   pub few : length formula.clauses + length learned.clauses < 2 ^ 32
   pub caused : AreCaused (formula.clauses ++ learned.clauses) entries
 
--- the clause at the position is false
+-- what the clause at a position says
+abbrev pub ReadsAt : SearchState → ℕ → Reading → Type 0
+ReadsAt state i reading =
+    Reads (falses (literals state.entries)) (slice_get state.known.clauses i) reading
+
+-- it is false
 abbrev pub IsFalseAt : SearchState → ℕ → Type 0
-IsFalseAt state i = Reads (falses (literals state.entries)) (slice_get state.known.clauses i) Conflict
+IsFalseAt state i = ReadsAt state i Conflict
 
 -- no clause is false and none makes a literal true
 abbrev pub IsSettledState : SearchState → Type 0

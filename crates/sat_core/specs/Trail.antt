@@ -1,6 +1,7 @@
 -- The literals that a search has made true, the newest first: what contracts see, and how it lies.
 use Rattle.std.specs.Prelude.{◌≡◌, ℕ, suc, ◌+◌, ◌-◌, ◌≤◌, Bool, true, false, not, List, [], ◌∷◌, Option, None, Some, map, reverse, slice_index_or, All, Vec, vec_len, vec_capacity}
 use Rattle.std.specs.Global.{Global}
+use Rattle.sat_clause.specs.declared.limits.TheConstants.{VARIABLE_LIMIT}
 use Rattle.sat_clause.specs.declared.literal.Lit.{Lit}
 use Rattle.sat_clause.specs.Literal.{IsWithin, is_among, is_positive, variable}
 use Rattle.sat_clause.specs.Trail.{IsOnce, falses}
@@ -39,7 +40,7 @@ AreValued vars trail values = (l : Lit) → IsWithin vars l →
 -- the values are those of the trail; there are so many variables, and room for an entry of each
 pub record IsTrailStore
     (vars : ℕ) (entries : Vec Entry Global) (values : Vec (Option Bool) Global) : Type 0 where
-  pub few : vars ≤ 100000000
+  pub few : vars ≤ VARIABLE_LIMIT
   pub many : vec_len values ≡ vars
   pub counted : vec_len entries + open_count values.items ≡ vars
   pub room : vars ≤ vec_capacity entries

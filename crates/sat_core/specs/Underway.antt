@@ -50,7 +50,8 @@ IsTurn formula known before now Refuted = IsDone formula before now
 
 -- what a search comes to, and what its log is whatever that is
 pub record HasSearched
-    (formula : Cnf) (budget : ℕ) (log : List Step) (result : Result Answer AllocError) : Type 0 where
+    (formula : Cnf) (budget : ℕ) (log : List Step) (result : Result Answer AllocError)
+    : Type 0 where
   pub answer : IfOk result (IsAnswer formula budget log)
   pub logged : IsSearchLog formula log
   pub within : added_count log ≤ budget

@@ -6,7 +6,7 @@ ghost use Rattle.sat_clause.specs.Literal.{IsWithin};
 ghost use Rattle.sat_core.specs.Trail.{AreWithin};
 
 use crate::entry::Entry;
-use sat_clause::Lit;
+use sat_clause::{Lit, VARIABLE_LIMIT};
 use std::alloc::{AllocError, Global};
 
 /// A clause that says that not all decisions hold, and the ids of the clauses that it follows from.
@@ -24,14 +24,14 @@ fn id_of(position: u32) -> i64
 }
 
 impl Lesson {
-    /// The lesson of a trail, oldest entry first, where the clause at a position is false: the negated
-    /// decisions, by the reasons in the order of the trail and then the false clause.
+    /// The lesson of a trail, oldest entry first, where the clause at a position is false: the
+    /// negated decisions, by the reasons in the order of the trail and then the false clause.
     pub(crate) fn of_conflict(
         alloc: Global,
         entries: &[Entry],
         conflict: u32,
     ) -> Result<Lesson, AllocError>
-        requires { AreWithin 100000000 entries.now }
+        requires { AreWithin VARIABLE_LIMIT entries.now }
         ensures { IfOk result (λ lesson.
             (lesson.clause.items ≡ negated_decisions (reverse entries.now))
             × (lesson.hints.items ≡ reason_ids (reverse entries.now) ++ id_at conflict ∷ [])) }

@@ -3,22 +3,21 @@
 ghost use Rattle.std.specs.Prelude.{◌≡◌, ◌≢◌, ◌<◌, ◌≤◌, ◌+◌, [], All, IfNone, IfOk, IfSome, IsTrue, OnOk, None, Some, length, slice_get, false};
 ghost use Rattle.sat_clause.specs.Formula.{Satisfies};
 ghost use Rattle.sat_clause.specs.Literal.{IsWithin};
-ghost use Rattle.sat_clause.specs.Rup.{Reads};
-ghost use Rattle.sat_clause.specs.Trail.{IsClosed, falses};
+ghost use Rattle.sat_clause.specs.Trail.{IsClosed};
 ghost use Rattle.sat_core.specs.Lesson.{negated_decisions};
-ghost use Rattle.sat_core.specs.SearchStore.{IsFalseAt, IsLesson, IsNewTo, IsSettledState, ScanSays, with_clause};
 ghost use Rattle.sat_core.specs.Trail.{literals};
+ghost use Rattle.sat_core.specs.SearchStore.{IsFalseAt, IsLesson, IsNewTo, IsSettledState, ReadsAt, ScanSays, with_clause};
 
 use crate::entry::Entry;
 use crate::lesson::Lesson;
 use crate::scan::Scan;
 use crate::trail::Trail;
-use sat_clause::{Formula, Lit, Reading, read_clause};
+use sat_clause::{Formula, ID_LIMIT, Lit, Reading, read_clause};
 use std::alloc::{AllocError, Global};
 use std::marker::Model;
 
-/// A search through the values of a formula's variables: the formula, the clauses that were learned,
-/// and the literals that are true, each decided or made true by a clause.
+/// A search through the values of a formula's variables: the formula, the clauses that were
+/// learned, and the literals that are true, each decided or made true by a clause.
 #[derive(Drop)]
 pub(crate) struct Search<'a> {
     formula: &'a Formula,
@@ -84,7 +83,7 @@ impl<'a> Search<'a> {
     /// What the clause at a position says.
     fn reading(&self, i: u32) -> Reading
         requires { i < length self.now.known.clauses }
-        ensures value { Reads (falses (literals self.now.entries)) (slice_get self.now.known.clauses i) result }
+        ensures value { ReadsAt self.now i result }
         ensures within { (l : Lit) → result ≡ Reading.Unit l → IsWithin self.now.known.vars l }
     {
         read_clause(&self.trail, self.clause(i))
@@ -93,7 +92,7 @@ impl<'a> Search<'a> {
     /// Makes the literal true that the clause at a position makes true.
     fn imply(&mut self, l: Lit, i: u32)
         requires within { IsWithin self.old.known.vars l }
-        requires reason { Reads (falses (literals self.old.entries)) (slice_get self.old.known.clauses i) (Reading.Unit l) }
+        requires reason { ReadsAt self.old i (Reading.Unit l) }
         ensures known { self.new.known ≡ self.old.known }
         ensures longer { length self.new.entries ≡ length self.old.entries + 1 }
         ensures few { length self.new.entries ≤ self.new.known.vars }
@@ -125,8 +124,8 @@ impl<'a> Search<'a> {
         Scan::Implied
     }
 
-    /// Makes true what the clauses make true, until one of them is false, whose position it gives, or
-    /// none makes a literal true any more.
+    /// Makes true what the clauses make true, until one of them is false, whose position it gives,
+    /// or none makes a literal true any more.
     fn settle(&mut self) -> Option<u32>
         ensures known { self.new.known ≡ self.old.known }
         ensures longer { length self.old.entries ≤ length self.new.entries }
@@ -199,7 +198,7 @@ impl<'a> Search<'a> {
         requires lesson { clause.now ≡ negated_decisions self.old.entries }
         requires within { All (IsWithin self.old.known.vars) clause.now }
         requires some { clause.now ≢ [] }
-        requires few { length self.old.known.clauses < 4294967295 }
+        requires few { length self.old.known.clauses < ID_LIMIT }
         ensures known { OnOk result (self.new.known ≡ with_clause self.old.known clause.now) }
         ensures fresh { OnOk result (IsNewTo self.old.known.clauses clause.now) }
     {

@@ -9,7 +9,7 @@ ghost use Rattle.sat_core.specs.Underway.{HasSearched};
 use crate::Answer;
 use crate::search::Search;
 use crate::turn::{Turn, take_turn};
-use sat_clause::{Formula, Log};
+use sat_clause::{Formula, ID_LIMIT, Log};
 use std::alloc::{AllocError, Global};
 
 /// The search for values that satisfy a formula, which keeps each clause that it learns.
@@ -19,7 +19,7 @@ fn search_for_values(
     budget: u64,
     log: &mut Log,
 ) -> Result<Answer, AllocError>
-    requires ids { length formula.now.cnf.clauses + budget ≤ 4294967295 }
+    requires ids { length formula.now.cnf.clauses + budget ≤ ID_LIMIT }
     requires fresh { log.old.steps ≡ [] }
     ensures { HasSearched formula.now.cnf budget log.new.steps result }
 {
@@ -37,14 +37,14 @@ fn search_for_values(
 /// Searches for values that satisfy a formula, and logs each clause that it learns with the clauses
 /// that it follows from.
 ///
-/// It ends at the latest where it has learned as many clauses as the budget allows, the empty clause
-/// among them. The log starts without steps. Its added clauses are numbered behind the input clauses,
-/// in order; none but the empty one has all literals of a clause that is live. With `keep` no clause
-/// is deleted; today none is deleted either way.
+/// It ends at the latest where it has learned as many clauses as the budget allows, the empty
+/// clause among them. The log starts without steps, and an empty clause ends it. Its added clauses
+/// are numbered behind the input clauses, in order; none but the empty one has all literals of a
+/// clause that is live. With `keep` no clause is deleted; today none is deleted either way.
 ///
-/// Each clause that is learned costs passes over all clauses: at most one for each literal that becomes
-/// true, one more for each decision, of which there is at most one a variable, and the last. A clause is
-/// kept twice, for the search and in the log.
+/// Each clause that is learned costs passes over all clauses: at most one for each literal that
+/// becomes true, one more for each decision, of which there is at most one a variable, and the
+/// last. A clause is kept twice, for the search and in the log.
 ///
 /// # Errors
 /// Where memory is short. What the log has by then still follows.
@@ -56,7 +56,7 @@ pub fn solve(
     log: &mut Log,
 ) -> Result<Answer, AllocError>
     requires budget { 1 ≤ budget }
-    requires ids { length formula.now.cnf.clauses + budget ≤ 4294967295 }
+    requires ids { length formula.now.cnf.clauses + budget ≤ ID_LIMIT }
     requires fresh { log.old.steps ≡ [] }
     ensures answer { IfOk result (IsAnswer formula.now.cnf budget log.new.steps) }
     ensures logged { IsSearchLog formula.now.cnf log.new.steps }

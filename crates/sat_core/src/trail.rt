@@ -8,12 +8,12 @@ ghost use Rattle.sat_clause.specs.Trail.{IsClosed, IsOnce, IsOpen, falses};
 ghost use Rattle.sat_core.specs.Trail.{AreWithin, literals};
 
 use crate::entry::Entry;
-use sat_clause::{FalseLiterals, Lit};
+use sat_clause::{FalseLiterals, Lit, VARIABLE_LIMIT};
 use std::alloc::{AllocError, Global};
 use std::marker::Model;
 
-/// The true literals with their reasons, oldest first, each of another variable, and beside them the
-/// value of each variable. Nothing but [`Trail::new`] and [`Trail::values`] takes memory.
+/// The true literals with their reasons, oldest first, each of another variable, and beside them
+/// the value of each variable. Nothing but [`Trail::new`] and [`Trail::values`] takes memory.
 #[derive(Drop)]
 pub(crate) struct Trail {
     vars: u32,
@@ -48,7 +48,7 @@ impl FalseLiterals for Trail {
 impl Trail {
     /// The trail of so many variables on which nothing stands.
     pub(crate) fn new(alloc: Global, vars: u32) -> Result<Trail, AllocError>
-        requires { vars ≤ 100000000 }
+        requires { vars ≤ VARIABLE_LIMIT }
         ensures { IfOk result (λ t. t ≡ record { vars = vars; entries = [] }) }
     {
         Ok(Trail {
@@ -142,7 +142,8 @@ impl Trail {
         requires closed { IsClosed self.now.vars (literals self.now.entries) }
         ensures many { IfOk result (λ values. length values.items ≡ self.now.vars) }
         ensures truth { IfOk result (λ values. (l : Lit) → IsWithin self.now.vars l
-            → is_among (falses (literals self.now.entries)) l ≡ false → IsTrue (makes_true values.items l)) }
+            → is_among (falses (literals self.now.entries)) l ≡ false
+            → IsTrue (makes_true values.items l)) }
     {
         let mut values = Vec::with_capacity(alloc, self.vars as usize)?;
         for value in &self.values {

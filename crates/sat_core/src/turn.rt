@@ -5,7 +5,7 @@ ghost use Rattle.sat_clause.specs.Formula.{Cnf};
 ghost use Rattle.sat_core.specs.Underway.{IsTurn, IsUnderway};
 
 use crate::search::Search;
-use sat_clause::Log;
+use sat_clause::{ID_LIMIT, Log};
 use std::alloc::{AllocError, Global};
 
 /// What one turn of a search comes to.
@@ -28,7 +28,7 @@ pub(crate) fn take_turn(
     search: &mut Search<'_>,
     log: &mut Log,
 ) -> Result<Turn, AllocError>
-    requires few { length search.old.known.clauses < 4294967295 }
+    requires few { length search.old.known.clauses < ID_LIMIT }
     ensures ok { IfOk result (λ turn. (formula : Cnf)
         → IsUnderway formula search.old.known log.old.steps
         → IsTurn formula search.new.known log.old.steps log.new.steps turn) }

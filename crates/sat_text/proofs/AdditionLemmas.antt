@@ -5,20 +5,22 @@ use Rattle.std.specs.Int.Signed.{le_z}
 use Rattle.std.proofs.lemmas.Bool.Decides.{nat_tests}
 use Rattle.fpga_text.specs.Bytes.{Bytes, is_empty}
 use Rattle.fpga_text.specs.Numbers.{signed_number_of}
-use Rattle.fpga_text.specs.Words.{TextLine}
+use Rattle.fpga_text.specs.Words.{TextLine, Words}
 use Rattle.sat_clause.specs.declared.literal.Lit.{Lit}
 use Rattle.sat_clause.specs.Literal.{Clause}
 use Rattle.sat_clause.specs.Step.{Added}
 use Rattle.sat_text.specs.FrontNumbers.{TakesFront}
-use Rattle.sat_text.specs.LratText.{line_fault, said_step}
+use Rattle.sat_text.specs.ByNumbers.{step_line_fault}
+use Rattle.sat_text.specs.LratText.{said_step}
 use Rattle.sat_text.specs.Numbers.{lacks_number, numbers_of}
 use Rattle.sat_text.specs.ReadBack.{IsPrintableStep}
-use Rattle.sat_text.proofs.FrontLemmas.{front_none, front_more}
+use Rattle.sat_text.proofs.FrontLemmas.{front_both, front_one}
+use Rattle.sat_text.proofs.LratLemmas.{by_numbers}
 use Rattle.sat_text.proofs.LogBack.{added_limit-none, added_step-back, due_words-same, is_positive, no_deletion, none_below, not_above}
 
 -- the line has no fault, and adds this clause
 pub record AddsClause (above : ℕ) (line : TextLine) (id : ℕ) (clause : Clause) (hints : List ℤ) : Type 0 where
-  pub clean : line_fault above line ≡ None
+  pub clean : step_line_fault above line ≡ None
   pub said : said_step line.words ≡ Some (Added id clause hints)
 
 adds_clause : (above : ℕ) (line : TextLine) (id : ℕ) (clause : Clause) (hints : List ℤ) → lacks_number line.words ≡ false
@@ -28,26 +30,18 @@ adds_clause above line id clause hints number numbers fits =
     let due = due_words-same line.words other in
     let step = added_step-back id clause hints fits.2 fits.3 in
     record {
-      clean = rw (due, number, other, numbers, is_positive id (omega (arith, fits.0)), step, not_above above id fits.0, none_below hints fits.3, added_limit-none id clause hints fits.1 fits.2 fits.3) refl;
+      clean = by_numbers above line.number line.words ∙ rw (due, number, other, numbers, is_positive id (omega (arith, fits.0)), step, not_above above id fits.0, none_below hints fits.3, added_limit-none id clause hints fits.1 fits.2 fits.3) refl;
       said = rw (due, other, numbers) step;
     }
 
--- the numbers of two fronts are those of both
-front_both : (old now new : List Bytes) (first second : List ℤ) → TakesFront old now first → TakesFront now new second → TakesFront old new (first ++ second)
-front_both old now new first second one two = record {
-  lacks = one.lacks ∙ two.lacks;
-  said = one.said ∙ ap (λ (ns : List ℤ). first ++ ns) two.said ∙ sym (append_assoc first second (numbers_of new));
-}
-
 -- an id, literals and hints were taken, each of the two closed by a 0, and nothing is left
-pub addition_taken : (above : ℕ) (line : TextLine) (behind ahead end : List Bytes) (id : ℕ) (clause : Clause) (hints : List ℤ)
-    → option_and_then signed_number_of (slice_get line.words 0) ≡ Some (pos id) → id < 10 ^ 18 → behind ≡ drop 1 line.words
+pub addition_taken : (above : ℕ) (line : TextLine) (behind ahead end : Words) (id : ℕ) (clause : Clause) (hints : List ℤ)
+    → Some (pos id) ≡ option_and_then signed_number_of (slice_get line.words 0) → behind ≡ drop 1 line.words
     → TakesFront behind ahead (map (λ (l : Lit). l.code) clause ++ pos 0 ∷ []) → TakesFront ahead end (hints ++ pos 0 ∷ []) → false ≡ not (is_empty end)
     → IsPrintableStep above (Added id clause hints) → AddsClause above line id clause hints
-addition_taken above line behind ahead (word ∷ more) id clause hints first small rest lits ids past fits = absurd (let clash : false ≡ true = past in cc)
-addition_taken above line behind ahead [] id clause hints first small rest lits ids past fits =
-    let one = front_more line.words line.words behind [] (pos id) (front_none line.words) first small rest in
-    let all = front_both line.words behind [] (pos id ∷ []) _ one (front_both behind ahead [] (map (λ (l : Lit). l.code) clause ++ pos 0 ∷ []) (hints ++ pos 0 ∷ []) lits ids) in
+addition_taken above line behind ahead (word ∷ more) id clause hints first rest lits ids past fits = absurd (let clash : false ≡ true = past in cc)
+addition_taken above line behind ahead [] id clause hints first rest lits ids past fits =
+    let all = front_both (front_one line.words behind (pos id) first rest) (front_both lits ids) in
     adds_clause above line id clause hints all.lacks (all.said ∙ regroup (map (λ (l : Lit). l.code) clause) hints) fits
   where
     regroup : (lits ids : List ℤ) → (pos id ∷ ((lits ++ pos 0 ∷ []) ++ (ids ++ pos 0 ∷ []))) ++ [] ≡ pos id ∷ (lits ++ pos 0 ∷ (ids ++ pos 0 ∷ []))

@@ -1,120 +1,100 @@
--- The faults of a CNF text, one line at a time.
-use Rattle.std.proofs.Common.{◌≡◌, ℕ, ℤ, Bool, false, true, List, [], ◌∷◌, ◌++◌, Option, None, Some, refl, sym, ap, subst, ◌∙◌}
+-- The faults of a CNF text, by its head line and the lines behind it.
+use Rattle.std.proofs.Common.{◌≡◌, ◌+◌, ℕ, ℤ, Bool, true, false, List, [], ◌∷◌, ◌++◌, length, Option, None, Some, refl, sym, ap, ◌∙◌, append_assoc, append-nil, arith, eq-eqb}
+use Rattle.std.specs.Prelude.{flat_map, ◌==◌, ◌&&◌, if◌then◌else◌}
 use Rattle.fpga_text.specs.declared.fault.TextFault.{TextFault}
-use Rattle.fpga_text.specs.declared.fault.TextFault.TheVariants.{Bad, Limit, Memory}
-use Rattle.fpga_text.specs.Words.{TextLine}
-use Rattle.std.specs.Prelude.{map, bytes_eq, codes, if◌then◌else◌, ◌+◌}
+use Rattle.fpga_text.specs.declared.fault.TextFault.TheVariants.{Bad}
+use Rattle.fpga_text.specs.Bytes.{Bytes, is_empty}
+use Rattle.fpga_text.specs.FirstFault.{Faults, IsFaultless, IsFirst, IsRefusal, first_fault}
+use Rattle.fpga_text.specs.Codes.{faults_behind, line_fault, end_fault, numbered_words}
+use Rattle.fpga_text.specs.Words.{TextLine, Words, line_count, line_words}
+use Rattle.fpga_text.proofs.FaultLemmas.{IsPast, past-line, past-part, refusal-part}
 use Rattle.sat_clause.specs.Formula.{Cnf}
 use Rattle.sat_clause.specs.Literal.{Clause}
 use Rattle.sat_text.specs.declared.draft.Draft.{Draft}
 use Rattle.sat_text.specs.declared.head.Head.{Head}
-use Rattle.fpga_text.specs.Bytes.{Bytes}
-use Rattle.fpga_text.specs.Words.{line_count}
-use Rattle.sat_text.specs.Numbers.{natural_of, is_number, numbers_of}
-use Rattle.sat_text.specs.FirstFault.{Faults, IsFaultOf, IsRefusal, IsFaultless}
+use Rattle.sat_text.specs.Bodies.{body_fault, body_faults, head_fault}
+use Rattle.sat_text.specs.CnfText.{ReadsCnf, but_last, clause_parts, cnf_codes, cnf_faults, context_of, faults_of, head_of, head_or_none, last_part, whole_clauses}
+use Rattle.sat_text.specs.Drafts.{TakesNumbers}
+use Rattle.sat_text.specs.Numbers.{numbers_of}
 use Rattle.sat_text.specs.ToldLines.{told_lines}
-use Rattle.sat_text.specs.CnfText.{HeadWords, head_words, head_fault, head_of, body_fault, line_numbers, cnf_faults, faults_of, faults_ahead, head_or_none, end_fault, is_whole, clause_parts, but_last, last_part, ReadsCnf, IsRefusedCnf}
-use Rattle.sat_text.specs.Drafts.{IsOnWay, TakesNumbers}
-use Rattle.sat_text.proofs.DraftLemmas.{way_more}
-use Rattle.sat_text.proofs.FaultLemmas.{IsPast, past_none, past_more, past_all, past_end, refusal_next, refusal_later}
+use Rattle.sat_text.proofs.DraftLemmas.{but_last-push, last_part-append, takes_more, takes_none}
 
-but_last-push : {X : Type 0} (xs : List X) (x : X) → but_last (xs ++ x ∷ []) ≡ xs
-but_last-push [] x = refl
-but_last-push (y ∷ []) x = refl
-but_last-push (y ∷ z ∷ more) x = ap (λ (l : List _). y ∷ l) (but_last-push (z ∷ more) x)
+-- the lines behind a head line, and the end
+pub faults_split : (first : Words) (before : List Words) (body : List TextLine) (end : ℕ)
+    → faults_behind cnf_codes (first ∷ before) (numbered_words body) end
+    ≡ body_faults (head_or_none (head_of first)) body ++ end_fault cnf_codes (context_of (first ∷ (before ++ line_words body))) end ∷ []
+faults_split first before [] end = ap (λ (ws : List Words). end_fault cnf_codes (context_of (first ∷ ws)) end ∷ []) (sym (append-nil before))
+faults_split first before (line ∷ more) end =
+    ap (λ (rest : Faults). body_fault (head_or_none (head_of first)) line ∷ rest)
+    (faults_split first (before ++ line.words ∷ []) more end
+    ∙ ap (λ (ws : List Words). body_faults (head_or_none (head_of first)) more ++ end_fault cnf_codes (context_of (first ∷ ws)) end ∷ []) (append_assoc before (line.words ∷ []) (line_words more)))
 
-last_part-push : {X : Type 0} (xs : List (List X)) (x : List X) → last_part (xs ++ x ∷ []) ≡ x
-last_part-push [] x = refl
-last_part-push (y ∷ []) x = refl
-last_part-push (y ∷ z ∷ more) x = last_part-push (z ∷ more) x
+-- the faults of lines whose first says this head
+pub faults_of-head : (lines : List TextLine) (first : TextLine) (body : List TextLine) (head : Head) (end : ℕ) → lines ≡ first ∷ body → head_of first.words ≡ Some head
+    → faults_of lines end ≡ head_fault first ∷ (body_faults head body ++ end_fault cnf_codes (record { head = Some head; numbers = flat_map numbers_of (line_words body) }) end ∷ [])
+faults_of-head lines first body head end is said =
+    ap (λ (ls : List TextLine). faults_of ls end) is
+    ∙ ap (λ (rest : Faults). head_fault first ∷ rest) (faults_split first.words [] body end)
+    ∙ ap (λ (o : Option Head). head_fault first ∷ (body_faults (head_or_none o) body ++ end_fault cnf_codes (record { head = Some (head_or_none o); numbers = flat_map numbers_of (line_words body) }) end ∷ [])) said
 
--- the line has not the form of a head line
-pub head_fault-form : (line : TextLine) → head_words line.words ≡ None → head_fault line ≡ Some (Bad line.number 601)
-head_fault-form line none = rw none refl
+-- so many clauses are these
+whole_are : (count : ℕ) (parts clauses : List Clause) → whole_clauses count parts ≡ Some clauses → clauses ≡ but_last parts
+whole_are count parts clauses is = go ((length (but_last parts) == count) && is_empty (last_part parts)) is
+  where
+    go : (b : Bool) → (if b then Some (but_last parts) else None) ≡ Some clauses → clauses ≡ but_last parts
+    go true e = cc
+    go false e = absurd (let clash : None ≡ Some clauses = e in cc)
 
--- the number of variables is none
-pub head_fault-vars : (line : TextLine) (words : HeadWords) → head_words line.words ≡ Some words → natural_of words.vars ≡ None
-    → head_fault line ≡ Some (Bad line.number 602)
-head_fault-vars line words form none = rw (form, none) refl
+-- clauses with nothing behind them are whole
+pub whole_push : (clauses : List Clause) → whole_clauses (length clauses) (clauses ++ [] ∷ []) ≡ Some clauses
+whole_push clauses = rw (but_last-push clauses [], last_part-append clauses ([] ∷ []) (omega arith), eq-eqb (length clauses) (length clauses) refl) refl
 
--- the number of clauses is none
-pub head_fault-clauses : (line : TextLine) (words : HeadWords) (vars : ℕ) → head_words line.words ≡ Some words → natural_of words.vars ≡ Some vars
-    → natural_of words.clauses ≡ None → head_fault line ≡ Some (Bad line.number 602)
-head_fault-clauses line words vars form said none = rw (form, said, none) refl
+module _ (text : Bytes) (first : TextLine) (body : List TextLine) (head : Head) (is : told_lines text ≡ first ∷ body) (said : head_of first.words ≡ Some head) (clean : head_fault first ≡ None) where
+  -- the numbers behind the head line, and the fault of the end
+  abbrev pub numbers : List ℤ
+  numbers = flat_map numbers_of (line_words body)
 
--- the first word of a line behind the head line is no number
-pub body_fault-first : (vars : ℕ) (line : TextLine) (word : Bytes) (more : List Bytes) (fault : TextFault) → line.words ≡ word ∷ more → bytes_eq word (codes "p") ≡ false
-    → IsFaultOf (if is_number word then None else Some (Bad line.number 602)) fault → IsFaultOf (body_fault vars line) fault
-body_fault-first vars line word more (Bad n code) words other is = go (is_number word) refl is where
-  go : (b : Bool) → is_number word ≡ b → (if b then None else Some (Bad line.number 602)) ≡ Some (Bad n code) → body_fault vars line ≡ Some (Bad n code)
-  go true e clash = absurd (let no : None ≡ Some (Bad n code) = clash in cc)
-  go false e same = rw (words, other, e) same
-body_fault-first vars line word more (Limit code count) words other is = go (is_number word) is where
-  go : (b : Bool) → (if b then None else Some (Bad line.number 602)) ≡ Some (Limit code count) → body_fault vars line ≡ Some (Limit code count)
-  go true clash = absurd (let no : None ≡ Some (Limit code count) = clash in cc)
-  go false clash = absurd (let no : Some (Bad line.number 602) ≡ Some (Limit code count) = clash in cc)
-body_fault-first vars line word more Memory words other is = tt
+  abbrev end : Option TextFault
+  end = end_fault cnf_codes (record { head = Some head; numbers = numbers }) (line_count text + 1)
 
--- a line behind the head line was taken
-pub line_past : (vars now : ℕ) (all ahead more : List TextLine) (line : TextLine) → ahead ≡ line ∷ more → now ≡ vars → body_fault now line ≡ None
-    → IsPast (map (body_fault vars) all) (map (body_fault vars) ahead) → IsPast (map (body_fault vars) all) (map (body_fault vars) more)
-line_past vars now all ahead more line is same clean past =
-    past_more {fault = body_fault vars line} (rw is at past) (ap (λ (v : ℕ). body_fault v line) (sym same) ∙ clean)
+  past_head : IsPast (cnf_faults text) (body_faults head body ++ end ∷ [])
+  past_head = past-line {fault = head_fault first} (record { same = ap first_fault (faults_of-head (told_lines text) first body head (line_count text + 1) is said) }) clean
 
--- its numbers were taken
-pub line_way : (first now new : Draft) (all : List ℤ) (ahead more : List TextLine) (line : TextLine) → ahead ≡ line ∷ more
-    → IsOnWay first now all (line_numbers ahead) → TakesNumbers now new (numbers_of line.words) → IsOnWay first new all (line_numbers more)
-line_way first now new all ahead more line is way taken = way_more (numbers_of line.words) (line_numbers more) (rw is at way) taken
+  -- a line behind the head line is refused
+  pub refused_body : (fault : TextFault) → IsRefusal (body_faults head body) fault → IsRefusal (cnf_faults text) fault
+  refused_body fault bad = refusal-part (body_faults head body) (end ∷ []) fault past_head bad
 
--- a text without told lines
-pub refused_empty : (text : Bytes) → told_lines text ≡ [] → IsRefusedCnf text (Bad (line_count text + 1) 601)
-refused_empty text none = rw none (refusal_next (Bad (line_count text + 1) 601) (past_none (Some (Bad (line_count text + 1) 601) ∷ [])) refl)
+  -- the end is refused
+  pub refused_end : IsFaultless (body_faults head body) → whole_clauses head.clauses (clause_parts numbers) ≡ None → IsFirst (cnf_faults text) (Bad (line_count text + 1) 604)
+  refused_end none other = (past-part (body_faults head body) (end ∷ []) past_head none).same ∙ rw other refl
 
--- a text whose first told line is refused
-pub refused_head : (text : Bytes) (head : TextLine) (body : List TextLine) (fault : TextFault) → told_lines text ≡ head ∷ body → IsFaultOf (head_fault head) fault → IsRefusedCnf text fault
-refused_head text head body fault is bad = rw is (refusal_next fault (past_none _) bad)
+  -- the text is read
+  pub reads_whole : (cnf : Cnf) → IsFaultless (body_faults head body) → whole_clauses head.clauses (clause_parts numbers) ≡ Some cnf.clauses → cnf.vars ≡ head.vars → ReadsCnf text cnf
+  reads_whole cnf none whole vars = record {
+    faultless = (past-part (body_faults head body) (end ∷ []) past_head none).same ∙ rw whole refl;
+    formula = rw (is, said) (λ i. record { vars = vars i; clauses = whole_are head.clauses (clause_parts numbers) cnf.clauses whole i });
+  }
 
--- the faults of a text whose head line says this
-faults_split : (text : Bytes) (first : TextLine) (body : List TextLine) (head : Head) → told_lines text ≡ first ∷ body → head_of first.words ≡ Some head
-    → cnf_faults text ≡ head_fault first ∷ faults_ahead head body body (line_count text + 1)
-faults_split text first body head is said =
-    ap (λ (lines : List TextLine). faults_of lines (line_count text + 1)) is
-    ∙ ap (λ (h : Option Head). head_fault first ∷ faults_ahead (head_or_none h) body body (line_count text + 1)) said
+-- the lines up to these were taken
+pub record IsReadTo (first now : Draft) (all ahead : List TextLine) : Type 0 where
+  pub done : List ℤ
+  pub split : flat_map numbers_of (line_words all) ≡ done ++ flat_map numbers_of (line_words ahead)
+  pub taken : TakesNumbers first now done
 
--- a text with a line behind a good head line that is refused
-pub refused_body : (text : Bytes) (first : TextLine) (body : List TextLine) (head : Head) (fault : TextFault) → told_lines text ≡ first ∷ body
-    → head_of first.words ≡ Some head → head_fault first ≡ None → IsRefusal (map (body_fault head.vars) body) fault → IsRefusedCnf text fault
-refused_body text first body head fault is said clean bad =
-    let end = end_fault head.clauses (line_numbers body) (line_count text + 1) in
-    subst (λ (faults : Faults). IsRefusal faults fault) (sym (faults_split text first body head is said))
-    (refusal_later (map (body_fault head.vars) body) (end ∷ []) fault (past_more {fault = head_fault first} {rest = map (body_fault head.vars) body ++ end ∷ []} (past_none _) clean) bad)
+-- no line was taken
+pub read_none : (draft : Draft) (all : List TextLine) → IsReadTo draft draft all all
+read_none draft all = record { done = []; split = refl; taken = takes_none draft }
 
--- the end of a text, by what was read of it
-end_fault-parts : (count end : ℕ) (numbers : List ℤ) (clauses : List Clause) (behind : Clause) → clauses ++ behind ∷ [] ≡ clause_parts numbers
-    → end_fault count numbers end ≡ (if is_whole count clauses behind then None else Some (Bad end 604))
-end_fault-parts count end numbers clauses behind parts =
-    rw (← parts, but_last-push clauses behind, last_part-push clauses behind) refl
+-- one more line was taken
+pub read_line : (first now new : Draft) (all ahead more : List TextLine) (line : TextLine) → IsReadTo first now all ahead → ahead ≡ line ∷ more → TakesNumbers now new (numbers_of line.words)
+    → IsReadTo first new all more
+read_line first now new all ahead more line so_far is taken = record {
+  done = so_far.done ++ numbers_of line.words;
+  split = so_far.split ∙ ap (λ (ls : List TextLine). so_far.done ++ flat_map numbers_of (line_words ls)) is ∙ sym (append_assoc so_far.done (numbers_of line.words) (flat_map numbers_of (line_words more)));
+  taken = takes_more so_far.done (numbers_of line.words) so_far.taken taken;
+}
 
--- a text that is refused at its end
-pub refused_end : (text : Bytes) (first : TextLine) (body : List TextLine) (head : Head) (clauses : List Clause) (behind : Clause) → told_lines text ≡ first ∷ body
-    → head_of first.words ≡ Some head → head_fault first ≡ None → IsFaultless (map (body_fault head.vars) body)
-    → clauses ++ behind ∷ [] ≡ clause_parts (line_numbers body) → is_whole head.clauses clauses behind ≡ false → IsRefusedCnf text (Bad (line_count text + 1) 604)
-refused_end text first body head clauses behind is said clean none parts whole =
-    let end = end_fault head.clauses (line_numbers body) (line_count text + 1) in
-    let bad : end ≡ Some (Bad (line_count text + 1) 604) = end_fault-parts head.clauses (line_count text + 1) (line_numbers body) clauses behind parts ∙ rw whole refl in
-    subst (λ (faults : Faults). IsRefusal faults (Bad (line_count text + 1) 604)) (sym (faults_split text first body head is said))
-    (refusal_next {fault = end} {rest = []} (Bad (line_count text + 1) 604)
-    (past_all (map (body_fault head.vars) body) (past_more {fault = head_fault first} {rest = map (body_fault head.vars) body ++ end ∷ []} (past_none _) clean) none) bad)
-
--- a text that is read
-pub reads_whole : (text : Bytes) (first : TextLine) (body : List TextLine) (head : Head) (cnf : Cnf) (behind : Clause) → told_lines text ≡ first ∷ body
-    → head_of first.words ≡ Some head → head_fault first ≡ None → IsFaultless (map (body_fault head.vars) body)
-    → cnf.clauses ++ behind ∷ [] ≡ clause_parts (line_numbers body) → is_whole head.clauses cnf.clauses behind ≡ true → cnf.vars ≡ head.vars → ReadsCnf text cnf
-reads_whole text first body head cnf behind is said clean none parts whole vars =
-    let end = end_fault head.clauses (line_numbers body) (line_count text + 1) in
-    let good : end ≡ None = end_fault-parts head.clauses (line_count text + 1) (line_numbers body) cnf.clauses behind parts ∙ rw whole refl in
-    record {
-      faultless = subst IsFaultless (sym (faults_split text first body head is said)) (past_end (past_more {fault = end} {rest = []}
-          (past_all (map (body_fault head.vars) body) (past_more {fault = head_fault first} {rest = map (body_fault head.vars) body ++ end ∷ []} (past_none _) clean) none) good));
-      formula = rw (is, said, ← parts, but_last-push cnf.clauses behind, ← vars) refl;
-    }
+-- all lines were taken
+pub read_all : (first now : Draft) (all ahead : List TextLine) → IsReadTo first now all ahead → ahead ≡ [] → TakesNumbers first now (flat_map numbers_of (line_words all))
+read_all first now all ahead so_far none =
+    rw (so_far.split, none, append-nil so_far.done) so_far.taken

@@ -1,78 +1,82 @@
 -- Numbers are taken from the front of a line, one after another.
-use Rattle.std.proofs.Common.{◌≡◌, ◌<◌, ◌≤◌, ◌^◌, ℕ, zero, suc, ℤ, pos, negsuc, Bool, false, true, List, [], ◌∷◌, ◌++◌, length, drop, slice_get, Option, None, Some, refl, sym, ap, ◌∙◌, arith, append_assoc, w32, w64, to_z, of_z, FitsSigned}
-use Rattle.std.specs.Prelude.{All, nat_abs, nat_le, nat_lt, neg_ℤ, ◌==◌, if◌then◌else◌, option_map, option_and_then}
+use Rattle.std.proofs.Common.{◌≡◌, ◌<◌, ◌≤◌, ◌^◌, ℕ, zero, suc, ℤ, pos, negsuc, Bool, false, true, List, [], ◌∷◌, ◌++◌, length, drop, slice_get, Option, None, Some, refl, sym, ap, ◌∙◌, arith, append_assoc, append-nil, w32, w64, to_z, of_z, FitsSigned}
+use Rattle.std.specs.Prelude.{All, nat_abs, not, ◌||◌, bytes_eq, codes, option_and_then}
 use Rattle.std.specs.Int.Signed.{lt_z}
-use Rattle.std.proofs.lemmas.Bool.Decides.{nat_tests}
 use Rattle.std.proofs.lemmas.Int.{to_z-of_z}
 use Rattle.std.proofs.lemmas.List.Elements.{All-append}
-use Rattle.fpga_text.proofs.FrontLemmas.{small_fits}
+use Rattle.std.proofs.lemmas.Slice.Eq.{bytes_eq-Decides}
+use Rattle.fpga_text.specs.Bytes.{Bytes, is_empty}
+use Rattle.fpga_text.specs.Numbers.{signed_number_of}
+use Rattle.fpga_text.specs.Words.{Words}
+use Rattle.fpga_text.proofs.NumberLemmas.{signed_fits}
 use Rattle.sat_clause.specs.Literal.{IsWithin, lit}
+use Rattle.sat_text.specs.FrontNumbers.{TakesFront, IsAtNoNumber, PushesFront}
+use Rattle.sat_text.specs.Numbers.{lacks_number, numbers_of}
 use Rattle.sat_text.specs.ReadBack.{IsIdNumber}
-use Rattle.fpga_text.specs.Bytes.{Bytes}
-use Rattle.fpga_text.specs.Numbers.{signed_number_of, whole_number_of}
-use Rattle.sat_text.specs.FrontNumbers.{TakesFront}
-use Rattle.sat_text.specs.Numbers.{negated_number, number_of, numbers_of, plain_number}
-
-plain_small : (n : ℕ) → n < 10 ^ 18 → plain_number n ≡ Some (pos n)
-plain_small n small = go (nat_lt n (2 ^ 63)) refl where
-  go : (b : Bool) → nat_lt n (2 ^ 63) ≡ b → (if b then Some (pos n) else None) ≡ Some (pos n)
-  go true e = refl
-  go false e = absurd (grind (arith, nat_tests))
-
-negated_small : (n : ℕ) → n < 10 ^ 18 → negated_number n ≡ Some (neg_ℤ (pos n))
-negated_small n small = go (nat_le n (2 ^ 63)) refl where
-  go : (b : Bool) → nat_le n (2 ^ 63) ≡ b → (if b then Some (neg_ℤ (pos n)) else None) ≡ Some (neg_ℤ (pos n))
-  go true e = refl
-  go false e = absurd (grind (arith, nat_tests))
-
-nat_abs-neg : (n : ℕ) → nat_abs (neg_ℤ (pos n)) ≡ n
-nat_abs-neg zero = refl
-nat_abs-neg (suc n) = refl
-
--- a short number is read as it is by the reader of any number
-pub number_of-short : (word : Bytes) (n : ℤ) → signed_number_of word ≡ Some n → nat_abs n < 10 ^ 18 → number_of word ≡ Some n
-number_of-short [] n said small = absurd (let clash : None ≡ Some n = said in cc)
-number_of-short (b ∷ more) n said small = go (b == 45) said where
-  minus : (o : Option ℕ) → option_map (λ size. neg_ℤ (pos size)) o ≡ Some n → option_and_then negated_number o ≡ Some n
-  minus None clash = absurd (let no : None ≡ Some n = clash in cc)
-  minus (Some size) is = let same : neg_ℤ (pos size) ≡ n = cc in
-      let abs = sym (nat_abs-neg size) ∙ ap nat_abs same in
-      negated_small size (omega (arith, abs, small)) ∙ is
-
-  plain : (o : Option ℕ) → option_map (λ size. pos size) o ≡ Some n → option_and_then plain_number o ≡ Some n
-  plain None clash = absurd (let no : None ≡ Some n = clash in cc)
-  plain (Some size) is = let same : pos size ≡ n = cc in
-      let abs : size ≡ nat_abs n = ap nat_abs same in
-      plain_small size (omega (arith, abs, small)) ∙ is
-
-  go : (t : Bool) → (if t then option_map (λ size. neg_ℤ (pos size)) (whole_number_of more) else option_map (λ size. pos size) (whole_number_of (b ∷ more))) ≡ Some n
-      → (if t then option_and_then negated_number (whole_number_of more) else option_and_then plain_number (whole_number_of (b ∷ more))) ≡ Some n
-  go true is = minus (whole_number_of more) is
-  go false is = plain (whole_number_of (b ∷ more)) is
 
 -- nothing was taken
-pub front_none : (words : List Bytes) → TakesFront words words []
+pub front_none : (words : Words) → TakesFront words words []
 front_none words = record { lacks = refl; said = refl }
 
 -- one more number is taken
-pub front_more : (old now new : List Bytes) (numbers : List ℤ) (n : ℤ) → TakesFront old now numbers → option_and_then signed_number_of (slice_get now 0) ≡ Some n → nat_abs n < 10 ^ 18 → new ≡ drop 1 now
-    → TakesFront old new (numbers ++ n ∷ [])
-front_more old [] new numbers n front said small rest = absurd (let clash : None ≡ Some n = said in cc)
-front_more old (word ∷ words) new numbers n front said small rest =
-    let is : number_of word ≡ Some n = number_of-short word n said small in
-    record {
-      lacks = front.lacks ∙ rw (rest, is) refl;
-      said = front.said ∙ rw (rest, is) (sym (append_assoc numbers (n ∷ []) (numbers_of words)));
-    }
+pub front_more : (old now new : Words) (numbers : List ℤ) (n : ℤ) → TakesFront old now numbers → Some n ≡ option_and_then signed_number_of (slice_get now 0) → new ≡ drop 1 now → TakesFront old new (numbers ++ n ∷ [])
+front_more old [] new numbers n front said rest = absurd (let clash : Some n ≡ None = said in cc)
+front_more old (word ∷ words) new numbers n front said rest = record {
+  lacks = front.lacks ∙ rw (rest, ← said) refl;
+  said = front.said ∙ rw (rest, ← said) (sym (append_assoc numbers (n ∷ []) (numbers_of words)));
+}
+
+-- one number is taken
+pub front_one : (now new : Words) (n : ℤ) → Some n ≡ option_and_then signed_number_of (slice_get now 0) → new ≡ drop 1 now → TakesFront now new (n ∷ [])
+front_one now new n said rest = front_more now now new [] n (front_none now) said rest
+
+-- the numbers of two fronts are those of both
+pub front_both : {old now new : Words} {first second : List ℤ} → TakesFront old now first → TakesFront now new second → TakesFront old new (first ++ second)
+front_both {old} {now} {new} {first} {second} one two = record {
+  lacks = one.lacks ∙ two.lacks;
+  said = one.said ∙ ap (λ (ns : List ℤ). first ++ ns) two.said ∙ sym (append_assoc first second (numbers_of new));
+}
 
 -- and fewer words are left
-pub front_fewer : (now new : List Bytes) (n : ℤ) → option_and_then signed_number_of (slice_get now 0) ≡ Some n → new ≡ drop 1 now → length new < length now
-front_fewer [] new n said rest = absurd (let clash : None ≡ Some n = said in cc)
+pub front_fewer : (now new : Words) (n : ℤ) → Some n ≡ option_and_then signed_number_of (slice_get now 0) → new ≡ drop 1 now → length new < length now
+front_fewer [] new n said rest = absurd (let clash : Some n ≡ None = said in cc)
 front_fewer (word ∷ words) new n said rest = rw rest (omega arith)
 
--- a short number stands in 64 bits as it is
-pub same_number : (n : ℤ) → nat_abs n < 10 ^ 18 → to_z w64 (of_z w64 n) ≡ n
-same_number n small = to_z-of_z w64 n (small_fits n small)
+-- no number is next
+pub front_end : (words : Words) → None ≡ option_and_then signed_number_of (slice_get words 0) → IsAtNoNumber words
+front_end [] said = refl
+front_end (word ∷ words) said = rw (← said) refl
+
+no_words : (words : Words) → is_empty words ≡ true → words ≡ []
+no_words [] none = refl
+no_words (word ∷ more) none = absurd (let clash : false ≡ true = none in cc)
+
+-- all words were taken, which say these numbers
+pub front_whole : (words rest : Words) (numbers : List ℤ) → TakesFront words rest numbers → is_empty rest ≡ true → numbers_of words ≡ numbers
+front_whole words rest numbers front none = front.said ∙ ap (λ (ws : Words). numbers ++ numbers_of ws) (no_words rest none) ∙ append-nil numbers
+
+-- and none of them says no number
+pub front_lacks : (words rest : Words) (numbers : List ℤ) (empty : Bool) → TakesFront words rest numbers → IsAtNoNumber rest → is_empty rest ≡ empty → lacks_number words ≡ not empty
+front_lacks words rest numbers empty front end is = front.lacks ∙ end ∙ ap not is
+
+-- one more number is pushed
+pub push_more : (old now new : List ℤ) (words rest after : Words) (n : ℤ) → PushesFront old now words rest → Some n ≡ option_and_then signed_number_of (slice_get rest 0) → after ≡ drop 1 rest → new ≡ now ++ n ∷ [] → PushesFront old new words after
+push_more old now new words rest after n so_far said behind is = record {
+  numbers = so_far.numbers ++ n ∷ [];
+  front = front_more words rest after so_far.numbers n so_far.front said behind;
+  pushed = is ∙ ap (λ (l : List ℤ). l ++ n ∷ []) so_far.pushed ∙ append_assoc old so_far.numbers (n ∷ []);
+}
+
+-- a word that is a letter says no number, so a line of numbers has none
+pub not_letter : (word letter : Bytes) (more : Words) → signed_number_of letter ≡ None → lacks_number (word ∷ more) ≡ false → bytes_eq word letter ≡ false
+not_letter word letter more none number = go (bytes_eq word letter) refl where
+  go : (b : Bool) → bytes_eq word letter ≡ b → b ≡ false
+  go false e = refl
+  go true e = absurd (let same : word ≡ letter = (bytes_eq-Decides word letter).0 e in let clash : true ≡ false = rw (same, none) at number in cc)
+
+-- a number that a word says stands in 64 bits as it is
+pub same_number : (word : Option Bytes) (n : ℤ) → Some n ≡ option_and_then signed_number_of word → to_z w64 (of_z w64 n) ≡ n
+same_number word n said = to_z-of_z w64 n (signed_fits word n said)
 
 -- and a literal's number in 32
 pub same_literal : (n : ℤ) → nat_abs n ≤ 100000000 → to_z w32 (of_z w32 n) ≡ n
@@ -82,8 +86,8 @@ same_literal n few = to_z-of_z w32 n (fits n few) where
   fits (negsuc k) h = omega (arith, h)
 
 -- its bits are 0 where it is 0
-pub zero_number : (n : ℤ) → nat_abs n < 10 ^ 18 → of_z w64 n ≡ 0 → n ≡ pos 0
-zero_number n small none = sym (same_number n small) ∙ ap (to_z w64) none
+pub zero_number : (word : Option Bytes) (n : ℤ) → Some n ≡ option_and_then signed_number_of word → of_z w64 n ≡ 0 → n ≡ pos 0
+zero_number word n said none = sym (same_number word n said) ∙ ap (to_z w64) none
 
 -- a number that is neither 0 nor past its limit is a literal's
 pub literal_within : (n : ℤ) → (of_z w64 n ≡ 0 → ⊥) → nat_abs n ≤ 100000000 → IsWithin 100000000 (lit n)
@@ -103,7 +107,3 @@ all_more P xs x all one = All-append P xs (x ∷ []) all go where
   go : All P (x ∷ [])
   go zero d inside = one
   go (suc k) d inside = absurd (omega arith)
-
--- one number is taken
-pub front_one : (now new : List Bytes) (n : ℤ) → option_and_then signed_number_of (slice_get now 0) ≡ Some n → nat_abs n < 10 ^ 18 → new ≡ drop 1 now → TakesFront now new (n ∷ [])
-front_one now new n said small rest = front_more now now new [] n (front_none now) said small rest

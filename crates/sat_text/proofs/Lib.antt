@@ -3,13 +3,8 @@ pub mod CnfBack
 pub mod CnfLemmas
 pub mod CnfSound
 pub mod DraftLemmas
-pub mod FaultLemmas
 pub mod FrontLemmas
-pub mod LineFrontLemmas
 pub mod LogBack
 pub mod LogSound
 pub mod LratLemmas
-pub mod PrintedLines
-pub mod PrintedNumbers
-pub mod WordLemmas
-pub mod WriteLemmas
+pub mod NumberLines

@@ -1,22 +1,27 @@
 -- The numbers of a line of an LRAT text, and the step that they say.
-use Rattle.std.proofs.Common.{◌≡◌, ◌<◌, ◌≤◌, ◌+◌, ℕ, zero, suc, ℤ, pos, negsuc, Bool, false, true, List, [], ◌∷◌, ◌++◌, length, take, drop, slice_get, Option, None, Some, refl, sym, ap, subst, ◌∙◌, arith, add-one, append_assoc}
-use Rattle.std.specs.Prelude.{All, map, nat_abs, slice_index_or, bytes_eq, codes, if◌then◌else◌, nat_lt, ◌==◌, ◌||◌, not, option_to_list}
-use Rattle.std.specs.List.{slice_split, onto_first, cons_option}
+use Rattle.std.proofs.Common.{◌≡◌, ◌<◌, ◌≤◌, ◌+◌, ℕ, zero, suc, ℤ, pos, negsuc, Bool, false, true, List, [], ◌∷◌, ◌++◌, length, take, drop, slice_get, Option, None, Some, Result, refl, sym, ap, subst, ◌∙◌, arith, add-one, append_assoc}
+use Rattle.std.specs.Prelude.{All, fold, map, nat_abs, slice_index_or, if◌then◌else◌, nat_le, nat_lt, ◌==◌, ◌||◌, is_none, option_and_then, option_map, option_to_list}
+use Rattle.std.specs.List.{list_any, slice_split, onto_first, cons_option}
 use Rattle.std.proofs.lemmas.List.Splits.{slice_split_at, slice_split_none, length-slice_split}
 use Rattle.std.specs.Option.{option_or}
 use Rattle.fpga_text.specs.declared.fault.TextFault.{TextFault}
-use Rattle.fpga_text.specs.declared.fault.TextFault.TheVariants.{Bad, Limit, Memory}
-use Rattle.fpga_text.specs.Bytes.{Bytes}
-use Rattle.fpga_text.specs.Words.{TextLine}
+use Rattle.fpga_text.specs.declared.fault.TextFault.TheVariants.{Bad, Limit}
+use Rattle.fpga_text.specs.Bytes.{Bytes, is_empty}
+use Rattle.fpga_text.specs.FirstFault.{AnswersFault, Faults}
+use Rattle.fpga_text.specs.Codes.{faults_from, line_fault, numbered_words}
+use Rattle.fpga_text.specs.Numbers.{signed_number_of}
+use Rattle.fpga_text.specs.Words.{TextLine, Words, line_count, line_words}
+use Rattle.fpga_text.proofs.CodeLemmas.{faults_behind-from}
+use Rattle.fpga_text.proofs.FaultLemmas.{IsPast, past-line}
 use Rattle.sat_clause.specs.declared.literal.Lit.{Lit}
 use Rattle.sat_clause.specs.Literal.{lit, IsLiteral}
-use Rattle.sat_clause.specs.Step.{Step}
+use Rattle.sat_clause.specs.Step.{Step, Added, Erased}
+use Rattle.sat_text.specs.ByNumbers.{numbers_fault, step_fault, step_line_fault}
 use Rattle.sat_text.specs.CnfText.{but_last}
-use Rattle.sat_text.specs.FirstFault.{Faults, IsFaultOf}
-use Rattle.sat_text.specs.Numbers.{is_number, is_zero, numbers_of, lacks_number}
-use Rattle.sat_text.specs.LratText.{due_words, ends_with_zero, deleted_ids, added_by, first_past, added_limit, line_fault, said_step, raised, faults_above, steps_of}
-use Rattle.sat_text.proofs.FaultLemmas.{IsPast, past_more}
-use Rattle.sat_text.proofs.WordLemmas.{next_word, numbers_of-next}
+use Rattle.sat_text.specs.FrontNumbers.{TakesFront}
+use Rattle.sat_text.specs.Numbers.{is_zero, numbers_of, lacks_number}
+use Rattle.sat_text.specs.ToldLines.{told_lines}
+use Rattle.sat_text.specs.LratText.{added_by, added_limit, begins_with_d, deleted_ids, due_words, ends_with_zero, erased_limit, first_past, has_negative_hint, has_no_id, is_below_zero, is_deletion, is_out_of_order, lrat_codes, lrat_faults, past_number_limit, raised, raised_by, said_step, step_of, steps_of}
 
 -- the front numbers are not 0
 pub all_before : (numbers : List ℤ) (i : ℕ) → ((k : ℕ) → k < i → is_zero (slice_index_or numbers k (pos 0)) ≡ false)
@@ -129,56 +134,79 @@ all_literals [] all k d inside = absurd (omega arith)
 all_literals (n ∷ ns) all zero d inside = all 0 n (omega arith)
 all_literals (n ∷ ns) all (suc k) d inside = all_literals ns (λ j e h. all (suc j) e (omega arith)) k d (omega arith)
 
--- the first two words of a line
-pub two_words : (words rest : List Bytes) (first second : Bytes) → Some first ≡ slice_get words 0 → rest ≡ drop 1 words → Some second ≡ slice_get rest 0 → words ≡ first ∷ second ∷ drop 1 rest
-two_words words rest first second here is there =
-    next_word words first here ∙ ap (λ (l : List Bytes). first ∷ l) (sym is ∙ next_word rest second there)
+-- a line's fault, by its numbers
+pub by_numbers : (above n : ℕ) (words : Words) → line_fault (lrat_codes 0) above n words
+    ≡ (if lacks_number (due_words words) then Some (Bad n 701) else numbers_fault above n (is_deletion words) (numbers_of (due_words words)))
+by_numbers above n words = go (lacks_number (due_words words)) (has_no_id (is_deletion words) (numbers_of (due_words words))) (step_of (is_deletion words) (numbers_of (due_words words)))
+  where
+    last : (o : Option ℕ) → option_or (option_map (λ count. Limit 705 count) o) None ≡ option_map (λ count. Limit 705 count) o
+    last None = refl
+    last (Some count) = refl
 
--- the numbers of a line that deletes nothing
-pub due_words-other : (words : List Bytes) (first second : Bytes) (more : List Bytes) → words ≡ first ∷ second ∷ more → bytes_eq second (codes "d") ≡ false → due_words words ≡ first ∷ second ∷ more
-due_words-other words first second more is other = rw (is, other) refl
+    go : (lacks no_id : Bool) (step : Option Step)
+        → (if lacks || no_id then Some (Bad n 701) else if is_none step then Some (Bad n 702) else if is_out_of_order above step then Some (Bad n 703) else if has_negative_hint step then Some (Bad n 704) else option_or (option_map (λ count. Limit 705 count) (past_number_limit step)) None)
+        ≡ (if lacks then Some (Bad n 701) else if no_id then Some (Bad n 701) else step_fault above n step)
+    go true no_id step = refl
+    go false true step = refl
+    go false false None = refl
+    go false false (Some (Added id clause hints)) = λ i. if nat_le id above then Some (Bad n 703) else if list_any is_below_zero hints then Some (Bad n 704) else last (added_limit id clause hints) i
+    go false false (Some (Erased id ids)) = last (erased_limit id ids)
 
--- a word that is no number, or behind it another
-pub fault_word : (is more : Bool) (bad fault : TextFault) → IsFaultOf (if is then None else Some bad) fault → IsFaultOf (if not is || more then Some bad else None) fault
-fault_word true more bad (Bad line code) said = absurd (let clash : None ≡ Some (Bad line code) = said in cc)
-fault_word true more bad (Limit code count) said = absurd (let clash : None ≡ Some (Limit code count) = said in cc)
-fault_word true more bad Memory said = tt
-fault_word false more bad fault said = said
+-- so the answer that is given by the numbers of a line is one of the line
+pub numbers_answer : (above n : ℕ) (line : TextLine) (deletes : Bool) (numbers : List ℤ) (says : Option Step → Type 0) (result : Result (Unit {0}) TextFault) → n ≡ line.number
+    → (if lacks_number (due_words line.words) then Some (Bad line.number 701) else None) ≡ None → deletes ≡ is_deletion line.words → numbers ≡ numbers_of (due_words line.words)
+    → AnswersFault (numbers_fault above n deletes numbers) (λ _. says (step_of deletes numbers)) result → AnswersFault (step_line_fault above line) (λ _. says (said_step line.words)) result
+numbers_answer above n line deletes numbers says result at clean is are answer =
+    subst (λ fault. AnswersFault fault (λ _. says (said_step line.words)) result) (sym (by_numbers above line.number line.words ∙ go (lacks_number (due_words line.words)) clean))
+    (rw (at, is, are) at answer)
+  where
+    go : (b : Bool) → (if b then Some (Bad line.number 701) else None) ≡ None
+        → (if b then Some (Bad line.number 701) else numbers_fault above line.number (is_deletion line.words) (numbers_of (due_words line.words))) ≡ numbers_fault above line.number (is_deletion line.words) (numbers_of (due_words line.words))
+    go true clash = absurd (let no : Some (Bad line.number 701) ≡ None = clash in cc)
+    go false e = refl
 
--- the second word is no number
-pub fault_second : (line : ℕ) (words : List Bytes) (first second : Bytes) (more : List Bytes) (fault : TextFault) → words ≡ first ∷ second ∷ more → bytes_eq second (codes "d") ≡ false
-    → is_number first ≡ true → IsFaultOf (if is_number second then None else Some (Bad line 701)) fault
-    → IsFaultOf (if lacks_number (due_words words) then Some (Bad line 701) else None) fault
-fault_second line words first second more fault is other number bad =
-    rw (due_words-other words first second more is other, number) (fault_word (is_number second) (lacks_number more) (Bad line 701) fault bad)
+-- the greatest id behind one more line
+pub context_of-push : (inputs : ℕ) (before : List Words) (words : Words) → fold raised_by inputs (before ++ words ∷ []) ≡ raised_by (fold raised_by inputs before) words
+context_of-push inputs [] words = refl
+context_of-push inputs (first ∷ more) words = context_of-push (raised_by inputs first) more words
 
--- a later word is no number
-pub fault_later : (line : ℕ) (words : List Bytes) (first second : Bytes) (more : List Bytes) (fault : TextFault) → words ≡ first ∷ second ∷ more → bytes_eq second (codes "d") ≡ false
-    → is_number first ≡ true → is_number second ≡ true → IsFaultOf (if lacks_number more then Some (Bad line 701) else None) fault
-    → IsFaultOf (if lacks_number (due_words words) then Some (Bad line 701) else None) fault
-fault_later line words first second more fault is other one two bad = rw (due_words-other words first second more is other, one, two) bad
+-- the faults of the lines behind ids up to this one
+abbrev pub faults_above : ℕ → List TextLine → ℕ → Faults
+faults_above above lines end = faults_from raised_by (lrat_codes 0) above (numbered_words lines) end
 
--- the numbers of the words, one after another
-pub numbers_of-due : (words : List Bytes) (first second : Bytes) (more : List Bytes) → words ≡ first ∷ second ∷ more → bytes_eq second (codes "d") ≡ false
-    → (numbers_of (first ∷ []) ++ numbers_of (second ∷ [])) ++ numbers_of more ≡ numbers_of (due_words words)
-numbers_of-due words first second more is other =
-    append_assoc (numbers_of (first ∷ [])) (numbers_of (second ∷ [])) (numbers_of more)
-    ∙ ap (λ (l : List ℤ). numbers_of (first ∷ []) ++ l) (sym (numbers_of-next second more))
-    ∙ sym (numbers_of-next first (second ∷ more)) ∙ ap numbers_of (sym (due_words-other words first second more is other))
+-- the faults of a text are those behind the ids of its input clauses
+pub lrat_faults-from : (inputs : ℕ) (text : Bytes) → lrat_faults inputs text ≡ faults_above inputs (told_lines text) (line_count text + 1)
+lrat_faults-from inputs text = faults_behind-from raised_by (lrat_codes inputs) (context_of-push inputs) [] (numbered_words (told_lines text)) (line_count text + 1)
 
 -- one more line was taken
-pub step_past : (all : Faults) (above now : ℕ) (ahead more : List TextLine) (line : TextLine) → ahead ≡ line ∷ more → IsPast all (faults_above above ahead) → line_fault above line ≡ None
-    → now ≡ raised above (said_step line.words) → IsPast all (faults_above now more)
-step_past all above now ahead more line is past clean raise =
-    subst (λ (n : ℕ). IsPast all (faults_above n more)) (sym raise) (past_more {fault = line_fault above line} (rw is at past) clean)
+pub step_past : (all : Faults) (above now end : ℕ) (ahead more : List TextLine) (line : TextLine) → ahead ≡ line ∷ more → IsPast all (faults_above above ahead end) → step_line_fault above line ≡ None
+    → now ≡ raised above (said_step line.words) → IsPast all (faults_above now more end)
+step_past all above now end ahead more line is past clean raise =
+    subst (λ (n : ℕ). IsPast all (faults_above n more end)) (sym raise) (past-line {fault = step_line_fault above line} (rw is at past) clean)
 
 -- and its step, if it says one
-pub step_taken : (all done now : List Step) (ahead more : List TextLine) (line : TextLine) → ahead ≡ line ∷ more → done ++ steps_of ahead ≡ all
-    → now ≡ done ++ option_to_list (said_step line.words) → now ++ steps_of more ≡ all
+pub step_taken : (all done now : List Step) (ahead more : List TextLine) (line : TextLine) → ahead ≡ line ∷ more → done ++ steps_of (line_words ahead) ≡ all
+    → now ≡ done ++ option_to_list (said_step line.words) → now ++ steps_of (line_words more) ≡ all
 step_taken all done now ahead more line is whole taken =
-    ap (λ (l : List Step). l ++ steps_of more) taken ∙ append_assoc done (option_to_list (said_step line.words)) (steps_of more)
+    ap (λ (l : List Step). l ++ steps_of (line_words more)) taken ∙ append_assoc done (option_to_list (said_step line.words)) (steps_of (line_words more))
     ∙ ap (λ (l : List Step). done ++ l) (go (said_step line.words)) ∙ rw is at whole
   where
-    go : (step : Option Step) → option_to_list step ++ steps_of more ≡ cons_option step (steps_of more)
+    go : (step : Option Step) → option_to_list step ++ steps_of (line_words more) ≡ cons_option step (steps_of (line_words more))
     go None = refl
     go (Some step) = refl
+
+-- the numbers of a line were taken: the first, and those behind it or behind a `d`
+pub due_front : (words behind rest : Words) (n : ℤ) (more : List ℤ) (d : Bool) → Some n ≡ option_and_then signed_number_of (slice_get words 0) → d ≡ begins_with_d (drop 1 words)
+    → behind ≡ (if d then drop 1 (drop 1 words) else drop 1 words) → TakesFront behind rest more → TakesFront (due_words words) rest (n ∷ more)
+due_front [] behind rest n more d first is from front = absurd (let clash : Some n ≡ None = first in cc)
+due_front (word ∷ words) behind rest n more d first is from front =
+    let same : behind ≡ (if begins_with_d words then drop 1 words else words) = (rw is at from) in
+    record {
+      lacks = rw (← same, ← first) front.lacks;
+      said = rw (← same, ← first) (ap (λ (ns : List ℤ). n ∷ ns) front.said);
+    }
+
+-- a line that begins with this number deletes clauses where a `d` is next
+pub deletes_by : (words : Words) (n : ℤ) → Some n ≡ option_and_then signed_number_of (slice_get words 0) → begins_with_d (drop 1 words) ≡ is_deletion words
+deletes_by [] n first = absurd (let clash : Some n ≡ None = first in cc)
+deletes_by (word ∷ words) n first = refl

@@ -1,10 +1,9 @@
 pub mod Bodies
+pub mod ByNumbers
 pub mod Causes
 pub mod CnfText
 pub mod Drafts
-pub mod FirstFault
 pub mod FrontNumbers
-pub mod HeadLines
 pub mod LogDrafts
 pub mod LratText
 pub mod Numbers

@@ -1,29 +1,34 @@
 -- LRAT texts without steps that resolve on a first literal: comments, and lines that add a clause or
 -- delete clauses.
-use Rattle.std.specs.Prelude.{◌≡◌, ℕ, max, nat_lt, nat_le, nat_abs, ℤ, pos, int_le, int_lt, Bool, true, false, ◌&&◌, ◌||◌, if◌then◌else◌, List, [], ◌∷◌, map, find, filter_map, bytes_eq, codes, Option, None, Some, option_map}
+use Rattle.std.specs.Prelude.{◌≡◌, ℕ, ◌+◌, drop, fold, is_none, max, nat_lt, nat_le, nat_abs, ℤ, pos, int_le, int_lt, Bool, true, false, ◌&&◌, ◌||◌, if◌then◌else◌, List, [], ◌∷◌, map, find, filter_map, bytes_eq, codes, Option, None, Some, option_map}
 use Rattle.std.specs.List.{list_any, slice_split}
 use Rattle.std.specs.Option.{option_or}
-use Rattle.fpga_text.specs.declared.fault.TextFault.{TextFault}
-use Rattle.fpga_text.specs.declared.fault.TextFault.TheVariants.{Bad, Limit}
 use Rattle.fpga_text.specs.Bytes.{Bytes}
-use Rattle.fpga_text.specs.Words.{TextLine}
+use Rattle.fpga_text.specs.Words.{Words, line_count, line_words}
+use Rattle.fpga_text.specs.Codes.{Codes, At, Past, text_faults}
+use Rattle.fpga_text.specs.FirstFault.{Faults, IsFaultless}
 use Rattle.sat_clause.specs.Literal.{Clause, lit}
 use Rattle.sat_clause.specs.Step.{Step, Added, Erased}
 use Rattle.sat_text.specs.CnfText.{but_last}
-use Rattle.sat_text.specs.FirstFault.{Faults, IsFaultless, IsRefusal}
+use Rattle.sat_text.specs.declared.cause.Cause.TheVariants.{StepNumber, StepForm, IdOrder, HintSign, NumberLimit}
+use Rattle.sat_text.specs.Causes.{code_of}
 use Rattle.sat_text.specs.Numbers.{lacks_number, numbers_of, is_zero}
 use Rattle.sat_text.specs.ToldLines.{told_lines}
 
+-- the first word is `d`
+abbrev pub begins_with_d : Words → Bool
+begins_with_d [] = false
+begins_with_d (word ∷ more) = bytes_eq word (codes "d")
+
 -- the second word is `d`
-abbrev pub is_deletion : List Bytes → Bool
-is_deletion (id ∷ word ∷ more) = bytes_eq word (codes "d")
-is_deletion words = false
+abbrev pub is_deletion : Words → Bool
+is_deletion [] = false
+is_deletion (id ∷ more) = begins_with_d more
 
 -- the words where a number is due: all but the `d` of a deletion
-abbrev pub due_words : List Bytes → List Bytes
-due_words (id ∷ word ∷ more) =
-    if bytes_eq word (codes "d") then id ∷ more else id ∷ word ∷ more
-due_words words = words
+abbrev pub due_words : Words → Words
+due_words [] = []
+due_words (id ∷ more) = id ∷ (if begins_with_d more then drop 1 more else more)
 
 -- the last number is a 0
 abbrev pub ends_with_zero : List ℤ → Bool
@@ -84,31 +89,8 @@ added_limit id clause hints =
 abbrev pub erased_limit : ℕ → List ℤ → Option ℕ
 erased_limit id ids = first_past 4294967295 (pos id ∷ ids)
 
--- why a step is refused: 702, there is none; 703, its id is not above this number; 704, a negative
--- hint; 705, a number past its limit
-abbrev pub step_fault : ℕ → ℕ → Option Step → Option TextFault
-step_fault above line None = Some (Bad line 702)
-step_fault above line (Some (Added id clause hints)) =
-    if nat_le id above then Some (Bad line 703)
-    else if list_any is_below_zero hints then Some (Bad line 704)
-    else option_map (λ count. Limit 705 count) (added_limit id clause hints)
-step_fault above line (Some (Erased id ids)) =
-    option_map (λ count. Limit 705 count) (erased_limit id ids)
-
--- why the numbers of a line are refused: 701, an id is negative or 0; or for the step that they say
-abbrev pub numbers_fault : ℕ → ℕ → Bool → List ℤ → Option TextFault
-numbers_fault above line deletes numbers =
-    if has_no_id deletes numbers then Some (Bad line 701)
-    else step_fault above line (step_of deletes numbers)
-
--- why a line is refused: 701, a word is no number; or for its numbers
-abbrev pub line_fault : ℕ → TextLine → Option TextFault
-line_fault above line =
-    if lacks_number (due_words line.words) then Some (Bad line.number 701)
-    else numbers_fault above line.number (is_deletion line.words) (numbers_of (due_words line.words))
-
 -- the step that a line says
-abbrev pub said_step : List Bytes → Option Step
+abbrev pub said_step : Words → Option Step
 said_step words = step_of (is_deletion words) (numbers_of (due_words words))
 
 -- the greatest of this number and the id of an added clause
@@ -117,26 +99,60 @@ raised above None = above
 raised above (Some (Added id clause hints)) = max above id
 raised above (Some (Erased id ids)) = above
 
--- the faults of these lines, where the id of an added clause has to be above this number and above
--- all earlier ones
-abbrev pub faults_above : ℕ → List TextLine → Faults
-faults_above above [] = []
-faults_above above (line ∷ more) =
-    line_fault above line ∷ faults_above (raised above (said_step line.words)) more
+-- the same of the step that a line says
+abbrev pub raised_by : ℕ → Words → ℕ
+raised_by above words = raised above (said_step words)
+
+-- a number is due and is none, or an id is negative or 0
+abbrev pub lacks_step_number : ℕ → Words → Bool
+lacks_step_number above words =
+    lacks_number (due_words words) || has_no_id (is_deletion words) (numbers_of (due_words words))
+
+-- the line has the form neither of an added clause nor of a deletion
+abbrev pub lacks_step_form : ℕ → Words → Bool
+lacks_step_form above words = is_none (said_step words)
+
+-- the step adds a clause whose id is not above this number
+abbrev pub is_out_of_order : ℕ → Option Step → Bool
+is_out_of_order above (Some (Added id clause hints)) = nat_le id above
+is_out_of_order above step = false
+
+-- the step adds a clause with a negative hint
+abbrev pub has_negative_hint : Option Step → Bool
+has_negative_hint (Some (Added id clause hints)) = list_any is_below_zero hints
+has_negative_hint step = false
+
+-- of a step the first number that is past its limit
+abbrev pub past_number_limit : Option Step → Option ℕ
+past_number_limit None = None
+past_number_limit (Some (Added id clause hints)) = added_limit id clause hints
+past_number_limit (Some (Erased id ids)) = erased_limit id ids
+
+-- the codes of an LRAT text that goes with so many input clauses; the id of an added clause has to be
+-- above this number and all earlier ones
+abbrev pub lrat_codes : ℕ → Codes ℕ Words
+lrat_codes inputs = record {
+  context = λ before. fold raised_by inputs before;
+  of_line = At (code_of StepNumber) lacks_step_number ∷ At (code_of StepForm) lacks_step_form
+      ∷ At (code_of IdOrder) (λ above words. is_out_of_order above (said_step words))
+      ∷ At (code_of HintSign) (λ above words. has_negative_hint (said_step words))
+      ∷ Past (code_of NumberLimit) (λ above words. past_number_limit (said_step words)) ∷ [];
+  of_end = [];
+}
 
 -- the faults of a text that goes with so many input clauses
 abbrev pub lrat_faults : ℕ → Bytes → Faults
-lrat_faults inputs text = faults_above inputs (told_lines text)
+lrat_faults inputs text = text_faults (lrat_codes inputs) (told_lines text) (line_count text + 1)
 
--- the steps that these lines say
-abbrev pub steps_of : List TextLine → List Step
-steps_of lines = filter_map (λ line. said_step line.words) lines
+-- the steps that lines with these words say
+abbrev pub steps_of : List Words → List Step
+steps_of lines = filter_map said_step lines
+
+-- the steps that a text says
+abbrev pub lrat_said : Bytes → List Step
+lrat_said text = steps_of (line_words (told_lines text))
 
 -- the text has no fault, and says these steps
 pub record ReadsLrat (inputs : ℕ) (text : Bytes) (log : List Step) : Type 0 where
   pub faultless : IsFaultless (lrat_faults inputs text)
-  pub steps : log ≡ steps_of (told_lines text)
-
--- the text is refused by its first fault; or memory ran out
-abbrev pub IsRefusedLrat : ℕ → Bytes → TextFault → Type 0
-IsRefusedLrat inputs text fault = IsRefusal (lrat_faults inputs text) fault
+  pub steps : log ≡ lrat_said text

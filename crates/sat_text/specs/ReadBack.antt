@@ -5,6 +5,11 @@ use Rattle.sat_clause.specs.Literal.{IsWithin}
 use Rattle.sat_clause.specs.Step.{Step, Added, Erased}
 use Rattle.sat_text.specs.LratText.{raised}
 
+-- the formula has no more variables than may be read, and literals of these
+pub record HasOwnLiterals (cnf : Cnf) : Type 0 where
+  pub few_vars : cnf.vars ≤ 100000000
+  pub within : All (All (IsWithin cnf.vars)) cnf.clauses
+
 -- the formula has no more variables and clauses than may be read, and literals of its variables
 pub record IsPrintable (cnf : Cnf) : Type 0 where
   pub few_vars : cnf.vars ≤ 100000000

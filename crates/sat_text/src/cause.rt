@@ -1,6 +1,6 @@
 //! What can be wrong with a line of a CNF or an LRAT text.
 ghost use Rattle.std.specs.Prelude.{◌≡◌};
-ghost use Rattle.fpga_text.specs.declared.fault.TextFault.TheVariants.{Bad};
+ghost use Rattle.fpga_text.specs.declared.fault.TextFault.TheVariants.{Bad, Limit};
 ghost use Rattle.sat_text.specs.Causes.{code_of};
 
 use fpga_text::TextFault;
@@ -56,6 +56,16 @@ impl Cause {
         TextFault::Bad {
             line,
             code: self.code(),
+        }
+    }
+
+    /// The fault of a line that has so many, past a limit.
+    pub fn past(self, count: u64) -> TextFault
+        ensures { result ≡ Limit (code_of self) count }
+    {
+        TextFault::Limit {
+            code: self.code(),
+            count,
         }
     }
 }

@@ -1,30 +1,13 @@
 //! Numbers at the front of a line, in the quick way: each is read in one pass over its bytes, and put
 //! where it stays. What is out of the ordinary is left to the reader of any line.
-ghost use Rattle.std.specs.Prelude.{◌≡◌, ◌∷◌, [], ◌++◌, pos, map, All, IsTrue, OnOk};
+ghost use Rattle.std.specs.Prelude.{◌∷◌, [], ◌++◌, pos, map, All, IsTrue};
 ghost use Rattle.sat_clause.specs.Literal.{IsWithin};
 ghost use Rattle.sat_text.specs.FrontNumbers.{TakesFront};
-ghost use Rattle.sat_text.specs.Numbers.{lacks_number, numbers_of};
 ghost use Rattle.sat_text.specs.ReadBack.{IsIdNumber};
 
 use crate::step_line::{MOST_ID, MOST_VARIABLE};
 use fpga_text::Line;
 use sat_clause::Lit;
-use std::alloc::AllocError;
-
-/// Puts the numbers that stand in front behind these.
-pub fn push_front(numbers: &mut Vec<i64>, line: &mut Line<'_>) -> Result<(), AllocError>
-    ensures line { OnOk result (line.new.number ≡ line.old.number) }
-    ensures lacks { OnOk result (lacks_number line.new.words ≡ lacks_number line.old.words) }
-    ensures said { OnOk result (numbers.new.items ++ numbers_of line.new.words
-        ≡ numbers.old.items ++ numbers_of line.old.words) }
-{
-    while let Some(number) = line.next_number() {
-        let Ok(()) = numbers.push(number) else {
-            return Err(AllocError);
-        };
-    }
-    Ok(())
-}
 
 /// Puts the literals up to the next 0 in place of these. It answers whether they were all in order.
 pub fn front_literals(lits: &mut Vec<Lit>, line: &mut Line<'_>) -> bool

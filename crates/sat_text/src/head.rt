@@ -1,8 +1,8 @@
 //! The head line of a CNF text.
-ghost use Rattle.std.specs.Prelude.{◌≡◌, None, Some, IfOk, IfErr, option_map};
-ghost use Rattle.sat_text.specs.CnfText.{head_words, head_of, head_fault};
-ghost use Rattle.sat_text.specs.FirstFault.{IsFaultOf};
-ghost use Rattle.sat_text.specs.HeadLines.{head_words_said};
+ghost use Rattle.std.specs.Prelude.{◌≡◌, Some, option_map};
+ghost use Rattle.fpga_text.specs.FirstFault.{AnswersFault};
+ghost use Rattle.sat_text.specs.Bodies.{head_fault};
+ghost use Rattle.sat_text.specs.CnfText.{head_words, head_of};
 
 use crate::cause::Cause;
 use crate::number::natural;
@@ -30,7 +30,7 @@ struct HeadLine<'a> {
 
 /// These words, where the line has the form of a head line.
 fn head_line<'a>(line: &mut Line<'a>) -> Option<HeadLine<'a>>
-    ensures { option_map head_words_said result ≡ head_words line.old.words }
+    ensures { option_map (λ l. record { vars = l.vars.now; clauses = l.clauses.now }) result ≡ head_words line.old.words }
 {
     let (Some(p), Some(cnf)) = (line.next_word(), line.next_word()) else {
         return None;
@@ -49,29 +49,20 @@ fn head_line<'a>(line: &mut Line<'a>) -> Option<HeadLine<'a>>
 
 /// What a head line says, or why it is refused.
 pub fn read_head(line: &mut Line<'_>) -> Result<Head, TextFault>
-    ensures ok { IfOk result (λ head. head_of line.old.words ≡ Some head) }
-    ensures clean { IfOk result (λ _. head_fault line.old ≡ None) }
-    ensures err { IfErr result (IsFaultOf (head_fault line.old)) }
+    ensures { AnswersFault (head_fault line.old) (λ head. head_of line.old.words ≡ Some head) result }
 {
     let number = line.number();
     let Some(words) = head_line(line) else {
         return Err(Cause::HeadForm.at(number));
     };
-    let Some(vars) = natural(words.vars) else {
+    let (Some(vars), Some(clauses)) = (natural(words.vars), natural(words.clauses)) else {
         return Err(Cause::CnfNumber.at(number));
     };
-    let Some(clauses) = natural(words.clauses) else {
-        return Err(Cause::CnfNumber.at(number));
-    };
-    let code = Cause::SizeLimit.code();
     if vars > MOST_VARIABLES {
-        return Err(TextFault::Limit { code, count: vars });
+        return Err(Cause::SizeLimit.past(vars));
     }
     if clauses > MOST_CLAUSES {
-        return Err(TextFault::Limit {
-            code,
-            count: clauses,
-        });
+        return Err(Cause::SizeLimit.past(clauses));
     }
     Ok(Head {
         vars: vars as u32,

@@ -1,8 +1,9 @@
 //! A log as far as it was read.
-ghost use Rattle.std.specs.Prelude.{◌≡◌, [], true, false, None, OnOk, IfErr, IsTrue, map, All};
+ghost use Rattle.std.specs.Prelude.{◌≡◌, [], true, false, None, OnOk, IsTrue, map, All};
 ghost use Rattle.sat_clause.specs.Literal.{IsLiteral, lit};
-ghost use Rattle.sat_text.specs.FirstFault.{IsFaultOf};
-ghost use Rattle.sat_text.specs.LratText.{line_fault, numbers_fault, said_step, step_of};
+ghost use Rattle.fpga_text.specs.FirstFault.{AnswersFault};
+ghost use Rattle.sat_text.specs.ByNumbers.{numbers_fault, step_line_fault};
+ghost use Rattle.sat_text.specs.LratText.{said_step, step_of};
 
 use crate::front_numbers::{front_hints, front_literals};
 use crate::step_line::{MOST_ID, addition_said, deletion_said, read_numbers};
@@ -52,11 +53,13 @@ impl LogDraft {
 
     /// Takes the deletion that the numbers say.
     fn take_deletion(&mut self, line: u64) -> Result<(), TextFault>
-        ensures clean { OnOk result (numbers_fault self.old.above line true self.old.numbers.items ≡ None) }
-        ensures step { OnOk result (TakesStep self.old self.new (step_of true self.old.numbers.items)) }
-        ensures err { IfErr result (IsFaultOf (numbers_fault self.old.above line true self.old.numbers.items)) }
+        ensures { AnswersFault (numbers_fault self.old.above line true self.old.numbers.items)
+            (λ _. TakesStep self.old self.new (step_of true self.old.numbers.items)) result }
     {
-        let said = deletion_said(&self.numbers, line)?;
+        let said = match deletion_said(&self.numbers, line) {
+            Ok(said) => said,
+            Err(fault) => return Err(fault),
+        };
         let Ok(()) = self.log.reserve(1, said.ids.len() as u64) else {
             return Err(TextFault::Memory);
         };
@@ -66,12 +69,13 @@ impl LogDraft {
 
     /// Takes the added clause that the numbers say.
     fn take_addition(&mut self, line: u64) -> Result<(), TextFault>
-        ensures clean { OnOk result (numbers_fault self.old.above line false self.old.numbers.items ≡ None) }
-        ensures step { OnOk result (TakesStep self.old self.new (step_of false self.old.numbers.items)) }
-        ensures err { IfErr result (IsFaultOf
-            (numbers_fault self.old.above line false self.old.numbers.items)) }
+        ensures { AnswersFault (numbers_fault self.old.above line false self.old.numbers.items)
+            (λ _. TakesStep self.old self.new (step_of false self.old.numbers.items)) result }
     {
-        let said = addition_said(&self.numbers, self.above, line)?;
+        let said = match addition_said(&self.numbers, self.above, line) {
+            Ok(said) => said,
+            Err(fault) => return Err(fault),
+        };
         let Ok(()) = read_literals(&mut self.lits, said.lits) else {
             return Err(TextFault::Memory);
         };
@@ -89,7 +93,7 @@ impl LogDraft {
     /// Takes a line if it adds a clause and has no fault, as nearly all do, and answers whether it
     /// does. Where it doesn't, or memory is short, no step is taken, and `take_any_line` says why.
     fn take_faultless_addition(&mut self, line: &mut Line<'_>) -> bool
-        ensures clean { IsTrue result → line_fault self.old.above line.old ≡ None }
+        ensures clean { IsTrue result → step_line_fault self.old.above line.old ≡ None }
         ensures step { IsTrue result → TakesStep self.old self.new (said_step line.old.words) }
         ensures kept { result ≡ false → TakesStep self.old self.new None }
     {
@@ -118,9 +122,8 @@ impl LogDraft {
 
     /// Takes a line.
     pub fn take_line(&mut self, line: &mut Line<'_>) -> Result<(), TextFault>
-        ensures clean { OnOk result (line_fault self.old.above line.old ≡ None) }
-        ensures step { OnOk result (TakesStep self.old self.new (said_step line.old.words)) }
-        ensures err { IfErr result (IsFaultOf (line_fault self.old.above line.old)) }
+        ensures { AnswersFault (step_line_fault self.old.above line.old)
+            (λ _. TakesStep self.old self.new (said_step line.old.words)) result }
     {
         if self.take_faultless_addition(&mut line.again()) {
             return Ok(());
@@ -130,12 +133,14 @@ impl LogDraft {
 
     /// Takes a line of any form.
     fn take_any_line(&mut self, line: &mut Line<'_>) -> Result<(), TextFault>
-        ensures clean { OnOk result (line_fault self.old.above line.old ≡ None) }
-        ensures step { OnOk result (TakesStep self.old self.new (said_step line.old.words)) }
-        ensures err { IfErr result (IsFaultOf (line_fault self.old.above line.old)) }
+        ensures { AnswersFault (step_line_fault self.old.above line.old)
+            (λ _. TakesStep self.old self.new (said_step line.old.words)) result }
     {
         let number = line.number();
-        let deletes = read_numbers(&mut self.numbers, line)?;
+        let deletes = match read_numbers(&mut self.numbers, line) {
+            Ok(deletes) => deletes,
+            Err(fault) => return Err(fault),
+        };
         if deletes {
             return self.take_deletion(number);
         }

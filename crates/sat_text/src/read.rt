@@ -1,8 +1,11 @@
 //! Reading CNF and LRAT texts.
-ghost use Rattle.std.specs.Prelude.{OnOk, IfOk, IfErr};
-ghost use Rattle.sat_text.specs.Bodies.{TakesBody, IsRefusedBody};
-ghost use Rattle.sat_text.specs.CnfText.{ReadsCnf, IsRefusedCnf};
-ghost use Rattle.sat_text.specs.LratText.{ReadsLrat, IsRefusedLrat};
+ghost use Rattle.std.specs.Prelude.{◌≡◌};
+ghost use Rattle.fpga_text.specs.FirstFault.{Answers};
+ghost use Rattle.sat_text.specs.Bodies.{TakesBody, body_faults};
+ghost use Rattle.sat_text.specs.CnfText.{cnf_faults, cnf_said};
+ghost use Rattle.sat_text.specs.Drafts.{head_in};
+ghost use Rattle.sat_text.specs.LratText.{lrat_faults, lrat_said};
+ghost use Rattle.sat_text.specs.ToldLines.{told};
 
 use crate::cause::Cause;
 use crate::draft::Draft;
@@ -15,17 +18,21 @@ use std::alloc::Global;
 
 /// Takes the lines behind the head line.
 fn take_body(draft: &mut Draft, lines: &mut Lines<'_>) -> Result<(), TextFault>
-    ensures ok { OnOk result (TakesBody draft.old lines.old draft.new lines.new) }
-    ensures err { IfErr result (IsRefusedBody draft.old.formula.cnf.vars lines.old) }
+    ensures { Answers (body_faults (head_in draft.old) (told lines.old.ahead))
+        (λ _. TakesBody draft.old draft.new lines.old lines.new) result }
 {
     while let Some(mut line) = next_told(lines) {
-        draft.take_line(&mut line)?;
+        match draft.take_line(&mut line) {
+            Ok(()) => {}
+            Err(fault) => return Err(fault),
+        }
     }
     Ok(())
 }
 
 /// The formula that a CNF text says, in the format of the second DIMACS challenge (1993). The text is
-/// read once, and the formula grows with it.
+/// read once, and the formula grows with it. Behind as many clauses as the head line says nothing is
+/// kept any more, so that a text takes no more memory than its formula.
 ///
 /// # Errors
 /// `Bad` has the first bad line, counted from 1, with the least code that holds there:
@@ -37,24 +44,31 @@ fn take_body(draft: &mut Draft, lines: &mut Lines<'_>) -> Result<(), TextFault>
 /// `Limit` has the code 605 and a number of the head line: more than 100,000,000 variables, or more
 /// than 40,000,000 clauses. `Memory` comes where memory is short.
 pub fn read_cnf(alloc: Global, bytes: &[u8]) -> Result<Formula, TextFault>
-    ensures ok { IfOk result (λ formula. ReadsCnf bytes.now formula.cnf) }
-    ensures err { IfErr result (IsRefusedCnf bytes.now) }
+    ensures { Answers (cnf_faults bytes.now) (λ formula. formula.cnf ≡ cnf_said bytes.now) result }
 {
     let mut lines = Lines::new(bytes, Style::Plain);
     let Some(mut line) = next_told(&mut lines) else {
         return Err(Cause::HeadForm.at(lines.line_count() + 1));
     };
-    let head = read_head(&mut line)?;
-    let Ok(mut draft) = Draft::new(alloc, head.vars) else {
+    let head = match read_head(&mut line) {
+        Ok(head) => head,
+        Err(fault) => return Err(fault),
+    };
+    let Ok(mut draft) = Draft::new(alloc, head) else {
         return Err(TextFault::Memory);
     };
-    take_body(&mut draft, &mut lines)?;
-    if !draft.is_whole(head.clauses) {
+    match take_body(&mut draft, &mut lines) {
+        Ok(()) => {}
+        Err(fault) => return Err(fault),
+    }
+    if !draft.is_whole() {
         return Err(Cause::ClauseCount.at(lines.line_count() + 1));
     }
     let Draft {
         formula,
         open_clause: _,
+        most: _,
+        excess: _,
     } = draft;
     Ok(formula)
 }
@@ -73,13 +87,15 @@ pub fn read_cnf(alloc: Global, bytes: &[u8]) -> Result<Formula, TextFault>
 /// `Limit` has the code 705 and a number: an id or a hint above 4,294,967,295, or a literal of a
 /// variable above 100,000,000. `Memory` comes where memory is short.
 pub fn read_lrat(alloc: Global, bytes: &[u8], inputs: u32) -> Result<Log, TextFault>
-    ensures ok { IfOk result (λ log. ReadsLrat inputs bytes.now log.steps) }
-    ensures err { IfErr result (IsRefusedLrat inputs bytes.now) }
+    ensures { Answers (lrat_faults inputs bytes.now) (λ log. log.steps ≡ lrat_said bytes.now) result }
 {
     let mut lines = Lines::new(bytes, Style::Plain);
     let mut log_draft = LogDraft::new(alloc, inputs);
     while let Some(mut line) = next_told(&mut lines) {
-        log_draft.take_line(&mut line)?;
+        match log_draft.take_line(&mut line) {
+            Ok(()) => {}
+            Err(fault) => return Err(fault),
+        }
     }
     let LogDraft {
         log,

@@ -1,17 +1,19 @@
 //! The numbers of a line of an LRAT text, and the step that they say.
-ghost use Rattle.std.specs.Prelude.{◌≡◌, ◌<◌, ◌∷◌, [], ◌++◌, ℕ, ℤ, option_map, nat_abs, true, false, map, All, IfOk, IfErr, OnOk, IfSome, IfNone, None, Some, if◌then◌else◌};
+ghost use Rattle.std.specs.Prelude.{◌≡◌, ◌<◌, ◌∷◌, [], ℕ, ℤ, option_map, nat_abs, true, false, map, All, IfOk, IfErr, OnOk, IfSome, IfNone, None, Some, if◌then◌else◌};
 ghost use Rattle.std.specs.List.{list_any, slice_split};
 ghost use Rattle.fpga_text.specs.declared.fault.TextFault.TheVariants.{Bad};
 ghost use Rattle.sat_clause.specs.Literal.{IsLiteral, lit};
 ghost use Rattle.sat_clause.specs.Step.{Added, Erased};
-ghost use Rattle.sat_text.specs.FirstFault.{IsFaultOf};
-ghost use Rattle.sat_text.specs.LratText.{added_by, added_limit, added_step, deleted_ids, due_words, ends_with_zero, erased_limit, erased_step, first_past as first_past_of, is_below_zero, is_deletion, is_not_positive, numbers_fault};
-ghost use Rattle.sat_text.specs.Numbers.{is_number, is_zero as is_zero_of, lacks_number, numbers_of};
+ghost use Rattle.fpga_text.specs.FirstFault.{AnswersFault, IsFaultOf};
+ghost use Rattle.sat_text.specs.ByNumbers.{numbers_fault};
+ghost use Rattle.sat_text.specs.FrontNumbers.{IsAtNoNumber, PushesFront};
+ghost use Rattle.sat_text.specs.LratText.{added_by, added_limit, added_step, begins_with_d as begins_with_d_of, deleted_ids, due_words, ends_with_zero, erased_limit, erased_step, first_past as first_past_of, is_below_zero, is_deletion, is_not_positive};
+ghost use Rattle.sat_text.specs.Numbers.{is_zero as is_zero_of, lacks_number, numbers_of};
 
 use crate::cause::Cause;
-use crate::front_numbers::push_front;
-use crate::number::{is_zero, number};
+use crate::number::is_zero;
 use fpga_text::{Line, TextFault};
+use std::alloc::AllocError;
 
 /// The greatest id and the greatest hint.
 pub const MOST_ID: u64 = 4_294_967_295;
@@ -34,61 +36,60 @@ pub struct Deletion<'a> {
     pub ids: &'a [i64],
 }
 
-/// Puts the number that a word says behind the numbers.
-fn push_number(numbers: &mut Vec<i64>, word: &[u8], line: u64) -> Result<(), TextFault>
-    ensures number { OnOk result (is_number word.now ≡ true) }
-    ensures numbers { OnOk result (numbers.new.items ≡ numbers.old.items ++ numbers_of (word.now ∷ [])) }
-    ensures err { IfErr result (IsFaultOf (if is_number word.now then None else Some (Bad line 701))) }
+/// Puts the numbers of a line behind these, up to a word that says none.
+fn push_numbers(numbers: &mut Vec<i64>, line: &mut Line<'_>) -> Result<(), AllocError>
+    ensures front { OnOk result (PushesFront numbers.old.items numbers.new.items line.old.words
+        line.new.words) }
+    ensures end { OnOk result (IsAtNoNumber line.new.words) }
 {
-    let Some(number) = number(word) else {
-        return Err(Cause::StepNumber.at(line));
-    };
-    let Ok(()) = numbers.push(number) else {
-        return Err(TextFault::Memory);
-    };
+    while let Some(number) = line.next_number() {
+        let Ok(()) = numbers.push(number) else {
+            return Err(AllocError);
+        };
+    }
     Ok(())
 }
 
-/// Puts the numbers that the other words of a line say behind the numbers.
-fn push_numbers(numbers: &mut Vec<i64>, line: &mut Line<'_>) -> Result<(), TextFault>
-    ensures number { OnOk result (lacks_number line.old.words ≡ false) }
-    ensures numbers { OnOk result (numbers.new.items ≡ numbers.old.items ++ numbers_of line.old.words) }
-    ensures err { IfErr result (IsFaultOf
-        (if lacks_number line.old.words then Some (Bad line.old.number 701) else None)) }
+/// Whether the first word is a `d`.
+fn begins_with_d(line: &Line<'_>) -> bool
+    ensures { result ≡ begins_with_d_of line.now.words }
 {
-    let Ok(()) = push_front(numbers, line) else {
-        return Err(TextFault::Memory);
-    };
-    while let Some(word) = line.next_word() {
-        push_number(numbers, word.text, word.line)?;
+    let mut ahead = line.again();
+    match ahead.next_word() {
+        Some(word) => word.text == b"d".as_slice(),
+        None => false,
     }
-    Ok(())
 }
 
 /// Reads the numbers of a line in place of these, and answers whether the line deletes clauses.
 pub fn read_numbers(numbers: &mut Vec<i64>, line: &mut Line<'_>) -> Result<bool, TextFault>
-    ensures number { IfOk result (λ _. lacks_number (due_words line.old.words) ≡ false) }
-    ensures numbers { IfOk result (λ _. numbers.new.items ≡ numbers_of (due_words line.old.words)) }
-    ensures deletes { IfOk result (λ deletes. deletes ≡ is_deletion line.old.words) }
-    ensures err { IfErr result (IsFaultOf
-        (if lacks_number (due_words line.old.words) then Some (Bad line.old.number 701) else
-        None)) }
+    ensures { AnswersFault
+        (if lacks_number (due_words line.old.words) then Some (Bad line.old.number 701) else None)
+        (λ deletes. (deletes ≡ is_deletion line.old.words) × (numbers.new.items ≡ numbers_of
+        (due_words line.old.words))) result }
 {
     numbers.clear();
-    let Some(first) = line.next_word() else {
+    let at = line.number();
+    let Some(first) = line.next_number() else {
+        if line.has_words() {
+            return Err(Cause::StepNumber.at(at));
+        }
         return Ok(false);
     };
-    push_number(numbers, first.text, first.line)?;
-    let Some(second) = line.next_word() else {
-        return Ok(false);
+    let Ok(()) = numbers.push(first) else {
+        return Err(TextFault::Memory);
     };
-    if second.text == b"d".as_slice() {
-        push_numbers(numbers, line)?;
-        return Ok(true);
+    let deletes = begins_with_d(line);
+    if deletes {
+        line.next_word();
     }
-    push_number(numbers, second.text, second.line)?;
-    push_numbers(numbers, line)?;
-    Ok(false)
+    let Ok(()) = push_numbers(numbers, line) else {
+        return Err(TextFault::Memory);
+    };
+    if line.has_words() {
+        return Err(Cause::StepNumber.at(at));
+    }
+    Ok(deletes)
 }
 
 /// What stands before the first 0 and what stands behind it, if there is a 0.
@@ -185,8 +186,7 @@ pub fn deletion_said<'a>(numbers: &'a [i64], line: u64) -> Result<Deletion<'a>, 
         return Err(Cause::StepForm.at(line));
     }
     if let Some(count) = deletion_limit(*id, ids) {
-        let code = Cause::NumberLimit.code();
-        return Err(TextFault::Limit { code, count });
+        return Err(Cause::NumberLimit.past(count));
     }
     Ok(Deletion {
         id: *id as u32,
@@ -243,8 +243,7 @@ pub fn addition_said<'a>(
         return Err(Cause::HintSign.at(line));
     }
     if let Some(count) = addition_limit(*id, lits, hints) {
-        let code = Cause::NumberLimit.code();
-        return Err(TextFault::Limit { code, count });
+        return Err(Cause::NumberLimit.past(count));
     }
     Ok(Addition {
         id: *id as u32,

@@ -1,19 +1,19 @@
 //! The printed form of a formula, as DIMACS has it.
-ghost use Rattle.std.specs.Prelude.{◌≡◌, ◌≤◌, ◌++◌, true, length, flat_map, All, OnOk, OnErr};
+ghost use Rattle.std.specs.Prelude.{◌≡◌, ◌≤◌, ◌++◌, true, length, flat_map, All, IsOk, OnOk, OnErr};
 ghost use Rattle.desk_io.specs.ShelfState.{after_append, FailsToAppend};
 ghost use Rattle.desk_io.specs.Writing.{Writes};
 ghost use Rattle.fpga_text.specs.Bytes.{Bytes};
 ghost use Rattle.sat_clause.specs.Literal.{IsWithin};
 ghost use Rattle.sat_text.specs.CnfText.{ReadsCnf};
-ghost use Rattle.sat_text.specs.Printed.{clause_text, cnf_text, head_text, literal_text, number_text};
+ghost use Rattle.sat_text.specs.Printed.{clause_text, cnf_text, head_text, number_text};
 
 use arrayvec::ArrayString;
-use desk_io::{BlockWriter, Failed, Shelf};
+use desk_io::{BlockWriter, Failed, Prints, Shelf, append_text, print_each};
 use itoa::Buffer;
 use sat_clause::{Formula, Lit};
 
 /// Room for a number of 64 bits with its sign, and the blank after it.
-const NUMBER_ROOM: usize = 24;
+pub const NUMBER_ROOM: usize = 24;
 
 /// Room for a head line: two numbers of 10 digits, and 8 signs.
 const HEAD_ROOM: usize = 32;
@@ -26,6 +26,19 @@ pub fn spaced(number: i64) -> ArrayString<NUMBER_ROOM>
     text.push_str(Buffer::new().format(number));
     text.push_str(" ");
     text
+}
+
+/// Writes a short text.
+pub fn write_short<const N: usize, S: Shelf>(
+    writer: &mut BlockWriter,
+    shelf: &mut S,
+    text: &ArrayString<N>,
+) -> Result<(), Failed>
+    requires { (S.state shelf.old).is_created ≡ true }
+    ensures { Writes (S.state shelf.old) writer.old text.now.bytes (S.state shelf.new) writer.new
+        result }
+{
+    writer.write(shelf, text.as_bytes())
 }
 
 /// The head line of a formula.
@@ -42,49 +55,38 @@ fn head(formula: &Formula) -> ArrayString<HEAD_ROOM>
     line
 }
 
-/// Writes a literal.
-fn write_literal<S: Shelf>(
-    writer: &mut BlockWriter,
-    shelf: &mut S,
-    literal: Lit,
-) -> Result<(), Failed>
-    requires { (S.state shelf.old).is_created ≡ true }
-    ensures { Writes (S.state shelf.old) writer.old (literal_text literal) (S.state shelf.new)
-        writer.new result }
-{
-    writer.write(shelf, spaced(i64::from(literal.code)).as_bytes())
-}
+/// Literals, each with a blank after it.
+#[derive(Debug)]
+pub struct Literals;
 
-/// Writes the literals of a clause.
-fn write_literals<S: Shelf>(
-    writer: &mut BlockWriter,
-    shelf: &mut S,
-    clause: &[Lit],
-) -> Result<(), Failed>
-    requires { (S.state shelf.old).is_created ≡ true }
-    ensures { Writes (S.state shelf.old) writer.old (flat_map literal_text clause.now)
-        (S.state shelf.new) writer.new result }
-{
-    for literal in clause {
-        let Ok(()) = write_literal(writer, shelf, *literal) else {
-            return Err(Failed);
-        };
+impl Prints<Lit> for Literals {
+    ghost use Rattle.sat_text.specs.Printed.{literal_text};
+
+    ghost text = { literal_text };
+
+    fn print<S: Shelf>(
+        &self,
+        writer: &mut BlockWriter,
+        shelf: &mut S,
+        literal: &Lit,
+    ) -> Result<(), Failed> {
+        write_short(writer, shelf, &spaced(i64::from(literal.code)))
     }
-    Ok(())
 }
 
-/// Writes the literals of a clause, and what ends them.
-pub fn write_clause<S: Shelf>(
+/// Writes items, and what ends them.
+pub fn write_row<T, P: Prints<T>, S: Shelf>(
+    printer: &P,
     writer: &mut BlockWriter,
     shelf: &mut S,
-    clause: &[Lit],
+    items: &[T],
     end: &[u8],
 ) -> Result<(), Failed>
     requires { (S.state shelf.old).is_created ≡ true }
-    ensures { Writes (S.state shelf.old) writer.old (flat_map literal_text clause.now ++ end.now)
+    ensures { Writes (S.state shelf.old) writer.old (flat_map P.text items.now ++ end.now)
         (S.state shelf.new) writer.new result }
 {
-    let Ok(()) = write_literals(writer, shelf, clause) else {
+    let Ok(()) = print_each(printer, writer, shelf, items) else {
         return Err(Failed);
     };
     writer.write(shelf, end)
@@ -97,48 +99,41 @@ fn write_clauses<S: Shelf>(
     formula: &Formula,
 ) -> Result<(), Failed>
     requires { (S.state shelf.old).is_created ≡ true }
-    ensures written { Writes (S.state shelf.old) writer.old (flat_map clause_text formula.now.cnf.clauses)
-        (S.state shelf.new) writer.new result }
-    ensures within { OnOk result (All (All (IsWithin formula.now.cnf.vars)) formula.now.cnf.clauses) }
+    ensures written { Writes (S.state shelf.old) writer.old
+        (flat_map clause_text formula.now.cnf.clauses) (S.state shelf.new) writer.new result }
+    ensures within { OnOk result
+        (All (All (IsWithin formula.now.cnf.vars)) formula.now.cnf.clauses) }
 {
     for i in 0..formula.len() {
-        let Ok(()) = write_clause(writer, shelf, formula.clause(i), b"0\n") else {
+        let Ok(()) = write_row(&Literals, writer, shelf, formula.clause(i), b"0\n") else {
             return Err(Failed);
         };
     }
     Ok(())
 }
 
-/// Writes the head line.
-fn write_head<S: Shelf>(
-    writer: &mut BlockWriter,
-    shelf: &mut S,
-    formula: &Formula,
-) -> Result<(), Failed>
-    requires { (S.state shelf.old).is_created ≡ true }
-    ensures written { Writes (S.state shelf.old) writer.old (head_text formula.now.cnf) (S.state shelf.new)
-        writer.new result }
-    ensures few { formula.now.cnf.vars ≤ 100000000 }
-{
-    writer.write(shelf, head(formula).as_bytes())
-}
+/// A formula: the head line, and each clause on a line.
+#[derive(Debug)]
+struct CnfText;
 
-/// Writes the whole formula through a block.
-fn write_whole<S: Shelf>(
-    writer: &mut BlockWriter,
-    shelf: &mut S,
-    formula: &Formula,
-) -> Result<(), Failed>
-    requires { (S.state shelf.old).is_created ≡ true }
-    ensures written { Writes (S.state shelf.old) writer.old (cnf_text formula.now.cnf) (S.state shelf.new)
-        writer.new result }
-    ensures few { formula.now.cnf.vars ≤ 100000000 }
-    ensures within { OnOk result (All (All (IsWithin formula.now.cnf.vars)) formula.now.cnf.clauses) }
-{
-    let Ok(()) = write_head(writer, shelf, formula) else {
-        return Err(Failed);
-    };
-    write_clauses(writer, shelf, formula)
+impl Prints<Formula> for CnfText {
+    ghost use Rattle.sat_text.specs.ReadBack.{HasOwnLiterals};
+
+    ghost text = { λ formula. cnf_text formula.cnf };
+
+    ghost known = { λ formula. HasOwnLiterals formula.cnf };
+
+    fn print<S: Shelf>(
+        &self,
+        writer: &mut BlockWriter,
+        shelf: &mut S,
+        formula: &Formula,
+    ) -> Result<(), Failed> {
+        let Ok(()) = write_short(writer, shelf, &head(formula)) else {
+            return Err(Failed);
+        };
+        write_clauses(writer, shelf, formula)
+    }
 }
 
 /// Appends the printed form of a formula to the created file: the head line `p cnf VARS CLAUSES`,
@@ -154,15 +149,8 @@ pub fn write_cnf<S: Shelf>(formula: &Formula, shelf: &mut S) -> Result<(), Faile
         (S.state shelf.new)) }
     ensures reads { length formula.now.cnf.clauses ≤ 40000000 → OnOk result
         (ReadsCnf (cnf_text formula.now.cnf) formula.now.cnf) }
-    ensures read_back { (text : Bytes) → ReadsCnf text formula.now.cnf → ReadsCnf (cnf_text formula.now.cnf)
-        formula.now.cnf }
+    ensures read_back { (text : Bytes) → ReadsCnf text formula.now.cnf → ReadsCnf
+        (cnf_text formula.now.cnf) formula.now.cnf }
 {
-    let mut writer = BlockWriter::new();
-    let Ok(()) = write_whole(&mut writer, shelf, formula) else {
-        return Err(Failed);
-    };
-    let Ok(()) = writer.flush(shelf) else {
-        return Err(Failed);
-    };
-    Ok(())
+    append_text(&CnfText, shelf, formula)
 }

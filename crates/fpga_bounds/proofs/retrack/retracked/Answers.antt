@@ -1,7 +1,7 @@
 use Rattle.std.proofs.Common.{◌≡◌, ◌∙◌, ap, refl, sym, length, List}
 use Rattle.fpga_types.specs.Slots.{slots}
 use Rattle.fpga_types.specs.declared.route.RouteNet.{RouteNet}
-use Rattle.fpga_bounds.proofs.InPlaceLemmas.{given-back}
+use Rattle.list_laws.proofs.FrontParts.{given-back}
 use Rattle.fpga_bounds.specs.Retrack.{nets_with_tracks}
 use Rattle.fpga_bounds.proofs.retrack.retracked.Goals as goal
 

@@ -1,22 +1,27 @@
-use Rattle.std.proofs.Common.{◌≡◌, ◌<◌, refl, sym, ap, ◌∙◌, Bool, List, length, below_more, arith, Some}
+use Rattle.std.proofs.Common.{◌≡◌, ◌<◌, refl, sym, ap, subst, ◌∙◌, Bool, List, length, take, arith, Some}
+use Rattle.std.proofs.Math.Seq.{take-length}
+use Rattle.fpga_text.specs.FirstFault.{IsFaultOf, IsFaultless, IsRefusal}
+use Rattle.fpga_types.specs.Slots.{slots_of}
+use Rattle.fpga_bounds.specs.NetFit.{nets_faults}
 use Rattle.std.specs.Prelude.{◌||◌, slice_get}
 use Rattle.std.specs.List.{list_any}
 use Rattle.std.proofs.lemmas.Option.{slice_get_read}
 use Rattle.fpga_types.specs.Fit.{same_pin}
 use Rattle.fpga_types.specs.declared.route.RouteNet.{RouteNet}
-use Rattle.fpga_bounds.specs.declared.fit_stop.FitStop.TheVariants.{Unfit}
-use Rattle.fpga_bounds.proofs.RouteLemmas.{all-fit, fit-each, pins-more}
+use Rattle.fpga_bounds.proofs.KeyLemmas.{pins-more}
+use Rattle.fpga_bounds.proofs.LineLemmas.{get-none, past-nets}
 use Rattle.fpga_bounds.proofs.route_check.fitting_slots.Goals as goal
 
-pub returns-in-Err-clause-unfit : goal.returns-in-Err-clause-unfit
-returns-in-Err-clause-unfit c = λ err fit.
-    let stop : c.in-Err.stop ≡ Unfit = cc in
-    c.in-Err.ensures.unfit (rw stop refl) (rw c.as_slice-nets.ensures (fit-each c.args.route.now.grid c.args.route.now.nets fit c.loop-n.n))
+pub returns-in-Err : goal.returns-in-Err
+returns-in-Err c =
+    subst (λ (nets : List RouteNet). IsRefusal (nets_faults c.args.route.now.grid nets 0) c.in-Err.fault)
+    c.as_slice-nets.ensures
+    (subst (λ fault. IsFaultOf fault c.in-Err.fault) (sym c.loop-n.invariant.past) c.in-Err.ensures.refused)
 
 pub loop-n-preserved : goal.loop-n-preserved
 loop-n-preserved c = record {
   nets = c.loop-n.invariant.nets;
-  fits = below_more _ _ c.loop-n.invariant.fits c.in_default.ensures.fits;
+  past = c.loop-n.invariant.past ∙ c.in_default.ensures.fits;
   table = c.in_default.ensures.slots;
   pins = λ e.
       let nets : List RouteNet = c.as_slice-nets.result.now in
@@ -26,5 +31,11 @@ loop-n-preserved c = record {
       ∙ rw (c.as_slice.ensures, ← c.index-nets-n.is) (sym (pins-more nets c.loop-n.n c.index-nets-n.result e here));
 }
 
-pub returns-clause-fits : goal.returns-clause-fits
-returns-clause-fits c = rw (← c.as_slice-nets.ensures) (all-fit c.args.route.now.grid c.as_slice-nets.result.now (λ k below. c.loop-n.invariant.fits k (omega (arith, below))))
+pub returns : goal.returns
+returns c =
+    let nets : List RouteNet = c.as_slice-nets.result.now in
+    let end : c.loop-n.n ≡ length nets = omega arith in (
+      subst (λ (all : List RouteNet). IsFaultless (nets_faults c.args.route.now.grid all 0)) c.as_slice-nets.ensures
+          (c.loop-n.invariant.past ∙ past-nets c.args.route.now.grid nets c.loop-n.n (get-none nets c.loop-n.n (omega arith))),
+      c.loop-n.invariant.table ∙ ap slots_of (ap (λ m. take m nets) end ∙ take-length nets ∙ c.as_slice-nets.ensures),
+    )

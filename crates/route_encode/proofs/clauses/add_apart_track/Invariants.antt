@@ -7,4 +7,5 @@ use Rattle.route_encode.proofs.clauses.add_apart_track.Given as goal
 
 abbrev pub invariant-loop-shared : goal.invariant-loop-shared
 invariant-loop-shared l =
-    Adds l.initial.formula (flat_map (λ t. not_both l.variables.width l.lower t l.higher t ∷ []) (below l.shared)) l.formula
+    Adds l.initial.formula (flat_map (λ t. not_both l.variables.width l.lower t l.higher t ∷ [])
+    (below l.shared)) l.formula

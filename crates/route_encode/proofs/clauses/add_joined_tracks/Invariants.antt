@@ -7,4 +7,5 @@ use Rattle.route_encode.proofs.clauses.add_joined_tracks.Given as goal
 
 abbrev pub invariant-loop-step : goal.invariant-loop-step
 invariant-loop-step l =
-    Adds l.initial.formula (flat_map (same_tracks l.variables.width) (take l.step-index l.steps)) l.formula
+    Adds l.initial.formula
+    (flat_map (same_tracks l.variables.width) (take l.step-index l.steps)) l.formula

@@ -6,4 +6,5 @@ use Rattle.route_encode.proofs.clauses.add_one_track.Given as goal
 
 abbrev pub invariant-loop-track : goal.invariant-loop-track
 invariant-loop-track l =
-    Adds l.initial.formula (flat_map (no_higher_track l.variables.width l.slot) (below l.track)) l.formula
+    Adds l.initial.formula (flat_map (no_higher_track l.variables.width l.slot)
+    (below l.track)) l.formula

@@ -8,12 +8,22 @@ use Rattle.route_encode.proofs.clauses.add_same_tracks.Goals as goal
 
 pub add_clause-requires-clause-room : goal.add_clause-requires-clause-room
 add_clause-requires-clause-room c =
-    let one : ℕ → Clause = λ t. lacks c.args.variables.width c.args.step.from t ∷ has c.args.variables.width c.args.step.to t ∷ [] in
-    let room = subst (HasRoom c.args.formula.now) (sym (flat_map_single one (below c.args.variables.width))) c.requires.room in
-    rw (c.lacks-first.ensures, c.has.ensures) (below-room (λ t. one t ∷ []) c.args.variables.width c.loop-track.track (omega arith) _ _ room c.loop-track.invariant)
+    let one : ℕ → Clause =
+    λ t. lacks c.args.variables.width c.args.step.from t
+    ∷ has c.args.variables.width c.args.step.to t ∷ [] in
+    let room =
+    subst (HasRoom c.args.formula.now)
+    (sym (flat_map_single one (below c.args.variables.width))) c.requires.room in
+    rw (c.lacks-first.ensures, c.has.ensures)
+    (below-room (λ t. one t ∷ []) c.args.variables.width c.loop-track.track
+    (omega arith) _ _ room c.loop-track.invariant)
 
 pub loop-track-preserved : goal.loop-track-preserved
 loop-track-preserved c =
-    let one : ℕ → Clause = λ t. lacks c.args.variables.width c.args.step.from t ∷ has c.args.variables.width c.args.step.to t ∷ [] in
-    let added : Adds c.loop-track.formula (one c.loop-track.track ∷ []) c.add_clause.new.formula = rw (c.lacks-first.ensures, c.has.ensures) at c.add_clause.ensures in
-    below-more (λ t. one t ∷ []) c.args.variables.width c.loop-track.track (omega arith) _ _ _ c.loop-track.invariant added
+    let one : ℕ → Clause =
+    λ t. lacks c.args.variables.width c.args.step.from t
+    ∷ has c.args.variables.width c.args.step.to t ∷ [] in
+    let added : Adds c.loop-track.formula (one c.loop-track.track ∷ []) c.add_clause.new.formula =
+    rw (c.lacks-first.ensures, c.has.ensures) at c.add_clause.ensures in
+    below-more (λ t. one t ∷ []) c.args.variables.width c.loop-track.track
+    (omega arith) _ _ _ c.loop-track.invariant added

@@ -7,4 +7,7 @@ use Rattle.route_encode.proofs.clauses.add_same_tracks.Given as goal
 
 abbrev pub invariant-loop-track : goal.invariant-loop-track
 invariant-loop-track l =
-    Adds l.initial.formula (flat_map (λ t. (lacks l.variables.width l.step.from t ∷ has l.variables.width l.step.to t ∷ []) ∷ []) (below l.track)) l.formula
+    Adds l.initial.formula
+    (flat_map
+    (λ t. (lacks l.variables.width l.step.from t ∷ has l.variables.width l.step.to t ∷ []) ∷ [])
+    (below l.track)) l.formula

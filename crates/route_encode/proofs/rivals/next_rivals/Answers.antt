@@ -9,9 +9,13 @@ loop-s-preserved c =
     let high : c.loop-s.s ≤ length c.args.slots.now = omega arith in
     record {
       each = length-set c.loop-s.next.items _ _ ∙ c.loop-s.invariant.each;
-      next = row-more c.args.slots.now c.loop-s.next.items c.loop-s.s c.in_ok-next-2.field-0 some high c.loop-s.invariant.each c.loop-s.invariant.next
-          (c.in_ok-next-2.ensures.old ∙ c.loop-s.invariant.first (slot_at c.args.slots.now (c.loop-s.s - 1)).cell ∙ rival-first c.args.slots.now c.loop-s.s some);
-      first = first-more c.args.slots.now c.loop-s.s c.loop-s.first c.insert.new.self some high c.loop-s.invariant.first c.in_ok-next-2.ensures.updates.0;
+      next = row-more c.args.slots.now c.loop-s.next.items c.loop-s.s c.in_ok-next-2.field-0 some
+          high c.loop-s.invariant.each c.loop-s.invariant.next
+          (c.in_ok-next-2.ensures.old
+          ∙ c.loop-s.invariant.first (slot_at c.args.slots.now (c.loop-s.s - 1)).cell
+          ∙ rival-first c.args.slots.now c.loop-s.s some);
+      first = first-more c.args.slots.now c.loop-s.s c.loop-s.first c.insert.new.self some high
+          c.loop-s.invariant.first c.in_ok-next-2.ensures.updates.0;
     }
 
 pub returns : goal.returns

@@ -12,6 +12,8 @@ use Rattle.route_encode.proofs.rivals.next_rivals.Given as goal
 abbrev pub invariant-loop-s : goal.invariant-loop-s
 invariant-loop-s l = record {
   each : length l.next.items ≡ length l.slots;
-  next : (k : ℕ) → l.s ≤ k → k < length l.slots → slice_index_or l.next.items k None ≡ next_rival l.slots k;
-  first : (c : Cell) → get cmp-value.it l.first c ≡ find (λ b. same_cell (slot_at l.slots b).cell c) (slots_from l.slots l.s);
+  next : (k : ℕ) → l.s ≤ k → k < length l.slots → slice_index_or l.next.items k None
+      ≡ next_rival l.slots k;
+  first : (c : Cell) → get cmp-value.it l.first c ≡ find (λ b. same_cell (slot_at l.slots b).cell c)
+      (slots_from l.slots l.s);
 }

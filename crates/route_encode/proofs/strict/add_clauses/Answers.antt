@@ -25,31 +25,60 @@ fourths width all = flat_map (apart_from_rivals width all) (below (length all))
 pub add_some_tracks-requires-clause-room : goal.add_some_tracks-requires-clause-room
 add_some_tracks-requires-clause-room c =
     let n : ℕ = length c.args.chains.now in
-    rw c.requires.each (four-first (firsts c.args.variables.width n) (seconds c.args.variables.width n) (thirds c.args.variables.width c.args.steps.now) (fourths c.args.variables.width c.args.chains.now) c.args.formula.now c.requires.room)
+    rw c.requires.each
+    (four-first (firsts c.args.variables.width n) (seconds c.args.variables.width n)
+    (thirds c.args.variables.width c.args.steps.now)
+    (fourths c.args.variables.width c.args.chains.now) c.args.formula.now c.requires.room)
 
 pub add_one_tracks-requires-clause-room : goal.add_one_tracks-requires-clause-room
 add_one_tracks-requires-clause-room c =
     let n : ℕ = length c.args.chains.now in
-    let f : Adds c.args.formula.now (firsts c.args.variables.width n) c.add_some_tracks.new.formula = rw c.requires.each at c.add_some_tracks.ensures in
-    rw c.requires.each (four-second (firsts c.args.variables.width n) (seconds c.args.variables.width n) (thirds c.args.variables.width c.args.steps.now) (fourths c.args.variables.width c.args.chains.now) c.args.formula.now _ c.requires.room f)
+    let f : Adds c.args.formula.now
+    (firsts c.args.variables.width n) c.add_some_tracks.new.formula =
+    rw c.requires.each at c.add_some_tracks.ensures in
+    rw c.requires.each
+    (four-second (firsts c.args.variables.width n) (seconds c.args.variables.width n)
+    (thirds c.args.variables.width c.args.steps.now)
+    (fourths c.args.variables.width c.args.chains.now) c.args.formula.now _ c.requires.room f)
 
 pub add_joined_tracks-requires-clause-room : goal.add_joined_tracks-requires-clause-room
 add_joined_tracks-requires-clause-room c =
     let n : ℕ = length c.args.chains.now in
-    let f : Adds c.args.formula.now (firsts c.args.variables.width n) c.add_some_tracks.new.formula = rw c.requires.each at c.add_some_tracks.ensures in
-    let g : Adds c.add_some_tracks.new.formula (seconds c.args.variables.width n) c.add_one_tracks.new.formula = rw c.requires.each at c.add_one_tracks.ensures in
-    four-third (firsts c.args.variables.width n) (seconds c.args.variables.width n) (thirds c.args.variables.width c.args.steps.now) (fourths c.args.variables.width c.args.chains.now) c.args.formula.now _ _ c.requires.room f g
+    let f : Adds c.args.formula.now
+    (firsts c.args.variables.width n) c.add_some_tracks.new.formula =
+    rw c.requires.each at c.add_some_tracks.ensures in
+    let g : Adds c.add_some_tracks.new.formula
+    (seconds c.args.variables.width n) c.add_one_tracks.new.formula =
+    rw c.requires.each at c.add_one_tracks.ensures in
+    four-third (firsts c.args.variables.width n) (seconds c.args.variables.width n)
+    (thirds c.args.variables.width c.args.steps.now)
+    (fourths c.args.variables.width c.args.chains.now) c.args.formula.now _ _ c.requires.room f
+    g
 
 pub add_apart_tracks-requires-clause-room : goal.add_apart_tracks-requires-clause-room
 add_apart_tracks-requires-clause-room c =
     let n : ℕ = length c.args.chains.now in
-    let f : Adds c.args.formula.now (firsts c.args.variables.width n) c.add_some_tracks.new.formula = rw c.requires.each at c.add_some_tracks.ensures in
-    let g : Adds c.add_some_tracks.new.formula (seconds c.args.variables.width n) c.add_one_tracks.new.formula = rw c.requires.each at c.add_one_tracks.ensures in
-    four-fourth (firsts c.args.variables.width n) (seconds c.args.variables.width n) (thirds c.args.variables.width c.args.steps.now) (fourths c.args.variables.width c.args.chains.now) c.args.formula.now _ _ _ c.requires.room f g c.add_joined_tracks.ensures
+    let f : Adds c.args.formula.now
+    (firsts c.args.variables.width n) c.add_some_tracks.new.formula =
+    rw c.requires.each at c.add_some_tracks.ensures in
+    let g : Adds c.add_some_tracks.new.formula
+    (seconds c.args.variables.width n) c.add_one_tracks.new.formula =
+    rw c.requires.each at c.add_one_tracks.ensures in
+    four-fourth (firsts c.args.variables.width n) (seconds c.args.variables.width n)
+    (thirds c.args.variables.width c.args.steps.now)
+    (fourths c.args.variables.width c.args.chains.now) c.args.formula.now _ _ _ c.requires.room
+    f g c.add_joined_tracks.ensures
 
 pub returns : goal.returns
 returns c =
     let n : ℕ = length c.args.chains.now in
-    let f : Adds c.args.formula.now (firsts c.args.variables.width n) c.add_some_tracks.new.formula = rw c.requires.each at c.add_some_tracks.ensures in
-    let g : Adds c.add_some_tracks.new.formula (seconds c.args.variables.width n) c.add_one_tracks.new.formula = rw c.requires.each at c.add_one_tracks.ensures in
-    four-all (firsts c.args.variables.width n) (seconds c.args.variables.width n) (thirds c.args.variables.width c.args.steps.now) (fourths c.args.variables.width c.args.chains.now) c.args.formula.now _ _ _ _ f g c.add_joined_tracks.ensures c.add_apart_tracks.ensures
+    let f : Adds c.args.formula.now
+    (firsts c.args.variables.width n) c.add_some_tracks.new.formula =
+    rw c.requires.each at c.add_some_tracks.ensures in
+    let g : Adds c.add_some_tracks.new.formula
+    (seconds c.args.variables.width n) c.add_one_tracks.new.formula =
+    rw c.requires.each at c.add_one_tracks.ensures in
+    four-all (firsts c.args.variables.width n) (seconds c.args.variables.width n)
+    (thirds c.args.variables.width c.args.steps.now)
+    (fourths c.args.variables.width c.args.chains.now) c.args.formula.now _ _ _ _ f g
+    c.add_joined_tracks.ensures c.add_apart_tracks.ensures

@@ -11,7 +11,8 @@ abbrev pub invariant-loop-next : goal.invariant-loop-next
 invariant-loop-next l = record {
   done : List ℕ;
   walked : IsWalked l.chains l.slot l.next done;
-  added : Adds l.initial.formula (flat_map (λ b. apart_track l.variables.width (l.slot, b)) done) l.formula;
+  added : Adds l.initial.formula
+      (flat_map (λ b. apart_track l.variables.width (l.slot, b)) done) l.formula;
 }
 
 abbrev pub decreases-loop-next : goal.decreases-loop-next

@@ -7,4 +7,5 @@ use Rattle.route_encode.proofs.walk.add_apart_tracks.Given as goal
 
 abbrev pub invariant-loop-slot : goal.invariant-loop-slot
 invariant-loop-slot l =
-    Adds l.initial.formula (flat_map (apart_from_rivals l.variables.width l.chains) (below l.slot)) l.formula
+    Adds l.initial.formula (flat_map (apart_from_rivals l.variables.width l.chains)
+    (below l.slot)) l.formula

@@ -1,4 +1,4 @@
-use Rattle.std.proofs.Common.{◌≡◌, Option, Some, None, is_some, true, refl, Err}
+use Rattle.std.proofs.Common.{◌≡◌, Option, Some, None, is_some, true, refl, inl, inr, Err}
 use Rattle.router_top.proofs.input.read_input.Goals as goal
 
 -- a value that is there
@@ -7,6 +7,13 @@ the_value None h = cc
 the_value (Some x) h = (x, refl)
 
 pub returns-in-Err-TooLong-clause-stop : goal.returns-in-Err-TooLong-clause-stop
-returns-in-Err-TooLong-clause-stop g c = λ files told.
-    let there = the_value _ (c.in-Err-TooLong.ensures.there (λ e. cc) files told) in
-    (there.0, there.1, (c.in-Err-TooLong.ensures.too_long (λ i. Err (c.in-Err-TooLong.field-0-is i)) files told there.0 there.1).0)
+returns-in-Err-TooLong-clause-stop g c = inr (inr (inl (
+  (λ files told.
+      let there = the_value _ (c.in-Err-TooLong.ensures.there (λ e. cc) files told) in (
+        there.0,
+        there.1,
+        (c.in-Err-TooLong.ensures.too_long
+            (λ i. Err (c.in-Err-TooLong.field-0-is i)) files told there.0 there.1).0,
+      )),
+  refl,
+)))

@@ -3,10 +3,17 @@ use Rattle.desk_io.proofs.WholeFileLemmas.{append-fails, file-written, finish-fa
 use Rattle.router_top.proofs.output.write_cnf_file.Goals as goal
 
 pub returns-clause-ok : goal.returns-clause-ok
-returns-clause-ok g c = file-written (g.S.Shelf.state c.args.shelf.now) c.args.name.now (cnf_text c.args.formula.now.cnf) c.in-Ok.ensures.ok c.in-Ok-write_cnf.ensures.ok c.in-Ok-finish.ensures.ok
+returns-clause-ok g c = file-written (g.S.Shelf.state c.args.shelf.now) c.args.name.now
+    (cnf_text c.args.formula.now.cnf) c.in-Ok.ensures.ok c.in-Ok-write_cnf.ensures.ok
+    c.in-Ok-finish.ensures.ok
 
 pub returns-in_default-write_cnf-clause-err : goal.returns-in_default-write_cnf-clause-err
-returns-in_default-write_cnf-clause-err g c = append-fails (g.S.Shelf.state c.args.shelf.now) c.args.name.now (cnf_text c.args.formula.now.cnf) c.in-Ok.ensures.ok c.in_default-write_cnf.ensures.err
+returns-in_default-write_cnf-clause-err g c =
+    append-fails (g.S.Shelf.state c.args.shelf.now) c.args.name.now
+    (cnf_text c.args.formula.now.cnf) c.in-Ok.ensures.ok c.in_default-write_cnf.ensures.err
 
 pub returns-in_default-finish-clause-err : goal.returns-in_default-finish-clause-err
-returns-in_default-finish-clause-err g c = finish-fails (g.S.Shelf.state c.args.shelf.now) c.args.name.now (cnf_text c.args.formula.now.cnf) c.in-Ok.ensures.ok c.in-Ok-write_cnf.ensures.ok c.in_default-finish.ensures.err
+returns-in_default-finish-clause-err g c =
+    finish-fails (g.S.Shelf.state c.args.shelf.now) c.args.name.now
+    (cnf_text c.args.formula.now.cnf) c.in-Ok.ensures.ok c.in-Ok-write_cnf.ensures.ok
+    c.in_default-finish.ensures.err

@@ -8,7 +8,8 @@ use Rattle.sat_text.proofs.write.write_clauses.Given as goal
 
 abbrev pub invariant-loop-i : goal.invariant-loop-i
 invariant-loop-i g l = record {
-  passed : PassesOn (g.S.Shelf.state l.initial.shelf) l.initial.writer (flat_map clause_text (take l.i l.formula.cnf.clauses)) (g.S.Shelf.state l.shelf) l.writer;
+  passed : PassesOn (g.S.Shelf.state l.initial.shelf) l.initial.writer
+      (flat_map clause_text (take l.i l.formula.cnf.clauses)) (g.S.Shelf.state l.shelf) l.writer;
   within : All (All (IsWithin l.formula.cnf.vars)) (take l.i l.formula.cnf.clauses);
   created : (g.S.Shelf.state l.shelf).is_created ≡ true;
 }

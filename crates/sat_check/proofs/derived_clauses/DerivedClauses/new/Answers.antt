@@ -1,8 +1,8 @@
 use Rattle.std.proofs.Common.{rules}
-use Rattle.sat_check.proofs.DerivedLaws.{clauses_of-empty}
+use Rattle.sat_check.proofs.DerivedLaws.{none_derived}
 use Rattle.sat_check.proofs.derived_clauses.DerivedClauses.new.Goals as goal
 
 pub returns : goal.returns
 returns c =
     let empty = c.in_ok-vec.ensures.items_if_clones_equal (λ y is. search rules) in
-    rw (empty, c.new.ensures.empty) (clauses_of-empty c.args.first c.args.count)
+    λ id. rw (empty, c.new.ensures.empty) (none_derived c.args.first c.args.count id)

@@ -1,10 +1,13 @@
-use Rattle.std.proofs.Common.{◌≡◌, ◌++◌, take}
-use Rattle.std.specs.Prelude.{reverse}
+use Rattle.std.proofs.Common.{◌≡◌, ◌≤◌, ◌++◌, drop, length}
 use Rattle.sat_check.proofs.false_set.FalseSet.put_all.Given as goal
 
--- the literals so far stand before those that were there
-abbrev pub invariant-loop-l : goal.invariant-loop-l
-invariant-loop-l l = record {
+abbrev pub decreases-loop-left : goal.decreases-loop-left
+decreases-loop-left l = l.left
+
+-- the literals that were put in stand before those that were there
+abbrev pub invariant-loop-left : goal.invariant-loop-left
+invariant-loop-left l = record {
   size : l.self.size ≡ l.initial.self.size;
-  set : l.self.set ≡ reverse (take l.l-index l.lits) ++ l.initial.self.set;
+  few : l.left ≤ length l.lits;
+  set : l.self.set ≡ drop l.left l.lits ++ l.initial.self.set;
 }

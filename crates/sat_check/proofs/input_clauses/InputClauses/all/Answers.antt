@@ -5,4 +5,4 @@ use Rattle.sat_check.proofs.input_clauses.InputClauses.all.Goals as goal
 pub returns-clause-live : goal.returns-clause-live
 returns-clause-live c =
     let all = c.in_ok-vec.ensures.items_if_clones_equal (λ y is. search rules) in
-    rw (all, c.len.ensures) (all_marked 1 c.args.formula.now.cnf.clauses)
+    rw (all, c.len.ensures) (all_marked c.args.formula.now.cnf)

@@ -1,10 +1,10 @@
--- the front words so far were taken
+-- the numbers so far were taken from the front of the line
 use Rattle.std.proofs.Common.{length}
 use Rattle.sat_text.specs.Drafts.{TakesLineFront}
 use Rattle.sat_text.proofs.draft.Draft.take_front.Given as goal
 
 abbrev pub invariant-loop-number : goal.invariant-loop-number
-invariant-loop-number l = TakesLineFront l.initial.self l.initial.line l.before l.self l.line l.strange
+invariant-loop-number l = TakesLineFront l.initial.self l.self l.initial.line.words l.line.words l.strange
 
 abbrev pub decreases-loop-number : goal.decreases-loop-number
 decreases-loop-number l = length l.line.words

@@ -1,4 +1,4 @@
-use Rattle.std.proofs.Common.{◌≡◌, pos, Some, ap, refl, ◌∙◌, arith, w64, to_z, of_z}
+use Rattle.std.proofs.Common.{◌≡◌, pos, Some, slice_get, ap, refl, sym, ◌∙◌, arith, w64, to_z, of_z}
 use Rattle.std.specs.Prelude.{nat_abs}
 use Rattle.std.proofs.lemmas.Int.{to_z-of_z}
 use Rattle.sat_text.proofs.AdditionLemmas.{AddsClause, IsAbove, addition_taken, greater, is_above}
@@ -7,7 +7,7 @@ use Rattle.sat_text.proofs.log_draft.LogDraft.take_faultless_addition.Goals as g
 use Rattle.sat_text.proofs.log_draft.LogDraft.take_faultless_addition.Goals.{After-add}
 
 same : (c : After-add) → to_z w64 (of_z w64 c.in-Some.id) ≡ c.in-Some.id
-same c = same_number c.in-Some.id c.in-Some.ensures.small
+same c = same_number (slice_get c.args.line.now.words 0) c.in-Some.id c.in-Some.ensures.number
 
 -- the id is above all earlier ones
 above : (c : After-add) → IsAbove c.args.self.now.above c.in-Some.id
@@ -22,7 +22,7 @@ taken c =
     let few = rw (same c) at c.if-id-gt-MOST_ID.false in
     addition_taken c.args.self.now.above c.args.line.now c.next_number.new.self.words c.front_literals.new.line.words c.front_hints.new.line.words (nat_abs c.in-Some.id)
     c.front_literals.new.lits.items c.front_hints.new.hints.items
-    (c.in-Some.ensures.number ∙ ap (λ n. Some n) over.plain) c.in-Some.ensures.small (ap (λ l. l.words) c.in-Some.ensures.after)
+    (ap (λ n. Some n) (sym over.plain) ∙ c.in-Some.ensures.number) (ap (λ l. l.words) c.in-Some.ensures.after)
     (c.if-not-front_literals.ensures.taken refl) (c.if-not-front_hints.ensures.taken refl) c.if-has_words.ensures
     (over.over, few, c.if-not-front_literals.ensures.within refl, c.if-not-front_hints.ensures.ids refl)
 

@@ -1,0 +1,84 @@
+//! The cases of a file, one after another.
+use crate::row::Row;
+use crate::sections::{Heading, Section, sections};
+use crate::stop::{LineFault, RowStop, RowsError};
+use crate::texts::Texts;
+use std::alloc::{AllocError, Global};
+
+/// How many cases hold, and how many do not.
+#[derive(Clone, Copy)]
+pub struct Tally {
+    pub holding: u64,
+    pub others: u64,
+}
+
+// Why a line of a case is not taken, with the line.
+fn at_line(alloc: Global, fault: LineFault, line: &str) -> RowStop {
+    match fault {
+        LineFault::Memory(fault) => RowStop::Memory(fault),
+        LineFault::NotUnderstood => match String::from_str(alloc, line) {
+            Ok(line) => RowStop::NotUnderstood(line),
+            Err(fault) => RowStop::Memory(fault),
+        },
+    }
+}
+
+// Judges a case: takes its lines, runs at each `then`, and at the end.
+fn judge(alloc: Global, texts: &mut Texts, common: &[&str], lines: &[&str]) -> Result<(), RowStop> {
+    texts.written = None;
+    let mut row = Row::new(alloc);
+    for line in common.iter().chain(lines) {
+        if *line == "then" {
+            texts.written = Some(row.play()?);
+            row = Row::new(alloc);
+        } else if let Err(fault) = row.take(texts, line) {
+            return Err(at_line(alloc, fault, line));
+        }
+    }
+    row.play()?;
+    Ok(())
+}
+
+// Adds a part to the texts.
+fn add_part(alloc: Global, texts: &mut Texts, name: &str, lines: &[&str]) -> Result<(), RowStop> {
+    let mut text = Vec::new(alloc);
+    for line in lines {
+        if let Err(fault) = texts.append_line(&mut text, line) {
+            return Err(at_line(alloc, fault, line));
+        }
+    }
+    texts.parts.push((String::from_str(alloc, name)?, text))?;
+    Ok(())
+}
+
+/// Judges the cases of a file, and prints a line for each that does not hold.
+pub fn judge_file(rt: &impl Print, alloc: Global, text: &str) -> Result<Tally, RowsError> {
+    let mut tally = Tally {
+        holding: 0,
+        others: 0,
+    };
+    let mut texts = Texts::new(alloc);
+    let mut common = Vec::new(alloc);
+    for section in sections(alloc, text)? {
+        let Section { heading, lines } = section;
+        let (name, judged) = match heading {
+            Heading::Common => {
+                common = lines;
+                continue;
+            }
+            Heading::Part(name) => (name, add_part(alloc, &mut texts, name, &lines)),
+            Heading::Case(name) => (name, judge(alloc, &mut texts, &common, &lines)),
+        };
+        match judged {
+            Ok(()) => {
+                let is_case = matches!(heading, Heading::Case(_));
+                tally.holding = tally.holding.saturating_add(u64::from(is_case));
+            }
+            Err(stop) => {
+                println!(rt; "{name}: {stop}")?;
+                tally.others = tally.others.saturating_add(1);
+            }
+        }
+    }
+    Ok(tally)
+}

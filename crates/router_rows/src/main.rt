@@ -1,0 +1,43 @@
+//! Runs the router on cases that are data, over tables in memory: prints each case that comes
+//! otherwise than its lines say, and last how many come as they say.
+#![tactic(auto)]
+
+mod compare;
+mod judge;
+mod numbers;
+mod row;
+mod sections;
+mod stop;
+mod texts;
+
+use crate::judge::judge_file;
+use crate::stop::RowsError;
+use desk_io::{FileDesk, read_file};
+use std::str;
+
+// The files of cases. The first says how they are written.
+const FILES: [&str; 4] = [
+    "worked.rows",
+    "failing_calls.rows",
+    "route_texts.rows",
+    "proof_texts.rows",
+];
+
+// No file of cases is longer.
+const LIMIT: u64 = 1 << 20;
+
+fn main(rt: HostRuntime) -> Result<(), RowsError> {
+    let mut holding = 0u64;
+    let mut others = 0u64;
+    for name in FILES {
+        let bytes = read_file(rt.alloc(), &mut FileDesk::new(&rt), name, LIMIT)?;
+        let tally = judge_file(&rt, rt.alloc(), str::from_utf8(&bytes)?)?;
+        holding = holding.saturating_add(tally.holding);
+        others = others.saturating_add(tally.others);
+    }
+    if others > 0 {
+        println!(rt; "{others} rows differ")?;
+    }
+    println!(rt; "{holding} rows hold")?;
+    Ok(())
+}

@@ -1,0 +1,45 @@
+//! Why the cases are not judged, and why a case does not hold.
+use desk_io::ReadStop;
+use std::alloc::AllocError;
+use std::io;
+use std::str::Utf8Error;
+use thiserror::Error;
+
+/// Why the cases are not judged to the end.
+#[derive(Debug, Drop, Error)]
+pub enum RowsError {
+    #[error(transparent)]
+    File(#[from] ReadStop),
+    #[error(transparent)]
+    Text(#[from] Utf8Error),
+    #[error(transparent)]
+    Memory(#[from(alloc)] AllocError),
+    #[error(transparent)]
+    Output(#[from] io::Error),
+}
+
+/// Why a line of a case is not taken.
+#[derive(Debug, Drop, Error)]
+pub enum LineFault {
+    #[error("a line is not understood")]
+    NotUnderstood,
+    #[error(transparent)]
+    Memory(#[from(alloc)] AllocError),
+}
+
+/// Why a case does not hold.
+#[derive(Debug, Drop, Error)]
+pub enum RowStop {
+    #[error("not understood: {0}")]
+    NotUnderstood(String),
+    #[error("there is no line `{0}`")]
+    Lacks(&'static str),
+    #[error("{what}: expected {expected}, came {came}")]
+    Differs {
+        what: String,
+        expected: String,
+        came: String,
+    },
+    #[error(transparent)]
+    Memory(#[from(alloc)] AllocError),
+}

@@ -1,0 +1,106 @@
+-- What is known of a block from its words, and what a write and a cut make of it.
+use Rattle.std.proofs.Common.{◌≡◌, ℕ, ◌+◌, ◌-◌, ◌<◌, ◌≤◌, [], ◌∷◌, ◌++◌, List, map, length, set, take, drop, Some, refl, sym, ap, ◌∙◌, subst, arith, length-append, length-set, length-take}
+use Rattle.std.specs.Global.{Global}
+use Rattle.sat_clause.specs.declared.literal.Lit.{Lit}
+use Rattle.sat_arena.specs.Places.{IsHeld, IsRun}
+use Rattle.sat_arena.specs.Row.{IsWritten}
+use Rattle.sat_arena.specs.Block.{IsBlock, Words, no_word, word_at, words_in}
+use Rattle.sat_arena.specs.declared.places.Start.{Start}
+use Rattle.sat_arena.specs.declared.places.Places.{Places}
+use Rattle.sat_arena.specs.declared.places.Claim.{Claim}
+use Rattle.sat_arena.proofs.PlacesLemmas.{Begins, begins, begins_less, begins_more, begins_set, filled_at, full_again, length_full, run_at, words_are}
+
+-- a block with these words in these places
+pub record Holds (start : Start Lit) (places : Places Lit) (claim : Claim Lit Global)
+    (alloc : Global) (len capacity : ℕ) (words : List Lit) : Type 0 where
+  pub block : IsBlock start places claim alloc len capacity
+  pub are : words_in places len ≡ words
+
+module _ {start : Start Lit} {places : Places Lit} {claim : Claim Lit Global} {alloc : Global}
+    {len capacity : ℕ} {now : Words} (h : IsBlock start places claim alloc len capacity)
+    (view : record { words = words_in places len; spare = capacity - len } ≡ now) where
+  same : words_in places len ≡ now.words
+  same = ap (λ (v : Words). v.words) view
+
+  front : Begins places.slots now.words
+  front = subst (Begins places.slots) same (begins places.slots (words_in places len) len h.full)
+
+  count : length now.words ≡ len
+  count =
+      let places_all = h.row.1 in let within = h.within in
+      ap length (sym same)
+      ∙ length_full places.slots (words_in places len) len h.full (omega arith)
+
+  -- the place of a word holds it
+  pub held : (index : ℕ) → index < length now.words →
+      (start.address ≡ places.start) × IsHeld places.slots index
+  held index lt = (
+    sym h.row.0,
+    (
+      word_at now.words index,
+      filled_at places.slots now.words index no_word front lt,
+    ),
+  )
+
+  -- the places of a run of words hold them
+  pub run_is : (from n : ℕ) → from + n ≤ length now.words →
+      take n (drop from places.slots) ≡ map Some (take n (drop from now.words))
+  run_is from n le = run_at places.slots now.words from n front le
+
+  pub run_held : (from n : ℕ) → from + n ≤ length now.words →
+      (start.address ≡ places.start) × IsRun places.slots from n
+  run_held from n le =
+      let all = h.row.1 in let within = h.within in let words = count in (
+        sym h.row.0,
+        (
+          omega arith,
+          (take n (drop from now.words), run_is from n le),
+        ),
+      )
+
+  -- other places of this row, which begin with these words
+  with_words : (new : Places Lit) (n : ℕ) (words : List Lit) → new.start ≡ places.start →
+      length new.slots ≡ length places.slots → Begins new.slots words → n ≡ length words →
+      n ≤ capacity → Holds start new claim alloc n capacity words
+  with_words new n words here long begin is fits = record {
+    block = record {
+      row = (here ∙ h.row.0, long ∙ h.row.1, h.row.2, h.row.3, h.row.4);
+      small = h.small;
+      within = fits;
+      full = full_again new.slots words n begin is;
+    };
+    are = words_are new.slots words n begin is;
+  }
+
+  -- a word was written over
+  pub word_over : {new : Places Lit} (index : ℕ) (word : Lit) → index < length now.words →
+      IsWritten places index word new →
+      Holds start new claim alloc len capacity (set now.words index word)
+  word_over {new} index word lt written =
+      with_words new len (set now.words index word) written.0
+      (ap length written.1 ∙ length-set places.slots index (Some word))
+      (subst (λ slots. Begins slots (set now.words index word)) (sym written.1)
+      (begins_set places.slots now.words index word front lt))
+      (sym (length-set now.words index word ∙ count)) h.within
+
+  -- a word was written behind the others
+  pub word_behind : {new : Places Lit} (word : Lit) → 1 ≤ now.spare →
+      IsWritten places len word new →
+      Holds start new claim alloc (len + 1) capacity (now.words ++ word ∷ [])
+  word_behind {new} word room written =
+      let spare : capacity - len ≡ now.spare = ap (λ (v : Words). v.spare) view in
+      let all = h.row.1 in let n = count in let long = length-append now.words (word ∷ []) in
+      with_words new (len + 1) (now.words ++ word ∷ []) written.0
+      (ap length written.1 ∙ length-set places.slots len (Some word))
+      (subst (λ slots. Begins slots (now.words ++ word ∷ [])) (sym written.1)
+      (begins_more places.slots now.words len word front (sym count) (omega arith)))
+      (omega arith) (omega arith)
+
+  -- the words were cut off behind the first n
+  pub words_cut : (n : ℕ) → n ≤ length now.words →
+      Holds start places claim alloc n capacity (take n now.words)
+  words_cut n le =
+      let within = h.within in let long = length-take n now.words in let words = count in
+      with_words places n (take n now.words) refl refl
+      (begins_less places.slots now.words n front le)
+      (omega arith) (omega arith)

@@ -1,0 +1,12 @@
+pub mod BlockLemmas
+pub mod ClosingLemmas
+pub mod CompactLemmas
+pub mod LayoutLemmas
+pub mod Lending
+pub mod PlacesLemmas
+pub mod ReadLemmas
+pub mod RowMemory
+pub mod SearchLemmas
+pub mod Steps
+pub mod StoreLaws
+pub mod WriteLemmas

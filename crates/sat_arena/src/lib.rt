@@ -1,0 +1,18 @@
+//! Clauses in one block of raw memory, each found by its reference.
+//!
+//! Five functions of the module `places` hold the pointer to the block; all else is safe code.
+#![tactic(auto)]
+
+mod arena;
+mod block;
+mod clause_ref;
+mod compact;
+mod layout;
+mod moves;
+mod places;
+#[cfg(test)]
+mod tests;
+
+pub use arena::Arena;
+pub use clause_ref::ClauseRef;
+pub use moves::{Move, Moves};
