@@ -8,6 +8,7 @@ use Rattle.fpga_types.specs.declared.route.RouteText.{RouteText}
 use Rattle.fpga_text.specs.declared.fault.TextFault.TheVariants.{Bad}
 use Rattle.fpga_route.specs.Refusals.{HasFault}
 use Rattle.fpga_route.specs.Value.{Reads}
+use Rattle.sat_clause.specs.declared.limits.TheConstants.{CLAUSE_LIMIT}
 use Rattle.route_encode.specs.Encoding.{encoding_subset}
 use Rattle.router_top.specs.Command.{Word}
 use Rattle.router_top.specs.Inputs.{HasText, InputFile, IsHalted, IsStopped}
@@ -34,10 +35,6 @@ IsRouteFile files name route = HasText ROUTE_LIMIT files name (λ text. Reads te
 -- the route is one that some text reads as
 abbrev pub IsReadable : RouteText → Type 0
 IsReadable route = (text : Bytes) × Reads text route
-
--- how many clauses may be built
-abbrev pub CLAUSE_LIMIT : ℕ
-CLAUSE_LIMIT = 40000000
 
 -- how many clauses a route has at a width
 abbrev pub clause_count : ℕ → RouteText → ℕ

@@ -2,14 +2,15 @@
 use Rattle.std.specs.Prelude.{ℕ, nat_le, ◌&&◌, List, [], ◌∷◌, String, string_bytes, map, codes, bytes_eq, Result, Ok, Err, Option, None, Some, option_and_then, if◌then◌else◌}
 use Rattle.std.specs.Global.{Global}
 use Rattle.fpga_text.specs.Numbers.{whole_number_of}
+use Rattle.fpga_types.specs.declared.limits.TheConstants.{WIDTH_LIMIT}
+use Rattle.router_top.specs.declared.limits.TheConstants.{BUDGET_LIMIT}
 
 -- a word, by its bytes
 abbrev pub Word : Type 0
 Word = List ℕ
 
--- to look for a routing: the name of the route file, the width, how many clauses may be learned,
--- and
--- what the names of written files begin with
+-- to look for a routing: the name of the route file, the width, how many clauses may be
+-- learned, and what the names of written files begin with
 pub record RouteJob : Type 0 where
   pub file : Word
   pub width : ℕ
@@ -49,7 +50,7 @@ with_numbers file prefix _ _ = Err 3
 -- the job that the words after `route` give; 2 where there are not four
 abbrev pub route_job : List Word → Result Job ℕ
 route_job (file ∷ width ∷ budget ∷ prefix ∷ []) =
-    with_numbers file prefix (number_up_to 64 width) (number_up_to 100000000 budget)
+    with_numbers file prefix (number_up_to WIDTH_LIMIT width) (number_up_to BUDGET_LIMIT budget)
 route_job _ = Err 2
 
 -- the job with this width; 3 where it is not there
@@ -60,7 +61,7 @@ with_width file prefix None = Err 3
 
 -- the job that the words after `encode` give; 2 where there are not three
 abbrev pub encode_job : List Word → Result Job ℕ
-encode_job (file ∷ width ∷ prefix ∷ []) = with_width file prefix (number_up_to 64 width)
+encode_job (file ∷ width ∷ prefix ∷ []) = with_width file prefix (number_up_to WIDTH_LIMIT width)
 encode_job _ = Err 2
 
 -- the job that the words after `check` give; 2 where there are not two

@@ -1,5 +1,7 @@
 //! What the words of a command ask for.
 ghost use Rattle.std.specs.Prelude.{◌≤◌};
+ghost use Rattle.fpga_types.specs.declared.limits.TheConstants.{WIDTH_LIMIT};
+ghost use Rattle.router_top.specs.declared.limits.TheConstants.{BUDGET_LIMIT};
 
 /// What the words of `route` ask for.
 #[derive(Clone, Copy, Debug)]
@@ -12,8 +14,8 @@ pub struct RouteWords<'a> {
     pub budget: u64,
     /// What the names of the files that are written begin with.
     pub prefix: &'a str,
-    ghost in_range: { (1 ≤ width) × (width ≤ 64) },
-    ghost affordable: { (1 ≤ budget) × (budget ≤ 100000000) },
+    ghost in_range: { (1 ≤ width) × (width ≤ WIDTH_LIMIT) },
+    ghost affordable: { (1 ≤ budget) × (budget ≤ BUDGET_LIMIT) },
 }
 
 /// What the words of `encode` ask for.
@@ -25,7 +27,7 @@ pub struct EncodeWords<'a> {
     pub width: u32,
     /// What the names of the files that are written begin with.
     pub prefix: &'a str,
-    ghost in_range: { (1 ≤ width) × (width ≤ 64) },
+    ghost in_range: { (1 ≤ width) × (width ≤ WIDTH_LIMIT) },
 }
 
 /// What the words of `check` ask for.

@@ -7,6 +7,7 @@ mod checking;
 mod encoding;
 mod input;
 mod job_words;
+mod limits;
 mod outcome;
 mod output;
 mod problem_file;

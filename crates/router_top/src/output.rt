@@ -9,7 +9,7 @@ ghost use Rattle.sat_text.specs.Printed.{cnf_text, log_text};
 use desk_io::{Failed, Shelf};
 use fpga_route::write_route;
 use fpga_types::RouteText;
-use sat_clause::{Formula, Log};
+use sat_clause::{CLAUSE_LIMIT, Formula, Log};
 use sat_text::{write_cnf, write_lrat};
 use std::alloc::{AllocError, Global};
 
@@ -60,7 +60,7 @@ pub fn write_cnf_file<S: Shelf>(shelf: &mut S, name: &str, formula: &Formula) ->
         ≡ after_writing (S.state shelf.old) name.now (cnf_text formula.now.cnf)) }
     ensures err { OnErr result
         (FailsToWrite (S.state shelf.old) name.now (cnf_text formula.now.cnf) (S.state shelf.new)) }
-    ensures reads { length formula.now.cnf.clauses ≤ 40000000
+    ensures reads { length formula.now.cnf.clauses ≤ CLAUSE_LIMIT
         → OnOk result (ReadsCnf (cnf_text formula.now.cnf) formula.now.cnf) }
 {
     let Ok(()) = shelf.create(name) else {

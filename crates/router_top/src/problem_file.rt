@@ -9,7 +9,9 @@ use crate::outcome::Outcome;
 use desk_io::Desk;
 use fpga_bounds::{Problem, fit_route};
 use fpga_route::read_route;
+use fpga_types::WIDTH_LIMIT;
 use route_encode::{Encoder, Strict};
+use sat_clause::CLAUSE_LIMIT;
 use std::alloc::Global;
 
 // How many bytes a route file may have.
@@ -17,9 +19,6 @@ const ROUTE_BYTES: u64 = 67_108_864;
 
 // The number of the route file among the files of a command.
 const ROUTE_FILE: u32 = 4;
-
-// How many clauses may be built.
-const MOST_CLAUSES: u64 = 40_000_000;
 
 /// The problem that a route file gives, where it has not too many clauses at the width. The error
 /// is what the run comes to.
@@ -29,7 +28,7 @@ pub fn pose_problem<D: Desk>(
     name: &str,
     width: u32,
 ) -> Result<Problem, Outcome>
-    requires { (1 ≤ width) × (width ≤ 64) }
+    requires { (1 ≤ width) × (width ≤ WIDTH_LIMIT) }
     ensures reads { IfOk result (IsRouteFile (D.state desk.old).files name.now) }
     ensures readable { IfOk result IsReadable }
     ensures fits { IfOk result IsFit }
@@ -54,7 +53,7 @@ pub fn pose_problem<D: Desk>(
         Err(fault) => return Err(text_refused(ROUTE_FILE, fault)),
     };
     let count = Strict.count(&problem, width);
-    if count > MOST_CLAUSES {
+    if count > CLAUSE_LIMIT {
         return Err(Outcome::Limit { code: 901, count });
     }
     Ok(problem)

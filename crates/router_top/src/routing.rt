@@ -19,7 +19,7 @@ use crate::problem_file::pose_problem;
 use desk_io::{Desk, Shelf};
 use fpga_bounds::Problem;
 use route_encode::{Encoder, Strict};
-use sat_clause::{Formula, Log};
+use sat_clause::{CLAUSE_LIMIT, Formula, Log};
 use sat_core::{Answer, solve};
 use std::alloc::Global;
 
@@ -59,7 +59,7 @@ fn write_proof<S: Shelf>(
     log: &Log,
     ended: Outcome,
 ) -> Outcome
-    requires few { length formula.now.cnf.clauses ≤ 40000000 }
+    requires few { length formula.now.cnf.clauses ≤ CLAUSE_LIMIT }
     requires known { NamesKnownFile ended }
     ensures known { NamesKnownFile result }
     ensures writes { WritesProof (S.state shelf.old) prefix.now formula.now.cnf log.now.steps ended

@@ -5,7 +5,9 @@ ghost use Rattle.router_top.specs.JobSaid.{check_said, encode_said, job_said, ro
 ghost use Rattle.router_top.specs.WordsCode.{words_code};
 
 use crate::job_words::{CheckWords, EncodeWords, JobWords, RouteWords};
+use crate::limits::BUDGET_LIMIT;
 use fpga_text::whole_number;
+use fpga_types::WIDTH_LIMIT;
 
 /// Why words are not taken.
 #[derive(Clone, Copy, Debug, PartialEq, Eq)]
@@ -53,10 +55,10 @@ fn read_route_words(words: &[String]) -> Result<RouteWords<'_>, WordsFault>
     let [file, width, budget, prefix] = words else {
         return Err(WordsFault::Count);
     };
-    let Some(width) = number_from_one(width.as_str(), 64) else {
+    let Some(width) = number_from_one(width.as_str(), u64::from(WIDTH_LIMIT)) else {
         return Err(WordsFault::Number);
     };
-    let Some(budget) = number_from_one(budget.as_str(), 100_000_000) else {
+    let Some(budget) = number_from_one(budget.as_str(), BUDGET_LIMIT) else {
         return Err(WordsFault::Number);
     };
     Ok(RouteWords {
@@ -75,7 +77,7 @@ fn read_encode_words(words: &[String]) -> Result<EncodeWords<'_>, WordsFault>
     let [file, width, prefix] = words else {
         return Err(WordsFault::Count);
     };
-    let Some(width) = number_from_one(width.as_str(), 64) else {
+    let Some(width) = number_from_one(width.as_str(), u64::from(WIDTH_LIMIT)) else {
         return Err(WordsFault::Number);
     };
     Ok(EncodeWords {

@@ -7,6 +7,7 @@ use Rattle.fpga_text.specs.Bytes.{Bytes, is_empty}
 use Rattle.fpga_text.specs.Words.{Words, TextLine, line_count, line_words}
 use Rattle.fpga_text.specs.Codes.{Codes, At, Past, End, text_faults}
 use Rattle.fpga_text.specs.FirstFault.{Faults, IsFaultless}
+use Rattle.sat_clause.specs.declared.limits.TheConstants.{CLAUSE_LIMIT, VARIABLE_LIMIT}
 use Rattle.sat_clause.specs.Formula.{Cnf}
 use Rattle.sat_clause.specs.Literal.{Clause, lit}
 use Rattle.sat_text.specs.declared.cause.Cause.TheVariants.{HeadForm, CnfNumber, Variable, ClauseCount, SizeLimit}
@@ -40,8 +41,8 @@ head_of words = option_and_then head_said (head_words words)
 -- of the two numbers the first that is past its limit
 abbrev pub past_limit : Head → Option ℕ
 past_limit head =
-    if nat_lt 100000000 head.vars then Some head.vars
-    else if nat_lt 40000000 head.clauses then Some head.clauses else None
+    if nat_lt VARIABLE_LIMIT head.vars then Some head.vars
+    else if nat_lt CLAUSE_LIMIT head.clauses then Some head.clauses else None
 
 -- the first word is `p`
 abbrev pub begins_as_head : Words → Bool

@@ -7,6 +7,7 @@ use Rattle.fpga_text.specs.Bytes.{Bytes}
 use Rattle.fpga_text.specs.Words.{Words, line_count, line_words}
 use Rattle.fpga_text.specs.Codes.{Codes, At, Past, text_faults}
 use Rattle.fpga_text.specs.FirstFault.{Faults, IsFaultless}
+use Rattle.sat_clause.specs.declared.limits.TheConstants.{ID_LIMIT, VARIABLE_LIMIT}
 use Rattle.sat_clause.specs.Literal.{Clause, lit}
 use Rattle.sat_clause.specs.Step.{Step, Added, Erased}
 use Rattle.sat_text.specs.CnfText.{but_last}
@@ -82,12 +83,12 @@ first_past most numbers = find (λ size. nat_lt most size) (map nat_abs numbers)
 -- of an added clause the first that is past its limit: the id, a literal, a hint
 abbrev pub added_limit : ℕ → Clause → List ℤ → Option ℕ
 added_limit id clause hints =
-    option_or (first_past 4294967295 (pos id ∷ []))
-    (option_or (first_past 100000000 (map (λ l. l.code) clause)) (first_past 4294967295 hints))
+    option_or (first_past ID_LIMIT (pos id ∷ []))
+    (option_or (first_past VARIABLE_LIMIT (map (λ l. l.code) clause)) (first_past ID_LIMIT hints))
 
 -- of a deletion the first id that is past its limit
 abbrev pub erased_limit : ℕ → List ℤ → Option ℕ
-erased_limit id ids = first_past 4294967295 (pos id ∷ ids)
+erased_limit id ids = first_past ID_LIMIT (pos id ∷ ids)
 
 -- the step that a line says
 abbrev pub said_step : Words → Option Step

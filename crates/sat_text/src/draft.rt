@@ -10,7 +10,7 @@ ghost use Rattle.sat_text.specs.CnfText.{begins_as_head};
 use crate::cause::Cause;
 use crate::head::Head;
 use fpga_text::{Line, TextFault};
-use sat_clause::{Formula, Lit};
+use sat_clause::{Formula, ID_LIMIT, Lit, VARIABLE_LIMIT};
 use std::alloc::{AllocError, Global};
 
 /// The clauses that a 0 has ended, and the literals behind the last 0.
@@ -37,7 +37,7 @@ impl Draft {
 
     /// Nothing was read behind this head line.
     pub fn new(alloc: Global, head: Head) -> Result<Draft, AllocError>
-        requires { head.vars ≤ 100000000 }
+        requires { head.vars ≤ VARIABLE_LIMIT }
         ensures head { IfOk result (λ draft. head_in draft ≡ head) }
         ensures clauses { IfOk result (λ draft. draft.formula.cnf.clauses ≡ []) }
         ensures open { IfOk result (λ draft. draft.open_clause.items ≡ []) }
@@ -59,8 +59,8 @@ impl Draft {
     #[inline(always)]
     fn take(&mut self, number: i64) -> Result<(), AllocError>
         requires within { nat_abs number ≤ self.old.formula.cnf.vars }
-        requires few { nat_abs number ≤ 100000000 }
-        requires room { length self.old.formula.cnf.clauses < 4294967295 }
+        requires few { nat_abs number ≤ VARIABLE_LIMIT }
+        requires room { length self.old.formula.cnf.clauses < ID_LIMIT }
         ensures { OnOk result (TakesNumbers self.old self.new (number ∷ [])) }
     {
         if number != 0 {

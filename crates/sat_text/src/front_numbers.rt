@@ -7,13 +7,13 @@ ghost use Rattle.sat_text.specs.ReadBack.{IsIdNumber};
 
 use crate::step_line::{MOST_ID, MOST_VARIABLE};
 use fpga_text::Line;
-use sat_clause::Lit;
+use sat_clause::{Lit, VARIABLE_LIMIT};
 
 /// Puts the literals up to the next 0 in place of these. It answers whether they were all in order.
 pub fn front_literals(lits: &mut Vec<Lit>, line: &mut Line<'_>) -> bool
     ensures taken { IsTrue result
         → TakesFront line.old.words line.new.words (map (λ l. l.code) lits.new.items ++ pos 0 ∷ []) }
-    ensures within { IsTrue result → All (IsWithin 100000000) lits.new.items }
+    ensures within { IsTrue result → All (IsWithin VARIABLE_LIMIT) lits.new.items }
 {
     lits.clear();
     while let Some(number) = line.next_number() {

@@ -7,12 +7,13 @@ ghost use Rattle.sat_text.specs.CnfText.{head_words, head_of};
 use crate::cause::Cause;
 use crate::number::natural;
 use fpga_text::{Line, TextFault};
+use sat_clause::{CLAUSE_LIMIT, VARIABLE_LIMIT};
 
 /// How many variables a CNF text may have.
-pub const MOST_VARIABLES: u64 = 100_000_000;
+pub const MOST_VARIABLES: u64 = VARIABLE_LIMIT as u64;
 
 /// How many clauses a CNF text may have.
-pub const MOST_CLAUSES: u64 = 40_000_000;
+pub const MOST_CLAUSES: u64 = CLAUSE_LIMIT;
 
 /// The numbers of variables and of clauses that a head line says.
 #[derive(Clone, Copy, Debug, PartialEq, Eq)]

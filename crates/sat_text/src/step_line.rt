@@ -13,13 +13,14 @@ ghost use Rattle.sat_text.specs.Numbers.{is_zero as is_zero_of, lacks_number, nu
 use crate::cause::Cause;
 use crate::number::is_zero;
 use fpga_text::{Line, TextFault};
+use sat_clause::{ID_LIMIT, VARIABLE_LIMIT};
 use std::alloc::AllocError;
 
 /// The greatest id and the greatest hint.
-pub const MOST_ID: u64 = 4_294_967_295;
+pub const MOST_ID: u64 = ID_LIMIT as u64;
 
 /// The greatest number of a variable.
-pub const MOST_VARIABLE: u64 = 100_000_000;
+pub const MOST_VARIABLE: u64 = VARIABLE_LIMIT as u64;
 
 /// What a line says that adds a clause.
 #[derive(Clone, Copy, Debug)]

@@ -10,7 +10,7 @@ ghost use Rattle.sat_text.specs.Printed.{clause_text, cnf_text, head_text, numbe
 use arrayvec::ArrayString;
 use desk_io::{BlockWriter, Failed, Prints, Shelf, append_text, print_each};
 use itoa::Buffer;
-use sat_clause::{Formula, Lit};
+use sat_clause::{CLAUSE_LIMIT, Formula, Lit, VARIABLE_LIMIT};
 
 /// Room for a number of 64 bits with its sign, and the blank after it.
 pub const NUMBER_ROOM: usize = 24;
@@ -44,7 +44,7 @@ pub fn write_short<const N: usize, S: Shelf>(
 /// The head line of a formula.
 fn head(formula: &Formula) -> ArrayString<HEAD_ROOM>
     ensures line { result.bytes ≡ head_text formula.now.cnf }
-    ensures few { formula.now.cnf.vars ≤ 100000000 }
+    ensures few { formula.now.cnf.vars ≤ VARIABLE_LIMIT }
 {
     let mut line = ArrayString::new();
     line.push_str("p cnf ");
@@ -147,7 +147,7 @@ pub fn write_cnf<S: Shelf>(formula: &Formula, shelf: &mut S) -> Result<(), Faile
         (cnf_text formula.now.cnf)) }
     ensures err { OnErr result (FailsToAppend (S.state shelf.old) (cnf_text formula.now.cnf)
         (S.state shelf.new)) }
-    ensures reads { length formula.now.cnf.clauses ≤ 40000000 → OnOk result
+    ensures reads { length formula.now.cnf.clauses ≤ CLAUSE_LIMIT → OnOk result
         (ReadsCnf (cnf_text formula.now.cnf) formula.now.cnf) }
     ensures read_back { (text : Bytes) → ReadsCnf text formula.now.cnf → ReadsCnf
         (cnf_text formula.now.cnf) formula.now.cnf }
