@@ -1,5 +1,5 @@
 //! Small routes, and a long one.
-use crate::{Problem, cells_meet, fit_route};
+use crate::{Problem, fit_route};
 use fpga_route::read_route;
 use fpga_text::TextFault;
 use fpga_types::{Axis, Cell, Grid};
@@ -7,10 +7,14 @@ use std::alloc::Global;
 use std::test::Fail;
 
 const BRANCH: &[u8] =
-    b"Array size: 2 x 2 logic blocks.\nRouting:\nNet 0 (a)\nSOURCE (1,1) Class: 1\nOPIN (1,1) Pin: 4\nCHANX (1,1) Track: 0\nCHANX (2,1) Track: 0\nIPIN (2,1) Pin: 0\nSINK (2,1) Class: 0\nCHANX (1,1) Track: 0\nCHANY (1,2) Track: 0\nIPIN (1,2) Pin: 0\nSINK (1,2) Class: 0\n";
+    b"Array size: 2 x 2 logic blocks.\nRouting:\nNet 0 (a)\nSOURCE (1,1) Class: 1\n\
+      OPIN (1,1) Pin: 4\nCHANX (1,1) Track: 0\nCHANX (2,1) Track: 0\nIPIN (2,1) Pin: 0\n\
+      SINK (2,1) Class: 0\nCHANX (1,1) Track: 0\nCHANY (1,2) Track: 0\nIPIN (1,2) Pin: 0\n\
+      SINK (1,2) Class: 0\n";
 
-const LEAP: &[u8] =
-    b"Array size: 2 x 2 logic blocks.\nRouting:\nNet 0 (a)\nSOURCE (1,1) Class: 1\nOPIN (1,1) Pin: 4\nCHANX (1,1) Track: 0\nCHANX (1,2) Track: 0\nIPIN (1,2) Pin: 0\nSINK (1,2) Class: 0\n";
+const LEAP: &[u8] = b"Array size: 2 x 2 logic blocks.\nRouting:\nNet 0 (a)\nSOURCE (1,1) Class: 1\n\
+      OPIN (1,1) Pin: 4\nCHANX (1,1) Track: 0\nCHANX (1,2) Track: 0\nIPIN (1,2) Pin: 0\n\
+      SINK (1,2) Class: 0\n";
 
 /// The problem that a route text says.
 fn problem(alloc: Global, text: &[u8]) -> Result<Problem, Fail> {
@@ -101,18 +105,4 @@ fn no_limit_on_steps_keeps_a_long_net_from_fitting(rt: HostRuntime) -> Result<()
         (10_200, 10_199)
     );
     Ok(())
-}
-
-#[test]
-fn cells_that_meet_and_cells_that_do_not(rt: HostRuntime) {
-    let grid = Grid { nx: 2, ny: 2 };
-    let cell = |axis, x, y| Cell { axis, x, y };
-    let row = cell(Axis::X, 1, 1);
-    for (other, meet) in [
-        (cell(Axis::Y, 1, 2), true),
-        (cell(Axis::X, 0, 1), false),
-        (cell(Axis::Y, 2, 1), false),
-    ] {
-        assert_eq!(rt; cells_meet(grid, row, other), meet, "{other:?}");
-    }
 }
