@@ -4,4 +4,8 @@
 mod block_table;
 mod cause;
 mod draft;
+mod head;
+mod read;
 mod words;
+
+pub use read::read_place;

@@ -1,3 +1,4 @@
+pub mod ArraySize
 pub mod Boxes
 pub mod CellNumbers
 pub mod Fabric

@@ -4,6 +4,7 @@
 #![tactic(auto)]
 
 mod arch;
+mod array_size;
 mod cells;
 mod fit_cause;
 mod grid;
@@ -15,6 +16,7 @@ mod problem;
 mod route;
 
 pub use arch::{Arch, FcSpec, Pattern, PinSpec, SideSet};
+pub use array_size::SizeFault;
 pub use cells::{cell_number, cell_of};
 pub use fit_cause::FitCause;
 pub use grid::{Axis, Cell, Grid, PinAt, Side, SwitchAt, Wire};

@@ -1,7 +1,7 @@
 //! The first words of a line, as many as any form has.
 ghost use Rattle.std.specs.Prelude.{◌≡◌, ◌<◌, [], ◌∷◌, ◌++◌, length, map, take};
 
-use fpga_text::Line;
+use crate::line::Line;
 use std::marker::Model;
 
 /// How many words of a line are looked at. No form has more than seven.

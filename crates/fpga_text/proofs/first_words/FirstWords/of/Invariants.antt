@@ -1,6 +1,6 @@
 -- the words taken so far and those that are left are the words of the line
 use Rattle.std.proofs.Common.{◌≡◌, ◌≤◌, ◌-◌, ◌++◌, length}
-use Rattle.fpga_route.proofs.first_words.FirstWords.of.Given as goal
+use Rattle.fpga_text.proofs.first_words.FirstWords.of.Given as goal
 
 abbrev pub invariant-loop-line : goal.invariant-loop-line
 invariant-loop-line l = record {

@@ -1,8 +1,8 @@
 use Rattle.std.proofs.Common.{◌<◌, length, take, arith, length-take}
 use Rattle.std.specs.Prelude.{map}
 use Rattle.std.proofs.lemmas.List.{length-map}
-use Rattle.fpga_route.proofs.WordLemmas.{take-map-set}
-use Rattle.fpga_route.proofs.first_words.FirstWords.push.Goals as goal
+use Rattle.fpga_text.proofs.WordLemmas.{take-map-set}
+use Rattle.fpga_text.proofs.first_words.FirstWords.push.Goals as goal
 
 pub returns : goal.returns
 returns c =

@@ -1,6 +1,6 @@
 use Rattle.std.proofs.Common.{sym}
 use Rattle.std.proofs.lemmas.List.{take-map}
-use Rattle.fpga_route.proofs.first_words.FirstWords.as_slice.Goals as goal
+use Rattle.fpga_text.proofs.first_words.FirstWords.as_slice.Goals as goal
 
 pub returns : goal.returns
 returns c = rw (← c.self.view_is)
