@@ -6,6 +6,8 @@ mod cause;
 mod draft;
 mod head;
 mod read;
+#[cfg(test)]
+mod tests;
 mod words;
 
 pub use read::read_place;
