@@ -1,0 +1,5 @@
+pub mod DraftLemmas
+pub mod FaultLemmas
+pub mod PinLemmas
+pub mod ReadLemmas
+pub mod SegmentLemmas
