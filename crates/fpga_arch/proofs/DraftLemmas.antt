@@ -19,7 +19,8 @@ use Rattle.fpga_arch.specs.Pins.{is_opposed}
 agrees-one : (pin earlier : PinSpec) → is_opposed pin.class pin.output earlier ≡ false
     → AgreeInClass earlier pin
 agrees-one pin earlier none same = by_direction earlier.output pin.output
-    (sym (ap (λ b. b && turned earlier.output pin.output) (eq-eqb earlier.class pin.class same)) ∙ none)
+    (sym (ap (λ b. b && turned earlier.output pin.output) (eq-eqb earlier.class pin.class same))
+    ∙ none)
   where
     turned : Bool → Bool → Bool
     turned a b = if b then not a else a

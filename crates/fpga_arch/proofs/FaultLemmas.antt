@@ -62,7 +62,8 @@ stands-marked flags keyword other whole =
         (eqb-false (place_of other) (place_of keyword) e))
 
 -- a code that does not hold leaves the later ones
-code-none : {C L : Type 0} (code : ℕ) (holds : C → L → Bool) (more : List (LineCode C L)) (context : C)
+code-none : {C L : Type 0} (code : ℕ) (holds : C → L → Bool) (more : List (LineCode C L))
+    (context : C)
     (number : ℕ) (line : L) → first_code (At code holds ∷ more) context number line ≡ None
     → (holds context line ≡ false) × (first_code more context number line ≡ None)
 code-none code holds more context number line none =
@@ -78,11 +79,18 @@ code-none code holds more context number line none =
 no_other_width : (context : Context) (number : ℕ) (line : ArchLine)
     → line_fault arch_codes context number line ≡ None → has_other_width context line ≡ false
 no_other_width context number line clean =
-    let behind_first = (code-none 102 lacks_number (drop 1 arch_codes.of_line) context number line clean).1 in
-    let behind_second = (code-none 103 is_malformed (drop 2 arch_codes.of_line) context number line behind_first).1 in
-    let behind_third = (code-none 104 is_long_segment (drop 3 arch_codes.of_line) context number line behind_second).1 in
-    let behind_fourth = (code-none 105 is_not_uniform (drop 4 arch_codes.of_line) context number line behind_third).1 in
-    (code-none 106 has_other_width (drop 5 arch_codes.of_line) context number line behind_fourth).0
+    let behind_first = (later 102 lacks_number 1 clean).1 in
+    let behind_second = (later 103 is_malformed 2 behind_first).1 in
+    let behind_third = (later 104 is_long_segment 3 behind_second).1 in
+    let behind_fourth = (later 105 is_not_uniform 4 behind_third).1 in
+    (later 106 has_other_width 5 behind_fourth).0
+  where
+    later : (code : ℕ) (holds : Context → ArchLine → Bool) (next : ℕ)
+        → first_code (At code holds ∷ drop next arch_codes.of_line) context number line ≡ None
+        → (holds context line ≡ false)
+        × (first_code (drop next arch_codes.of_line) context number line ≡ None)
+    later code holds next none =
+        code-none code holds (drop next arch_codes.of_line) context number line none
 
 -- a width that differs from none
 width-step : (old new : Option ℕ) (width : ℕ)
@@ -155,7 +163,8 @@ past_line {all} draft now old new line whole taken clean after past =
         → IsPast all (faults_ahead (text_after draft o) new)
     by_line None clean so_far = so_far
     by_line (Some l) clean so_far =
-        subst (λ context. IsPast all (faults_from context_after arch_codes context (arch_lines new.ahead) (new.total + 1)))
+        subst (λ context. IsPast all (faults_from context_after arch_codes context
+        (arch_lines new.ahead) (new.total + 1)))
         (context-step draft line.number l whole clean) (past-line so_far clean)
 
 -- where a line has no fault only memory can be short
@@ -180,7 +189,8 @@ refused_line {all} draft old new line found taken past is =
     by_line None is so_far = memory all found is
 
 -- the architecture with what the next line says
-pub arch-line : (draft now : Progress) (old new : LinesAhead) (line : TextLine) → IsTaken old new line
+pub arch-line : (draft now : Progress) (old new : LinesAhead) (line : TextLine)
+    → IsTaken old new line
     → now ≡ text_after draft (arch_line line.words)
     → arch_with now.arch new.ahead ≡ arch_with draft.arch old.ahead
 arch-line draft now old new line taken after =
@@ -189,7 +199,8 @@ arch-line draft now old new line taken after =
     (ap arch_lines taken.ahead ∙ arch_lines-first line new.ahead))
   where
     by_line : (o : Option ArchLine) → arch_with (text_after draft o).arch new.ahead
-        ≡ fold arch_after draft.arch (map (λ l. l.1) (with_first line.number o (arch_lines new.ahead)))
+        ≡ fold arch_after draft.arch
+        (map (λ l. l.1) (with_first line.number o (arch_lines new.ahead)))
     by_line None = refl
     by_line (Some l) = refl
 
@@ -207,7 +218,8 @@ pub past_end : {all : Faults} (draft : Progress) (lines : LinesAhead) → lines.
     ≡ end_fault arch_codes (context_at draft) (lines.total + 1)
 past_end draft lines none past =
     past.same
-    ∙ ap (λ ls. first_fault (faults_from context_after arch_codes (context_at draft) (arch_lines ls) (lines.total + 1))) none
+    ∙ ap (λ ls. first_fault (faults_from context_after arch_codes (context_at draft)
+    (arch_lines ls) (lines.total + 1))) none
     ∙ only (end_fault arch_codes (context_at draft) (lines.total + 1))
   where
     only : (o : Option TextFault) → option_or o None ≡ o

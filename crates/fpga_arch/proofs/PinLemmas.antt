@@ -49,12 +49,14 @@ words-first (w ∷ more) word said =
     let same : word ≡ w = cc in ap (λ (v : Bytes). v ∷ more) (sym same)
 
 -- one more word of a side
-pub sides-more : (all ahead : Words) (word : Bytes) (sides : SideSet) → Some word ≡ slice_get ahead 0
+pub sides-more : (all ahead : Words) (word : Bytes) (sides : SideSet)
+    → Some word ≡ slice_get ahead 0
     → with_sides sides (side_set ahead) ≡ side_set all
     → with_sides (with_sides sides (side_of word)) (side_set (drop 1 ahead)) ≡ side_set all
 sides-more all ahead word sides said so_far =
     sides_step sides (side_of word) (side_set (drop 1 ahead))
-    ∙ sym (ap (λ (ws : Words). with_sides sides (side_set ws)) (words-first ahead word said)) ∙ so_far
+    ∙ sym (ap (λ (ws : Words). with_sides sides (side_set ws)) (words-first ahead word said))
+    ∙ so_far
 
 pub lacks-more : (all ahead : Words) (word : Bytes) → Some word ≡ slice_get ahead 0
     → has_side (side_of word) ≡ true → list_any is_no_side ahead ≡ lacks_sides all

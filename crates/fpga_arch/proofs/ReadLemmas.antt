@@ -56,11 +56,13 @@ context_of-push before line = λ i. record {
         ≡ (list_any (is_other width) (filter_map width_of before)
         || option_map_or (is_other width) (width_of line) false)
     differs width = ap (list_any (is_other width)) (filter_map-append width_of before (line ∷ []))
-        ∙ list_any-append (is_other width) (filter_map width_of before) (cons_option (width_of line) [])
+        ∙ list_any-append (is_other width) (filter_map width_of before)
+        (cons_option (width_of line) [])
         ∙ ap (λ b. list_any (is_other width) (filter_map width_of before) || b)
         (width-push width (width_of line))
 
-    pins : filter_map pin_of (before ++ line ∷ []) ≡ with_pin (filter_map pin_of before) (pin_of line)
+    pins : filter_map pin_of (before ++ line ∷ []) ≡ with_pin (filter_map pin_of before)
+        (pin_of line)
     pins = filter_map-append pin_of before (line ∷ [])
         ∙ pins-push (filter_map pin_of before) (pin_of line)
 
@@ -93,8 +95,10 @@ whole_text text = record { ahead = text_lines Joined text; taken = 0; total = li
 -- the faults of a text are those ahead of its first line
 faults-start : (text : Bytes) → arch_faults text ≡ faults_ahead START (whole_text text)
 faults-start text =
-    faults_behind-from context_after arch_codes context_of-push [] (arch_lines (text_lines Joined text)) (line_count text + 1)
-    ∙ ap (λ context. faults_from context_after arch_codes context (arch_lines (text_lines Joined text)) (line_count text + 1))
+    faults_behind-from context_after arch_codes context_of-push []
+    (arch_lines (text_lines Joined text)) (line_count text + 1)
+    ∙ ap (λ context. faults_from context_after arch_codes context
+    (arch_lines (text_lines Joined text)) (line_count text + 1))
     context-start
 
 -- an architecture with what lines say behind it
@@ -125,7 +129,8 @@ said-lines arch (line ∷ more) =
     pins (Some pin) = append_assoc arch.pins (pin ∷ []) (filter_map pin_of more)
 
 -- an answer about one fault and value is one about others that are the same
-answers-same : {T : Type 0} (fault other : Option TextFault) (value is : T) (result : Result T TextFault)
+answers-same : {T : Type 0} (fault other : Option TextFault) (value is : T)
+    (result : Result T TextFault)
     → fault ≡ other → is ≡ value → AnswersFault other (λ v. v ≡ is) result
     → AnswersFault fault (λ v. v ≡ value) result
 answers-same fault other value is (Ok v) same one answer = (same ∙ answer.0, answer.1 ∙ one)
@@ -136,10 +141,12 @@ answers-same fault other value is (Err found) same one answer =
 pub reads : (text : Bytes) (lines now : LinesAhead) (start draft : Progress) (count : ℕ)
     (result : Result Arch TextFault) → lines ≡ whole_text text → start ≡ START
     → ReadsLines lines start now draft → count ≡ now.taken
-    → AnswersFault (end_fault arch_codes (context_at draft) (count + 1)) (λ arch. arch ≡ draft.arch) result
+    → AnswersFault (end_fault arch_codes (context_at draft) (count + 1))
+    (λ arch. arch ≡ draft.arch) result
     → AnswersFault (first_fault (arch_faults text)) (ReadsArch text) result
 reads text lines now start draft count result is begun read counted answer =
-    answers-same (first_fault (arch_faults text)) (end_fault arch_codes (context_at draft) (count + 1))
+    answers-same (first_fault (arch_faults text))
+    (end_fault arch_codes (context_at draft) (count + 1))
     (arch_value text) draft.arch result same one answer
   where
     same : first_fault (arch_faults text) ≡ end_fault arch_codes (context_at draft) (count + 1)
@@ -157,4 +164,5 @@ pub refused : (text : Bytes) (lines : LinesAhead) (start : Progress) (found : Te
     → IsRefusal (arch_faults text) found
 refused text lines start found is begun refusal =
     subst (λ fault. IsFaultOf fault found)
-    ((λ i. first_fault (faults_ahead (begun i) (is i))) ∙ sym (ap first_fault (faults-start text))) refusal
+    ((λ i. first_fault (faults_ahead (begun i) (is i))) ∙ sym (ap first_fault (faults-start text)))
+    refusal

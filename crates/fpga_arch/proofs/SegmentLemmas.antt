@@ -30,14 +30,16 @@ pairs-shorter (k ∷ value ∷ more) key said = omega arith
 
 -- what was said so far, with what the words ahead say, is what all words say
 pub record IsSaid (all : Words) (said : SegmentSaid) (ahead : Words) : Type 0 where
-  pub lengths : (said.has_length || list_any is_length (pairs ahead)) ≡ list_any is_length (pairs all)
+  pub lengths : (said.has_length || list_any is_length (pairs ahead))
+      ≡ list_any is_length (pairs all)
   pub longs : (said.is_long || list_any is_long (pairs ahead)) ≡ list_any is_long (pairs all)
   pub sparses : (said.is_sparse || list_any is_sparse (pairs ahead))
       ≡ list_any is_sparse (pairs all)
 
 module _ (test : Pair → Bool) where
-  said-pair : (flag all : Bool) (pair : Pair) (before : List Pair) (behind : List Pair) → before ≡ pair ∷ behind
-      → (flag || list_any test before) ≡ all → ((flag || test pair) || list_any test behind) ≡ all
+  said-pair : (flag all : Bool) (pair : Pair) (before behind : List Pair)
+      → before ≡ pair ∷ behind → (flag || list_any test before) ≡ all
+      → ((flag || test pair) || list_any test behind) ≡ all
   said-pair flag all pair before behind is so_far =
       or_assoc flag (test pair) (list_any test behind)
       ∙ sym (ap (λ (ps : List Pair). flag || list_any test ps) is) ∙ so_far
@@ -52,9 +54,11 @@ pub said-more : (all : Words) (said : SegmentSaid) (ahead behind : Words) (pair 
     → IsSaid all said ahead → pairs ahead ≡ pair ∷ pairs behind
     → IsSaid all (with_pair said pair) behind
 said-more all said ahead behind pair so_far is = record {
-  lengths = said-pair is_length said.has_length _ pair (pairs ahead) (pairs behind) is so_far.lengths;
+  lengths = said-pair is_length said.has_length _ pair (pairs ahead) (pairs behind) is
+      so_far.lengths;
   longs = said-pair is_long said.is_long _ pair (pairs ahead) (pairs behind) is so_far.longs;
-  sparses = said-pair is_sparse said.is_sparse _ pair (pairs ahead) (pairs behind) is so_far.sparses;
+  sparses = said-pair is_sparse said.is_sparse _ pair (pairs ahead) (pairs behind) is
+      so_far.sparses;
 }
 
 -- all pairs

@@ -155,7 +155,8 @@ pins_past context line =
 
 -- of a pin line the class, above the limit
 abbrev pub class_past : ArchLine → Option ℕ
-class_past line = option_and_then (λ (pin : PinSpec). past CLASS_LIMIT (Some pin.class)) (pin_of line)
+class_past line =
+    option_and_then (λ (pin : PinSpec). past CLASS_LIMIT (Some pin.class)) (pin_of line)
 
 -- more pads at a place, more pins or a greater class than may be, and how many
 abbrev pub past_limit : Context → ArchLine → Option ℕ

@@ -1,4 +1,5 @@
--- The words that lines of an architecture are told by: a profile of the architecture text of VPR 4.30.
+-- The words that lines of an architecture are told by: a profile of the architecture text of VPR
+-- 4.30.
 use Rattle.std.specs.Prelude.{ℕ, nat_eq, Bool, true, false, List, [], ◌∷◌, drop, find, filter_map, codes, bytes_eq, slice_get, Option, None, option_and_then, option_map, if◌then◌else◌}
 use Rattle.fpga_text.specs.Bytes.{Bytes}
 use Rattle.fpga_text.specs.Words.{Words, TextLine}

@@ -90,4 +90,5 @@ pin_of line =
 
 -- the pin has this class and another direction than this
 abbrev pub is_opposed : ℕ → Bool → PinSpec → Bool
-is_opposed class output pin = (pin.class == class) && (if output then not pin.output else pin.output)
+is_opposed class output pin =
+    (pin.class == class) && (if output then not pin.output else pin.output)

@@ -224,7 +224,8 @@ impl Draft {
     /// The width that a line of channels says.
     fn read_channel(&self, line: &mut Line<'_>) -> Result<u64, TextFault>
         ensures ok { IfOk result (IsChannel self.now line.old.words) }
-        ensures err { IfErr result (IsFaultOf (channel_fault self.now line.old.number line.old.words)) }
+        ensures err { IfErr result
+            (IsFaultOf (channel_fault self.now line.old.number line.old.words)) }
         ensures number { line.new.number ≡ line.old.number }
     {
         let number = line.number();

@@ -29,8 +29,8 @@ use std::alloc::Global;
 /// - 110: a keyword that may not repeat stands on an earlier line;
 /// - 111: a segment that leaves out connection boxes or switch blocks.
 ///
-/// `Limit` has the code 109 and a count: more than 16 pads at a place, more than 64 pins, or a class
-/// above 63. `Memory` comes where memory is short.
+/// `Limit` has the code 109 and a count: more than 16 pads at a place, more than 64 pins, or a
+/// class above 63. `Memory` comes where memory is short.
 pub fn read_arch(alloc: Global, bytes: &[u8]) -> Result<Arch, TextFault>
     ensures answers { Answers (arch_faults bytes.now) (ReadsArch bytes.now) result }
     ensures sound { IfOk result IsSoundArch }

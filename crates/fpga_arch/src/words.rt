@@ -42,7 +42,8 @@ pub fn next_fraction(line: &mut Line<'_>) -> Option<bool>
     None
 }
 
-/// The share that the next word says, in millionths, or None where it is no decimal up to the limit.
+/// The share that the next word says, in millionths, or None where it is no decimal up to the
+/// limit.
 pub fn next_share(line: &mut Line<'_>) -> Option<u64>
     ensures some { IfSome result (λ share. decimal_said (slice_get line.old.words 0) ≡ Some share) }
     ensures within { IfSome result (λ share. share ≤ SHARE_LIMIT) }

@@ -7,7 +7,8 @@ use Rattle.fpga_arch.proofs.read.read_lines.Given as goal
 abbrev pub invariant-loop-line : goal.invariant-loop-line
 invariant-loop-line l = record {
   past : IsPast (faults_ahead l.initial.draft l.initial.lines) (faults_ahead l.draft l.lines);
-  arch : arch_with l.draft.arch l.lines.ahead ≡ arch_with l.initial.draft.arch l.initial.lines.ahead;
+  arch : arch_with l.draft.arch l.lines.ahead
+      ≡ arch_with l.initial.draft.arch l.initial.lines.ahead;
   total : l.lines.total ≡ l.initial.lines.total;
   whole : length l.draft.flags ≡ 12;
 }
