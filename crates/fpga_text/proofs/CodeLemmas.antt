@@ -1,10 +1,7 @@
 -- The faults of a text by its codes, for readers that go from line to line.
-use Rattle.std.proofs.Common.{◌≡◌, ℕ, Bool, true, false, List, [], ◌∷◌, ◌++◌, Option, None, Some, refl, ap, ◌∙◌}
-use Rattle.std.specs.Prelude.{if◌then◌else◌}
-use Rattle.fpga_text.specs.declared.fault.TextFault.{TextFault}
-use Rattle.fpga_text.specs.declared.fault.TextFault.TheVariants.{Bad, Limit}
+use Rattle.std.proofs.Common.{◌≡◌, ℕ, List, [], ◌∷◌, ◌++◌, refl, ap, ◌∙◌}
 use Rattle.fpga_text.specs.FirstFault.{Faults}
-use Rattle.fpga_text.specs.Codes.{Codes, LineCode, At, Past, first_code, line_fault, faults_behind, faults_from}
+use Rattle.fpga_text.specs.Codes.{Codes, line_fault, faults_behind, faults_from}
 
 -- a reader may go by contexts alone, where each makes the next
 pub faults_behind-from : {C L : Type 0} (next : C → L → C) (codes : Codes C L)

@@ -1,16 +1,15 @@
 -- What the cuts of a line or a text are, and what a reader has before it after a cut.
 use Rattle.std.proofs.Common.{◌≡◌, ◌<◌, ◌≤◌, ◌+◌, ℕ, suc, Bool, true, false, List, [], ◌∷◌, length, take, drop, slice_index, refl, sym, ap, ◌∙◌, inl, inr, arith, add-one, one-add, drop-cons}
-use Rattle.std.specs.Prelude.{All, not, ◌==◌, filter, map, IsTrue}
-use Rattle.std.specs.List.{slice_split, before_first, after_first, position_or_len, enumerate_from}
+use Rattle.std.specs.Prelude.{All, not, ◌==◌, filter, IsTrue}
+use Rattle.std.specs.List.{slice_split, before_first, after_first, position_or_len}
 use Rattle.std.proofs.lemmas.Bool.{cases_lt}
 use Rattle.std.proofs.lemmas.List.{take_all, drop_all}
 use Rattle.std.proofs.lemmas.List.Sums.{fails_before_first}
 use Rattle.std.proofs.lemmas.List.Splits.{slice_split_first}
-use Rattle.fpga_text.specs.declared.style.Style.{Style}
-use Rattle.fpga_text.specs.Bytes.{Bytes, is_newline, is_blank, is_empty}
-use Rattle.fpga_text.specs.Words.{TextLine, lines, words, begins_word, text_line, lines_from, line_count}
-use Rattle.fpga_text.specs.Reading.{TakesLine, with_line}
-use Rattle.fpga_text.proofs.LineLemmas.{words-blank, words-last, lines-first}
+use Rattle.fpga_text.specs.Bytes.{Bytes, is_blank, is_empty}
+use Rattle.fpga_text.specs.Words.{TextLine, words, begins_word}
+use Rattle.fpga_text.specs.Reading.{with_line}
+use Rattle.fpga_text.proofs.LineLemmas.{words-blank, words-last}
 
 -- a blank in front says no word
 pub words-skip : (text : Bytes) (i : ℕ) → i < length text → is_blank (slice_index text i) ≡ true → words (drop (i + 1) text) ≡ words (drop i text)
@@ -63,27 +62,17 @@ pub is_empty-words : (text : Bytes) → IsTrue (begins_word text) → is_empty (
 is_empty-words [] begins = refl
 is_empty-words (c ∷ more) begins = rw (words-cut (c ∷ more) (omega arith) begins) refl
 
--- the first line is one of them, if it has words
-pub lines_from-cut : (style : Style) (first : ℕ) (text : Bytes) → 0 < length text
-    → lines_from style first text ≡ with_line (text_line style first (before_first is_newline text)) (lines_from style (first + 1) (after_first is_newline text))
-lines_from-cut style first [] some = absurd (omega (arith, some))
-lines_from-cut style first (b ∷ more) some =
-    ap (λ (ls : List Bytes). filter (λ (line : TextLine). not (is_empty line.words)) (map (λ l. text_line style l.0 l.1) (enumerate_from first ls))) (lines-first b more)
-    ∙ go (text_line style first (before_first is_newline (b ∷ more))) (lines_from style (first + 1) (after_first is_newline (b ∷ more)))
-    (map (λ l. text_line style l.0 l.1) (enumerate_from (first + 1) (lines (after_first is_newline (b ∷ more))))) refl
+-- the first line is one of those with words, if it has words
+pub filter-with_line : (line : TextLine) (all : List TextLine)
+    → filter (λ (l : TextLine). not (is_empty l.words)) (line ∷ all)
+    ≡ with_line line (filter (λ (l : TextLine). not (is_empty l.words)) all)
+filter-with_line line all = by_words (is_empty line.words) refl
   where
-    go : (line : TextLine) (ahead all : List TextLine) → filter (λ (l : TextLine). not (is_empty l.words)) all ≡ ahead
-        → filter (λ (l : TextLine). not (is_empty l.words)) (line ∷ all) ≡ with_line line ahead
-    go line ahead all e = by_words (is_empty line.words) refl
-      where
-        by_words : (b : Bool) → is_empty line.words ≡ b → filter (λ (l : TextLine). not (is_empty l.words)) (line ∷ all) ≡ with_line line ahead
-        by_words true none = rw (none, e) refl
-        by_words false some = rw (some, e) refl
-
--- and it is counted
-pub line_count-cut : (text : Bytes) → 0 < length text → line_count text ≡ line_count (after_first is_newline text) + 1
-line_count-cut [] some = absurd (omega (arith, some))
-line_count-cut (b ∷ more) some = ap length (lines-first b more) ∙ sym (add-one (line_count (after_first is_newline (b ∷ more))))
+    by_words : (b : Bool) → is_empty line.words ≡ b
+        → filter (λ (l : TextLine). not (is_empty l.words)) (line ∷ all)
+        ≡ with_line line (filter (λ (l : TextLine). not (is_empty l.words)) all)
+    by_words true none = rw none refl
+    by_words false some = rw some refl
 
 nonempty : (text : Bytes) → false ≡ (length text == 0) → 0 < length text
 nonempty [] some = absurd (let clash : false ≡ true = some in cc)
@@ -93,22 +82,3 @@ nonempty (b ∷ more) some = omega arith
 pub words-part : (text word rest : Bytes) (place : ℕ) → false ≡ (length text == 0) → IsTrue (begins_word text) → place ≡ position_or_len is_blank text
     → word ≡ take place text → rest ≡ drop (place + 1) text → words text ≡ word ∷ words rest
 words-part text word rest place some begins at before after = rw (before, after, at) (words-cut text (nonempty text some) begins)
-
--- a cut at the first newline takes the very next line
-pub takes_line-part : (style : Style) (taken : ℕ) (text raw rest : Bytes) (place : ℕ) (line : TextLine) → false ≡ (length text == 0) → place ≡ position_or_len is_newline text
-    → raw ≡ take place text → rest ≡ drop (place + 1) text → line ≡ text_line style (taken + 1) raw
-    → TakesLine (record { ahead = lines_from style (taken + 1) text; taken = taken; total = taken + line_count text })
-    (record { ahead = lines_from style (taken + 1 + 1) rest; taken = taken + 1; total = taken + 1 + line_count rest }) line
-takes_line-part style taken text raw rest place line some at before after said = record {
-  number = ap (λ (l : TextLine). l.number) said;
-  taken = sym (ap (λ (l : TextLine). l.number) said);
-  within = omega (arith, counted);
-  total = omega (arith, counted, same);
-  ahead = rw (said, after, before, at) (lines_from-cut style (taken + 1) text (nonempty text some));
-}
-  where
-    counted : line_count text ≡ line_count (after_first is_newline text) + 1
-    counted = line_count-cut text (nonempty text some)
-
-    same : line_count rest ≡ line_count (after_first is_newline text)
-    same = rw (after, at) refl

@@ -2,6 +2,7 @@ pub mod CodeLemmas
 pub mod CutLemmas
 pub mod FaultLemmas
 pub mod FrontLemmas
+pub mod JoinedLemmas
 pub mod LineLemmas
 pub mod NumberLemmas
 pub mod PartLemmas

@@ -7,9 +7,9 @@ use Rattle.std.proofs.lemmas.List.Elements.{All-filter, All-from_recursion}
 use Rattle.fpga_text.specs.declared.style.Style.{Style}
 use Rattle.fpga_text.specs.declared.style.Style.TheVariants.{Hash}
 use Rattle.fpga_text.specs.Bytes.{Bytes, is_newline, is_blank, is_hash, is_empty}
-use Rattle.fpga_text.specs.Words.{TextLine, text_line, text_lines, lines, ended_parts}
+use Rattle.fpga_text.specs.Words.{TextLine, text_line, lines, ended_parts}
 use Rattle.fpga_text.proofs.PrintedWords.{is_word_byte, lacks, weaker-pass, IsWord}
-use Rattle.fpga_text.proofs.PrintedLines.{said}
+use Rattle.fpga_text.proofs.PrintedLines.{said, seen}
 
 -- the elements that pass one test and fail another
 abbrev but : {X : Type 0} → (X → Bool) → (X → Bool) → X → Bool
@@ -76,8 +76,8 @@ pub record IsWhole (style : Style) (line : TextLine) : Type 0 where
   pub words : line.words ≡ said style line.raw
   pub one_line : lacks is_newline line.raw ≡ true
 
--- each line of a text that has words is so
-pub whole-lines : (style : Style) (text : Bytes) → All (IsWhole style) (text_lines style text)
+-- each line of a text that has words is so, where none goes on
+pub whole-lines : (style : Style) (text : Bytes) → All (IsWhole style) (seen style 1 (lines text))
 whole-lines style text = All-filter (λ line. not (is_empty line.words)) (IsWhole style)
     (map (λ l. text_line style l.0 l.1) (enumerate_from 1 (lines text)))
     (All-from_recursion (IsWhole style) _ (go 1 (lines text) (lines-lack_newlines text)))

@@ -5,7 +5,7 @@ use Rattle.std.specs.List.{enumerate_from, list_all, before_first}
 use Rattle.std.proofs.lemmas.Bool.{and_parts}
 use Rattle.std.proofs.lemmas.List.Elements.{All-tail}
 use Rattle.fpga_text.specs.declared.style.Style.{Style}
-use Rattle.fpga_text.specs.declared.style.Style.TheVariants.{Plain, Hash}
+use Rattle.fpga_text.specs.declared.style.Style.TheVariants.{Plain, Hash, Joined}
 use Rattle.fpga_text.specs.Bytes.{Bytes, is_newline, is_hash, is_empty}
 use Rattle.fpga_text.specs.Words.{TextLine, Words, lines, words, without_comment, text_line}
 use Rattle.fpga_text.proofs.CutLemmas.{position_or_len-cons_no}
@@ -25,7 +25,7 @@ before_first-none test (b ∷ more) e =
     fails false e = refl
     fails true e = absurd (let clash : false ≡ true = e in cc)
 
--- the words that a reader sees on a line
+-- the words that a reader sees on a line that does not go on
 abbrev pub said : Style → Bytes → Words
 said style raw = words (without_comment style raw)
 
@@ -34,6 +34,7 @@ pub said-line : (style : Style) (raw : Bytes) → list_all is_line_byte raw ≡ 
     ≡ words raw
 said-line Plain raw whole = refl
 said-line Hash raw whole = ap words (before_first-none is_hash raw (line-hash raw whole))
+said-line Joined raw whole = ap words (before_first-none is_hash raw (line-hash raw whole))
 
 -- the line with the newline behind it
 abbrev pub ended : Bytes → Bytes
@@ -51,7 +52,7 @@ lines-ended f (y ∷ ys) all =
     ∙ ap (λ (ls : List Bytes). f y ∷ ls)
     (lines-ended f ys (All-tail (λ z. lacks is_newline (f z) ≡ true) y ys all))
 
--- these lines, numbered from a first
+-- these lines, numbered from a first, where none goes on
 abbrev pub numbered : Style → ℕ → List Bytes → List TextLine
 numbered style first raws = map (λ l. text_line style l.0 l.1) (enumerate_from first raws)
 

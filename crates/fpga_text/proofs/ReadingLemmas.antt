@@ -6,15 +6,15 @@ use Rattle.fpga_text.specs.Reading.{LinesAhead, past_first, after_line}
 -- this line was the first ahead, and is so no more
 pub record IsTaken (old new : LinesAhead) (line : TextLine) : Type 0 where
   pub ahead : old.ahead ≡ line ∷ new.ahead
-  pub taken : new.taken ≡ line.number
+  pub taken : new.taken ≡ line.last
   pub total : new.total ≡ old.total
 
 first_taken : (ahead : List TextLine) (total : ℕ) (line : TextLine) → Some line ≡ slice_get ahead 0
-    → (ahead ≡ line ∷ (past_first ahead total).ahead) × ((past_first ahead total).taken ≡ line.number) × ((past_first ahead total).total ≡ total)
+    → (ahead ≡ line ∷ (past_first ahead total).ahead) × ((past_first ahead total).taken ≡ line.last) × ((past_first ahead total).total ≡ total)
 first_taken [] total line said = absurd (let clash : Some line ≡ None = said in cc)
 first_taken (first ∷ more) total line said =
     let same : line ≡ first = cc in
-    (ap (λ (l : TextLine). l ∷ more) (sym same), ap (λ (l : TextLine). l.number) (sym same), refl)
+    (ap (λ (l : TextLine). l ∷ more) (sym same), ap (λ (l : TextLine). l.last) (sym same), refl)
 
 -- `next_line` gave a line
 pub next_line-taken : (old new : LinesAhead) (line : TextLine) → Some line ≡ slice_get old.ahead 0 → new ≡ after_line old → IsTaken old new line

@@ -1,15 +1,15 @@
 -- Worked rows of lines, words and numbers, each by computation.
-use Rattle.std.proofs.Common.{◌≡◌, ℕ, true, false, List, [], ◌∷◌, Some, None, negsuc, refl}
+use Rattle.std.proofs.Common.{◌≡◌, ℕ, false, List, [], ◌∷◌, Some, None, negsuc, refl}
 use Rattle.std.specs.Prelude.{◌+◌, nat_lt, Bool, not, ◌&&◌, codes, bytes_eq, length, map, Option, if◌then◌else◌}
 use Rattle.std.specs.List.{list_any}
 use Rattle.fpga_text.specs.declared.fault.TextFault.{TextFault}
 use Rattle.fpga_text.specs.declared.fault.TextFault.TheVariants.{Bad, Limit}
-use Rattle.fpga_text.specs.declared.style.Style.TheVariants.{Plain, Hash}
+use Rattle.fpga_text.specs.declared.style.Style.TheVariants.{Plain, Hash, Joined}
 use Rattle.fpga_text.specs.Bytes.{Bytes, is_empty}
 use Rattle.fpga_text.specs.Codes.{Codes, At, Past, End, text_faults}
 use Rattle.fpga_text.specs.FirstFault.{first_fault}
 use Rattle.fpga_text.specs.Words.{TextLine, Words, lines, words, text_lines, line_count}
-use Rattle.fpga_text.specs.Numbers.{whole_number_of, signed_number_of}
+use Rattle.fpga_text.specs.Numbers.{millionths_of, whole_number_of, signed_number_of}
 
 -- a line's number and words
 abbrev seen : List TextLine → List (ℕ × List Bytes)
@@ -35,6 +35,29 @@ pub hash_lines : seen (text_lines Hash (codes "a # b\n#\n c\\")) ≡ (1, codes "
     ∷ (3, codes "c\\" ∷ []) ∷ []
 hash_lines = refl
 
+-- the numbers of each line's first and last part, and its words
+abbrev joined_seen : Bytes → List (ℕ × ℕ × Words)
+joined_seen text = map (λ l. (l.number, l.last, l.words)) (text_lines Joined text)
+
+pub joined_parts : joined_seen (codes "a b\\\nc\nd\n")
+    ≡ (1, 2, codes "a" ∷ codes "b" ∷ codes "c" ∷ []) ∷ (3, 3, codes "d" ∷ []) ∷ []
+joined_parts = refl
+
+pub comment_behind_backslash : joined_seen (codes "a \\ # one\nb # two \\\nc")
+    ≡ (1, 2, codes "a" ∷ codes "b" ∷ []) ∷ (3, 3, codes "c" ∷ []) ∷ []
+comment_behind_backslash = refl
+
+pub words_end_with_their_part : joined_seen (codes "ab\\ \t\r\ncd\\")
+    ≡ (1, 2, codes "ab" ∷ codes "cd" ∷ []) ∷ []
+words_end_with_their_part = refl
+
+pub last_backslash_alone : joined_seen (codes "a\\ b\nc\\\\\nd")
+    ≡ (1, 1, codes "a\\" ∷ codes "b" ∷ []) ∷ (2, 3, codes "c\\" ∷ codes "d" ∷ []) ∷ []
+last_backslash_alone = refl
+
+pub joined_without_words : joined_seen (codes "\n\\\n\\\na\n\\") ≡ (2, 4, codes "a" ∷ []) ∷ []
+joined_without_words = refl
+
 pub leading_zeros : whole_number_of (codes "0012") ≡ Some 12
 leading_zeros = refl
 
@@ -59,6 +82,21 @@ signed_too_great = refl
 
 pub sign_alone : signed_number_of (codes "-") ≡ None
 sign_alone = refl
+
+pub decimal_without_point : millionths_of (codes "1") ≡ Some 1000000
+decimal_without_point = refl
+
+pub point_at_an_end : millionths_of (codes ".25") ≡ Some 250000
+point_at_an_end = refl
+
+pub cut_behind_six : millionths_of (codes "00.0000019999") ≡ Some 1
+cut_behind_six = refl
+
+pub decimal_past_64_bits : millionths_of (codes "18446744073709.551616") ≡ None
+decimal_past_64_bits = refl
+
+pub point_alone : millionths_of (codes ".") ≡ None
+point_alone = refl
 
 -- a format of lines that begin with `a`: at most two of them, of which only the last has more words
 abbrev begins : Words → Bool

@@ -1,6 +1,9 @@
 pub mod Bytes
 pub mod Codes
 pub mod FirstFault
+pub mod Joined
+pub mod Joining
 pub mod Numbers
 pub mod Reading
+pub mod Said
 pub mod Words

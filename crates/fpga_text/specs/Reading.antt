@@ -12,7 +12,7 @@ pub record LinesAhead : Type 0 where
 -- past the first of these lines, of a text with so many lines; past the whole text where there is none
 abbrev pub past_first : List TextLine → ℕ → LinesAhead
 past_first [] total = record { ahead = []; taken = total; total = total }
-past_first (line ∷ more) total = record { ahead = more; taken = line.number; total = total }
+past_first (line ∷ more) total = record { ahead = more; taken = line.last; total = total }
 
 -- the next line is taken, and all before it
 abbrev pub after_line : LinesAhead → LinesAhead
@@ -25,7 +25,8 @@ with_line line more = if is_empty line.words then more else line ∷ more
 -- the very next line was taken, with words or without
 pub record TakesLine (old new : LinesAhead) (line : TextLine) : Type 0 where
   pub number : line.number ≡ old.taken + 1
-  pub taken : new.taken ≡ line.number
+  pub last : line.number ≤ line.last
+  pub taken : new.taken ≡ line.last
   pub within : new.taken ≤ old.total
   pub total : new.total ≡ old.total
   pub ahead : old.ahead ≡ with_line line new.ahead

@@ -5,6 +5,7 @@ ghost use Rattle.fpga_text.specs.Numbers.{signed_number_of};
 
 use crate::cut::{first_blank, from_first_word, part_at};
 use crate::front::front_number;
+use crate::joined::front_part;
 use crate::number::signed_number;
 use std::marker::Model;
 
@@ -19,43 +20,67 @@ pub struct Word<'a> {
 #[derive(Debug, Drop)]
 pub struct Line<'a> {
     number: u64,
+    last: u64,
     raw: &'a [u8],
     rest: &'a [u8],
+    /// The text that the line goes on in, if it does.
+    later: &'a [u8],
 }
 
 impl<'a> Model for Line<'a> {
-    ghost use Rattle.std.specs.Prelude.{IsTrue};
-    ghost use Rattle.fpga_text.specs.Words.{TextLine, words, begins_word};
+    ghost use Rattle.std.specs.Prelude.{IsTrue, ◌++◌};
+    ghost use Rattle.fpga_text.specs.Words.{TextLine, words, begins_word, words_later};
 
     ghost Value = { TextLine };
 
-    ghost view = { λ l. record { number = l.number; raw = l.raw.now; words = words l.rest.now } };
+    ghost view = { λ l. record {
+      number = l.number;
+      last = l.last;
+      raw = l.raw.now;
+      words = words l.rest.now ++ words_later l.later.now;
+    } };
 
     ghost invariant = { λ l. IsTrue (begins_word l.rest.now) };
 }
 
 impl<'a> Line<'a> {
-    ghost use Rattle.fpga_text.specs.Words.{words};
+    ghost use Rattle.std.specs.Prelude.{◌++◌};
+    ghost use Rattle.fpga_text.specs.Words.{words, words_later};
 
-    /// The line with these bytes, whose words are those of `said`.
-    pub(crate) fn new(number: u64, raw: &'a [u8], said: &'a [u8]) -> Line<'a>
-        ensures { result ≡ record { number = number; raw = raw.now; words = words said.now } }
+    /// The line with these bytes, whose words are those of `said`, and of the parts of a line that
+    /// goes on in `later`; its last part has the number `last`.
+    pub(crate) fn new(
+        number: u64,
+        last: u64,
+        raw: &'a [u8],
+        said: &'a [u8],
+        later: &'a [u8],
+    ) -> Line<'a>
+        ensures { result ≡ record {
+          number = number;
+          last = last;
+          raw = raw.now;
+          words = words said.now ++ words_later later.now;
+        } }
     {
         Line {
             number,
+            last,
             raw,
             rest: from_first_word(said),
+            later,
         }
     }
 
-    /// The number of the line in its text, from 1 on.
+    /// The number of the line in its text, from 1 on: of a joined line that of its first part.
     pub fn number(&self) -> u64
         ensures { result ≡ self.now.number }
     {
         self.number
     }
 
-    /// The bytes of the line, its comment too, without the newline.
+    /// The bytes of the line, its comment too, without the newline: of a joined line those of its
+    /// first part.
     pub fn raw(&self) -> &'a [u8]
         ensures { result.now ≡ self.now.raw }
     {
@@ -66,7 +91,7 @@ impl<'a> Line<'a> {
     pub fn has_words(&self) -> bool
         ensures { result ≡ not (is_empty self.now.words) }
     {
-        !self.rest.is_empty()
+        !front_part(self.rest, self.later).words.is_empty()
     }
 
     /// The next word, or None after the last one.
@@ -75,11 +100,13 @@ impl<'a> Line<'a> {
         ensures line { IfSome result (λ w. w.line ≡ self.old.number) }
         ensures after { self.new ≡ record self.old { words = drop 1 self.old.words } }
     {
-        if self.rest.is_empty() {
+        let front = front_part(self.rest, self.later);
+        if front.words.is_empty() {
             return None;
         }
-        let (text, rest) = part_at(self.rest, first_blank(self.rest));
+        let (text, rest) = part_at(front.words, first_blank(front.words));
         self.rest = from_first_word(rest);
+        self.later = front.later;
         Some(Word {
             line: self.number,
             text,
@@ -117,6 +144,7 @@ impl<'a> Line<'a> {
             return None;
         };
         self.rest = behind.rest;
+        self.later = behind.later;
         Some(number)
     }
 
@@ -126,8 +154,10 @@ impl<'a> Line<'a> {
     {
         Line {
             number: self.number,
+            last: self.last,
             raw: self.raw,
             rest: self.rest,
+            later: self.later,
         }
     }
 }

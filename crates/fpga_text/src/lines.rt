@@ -1,8 +1,10 @@
 //! The lines of a text, one after another.
-ghost use Rattle.std.specs.Prelude.{◌≡◌, ◌<◌, ◌^◌, IfSome, IfNone, slice_get};
-ghost use Rattle.fpga_text.specs.Words.{without_comment as without_comment_of};
+ghost use Rattle.std.specs.Prelude.{◌≡◌, ◌<◌, ◌^◌, [], IfSome, IfNone, slice_get};
+ghost use Rattle.fpga_text.specs.Joining.{IsFirstLine};
+ghost use Rattle.fpga_text.specs.declared.style.Style.TheVariants.{Joined};
 
 use crate::cut::{first_byte, part_at};
+use crate::joined::{behind_parts, part_of};
 use crate::line::Line;
 use crate::style::Style;
 use std::marker::Model;
@@ -63,7 +65,8 @@ impl<'a> Lines<'a> {
         None
     }
 
-    /// How many of the text's lines were taken so far, those without words counted.
+    /// How many of the text's lines were taken so far, those without words and each part of a joined
+    /// line counted.
     pub fn line_count(&self) -> u64
         ensures count { result ≡ self.now.taken }
         ensures within { result < 2 ^ 63 }
@@ -79,19 +82,69 @@ impl<'a> Lines<'a> {
         if self.rest.is_empty() {
             return None;
         }
-        let (raw, rest) = part_at(self.rest, first_byte(self.rest, b'\n'));
-        self.rest = rest;
-        self.taken += 1;
-        Some(Line::new(self.taken, raw, without_comment(raw, self.style)))
+        let (raw, behind) = part_at(self.rest, first_byte(self.rest, b'\n'));
+        let first = first_line(raw, behind, self.style);
+        let number = self.taken + 1;
+        self.rest = first.behind;
+        self.taken = number + first.more;
+        Some(Line::new(number, self.taken, raw, first.said, first.later))
     }
 }
 
-/// The line without its comment, where the style has comments.
-fn without_comment<'a>(line: &'a [u8], style: Style) -> &'a [u8]
-    ensures { result.now ≡ without_comment_of style line.now }
+/// The first line of a text.
+#[derive(Clone, Copy, Debug)]
+struct FirstLine<'a> {
+    /// The bytes that say the words of its first part.
+    said: &'a [u8],
+    /// The text that it goes on in, if it does.
+    later: &'a [u8],
+    /// The text behind it.
+    behind: &'a [u8],
+    /// How many lines of the text it takes besides its first part.
+    more: u64,
+}
+
+/// The first line of a text that begins with `raw` and a newline and goes on with `text`.
+fn first_line<'a>(raw: &'a [u8], text: &'a [u8], style: Style) -> FirstLine<'a>
+    ensures { IsFirstLine style raw.now text.now
+        result.said.now result.later.now result.behind.now result.more }
 {
     match style {
-        Style::Plain => line,
-        Style::Hash => &line[..first_byte(line, b'#')],
+        Style::Plain => alone(raw, text),
+        Style::Hash => alone(&raw[..first_byte(raw, b'#')], text),
+        Style::Joined => first_joined(raw, text),
+    }
+}
+
+/// A line with these words that does not go on, before this text.
+fn alone<'a>(said: &'a [u8], text: &'a [u8]) -> FirstLine<'a>
+    ensures said { result.said.now ≡ said.now }
+    ensures later { result.later.now ≡ [] }
+    ensures behind { result.behind.now ≡ text.now }
+    ensures more { result.more ≡ 0 }
+{
+    FirstLine {
+        said,
+        later: &[],
+        behind: text,
+        more: 0,
+    }
+}
+
+/// The first line where a backslash joins lines.
+fn first_joined<'a>(raw: &'a [u8], text: &'a [u8]) -> FirstLine<'a>
+    ensures { IsFirstLine Joined raw.now text.now
+        result.said.now result.later.now result.behind.now result.more }
+{
+    let part = part_of(raw);
+    if !part.goes_on {
+        return alone(part.said, text);
+    }
+    let behind = behind_parts(text);
+    FirstLine {
+        said: part.said,
+        later: text,
+        behind: behind.text,
+        more: behind.taken,
     }
 }

@@ -1,7 +1,10 @@
 //! Whole numbers, as the words of a text write them.
-ghost use Rattle.std.specs.Prelude.{◌≡◌, ◌+◌, ◌*◌, ◌^◌, ◌<◌, ◌≤◌, true, false, IfSome, IfNone};
+ghost use Rattle.std.specs.Prelude.{◌≡◌, ◌+◌, ◌*◌, ◌^◌, ◌<◌, ◌≤◌, true, false, codes, drop, length, IfSome, IfNone};
 ghost use Rattle.std.specs.Char.{digit_value, is_ascii_digit};
-ghost use Rattle.fpga_text.specs.Numbers.{negated_number, plain_number, signed_number_of, whole_number_of};
+ghost use Rattle.std.specs.List.{list_all};
+ghost use Rattle.fpga_text.specs.Numbers.{millionths_of, negated_number, plain_number, signed_number_of, whole_number_of, with_digits};
+
+use crate::cut::{first_byte, part_at};
 
 /// The size of the least number of 64 bits with a sign.
 const LEAST_SIZE: u64 = 1 << 63;
@@ -14,8 +17,52 @@ pub fn whole_number(word: &[u8]) -> Option<u64>
     if word.is_empty() {
         return None;
     }
-    let mut value: u64 = 0;
-    for byte in word {
+    followed_by_digits(Some(0), word)
+}
+
+/// The decimal that a word says, in millionths, or None: exactly where it is not decimal digits with
+/// at most one point and at least one digit, or its value passes 64 bits. Digits behind the sixth
+/// after the point are cut off.
+pub fn millionths(word: &[u8]) -> Option<u64>
+    ensures { result ≡ millionths_of word.now }
+{
+    let (whole, part) = part_at(word, first_byte(word, b'.'));
+    if whole.is_empty() && part.is_empty() {
+        return None;
+    }
+    if !are_all_digits(part) {
+        return None;
+    }
+    let kept = &part[..part.len().min(6)];
+    let number = followed_by_digits(followed_by_digits(Some(0), whole), kept);
+    followed_by_digits(number, zeros_behind(kept))
+}
+
+/// The zeros that these digits lack to be six.
+fn zeros_behind(digits: &[u8]) -> &'static [u8]
+    requires { length digits.now ≤ 6 }
+    ensures { result.now ≡ drop (length digits.now) (codes "000000") }
+{
+    let (_, zeros) = b"000000".split_at(digits.len());
+    zeros
+}
+
+/// Whether each byte is a digit.
+fn are_all_digits(bytes: &[u8]) -> bool
+    ensures { result ≡ list_all is_ascii_digit bytes.now }
+{
+    bytes.iter().all(|b| b.is_ascii_digit())
+}
+
+/// The number with these digits at its end, or None where there is no number, one of them is no
+/// digit or the value passes 64 bits.
+fn followed_by_digits(number: Option<u64>, digits: &[u8]) -> Option<u64>
+    ensures { result ≡ with_digits number digits.now }
+{
+    let Some(mut value) = number else {
+        return None;
+    };
+    for byte in digits {
         let Some(digit) = digit_of(*byte) else {
             return None;
         };

@@ -7,4 +7,7 @@ pub enum Style {
     Plain,
     /// A `#` begins a comment that ends with its line: placements and routes.
     Hash,
+    /// The same, and a backslash at the end of a line joins the next line to it: architectures and
+    /// netlists.
+    Joined,
 }

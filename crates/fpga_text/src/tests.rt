@@ -1,7 +1,7 @@
 //! Hostile texts, and what is read of them.
 use crate::line::Line;
 use crate::lines::Lines;
-use crate::number::whole_number;
+use crate::number::{millionths, whole_number};
 use crate::style::Style;
 use std::alloc::{AllocError, Global};
 use std::test::Fail;
@@ -36,7 +36,7 @@ fn all_words(alloc: Global, text: &[u8], style: Style) -> Result<Vec<u8>, AllocE
 
 #[test]
 fn hostile_texts(rt: HostRuntime) -> Result<(), Fail> {
-    let rows: [(&[u8], Style, &[u8]); 12] = [
+    let rows: [(&[u8], Style, &[u8]); 14] = [
         (b"", Style::Plain, b"0"),
         (b"\n\n\n", Style::Hash, b"3"),
         (b" \t\r \n\r", Style::Plain, b"2"),
@@ -53,6 +53,8 @@ fn hostile_texts(rt: HostRuntime) -> Result<(), Fail> {
             b"1:\x00 1:\xc3\xa4\xff\x0b 2:\x00 2",
         ),
         (b"a\n\n \nb \n\n", Style::Plain, b"1:a 4:b 5"),
+        (b"\\\n #\\\na\\ \n\\\nb c", Style::Joined, b"3:a 3:b 3:c 5"),
+        (b"a b#\nc\\", Style::Joined, b"1:a 1:b 2:c 2"),
     ];
     for (text, style, want) in rows {
         let said = all_words(rt.alloc(), text, style)?;
@@ -89,7 +91,7 @@ fn numbers(rt: HostRuntime) {
 
 /// The number that a text begins with, if it does, and what `next_word` gives after it.
 fn front_said<'a>(text: &'a [u8]) -> (Option<i64>, &'a [u8]) {
-    let mut line = Line::new(1, text, text);
+    let mut line = Line::new(1, 1, text, text, b"");
     let number = line.next_number();
     match line.next_word() {
         Some(word) => (number, word.text),
@@ -115,5 +117,21 @@ fn signed_numbers(rt: HostRuntime) {
         let (said, behind) = front_said(text);
         assert_eq!(rt; said, number, "the number of {text:?}");
         assert_eq!(rt; behind, word, "behind the number of {text:?}");
+    }
+}
+
+#[test]
+fn decimals(rt: HostRuntime) {
+    let rows: [(&[u8], Option<u64>); 7] = [
+        (b"1.", Some(1000000)),
+        (b".25", Some(250000)),
+        (b"00.0000019999", Some(1)),
+        (b"18446744073709.551615999", Some(18446744073709551615)),
+        (b"18446744073709.551616", None),
+        (b"1.0.", None),
+        (b".", None),
+    ];
+    for (word, want) in rows {
+        assert_eq!(rt; millionths(word), want, "{word:?}");
     }
 }

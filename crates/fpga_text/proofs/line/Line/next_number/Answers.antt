@@ -1,4 +1,4 @@
-use Rattle.std.proofs.Common.{◌≡◌, ◌∷◌, refl, sym, ◌∙◌, w64}
+use Rattle.std.proofs.Common.{◌≡◌, ◌∷◌, refl, w64}
 use Rattle.std.proofs.lemmas.Int.{to_z-of_z}
 use Rattle.fpga_text.specs.Words.{words}
 use Rattle.fpga_text.proofs.CutLemmas.{words-part}
