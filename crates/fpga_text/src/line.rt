@@ -113,13 +113,14 @@ impl<'a> Line<'a> {
         })
     }
 
-    /// The number that the next word says, or None: exactly where there is no next word, or it says no
-    /// number of 64 bits with its sign. That word is then not taken.
+    /// The number that the next word says, or None: exactly where there is no next word, or it says
+    /// no number of 64 bits with its sign. That word is then not taken.
     // Inlined, so that what is left of the line stays in registers from one number to the next.
     #[inline(always)]
     pub fn next_number(&mut self) -> Option<i64>
         ensures number { result ≡ option_and_then signed_number_of (slice_get self.old.words 0) }
-        ensures after { IfSome result (λ _. self.new ≡ record self.old { words = drop 1 self.old.words }) }
+        ensures after { IfSome result
+            (λ _. self.new ≡ record self.old { words = drop 1 self.old.words }) }
         ensures kept { IfNone result (self.new ≡ self.old) }
     {
         let Some(front) = front_number(self.rest) else {
@@ -133,7 +134,8 @@ impl<'a> Line<'a> {
     /// The same, by the whole word.
     fn next_long_number(&mut self) -> Option<i64>
         ensures number { result ≡ option_and_then signed_number_of (slice_get self.old.words 0) }
-        ensures after { IfSome result (λ _. self.new ≡ record self.old { words = drop 1 self.old.words }) }
+        ensures after { IfSome result
+            (λ _. self.new ≡ record self.old { words = drop 1 self.old.words }) }
         ensures kept { IfNone result (self.new ≡ self.old) }
     {
         let mut behind = self.again();
