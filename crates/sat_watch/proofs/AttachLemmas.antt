@@ -1,17 +1,18 @@
 -- The chains stay whole where a clause is put behind the others and first in its two chains.
-use Rattle.std.proofs.Common.{◌≡◌, ◌≢◌, ℕ, ◌+◌, ◌*◌, ◌<◌, ◌≤◌, true, false, inl, inr, List, [], ◌∷◌, ◌++◌, length, set, Option, None, Some, refl, sym, ap, ◌∙◌, subst, arith, length-set}
+use Rattle.std.proofs.Common.{◌≡◌, ◌≢◌, ℕ, ◌+◌, ◌*◌, ◌<◌, ◌≤◌, pos, true, false, inl, inr, List, [], ◌∷◌, ◌++◌, length, set, Option, None, Some, refl, sym, ap, ◌∙◌, subst, arith, length-set}
+use Rattle.std.specs.List.{swap}
 use Rattle.std.proofs.lemmas.Bool.{both_ways}
 use Rattle.sat_clause.specs.declared.literal.Lit.{Lit}
 use Rattle.sat_clause.specs.Learned.{IsSimple}
-use Rattle.sat_clause.specs.Literal.{Clause, IsWithin}
+use Rattle.sat_clause.specs.Literal.{Clause, IsWithin, lit, variable}
 use Rattle.sat_arena.specs.declared.clause_ref.ClauseRef.{ClauseRef}
-use Rattle.sat_arena.specs.Store.{ArePlaced, Stored, changed, is_held, ref, size_all, size_of, stored_at, with_link}
-use Rattle.sat_watch.specs.Chains.{IsLast, lit_at, HasChain, IsChained, head_in, index_of, next_by, next_in, next_on}
-use Rattle.sat_watch.proofs.ChainLemmas.{head_set_other, head_set_same}
+use Rattle.sat_arena.specs.Store.{ArePlaced, Stored, changed, is_held, new_clause, ref, size_all, size_of, stored_at, with_link}
+use Rattle.sat_watch.specs.Chains.{HasChain, HasHead, IsAdded, IsChained, IsLast, head_at, head_in, index_of, lit_at, next_by, next_in, next_on, with_head, with_order}
+use Rattle.sat_watch.proofs.ChainLemmas.{head_held, head_set_other, head_set_same, index_within}
 use Rattle.sat_arena.proofs.StoreLaws.{same_or_other}
 use Rattle.sat_watch.proofs.PathLemmas.{PutsFirst, put_first, same_chain}
 use Rattle.sat_arena.proofs.StoreLaws.{not_held}
-use Rattle.sat_watch.proofs.WatchLemmas.{apart_first, lit_tells, no_next, own_next}
+use Rattle.sat_watch.proofs.WatchLemmas.{apart_first, length_swap, lit_tells, no_next, own_next, simple_swap}
 
 pub absent : (at : ℕ) (ks : List Stored) (c : ClauseRef) → ArePlaced at ks →
     at + size_all ks ≤ c.word → is_held ks c ≡ false
@@ -137,7 +138,8 @@ module _ (n : ℕ) (ks : List Stored) (heads : List (Option ClauseRef)) (k : Sto
               (h.chains b wb) (puts b (head_in heads b) (by_lits b ∙ (own_b ∙ ap Some to_b)))))
           | inr lb ↦ elim (lit_tells l a) [
             | inl same ↦ subst (λ x. HasChain (next_on (ks ++ k ∷ []) x)
-                (head_in (set (set heads (index_of a) (Some k.place)) (index_of b) (Some k.place)) x))
+                (head_in (set (set heads (index_of a) (Some k.place)) (index_of b) (Some k.place))
+                x))
                 (sym same.1)
                 (rw (head_set_other n (set heads (index_of a) (Some k.place)) a b (Some k.place) wa
                 wb ab ∙ head_set_same n heads a (Some k.place) h.many wa)
@@ -271,3 +273,94 @@ module _ (n : ℕ) (ks all new : List Stored) (heads now : List (Option ClauseRe
         (index_of (second x)) (Some (sym last_linked.place x))) in
         subst (λ (p : List Stored × List (Option ClauseRef)). IsChained n p.0 p.1)
         (λ x. (sym last_linked.is x, sym heads_are x)) whole
+
+-- what is known once a clause was put behind the others, with its literals in order
+module _ (n : ℕ) (ks reserved all : List Stored) (heads : List (Option ClauseRef)) (lits : Clause)
+    (id i j : ℕ) (c : ClauseRef) (h : IsChained n ks heads) (given : IsSimple n lits)
+    (li : i < length lits) (lj : j < length lits) (two : 2 ≤ length lits) (same : reserved ≡ ks)
+    (pushed : IsLast reserved all
+    (with_order i j (new_clause (ref (size_all reserved)) id lits)) c)
+    (at : c ≡ ref (size_all reserved)) where
+  abbrev pub ordered : Stored
+  ordered = with_order i j (new_clause (ref (size_all ks)) id lits)
+
+  ordered_last : IsLast ks all ordered c
+  ordered_last =
+      subst (λ l. IsLast l all (with_order i j (new_clause (ref (size_all l)) id lits)) c) same
+      pushed
+
+  ordered_place : c ≡ ref (size_all ks)
+  ordered_place = at ∙ ap (λ l. ref (size_all l)) same
+
+  stored : stored_at all c ≡ ordered
+  stored = last_stored ks all ordered c ordered_last
+
+  once : length (swap lits 0 i) ≡ length lits
+  once = length_swap lits 0 i
+
+  simple_ordered : IsSimple n ordered.lits
+  simple_ordered =
+      simple_swap n (swap lits 0 i) 1 j (rw once (omega arith)) (rw once lj)
+      (simple_swap n lits 0 i (omega arith) li given)
+
+  long : 2 ≤ length ordered.lits
+  long = let twice = length_swap (swap lits 0 i) 1 j in omega (arith, once, twice)
+
+  pub ordered_held : is_held all c ≡ true
+  ordered_held = last_held ks all ordered c ordered_last
+
+  pub ordered_two : 2 ≤ length (stored_at all c).lits
+  ordered_two = rw stored long
+
+  pub ordered_head : (k : ℕ) → k < 2 → HasHead all heads c k
+  ordered_head k lt =
+      let within : IsWithin n (lit_at ordered.lits k) =
+      simple_ordered.within k (lit (pos 0)) (omega (arith, long)) in
+      let below = index_within n (lit_at ordered.lits k) within in let many = h.many in
+      record {
+        some = subst (λ (x : Stored). 1 ≤ variable (lit_at x.lits k)) (sym stored) within.0;
+        within =
+            subst (λ (x : Stored). index_of (lit_at x.lits k) < length heads) (sym stored)
+            (omega arith);
+        held = λ d e. subst (λ l. is_held l d ≡ true) (sym ordered_last.is)
+            (held_front ks ordered d (head_held n ks heads (lit_at ordered.lits k) d h within
+            (ap (λ (x : Stored). head_in heads (lit_at x.lits k)) (sym stored) ∙ e)));
+      }
+
+  module _ (new : List Stored) (now : List (Option ClauseRef))
+      (links : new ≡ changed (with_link 1 (head_at all heads c 1)) c
+      (changed (with_link 0 (head_at all heads c 0)) c all))
+      (fronts : now ≡ with_head all (with_head all heads c 0) c 1) where
+    links_are : new ≡ changed (with_link 1 (head_in heads (lit_at ordered.lits 1))) c
+        (changed (with_link 0 (head_in heads (lit_at ordered.lits 0))) c all)
+    links_are =
+        links ∙ (λ x. changed (with_link 1 (head_in heads (lit_at (stored x).lits 1))) c
+        (changed (with_link 0 (head_in heads (lit_at (stored x).lits 0))) c all))
+
+    fronts_are : now ≡ set (set heads (index_of (lit_at ordered.lits 0)) (Some c))
+        (index_of (lit_at ordered.lits 1)) (Some c)
+    fronts_are =
+        fronts ∙ (λ x. set (set heads (index_of (lit_at (stored x).lits 0)) (Some c))
+        (index_of (lit_at (stored x).lits 1)) (Some c))
+
+    pub ordered_chained : IsChained n new now
+    ordered_chained =
+        linked_chained n ks all new heads now ordered c h simple_ordered long ordered_last
+        ordered_place links_are fronts_are
+
+    pub ordered_added : (spare spare' : ℕ) →
+        IsAdded (record { vars = n; clauses = ks; spare = spare; heads = heads })
+        (record { vars = n; clauses = new; spare = spare'; heads = now })
+        (swap (swap lits 0 i) 1 j) id c
+    ordered_added spare spare' = record {
+      clause =
+          linked_clause n ks all new heads now ordered c h simple_ordered long ordered_last
+          ordered_place links_are fronts_are;
+      last =
+          last_linked n ks all new heads now ordered c h simple_ordered long ordered_last
+          ordered_place links_are fronts_are;
+      place = ordered_place;
+      lits = refl;
+      is_id = refl;
+      vars = refl;
+    }

@@ -206,7 +206,8 @@ module _ (n : ℕ) (entries : List TrailEntry) (level : ℕ) (lits : Clause) (si
       ]
 
       -- with two that are not false
-      pub two_not_one : (j : ℕ) → j < length lits → j ≢ i → is_false entries (lit_at lits j) ≡ false →
+      pub two_not_one : (j : ℕ) → j < length lits → j ≢ i → is_false entries (lit_at lits j) ≡ false
+          →
           (l : Lit) → IsOnlyOne entries lits l → ⊥
       two_not_one j lj ne free_j l only =
           other_at n lits i j simple li lj ne (elim (lit_tells (lit_at lits j) l) [

@@ -8,7 +8,7 @@ use Rattle.sat_clause.specs.Literal.{IsWithin, is_among, lit, variable}
 use Rattle.sat_arena.specs.declared.clause_ref.ClauseRef.{ClauseRef}
 use Rattle.sat_arena.specs.Store.{ArePlaced, Stored, changed, is_held, link_of, stored_at, with_link, with_swap}
 use Rattle.sat_watch.specs.declared.place.Place.{Place}
-use Rattle.sat_watch.specs.Chains.{holders, ChainsState, AreOnce, HasCursor, IsPath, is_in, HasChain, IsChained, IsCursor, IsPlaceOf, IsRewatched, MayBePlaceOf, clause_of, head_in, index_by, index_of, lit_at, next_in, next_on, unlinked, unlinked_heads, with_watch}
+use Rattle.sat_watch.specs.Chains.{holders, ChainsState, AreOnce, HasCursor, HasHead, IsPath, is_in, HasChain, IsChained, IsCursor, IsPlaceOf, IsRewatched, MayBePlaceOf, clause_of, head_in, index_by, index_of, lit_at, next_in, next_on, unlinked, unlinked_heads, with_watch}
 use Rattle.sat_arena.proofs.StoreLaws.{same_or_other}
 use Rattle.sat_watch.proofs.PathLemmas.{at_first, last_in_all, once_before, true_not_false, PutsFirst, TakesOut, head_behind, put_first, same_chain, take_out, whole_chain}
 use Rattle.sat_arena.proofs.StoreLaws.{changed_other, changed_same, held_changed}
@@ -277,7 +277,8 @@ module _ (n : ℕ) (ks new : List Stored) (f : Lit) (before : Option Place) (at 
         head_set_other n (unlinked_heads f before after heads) f m (Some at.clause) wf wm
         other_literal ∙ of_option before where
           of_option : (o : Option Place) →
-              head_in (unlinked_heads f o after heads) f ≡ head_behind (clause_of o) (head_in heads f)
+              head_in (unlinked_heads f o after heads) f ≡ head_behind (clause_of o) (head_in heads
+              f)
               after
           of_option None = head_set_same n heads f after many wf
           of_option (Some p) = refl
@@ -560,22 +561,20 @@ module _ (n : ℕ) (ks : List Stored) (heads : List (Option ClauseRef)) (f : Lit
     pub still_high : i < length (stored_at k1 at.clause).lits
     still_high = rw same_stored can.high
 
-    pub still_literal : 1 ≤ variable (lit_at (stored_at k1 at.clause).lits i)
-    still_literal = rw same_stored target_within.0
-
-    pub still_within : index_of (lit_at (stored_at k1 at.clause).lits i) < length h1
-    still_within =
+    pub still_head : HasHead k1 h1 at.clause i
+    still_head =
         let long : length h1 ≡ n * 2 = ap length eh ∙ unlinked_many in
-        let below = index_within n target target_within in rw (same_target, long) below
-
-    pub still_head : (d : ClauseRef) →
-        head_in h1 (lit_at (stored_at k1 at.clause).lits i) ≡ Some d → is_held k1 d ≡ true
-    still_head d e =
-        let there : head_in heads target ≡ Some d =
-        sym target_head ∙ ((λ j. head_in (sym eh j) (sym same_target j)) ∙ e) in
-        ap (λ l. is_held l d)
-        ek ∙ (unlinked_held ks before after d ∙ head_held n ks heads target d can.chained
-        target_within there)
+        let below = index_within n target target_within in
+        record {
+          some = subst (λ (l : Lit). 1 ≤ variable l) (sym same_target) target_within.0;
+          within = subst (λ (l : Lit). index_of l < length h1) (sym same_target) (omega arith);
+          held = λ d e.
+              let there : head_in heads target ≡ Some d =
+              sym target_head ∙ ((λ j. head_in (sym eh j) (sym same_target j)) ∙ e) in
+              ap (λ l. is_held l d)
+              ek ∙ (unlinked_held ks before after d ∙ head_held n ks heads target d can.chained
+              target_within there);
+        }
 
     pub code_clauses : (new : List Stored) →
         new ≡ changed (with_link at.which (head_in h1 (lit_at (stored_at k1 at.clause).lits i)))

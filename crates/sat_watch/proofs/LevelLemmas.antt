@@ -64,7 +64,8 @@ not_both (e ∷ older) l some once is is' = elim (among_cases (falses older) (ne
   | inl here ↦ elim (among_cases (falses older) (negation e.lit) (negation l) is') [
     | inl here' ↦ not_own_negation l some (sym here ∙ here')
     | inr later' ↦ never _
-        (subst (λ (x : Lit). is_false older x ≡ true) (ap negation (sym here) ∙ negation-negation e.lit)
+        (subst (λ (x : Lit). is_false older x ≡ true) (ap negation (sym here) ∙ negation-negation
+        e.lit)
         later') (open_not_false older e.lit once.0)
   ]
   | inr later ↦ elim (among_cases (falses older) (negation e.lit) (negation l) is') [
@@ -210,7 +211,8 @@ length_same xs ys p =
       length_swapped : (l : Clause) (i j : ℕ) → length (swap l i j) ≡ length l
       length_swapped [] i j = refl
       length_swapped (x ∷ l) i j =
-          length-set (set (x ∷ l) i (get_or (x ∷ l) j x)) j (get_or (x ∷ l) i x) ∙ length-set (x ∷ l) i
+          length-set (set (x ∷ l) i (get_or (x ∷ l) j x)) j (get_or (x ∷ l) i x) ∙ length-set (x ∷
+          l) i
           (get_or (x ∷ l) j x)
 
 some_still : (xs ys : Clause) → length ys ≡ length xs → xs ≢ [] → ys ≢ []
@@ -311,7 +313,8 @@ module _ (ks new : List Stored) (entries now : List TrailEntry) (q level : ℕ) 
             (λ l n is. drop_true (suc p) entries l n is) (go.lits c)
             (subst (λ m. IsWatched (drop m entries) entries (stored_at ks c).lits) qis
             (h.watched c (sym (go.held c) ∙ held) ne))
-            new level t fis (ap (λ (e : TrailEntry). e.level) (sym at_p) ∙ h.current p t (omega arith))
+            new level t fis (ap (λ (e : TrailEntry). e.level) (sym at_p) ∙ h.current p t (omega
+            arith))
             leveled_now
             (subst (λ x. OtherIsTrue x (stored_at new c).lits f) grown.is (is_true c)));
         due_is = tt;

@@ -11,6 +11,7 @@ pub mod PathLemmas
 pub mod SettledLemmas
 pub mod StoreLemmas
 pub mod StoredLemmas
+pub mod TestLemmas
 pub mod TrailLemmas
 pub mod WalkLemmas
 pub mod VisitLemmas

@@ -133,7 +133,8 @@ module _ (ks : List Stored) (entries : List TrailEntry) (q level : ℕ) (due : O
     first_is a ls d y = elim (lit_tells l a) [
       | inl same ↦ same.1
       | inr other ↦ absurd
-          (never _ (in_rest a ls y.has other.1 (d.others a ls refl)) (open_not_false entries l free))
+          (never _ (in_rest a ls y.has other.1 (d.others a ls refl)) (open_not_false entries l
+          free))
     ]
       where
         in_rest : (a : Lit) (ls : Clause) → Contains (a ∷ ls) l → l ≢ a →

@@ -201,7 +201,8 @@ module _ (vars : ℕ) (entries next : Vec TrailEntry Global) (truths levels : Ve
       ap reverse items ∙ reverse-push entries.items e in
       record {
         trail =
-            longer_trail (trail_state vars entries) (trail_state vars next) e refl turned within free
+            longer_trail (trail_state vars entries) (trail_state vars next) e refl turned within
+            free
             store.trail;
         within =
             rw items (All-push (λ (x : TrailEntry). IsWithin vars x.lit) entries.items e
@@ -235,7 +236,8 @@ module _ (vars : ℕ) (entries next : Vec TrailEntry Global) (truths levels : Ve
         trail = record {
           few_vars = before.few_vars;
           within =
-              All-tail (λ (x : TrailEntry). IsWithin vars x.lit) e (reverse next.items) before.within;
+              All-tail (λ (x : TrailEntry). IsWithin vars x.lit) e (reverse next.items)
+              before.within;
           once = once.1;
           few = omega (arith, few);
         };

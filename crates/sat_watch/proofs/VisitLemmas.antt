@@ -316,6 +316,7 @@ others_false entries (a ∷ b ∷ ls) (suc zero) lw two own later m has ne =
       each zero lt is = absurd (ne (sym is))
       each (suc zero) lt is = subst (λ x. is_false entries x ≡ true) is (own b refl)
       each (suc (suc k)) lt is =
-          subst (λ x. is_false entries x ≡ true) (default_free ls k (lit (pos 0)) m (omega arith) ∙ is)
+          subst (λ x. is_false entries x ≡ true) (default_free ls k (lit (pos 0)) m (omega arith) ∙
+          is)
           (later (suc (suc k)) (omega arith) lt)
 others_false entries (a ∷ b ∷ ls) (suc (suc w)) lw two own later m has ne = absurd (omega arith)

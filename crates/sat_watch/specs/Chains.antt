@@ -4,9 +4,9 @@ use Rattle.std.specs.Ordering.{int_eq}
 use Rattle.sat_clause.specs.declared.limits.TheConstants.{VARIABLE_LIMIT}
 use Rattle.sat_clause.specs.declared.literal.Lit.{Lit}
 use Rattle.sat_clause.specs.Learned.{IsSimple}
-use Rattle.sat_clause.specs.Literal.{Clause, IsWithin, is_among}
+use Rattle.sat_clause.specs.Literal.{Clause, IsWithin, is_among, variable}
 use Rattle.sat_arena.specs.declared.clause_ref.ClauseRef.{ClauseRef}
-use Rattle.sat_arena.specs.Store.{ArePlaced, ref, size_all, Stored, changed, is_held, stored_at, with_link, with_swap}
+use Rattle.sat_arena.specs.Store.{ArePlaced, IsLinkTo, ref, size_all, Stored, changed, is_held, stored_at, with_link, with_swap}
 use Rattle.sat_watch.specs.declared.place.Place.{Place}
 
 -- where a chain goes on from each clause in it
@@ -35,8 +35,7 @@ last_or d [] = d
 last_or d (c ∷ cs) = last_or (Some c) cs
 
 -- a chain with a place in it: it leads over the kept clauses, the last of which is `before`, to
--- `at`
--- and on over the rest to its end; and each clause that is in it is one of these, once
+-- `at` and on over the rest to its end; and each clause that is in it is one of these, once
 pub record IsCursor
     (next : Next) (head : Option ClauseRef) (kept rest : List ClauseRef)
     (before at : Option ClauseRef)
@@ -94,8 +93,8 @@ index_of l = index_by l.code
 abbrev pub head_in : List (Option ClauseRef) → Lit → Option ClauseRef
 head_in heads l = slice_index_or heads (index_of l) None
 
--- the clauses with their links, how many more words there is room for, and the first clause of each
--- chain
+-- the clauses with their links, how many more words there is room for, and each chain's first
+-- clause
 pub record ChainsState : Type 0 where
   pub vars : ℕ
   pub clauses : List Stored
@@ -108,7 +107,8 @@ pub record IsChained (vars : ℕ) (clauses : List Stored) (heads : List (Option 
     pub few : vars ≤ VARIABLE_LIMIT
     pub many : length heads ≡ vars * 2
     pub placed : ArePlaced 0 clauses
-    pub simple : (c : ClauseRef) → is_held clauses c ≡ true → IsSimple vars (stored_at clauses c).lits
+    pub simple : (c : ClauseRef) → is_held clauses c ≡ true →
+        IsSimple vars (stored_at clauses c).lits
     pub chains : (l : Lit) → IsWithin vars l → HasChain (next_on clauses l) (head_in heads l)
 
 -- they are whole in this state
@@ -146,6 +146,27 @@ literals clauses c = (stored_at clauses c).lits
 -- its literal at a position
 abbrev pub lit_in : List Stored → ClauseRef → ℕ → Lit
 lit_in clauses c k = lit_at (literals clauses c) k
+
+-- the first clause in the chain of a clause's literal at a position
+abbrev pub head_at : List Stored → List (Option ClauseRef) → ClauseRef → ℕ → Option ClauseRef
+head_at clauses heads c k = head_in heads (lit_in clauses c k)
+
+-- the clause itself is put first there
+abbrev pub with_head : List Stored → List (Option ClauseRef) → ClauseRef → ℕ →
+    List (Option ClauseRef)
+with_head clauses heads c k = slice_set heads (index_of (lit_in clauses c k)) (Some c)
+
+-- the table has a chain of that literal, and its first clause is held
+pub record HasHead
+    (clauses : List Stored) (heads : List (Option ClauseRef)) (c : ClauseRef) (k : ℕ)
+    : Type 0 where
+  pub some : 1 ≤ variable (lit_in clauses c k)
+  pub within : index_of (lit_in clauses c k) < length heads
+  pub held : IsLinkTo clauses (head_at clauses heads c k)
+
+-- a clause with the literal at position i first, and then the one at position j second
+abbrev pub with_order : (i j : ℕ) → Stored → Stored
+with_order i j stored = with_swap 1 j (with_swap 0 i stored)
 
 -- the place is of a held clause whose literal there is this one
 pub record IsPlaceOf (clauses : List Stored) (f : Lit) (p : Place) : Type 0 where

@@ -21,8 +21,7 @@ IsLeveledBy clauses level l older (Some r) below =
     (is_held clauses r ≡ true) × IsReason older (stored_at clauses r).lits l × below level
 
 -- the levels do not fall along the trail and end at this one; each from 1 on begins with its one
--- entry
--- without a reason, and each other entry is made true by its reason
+-- entry without a reason, and each other entry is made true by its reason
 abbrev pub AreLeveled : List Stored → ℕ → List TrailEntry → Type 0
 AreLeveled clauses level [] = level ≡ 0
 AreLeveled clauses level (e ∷ older) =
@@ -30,9 +29,8 @@ AreLeveled clauses level (e ∷ older) =
     (λ n. AreLeveled clauses n older)
 
 -- a clause that can be left alone: where a watched literal is false since its negation was taken
--- from
--- the queue, the other one is true at no higher level; a clause of one literal has it true at level
--- 0
+-- from the queue, the other one is true at no higher level; a clause of one literal has it true at
+-- level 0
 pub record IsWatched (taken entries : List TrailEntry) (lits : Clause) : Type 0 where
   pub some : lits ≢ []
   pub alone : (a : Lit) → lits ≡ a ∷ [] → true_at entries a ≡ Some 0
@@ -41,8 +39,7 @@ pub record IsWatched (taken entries : List TrailEntry) (lits : Clause) : Type 0 
       (m : ℕ) × (true_at entries o ≡ Some m) × (m ≤ n)
 
 -- a clause that is due: all literals but the first are false, the second since the current level,
--- and
--- the first is not read below that level; a clause of one literal is due at level 0
+-- and the first is not read below that level; a clause of one literal is due at level 0
 pub record IsDueAt (entries : List TrailEntry) (level : ℕ) (lits : Clause) : Type 0 where
   pub some : lits ≢ []
   pub alone : (a : Lit) → lits ≡ a ∷ [] → level ≡ 0
@@ -59,9 +56,8 @@ MayBeDue clauses entries level (Some c) =
     (is_held clauses c ≡ true) × IsDueAt entries level (stored_at clauses c).lits
 
 -- what the watches know, where so many entries, the newest, are queued: the trail's levels and
--- reasons,
--- that what is queued is of the current level, and that each clause but the due one can be left
--- alone
+-- reasons, that what is queued is of the current level, and that each clause but the due one can be
+-- left alone
 pub record IsWatchStore
     (clauses : List Stored) (entries : List TrailEntry) (queued level : ℕ) (due : Option ClauseRef)
     : Type 0 where

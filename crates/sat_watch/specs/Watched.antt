@@ -67,6 +67,11 @@ abbrev pub OtherIsTrue : List TrailEntry → Clause → Lit → Type 0
 OtherIsTrue entries lits f = (which : ℕ) (o : Lit) → which < 2 → watch_of lits which ≡ Some f
     → watch_of lits (other_of which) ≡ Some o → is_false entries (negation o) ≡ true
 
+-- where there is a literal at this position of the first two, it is false
+abbrev pub IsFalseWatch : List TrailEntry → Clause → ℕ → Type 0
+IsFalseWatch entries lits which =
+    (l : Lit) → watch_of lits which ≡ Some l → is_false entries l ≡ true
+
 -- what a clause says whose watched literal at a position is false
 abbrev pub SightSays : List TrailEntry → Clause → ℕ → Sight → Type 0
 SightSays entries lits which IsTrueAlready =
@@ -79,8 +84,7 @@ SightSays entries lits which (Unit l) =
 SightSays entries lits which IsFalseNow = AreFalse entries lits
 
 -- a clause's literals keep: in another order, with the watch f moved to a literal that was not
--- false, or
--- as they are
+-- false, or as they are
 pub record LitsGo (base : List TrailEntry) (f : Lit) (old new : Clause) : Type 0 where
   pub same : IsPermutation old new
   pub short : length old < 2 → new ≡ old
@@ -97,6 +101,11 @@ pub record Goes (base : List TrailEntry) (level : ℕ) (f : Lit) (old new : List
   pub lits : (c : ClauseRef) → LitsGo base f (stored_at old c).lits (stored_at new c).lits
   pub holders_same : (l : Lit) → holders l new ≡ holders l old
   pub grows : Grows new level entries now
+
+-- so do chains and a trail for the literal f, which is false
+abbrev pub GoesTo : ℕ → Lit → (c : ChainsState) (t : TrailState) (c' : ChainsState)
+    (t' : TrailState) → Type 0
+GoesTo level f c t c' t' = Goes t.entries level f c.clauses c'.clauses t.entries t'.entries
 
 -- the position is one from the third on whose literal is not false, or there is none
 abbrev pub OpenSays : List TrailEntry → Clause → Option ℕ → Type 0

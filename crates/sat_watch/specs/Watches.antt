@@ -23,8 +23,7 @@ abbrev pub attached : Stored → Attached
 attached k = record { place = k.place; id = k.id; lits = k.lits }
 
 -- the variables, the clauses in the order of their references, the trail, the newest entry first,
--- how
--- many of its newest entries are queued, the current level, and the clause that is due
+-- how many of its newest entries are queued, the current level, and the clause that is due
 pub record WatchState : Type 0 where
   pub vars : ℕ
   pub clauses : List Attached
@@ -132,8 +131,7 @@ HasCause clauses level l older (Some r) below =
     (is_attached clauses r ≡ true) × IsReason older (lits_at clauses r) l × below level
 
 -- the levels do not fall along the trail and end at this one; each from 1 on begins with its one
--- entry
--- without a reason, and each other entry is made true by its reason
+-- entry without a reason, and each other entry is made true by its reason
 abbrev pub HasLevels : List Attached → ℕ → List TrailEntry → Type 0
 HasLevels clauses level [] = level ≡ 0
 HasLevels clauses level (e ∷ older) =

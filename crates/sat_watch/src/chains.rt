@@ -6,7 +6,7 @@ ghost use Rattle.sat_clause.specs.Learned.{IsSimple};
 ghost use Rattle.sat_clause.specs.Literal.{IsWithin, variable as variable_of};
 ghost use Rattle.sat_arena.specs.declared.clause_ref.ClauseRef.{ClauseRef};
 ghost use Rattle.sat_arena.specs.Store.{ArePlaced, changed, is_held, link_of, new_clause, ref, size_all, stored_at, with_link, with_swap, IsLinkTo};
-ghost use Rattle.sat_watch.specs.Chains.{IsAdded, IsLast, holders, AreChained, GoesOn, HasCursor, IsCursor, IsPlaceOf, IsRewatched, MayBePlaceOf, clause_of, head_in, index_of, next_on, unlinked, unlinked_heads, literals, lit_in};
+ghost use Rattle.sat_watch.specs.Chains.{AreChained, GoesOn, HasCursor, HasHead, IsAdded, IsCursor, IsLast, IsPlaceOf, IsRewatched, MayBePlaceOf, clause_of, head_at, head_in, holders, index_of, literals, next_on, unlinked, unlinked_heads, with_head, with_order};
 ghost use Rattle.sat_watch.specs.Choice.{IsAhead, after_first as after_first_of};
 
 use crate::place::Place;
@@ -80,16 +80,12 @@ fn put_first(arena: &mut Arena, heads: &mut Vec<Option<ClauseRef>>, at: Place, k
     requires which { at.which < 2 }
     requires low { 2 ≤ k }
     requires high { k < length (literals arena.old.clauses at.clause) }
-    requires literal { 1 ≤ variable_of (lit_in arena.old.clauses at.clause k) }
-    requires within { index_of (lit_in arena.old.clauses at.clause k) < length heads.old.items }
-    requires head { IsLinkTo arena.old.clauses
-        (head_in heads.old.items (lit_in arena.old.clauses at.clause k)) }
-    ensures clauses { arena.new.clauses ≡ changed
-        (with_link at.which (head_in heads.old.items (lit_in arena.old.clauses at.clause k)))
+    requires head { HasHead arena.old.clauses heads.old.items at.clause k }
+    ensures clauses { arena.new.clauses
+        ≡ changed (with_link at.which (head_at arena.old.clauses heads.old.items at.clause k))
         at.clause (changed (with_swap at.which k) at.clause arena.old.clauses) }
     ensures spare { arena.new.spare ≡ arena.old.spare }
-    ensures heads { heads.new.items ≡ slice_set heads.old.items (index_of (lit_in arena.old.clauses at.clause k))
-        (Some at.clause) }
+    ensures heads { heads.new.items ≡ with_head arena.old.clauses heads.old.items at.clause k }
 {
     let lits = arena.lits(at.clause);
     let first = index(lits[k as usize]);
@@ -108,8 +104,7 @@ fn push_ordered(arena: &mut Arena, lits: &[Lit], id: u32, i: u32, j: u32) -> Cla
     requires j { j < length lits.now }
     requires two { 2 ≤ length lits.now }
     ensures last { IsLast arena.old.clauses arena.new.clauses
-        (with_swap 1 j (with_swap 0 i (new_clause (ref (size_all arena.old.clauses)) id lits.now)))
-        result }
+        (with_order i j (new_clause (ref (size_all arena.old.clauses)) id lits.now)) result }
     ensures place { result ≡ ref (size_all arena.old.clauses) }
 {
     let c = arena.push(lits, id);
@@ -122,20 +117,15 @@ fn push_ordered(arena: &mut Arena, lits: &[Lit], id: u32, i: u32, j: u32) -> Cla
 fn link_first(arena: &mut Arena, heads: &mut Vec<Option<ClauseRef>>, c: ClauseRef)
     requires held { is_held arena.old.clauses c ≡ true }
     requires two { 2 ≤ length (literals arena.old.clauses c) }
-    requires first { 1 ≤ variable_of (lit_in arena.old.clauses c 0) }
-    requires second { 1 ≤ variable_of (lit_in arena.old.clauses c 1) }
-    requires first_within { index_of (lit_in arena.old.clauses c 0) < length heads.old.items }
-    requires second_within { index_of (lit_in arena.old.clauses c 1) < length heads.old.items }
-    requires first_head { IsLinkTo arena.old.clauses (head_in heads.old.items (lit_in arena.old.clauses c 0)) }
-    requires second_head { IsLinkTo arena.old.clauses (head_in heads.old.items (lit_in arena.old.clauses c 1)) }
-    ensures clauses { arena.new.clauses ≡ changed
-        (with_link 1 (head_in heads.old.items (lit_in arena.old.clauses c 1))) c
-        (changed (with_link 0 (head_in heads.old.items (lit_in arena.old.clauses c 0))) c
+    requires first { HasHead arena.old.clauses heads.old.items c 0 }
+    requires second { HasHead arena.old.clauses heads.old.items c 1 }
+    ensures clauses { arena.new.clauses
+        ≡ changed (with_link 1 (head_at arena.old.clauses heads.old.items c 1)) c
+        (changed (with_link 0 (head_at arena.old.clauses heads.old.items c 0)) c
         arena.old.clauses) }
     ensures spare { arena.new.spare ≡ arena.old.spare }
     ensures heads { heads.new.items
-        ≡ slice_set (slice_set heads.old.items (index_of (lit_in arena.old.clauses c 0)) (Some c))
-        (index_of (lit_in arena.old.clauses c 1)) (Some c) }
+        ≡ with_head arena.old.clauses (with_head arena.old.clauses heads.old.items c 0) c 1 }
 {
     let lits = arena.lits(c);
     let first = index(lits[0]);
@@ -147,8 +137,8 @@ fn link_first(arena: &mut Arena, heads: &mut Vec<Option<ClauseRef>>, c: ClauseRe
     heads[second] = Some(c);
 }
 
-/// Where what stood at position `j` stands, once the literal at position `i` has changed places with
-/// the first one.
+/// Where what stood at position `j` stands, once the one at position `i` has changed places with
+/// the first.
 fn after_first(i: u32, j: u32) -> u32
     ensures { result ≡ after_first_of i j }
 {
@@ -188,7 +178,8 @@ impl Chains {
         requires i { i < length lits.now }
         requires j { j < length lits.now }
         requires two { 2 ≤ length lits.now }
-        ensures ok { IfOk result (λ c. IsAdded self.old self.new (swap (swap lits.now 0 i) 1 j) id c) }
+        ensures ok { IfOk result
+            (λ c. IsAdded self.old self.new (swap (swap lits.now 0 i) 1 j) id c) }
         ensures chained { AreChained self.new }
         ensures err { OnErr result (self.new ≡ self.old) }
     {
@@ -286,8 +277,8 @@ impl Chains {
         Place { clause, which: 1 }
     }
 
-    /// Moves the watch of a clause from the literal at a place to the one at position `k`: it leaves
-    /// the chain of `f`, where it stands behind `before`, and comes first in the other one.
+    /// Moves the watch of a clause from the literal at a place to the one at position `k`: it
+    /// leaves the chain of `f`, where it stands behind `before`, and comes first in the other one.
     pub(crate) fn rewatch(
         &mut self,
         f: Lit,
@@ -301,14 +292,14 @@ impl Chains {
         requires before { MayBePlaceOf self.old.clauses f before }
         requires low { 2 ≤ k }
         requires high { k < length (literals self.old.clauses at.clause) }
-        requires cursor { HasCursor (next_on self.old.clauses f) (head_in self.old.heads f) (clause_of before)
-            (Some at.clause) }
+        requires cursor { HasCursor (next_on self.old.clauses f) (head_in self.old.heads f)
+            (clause_of before) (Some at.clause) }
         requires after { link_of (stored_at self.old.clauses at.clause) at.which ≡ after }
         ensures vars { self.new.vars ≡ self.old.vars }
         ensures spare { self.new.spare ≡ self.old.spare }
         ensures chained { AreChained self.new }
         ensures clauses { IsRewatched self.old.clauses self.new.clauses before at k after
-            (head_in self.old.heads (lit_in self.old.clauses at.clause k)) }
+            (head_at self.old.clauses self.old.heads at.clause k) }
         ensures holders { (l : Lit) → holders l self.new.clauses ≡ holders l self.old.clauses }
         ensures cursor { (kept rest : List ClauseRef)
             → IsCursor (next_on self.old.clauses f) (head_in self.old.heads f) kept

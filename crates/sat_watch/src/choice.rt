@@ -35,8 +35,8 @@ fn false_level(trail: &Trail, lits: &[Lit], k: u32) -> u32
     trail.level_of(lits[k as usize])
 }
 
-/// Whether the literal at position `k` is another than that at position `but` and was made false at a
-/// higher level than that at position `best`.
+/// Whether the literal at position `k` is another than that at position `but`, and was made false
+/// at a higher level than that at position `best`.
 fn is_higher(trail: &Trail, lits: &[Lit], but: u32, best: u32, k: u32) -> bool
     requires simple { IsSimple trail.now.vars lits.now }
     requires but { but < length lits.now }
@@ -65,7 +65,8 @@ pub(crate) fn highest_position(trail: &Trail, lits: &[Lit], but: u32) -> u32
     requires only { IsOnlyOne trail.now.entries lits.now (lit_at lits.now but) }
     ensures within { result < length lits.now }
     ensures other { 2 ≤ length lits.now → result ≢ but }
-    ensures level { 2 ≤ length lits.now → true_at trail.now.entries (negation (lit_at lits.now result))
+    ensures level { 2 ≤ length lits.now
+        → true_at trail.now.entries (negation (lit_at lits.now result))
         ≡ Some (highest trail.now.entries lits.now) }
 {
     let n = lits.len() as u32;

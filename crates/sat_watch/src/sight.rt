@@ -4,7 +4,7 @@ ghost use Rattle.std.specs.Prelude.{◌≡◌, ◌<◌, ◌≤◌, length, true,
 ghost use Rattle.sat_clause.specs.Learned.{IsSimple};
 ghost use Rattle.sat_clause.specs.declared.literal.Lit.{Lit};
 ghost use Rattle.sat_watch.specs.Chains.{watch_of};
-ghost use Rattle.sat_watch.specs.Watched.{SightSays, OpenSays, is_false};
+ghost use Rattle.sat_watch.specs.Watched.{IsFalseWatch, OpenSays, SightSays};
 
 use crate::trail::Trail;
 use sat_clause::{LITERAL_LIMIT, Lit, VARIABLE_LIMIT};
@@ -43,7 +43,7 @@ pub(crate) fn look(trail: &Trail, lits: &[Lit], which: u32) -> Sight
     requires few { length lits.now ≤ LITERAL_LIMIT }
     requires which { which < 2 }
     requires two { 2 ≤ length lits.now }
-    requires watch { (l : Lit) → watch_of lits.now which ≡ Some l → is_false trail.now.entries l ≡ true }
+    requires watch { IsFalseWatch trail.now.entries lits.now which }
     ensures { SightSays trail.now.entries lits.now which result }
 {
     let other = lits[1 - which as usize];

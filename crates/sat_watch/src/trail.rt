@@ -11,9 +11,9 @@ use sat_clause::{Lit, VARIABLE_LIMIT};
 use std::alloc::{AllocError, Global};
 use std::marker::Model;
 
-/// The true literals with their levels and reasons, oldest first, each of another variable, and
-/// beside them the truth of each literal and the level of each variable, so that either is one load.
-/// Nothing but [`Trail::new`] takes memory.
+/// The true literals with their levels and reasons, oldest first, each of another variable. Beside
+/// them stand the truth of each literal and the level of each variable, each one load away. Nothing
+/// but [`Trail::new`] takes memory.
 #[derive(Drop)]
 pub(crate) struct Trail {
     vars: u32,
@@ -33,7 +33,7 @@ impl Model for Trail {
     ghost invariant = { λ t. IsTrailStore t.vars t.entries t.truths t.levels };
 }
 
-/// The place of a literal in the table of truths, whose middle belongs to none.
+/// The place of a literal in the table of truths, whose middle belongs to no literal.
 fn place(vars: u32, l: Lit) -> usize
     requires few { vars ≤ VARIABLE_LIMIT }
     requires within { IsWithin vars l }
@@ -151,7 +151,8 @@ impl Trail {
 
     /// Whether the newest entry is of a level above this one.
     fn is_above(&self, level: u32) -> bool
-        ensures above { result ≡ true → fallen level self.now.entries ≡ fallen level (drop 1 self.now.entries) }
+        ensures above { result ≡ true
+            → fallen level self.now.entries ≡ fallen level (drop 1 self.now.entries) }
         ensures some { result ≡ true → 1 ≤ length self.now.entries }
         ensures done { result ≡ false → fallen level self.now.entries ≡ self.now.entries }
     {

@@ -5,7 +5,7 @@ ghost use Rattle.sat_clause.specs.Literal.{IsWithin};
 ghost use Rattle.sat_arena.specs.declared.clause_ref.ClauseRef.{ClauseRef};
 ghost use Rattle.sat_arena.specs.Store.{is_held, link_of, stored_at};
 ghost use Rattle.sat_watch.specs.Chains.{holders, HasCursor, IsPlaceOf, MayBePlaceOf, clause_of, head_in, next_on, literals};
-ghost use Rattle.sat_watch.specs.Watched.{AreWhole, Goes, IsVisited, OtherIsTrue, is_false, AreFalse};
+ghost use Rattle.sat_watch.specs.Watched.{AreWhole, GoesTo, IsVisited, OtherIsTrue, is_false, AreFalse};
 
 use crate::chains::Chains;
 use crate::entry::TrailEntry;
@@ -15,8 +15,8 @@ use crate::trail::Trail;
 use sat_arena::ClauseRef;
 use sat_clause::Lit;
 
-/// Visits the clause at a place in the chain of `f`, which is false: it stays in the chain, where its
-/// other watched literal is true or is made true, or moves to another one. Gives the place behind
+/// Visits the clause at a place in the chain of `f`, which is false: it stays there, where its
+/// other watched literal is true or is made true, or moves to another chain. Gives the place behind
 /// which the next clause stands, or none where the clause is false.
 fn visit_clause(
     chains: &mut Chains,
@@ -32,15 +32,16 @@ fn visit_clause(
     requires is_false { is_false trail.old.entries f ≡ true }
     requires at { IsPlaceOf chains.old.clauses f at }
     requires before { MayBePlaceOf chains.old.clauses f before }
-    requires cursor { HasCursor (next_on chains.old.clauses f) (head_in chains.old.heads f) (clause_of before)
-        (Some at.clause) }
+    requires cursor { HasCursor (next_on chains.old.clauses f) (head_in chains.old.heads f)
+        (clause_of before) (Some at.clause) }
     requires after { link_of (stored_at chains.old.clauses at.clause) at.which ≡ after }
     ensures vars { chains.new.vars ≡ chains.old.vars }
     ensures whole { AreWhole chains.new trail.new }
-    ensures goes { Goes trail.old.entries level f chains.old.clauses chains.new.clauses trail.old.entries
-        trail.new.entries }
-    ensures visited { IfSome result (IsVisited f before at after chains.old chains.new trail.new.entries) }
-    ensures stopped { IfNone result (AreFalse trail.new.entries (literals chains.new.clauses at.clause)) }
+    ensures goes { GoesTo level f chains.old trail.old chains.new trail.new }
+    ensures visited { IfSome result
+        (IsVisited f before at after chains.old chains.new trail.new.entries) }
+    ensures stopped { IfNone result
+        (AreFalse trail.new.entries (literals chains.new.clauses at.clause)) }
 {
     match look(trail, chains.lits(at.clause), at.which) {
         Sight::IsTrueAlready => {
@@ -78,12 +79,12 @@ pub(crate) fn walk(
     requires is_false { is_false trail.old.entries f ≡ true }
     ensures vars { chains.new.vars ≡ chains.old.vars }
     ensures whole { AreWhole chains.new trail.new }
-    ensures goes { Goes trail.old.entries level f chains.old.clauses chains.new.clauses trail.old.entries
-        trail.new.entries }
+    ensures goes { GoesTo level f chains.old trail.old chains.new trail.new }
     ensures none { IfNone result ((c : ClauseRef)
         → OtherIsTrue trail.new.entries (literals chains.new.clauses c) f) }
     ensures held { IfSome result (λ c. is_held chains.new.clauses c ≡ true) }
-    ensures stopped { IfSome result (λ c. AreFalse trail.new.entries (literals chains.new.clauses c)) }
+    ensures stopped { IfSome result
+        (λ c. AreFalse trail.new.entries (literals chains.new.clauses c)) }
     ensures looks { looks.new ≤ looks.old + holders f chains.old.clauses }
 {
     let mut before: Option<Place> = None;

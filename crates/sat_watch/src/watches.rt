@@ -1,4 +1,4 @@
-//! The watches: clauses, the literals that are true, and what the clauses make true.
+//! Clauses, the literals that are true, and what the clauses make true.
 
 ghost use Rattle.std.specs.Prelude.{◌≡◌, ◌≢◌, ◌+◌, ◌-◌, ◌<◌, ◌≤◌, [], ◌∷◌, IfNone, IfOk, IfSome, OnErr, length, reverse, true, false, None, Some};
 ghost use Rattle.sat_clause.specs.declared.literal.Lit.{Lit};
@@ -21,8 +21,15 @@ use sat_clause::{LITERAL_LIMIT, Lit, VARIABLE_LIMIT};
 use std::alloc::{AllocError, Global};
 use std::marker::Model;
 
-/// Clauses with their watch chains, and the literals that are true, of which the newest are queued
-/// until their clauses are visited.
+/// Clauses with their watch chains, and the *trail* of the literals that are true.
+///
+/// Decisions are counted by *levels*. The newest entries of the trail are *queued*: the chains of
+/// their negations are not walked yet. One clause may be *due*: it was attached where it makes a
+/// literal true, and [`Watches::imply`] comes next to do so. At each level below the current one
+/// the clauses are *settled*, that is, none is false and none has one open literal and all others
+/// false; and so they are at the current level, where nothing is queued or due.
+///
+/// Only [`Watches::new`] and [`Watches::attach`] take memory.
 #[derive(Drop)]
 pub struct Watches {
     chains: Chains,
@@ -56,10 +63,11 @@ fn due_without(reason: ClauseRef, due: Option<ClauseRef>) -> Option<ClauseRef>
 }
 
 impl Watches {
-    /// The watches of so many variables, with no clause, in an arena without clauses.
+    /// The watches of the variables 1 to `vars`, with no clause, in an arena that has none yet.
+    /// There are at most 100,000,000 variables. Time and memory are linear in their number.
     ///
     /// # Errors
-    /// Where memory is short; the arena is then dropped.
+    /// Where there is no memory for the tables; the arena is then dropped.
     pub fn new(alloc: Global, arena: Arena, vars: u32) -> Result<Watches, AllocError>
         requires empty { arena.clauses ≡ [] }
         requires few { vars ≤ VARIABLE_LIMIT }
@@ -83,7 +91,7 @@ impl Watches {
         })
     }
 
-    /// A literal's truth, and none where it is open.
+    /// A literal's truth, and none where it is open. It costs one load.
     pub fn value(&self, l: Lit) -> Option<bool>
         requires within { IsWithin self.now.vars l }
         ensures value { result ≡ value_in self.now.trail l }
@@ -91,7 +99,7 @@ impl Watches {
         self.trail.value(l)
     }
 
-    /// The current level.
+    /// The current level: how many decisions stand on the trail.
     pub fn level(&self) -> u32
         ensures value { result ≡ self.now.level }
         ensures settled { IsSettledState self.now }
@@ -99,7 +107,9 @@ impl Watches {
         self.level
     }
 
-    /// The true literals, the oldest first.
+    /// The true literals, the oldest first, lent where they stand. No variable comes twice. The
+    /// levels do not fall along the trail, each from 1 on begins with its decision, and each other
+    /// entry has a reason whose other literals are false by older entries.
     pub fn trail(&self) -> &[TrailEntry]
         ensures value { reverse result.now ≡ self.now.trail }
         ensures once { IsOnce self.now.trail }
@@ -110,7 +120,8 @@ impl Watches {
         self.trail.entries()
     }
 
-    /// The literals of a clause.
+    /// The literals of a clause, lent where they stand; the first two are watched. It costs one
+    /// load.
     pub fn lits(&self, c: ClauseRef) -> &[Lit]
         requires attached { is_attached self.now.clauses c ≡ true }
         ensures value { result.now ≡ lits_at self.now.clauses c }
@@ -119,7 +130,7 @@ impl Watches {
         self.chains.lits(c)
     }
 
-    /// The id of a clause.
+    /// The id of a clause. It costs one load.
     pub fn id(&self, c: ClauseRef) -> u32
         requires attached { is_attached self.now.clauses c ≡ true }
         ensures value { result ≡ id_at self.now.clauses c }
@@ -167,8 +178,7 @@ impl Watches {
     }
 
     /// Attaches a clause whose literal at position `i` is open, and whose others are false, the
-    /// newest
-    /// since the current level; the clause is due.
+    /// newest since the current level. The clause is due.
     fn attach_due(&mut self, lits: &[Lit], id: u32, i: u32) -> Result<ClauseRef, AllocError>
         requires simple { IsSimple self.old.vars lits.now }
         requires few { length lits.now ≤ LITERAL_LIMIT }
@@ -186,14 +196,16 @@ impl Watches {
         Ok(c)
     }
 
-    /// Attaches a clause of which two literals are not false, or only one, which is true at a level
-    /// not
-    /// above the highest of the others, or open where the current level is that highest one. In the
-    /// last
-    /// case the clause is due: it comes next to make that literal true.
+    /// Attaches a clause behind the others, in an order of its literals that puts the watched ones
+    /// first, and gives its reference. It has at least one literal, and no variable twice.
+    ///
+    /// Two of its literals are not false; or one alone, which is true at a level not above the
+    /// highest of the others; or one alone, which is open, and the current level is the highest of
+    /// the others. Without others that highest level is 0. In the last case the clause is due. It
+    /// costs a few loads a literal, beside the room in the arena.
     ///
     /// # Errors
-    /// Where memory is short; nothing changes.
+    /// Where there is no memory for the clause; nothing has changed then.
     pub fn attach(&mut self, lits: &[Lit], id: u32) -> Result<ClauseRef, AllocError>
         requires simple { IsSimple self.old.vars lits.now }
         requires quiet { self.old.due ≡ None }
@@ -213,7 +225,8 @@ impl Watches {
         self.attach_due(lits, id, i)
     }
 
-    /// Begins a level with an open literal, which is decided. Nothing is queued or due.
+    /// Decides an open literal: a level begins with it, and it is queued. Nothing is queued or due
+    /// before. It takes constant time.
     pub fn assume(&mut self, l: Lit)
         requires within { IsWithin self.old.vars l }
         requires open { IsOpen self.old.trail l }
@@ -230,7 +243,8 @@ impl Watches {
         self.level += 1;
     }
 
-    /// Makes an open literal true that is the only one of a clause that is not false.
+    /// Makes an open literal true at the current level, by a clause whose other literals are false,
+    /// and queues it. Where that clause was due, none is due any more. It takes constant time.
     pub fn imply(&mut self, l: Lit, reason: ClauseRef)
         requires within { IsWithin self.old.vars l }
         requires open { IsOpen self.old.trail l }
@@ -247,7 +261,8 @@ impl Watches {
         self.due = due_without(reason, self.due);
     }
 
-    /// Drops the levels above this one.
+    /// Drops the entries of levels above this one, with what is queued and due. Nothing changes
+    /// where the current level is not above. It costs a few stores for each entry that is dropped.
     pub fn back_to(&mut self, level: u32)
         ensures { self.new ≡ gone_back level self.old }
     {
@@ -260,15 +275,15 @@ impl Watches {
         self.due = None;
     }
 
-    /// Takes the oldest queued literal from the queue and visits the clauses that watch its
-    /// negation.
-    /// Gives a clause that is false; the literal then stays queued.
+    /// Takes the oldest literal from the queue and walks along the chain of its negation. Gives a
+    /// clause that is false; the literal then stays queued.
     fn take_queued(&mut self, looks: &mut u64) -> Option<ClauseRef>
         requires some { 1 ≤ self.old.queued }
         requires quiet { self.old.due ≡ None }
         ensures propagates { Propagates self.old self.new }
         ensures attached { IfSome result (λ c. is_attached self.new.clauses c ≡ true) }
-        ensures stopped { IfSome result (λ c. AreFalse self.new.trail (lits_at self.new.clauses c)) }
+        ensures stopped { IfSome result
+            (λ c. AreFalse self.new.trail (lits_at self.new.clauses c)) }
         ensures looks { IsWithinLooks self.old self.new result looks.old looks.new }
         ensures front { length self.new.trail + self.old.queued
             ≡ length self.old.trail + left_queued self.new result + 1 }
@@ -298,22 +313,28 @@ impl Watches {
         ensures some { result ≡ true → 1 ≤ self.now.queued }
         ensures none { result ≡ false → self.now.queued ≡ 0 }
         ensures queue { self.now.queued ≤ length self.now.trail }
-        ensures settled { result ≡ false → self.now.due ≡ None → IsSettledAt self.now self.now.level }
+        ensures settled { result ≡ false → self.now.due ≡ None
+            → IsSettledAt self.now self.now.level }
     {
         self.queued > 0
     }
 
     /// Makes true what the clauses make true, until one of them is false, which it gives, or none
-    /// makes
-    /// a literal true any more. `looks` rises by one for each look at a clause.
+    /// makes a literal true any more. No clause is due before.
+    ///
+    /// Each look at a clause adds one to `looks`, up to 2^64 - 1. For each literal that is taken
+    /// from the queue there are at most as many looks as clauses hold its negation, and only the
+    /// watched ones are looked at; a look costs the literals of the clause at most. A literal whose
+    /// walk ends in a false clause stays queued, and [`Watches::back_to`] drops it.
     pub fn propagate(&mut self, looks: &mut u64) -> Option<ClauseRef>
         requires quiet { self.old.due ≡ None }
         ensures propagates { Propagates self.old self.new }
         ensures empty { IfNone result (self.new.queued ≡ 0) }
         ensures settled { IfNone result (IsSettledAt self.new self.new.level) }
         ensures attached { IfSome result (λ c. is_attached self.new.clauses c ≡ true) }
+        ensures stopped { IfSome result
+            (λ c. AreFalse self.new.trail (lits_at self.new.clauses c)) }
         ensures looks { IsWithinLooks self.old self.new result looks.old looks.new }
-        ensures stopped { IfSome result (λ c. AreFalse self.new.trail (lits_at self.new.clauses c)) }
     {
         while self.has_queued() {
             if let Some(c) = self.take_queued(looks) {

@@ -20,8 +20,8 @@ set_link-requires-2-clause-next c = λ d e.
     let there : head_in heads
     (lit_at (stored_at c.args.arena.now.clauses c.args.c).lits 1) ≡ c.index-2.result.now =
     default_free heads (index_of (lit_at (stored_at c.args.arena.now.clauses c.args.c).lits 1)) None
-    c.index-2.result.now c.requires.second_within
+    c.index-2.result.now c.requires.second.within
     ∙ (ap (λ n. get_or heads n c.index-2.result.now) (sym second) ∙ sym c.index-2.ensures) in
     rw c.set_link.ensures.clauses
     (held_changed (with_link 0 c.index.result.now) c.args.c d c.args.arena.now.clauses
-    (λ k. refl) ∙ c.requires.second_head d (there ∙ e))
+    (λ k. refl) ∙ c.requires.second.held d (there ∙ e))

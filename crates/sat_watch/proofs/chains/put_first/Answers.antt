@@ -22,8 +22,8 @@ set_link-requires-clause-next c = λ d e.
     c.index.result.now =
     default_free heads (index_of
     (lit_at (stored_at c.args.arena.now.clauses c.args.at.clause).lits c.args.k)) None
-    c.index.result.now c.requires.within
+    c.index.result.now c.requires.head.within
     ∙ (ap (λ n. get_or heads n c.index.result.now) (sym first) ∙ sym c.index.ensures) in
     rw c.swap.ensures.clauses
     (held_changed (with_swap c.args.at.which c.args.k) c.args.at.clause d c.args.arena.now.clauses
-    (λ k. refl) ∙ c.requires.head d (there ∙ e))
+    (λ k. refl) ∙ c.requires.head.held d (there ∙ e))

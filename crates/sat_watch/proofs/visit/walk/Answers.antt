@@ -18,7 +18,8 @@ place-at-requires c =
     let l = c.loop-next in
     record {
       goes = goes_here c.args.trail.now.entries c.args.level c.args.f
-          c.args.chains.now.clauses c.args.looks.now l.chains l.trail.entries l.before l.next l.looks
+          c.args.chains.now.clauses c.args.looks.now l.chains l.trail.entries l.before l.next
+          l.looks
           l.invariant.walking c.in-Some.clause c.in-Some.is;
     }
 

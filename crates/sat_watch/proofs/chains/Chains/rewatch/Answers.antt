@@ -2,7 +2,7 @@ use Rattle.std.proofs.Common.{List, ◌∷◌, Option, Some, sym, ap, ◌∙◌,
 use Rattle.sat_arena.specs.declared.clause_ref.ClauseRef.{ClauseRef}
 use Rattle.sat_arena.specs.Store.{Stored, stored_at}
 use Rattle.sat_watch.specs.Chains.{holders, ChainsState, IsCursor, IsChained, IsRewatched, clause_of, head_in, lit_at, next_on}
-use Rattle.sat_watch.proofs.ChainLemmas.{CanRewatch, after_held, can_rewatch, code_clauses, code_heads, now_chained, now_cursor, now_holders, rewatched, still_head, still_held, still_high, still_literal, still_within}
+use Rattle.sat_watch.proofs.ChainLemmas.{CanRewatch, after_held, can_rewatch, code_clauses, code_heads, now_chained, now_cursor, now_holders, rewatched, still_head, still_held, still_high}
 use Rattle.sat_watch.proofs.chains.Chains.rewatch.Goals as goal
 
 pub unlink-requires-clause-after : goal.unlink-requires-clause-after
@@ -17,8 +17,8 @@ unlink-requires-clause-after c =
     after_held i.vars ks a.f (head_in heads a.f) (clause_of a.before) a.after a.at
     can.chained.simple can.place can.cursor can.goes
 
-pub put_first-requires-clause-held : goal.put_first-requires-clause-held
-put_first-requires-clause-held c =
+pub put_first-requires : goal.put_first-requires
+put_first-requires c =
     let i = c.self.inside in let a = c.args in
     let ks = i.arena.clauses in let heads = i.heads.items in
     let can : CanRewatch i.vars ks heads a.f a.before a.at a.k a.after =
@@ -26,56 +26,16 @@ put_first-requires-clause-held c =
     a.self.now a.f a.before a.at a.k a.after c.self.view_is c.self.invariant
     c.requires.within c.requires.at c.requires.before c.requires.low c.requires.high
     c.requires.cursor c.requires.after in
-    still_held i.vars ks heads a.f a.before a.at a.k a.after can c.unlink.new.arena.clauses
-    c.unlink.new.heads.items c.unlink.ensures.clauses c.unlink.ensures.heads
-
-pub put_first-requires-clause-high : goal.put_first-requires-clause-high
-put_first-requires-clause-high c =
-    let i = c.self.inside in let a = c.args in
-    let ks = i.arena.clauses in let heads = i.heads.items in
-    let can : CanRewatch i.vars ks heads a.f a.before a.at a.k a.after =
-    can_rewatch (record { vars = i.vars; clauses = ks; spare = i.arena.spare; heads = heads })
-    a.self.now a.f a.before a.at a.k a.after c.self.view_is c.self.invariant
-    c.requires.within c.requires.at c.requires.before c.requires.low c.requires.high
-    c.requires.cursor c.requires.after in
-    still_high i.vars ks heads a.f a.before a.at a.k a.after can c.unlink.new.arena.clauses
-    c.unlink.new.heads.items c.unlink.ensures.clauses c.unlink.ensures.heads
-
-pub put_first-requires-clause-literal : goal.put_first-requires-clause-literal
-put_first-requires-clause-literal c =
-    let i = c.self.inside in let a = c.args in
-    let ks = i.arena.clauses in let heads = i.heads.items in
-    let can : CanRewatch i.vars ks heads a.f a.before a.at a.k a.after =
-    can_rewatch (record { vars = i.vars; clauses = ks; spare = i.arena.spare; heads = heads })
-    a.self.now a.f a.before a.at a.k a.after c.self.view_is c.self.invariant
-    c.requires.within c.requires.at c.requires.before c.requires.low c.requires.high
-    c.requires.cursor c.requires.after in
-    still_literal i.vars ks heads a.f a.before a.at a.k a.after can c.unlink.new.arena.clauses
-    c.unlink.new.heads.items c.unlink.ensures.clauses c.unlink.ensures.heads
-
-pub put_first-requires-clause-within : goal.put_first-requires-clause-within
-put_first-requires-clause-within c =
-    let i = c.self.inside in let a = c.args in
-    let ks = i.arena.clauses in let heads = i.heads.items in
-    let can : CanRewatch i.vars ks heads a.f a.before a.at a.k a.after =
-    can_rewatch (record { vars = i.vars; clauses = ks; spare = i.arena.spare; heads = heads })
-    a.self.now a.f a.before a.at a.k a.after c.self.view_is c.self.invariant
-    c.requires.within c.requires.at c.requires.before c.requires.low c.requires.high
-    c.requires.cursor c.requires.after in
-    still_within i.vars ks heads a.f a.before a.at a.k a.after can c.unlink.new.arena.clauses
-    c.unlink.new.heads.items c.unlink.ensures.clauses c.unlink.ensures.heads
-
-pub put_first-requires-clause-head : goal.put_first-requires-clause-head
-put_first-requires-clause-head c =
-    let i = c.self.inside in let a = c.args in
-    let ks = i.arena.clauses in let heads = i.heads.items in
-    let can : CanRewatch i.vars ks heads a.f a.before a.at a.k a.after =
-    can_rewatch (record { vars = i.vars; clauses = ks; spare = i.arena.spare; heads = heads })
-    a.self.now a.f a.before a.at a.k a.after c.self.view_is c.self.invariant
-    c.requires.within c.requires.at c.requires.before c.requires.low c.requires.high
-    c.requires.cursor c.requires.after in
-    still_head i.vars ks heads a.f a.before a.at a.k a.after can c.unlink.new.arena.clauses
-    c.unlink.new.heads.items c.unlink.ensures.clauses c.unlink.ensures.heads
+    record {
+      held = still_held i.vars ks heads a.f a.before a.at a.k a.after can c.unlink.new.arena.clauses
+          c.unlink.new.heads.items c.unlink.ensures.clauses c.unlink.ensures.heads;
+      which = c.requires.at.which;
+      low = c.requires.low;
+      high = still_high i.vars ks heads a.f a.before a.at a.k a.after can c.unlink.new.arena.clauses
+          c.unlink.new.heads.items c.unlink.ensures.clauses c.unlink.ensures.heads;
+      head = still_head i.vars ks heads a.f a.before a.at a.k a.after can c.unlink.new.arena.clauses
+          c.unlink.new.heads.items c.unlink.ensures.clauses c.unlink.ensures.heads;
+    }
 
 pub invariant_of-self : goal.invariant_of-self
 invariant_of-self c =

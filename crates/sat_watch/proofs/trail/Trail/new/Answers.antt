@@ -11,7 +11,8 @@ invariant_of-result c =
     c.in_ok-vec.ensures.items_if_clones_equal (search rules) in
     let nothing = c.in_ok-with_capacity.ensures.items in
     record {
-      trail = empty_trail (trail_state vars c.in_ok-with_capacity.field-0) c.requires (rw nothing refl);
+      trail = empty_trail (trail_state vars c.in_ok-with_capacity.field-0) c.requires (rw nothing
+          refl);
       within = rw nothing (λ k d within. absurd (omega arith));
       room = c.in_ok-with_capacity.ensures.capacity;
       wide = omega (arith, c.in_ok-vec.ensures.len);

@@ -43,7 +43,8 @@ invariant_of-self c =
     (store_assume i.chains.clauses i.trail.entries i.level c.args.l free
     c.self.invariant.whole.trail.once h) in
     record {
-      whole = longer_whole i.chains i.trail c.push.new.self e c.self.invariant.whole c.push.ensures.vars
+      whole = longer_whole i.chains i.trail c.push.new.self e c.self.invariant.whole
+          c.push.ensures.vars
           c.push.ensures.entries (subst (λ (s : WatchState). IsWithin s.vars c.args.l)
           (sym c.self.view_is) c.requires.within) free;
       store =

@@ -22,7 +22,8 @@ invariant_of-self-2 c =
     let at : i.level ≡ highest e lits = subst (λ (s : WatchState). s.level ≡ highest s.trail lits)
     (sym c.self.view_is) c.requires.level in
     due_watches i.chains c.add_ahead.new.self i.trail i.queued i.level lits a.id a.i
-    c.highest_position-j.result r got c.in_ok-c.ensures.chained h c.requires.i only now at c.highest_position-j.ensures.level
+    c.highest_position-j.result r got c.in_ok-c.ensures.chained h c.requires.i only now at
+    c.highest_position-j.ensures.level
 
 pub returns-clause-ok : goal.returns-clause-ok
 returns-clause-ok c =

@@ -35,8 +35,10 @@ invariant_of-self c =
     c.self.invariant.store free c.self.invariant.whole.trail.once held why in
     let e : TrailEntry = record { lit = a.l; level = i.level; reason = Some a.reason } in
     record {
-      whole = longer_whole i.chains i.trail c.push.new.self e c.self.invariant.whole c.push.ensures.vars
-          c.push.ensures.entries (subst (λ (s : WatchState). IsWithin s.vars a.l) (sym c.self.view_is)
+      whole = longer_whole i.chains i.trail c.push.new.self e c.self.invariant.whole
+          c.push.ensures.vars
+          c.push.ensures.entries (subst (λ (s : WatchState). IsWithin s.vars a.l) (sym
+          c.self.view_is)
           c.requires.within) free;
       store =
           subst (λ (p : List TrailEntry × ℕ × Option ClauseRef). IsWatchStore ks p.0 p.1 i.level

@@ -9,7 +9,8 @@ invariant_of-result c = record {
   whole = record {
     vars = ap (λ (t : TrailState). t.vars) c.in_ok-trail.ensures ∙ sym c.in_ok-chains.ensures.vars;
     chained = c.in_ok-chains.ensures.chained;
-    trail = rw c.in_ok-trail.ensures (empty_trail (record { vars = c.args.vars; entries = [] }) c.requires.few refl);
+    trail = rw c.in_ok-trail.ensures (empty_trail (record { vars = c.args.vars; entries = [] })
+        c.requires.few refl);
   };
   store =
       empty_store c.in_ok-chains.chains.clauses c.in_ok-trail.trail.entries

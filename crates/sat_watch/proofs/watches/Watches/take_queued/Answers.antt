@@ -55,7 +55,8 @@ invariant_of-self c =
           subst (λ (p : ℕ × Option ClauseRef). IsWatchStore c.walk-found.new.chains.clauses
           c.walk-found.new.trail.entries p.0 i.level p.1) (λ x. (count x, sym none x))
           (store_stopped i.chains.clauses c.walk-found.new.chains.clauses i.trail.entries
-          c.walk-found.new.trail.entries i.queued i.level c.negation.result h go c.walk-found.ensures.whole.trail.once
+          c.walk-found.new.trail.entries i.queued i.level c.negation.result h go
+          c.walk-found.ensures.whole.trail.once
           some is_out);
     }
 
@@ -87,7 +88,8 @@ invariant_of-self-2 c =
           subst (λ (p : ℕ × Option ClauseRef). IsWatchStore c.walk-found.new.chains.clauses
           c.walk-found.new.trail.entries p.0 i.level p.1) (λ x. (count x, sym none x))
           (store_taken i.chains.clauses c.walk-found.new.chains.clauses i.trail.entries
-          c.walk-found.new.trail.entries i.queued i.level c.negation.result h go c.walk-found.ensures.whole.trail.once
+          c.walk-found.new.trail.entries i.queued i.level c.negation.result h go
+          c.walk-found.ensures.whole.trail.once
           some is_out (i.queued - 1) t before c.at-entry.ensures.value c.negation.ensures.value
           c.in_default.ensures.none);
     }
