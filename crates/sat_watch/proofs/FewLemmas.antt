@@ -1,5 +1,5 @@
 -- Clauses and trails without a repeated variable have no more literals than there are variables.
-use Rattle.std.proofs.Common.{◌≡◌, ◌≢◌, ◌+◌, ◌-◌, ◌==◌, ◌<◌, ◌≤◌, ℕ, zero, suc, true, false, inl, inr, List, [], ◌∷◌, length, map, slice_index_or, All, refl, sym, ap, ◌∙◌, arith}
+use Rattle.std.proofs.Common.{◌≡◌, ◌≢◌, ◌-◌, ◌==◌, ◌<◌, ◌≤◌, ℕ, suc, true, false, inl, inr, List, [], ◌∷◌, length, slice_index_or, All, refl, sym, ap, arith}
 use Rattle.std.specs.List.{AllByRecursion, AllPairs, IsDistinct, list_any}
 use Rattle.std.proofs.lemmas.Bool.{eqb-true, false_from_ne_true, or_cases}
 use Rattle.std.proofs.lemmas.List.{length-map}

@@ -1,5 +1,5 @@
 -- How a trail lies, with one more entry and with one less.
-use Rattle.std.proofs.Common.{◌≡◌, ◌≢◌, ◌<◌, ◌≤◌, ◌+◌, ◌-◌, ◌*◌, inl, inr, ℕ, suc, ℤ, pos, negsuc, nat_abs, set, length-set, replicate, Bool, true, false, List, [], ◌∷◌, ◌++◌, length, slice_index_or, reverse, None, Some, Vec, refl, sym, ap, ◌∙◌, subst, arith}
+use Rattle.std.proofs.Common.{◌≡◌, ◌≢◌, ◌<◌, ◌≤◌, ◌+◌, ◌-◌, ◌*◌, inl, inr, ℕ, suc, ℤ, pos, negsuc, nat_abs, set, length-set, replicate, true, false, List, [], ◌∷◌, ◌++◌, length, slice_index_or, reverse, Some, Vec, refl, sym, ap, ◌∙◌, subst, arith}
 use Rattle.std.specs.Prelude.{vec_len, vec_capacity}
 use Rattle.std.specs.Global.{Global}
 use Rattle.std.specs.Vec.{with_item}

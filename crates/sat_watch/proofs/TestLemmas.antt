@@ -1,5 +1,5 @@
 -- What the tests attach, and what it leaves.
-use Rattle.std.proofs.Common.{◌≡◌, ◌≢◌, ℕ, zero, suc, pos, negsuc, ◌<◌, ◌≤◌, true, false, inl, inr, List, [], ◌∷◌, ◌++◌, length, get_or, slice_index_or, Option, None, Some, Result, Ok, Err, Contains, refl, sym, ap, ◌∙◌, subst, arith}
+use Rattle.std.proofs.Common.{◌≡◌, ◌≢◌, ℕ, zero, suc, pos, negsuc, ◌<◌, ◌≤◌, true, inl, inr, List, [], ◌∷◌, ◌++◌, length, get_or, slice_index_or, Result, Ok, Err, refl, sym, ap, ◌∙◌, subst, arith}
 use Rattle.std.specs.Prelude.{IfOk, OnErr}
 use Rattle.std.specs.declared.alloc.AllocError.{AllocError}
 use Rattle.std.proofs.lemmas.List.Sorted.{Contains-permutation, IsPermutation-sym}
@@ -11,7 +11,6 @@ use Rattle.sat_arena.proofs.StoreLaws.{same_or_other}
 use Rattle.sat_watch.specs.declared.entry.TrailEntry.{TrailEntry}
 use Rattle.sat_watch.specs.Chains.{lit_at}
 use Rattle.sat_watch.specs.Tests.{IsAtStart, IsDueFor, first_decided}
-use Rattle.sat_watch.specs.Trail.{IsOpen}
 use Rattle.sat_watch.specs.Watched.{IsReason, is_false}
 use Rattle.sat_watch.specs.Watches.{Attached, Attaches, HasOneOpen, HasTwoFree, IsOnlyOne, WatchState, is_attached, lits_at}
 use Rattle.sat_watch.proofs.ChoiceLemmas.{at_contains, other_at}

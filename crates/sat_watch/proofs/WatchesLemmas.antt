@@ -10,7 +10,6 @@ use Rattle.sat_arena.specs.Store.{Stored, is_held, stored_at}
 use Rattle.sat_watch.specs.declared.entry.TrailEntry.{TrailEntry}
 use Rattle.sat_watch.specs.Chains.{holders, ChainsState}
 use Rattle.std.proofs.Math.Seq.{drop-append-add}
-use Rattle.sat_clause.specs.Learned.{IsSimple}
 use Rattle.sat_watch.specs.Levels.{AreLeveled, IsLeveledBy, IsWatchStore}
 use Rattle.sat_watch.specs.Trail.{IsOpen, TrailState, falses}
 use Rattle.sat_watch.proofs.FewLemmas.{longer_trail}

@@ -1,5 +1,5 @@
-use Rattle.std.proofs.Common.{◌≡◌, refl, arith}
-use Rattle.sat_arena.specs.Store.{Stored, new_clause, ref, size_all, stored_at, with_swap}
+use Rattle.std.proofs.Common.{refl, arith}
+use Rattle.sat_arena.specs.Store.{Stored, new_clause, ref, size_all, with_swap}
 use Rattle.sat_watch.specs.Chains.{IsLast}
 use Rattle.sat_watch.proofs.AttachLemmas.{last_changed, last_held, last_pushed, last_stored}
 use Rattle.sat_watch.proofs.WatchLemmas.{length_swap}

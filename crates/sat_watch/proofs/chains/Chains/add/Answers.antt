@@ -1,4 +1,4 @@
-use Rattle.std.proofs.Common.{rules, sym, subst, arith}
+use Rattle.std.proofs.Common.{sym, subst, arith}
 use Rattle.std.specs.List.{swap}
 use Rattle.sat_clause.specs.Learned.{IsSimple}
 use Rattle.sat_watch.specs.Chains.{ChainsState, IsAdded}
