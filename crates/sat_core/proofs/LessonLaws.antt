@@ -1,6 +1,5 @@
 -- A clause that comes of a false one and of marked reasons follows by them; an asserting one is
--- new,
--- and the trail that is cut back to it is again one of the clauses.
+-- new, and the trail that is cut back to it is again one of the clauses.
 use Rattle.std.specs.Prelude.{nat_le}
 use Rattle.std.proofs.Common.{inl, inr, ◌⊎◌, ◌≡◌, ◌≢◌, ◌==◌, ◌<◌, ◌≤◌, ◌-◌, ℕ, zero, suc, ℤ, pos, Bool, true, false, cond, List, [], ◌∷◌, ◌++◌, Option, None, Some, slice_get, Contains, All, refl, sym, ap, ◌∙◌, subst, arith}
 use Rattle.std.proofs.lemmas.Bool.{both_ways, eq-eqb, false_from_ne_true, leb-true, le-leb}

@@ -68,9 +68,8 @@ AreLevels [] = ⊤
 AreLevels (e ∷ older) = (e.level ≡ level_of (e ∷ older)) × AreLevels older
 
 -- what holds of a trail between two steps of a search: its entries are of the variables 1 to n,
--- each
--- of another one, by levels and each with its cause, and the clauses are settled below the current
--- level
+-- each of another one, by levels and each with its cause, and the clauses are settled below the
+-- current level
 pub record IsSettledTrail (clauses : Live) (vars : ℕ) (trail : List Assigned) : Type 0 where
   pub once : IsOnce (lits_of trail)
   pub within : All (λ e. IsWithin vars e.lit) trail
@@ -131,8 +130,7 @@ marked_ids (e ∷ older) [] = []
 marked_ids (e ∷ older) (mark ∷ marks) = marked_ids older marks ++ marked_reason mark e.reason
 
 -- a clause that comes of a false one and of the reasons of the marked entries: each other literal
--- of
--- these is accounted for, and no marked entry is of a variable of the clause
+-- of these is accounted for, and no marked entry is of a variable of the clause
 pub record IsDerived
     (clauses : Live) (trail : List Assigned) (conflict clause : Clause) (marks : List Bool)
     : Type 0 where

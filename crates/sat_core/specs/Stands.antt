@@ -10,8 +10,7 @@ use Rattle.sat_core.specs.Levels.{Assigned}
 use Rattle.sat_core.specs.SearchLog.{AreNumbered, added_count}
 
 -- the number of variables, of input clauses, and of clauses that the log has added; the kept
--- clauses
--- with their ids; and the trail, the newest entry first
+-- clauses with their ids; and the trail, the newest entry first
 pub record SearchValue : Type 0 where
   pub vars : ℕ
   pub inputs : ℕ

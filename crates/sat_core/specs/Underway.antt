@@ -14,8 +14,7 @@ use Rattle.sat_core.specs.declared.turn.Turn.{Turn}
 use Rattle.sat_core.specs.declared.turn.Turn.TheVariants.{Learned, Model, Refuted}
 
 -- the clauses are of the formula's variables, and the search stands for it and a log that is open
--- and
--- has deleted nothing
+-- and has deleted nothing
 pub record IsUnderway (search : SearchValue) (formula : Cnf) (log : List Step) : Type 0 where
   pub within : All (All (IsWithin formula.vars)) formula.clauses
   pub stands : StandsFor search formula log
