@@ -115,10 +115,11 @@ module _ (desk desk_now : DeskState) (calm : ¬ HasRisen desk.faults desk_now.fa
   early-halts : (name : Bytes) (width : ℕ) (says : RouteText → Outcome → Type 0) (o : Outcome) →
       EndsEarly name width desk desk_now o →
       IsTrueOfClauses name width says desk.files o ⊎ (o ≡ OutOfMemory)
-  early-halts name width says o (inl h) = elim (stop-halts (route_file name) desk desk_now o h calm) [
-    | inl halt ↦ inl (inl halt)
-    | inr spent ↦ inr spent
-  ]
+  early-halts name width says o (inl h) =
+      elim (stop-halts (route_file name) desk desk_now o h calm) [
+        | inl halt ↦ inl (inl halt)
+        | inr spent ↦ inr spent
+      ]
   early-halts name width says o (inr h) = inl (inr (inl h))
 
 module _ (desk desk_now : DeskState) (shelf between : ShelfState) where
