@@ -27,7 +27,8 @@ same_name-refl q = ap is_eq (tied_itself nat_list_cmp_total q)
 
 -- maps that answer alike are the same
 pub alike : (m n : FileMap) → ((q : Bytes) → get m q ≡ get n q) → m ≡ n
-alike m n is = same_map nat_list_cmp_total (slice_cmp-IsAntisymmetric nat_cmp-IsAntisymmetric) m n is
+alike m n is =
+    same_map nat_list_cmp_total (slice_cmp-IsAntisymmetric nat_cmp-IsAntisymmetric) m n is
 
 -- a file that was inserted is there
 pub get-inserted : (m : FileMap) (k v : Bytes) → get (insert m k v) k ≡ Some v

@@ -18,7 +18,8 @@ pub left_of : (s : DeskState) (name : Bytes) (k : ℕ) (fs : FileMap) (file : By
     → s.files ≡ Some fs → get fs name ≡ Some file
     → (after_read (after_start s name) k).left ≡ Some (drop k file)
 left_of s name k fs file told there =
-    ap (λ (o : Option FileMap). option_map (drop k) (option_and_then (λ files. get files name) o)) told ∙ ap (option_map (drop k)) there
+    ap (λ (o : Option FileMap). option_map (drop k) (option_and_then (λ files. get files name) o))
+    told ∙ ap (option_map (drop k)) there
 
 drops : (m n : ℕ) (o : Option Bytes)
     → option_map (drop n) (option_map (drop m) o) ≡ option_map (drop (m + n)) o
@@ -40,7 +41,8 @@ front_grows k n file items buffer tail e within next =
 -- a front of a buffer, whatever stands behind the buffer
 pub length-front : (n : ℕ) (buffer tail : Bytes) → n ≤ length buffer
     → length (take n (buffer ++ tail)) ≡ n
-length-front n buffer tail within = rw (take-append-le n buffer tail within) (length-take-le n buffer within)
+length-front n buffer tail within =
+    rw (take-append-le n buffer tail within) (length-take-le n buffer within)
 
 -- nothing is left of the file: what was read is the whole
 pub whole_is_read : (desk s : DeskState) (name items : Bytes) (k : ℕ) (fs : FileMap)
@@ -51,8 +53,10 @@ pub whole_is_read : (desk s : DeskState) (name items : Bytes) (k : ℕ) (fs : Fi
     → get fs name ≡ Some items
 whole_is_read desk s name items k fs told has now front none =
     let there = the_value _ has in
-    let left : (after_read (after_start s name) k).left ≡ Some (drop k there.0) = left_of s name k fs there.0 told there.1 in
+    let left : (after_read (after_start s name) k).left ≡ Some (drop k there.0) =
+    left_of s name k fs there.0 told there.1 in
     let ended : drop k there.0 ≡ [] = none _ (ap (λ (d : DeskState). d.left) now ∙ left) in
-    let is : items ≡ take k there.0 = front there.0 (ap (option_and_then (λ files. get files name)) told ∙ there.1) in
+    let is : items ≡ take k there.0 =
+    front there.0 (ap (option_and_then (λ files. get files name)) told ∙ there.1) in
     there.1 ∙ ap Some (sym (take-append-drop k there.0)
     ∙ ap (λ (l : Bytes). take k there.0 ++ l) ended ∙ append-nil _ ∙ sym is)

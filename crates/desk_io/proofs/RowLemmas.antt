@@ -7,7 +7,8 @@ use Rattle.desk_io.specs.ShelfState.{ShelfState, FailsToAppend}
 use Rattle.desk_io.specs.Writing.{PassesOn}
 use Rattle.desk_io.proofs.WritingLaws.{fails-longer, passes-then-fails, passes-then-passes}
 
-module _ {T : Type 0} (f : T → Bytes) (xs : List T) (i : ℕ) (x : T) (at : slice_get xs i ≡ Some x) where
+module _ {T : Type 0} (f : T → Bytes) (xs : List T) (i : ℕ) (x : T)
+    (at : slice_get xs i ≡ Some x) where
   -- the item at a place is written behind the front ones
   pub row-passes : {a b c : ShelfState} {w y z : Bytes} → PassesOn a w (flat_map f (take i xs)) b y
       → PassesOn b y (f x) c z → PassesOn a w (flat_map f (take (i + 1) xs)) c z

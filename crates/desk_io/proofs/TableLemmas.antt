@@ -34,7 +34,8 @@ take_next : (es : Entries) (i : ℕ) (q : List ℕ) (e : List ℕ × List ℕ) �
     → find_name q (take (suc i) es) ≡ None
 take_next [] i q e at none apart = cc
 take_next (x ∷ es) zero q e at none apart = let same : x ≡ e = cc in rw (same, apart) refl
-take_next (x ∷ es) (suc i) q e at none apart = tail_none _ _ _ _ none (λ h. take_next es i q e at h apart)
+take_next (x ∷ es) (suc i) q e at none apart =
+    tail_none _ _ _ _ none (λ h. take_next es i q e at h apart)
 
 -- a name that the first i have not, and the next has not
 pub find-take_next : (es : Entries) (i : ℕ) (q : List ℕ) (e : List ℕ × List ℕ)
@@ -70,7 +71,8 @@ pub find-set : (es : Entries) (i : ℕ) (k x v q : List ℕ) → slice_get es i 
     → find_name k (take i es) ≡ None
     → find_name q (slice_set es i (k, v)) ≡ cond (same_name q k) (Some v) (find_name q es)
 find-set [] i k x v q at none = cc
-find-set (y ∷ es) zero k x v q at none = let same : y ≡ (k, x) = cc in rw same (shadowed (same_name q k) v x (find_name q es))
+find-set (y ∷ es) zero k x v q at none =
+    let same : y ≡ (k, x) = cc in rw same (shadowed (same_name q k) v x (find_name q es))
 find-set (y ∷ es) (suc i) k x v q at none =
     let parts = not_found _ _ _ none in
     ap (λ r. cond (same_name q y.0) (Some y.1) r) (find-set es i k x v q at parts.1)
@@ -83,7 +85,8 @@ find-set (y ∷ es) (suc i) k x v q at none =
 pub map-set : (es : Entries) (i : ℕ) (k x v : List ℕ) → slice_get es i ≡ Some (k, x)
     → find_name k (take i es) ≡ None
     → from_entries {R = slice_cmp nat_cmp} (slice_set es i (k, v)) ≡ insert (from_entries es) k v
-map-set es i k x v at none = same_map nat_list_cmp_total (slice_cmp-IsAntisymmetric nat_cmp-IsAntisymmetric) _ _ (λ q.
+map-set es i k x v at none =
+    same_map nat_list_cmp_total (slice_cmp-IsAntisymmetric nat_cmp-IsAntisymmetric) _ _ (λ q.
     get-from_entries nat_list_cmp_total _ q ∙ find-set es i k x v q at none
     ∙ sym (get-insert nat_list_cmp_total _ k v q
     ∙ ap (cond (same_name q k) (Some v)) (get-from_entries nat_list_cmp_total es q)))
@@ -93,7 +96,8 @@ map-set es i k x v at none = same_map nat_list_cmp_total (slice_cmp-IsAntisymmet
 pub get-entries_of : (files : List Named) (i : ℕ) (f : Named) → slice_get files i ≡ Some f
     → slice_get (entries_of files) i ≡ Some (entry_of f)
 get-entries_of [] i f at = cc
-get-entries_of (x ∷ files) zero f at = let same : x ≡ f = cc in ap (λ (g : Named). Some (entry_of g)) same
+get-entries_of (x ∷ files) zero f at =
+    let same : x ≡ f = cc in ap (λ (g : Named). Some (entry_of g)) same
 get-entries_of (x ∷ files) (suc i) f at = get-entries_of files i f at
 
 pub length-entries_of : (files : List Named) → length (entries_of files) ≡ length files
@@ -104,7 +108,8 @@ length-entries_of (x ∷ files) = ap suc (length-entries_of files)
 pub map-absent : (files : List Named) (q : List ℕ)
     → find_name q (take (length files) (entries_of files)) ≡ None → get (table_map files) q ≡ None
 map-absent files q h =
-    let all : take (length files) (entries_of files) ≡ entries_of files = rw (← length-entries_of files) (grind (arith, common_steps)) in
+    let all : take (length files) (entries_of files) ≡ entries_of files =
+    rw (← length-entries_of files) (grind (arith, common_steps)) in
     get-from_entries nat_list_cmp_total _ q ∙ sym (ap (find_name q) all) ∙ h
 
 -- the file at the first position of its name is what the map has
@@ -121,7 +126,9 @@ at_index files i f inside is = slice_get_read files (length files) i f refl insi
 pub none_yet : (files : List Named) (i : ℕ) (q : List ℕ) (f : Named)
     → slice_get files i ≡ Some f → find_name q (take i (entries_of files)) ≡ None
     → bytes_eq q (string_bytes f.0) ≡ false → find_name q (take (i + 1) (entries_of files)) ≡ None
-none_yet files i q f at none apart = find-take_next _ i q _ (get-entries_of files i f at) none (is_eq-slice_cmp q (string_bytes f.0) ∙ apart)
+none_yet files i q f at none apart =
+    find-take_next _ i q _ (get-entries_of files i f at) none
+    (is_eq-slice_cmp q (string_bytes f.0) ∙ apart)
 
 pub same_bytes : (q k : List ℕ) → bytes_eq q k ≡ true → q ≡ k
 same_bytes q k h = same_name-eq q k (is_eq-slice_cmp q k ∙ h)
@@ -135,7 +142,10 @@ pub the_first : (files : List Named) (i : ℕ) (q : List ℕ) (f : Named)
     → find_name q (take i (entries_of files)) ≡ None → IsFirst files (Some i)
 the_first files i q f at e none = λ p same g there.
     let i_is : i ≡ p = cc in
-    let f_is : f ≡ g = (let h : slice_get files p ≡ Some f = subst (λ (n : ℕ). slice_get files n ≡ Some f) i_is at in let both : Some f ≡ Some g = sym h ∙ there in cc) in
+    let f_is : f ≡ g =
+    (let h : slice_get files p ≡ Some f =
+    subst (λ (n : ℕ). slice_get files n ≡ Some f) i_is at in let both : Some f ≡ Some g =
+    sym h ∙ there in cc) in
     subst (λ (n : ℕ). find_name (string_bytes g.0) (take n (entries_of files)) ≡ None) i_is
     (subst (λ (t : List ℕ). find_name t (take i (entries_of files)) ≡ None) (e
     ∙ ap (λ (x : Named). string_bytes x.0) f_is) none)
@@ -145,9 +155,11 @@ pub found_at : (files : List Named) (p : ℕ) (q : List ℕ) (f : Named)
     → slice_get files p ≡ Some f → name_at files (Some p) ≡ Some q → IsFirst files (Some p)
     → get (table_map files) q ≡ Some f.1.items
 found_at files p q f at name first =
-    let named : Some (string_bytes f.0) ≡ Some q = ap (option_map (λ (x : Named). string_bytes x.0)) (sym at) ∙ name in
+    let named : Some (string_bytes f.0) ≡ Some q =
+    ap (option_map (λ (x : Named). string_bytes x.0)) (sym at) ∙ name in
     let same : string_bytes f.0 ≡ q = cc in
-    subst (λ (t : List ℕ). get (table_map files) t ≡ Some f.1.items) same (map-first files p f at (first p refl f at))
+    subst (λ (t : List ℕ). get (table_map files) t ≡ Some f.1.items) same
+    (map-first files p f at (first p refl f at))
 
 -- ---- a file of the table with other bytes
 
@@ -165,7 +177,8 @@ take-set (x ∷ es) (suc p) e = ap (λ (t : Entries). x ∷ t) (take-set es p e)
 set_same : (es : Entries) (p : ℕ) (e : List ℕ × List ℕ) → slice_get es p ≡ Some e
     → slice_set es p e ≡ es
 set_same [] p e at = refl
-set_same (x ∷ es) zero e at = let same : x ≡ e = cc in ap (λ (y : List ℕ × List ℕ). y ∷ es) (sym same)
+set_same (x ∷ es) zero e at =
+    let same : x ≡ e = cc in ap (λ (y : List ℕ × List ℕ). y ∷ es) (sym same)
 set_same (x ∷ es) (suc p) e at = ap (λ (t : Entries). x ∷ t) (set_same es p e at)
 
 get-set : (files : List Named) (p : ℕ) (f g : Named) → slice_get files p ≡ Some f
@@ -179,7 +192,8 @@ pub written-map : (files : List Named) (p : ℕ) (f : Named) (v : Vec ℕ Global
     → table_map (slice_set files p (f.0, v)) ≡ insert (table_map files) (string_bytes f.0) v.items
 written-map files p f v at first =
     ap (λ (es : Entries). from_entries {R = slice_cmp nat_cmp} es) (entries-set files p (f.0, v))
-    ∙ map-set (entries_of files) p (string_bytes f.0) f.1.items v.items (get-entries_of files p f at) (first p refl f at)
+    ∙ map-set (entries_of files) p (string_bytes f.0) f.1.items v.items
+    (get-entries_of files p f at) (first p refl f at)
 
 pub written-entries : (files : List Named) (p : ℕ) (f : Named) (v : Vec ℕ Global)
     → slice_get files p ≡ Some f → v.items ≡ f.1.items
@@ -199,7 +213,8 @@ pub written-first : (files : List Named) (p : ℕ) (f : Named) (v : Vec ℕ Glob
     → IsFirst (slice_set files p (f.0, v)) (Some p)
 written-first files p f v at first =
     the_first _ p (string_bytes f.0) (f.0, v) (get-set files p f (f.0, v) at) refl
-    (ap (λ (es : Entries). find_name (string_bytes f.0) (take p es)) (entries-set files p (f.0, v)) ∙ ap (find_name (string_bytes f.0)) (take-set _ p _) ∙ first p refl f at)
+    (ap (λ (es : Entries). find_name (string_bytes f.0) (take p es)) (entries-set files p (f.0, v))
+    ∙ ap (find_name (string_bytes f.0)) (take-set _ p _) ∙ first p refl f at)
 
 pub name_there : (files : List Named) (p : ℕ) (f : Named) → slice_get files p ≡ Some f
     → name_at files (Some p) ≡ Some (string_bytes f.0)
@@ -227,8 +242,10 @@ absent-find files q h = sym (get-from_entries nat_list_cmp_total _ q) ∙ h
 pub pushed-map : (files : List Named) (f : Named)
     → get (table_map files) (string_bytes f.0) ≡ None
     → table_map (files ++ f ∷ []) ≡ insert (table_map files) (string_bytes f.0) f.1.items
-pushed-map files f h = ap (λ (es : Entries). from_entries {R = slice_cmp nat_cmp} es) (entries-push files f)
-    ∙ from_entries_push nat_list_cmp_total (slice_cmp-IsAntisymmetric nat_cmp-IsAntisymmetric) (entries_of files) (string_bytes f.0) f.1.items (absent-find files _ h)
+pushed-map files f h =
+    ap (λ (es : Entries). from_entries {R = slice_cmp nat_cmp} es) (entries-push files f)
+    ∙ from_entries_push nat_list_cmp_total (slice_cmp-IsAntisymmetric nat_cmp-IsAntisymmetric)
+    (entries_of files) (string_bytes f.0) f.1.items (absent-find files _ h)
 
 pub pushed-name : (files : List Named) (f : Named)
     → name_at (files ++ f ∷ []) (Some (length files)) ≡ Some (string_bytes f.0)
@@ -242,13 +259,16 @@ pub pushed-first : (files : List Named) (f : Named)
     → get (table_map files) (string_bytes f.0) ≡ None
     → IsFirst (files ++ f ∷ []) (Some (length files))
 pushed-first files f h = the_first _ (length files) (string_bytes f.0) f (get-push files f) refl
-    (ap (λ (es : Entries). find_name (string_bytes f.0) (take (length files) es)) (entries-push files f)
-    ∙ ap (λ (n : ℕ). find_name (string_bytes f.0) (take n (entries_of files ++ entry_of f ∷ []))) (sym (length-entries_of files))
+    (ap (λ (es : Entries). find_name (string_bytes f.0) (take (length files) es))
+    (entries-push files f)
+    ∙ ap (λ (n : ℕ). find_name (string_bytes f.0) (take n (entries_of files ++ entry_of f ∷ [])))
+    (sym (length-entries_of files))
     ∙ ap (find_name (string_bytes f.0)) (take-front _ _) ∙ absent-find files _ h)
 
 pub name_is : (files : List Named) (p : ℕ) (f : Named) (q : List ℕ) → slice_get files p ≡ Some f
     → name_at files (Some p) ≡ Some q → string_bytes f.0 ≡ q
-name_is files p f q at name = let both : Some (string_bytes f.0) ≡ Some q = sym (name_there files p f at) ∙ name in cc
+name_is files p f q at name =
+    let both : Some (string_bytes f.0) ≡ Some q = sym (name_there files p f at) ∙ name in cc
 
 -- ---- a write that failed
 
@@ -261,4 +281,6 @@ pub others_stay : (old new : List Named) (name : List ℕ) → entries_of new �
     → (x : FileMap) → Some (table_map old) ≡ Some x
     → (after : FileMap) × (Some (table_map new) ≡ Some after) × ((q : List ℕ) → q ≢ name
     → get after q ≡ get x q)
-others_stay old new name same x e = let is : table_map old ≡ x = cc in (table_map new, refl, λ q ne. ap (λ (m : FileMap). get m q) (same_map_of old new same ∙ is))
+others_stay old new name same x e =
+    let is : table_map old ≡ x = cc in
+    (table_map new, refl, λ q ne. ap (λ (m : FileMap). get m q) (same_map_of old new same ∙ is))

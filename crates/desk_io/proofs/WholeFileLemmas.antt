@@ -9,7 +9,8 @@ use Rattle.desk_io.specs.WholeFile.{FailsToWrite, after_writing}
 use Rattle.desk_io.proofs.FileLemmas.{get-inserted, insert-insert}
 
 written : (files : Option FileMap) (name text : Bytes)
-    → option_map (with_created (option_map (λ _. name) files) text) (option_map (λ fs. insert fs name []) files)
+    → option_map (with_created (option_map (λ _. name) files) text)
+    (option_map (λ fs. insert fs name []) files)
     ≡ option_map (λ fs. insert fs name text) files
 written None name text = refl
 written (Some files) name text =
@@ -19,9 +20,11 @@ written (Some files) name text =
 appended-is : (a : ShelfState) (name text : Bytes) → after_append (after_create a name) text
     ≡ record (after_create a name) { files = option_map (λ fs. insert fs name text) a.files }
 appended-is a name text =
-    ap (λ (f : Option FileMap). record (after_create a name) { files = f }) (written a.files name text)
+    ap (λ (f : Option FileMap). record (after_create a name) { files = f })
+    (written a.files name text)
 
-module _ (a : ShelfState) {b : ShelfState} (name text : Bytes) (created : b ≡ after_create a name) where
+module _ (a : ShelfState) {b : ShelfState} (name text : Bytes)
+    (created : b ≡ after_create a name) where
   appended : {c : ShelfState} → c ≡ after_append b text
       → c ≡ record (after_create a name) { files = option_map (λ fs. insert fs name text) a.files }
   appended h = h ∙ ap (λ (s : ShelfState). after_append s text) created ∙ appended-is a name text
@@ -40,7 +43,8 @@ module _ (a : ShelfState) {b : ShelfState} (name text : Bytes) (created : b ≡ 
         ∙ ap (λ (s : ShelfState). (after_append s (take h.count text)).files) created
         ∙ written a.files name (take h.count text);
     said = h.failed.said ∙ ap (λ (s : ShelfState). s.said) created;
-    risen = subst (λ (n : ℕ). RisesByOne n c.faults) (ap (λ (s : ShelfState). s.faults) created) h.failed.risen;
+    risen = subst (λ (n : ℕ). RisesByOne n c.faults)
+        (ap (λ (s : ShelfState). s.faults) created) h.failed.risen;
     say_failed = h.failed.say_failed;
   })
 
@@ -53,6 +57,7 @@ module _ (a : ShelfState) {b : ShelfState} (name text : Bytes) (created : b ≡ 
     files = h.files ∙ ap (λ (s : ShelfState). s.files) (appended at)
         ∙ ap (λ (t : Bytes). option_map (λ fs. insert fs name t) a.files) (sym (take-length text));
     said = h.said ∙ ap (λ (s : ShelfState). s.said) (appended at);
-    risen = subst (λ (n : ℕ). RisesByOne n d.faults) (ap (λ (s : ShelfState). s.faults) (appended at)) h.risen;
+    risen = subst (λ (n : ℕ). RisesByOne n d.faults)
+        (ap (λ (s : ShelfState). s.faults) (appended at)) h.risen;
     say_failed = h.say_failed;
   })

@@ -18,7 +18,9 @@ grown-grown : (o : Option Bytes) (name t u : Bytes) (files : FileMap) → get fi
     → with_text name u (grown o name t files) ≡ grown o name (t ++ u) files
 grown-grown None name t u files e = rw e refl
 grown-grown (Some bytes) name t u files e =
-    rw (get-inserted files name (bytes ++ t)) (insert-insert files name (bytes ++ t) ((bytes ++ t) ++ u) ∙ ap (insert files name) (append_assoc bytes t u))
+    rw (get-inserted files name (bytes ++ t))
+    (insert-insert files name (bytes ++ t) ((bytes ++ t) ++ u)
+    ∙ ap (insert files name) (append_assoc bytes t u))
 
 created-nil : (o : Option Bytes) (files : FileMap) → with_created o [] files ≡ files
 created-nil None files = refl
@@ -35,18 +37,21 @@ files-nil o None = refl
 files-nil o (Some files) = ap Some (created-nil o files)
 
 files-twice : (o : Option Bytes) (t u : Bytes) (files : Option FileMap)
-    → option_map (with_created o u) (option_map (with_created o t) files) ≡ option_map (with_created o (t ++ u)) files
+    → option_map (with_created o u) (option_map (with_created o t) files)
+    ≡ option_map (with_created o (t ++ u)) files
 files-twice o t u None = refl
 files-twice o t u (Some files) = ap Some (created-created o t u files)
 
 -- to append nothing changes nothing
 pub after_append-nil : (s : ShelfState) → after_append s [] ≡ s
-after_append-nil s = ap (λ (f : Option FileMap). record s { files = f }) (files-nil s.created s.files)
+after_append-nil s =
+    ap (λ (f : Option FileMap). record s { files = f }) (files-nil s.created s.files)
 
 -- to append two texts is to append both as one
 pub after_append-append : (s : ShelfState) (t u : Bytes)
     → after_append (after_append s t) u ≡ after_append s (t ++ u)
-after_append-append s t u = ap (λ (f : Option FileMap). record s { files = f }) (files-twice s.created t u s.files)
+after_append-append s t u =
+    ap (λ (f : Option FileMap). record s { files = f }) (files-twice s.created t u s.files)
 
 -- nothing was written: all waits that waited
 pub passes-none : (s : ShelfState) (w : Bytes) → PassesOn s w [] s w
@@ -67,8 +72,10 @@ fails-behind : (a : ShelfState) {b c : ShelfState} (s : Bytes) {l : Bytes}
     → b ≡ after_append a s → FailsToAppend b l c → FailsToAppend a (s ++ l) c
 fails-behind a {b} {c} s {l} e f =
     let P : ShelfState → Type 0 = λ z. HasFailed z (after_append z (take f.count l)) c false in
-    let h : HasFailed (after_append a s) (after_append (after_append a s) (take f.count l)) c false = subst P e f.failed in
-    let same : after_append (after_append a s) (take f.count l) ≡ after_append a (take (length s + f.count) (s ++ l)) =
+    let h : HasFailed (after_append a s)
+    (after_append (after_append a s) (take f.count l)) c false = subst P e f.failed in
+    let same : after_append (after_append a s) (take f.count l)
+    ≡ after_append a (take (length s + f.count) (s ++ l)) =
     after_append-append a s (take f.count l)
     ∙ ap (after_append a) (sym (take-append-add s l f.count)) in
     record {
@@ -108,7 +115,13 @@ fails-longer {a} {c} w t u f =
     sym (take-append-le f.count (w ++ t) u f.within) ∙ ap (take f.count) (append_assoc w t u) in
     record {
       count = f.count;
-      within = omega (arith, f.within, length-append w t, length-append w (t ++ u), length-append t u);
+      within = omega (
+        arith,
+        f.within,
+        length-append w t,
+        length-append w (t ++ u),
+        length-append t u,
+      );
       failed = subst (λ (l : Bytes). HasFailed a (after_append a l) c false) same f.failed;
     }
 

@@ -12,8 +12,8 @@ pub record PassesOn
   pub split : waiting ++ text ≡ sent ++ still
   pub passed : now ≡ after_append before sent
 
--- a text is written behind what waits: after a success it is passed on,
--- after a failure a front part of both was appended
+-- a text is written behind what waits: after a success it is passed on, after a failure a front
+-- part of both was appended
 abbrev pub Writes : {T : Type 0}
     → ShelfState → Bytes → Bytes → ShelfState → Bytes → Result T Failed → Type 0
 Writes before waiting text now still result =

@@ -26,10 +26,10 @@ const BLOCK: usize = 16384;
 
 /// The bytes of a file, of which there may be at most `limit`.
 ///
-/// It gives `Fault` where no file has this name or the desk fails, and only then a fault is counted,
-/// and no more than one; it does not come once more bytes than the limit were taken. It gives
-/// `TooLong` where the file has more bytes than the limit, of which one more than the limit was then
-/// taken; and `Memory` where there was no room for its bytes.
+/// It gives `Fault` where no file has this name or the desk fails, and only then a fault is
+/// counted, and no more than one; it does not come once more bytes than the limit were taken. It
+/// gives `TooLong` where the file has more bytes than the limit, of which one more than the limit
+/// was then taken; and `Memory` where there was no room for its bytes.
 pub fn read_file<D: Desk>(
     alloc: Global,
     desk: &mut D,

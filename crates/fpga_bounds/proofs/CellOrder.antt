@@ -12,9 +12,14 @@ use Rattle.fpga_types.specs.contracts.grid.CellOrd.TheImpl.{cmp-value}
 abbrev at : Axis → ℕ → ℕ → Cell
 at axis x y = record { axis = axis; x = x; y = y }
 
-on_axes : (c d : Axis) (x y u v : ℕ) → is_eq (cmp-value.it (at c x y) (at d u v)) ≡ same_cell (at c x y) (at d u v)
-on_axes X X x y u v = sym (tied_then (nat_cmp x u) (nat_cmp y v)) ∙ (λ i. sym (unsigned_ties x u) i && sym (unsigned_ties y v) i)
-on_axes Y Y x y u v = sym (tied_then (nat_cmp x u) (nat_cmp y v)) ∙ (λ i. sym (unsigned_ties x u) i && sym (unsigned_ties y v) i)
+on_axes : (c d : Axis) (x y u v : ℕ) → is_eq (cmp-value.it (at c x y) (at d u v))
+    ≡ same_cell (at c x y) (at d u v)
+on_axes X X x y u v =
+    sym (tied_then (nat_cmp x u) (nat_cmp y v))
+    ∙ (λ i. sym (unsigned_ties x u) i && sym (unsigned_ties y v) i)
+on_axes Y Y x y u v =
+    sym (tied_then (nat_cmp x u) (nat_cmp y v))
+    ∙ (λ i. sym (unsigned_ties x u) i && sym (unsigned_ties y v) i)
 on_axes X Y x y u v = refl
 on_axes Y X x y u v = refl
 

@@ -24,20 +24,25 @@ use Rattle.fpga_bounds.specs.declared.keys.ElemKey.{ElemKey}
 use borrow.Author.Tests.{eqb-true}
 
 -- two comparisons in turn tie where both do
-pub then_ties : (p q : Ordering) (r s : Bool) → is_eq p ≡ r → is_eq q ≡ s → is_eq (ordering_then p q) ≡ (r && s)
+pub then_ties : (p q : Ordering) (r s : Bool) → is_eq p ≡ r → is_eq q ≡ s
+    → is_eq (ordering_then p q) ≡ (r && s)
 then_ties Less q r s e f = rw (← e) refl
 then_ties Equal q r s e f = rw (← e) f
 then_ties Greater q r s e f = rw (← e) refl
 
 -- numbers tie where they are equal
 pub nat_ties : (a b : ℕ) → is_eq (nat_cmp a b) ≡ (b == a)
-nat_ties a b = sym (unsigned_ties a b) ∙ both_ways (a == b) (b == a) (λ h. eq-eqb b a (sym (eqb-true a b h))) (λ h. eq-eqb a b (sym (eqb-true b a h)))
+nat_ties a b =
+    sym (unsigned_ties a b) ∙ both_ways (a == b) (b == a) (λ h. eq-eqb b a (sym (eqb-true a b h)))
+    (λ h. eq-eqb a b (sym (eqb-true b a h)))
 
 abbrev number_at : ElemKind → ℕ → ℕ
 number_at kind number = if is_channel kind then 0 else number
 
 -- kinds tie where they are one, and then numbers count for both or for none
-kind_ties : (a b : ElemKind) (m n : ℕ) (r : Bool) → (is_eq ((kind_ord.ghosts).cmp a b) && (r && (number_at b n == number_at a m))) ≡ (same_kind b a && (r && (is_channel b || n == m)))
+kind_ties : (a b : ElemKind) (m n : ℕ) (r : Bool)
+    → (is_eq ((kind_ord.ghosts).cmp a b) && (r && (number_at b n == number_at a m)))
+    ≡ (same_kind b a && (r && (is_channel b || n == m)))
 kind_ties Source Source m n r = refl
 kind_ties Source Opin m n r = refl
 kind_ties Source ChanX m n r = refl
@@ -106,12 +111,19 @@ and_last true p n = refl
 -- keys tie where elements are equal
 pub elem_key_ties : (a b : Elem) → is_eq (key_cmp (elem_key a) (elem_key b)) ≡ same_elem b a
 elem_key_ties a b =
-    let last : is_eq (ordering_then ((label_ord.ghosts).cmp a.label b.label) (nat_cmp (number_at a.kind a.number) (number_at b.kind b.number))) ≡ (same_label b.label a.label && (number_at b.kind b.number == number_at a.kind a.number)) =
-    then_ties _ _ _ _ (label_ties a.label b.label) (nat_ties (number_at a.kind a.number) (number_at b.kind b.number)) in
-    then_ties _ _ _ _ refl (then_ties _ _ _ _ (nat_ties a.x b.x) (then_ties _ _ _ _ (nat_ties a.y b.y) last))
-    ∙ first_and_rest (is_eq ((kind_ord.ghosts).cmp a.kind b.kind)) (b.x == a.x) (b.y == a.y) (same_label b.label a.label) (number_at b.kind b.number == number_at a.kind a.number)
-    ∙ kind_ties a.kind b.kind a.number b.number (b.x == a.x && b.y == a.y && same_label b.label a.label)
-    ∙ and_last (same_kind b.kind a.kind) (b.x == a.x && b.y == a.y && same_label b.label a.label) (is_channel b.kind || b.number == a.number)
+    let last : is_eq (ordering_then ((label_ord.ghosts).cmp a.label b.label)
+    (nat_cmp (number_at a.kind a.number) (number_at b.kind b.number)))
+    ≡ (same_label b.label a.label && (number_at b.kind b.number == number_at a.kind a.number)) =
+    then_ties _ _ _ _ (label_ties a.label b.label)
+    (nat_ties (number_at a.kind a.number) (number_at b.kind b.number)) in
+    then_ties _ _ _ _ refl (then_ties _ _ _ _ (nat_ties a.x b.x)
+    (then_ties _ _ _ _ (nat_ties a.y b.y) last))
+    ∙ first_and_rest (is_eq ((kind_ord.ghosts).cmp a.kind b.kind)) (b.x == a.x) (b.y == a.y)
+    (same_label b.label a.label) (number_at b.kind b.number == number_at a.kind a.number)
+    ∙ kind_ties a.kind b.kind a.number b.number
+    (b.x == a.x && b.y == a.y && same_label b.label a.label)
+    ∙ and_last (same_kind b.kind a.kind) (b.x == a.x && b.y == a.y && same_label b.label a.label)
+    (is_channel b.kind || b.number == a.number)
 
 pin_parts : (p x y l n : Bool) → (p && (x && (y && (l && n)))) ≡ (p && true && (x && y && l) && n)
 pin_parts false x y l n = refl
@@ -120,11 +132,16 @@ pin_parts true true false l n = refl
 pin_parts true true true l n = refl
 
 -- keys tie where pins are one
-pub pin_key_ties : (a b : Elem) → is_pin a.kind ≡ true → (is_pin b.kind && is_eq (key_cmp (pin_key a) (pin_key b))) ≡ same_pin b a
+pub pin_key_ties : (a b : Elem) → is_pin a.kind ≡ true
+    → (is_pin b.kind && is_eq (key_cmp (pin_key a) (pin_key b))) ≡ same_pin b a
 pin_key_ties a b h =
-    let ties : is_eq (key_cmp (pin_key a) (pin_key b)) ≡ (b.x == a.x && (b.y == a.y && (same_label b.label a.label && b.number == a.number))) =
-    then_ties _ _ _ _ (nat_ties a.x b.x) (then_ties _ _ _ _ (nat_ties a.y b.y) (then_ties _ _ _ _ (label_ties a.label b.label) (nat_ties a.number b.number))) in
-    rw (ties, h) (pin_parts (is_pin b.kind) (b.x == a.x) (b.y == a.y) (same_label b.label a.label) (b.number == a.number))
+    let ties : is_eq (key_cmp (pin_key a) (pin_key b))
+    ≡ (b.x == a.x && (b.y == a.y && (same_label b.label a.label && b.number == a.number))) =
+    then_ties _ _ _ _ (nat_ties a.x b.x)
+    (then_ties _ _ _ _ (nat_ties a.y b.y)
+    (then_ties _ _ _ _ (label_ties a.label b.label) (nat_ties a.number b.number))) in
+    rw (ties, h) (pin_parts (is_pin b.kind) (b.x == a.x) (b.y == a.y) (same_label b.label a.label)
+    (b.number == a.number))
 
 -- one more key, as the clause of a set's `insert` has it
 pub cond_or : (b o s : Bool) → b ≡ s → cond b true o ≡ (o || s)
@@ -138,24 +155,33 @@ and_cond_or false b o s e = e
 and_cond_or true b o s e = cond_or b o s e
 
 -- an element more, by a key that was made of it
-pub one_more_elem : (k : ElemKey) (e q : Elem) (o : Bool) → k ≡ elem_key e → cond (is_eq (key_cmp k (elem_key q))) true o ≡ (o || same_elem q e)
-one_more_elem k e q o h = rw h (cond_or (is_eq (key_cmp (elem_key e) (elem_key q))) o (same_elem q e) (elem_key_ties e q))
+pub one_more_elem : (k : ElemKey) (e q : Elem) (o : Bool) → k ≡ elem_key e
+    → cond (is_eq (key_cmp k (elem_key q))) true o ≡ (o || same_elem q e)
+one_more_elem k e q o h =
+    rw h (cond_or (is_eq (key_cmp (elem_key e) (elem_key q))) o (same_elem q e) (elem_key_ties e q))
 
 -- a pin more, by a key that was made of it
-pub one_more_pin : (k : ElemKey) (e q : Elem) (o : Bool) → is_pin e.kind ≡ true → k ≡ pin_key e → (is_pin q.kind && cond (is_eq (key_cmp k (pin_key q))) true o) ≡ (is_pin q.kind && o || same_pin q e)
-one_more_pin k e q o p h = rw h (and_cond_or (is_pin q.kind) (is_eq (key_cmp (pin_key e) (pin_key q))) o (same_pin q e) (pin_key_ties e q p))
+pub one_more_pin : (k : ElemKey) (e q : Elem) (o : Bool) → is_pin e.kind ≡ true → k ≡ pin_key e
+    → (is_pin q.kind && cond (is_eq (key_cmp k (pin_key q))) true o)
+    ≡ (is_pin q.kind && o || same_pin q e)
+one_more_pin k e q o p h =
+    rw h (and_cond_or (is_pin q.kind) (is_eq (key_cmp (pin_key e) (pin_key q))) o (same_pin q e)
+    (pin_key_ties e q p))
 
 -- what is no pin is at no pin
 pub no_pin : (q e : Elem) → is_pin e.kind ≡ false → same_pin q e ≡ false
 no_pin q e h = rw h (go (is_pin q.kind))
   where
-    go : (b : Bool) → (b && false && (q.x == e.x && q.y == e.y && same_label q.label e.label) && q.number == e.number) ≡ false
+    go : (b : Bool) → (b && false && (q.x == e.x && q.y == e.y && same_label q.label e.label) &&
+        q.number == e.number) ≡ false
     go true = refl
     go false = refl
 
 -- one net more whose pins are taken
-pub pins-more : (nets : List RouteNet) (n : ℕ) (net : RouteNet) (e : Elem) → slice_get nets n ≡ Some net
-    → is_pin_of (take (n + 1) nets) e ≡ (is_pin_of (take n nets) e || list_any (same_pin e) net.elems)
+pub pins-more : (nets : List RouteNet) (n : ℕ) (net : RouteNet) (e : Elem) → slice_get nets n
+    ≡ Some net
+    → is_pin_of (take (n + 1) nets) e
+    ≡ (is_pin_of (take n nets) e || list_any (same_pin e) net.elems)
 pins-more nets n net e here = rw (
   add-one,
   take-get nets n net here,

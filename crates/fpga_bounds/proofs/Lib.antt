@@ -2,7 +2,6 @@ pub mod CellOrder
 pub mod InPlaceLemmas
 pub mod KeyLemmas
 pub mod LineLemmas
-pub mod MeetsLemmas
 pub mod PairLemmas
 pub mod SlotTableLemmas
 pub mod SlotsOfLemmas

@@ -67,14 +67,17 @@ module _ (grid : Size) (nets : List RouteNet) (n : ℕ) (net : RouteNet)
       ≡ line_fault grid (head_line (take n nets) net)
       ∷ (elems_faults grid (take n nets) net 0 ++ nets_faults grid nets (n + 1))
   nets_faults-net =
-      ap (λ ss. map (line_fault grid) (flat_map (λ s. net_lines s.0 s.1) ss)) (drop-splits nets n net here)
+      ap (λ ss. map (line_fault grid) (flat_map (λ s. net_lines s.0 s.1) ss))
+      (drop-splits nets n net here)
       ∙ map-append (line_fault grid) (net_lines (take n nets) net)
       (flat_map (λ s. net_lines s.0 s.1) (drop (suc n) (splits nets)))
-      ∙ ap (λ m. line_fault grid (head_line (take n nets) net) ∷ (elems_faults grid (take n nets) net 0
+      ∙ ap (λ m. line_fault grid (head_line (take n nets) net)
+      ∷ (elems_faults grid (take n nets) net 0
       ++ nets_faults grid nets m)) (sym (add-one n))
 
   -- the Net line has no fault
-  pub past-head : line_fault grid (head_line (take n nets) net) ≡ None → IsPastElems grid nets n net 0
+  pub past-head : line_fault grid (head_line (take n nets) net) ≡ None
+      → IsPastElems grid nets n net 0
   past-head clean = ap first_fault nets_faults-net ∙ ap (λ o. option_or o
       (first_fault (elems_faults grid (take n nets) net 0 ++ nets_faults grid nets (n + 1)))) clean
 
@@ -83,14 +86,17 @@ module _ (grid : Size) (nets : List RouteNet) (n : ℕ) (net : RouteNet)
       → IsFaultOf (line_fault grid (head_line (take n nets) net)) found
       → IsRefusal (nets_faults grid nets n) found
   refused-head found is =
-      subst (λ (faults : Faults). IsRefusal faults found) (sym nets_faults-net) (fault-first _ _ found is)
+      subst (λ (faults : Faults). IsRefusal faults found) (sym nets_faults-net)
+      (fault-first _ _ found is)
 
   -- one line more has no fault
   module _ (i : ℕ) (e : Elem) (there : slice_get net.elems i ≡ Some e) where
     elems_faults-elem : elems_faults grid (take n nets) net i
-        ≡ line_fault grid (elem_line (take n nets) net i e) ∷ elems_faults grid (take n nets) net (i + 1)
+        ≡ line_fault grid (elem_line (take n nets) net i e) ∷ elems_faults grid (take n nets) net
+        (i + 1)
     elems_faults-elem =
-        ap (λ ss. map (line_fault grid) (map (line_at (take n nets) net) ss)) (drop-splits net.elems i e there)
+        ap (λ ss. map (line_fault grid) (map (line_at (take n nets) net) ss))
+        (drop-splits net.elems i e there)
         ∙ ap (λ m. line_fault grid (elem_line (take n nets) net i e)
         ∷ elems_faults grid (take n nets) net m) (sym (add-one i))
 
@@ -107,7 +113,8 @@ module _ (grid : Size) (nets : List RouteNet) (n : ℕ) (net : RouteNet)
         → IsFaultOf (line_fault grid (elem_line (take n nets) net i e)) found
         → IsRefusal (nets_faults grid nets n) found
     refused-elem found past is = subst (λ fault. IsFaultOf fault found)
-        (sym (past ∙ ap (λ faults. first_fault (faults ++ nets_faults grid nets (n + 1))) elems_faults-elem))
+        (sym (past ∙ ap (λ faults. first_fault (faults ++ nets_faults grid nets (n + 1)))
+        elems_faults-elem))
         (fault-first _ _ found is)
 
   -- no line is left
@@ -139,7 +146,8 @@ found-fault fault Memory is = tt
 
 -- the fault of an element that a loop reads, by what it has at hand
 pub fault-at : (grid : Size) (earlier : List RouteNet) (net : RouteNet) (elems : List Elem) (i : ℕ)
-    (slots : List Slot) (previous : Option Elem) (again taken full : Bool) (fault : Option TextFault)
+    (slots : List Slot) (previous : Option Elem) (again taken full : Bool)
+    (fault : Option TextFault)
     → elems ≡ net.elems → i < length elems → slots ≡ slots_so_far earlier net i
     → previous ≡ last_or None (take i elems)
     → again ≡ list_any (same_elem (get_or elems i NO_ELEM)) (take i elems)
@@ -154,7 +162,8 @@ pub fault-at : (grid : Size) (earlier : List RouteNet) (net : RouteNet) (elems :
       global = net.global;
     }))
     → fault ≡ line_fault grid (elem_line earlier net i (get_or elems i NO_ELEM))
-fault-at grid earlier net elems i slots previous again taken full fault own within so_far p a t f is =
+fault-at grid earlier net elems i slots previous again taken full fault own within so_far p a t f
+    is =
     is ∙ (λ k. first_code fit_codes grid e.line (record {
       elem = Some e;
       previous = (p ∙ ap (λ (es : List Elem). last_or None (take i es)) own) k;
@@ -191,11 +200,13 @@ pub record Passes (grid : Size) (at : LineContext) : Type 0 where
 pub passes : (grid : Size) (n : ℕ) (at : LineContext) → first_code fit_codes grid n at ≡ None
     → Passes grid at
 passes grid n at clean =
-    go (leaps grid at) (comes_again at) (starts_loose at) at.taken (is_out_of_order at) (slots_past at)
+    go (leaps grid at) (comes_again at) (starts_loose at) at.taken (is_out_of_order at)
+    (slots_past at)
     refl refl clean
   where
     go : (a b c d e : Bool) (o : Option ℕ) → leaps grid at ≡ a → slots_past at ≡ o
-        → (if a then Some (Bad n 510) else if b then Some (Bad n 511) else if c then Some (Bad n 512)
+        → (if a then Some (Bad n 510) else if b then Some (Bad n 511) else if c then Some
+        (Bad n 512)
         else if d then Some (Bad n 513) else if e then Some (Bad n 514)
         else option_or (option_map (λ m. Limit 515 m) o) None) ≡ None → Passes grid at
     go true b c d e o p q f = absurd (let clash : Some (Bad n 510) ≡ None = f in cc)
@@ -207,7 +218,9 @@ passes grid n at clean =
         absurd (let clash : Some (Limit 515 m) ≡ None = f in cc)
     go false false false false false None p q f = record { leaps = p; past = q }
 
-slot_channel : (n : ℕ) (k : ElemKind) (x y : ℕ) (s : Slot) → option_map {T = Cell} {U = Slot} (λ cell. record { net = n; cell = cell }) (channel_at k x y) ≡ Some s → is_channel k ≡ true
+slot_channel : (n : ℕ) (k : ElemKind) (x y : ℕ) (s : Slot)
+    → option_map {T = Cell} {U = Slot} (λ cell. record { net = n; cell = cell }) (channel_at k x y)
+    ≡ Some s → is_channel k ≡ true
 slot_channel n Source x y s h = cc
 slot_channel n Opin x y s h = cc
 slot_channel n ChanX x y s h = refl
@@ -216,7 +229,8 @@ slot_channel n Ipin x y s h = cc
 slot_channel n Sink x y s h = cc
 
 -- a slot that an element without a fault brings has room
-pub slot-room : (grid : Size) (earlier : List RouteNet) (net : RouteNet) (i : ℕ) (e : Elem) (s : Slot)
+pub slot-room : (grid : Size) (earlier : List RouteNet) (net : RouteNet) (i : ℕ) (e : Elem)
+    (s : Slot)
     → line_fault grid (elem_line earlier net i e) ≡ None → elem_slot (length earlier) e ≡ Some s
     → list_any (same_slot s) (slots_so_far earlier net i) ≡ false
     → length (slots_so_far earlier net i) ≤ SLOT_LIMIT
@@ -244,7 +258,8 @@ slot-room grid earlier net i e s clean slot new limit =
     below m p q = grind (arith, nat_tests)
 
 -- the slots once each element is read
-pub slots-all : (nets : List RouteNet) (n : ℕ) (net : RouteNet) (i : ℕ) → slice_get nets n ≡ Some net
+pub slots-all : (nets : List RouteNet) (n : ℕ) (net : RouteNet) (i : ℕ) → slice_get nets n
+    ≡ Some net
     → i ≡ length net.elems → slots_so_far (take n nets) net i ≡ slots_of (take (n + 1) nets)
 slots-all nets n net i here e =
     rw (e, take-length net.elems, add-one, take-get nets n net here) refl
@@ -254,7 +269,8 @@ pub head-fault : (grid : Size) (earlier : List RouteNet) (net : RouteNet) (bare 
     → bare ≡ ((length net.elems == 0) && not net.global) → line_fault grid (head_line earlier net)
     ≡ (if bare then Some (Bad net.line 514) else None)
 head-fault grid earlier net bare is =
-    go (length net.elems == 0) net.global ∙ ap (λ b. if b then Some (Bad net.line 514) else None) (sym is)
+    go (length net.elems == 0) net.global
+    ∙ ap (λ b. if b then Some (Bad net.line 514) else None) (sym is)
   where
     go : (b g : Bool) → (if not g && (false || b && true) then Some (Bad net.line 514) else None)
         ≡ (if b && not g then Some (Bad net.line 514) else None)

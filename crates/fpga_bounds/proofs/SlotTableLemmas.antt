@@ -31,8 +31,11 @@ last_apart true true x y = refl
 -- slots tie where they are one
 pub slot_ties : (a b : Slot) → is_eq (slot_cmp a b) ≡ same_slot b a
 slot_ties a b =
-    then_ties _ _ _ _ (nat_ties a.net b.net) (then_ties _ _ _ _ (axis_ties a.cell.axis b.cell.axis) (then_ties _ _ _ _ (nat_ties a.cell.x b.cell.x) (nat_ties a.cell.y b.cell.y)))
-    ∙ last_apart (b.net == a.net) (same_axis b.cell.axis a.cell.axis) (b.cell.x == a.cell.x) (b.cell.y == a.cell.y)
+    then_ties _ _ _ _ (nat_ties a.net b.net)
+    (then_ties _ _ _ _ (axis_ties a.cell.axis b.cell.axis)
+    (then_ties _ _ _ _ (nat_ties a.cell.x b.cell.x) (nat_ties a.cell.y b.cell.y)))
+    ∙ last_apart (b.net == a.net) (same_axis b.cell.axis a.cell.axis) (b.cell.x == a.cell.x)
+    (b.cell.y == a.cell.y)
 
 pub same_slot-is : (a b : Slot) → same_slot a b ≡ true → a ≡ b
 same_slot-is a b h =
@@ -45,11 +48,13 @@ pub same_slot-itself : (a : Slot) → same_slot a a ≡ true
 same_slot-itself a = rw ((Decides-eqb a.net a.net).1 refl, same_cell-itself a.cell) refl
 
 -- a place is found where an element passes
-pub found-any : {T : Type 0} (p : T → Bool) (i : ℕ) (xs : List T) → is_some (position_from p i xs) ≡ list_any p xs
+pub found-any : {T : Type 0} (p : T → Bool) (i : ℕ) (xs : List T) → is_some (position_from p i xs)
+    ≡ list_any p xs
 found-any p i [] = refl
 found-any {T} p i (x ∷ xs) = rw (← found-any p (i + 1) xs) (go (p x))
   where
-    go : (b : Bool) → is_some (cond b (Some i) (position_from p (i + 1) xs)) ≡ (b || is_some (position_from p (i + 1) xs))
+    go : (b : Bool) → is_some (cond b (Some i) (position_from p (i + 1) xs))
+        ≡ (b || is_some (position_from p (i + 1) xs))
     go true = refl
     go false = refl
 
@@ -58,16 +63,22 @@ or_else (Some n) o = Some n
 or_else None o = o
 
 -- one element more is found where no earlier one was
-found-push : {T : Type 0} (p : T → Bool) (i : ℕ) (xs : List T) (x : T) → position_from p i (xs ++ x ∷ []) ≡ or_else (position_from p i xs) (cond (p x) (Some (i + length xs)) None)
+found-push : {T : Type 0} (p : T → Bool) (i : ℕ) (xs : List T) (x : T)
+    → position_from p i (xs ++ x ∷ [])
+    ≡ or_else (position_from p i xs) (cond (p x) (Some (i + length xs)) None)
 found-push p i [] x = rw add-zero refl
 found-push {T} p i (y ∷ ys) x = rw (found-push p (i + 1) ys x) (go (p y))
   where
-    go : (b : Bool) → cond b (Some i) (or_else (position_from p (i + 1) ys) (cond (p x) (Some (i + 1 + length ys)) None)) ≡ or_else (cond b (Some i) (position_from p (i + 1) ys)) (cond (p x) (Some (i + length (y ∷ ys))) None)
+    go : (b : Bool) → cond b (Some i)
+        (or_else (position_from p (i + 1) ys) (cond (p x) (Some (i + 1 + length ys)) None))
+        ≡ or_else (cond b (Some i) (position_from p (i + 1) ys))
+        (cond (p x) (Some (i + length (y ∷ ys))) None)
     go true = refl
     go false = let e : i + 1 + length ys ≡ i + length (y ∷ ys) = omega arith in rw e refl
 
 -- a number that is found is the slot's
-pub number-found : (all : List Slot) (s : Slot) (n : ℕ) → position_from (same_slot s) 0 all ≡ Some n → slot_number all s ≡ n
+pub number-found : (all : List Slot) (s : Slot) (n : ℕ) → position_from (same_slot s) 0 all ≡ Some n
+    → slot_number all s ≡ n
 number-found all s n h = go _ _ (position_from-zero (same_slot s) all ∙ h)
   where
     go : (b : Bool) (m : ℕ) → cond b (Some m) None ≡ Some n → m ≡ n
@@ -75,27 +86,39 @@ number-found all s n h = go _ _ (position_from-zero (same_slot s) all ∙ h)
     go false m e = cc
 
 -- a slot that is not found has the number of slots
-pub number-none : (all : List Slot) (s : Slot) → position_from (same_slot s) 0 all ≡ None → slot_number all s ≡ length all
+pub number-none : (all : List Slot) (s : Slot) → position_from (same_slot s) 0 all ≡ None
+    → slot_number all s ≡ length all
 number-none all s h = go _ _ refl (position_from-zero (same_slot s) all ∙ h)
   where
-    go : (b : Bool) (m : ℕ) → nat_lt (slot_number all s) (length all) ≡ b → cond b (Some m) None ≡ None → slot_number all s ≡ length all
+    go : (b : Bool) (m : ℕ) → nat_lt (slot_number all s) (length all) ≡ b → cond b (Some m) None
+        ≡ None → slot_number all s ≡ length all
     go true m e f = cc
-    go false m e f = let up : slot_number all s ≤ length all = prefix_len-le-length (λ x. not (same_slot s x)) all in grind (arith, nat_tests)
+    go false m e f =
+        let up : slot_number all s ≤ length all =
+        prefix_len-le-length (λ x. not (same_slot s x)) all in grind (arith, nat_tests)
 
 -- a slot more, where it was not found
 pub numbered-push : (all : List Slot) (slot q : Slot) → list_any (same_slot slot) all ≡ false
-    → cond (is_eq (slot_cmp slot q)) (Some (length all)) (position_from (same_slot q) 0 all) ≡ position_from (same_slot q) 0 (all ++ slot ∷ [])
-numbered-push all slot q h = rw (slot_ties slot q, found-push (same_slot q) 0 all slot) (go (same_slot q slot) refl)
+    → cond (is_eq (slot_cmp slot q)) (Some (length all)) (position_from (same_slot q) 0 all)
+    ≡ position_from (same_slot q) 0 (all ++ slot ∷ [])
+numbered-push all slot q h =
+    rw (slot_ties slot q, found-push (same_slot q) 0 all slot) (go (same_slot q slot) refl)
   where
     none : (o : Option ℕ) → is_some o ≡ false → o ≡ None
     none None e = refl
     none (Some n) e = cc
 
-    go : (b : Bool) → same_slot q slot ≡ b → cond b (Some (length all)) (position_from (same_slot q) 0 all) ≡ or_else (position_from (same_slot q) 0 all) (cond b (Some (0 + length all)) None)
+    go : (b : Bool) → same_slot q slot ≡ b
+        → cond b (Some (length all)) (position_from (same_slot q) 0 all)
+        ≡ or_else (position_from (same_slot q) 0 all) (cond b (Some (0 + length all)) None)
     go true e =
         let one : q ≡ slot = same_slot-is q slot e in
-        let none_here : list_any (same_slot q) all ≡ false = subst (λ (w : Slot). list_any (same_slot w) all ≡ false) (sym one) h in
-        rw (none (position_from (same_slot q) 0 all) (found-any (same_slot q) 0 all ∙ none_here), zero-add) refl
+        let none_here : list_any (same_slot q) all ≡ false =
+        subst (λ (w : Slot). list_any (same_slot w) all ≡ false) (sym one) h in
+        rw (
+          none (position_from (same_slot q) 0 all) (found-any (same_slot q) 0 all ∙ none_here),
+          zero-add,
+        ) refl
     go false e = keep (position_from (same_slot q) 0 all)
       where
         keep : (o : Option ℕ) → o ≡ or_else o None
@@ -103,11 +126,14 @@ numbered-push all slot q h = rw (slot_ties slot q, found-push (same_slot q) 0 al
         keep (Some n) = refl
 
 -- whether a table has a slot, by its numbers
-pub has-numbered : (all : List Slot) (numbers : BTreeMap Slot ℕ) (s : Slot) → IsNumbered all numbers → is_some (get slot_cmp numbers s) ≡ list_any (same_slot s) all
+pub has-numbered : (all : List Slot) (numbers : BTreeMap Slot ℕ) (s : Slot) → IsNumbered all numbers
+    → is_some (get slot_cmp numbers s) ≡ list_any (same_slot s) all
 has-numbered all numbers s h = rw h.found (found-any (same_slot s) 0 all)
 
 -- a table with one slot more
-pub numbered-more : (all : List Slot) (m n : BTreeMap Slot ℕ) (slot : Slot) (k : ℕ) → IsNumbered all m → list_any (same_slot slot) all ≡ false → length all < 200000 → k ≡ length all → Updates slot_cmp m n slot (Some k) → IsNumbered (all ++ slot ∷ []) n
+pub numbered-more : (all : List Slot) (m n : BTreeMap Slot ℕ) (slot : Slot) (k : ℕ)
+    → IsNumbered all m → list_any (same_slot slot) all ≡ false → length all < 200000 → k
+    ≡ length all → Updates slot_cmp m n slot (Some k) → IsNumbered (all ++ slot ∷ []) n
 numbered-more all m n slot k h new room e u = record {
   found = λ q. u.0 q ∙ rw (e, h.found q) (numbered-push all slot q new);
   limit = rw length-append (omega arith);

@@ -1,4 +1,5 @@
--- The orders by which elements and slots are kept, and what a set of elements and a table of slots have.
+-- The orders by which elements and slots are kept, and what a set of elements and a table of slots
+-- have.
 use Rattle.std.specs.Prelude.{◌≡◌, Bool, ◌&&◌, ◌||◌, List, if◌then◌else◌}
 use Rattle.std.specs.List.{list_any}
 use Rattle.std.specs.declared.cmp.Ordering.{Ordering}

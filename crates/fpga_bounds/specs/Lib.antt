@@ -1,6 +1,5 @@
 pub mod ElemContext
 pub mod Keys
-pub mod Meets
 pub mod NetFit
 pub mod Pairs
 pub mod Problem

@@ -23,7 +23,8 @@ with_elem all net e = option_map_or (with_slot all) (elem_slot net e) all
 
 -- the slots of the nets before one, and of the first elements of that
 abbrev pub slots_so_far : List RouteNet → RouteNet → ℕ → List Slot
-slots_so_far earlier net count = slots_of (earlier ++ record net { elems = take count net.elems } ∷ [])
+slots_so_far earlier net count =
+    slots_of (earlier ++ record net { elems = take count net.elems } ∷ [])
 
 -- where the element brings a slot that is none of these, there are fewer than 200,000
 abbrev pub HasRoomFor : List Slot → ℕ → Elem → Type 0

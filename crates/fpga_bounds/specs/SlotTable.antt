@@ -12,7 +12,8 @@ use Rattle.fpga_types.specs.contracts.problem.SlotOrd.TheImpl as slot_ord
 abbrev pub slot_cmp : Slot → Slot → Ordering
 slot_cmp = (slot_ord.ghosts).cmp
 
--- each slot is found at the number of its first place, no other is found, and there are at most 200,000
+-- each slot is found at the number of its first place, no other is found, and there are at most
+-- 200,000
 pub record IsNumbered (all : List Slot) (numbers : BTreeMap Slot ℕ) : Type 0 where
   pub found : (s : Slot) → get slot_cmp numbers s ≡ position_from (same_slot s) 0 all
   pub limit : length all ≤ SLOT_LIMIT

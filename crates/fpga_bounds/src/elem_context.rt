@@ -1,13 +1,14 @@
 //! What is wrong with an element line, from what the codes look at.
-ghost use Rattle.std.specs.Prelude.{◌≡◌, is_some, option_and_then};
+ghost use Rattle.std.specs.Prelude.{◌≡◌, is_none, is_some, option_and_then};
 ghost use Rattle.fpga_text.specs.Codes.{first_code};
 ghost use Rattle.fpga_bounds.specs.ElemContext.{context_at};
+ghost use Rattle.fpga_types.specs.Fabric.{meeting};
 ghost use Rattle.fpga_types.specs.Fit as fit;
 ghost use Rattle.fpga_types.specs.Fit.{fit_codes, leaps, comes_again, starts_loose, is_out_of_order, slots_past};
 
-use crate::meets::cells_meet;
+use fpga_fabric::meet;
 use fpga_text::TextFault;
-use fpga_types::{Elem, ElemKind, FitCause, Grid, SLOT_LIMIT};
+use fpga_types::{Cell, Elem, ElemKind, FitCause, Grid, SLOT_LIMIT};
 
 /// What the codes of an element line look at.
 #[derive(Clone, Copy, Debug)]
@@ -67,7 +68,20 @@ fn is_leap(grid: Grid, at: ElemContext) -> bool
     let Some(to) = at.elem.cell() else {
         return false;
     };
-    !cells_meet(grid, from, to)
+    are_apart(grid, from, to)
+}
+
+/// Whether no switch block of the array has both cells. True too where one is no cell of the array.
+fn are_apart(grid: Grid, from: Cell, to: Cell) -> bool
+    ensures { result ≡ is_none (meeting grid from to) }
+{
+    if !grid.has_cell(from) {
+        return true;
+    }
+    if !grid.has_cell(to) {
+        return true;
+    }
+    meet(grid, from, to).is_none()
 }
 
 /// Whether the element stands after a SINK.

@@ -4,7 +4,6 @@
 mod copy;
 mod elem_context;
 mod keys;
-mod meets;
 mod net_check;
 mod pairs;
 mod problem;
@@ -15,5 +14,4 @@ mod step_list;
 #[cfg(test)]
 mod tests;
 
-pub use meets::cells_meet;
 pub use problem::{Problem, fit_route};

@@ -55,7 +55,8 @@ fn add_step(
     from: Option<u32>,
     to: Option<u32>,
 ) -> Result<(), AllocError>
-    ensures { OnOk result (found.new.items ≡ found.old.items ++ option_to_list (step_between from to)) }
+    ensures { OnOk result (found.new.items ≡ found.old.items ++ option_to_list
+        (step_between from to)) }
 {
     let Some(from) = from else {
         return Ok(());

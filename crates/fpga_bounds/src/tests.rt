@@ -1,5 +1,5 @@
-//! Small routes, and a long one.
-use crate::{Problem, cells_meet, fit_route};
+//! Small routes.
+use crate::{Problem, fit_route};
 use fpga_route::read_route;
 use fpga_text::TextFault;
 use fpga_types::{Axis, Cell, Grid};
@@ -7,10 +7,14 @@ use std::alloc::Global;
 use std::test::Fail;
 
 const BRANCH: &[u8] =
-    b"Array size: 2 x 2 logic blocks.\nRouting:\nNet 0 (a)\nSOURCE (1,1) Class: 1\nOPIN (1,1) Pin: 4\nCHANX (1,1) Track: 0\nCHANX (2,1) Track: 0\nIPIN (2,1) Pin: 0\nSINK (2,1) Class: 0\nCHANX (1,1) Track: 0\nCHANY (1,2) Track: 0\nIPIN (1,2) Pin: 0\nSINK (1,2) Class: 0\n";
+    b"Array size: 2 x 2 logic blocks.\nRouting:\nNet 0 (a)\nSOURCE (1,1) Class: 1\n\
+      OPIN (1,1) Pin: 4\nCHANX (1,1) Track: 0\nCHANX (2,1) Track: 0\nIPIN (2,1) Pin: 0\n\
+      SINK (2,1) Class: 0\nCHANX (1,1) Track: 0\nCHANY (1,2) Track: 0\nIPIN (1,2) Pin: 0\n\
+      SINK (1,2) Class: 0\n";
 
-const LEAP: &[u8] =
-    b"Array size: 2 x 2 logic blocks.\nRouting:\nNet 0 (a)\nSOURCE (1,1) Class: 1\nOPIN (1,1) Pin: 4\nCHANX (1,1) Track: 0\nCHANX (1,2) Track: 0\nIPIN (1,2) Pin: 0\nSINK (1,2) Class: 0\n";
+const LEAP: &[u8] = b"Array size: 2 x 2 logic blocks.\nRouting:\nNet 0 (a)\nSOURCE (1,1) Class: 1\n\
+      OPIN (1,1) Pin: 4\nCHANX (1,1) Track: 0\nCHANX (1,2) Track: 0\nIPIN (1,2) Pin: 0\n\
+      SINK (1,2) Class: 0\n";
 
 /// The problem that a route text says.
 fn problem(alloc: Global, text: &[u8]) -> Result<Problem, Fail> {
@@ -66,53 +70,4 @@ fn a_net_whose_cells_do_not_meet(rt: HostRuntime) -> Result<(), Fail> {
         )
     );
     Ok(())
-}
-
-/// A route text of one net through each cell of the rows of an array of 100 by 100, row by row and
-/// to and fro, by the cells of columns at its sides.
-fn long_net(alloc: Global) -> Result<Vec<u8>, Fail> {
-    let mut text = Vec::from_slice(
-        alloc,
-        b"Array size: 100 x 100 logic blocks.\nRouting:\nNet 0 (a)\n",
-    )?;
-    text.extend_from_slice(b"SOURCE (1,1) Class: 1\nOPIN (1,1) Pin: 4\n")?;
-    for y in 0..101u32 {
-        for step in 0..100u32 {
-            let x = if y % 2 == 0 { step + 1 } else { 100 - step };
-            let line = format!(in alloc; "CHANX ({x},{y}) Track: 0\n")?;
-            text.extend_from_slice(line.as_bytes())?;
-        }
-        if y < 100 {
-            let x = if y % 2 == 0 { 100 } else { 0 };
-            let line = format!(in alloc; "CHANY ({x},{}) Track: 0\n", y + 1)?;
-            text.extend_from_slice(line.as_bytes())?;
-        }
-    }
-    text.extend_from_slice(b"IPIN (1,1) Pin: 0\nSINK (1,1) Class: 0\n")?;
-    Ok(text)
-}
-
-#[test]
-fn no_limit_on_steps_keeps_a_long_net_from_fitting(rt: HostRuntime) -> Result<(), Fail> {
-    let text = long_net(rt.alloc())?;
-    let problem = problem(rt.alloc(), text.as_slice())?;
-    assert_eq!(rt;
-        (problem.slots().len(), problem.steps().len()),
-        (10_200, 10_199)
-    );
-    Ok(())
-}
-
-#[test]
-fn cells_that_meet_and_cells_that_do_not(rt: HostRuntime) {
-    let grid = Grid { nx: 2, ny: 2 };
-    let cell = |axis, x, y| Cell { axis, x, y };
-    let row = cell(Axis::X, 1, 1);
-    for (other, meet) in [
-        (cell(Axis::Y, 1, 2), true),
-        (cell(Axis::X, 0, 1), false),
-        (cell(Axis::Y, 2, 1), false),
-    ] {
-        assert_eq!(rt; cells_meet(grid, row, other), meet, "{other:?}");
-    }
 }

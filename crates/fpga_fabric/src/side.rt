@@ -1,6 +1,5 @@
 //! Which cells a pin touches.
 ghost use Rattle.std.specs.Prelude.{◌≡◌, ◌↔◌, ◌+◌, ◌==◌, ◌<◌, IsTrue, ◌&&◌, length};
-ghost use Rattle.fpga_types.specs.Fabric.{is_cell};
 ghost use Rattle.fpga_types.specs.Pins.{HasPin};
 ghost use Rattle.fpga_types.specs.Touching.{Touches, has_side, is_beside, is_on_side, lies_along, looks_in, touches};
 
@@ -16,21 +15,11 @@ pub fn touches(arch: &Arch, grid: Grid, pin: PinAt, cell: Cell) -> bool
     ensures found { result ≡ touches arch.now grid pin cell }
     ensures is { IsTrue result ↔ Touches arch.now grid pin cell }
 {
-    has_cell(grid, cell)
+    grid.has_cell(cell)
         && (meets_side(arch, grid, pin, cell, Side::Left)
             || meets_side(arch, grid, pin, cell, Side::Right)
             || meets_side(arch, grid, pin, cell, Side::Bottom)
             || meets_side(arch, grid, pin, cell, Side::Top))
-}
-
-/// Whether the cell is one of the array.
-fn has_cell(grid: Grid, cell: Cell) -> bool
-    ensures { result ≡ is_cell grid cell }
-{
-    match cell.axis {
-        Axis::X => 1 <= cell.x && cell.x <= grid.nx && cell.y <= grid.ny,
-        Axis::Y => cell.x <= grid.nx && 1 <= cell.y && cell.y <= grid.ny,
-    }
 }
 
 /// Whether the pin is on this side of its place, and the cell lies along it.

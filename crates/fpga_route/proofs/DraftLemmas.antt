@@ -98,7 +98,8 @@ takes_line-elem old new line e h taken = record {
           kept = nothing_more taken.net.kept i;
         });
       }) more)
-      ∙ nets_with-line old.closed old.grid taken.net line (ElemForm e) (Some (elem_of line.number e))
+      ∙ nets_with-line old.closed old.grid taken.net line (ElemForm e)
+      (Some (elem_of line.number e))
       None more (sym h) refl refl refl refl
       ∙ (λ i. nets_with (record old { open_net = sym taken.was i }) (line ∷ more));
 }

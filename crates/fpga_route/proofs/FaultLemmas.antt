@@ -24,14 +24,17 @@ use Rattle.fpga_route.specs.Standings.{context_at, later_fault}
 pub by_context : (lines : List TextLine) (count : ℕ) → lines_faults lines count
     ≡ faults_from behind route_codes START (forms lines) (count + 1)
 by_context lines count =
-    faults_behind-from behind route_codes (λ before form. fold-append behind START before (form ∷ []))
+    faults_behind-from behind route_codes
+    (λ before form. fold-append behind START before (form ∷ []))
     [] (forms lines) (count + 1)
 
 -- the first fault from context to context is the one of the text
 module _ (lines : List TextLine) (count : ℕ) (found : TextFault) where
-  by_first : IsFaultOf (first_fault (faults_from behind route_codes START (forms lines) (count + 1))) found
+  by_first : IsFaultOf (first_fault
+      (faults_from behind route_codes START (forms lines) (count + 1))) found
       → IsRefusal (lines_faults lines count) found
-  by_first is = subst (λ (faults : Faults). IsRefusal faults found) (sym (by_context lines count)) is
+  by_first is =
+      subst (λ (faults : Faults). IsRefusal faults found) (sym (by_context lines count)) is
 
 -- a text without lines
 pub refused-empty : (count : ℕ) → IsRefusal (lines_faults [] count) (Bad (count + 1) 401)
@@ -46,7 +49,8 @@ refused-array first (second ∷ more) count found is =
     by_first (first ∷ second ∷ more) count found (fault-first _ _ found is)
 
 -- no array line ends the head
-pub in_head : (o : Option SizeWords) → (behind START (option_map_or Array o OtherHead)).in_body ≡ false
+pub in_head : (o : Option SizeWords) → (behind START (option_map_or Array o OtherHead)).in_body
+    ≡ false
 in_head None = refl
 in_head (Some size) = refl
 
@@ -55,7 +59,8 @@ pub refused-short : (first : TextLine) (count : ℕ)
     → array_fault first.number (array_form first.words) ≡ None
     → IsRefusal (lines_faults (first ∷ []) count) (Bad (count + 1) 401)
 refused-short first count clean =
-    by_first (first ∷ []) count (Bad (count + 1) 401) (rw (clean, in_head (size_words first.words)) refl)
+    by_first (first ∷ []) count (Bad (count + 1) 401)
+    (rw (clean, in_head (size_words first.words)) refl)
 
 -- the second line is not `Routing:`
 pub refused-routing : (first second : TextLine) (more : List TextLine) (count : ℕ)
@@ -77,9 +82,11 @@ pub past_head : (old new : LinesAhead) (head : Head) (draft : Progress) → IsHe
     → IsPast (lines_faults old.ahead old.total) (faults_ahead draft new)
 past_head old new head draft is begun = record {
   same = ap first_fault (by_context old.ahead old.total)
-      ∙ (λ i. first_fault (faults_from behind route_codes START (forms (is.ahead i)) (sym is.total i + 1)))
+      ∙ (λ i. first_fault (faults_from behind route_codes START (forms (is.ahead i))
+      (sym is.total i + 1)))
       ∙ (λ i. option_or (is.clean i) (option_or
-      (line_fault route_codes (behind START (array_form is.first.words)) is.second.number (is.routing i))
+      (line_fault route_codes (behind START (array_form is.first.words)) is.second.number
+      (is.routing i))
       (first_fault (faults_from behind route_codes
       (behind (array-behind (array_form is.first.words) head.grid is.grid i) (is.routing i))
       (later_forms new.ahead) (new.total + 1)))))
@@ -87,7 +94,8 @@ past_head old new head draft is begun = record {
 }
 
 -- behind a line that was taken
-pub past_line : {all : Faults} (draft draft_after : Progress) (old new : LinesAhead) (line : TextLine)
+pub past_line : {all : Faults} (draft draft_after : Progress) (old new : LinesAhead)
+    (line : TextLine)
     → IsTaken old new line → TakesLine draft draft_after line → IsPast all (faults_ahead draft old)
     → IsPast all (faults_ahead draft_after new)
 past_line {all} draft draft_after old new line taken takes past =

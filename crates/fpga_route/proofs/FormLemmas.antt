@@ -99,7 +99,8 @@ elem_words-takes _ e said = absurd (let clash : None ≡ Some e = said in cc)
 -- the kind of an element line takes its label
 pub takes-elem : (words : Words) (e : ElemWords) → later_form words ≡ Elem e
     → takes e.kind e.label ≡ true
-takes-elem words e is = go (net_words words) (elem_words words) refl (is_block words) (is_span words) is
+takes-elem words e is =
+    go (net_words words) (elem_words words) refl (is_block words) (is_span words) is
   where
     go : (n : Option NetWords) (o : Option ElemWords) → elem_words words ≡ o → (b s : Bool)
         → of_parts n o b s ≡ Elem e → takes e.kind e.label ≡ true

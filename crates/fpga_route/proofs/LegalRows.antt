@@ -27,9 +27,16 @@ one_net (suc zero) h = refl
 one_net (suc (suc zero)) h = refl
 one_net (suc (suc (suc k))) h = absurd (omega arith)
 
-joined_at : (k : ℕ) (d : RouteStep) → k < 2 → AreJoined subset_track route.grid (wire_of (slots route) tracks (slice_index_or (steps route) k d).from) (wire_of (slots route) tracks (slice_index_or (steps route) k d).to)
-joined_at zero d h = across-joined subset_track route.grid (wire_of (slots route) tracks 0) (wire_of (slots route) tracks 1) refl
-joined_at (suc zero) d h = across-joined subset_track route.grid (wire_of (slots route) tracks 0) (wire_of (slots route) tracks 2) refl
+joined_at : (k : ℕ) (d : RouteStep) → k < 2
+    → AreJoined subset_track route.grid
+    (wire_of (slots route) tracks (slice_index_or (steps route) k d).from)
+    (wire_of (slots route) tracks (slice_index_or (steps route) k d).to)
+joined_at zero d h =
+    across-joined subset_track route.grid (wire_of (slots route) tracks 0)
+    (wire_of (slots route) tracks 1) refl
+joined_at (suc zero) d h =
+    across-joined subset_track route.grid (wire_of (slots route) tracks 0)
+    (wire_of (slots route) tracks 2) refl
 joined_at (suc (suc k)) d h = absurd (omega arith)
 
 -- one net needs one track

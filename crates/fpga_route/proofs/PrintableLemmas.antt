@@ -42,18 +42,23 @@ use Rattle.fpga_route.proofs.PrintedLemmas.{IsPrintableElem, IsKeptLine, IsPrint
 use Rattle.fpga_route.proofs.ReadBackLemmas.{reads_back}
 
 -- what each element passes, each of a part passes
-all_take : {X : Type 0} (p : X → Bool) (n : ℕ) (xs : List X) → list_all p xs ≡ true → list_all p (take n xs) ≡ true
+all_take : {X : Type 0} (p : X → Bool) (n : ℕ) (xs : List X) → list_all p xs ≡ true
+    → list_all p (take n xs) ≡ true
 all_take p zero xs all = refl
 all_take p (suc n) [] all = refl
-all_take p (suc n) (x ∷ xs) all = let parts = and_parts (p x) (list_all p xs) all in and_from (p x) (list_all p (take n xs)) parts.0 (all_take p n xs parts.1)
+all_take p (suc n) (x ∷ xs) all =
+    let parts = and_parts (p x) (list_all p xs) all in
+    and_from (p x) (list_all p (take n xs)) parts.0 (all_take p n xs parts.1)
 
-all_drop : {X : Type 0} (p : X → Bool) (n : ℕ) (xs : List X) → list_all p xs ≡ true → list_all p (drop n xs) ≡ true
+all_drop : {X : Type 0} (p : X → Bool) (n : ℕ) (xs : List X) → list_all p xs ≡ true
+    → list_all p (drop n xs) ≡ true
 all_drop p zero xs all = all
 all_drop p (suc n) [] all = refl
 all_drop p (suc n) (x ∷ xs) all = all_drop p n xs (and_parts (p x) (list_all p xs) all).1
 
 -- what was chosen is there
-chosen : {X : Type 0} (b : Bool) (o : Option X) (x : X) → (if b then o else None) ≡ Some x → o ≡ Some x
+chosen : {X : Type 0} (b : Bool) (o : Option X) (x : X) → (if b then o else None) ≡ Some x → o
+    ≡ Some x
 chosen true o x e = e
 chosen false o x e = absurd (let clash : None ≡ Some x = e in cc)
 
@@ -71,13 +76,15 @@ enclosed_bytes opening closing word mid is all =
     (drop (length opening) word) (all_drop is_word_byte (length opening) word all))
 
 -- the name of a net that has one
-named : (k : Bytes) (global : Bool) (o : Option Bytes) (w : NetWords) → named_net k global o ≡ Some w
+named : (k : Bytes) (global : Bool) (o : Option Bytes) (w : NetWords) → named_net k global o
+    ≡ Some w
     → ((mid : Bytes) → o ≡ Some mid → list_all is_word_byte mid ≡ true) → IsWord w.name
 named k global None w e all = absurd (let clash : None ≡ Some w = e in cc)
 named k global (Some []) w e all = absurd (let clash : None ≡ Some w = e in cc)
 named k global (Some (b ∷ more)) w e all =
     let same : record { k = k; name = b ∷ more; global = global } ≡ w = cc in
-    subst (λ (v : NetWords). IsWord v.name) same (record { some = refl; bytes = all (b ∷ more) refl })
+    subst (λ (v : NetWords). IsWord v.name) same
+    (record { some = refl; bytes = all (b ∷ more) refl })
 
 -- the name of a Net line
 net_name : (ws : Words) (w : NetWords) → AllByRecursion IsWord ws → net_words ws ≡ Some w
@@ -116,7 +123,8 @@ small (Some n) e = ltb-true n (2 ^ 32) e
 
 -- an element line without a fault
 elem_can : (at : Standing) (line : TextLine) (w : ElemWords) → later_form line.words ≡ ElemForm w
-    → later_fault at line.number (ElemForm w) ≡ None → IsPrintableElem at.grid (elem_of line.number w)
+    → later_fault at line.number (ElemForm w) ≡ None
+    → IsPrintableElem at.grid (elem_of line.number w)
 elem_can at line w is clean =
     let facts = passed at line.number w clean in
     let numbers = three_parts (is_number is_32_bits w.x) (is_number is_32_bits w.y)
@@ -212,7 +220,8 @@ record SaysSize (form : Form) : Type 0 where
 size_can : (n : ℕ) (o : Option SizeWords) → array_fault n (option_map_or Array o OtherHead) ≡ None
     → SaysSize (option_map_or Array o OtherHead)
 size_can n None clean = absurd (let clash : Some (Bad n 401) ≡ None = clean in cc)
-size_can n (Some size) clean = numbers (whole_number_of size.nx) (whole_number_of size.ny) refl refl clean
+size_can n (Some size) clean =
+    numbers (whole_number_of size.nx) (whole_number_of size.ny) refl refl clean
   where
     past : Option ℕ → Option TextFault
     past o = option_or (option_map (λ m. Limit 407 m) o) None
@@ -248,7 +257,8 @@ size_can n (Some size) clean = numbers (whole_number_of size.nx) (whole_number_o
     numbers (Some x) None x_is y_is e = absurd (none_at (nat_lt 0 x) _ e)
     numbers (Some x) (Some y) x_is y_is e = record {
       grid = record { nx = x; ny = y };
-      says = λ i. option_and_then (λ p. option_map (λ q. record { nx = p; ny = q }) (y_is i)) (x_is i);
+      says = λ i. option_and_then (λ p. option_map (λ q. record { nx = p; ny = q }) (y_is i))
+          (x_is i);
       limited = apart x y (nat_lt 0 x) (nat_lt 0 y) (nat_lt SIDE_LIMIT x) (nat_lt SIDE_LIMIT y)
           refl refl refl refl e;
     }
@@ -256,7 +266,8 @@ size_can n (Some size) clean = numbers (whole_number_of size.nx) (whole_number_o
 -- the value of lines without a fault
 value_can : (lines : List TextLine) (count : ℕ) → IsFaultless (lines_faults lines count)
     → All (IsWhole Hash) lines → IsPrintable (value_of lines count)
-value_can lines count clean whole = go lines (sym (ap first_fault (by_context lines count)) ∙ clean) whole
+value_can lines count clean whole =
+    go lines (sym (ap first_fault (by_context lines count)) ∙ clean) whole
   where
     go : (ls : List TextLine)
         → IsFaultless (faults_from behind route_codes START (forms ls) (count + 1))
@@ -265,20 +276,24 @@ value_can lines count clean whole = go lines (sym (ap first_fault (by_context li
     go (first ∷ []) none all = absurd (
         let parts = faultless-line (array_fault first.number (array_form first.words))
         (end_fault route_codes (behind START (array_form first.words)) (count + 1) ∷ []) none in
-        let clash : Some (Bad (count + 1) 401) ≡ None = rw (in_head (size_words first.words)) at parts.1 in cc
+        let clash : Some (Bad (count + 1) 401) ≡ None =
+        rw (in_head (size_words first.words)) at parts.1 in cc
         )
     go (first ∷ second ∷ more) none all =
         let context = behind START (array_form first.words) in
-        let later = faults_from behind route_codes (behind context (routing_form second.words)) (later_forms more) (count + 1) in
+        let later = faults_from behind route_codes (behind context (routing_form second.words))
+        (later_forms more) (count + 1) in
         let routing = line_fault route_codes context second.number (routing_form second.words) in
-        let parts = faultless-line (array_fault first.number (array_form first.words)) (routing ∷ later) none in
+        let parts = faultless-line (array_fault first.number (array_form first.words))
+        (routing ∷ later) none in
         let size = size_can first.number (size_words first.words) parts.0 in
         by_routing size (is_routing second.words) (faultless-line routing later parts.1)
       where
         by_routing : SaysSize (array_form first.words) → (b : Bool)
             → (line_fault route_codes (behind START (array_form first.words)) second.number
             (if b then Routing else OtherHead) ≡ None)
-            × IsFaultless (faults_from behind route_codes (behind (behind START (array_form first.words))
+            × IsFaultless (faults_from behind route_codes
+            (behind (behind START (array_form first.words))
             (if b then Routing else OtherHead)) (later_forms more) (count + 1))
             → IsPrintable (value_of (first ∷ second ∷ more) count)
         by_routing size false rest =
@@ -295,7 +310,8 @@ value_can lines count clean whole = go lines (sym (ap first_fault (by_context li
               size = rw grid size.limited;
               limit = omega (arith, nets_limited at more (count + 1) clean_rest (omega arith));
               nets = rw grid (nets_can at more (count + 1) clean_rest
-                  (All-tail (IsWhole Hash) second more (All-tail (IsWhole Hash) first (second ∷ more) all)));
+                  (All-tail (IsWhole Hash) second more
+                  (All-tail (IsWhole Hash) first (second ∷ more) all)));
             }
 
 -- each value that was read
@@ -304,28 +320,44 @@ can_print text value reads = rw (reads.1)
     (value_can (text_lines Hash text) (line_count text) reads.0 (whole-lines Hash text))
 
 -- each track, and the 0 past their end
-small_track : (tracks : List ℕ) → All (λ t. t < 2 ^ 32) tracks → (s : ℕ) → slice_index tracks s < 2 ^ 32
+small_track : (tracks : List ℕ) → All (λ t. t < 2 ^ 32) tracks → (s : ℕ)
+    → slice_index tracks s < 2 ^ 32
 small_track [] all s = omega arith
 small_track (t ∷ more) all zero = all 0 0 (omega arith)
 small_track (t ∷ more) all (suc s) = small_track more (All-tail (λ n. n < 2 ^ 32) t more all) s
 
-module _ (grid : Size) (all : List Slot) (tracks : List ℕ) (fits : (s : ℕ) → slice_index tracks s < 2 ^ 32) where
+module _ (grid : Size) (all : List Slot) (tracks : List ℕ)
+    (fits : (s : ℕ) → slice_index tracks s < 2 ^ 32) where
   -- an element with its track
-  elem_with : (net : ℕ) (e : Elem) → IsPrintableElem grid e → IsPrintableElem grid (with_track all tracks net e)
+  elem_with : (net : ℕ) (e : Elem) → IsPrintableElem grid e
+      → IsPrintableElem grid (with_track all tracks net e)
   elem_with net e can = go (elem_slot net e)
     where
-      go : (o : Option Slot) → IsPrintableElem grid (option_map_or (λ slot. record e { number = slice_index tracks (slot_number all slot) }) o e)
+      go : (o : Option Slot) → IsPrintableElem grid
+          (option_map_or (λ slot. record e { number = slice_index tracks (slot_number all slot) }) o
+          e)
       go None = can
-      go (Some slot) = record { sound = record { label = can.sound.label; place = can.sound.place }; x = can.x; y = can.y; number = fits (slot_number all slot) }
+      go (Some slot) =
+          record {
+            sound = record { label = can.sound.label; place = can.sound.place };
+            x =
+                can.x;
+            y = can.y;
+            number = fits (slot_number all slot);
+          }
 
   -- each element of a net
-  elems_with : (net : ℕ) (elems : List Elem) → AllByRecursion (IsPrintableElem grid) elems → AllByRecursion (IsPrintableElem grid) (map (with_track all tracks net) elems)
+  elems_with : (net : ℕ) (elems : List Elem) → AllByRecursion (IsPrintableElem grid) elems
+      → AllByRecursion (IsPrintableElem grid) (map (with_track all tracks net) elems)
   elems_with net [] can = tt
   elems_with net (e ∷ more) can = (elem_with net e can.0, elems_with net more can.1)
 
   -- each net
   nets_with : (n : ℕ) (nets : List RouteNet) → AllByRecursion (IsPrintableNet grid) nets
-      → AllByRecursion (IsPrintableNet grid) (map (λ n. let net : RouteNet = n.1 in record net { elems = map (with_track all tracks n.0) net.elems }) (enumerate_from n nets))
+      → AllByRecursion (IsPrintableNet grid)
+      (map (λ n. let net : RouteNet =
+      n.1 in record net { elems = map (with_track all tracks n.0) net.elems })
+      (enumerate_from n nets))
   nets_with n [] can = tt
   nets_with n (net ∷ more) can = (
     record {
@@ -340,7 +372,8 @@ module _ (grid : Size) (all : List Slot) (tracks : List ℕ) (fits : (s : ℕ) �
   )
 
 -- a route with tracks
-can_print_tracks : (route : RouteText) (tracks : List ℕ) → All (λ t. t < 2 ^ 32) tracks → IsPrintable route → IsPrintable (route_of route tracks)
+can_print_tracks : (route : RouteText) (tracks : List ℕ) → All (λ t. t < 2 ^ 32) tracks
+    → IsPrintable route → IsPrintable (route_of route tracks)
 can_print_tracks route tracks small can = record {
   size = can.size;
   limit = rw (length-map, length-enumerate_from) can.limit;
@@ -352,5 +385,9 @@ pub read_back : (text : Bytes) (value : RouteText) → Reads text value → Read
 read_back text value reads = reads_back value (can_print text value reads)
 
 -- and with tracks of 32 bits
-pub tracks_read_back : (text : Bytes) (source route : RouteText) (tracks : List ℕ) → Reads text source → All (λ t. t < 2 ^ 32) tracks → route ≡ route_of source tracks → ReadsBack route
-tracks_read_back text source route tracks reads fits is = reads_back route (subst (λ (r : RouteText). IsPrintable r) (sym is) (can_print_tracks source tracks fits (can_print text source reads)))
+pub tracks_read_back : (text : Bytes) (source route : RouteText) (tracks : List ℕ)
+    → Reads text source → All (λ t. t < 2 ^ 32) tracks → route ≡ route_of source tracks
+    → ReadsBack route
+tracks_read_back text source route tracks reads fits is =
+    reads_back route (subst (λ (r : RouteText). IsPrintable r) (sym is)
+    (can_print_tracks source tracks fits (can_print text source reads)))

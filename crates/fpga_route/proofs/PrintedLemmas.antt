@@ -111,8 +111,10 @@ own_printed net false = printed_elems net.elems
 
 -- the pieces of a net in another order of joining
 regroup : (word number opening name closing newline own : Bytes)
-    → ((((word ++ number) ++ opening) ++ (name ++ (closing ++ (newline ++ newline)))) ++ own) ++ newline
-    ≡ ((word ++ (number ++ (opening ++ (name ++ closing)))) ++ newline) ++ (newline ++ (own ++ newline))
+    → ((((word ++ number) ++ opening) ++ (name ++ (closing ++ (newline ++ newline)))) ++ own)
+    ++ newline
+    ≡ ((word ++ (number ++ (opening ++ (name ++ closing)))) ++ newline)
+    ++ (newline ++ (own ++ newline))
 regroup word number opening name closing newline own = simp append_assoc
 
 -- a net with a newline behind it
@@ -130,9 +132,11 @@ printed_net-lines net =
         ≡ codes "\n\n" ++ (((codes "Net " ++ (decimal net.k ++ (codes " ("
         ++ (net.name ++ name_end global)))) ++ codes "\n") ++ (codes "\n" ++ (own ++ codes "\n")))
     parts true own = ap (λ (t : Bytes). codes "\n\n" ++ t)
-        (regroup (codes "Net ") (decimal net.k) (codes " (") net.name (name_end true) (codes "\n") own)
+        (regroup (codes "Net ") (decimal net.k) (codes " (") net.name (name_end true)
+        (codes "\n") own)
     parts false own = ap (λ (t : Bytes). codes "\n\n" ++ t)
-        (regroup (codes "Net ") (decimal net.k) (codes " (") net.name (name_end false) (codes "\n") own)
+        (regroup (codes "Net ") (decimal net.k) (codes " (") net.name (name_end false)
+        (codes "\n") own)
 
 -- the nets and the newline at the end
 printed_nets-lines : (nets : List RouteNet)
@@ -153,7 +157,8 @@ printed-lines route =
     ∙ head (all_ended (flat_map net_texts route.nets))
   where
     head : (rest : Bytes) → printed_head route.grid ++ (codes "\n" ++ rest)
-        ≡ (head_text route.grid ++ codes "\n") ++ (codes "\n" ++ ((codes "Routing:" ++ codes "\n") ++ rest))
+        ≡ (head_text route.grid ++ codes "\n")
+        ++ (codes "\n" ++ ((codes "Routing:" ++ codes "\n") ++ rest))
     head rest = simp append_assoc
 
 -- the lines of a text of whole lines
@@ -177,7 +182,8 @@ number_line : (n : ℕ) → n < 2 ^ 64 → list_all is_line_byte (decimal n) ≡
 number_line n fits = word-line (decimal n) (decimal-word n fits).bytes
 
 -- the array line is whole
-head_whole : (grid : Size) → AreLimited grid.nx grid.ny → list_all is_line_byte (head_text grid) ≡ true
+head_whole : (grid : Size) → AreLimited grid.nx grid.ny → list_all is_line_byte (head_text grid)
+    ≡ true
 head_whole grid size =
     both-pass is_line_byte (decimal grid.nx) _ (number_line grid.nx (limited grid.nx size.nx_below))
     (both-pass is_line_byte (decimal grid.ny) (codes " logic blocks.")
@@ -281,16 +287,19 @@ net_parts net = record { k = decimal net.k; name = net.name; global = net.global
 pub net_says : (net : RouteNet) → net.k < 2 ^ 64 → IsWord net.name
     → later_form (said Hash (net_text net)) ≡ Net (net_parts net)
 net_says net k name =
-    ap later_form (said-line Hash (net_text net) (net_whole net k name) ∙ (λ i. codes "Net" ∷ number i))
+    ap later_form (said-line Hash (net_text net) (net_whole net k name)
+    ∙ (λ i. codes "Net" ∷ number i))
     ∙ go net.global
   where
     number : words (decimal net.k ++ (codes " (" ++ (net.name ++ name_end net.global)))
         ≡ decimal net.k ∷ words (codes "(" ++ (net.name ++ name_end net.global))
-    number = words-word (decimal net.k) (codes "(" ++ (net.name ++ name_end net.global)) (decimal-word net.k k)
+    number = words-word (decimal net.k) (codes "(" ++ (net.name ++ name_end net.global))
+        (decimal-word net.k k)
 
     one_word : (closing : Bytes) → list_all is_word_byte closing ≡ true
         → IsWord (codes "(" ++ (net.name ++ closing))
-    one_word closing e = record { some = refl; bytes = both-pass is_word_byte net.name closing name.bytes e }
+    one_word closing e =
+        record { some = refl; bytes = both-pass is_word_byte net.name closing name.bytes e }
 
     named : (global : Bool) (text : Bytes) → is_empty text ≡ false
         → named_net (decimal net.k) global (Some text)
@@ -299,7 +308,8 @@ net_says net k name =
     named global (b ∷ more) some = refl
 
     go : (global : Bool)
-        → later_form (codes "Net" ∷ decimal net.k ∷ words (codes "(" ++ (net.name ++ name_end global)))
+        → later_form (codes "Net" ∷ decimal net.k ∷ words
+        (codes "(" ++ (net.name ++ name_end global)))
         ≡ Net (record { k = decimal net.k; name = net.name; global = global })
     go true = ap (λ (ws : Words). later_form (codes "Net" ∷ decimal net.k ∷ ws))
         (ap (λ (t : Bytes). words (codes "(" ++ t))
@@ -307,11 +317,13 @@ net_says net k name =
         ∙ words-word (codes "(" ++ (net.name ++ codes "):")) (codes "global net connecting:")
         (one_word (codes "):") refl))
         ∙ (λ i. option_map_or Net ((ap (named_net (decimal net.k) true)
-        (enclosed-between net.name (codes "):") refl) ∙ named true net.name name.some) i) (later_form []))
+        (enclosed-between net.name (codes "):") refl) ∙ named true net.name name.some) i)
+        (later_form []))
     go false = ap (λ (ws : Words). later_form (codes "Net" ∷ decimal net.k ∷ ws))
         (words-end (codes "(" ++ (net.name ++ codes ")")) (one_word (codes ")") refl))
         ∙ (λ i. option_map_or Net ((ap (named_net (decimal net.k) false)
-        (enclosed-between net.name (codes ")") refl) ∙ named false net.name name.some) i) (later_form []))
+        (enclosed-between net.name (codes ")") refl) ∙ named false net.name name.some) i)
+        (later_form []))
 
 -- the place of an element is one word
 place_is_word : (x y : ℕ) → x < 2 ^ 64 → y < 2 ^ 64 → IsWord (place_text x y)
@@ -327,7 +339,8 @@ place_says : (x y : ℕ) → x < 2 ^ 64 → place_words (place_text x y) ≡ Som
 place_says x y small =
     ap comma_parts (enclosed-between (decimal x ++ (codes "," ++ decimal y)) (codes ")") refl)
     ∙ comma_parts-between (decimal x) (decimal y)
-    (decimal-pass (λ b. not (is_comma b)) (λ c least most. ap not (digit-differs 44 c least most (inl (omega arith)))) x small)
+    (decimal-pass (λ b. not (is_comma b))
+    (λ c least most. ap not (digit-differs 44 c least most (inl (omega arith)))) x small)
 
 -- a word of a kind
 kind_whole : (kind : ElemKind) → list_all is_line_byte (in_six_places (kind_word kind)) ≡ true
@@ -400,7 +413,8 @@ module _ (grid : Size) (e : Elem) (can : IsPrintableElem grid e) where
   elem_whole : list_all is_line_byte (elem_text e) ≡ true
   elem_whole =
       both-pass is_line_byte (in_six_places (kind_word e.kind)) _ (kind_whole e.kind)
-      (both-pass is_line_byte (place_text e.x e.y) _ (word-line (place_text e.x e.y) place_word.bytes)
+      (both-pass is_line_byte (place_text e.x e.y) _
+      (word-line (place_text e.x e.y) place_word.bytes)
       (both-pass is_line_byte (label_word e.label) _ (label_whole e.label)
       (both-pass is_line_byte (decimal e.number) (codes "  ")
       (word-line (decimal e.number) number_word.bytes) refl)))
@@ -411,7 +425,8 @@ module _ (grid : Size) (e : Elem) (can : IsPrintableElem grid e) where
       ap later_form (said-line Hash (elem_text e) elem_whole ∙ all_words)
       ∙ (λ i. option_map_or ElemForm (elem_of_parts (kind_of-word e.kind i)
       (place_says e.x e.y (wide e.x can.x) i) (label_of-word e.label i) (decimal e.number)) other)
-      ∙ (λ i. option_map_or ElemForm (if can.sound.label i then Some (elem_parts e) else None) other)
+      ∙ (λ i. option_map_or ElemForm
+      (if can.sound.label i then Some (elem_parts e) else None) other)
     where
       other : Form
       other = if bytes_eq (kind_word e.kind) (codes "Block") then Block
@@ -427,7 +442,8 @@ module _ (grid : Size) (e : Elem) (can : IsPrintableElem grid e) where
       all_words : words (elem_text e)
           ≡ kind_word e.kind ∷ place_text e.x e.y ∷ label_word e.label ∷ decimal e.number ∷ []
       all_words = kind_then e.kind (place_text e.x e.y ++ (codes "  " ++ after_place))
-          ∙ (λ i. kind_word e.kind ∷ words-word (place_text e.x e.y) (codes " " ++ after_place) place_word i)
+          ∙ (λ i. kind_word e.kind ∷ words-word (place_text e.x e.y)
+          (codes " " ++ after_place) place_word i)
           ∙ (λ i. kind_word e.kind ∷ place_text e.x e.y
           ∷ label_then e.label (decimal e.number ++ codes "  ") i)
           ∙ (λ i. kind_word e.kind ∷ place_text e.x e.y ∷ label_word e.label ∷ last i)

@@ -93,7 +93,8 @@ module _ (at : Standing) where
       (text_line Hash n text) (numbered Hash (n + 1) more ++ rest)
       ∙ (λ i. cond (not ((all.0).form.own i))
       (text_line Hash n text ∷ own_lines (numbered Hash (n + 1) more ++ rest)) [])
-      ∙ ap (λ (ls : List TextLine). text_line Hash n text ∷ ls) (own-own (n + 1) more rest all.1 none)
+      ∙ ap (λ (ls : List TextLine). text_line Hash n text ∷ ls)
+      (own-own (n + 1) more rest all.1 none)
 
 -- a decimal is read as its number
 reads-number : (n : ℕ) → n < 2 ^ 64 → number_of (decimal n) ≡ n
@@ -116,7 +117,8 @@ elem-clean grid nets e can n =
     lacks = λ i. not (small e.x can.x i && small e.y can.y i && small e.number can.number i)
 
     misplaced : is_misplaced grid (elem_parts e) ≡ false
-    misplaced = tests-number (λ x. is_number (λ y. not (has_place grid e.kind x y)) (decimal e.y)) e.x (wide e.x can.x)
+    misplaced = tests-number (λ x. is_number (λ y. not (has_place grid e.kind x y)) (decimal e.y))
+        e.x (wide e.x can.x)
         ∙ tests-number (λ y. not (has_place grid e.kind e.x y)) e.y (wide e.y can.y)
         ∙ ap not can.sound.place
 
@@ -171,7 +173,8 @@ says grid net can = net_says net can.k can.name
 -- the lines of a net that have words
 seen-net : (grid : Size) (n : ℕ) (net : RouteNet) (rest : List Bytes) → IsPrintableNet grid net
     → seen Hash n (net_texts net ++ rest)
-    ≡ text_line Hash (n + 1) (net_text net) ∷ (numbered Hash (n + 1 + 1 + 1) (own_texts net.global net)
+    ≡ text_line Hash (n + 1) (net_text net)
+    ∷ (numbered Hash (n + 1 + 1 + 1) (own_texts net.global net)
     ++ seen Hash (number_after (n + 1 + 1 + 1) (own_texts net.global net) + 1) rest)
 seen-net grid n net rest can =
     seen-line Hash (n + 1) (net_text net) ([] ∷ ((own_texts net.global net ++ [] ∷ []) ++ rest))
@@ -199,15 +202,18 @@ fault-nets at n (net ∷ more) end all limit =
     let own = own_texts net.global net in
     let rest = seen Hash (number_after (n + 1 + 1 + 1) own + 1) (flat_map net_texts more) in
     let room : at.nets < NET_LIMIT = omega (arith, limit) in
-    ap (λ ls. first_fault (faults_at at ls end)) (seen-net at.grid n net (flat_map net_texts more) all.0)
+    ap (λ ls. first_fault (faults_at at ls end))
+    (seen-net at.grid n net (flat_map net_texts more) all.0)
     ∙ (λ i. option_or (later_fault at (n + 1) (says at.grid net all.0 i))
     (first_fault (faults_from behind route_codes (behind (context_at at) (says at.grid net all.0 i))
     (later_forms (numbered Hash (n + 1 + 1 + 1) own ++ rest)) end)))
     ∙ (λ i. option_or (net-clean at (n + 1) net all.0 room i) (first_fault
-    (faults_at (in_net at.grid (at.nets + 1) net.global) (numbered Hash (n + 1 + 1 + 1) own ++ rest) end)))
+    (faults_at (in_net at.grid (at.nets + 1) net.global)
+    (numbered Hash (n + 1 + 1 + 1) own ++ rest) end)))
     ∙ fault-own (in_net at.grid (at.nets + 1) net.global) (n + 1 + 1 + 1) own rest end
     (all_own at.grid (at.nets + 1) net net.global all.0)
-    ∙ fault-nets (in_net at.grid (at.nets + 1) net.global) (number_after (n + 1 + 1 + 1) own + 1) more
+    ∙ fault-nets (in_net at.grid (at.nets + 1) net.global)
+    (number_after (n + 1 + 1 + 1) own + 1) more
     end all.1 (omega (arith, limit))
 
 -- the nets begin with a Net line
@@ -294,9 +300,11 @@ nets-read grid n (net ∷ more) all =
     ap (λ (ls : List TextLine). map net_without_lines (nets_of ls))
     (seen-net grid n net (flat_map net_texts more) all.0)
     ∙ (λ i. map net_without_lines (with_net (says grid net all.0 i) (n + 1)
-    (numbered Hash (n + 1 + 1 + 1) own ++ rest) (nets_of (numbered Hash (n + 1 + 1 + 1) own ++ rest))))
+    (numbered Hash (n + 1 + 1 + 1) own ++ rest)
+    (nets_of (numbered Hash (n + 1 + 1 + 1) own ++ rest))))
     ∙ (λ i. net_without_lines (net_of (net_parts net) (n + 1)
-    (own-own (in_net grid 0 net.global) (n + 1 + 1 + 1) own rest lines (own-none grid m more all.1) i))
+    (own-own (in_net grid 0 net.global) (n + 1 + 1 + 1) own rest lines
+    (own-none grid m more all.1) i))
     ∷ map net_without_lines (nets-own (in_net grid 0 net.global) (n + 1 + 1 + 1) own rest lines i))
     ∙ (λ i. record {
       k = reads-number net.k (all.0).k i;
@@ -332,7 +340,8 @@ module _ (grid : Size) (size : AreLimited grid.nx grid.ny) where
       positive : (n : ℕ) → n < 2 ^ 64 → 1 ≤ n → is_number (nat_lt 0) (decimal n) ≡ true
       positive n fits above = tests-number (nat_lt 0) n fits ∙ lt-ltb 0 n above
 
-      small : (n : ℕ) → n < 2 ^ 64 → n ≤ SIDE_LIMIT → is_number (nat_lt SIDE_LIMIT) (decimal n) ≡ false
+      small : (n : ℕ) → n < 2 ^ 64 → n ≤ SIDE_LIMIT → is_number (nat_lt SIDE_LIMIT) (decimal n)
+          ≡ false
       small n fits below = tests-number (nat_lt SIDE_LIMIT) n fits ∙ le-ltb SIDE_LIMIT n below
 
 -- the first lines of a printed route, and those of its nets
@@ -365,7 +374,8 @@ printed-clean : (route : RouteText) (count : ℕ) → IsPrintable route → IsFa
 printed-clean route count can =
     ap first_fault (by_context
     (printed_array route.grid ∷ printed_routing ∷ printed_rest route.nets) count)
-    ∙ (λ i. option_or (head-clean route.grid can.size i) (first_fault (faults_from behind route_codes
+    ∙ (λ i. option_or (head-clean route.grid can.size i)
+    (first_fault (faults_from behind route_codes
     (behind START (head_says route.grid can.size i))
     ((3, Routing) ∷ later_forms (printed_rest route.nets)) (count + 1))))
     ∙ (λ i. first_fault (faults_from behind route_codes
@@ -375,7 +385,8 @@ printed-clean route count can =
     can.nets (omega (arith, can.limit))
   where
     size_said : said_grid (Array (head_parts route.grid)) ≡ Some route.grid
-    size_said = (λ i. said_grid (sym (head_says route.grid can.size) i)) ∙ head-size route.grid can.size
+    size_said = (λ i. said_grid (sym (head_says route.grid can.size) i))
+        ∙ head-size route.grid can.size
 
 -- they read as the route
 printed-same : (route : RouteText) (count : ℕ) → IsPrintable route → without_lines

@@ -36,13 +36,17 @@ junction_longer = refl
 
 -- a Block line with blanks, a comment and a carriage return
 abbrev odd_block : Bytes
-odd_block = codes "Array size: 1 x 1 logic blocks\nRouting:\nNet 0 (c):): global net connecting:\n  Block a # b \r\n"
+odd_block = codes
+    "Array size: 1 x 1 logic blocks\nRouting:\nNet 0 (c):): global net connecting:\n  Block a # b \r\n"
 
-pub odd_block_again : map (λ (net : RouteNet). net.name ∷ net.kept) (again odd_block).nets ≡ (codes "c):" ∷ codes "  Block a # b \r" ∷ []) ∷ []
+pub odd_block_again : map (λ (net : RouteNet). net.name ∷ net.kept) (again odd_block).nets
+    ≡ (codes "c):" ∷ codes "  Block a # b \r" ∷ []) ∷ []
 unfolding digits
 odd_block_again = refl
 
 -- with a track for each slot
-pub one_with_track : map (λ (net : RouteNet). map (λ (e : Elem). e.number) net.elems) (route_value (printed (route_of (route_value one) (7 ∷ [])))).nets ≡ (0 ∷ 0 ∷ 7 ∷ 1 ∷ 1 ∷ []) ∷ []
+pub one_with_track : map (λ (net : RouteNet). map (λ (e : Elem). e.number) net.elems)
+    (route_value (printed (route_of (route_value one) (7 ∷ [])))).nets
+    ≡ (0 ∷ 0 ∷ 7 ∷ 1 ∷ 1 ∷ []) ∷ []
 unfolding digits
 one_with_track = refl

@@ -18,7 +18,6 @@ use Rattle.fpga_route.specs.Codes.{lines_faults, route_faults}
 use Rattle.fpga_route.specs.Drafts.{Progress, nets_begun, nets_with}
 use Rattle.fpga_route.specs.Heads.{IsHead}
 use Rattle.fpga_route.specs.Nets.{ReadsNets, faults_ahead}
-use Rattle.fpga_route.specs.Refusals.{IsRefused, untold}
 use Rattle.fpga_route.specs.Value.{Reads, nets_of, value_of}
 use Rattle.fpga_route.proofs.FaultLemmas.{past_head}
 use Rattle.fpga_route.proofs.SoundLemmas.{faults_at, lines_rise, nets_limited, nets_rise, nets_sound, rises-later, rises-lower}
@@ -33,7 +32,8 @@ no_nets grid = record { grid = grid; closed = []; open_net = None }
 
 -- what was read of a text with this head
 module _ (bytes : Bytes) (old new : LinesAhead) (head : Head) (draft : Progress)
-    (text : old ≡ whole_text bytes) (h : IsHead old new head) (begun : draft ≡ no_nets head.grid) where
+    (text : old ≡ whole_text bytes) (h : IsHead old new head)
+    (begun : draft ≡ no_nets head.grid) where
   past : IsPast (route_faults bytes) (faults_ahead draft new)
   past = record {
     same = sym (ap (λ (r : LinesAhead). first_fault (lines_faults r.ahead r.total)) text)
@@ -58,26 +58,42 @@ module _ (bytes : Bytes) (old new : LinesAhead) (head : Head) (draft : Progress)
     ahead = sym (ap (λ (r : LinesAhead). r.ahead) text) ∙ h.ahead
 
     -- no fault, and all lines were taken
-    pub reads : Reads bytes (record { grid = head.grid; grid_line = head.line; lines = count; nets = nets })
+    pub reads : Reads bytes
+        (record { grid = head.grid; grid_line = head.line; lines = count; nets = nets })
     reads = (
       past.same ∙ rest.clean,
-      (λ i. record { grid = head.grid; grid_line = h.line i; lines = all_lines i; nets = all_nets i })
+      (λ i. record {
+        grid = head.grid;
+        grid_line = h.line i;
+        lines = all_lines i;
+        nets =
+            all_nets i;
+      })
           ∙ sym (value_of-head (line_count bytes)),
     )
       where
         value_of-head : (n : ℕ) → value_of (text_lines Hash bytes) n
-            ≡ record { grid = head.grid; grid_line = h.first.number; lines = n; nets = nets_of new.ahead }
+            ≡ record {
+              grid = head.grid;
+              grid_line = h.first.number;
+              lines = n;
+              nets =
+                  nets_of new.ahead;
+            }
         value_of-head n = rw (ahead, h.grid) refl
 
     -- what was read is sound
-    pub sound : count < 2 ^ 63 → IsSound (record { grid = head.grid; grid_line = head.line; lines = count; nets = nets })
+    pub sound : count < 2 ^ 63 → IsSound
+        (record { grid = head.grid; grid_line = head.line; lines = count; nets = nets })
     sound small = record {
-      limit = rw all_nets (omega (arith, nets_limited start new.ahead (new.total + 1) clean (omega arith)));
+      limit = rw all_nets (omega
+          (arith, nets_limited start new.ahead (new.total + 1) clean (omega arith)));
       nets = rw all_nets (nets_sound start new.ahead (new.total + 1) clean);
       order = rw (h.line, all_nets, all_lines) (
         numbers.0,
         numbers.1,
-        rises-lower h.first.number h.second.number (line_count bytes) (net_numbers (nets_of new.ahead))
+        rises-lower h.first.number h.second.number (line_count bytes)
+            (net_numbers (nets_of new.ahead))
             (omega (arith, numbers.2.0))
             (rises-later h.second.number (line_count bytes) _ _
             (nets_rise h.second.number (line_count bytes) new.ahead numbers.2.2)),
@@ -93,12 +109,6 @@ module _ (bytes : Bytes) (old new : LinesAhead) (head : Head) (draft : Progress)
 
         numbers : RisesWithin 0 (line_count bytes)
             (map (λ (l : TextLine). l.number) (h.first ∷ h.second ∷ new.ahead))
-        numbers = subst (λ ls. RisesWithin 0 (line_count bytes) (map (λ (l : TextLine). l.number) ls))
+        numbers = subst (λ ls. RisesWithin 0 (line_count bytes)
+            (map (λ (l : TextLine). l.number) ls))
             ahead (lines_rise Hash 0 1 (line_count bytes) (lines bytes) (omega arith) (omega arith))
-
--- a fault is not told
-pub refused : (bytes : Bytes) (found : TextFault) → IsRefusal (route_faults bytes) found
-    → IsRefused bytes (untold found)
-refused bytes (Bad line code) is = (refl, refl, (Bad line code, is))
-refused bytes (Limit code count) is = (refl, refl, (Limit code count, is))
-refused bytes Memory is = tt

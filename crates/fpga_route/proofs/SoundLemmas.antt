@@ -56,7 +56,8 @@ no_fault at line more end clean =
     (later_forms more) end) clean in
     record {
       here = parts.0;
-      rest = subst (λ context. IsFaultless (faults_from behind route_codes context (later_forms more) end))
+      rest = subst (λ context. IsFaultless
+          (faults_from behind route_codes context (later_forms more) end))
           (context-behind at (later_form line.words) (later_form-later line.words)) parts.1;
     }
 
@@ -100,7 +101,8 @@ not_false true e = refl
 not_false false e = absurd (let clash : true ≡ false = e in cc)
 
 -- its element may stand where it stands
-pub sound_elem : (at : Standing) (line : TextLine) (e : ElemWords) → later_form line.words ≡ ElemForm e
+pub sound_elem : (at : Standing) (line : TextLine) (e : ElemWords) → later_form line.words
+    ≡ ElemForm e
     → Passed at e → IsSoundElem at.grid (elem_of line.number e)
 sound_elem at line e is facts = record {
   label = takes-elem line.words e is;
@@ -110,7 +112,8 @@ sound_elem at line e is facts = record {
 }
 
 -- the elements and the kept lines of a net that is global or not
-pub record AreOwn (grid : Size) (global : Bool) (elems : List Elem) (kept : List Bytes) : Type 0 where
+pub record AreOwn (grid : Size) (global : Bool) (elems : List Elem)
+    (kept : List Bytes) : Type 0 where
   pub in_place : All (IsSoundElem grid) elems
   pub no_elems : global ≡ true → elems ≡ []
   pub no_kept : global ≡ false → kept ≡ []
@@ -151,7 +154,8 @@ own_sound grid nets global (line ∷ more) end clean =
     Own lines = AreOwn grid global (elems_of lines) (kept_of lines)
 
     go : (form : Form) → later_form line.words ≡ form → IsClean at line form more end
-        → (IsFaultless (faults_at at more end) → AreOwn grid global (elems_of (own_lines more)) (kept_of (own_lines more)))
+        → (IsFaultless (faults_at at more end)
+        → AreOwn grid global (elems_of (own_lines more)) (kept_of (own_lines more)))
         → AreOwn grid global
         (elems_of (if not (begins_net form) then line ∷ own_lines more else []))
         (kept_of (if not (begins_net form) then line ∷ own_lines more else []))
@@ -161,7 +165,8 @@ own_sound grid nets global (line ∷ more) end clean =
         let own = later c.rest in
         let ordinary : global ≡ false = ordinary_global global facts.ordinary in
         rw is (record {
-          in_place = All-cons (IsSoundElem grid) (elem_of line.number e) (elems_of (own_lines more)) (sound_elem at line e is facts) own.in_place;
+          in_place = All-cons (IsSoundElem grid) (elem_of line.number e) (elems_of (own_lines more))
+              (sound_elem at line e is facts) own.in_place;
           no_elems = λ e. absurd (let clash : true ≡ false = sym e ∙ ordinary in cc);
           no_kept = own.no_kept;
         })
@@ -184,7 +189,8 @@ nets_sound at (line ∷ more) end clean =
     go (later_form line.words) line_clean (λ next. nets_sound next more end)
   where
     go : (form : Form) → IsClean at line form more end
-        → ((next : Standing) → IsFaultless (faults_at next more end) → All (IsSoundNet next.grid) (nets_of more))
+        → ((next : Standing) → IsFaultless (faults_at next more end)
+        → All (IsSoundNet next.grid) (nets_of more))
         → All (IsSoundNet at.grid) (with_net form line.number more (nets_of more))
     go (Net net) c later =
         let own = own_sound at.grid (at.nets + 1) net.global more end c.rest in

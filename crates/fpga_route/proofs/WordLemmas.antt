@@ -5,8 +5,10 @@ use Rattle.std.specs.Prelude.{map}
 use Rattle.std.proofs.lemmas.List.{take-append-le, take_all, map-set, take_more_set, length-map}
 
 -- as many words as are looked at
-pub take-seam : {X : Type 0} (n : ℕ) (first rest all : List X) → first ++ rest ≡ all → n ≤ length first → length first ≤ n → first ≡ take n all
-take-seam n first rest all e least most = rw (← e, take-append-le n first rest least, take_all n first most) refl
+pub take-seam : {X : Type 0} (n : ℕ) (first rest all : List X) → first ++ rest ≡ all
+    → n ≤ length first → length first ≤ n → first ≡ take n all
+take-seam n first rest all e least most =
+    rw (← e, take-append-le n first rest least, take_all n first most) refl
 
 -- one more word, where there is room for it
 pub take-map-set : {X Y : Type 0} (f : X → Y) (n : ℕ) (words : List X) (word : X) → n < length words

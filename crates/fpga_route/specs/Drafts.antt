@@ -22,7 +22,13 @@ net_count draft = length draft.closed + length (option_to_list draft.open_net)
 
 -- where the next line stands
 abbrev pub standing_of : Progress → Standing
-standing_of draft = record { grid = draft.grid; nets = net_count draft; in_global = option_map (λ (net : RouteNet). net.global) draft.open_net }
+standing_of draft =
+    record {
+      grid = draft.grid;
+      nets = net_count draft;
+      in_global =
+          option_map (λ (net : RouteNet). net.global) draft.open_net;
+    }
 
 -- the nets that were begun
 abbrev pub nets_begun : Progress → List RouteNet

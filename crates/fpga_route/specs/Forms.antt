@@ -36,7 +36,8 @@ is_blocks word = bytes_eq word (codes "blocks.") || bytes_eq word (codes "blocks
 -- the words round the size in an array line
 abbrev pub is_size_frame : (array size by logic blocks : Bytes) → Bool
 is_size_frame array size by logic blocks =
-    bytes_eq array (codes "Array") && bytes_eq size (codes "size:") && bytes_eq by (codes "x") && bytes_eq logic (codes "logic") && is_blocks blocks
+    bytes_eq array (codes "Array") && bytes_eq size (codes "size:") && bytes_eq by
+    (codes "x") && bytes_eq logic (codes "logic") && is_blocks blocks
 
 -- `Array size: nx x ny logic blocks.`
 abbrev pub size_words : Words → Option SizeWords
@@ -52,26 +53,31 @@ is_routing _ = false
 -- what stands between an opening and a closing text at the ends of a word
 abbrev pub enclosed : Bytes → Bytes → Bytes → Option Bytes
 enclosed opening closing word =
-    if starts_with nat_eq word opening && ends_with nat_eq word closing && nat_le (length opening + length closing) (length word)
+    if starts_with nat_eq word opening && ends_with nat_eq word closing && nat_le
+    (length opening + length closing) (length word)
     then Some (slice_range word (length opening) (length word - length closing)) else None
 
 -- a Net line, if it has a name and the name is not empty
 abbrev pub named_net : Bytes → Bool → Option Bytes → Option NetWords
 named_net k global None = None
 named_net k global (Some []) = None
-named_net k global (Some (byte ∷ more)) = Some (record { k = k; name = byte ∷ more; global = global })
+named_net k global (Some (byte ∷ more)) =
+    Some (record { k = k; name = byte ∷ more; global = global })
 
 -- the words round the number and the name of a global net
 abbrev pub is_global_frame : (net global word connecting : Bytes) → Bool
 is_global_frame net global word connecting =
-    bytes_eq net (codes "Net") && bytes_eq global (codes "global") && bytes_eq word (codes "net") && bytes_eq connecting (codes "connecting:")
+    bytes_eq net (codes "Net") && bytes_eq global (codes "global") && bytes_eq word
+    (codes "net") && bytes_eq connecting (codes "connecting:")
 
 -- `Net k (name)`, or `Net k (name): global net connecting:`
 abbrev pub net_words : Words → Option NetWords
 net_words (net ∷ k ∷ name ∷ []) =
-    if bytes_eq net (codes "Net") then named_net k false (enclosed (codes "(") (codes ")") name) else None
+    if bytes_eq net (codes "Net") then named_net k false
+    (enclosed (codes "(") (codes ")") name) else None
 net_words (net ∷ k ∷ name ∷ global ∷ word ∷ connecting ∷ []) =
-    if is_global_frame net global word connecting then named_net k true (enclosed (codes "(") (codes "):") name) else None
+    if is_global_frame net global word connecting then named_net k true
+    (enclosed (codes "(") (codes "):") name) else None
 net_words _ = None
 
 -- the word of a kind
@@ -85,7 +91,8 @@ kind_word Sink = codes "SINK"
 
 -- the kind that a word names
 abbrev pub kind_of : Bytes → Option ElemKind
-kind_of word = find (λ kind. bytes_eq word (kind_word kind)) (Source ∷ Opin ∷ ChanX ∷ ChanY ∷ Ipin ∷ Sink ∷ [])
+kind_of word =
+    find (λ kind. bytes_eq word (kind_word kind)) (Source ∷ Opin ∷ ChanX ∷ ChanY ∷ Ipin ∷ Sink ∷ [])
 
 -- the word of a label
 abbrev pub label_word : Label → Bytes
@@ -105,21 +112,26 @@ is_comma b = b == 44
 -- the two sides of the first comma, where there is one
 abbrev pub comma_parts : Option Bytes → Option (Bytes × Bytes)
 comma_parts None = None
-comma_parts (Some text) = if list_any is_comma text then Some (before_first is_comma text, after_first is_comma text) else None
+comma_parts (Some text) =
+    if list_any is_comma text then Some
+    (before_first is_comma text, after_first is_comma text) else None
 
 -- the parts of a place `(x,y)`
 abbrev pub place_words : Bytes → Option (Bytes × Bytes)
 place_words word = comma_parts (enclosed (codes "(") (codes ")") word)
 
 -- the parts of an element line, where they are there and the kind takes the label
-abbrev pub elem_of_parts : Option ElemKind → Option (Bytes × Bytes) → Option Label → Bytes → Option ElemWords
+abbrev pub elem_of_parts : Option ElemKind → Option (Bytes × Bytes) → Option Label → Bytes
+    → Option ElemWords
 elem_of_parts (Some kind) (Some place) (Some label) number =
-    if takes kind label then Some (record { kind = kind; x = place.0; y = place.1; label = label; number = number }) else None
+    if takes kind label then Some
+    (record { kind = kind; x = place.0; y = place.1; label = label; number = number }) else None
 elem_of_parts _ _ _ number = None
 
 -- a kind, a place, a label of the kind and a number
 abbrev pub elem_words : Words → Option ElemWords
-elem_words (kind ∷ place ∷ label ∷ number ∷ []) = elem_of_parts (kind_of kind) (place_words place) (label_of label) number
+elem_words (kind ∷ place ∷ label ∷ number ∷ []) =
+    elem_of_parts (kind_of kind) (place_words place) (label_of label) number
 elem_words _ = None
 
 -- the first word is `Block`

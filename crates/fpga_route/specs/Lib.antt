@@ -7,6 +7,5 @@ pub mod Lines
 pub mod Nets
 pub mod Printed
 pub mod ReadBack
-pub mod Refusals
 pub mod Standings
 pub mod Value

@@ -13,7 +13,9 @@ in_six_places text = replicate (6 - length text) 32 ++ text
 
 -- an element line
 abbrev pub printed_elem : Elem → Bytes
-printed_elem e = in_six_places (kind_word e.kind) ++ codes " (" ++ decimal e.x ++ codes "," ++ decimal e.y ++ codes ")  " ++ label_word e.label ++ codes " " ++ decimal e.number ++ codes "  \n"
+printed_elem e =
+    in_six_places (kind_word e.kind) ++ codes " (" ++ decimal e.x ++ codes "," ++ decimal e.y
+    ++ codes ")  " ++ label_word e.label ++ codes " " ++ decimal e.number ++ codes "  \n"
 
 -- what stands before the name of a net
 abbrev pub before_name : ℕ → Bytes
@@ -47,7 +49,9 @@ printed_net net = printed_net_line net ++ printed_own net
 
 -- the two head lines
 abbrev pub printed_head : Size → Bytes
-printed_head grid = codes "Array size: " ++ decimal grid.nx ++ codes " x " ++ decimal grid.ny ++ codes " logic blocks.\n\nRouting:"
+printed_head grid =
+    codes "Array size: " ++ decimal grid.nx ++ codes " x " ++ decimal grid.ny
+    ++ codes " logic blocks.\n\nRouting:"
 
 -- the nets, and the newline at the end
 abbrev pub printed_body : RouteText → Bytes

@@ -18,7 +18,8 @@ net_without_lines net = record net { line = 0; elems = map elem_without_line net
 
 -- the route, with 0 in place of each number of a line and of the count of lines
 abbrev pub without_lines : RouteText → RouteText
-without_lines route = record route { grid_line = 0; lines = 0; nets = map net_without_lines route.nets }
+without_lines route =
+    record route { grid_line = 0; lines = 0; nets = map net_without_lines route.nets }
 
 -- the routes are equal, whatever lines they stand on
 abbrev pub SameButLines : RouteText → RouteText → Type 0
@@ -31,4 +32,5 @@ ReadsBack route = (value : RouteText) × Reads (printed route) value × SameButL
 -- the route reads back if it is one that was read, with other tracks of 32 bits
 abbrev pub ReadsBackWithTracks : RouteText → Type 0
 ReadsBackWithTracks route = (text : Bytes) (source : RouteText) (tracks : List ℕ)
-    → Reads text source → All (λ t. t < 2 ^ 32) tracks → route ≡ route_of source tracks → ReadsBack route
+    → Reads text source → All (λ t. t < 2 ^ 32) tracks → route ≡ route_of source tracks
+    → ReadsBack route

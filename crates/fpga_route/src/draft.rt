@@ -32,7 +32,8 @@ impl Model for Draft {
 
     ghost view = { λ d. record { grid = d.grid; closed = d.closed.items; open_net = d.open_net } };
 
-    ghost invariant = { λ d. length d.closed.items + length (option_to_list d.open_net) ≤ NET_LIMIT };
+    ghost invariant = { λ d.
+        length d.closed.items + length (option_to_list d.open_net) ≤ NET_LIMIT };
 }
 
 impl Draft {

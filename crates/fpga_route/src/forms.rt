@@ -147,7 +147,8 @@ fn is_global_frame(net: &[u8], global: &[u8], word: &[u8], connecting: &[u8]) ->
 
 /// The parts of a Net line, if it has a name and the name is not empty.
 fn named_net<'a>(k: &'a [u8], global: bool, name: Option<&'a [u8]>) -> Option<NetLine<'a>>
-    ensures { option_map net_said result ≡ spec.named_net k.now global (option_map (λ n. n.now) name.entry) }
+    ensures { option_map net_said result
+        ≡ spec.named_net k.now global (option_map (λ n. n.now) name.entry) }
 {
     let Some(name) = name else {
         return None;

@@ -14,5 +14,5 @@ mod tests;
 mod words;
 mod write;
 
-pub use read::{read_route, read_route_or_fault};
-pub use write::write_route;
+pub use read::read_route;
+pub use write::{WholeRoute, write_route};

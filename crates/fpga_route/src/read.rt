@@ -4,37 +4,13 @@ ghost use Rattle.fpga_text.specs.FirstFault.{Answers, IsRefusal};
 ghost use Rattle.fpga_types.specs.Sound.{IsSound};
 ghost use Rattle.fpga_route.specs.Codes.{route_faults};
 ghost use Rattle.fpga_route.specs.Nets.{ReadsNets, faults_ahead};
-ghost use Rattle.fpga_route.specs.Refusals.{IsRefused, untold as untold_fault};
-ghost use Rattle.fpga_route.specs.Value.{Reads, route_value};
+ghost use Rattle.fpga_route.specs.Value.{route_value};
 
 use crate::draft::Draft;
 use crate::head::read_head;
 use fpga_text::{Lines, Style, TextFault};
 use fpga_types::{Items, RouteText};
 use std::alloc::Global;
-
-/// The value of a route text. A text with a fault is answered by `Bad { line: 0, code: 400 }`
-/// whatever the fault, and want of memory by `Memory`.
-pub fn read_route(alloc: Global, bytes: &[u8]) -> Result<RouteText, TextFault>
-    ensures ok { IfOk result (Reads bytes.now) }
-    ensures sound { IfOk result IsSound }
-    ensures err { IfErr result (IsRefused bytes.now) }
-{
-    match read_route_or_fault(alloc, bytes) {
-        Ok(route) => Ok(route),
-        Err(fault) => Err(untold(fault)),
-    }
-}
-
-/// The fault that stands for this one, as long as the faults of a route text are not told.
-fn untold(fault: TextFault) -> TextFault
-    ensures { result ≡ untold_fault fault }
-{
-    match fault {
-        TextFault::Memory => TextFault::Memory,
-        _ => TextFault::Bad { line: 0, code: 400 },
-    }
-}
 
 /// The value of a route text, or its first fault.
 ///
@@ -49,8 +25,9 @@ fn untold(fault: TextFault) -> TextFault
 ///
 /// `Limit` has the code 407 and a count: more than 100 columns or rows, or more than 65,535 nets.
 /// `Memory` comes where memory is short.
-pub fn read_route_or_fault(alloc: Global, bytes: &[u8]) -> Result<RouteText, TextFault>
-    ensures answers { Answers (route_faults bytes.now) (λ route. route ≡ route_value bytes.now) result }
+pub fn read_route(alloc: Global, bytes: &[u8]) -> Result<RouteText, TextFault>
+    ensures answers { Answers (route_faults bytes.now) (λ route. route ≡ route_value bytes.now)
+        result }
     ensures sound { IfOk result IsSound }
 {
     let mut lines = Lines::new(bytes, Style::Hash);

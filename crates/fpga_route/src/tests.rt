@@ -1,5 +1,5 @@
 //! A worked route text, as it is read, printed and refused.
-use crate::read::{read_route, read_route_or_fault};
+use crate::read::read_route;
 use crate::write::write_route;
 use desk_io::{MemShelf, Shelf};
 use fpga_text::TextFault;
@@ -7,7 +7,9 @@ use fpga_types::{Elem, ElemKind, Label};
 use std::test::Fail;
 
 const ONE: &[u8] =
-    b"Array size: 1 x 1 logic blocks.\n\nRouting:\n\nNet 0 (n0)\n\nSOURCE (1,0)  Pad: 0  \n  OPIN (1,0)  Pad: 0  \n CHANX (1,0)  Track: 0  \n  IPIN (1,0)  Pad: 1  \n  SINK (1,0)  Pad: 1  \n\n";
+    b"Array size: 1 x 1 logic blocks.\n\nRouting:\n\nNet 0 (n0)\n\nSOURCE (1,0)  Pad: 0  \n  \
+      OPIN (1,0)  Pad: 0  \n CHANX (1,0)  Track: 0  \n  IPIN (1,0)  Pad: 1  \n  \
+      SINK (1,0)  Pad: 1  \n\n";
 
 #[test]
 fn one_net_as_it_is_read(rt: HostRuntime) -> Result<(), Fail> {
@@ -60,16 +62,10 @@ fn a_text_that_is_refused(rt: HostRuntime) {
     let text = b"Array size: 1 x 1 logic blocks\nRouting:\nNet 0 (a)\nCHANX (1,2) Track: 0\n";
     assert_eq!(rt;
         read_route(rt.alloc(), text).map(|_| ()),
-        Err(TextFault::Bad { line: 0, code: 400 })
-    );
-    assert_eq!(rt;
-        read_route_or_fault(rt.alloc(), text).map(|_| ()),
         Err(TextFault::Bad { line: 4, code: 406 })
     );
     assert_eq!(rt;
-        read_route_or_fault(rt.alloc(), b"Array size: 1 x 101 logic blocks\nRouting:\n").map(
-            |_| ()
-        ),
+        read_route(rt.alloc(), b"Array size: 1 x 101 logic blocks\nRouting:\n").map(|_| ()),
         Err(TextFault::Limit {
             code: 407,
             count: 101

@@ -58,7 +58,8 @@ fn elem_line(elem: &Elem) -> ArrayString<LINE_ROOM>
 /// A place, with what stands round it.
 fn push_place(line: &mut ArrayString<LINE_ROOM>, x: u32, y: u32)
     requires { array_string_len line.old ≤ 6 }
-    ensures bytes { line.new.bytes ≡ line.old.bytes ++ codes " (" ++ decimal x ++ codes "," ++ decimal y ++ codes ")  " }
+    ensures bytes { line.new.bytes ≡ line.old.bytes ++ codes " (" ++ decimal x ++ codes ","
+        ++ decimal y ++ codes ")  " }
     ensures room { array_string_len line.new ≤ 32 }
 {
     line.push_str(" (");
@@ -283,13 +284,17 @@ impl Prints<RouteText> for Body {
     }
 }
 
-/// Prints a route.
-struct WholeRoute;
+/// Prints a route: its two head lines, its nets and a newline at the end.
+#[derive(Debug)]
+pub struct WholeRoute;
 
 impl Prints<RouteText> for WholeRoute {
     ghost use Rattle.fpga_route.specs.Printed.{printed};
+    ghost use Rattle.fpga_route.specs.ReadBack.{ReadsBackWithTracks};
 
     ghost text = { printed };
+
+    ghost known = { ReadsBackWithTracks };
 
     fn print<S: Shelf>(
         &self,
@@ -309,8 +314,10 @@ impl Prints<RouteText> for WholeRoute {
 /// fault and reads as an equal route, but for the numbers of lines.
 pub fn write_route<S: Shelf>(route: &RouteText, shelf: &mut S) -> Result<(), Failed>
     requires { (S.state shelf.old).is_created ≡ true }
-    ensures ok { OnOk result (S.state shelf.new ≡ after_append (S.state shelf.old) (printed route.now)) }
-    ensures err { OnErr result (FailsToAppend (S.state shelf.old) (printed route.now) (S.state shelf.new)) }
+    ensures ok { OnOk result (S.state shelf.new ≡ after_append (S.state shelf.old)
+        (printed route.now)) }
+    ensures err { OnErr result (FailsToAppend (S.state shelf.old) (printed route.now)
+        (S.state shelf.new)) }
     ensures read_back { (text : Bytes) → Reads text route.now → ReadsBack route.now }
     ensures tracks_read_back { ReadsBackWithTracks route.now }
 {

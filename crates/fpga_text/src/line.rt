@@ -136,8 +136,8 @@ impl<'a> Line<'a> {
         word.is(text)
     }
 
-    /// The whole number that the next word says, or None where there is no such word or it says none.
-    /// It is taken, whatever it is.
+    /// The whole number that the next word says, or None where there is no such word or it says
+    /// none. It is taken, whatever it is.
     pub fn next_whole(&mut self) -> Option<u64>
         ensures number { result ≡ whole_said (slice_get self.old.words 0) }
         ensures after { self.new ≡ record self.old { words = drop 1 self.old.words } }
@@ -148,8 +148,8 @@ impl<'a> Line<'a> {
         whole_number(word.text)
     }
 
-    /// The decimal that the next word says, in millionths, or None where there is no such word or it
-    /// says none. It is taken, whatever it is.
+    /// The decimal that the next word says, in millionths, or None where there is no such word or
+    /// it says none. It is taken, whatever it is.
     pub fn next_millionths(&mut self) -> Option<u64>
         ensures number { result ≡ decimal_said (slice_get self.old.words 0) }
         ensures after { self.new ≡ record self.old { words = drop 1 self.old.words } }
@@ -160,13 +160,14 @@ impl<'a> Line<'a> {
         millionths(word.text)
     }
 
-    /// The number that the next word says, or None: exactly where there is no next word, or it says no
-    /// number of 64 bits with its sign. That word is then not taken.
+    /// The number that the next word says, or None: exactly where there is no next word, or it says
+    /// no number of 64 bits with its sign. That word is then not taken.
     // Inlined, so that what is left of the line stays in registers from one number to the next.
     #[inline(always)]
     pub fn next_number(&mut self) -> Option<i64>
         ensures number { result ≡ option_and_then signed_number_of (slice_get self.old.words 0) }
-        ensures after { IfSome result (λ _. self.new ≡ record self.old { words = drop 1 self.old.words }) }
+        ensures after { IfSome result
+            (λ _. self.new ≡ record self.old { words = drop 1 self.old.words }) }
         ensures kept { IfNone result (self.new ≡ self.old) }
     {
         let Some(front) = front_number(self.rest) else {
@@ -180,7 +181,8 @@ impl<'a> Line<'a> {
     /// The same, by the whole word.
     fn next_long_number(&mut self) -> Option<i64>
         ensures number { result ≡ option_and_then signed_number_of (slice_get self.old.words 0) }
-        ensures after { IfSome result (λ _. self.new ≡ record self.old { words = drop 1 self.old.words }) }
+        ensures after { IfSome result
+            (λ _. self.new ≡ record self.old { words = drop 1 self.old.words }) }
         ensures kept { IfNone result (self.new ≡ self.old) }
     {
         let mut behind = self.again();

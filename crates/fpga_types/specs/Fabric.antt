@@ -9,7 +9,8 @@ use Rattle.fpga_types.specs.declared.grid.Axis.TheVariants.{X, Y}
 use Rattle.fpga_types.specs.declared.grid.Cell.{Cell}
 use Rattle.fpga_types.specs.declared.grid.SwitchAt.{SwitchAt}
 
--- the place (x,y) is one of a channel cell: along a row above row y, or along a column to the right of column x
+-- the place (x,y) is one of a channel cell: along a row above row y, or along a column to the right
+-- of column x
 abbrev pub is_channel_place : Size → Axis → ℕ → ℕ → Bool
 is_channel_place grid X x y = nat_le 1 x && nat_le x grid.nx && nat_le y grid.ny
 is_channel_place grid Y x y = nat_le x grid.nx && nat_le 1 y && nat_le y grid.ny
@@ -62,11 +63,15 @@ other_sides Top = Left ∷ Right ∷ Bottom ∷ []
 
 -- the switch blocks of the array
 abbrev pub switch_blocks : Size → List SwitchAt
-switch_blocks grid = flat_map (λ i. map (λ j. record { i = i; j = j }) (range_with_len 0 (grid.ny + 1))) (range_with_len 0 (grid.nx + 1))
+switch_blocks grid =
+    flat_map (λ i. map (λ j. record { i = i; j = j }) (range_with_len 0 (grid.ny + 1)))
+    (range_with_len 0 (grid.nx + 1))
 
 -- each switch block with each two different sides
 abbrev pub all_meetings : Size → List Meeting
-all_meetings grid = flat_map (λ at. flat_map (λ from. map (λ to. record { at = at; from = from; to = to }) (other_sides from)) (Left ∷ Right ∷ Bottom ∷ Top ∷ [])) (switch_blocks grid)
+all_meetings grid =
+    flat_map (λ at. flat_map (λ from. map (λ to. record { at = at; from = from; to = to })
+    (other_sides from)) (Left ∷ Right ∷ Bottom ∷ Top ∷ [])) (switch_blocks grid)
 
 -- the cells are those on the two sides
 abbrev pub is_meeting_of : Cell → Cell → Meeting → Bool
@@ -74,4 +79,5 @@ is_meeting_of a b m = same_cell a (cell_on m.from m.at) && same_cell b (cell_on 
 
 -- where two cells of the array meet, by a search over all switch blocks
 abbrev pub meeting : Size → Cell → Cell → Option Meeting
-meeting grid a b = if is_cell grid a && is_cell grid b then find (is_meeting_of a b) (all_meetings grid) else None
+meeting grid a b =
+    if is_cell grid a && is_cell grid b then find (is_meeting_of a b) (all_meetings grid) else None

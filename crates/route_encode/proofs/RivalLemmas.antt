@@ -171,8 +171,7 @@ same-cell-rivals all slot b ks h =
     ap (λ (c : Cell). find (λ j. same_cell (slot_at all j).cell c) ks) same
 
 -- where the walk is at a slot, that is a later one of the cell, the walk goes on with its next
--- rival, and it is one of
--- the rivals behind those that were passed
+-- rival, and it is one of the rivals behind those that were passed
 pub record IsStep (all : List Slot) (slot b : ℕ) (done : List ℕ) : Type 0 where
   pub later : slot < b
   pub within : b < length all

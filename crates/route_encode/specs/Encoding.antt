@@ -3,7 +3,9 @@
 use Rattle.std.specs.Prelude.{ℕ, suc, ◌+◌, ◌-◌, ◌*◌, Bool, true, not, pos, negsuc, List, [], ◌∷◌, ◌++◌, length, map, filter, flat_map, Option, option_map, option_to_list}
 use Rattle.std.specs.List.{range_with_len}
 use Rattle.fpga_types.specs.Slots.{pairs, pin_steps, slot_at, slots, steps}
-use Rattle.fpga_types.specs.Tracks.{subset_track, track_across}
+use Rattle.fpga_types.specs.Boxes.{opens}
+use Rattle.fpga_types.specs.Tracks.{mapped_track, subset_track, track_across}
+use Rattle.fpga_types.specs.declared.arch.Arch.{Arch}
 use Rattle.fpga_types.specs.declared.grid.Cell.{Cell}
 use Rattle.fpga_types.specs.declared.grid.PinAt.{PinAt}
 use Rattle.fpga_types.specs.declared.problem.PinStep.{PinStep}
@@ -52,8 +54,8 @@ one_track width s = flat_map (no_higher_track width s) (below width)
 
 -- the slot next to a pin has no track that the pin does not open
 abbrev pub open_track : (PinAt → ℕ → Bool) → ℕ → PinStep → List Clause
-open_track opens width p =
-    map (λ t. lacks width p.slot t ∷ []) (filter (λ t. not (opens p.pin t)) (below width))
+open_track open_at width p =
+    map (λ t. lacks width p.slot t ∷ []) (filter (λ t. not (open_at p.pin t)) (below width))
 
 -- the track of a step's second slot that track t of the first is joined to, where there is one
 abbrev pub track_after : (Cell → Cell → ℕ → Option ℕ) → List Slot → RouteStep → ℕ → Option ℕ
@@ -73,13 +75,19 @@ apart_track width pair = map (λ t. not_both width pair.0 t pair.1 t) (below wid
 -- that a pin opens
 abbrev pub encoding : (Cell → Cell → ℕ → Option ℕ) → (PinAt → ℕ → Bool) → ℕ → RouteText
     → List Clause
-encoding across opens width route =
+encoding across open_at width route =
     let all : List Slot = slots route in
     map (some_track width) (below (length all))
     ++ flat_map (one_track width) (below (length all))
-    ++ flat_map (open_track opens width) (pin_steps route)
+    ++ flat_map (open_track open_at width) (pin_steps route)
     ++ flat_map (joined_track across width all) (steps route)
     ++ flat_map (apart_track width) (pairs all)
+
+-- the clauses with the switch blocks and the connection boxes of an architecture
+abbrev pub encoding_for : Arch → ℕ → RouteText → List Clause
+encoding_for arch width route =
+    encoding (track_across (mapped_track arch.pattern width) route.grid) (opens arch width) width
+    route
 
 -- the clauses with subset switch blocks and connection boxes that open each track
 abbrev pub encoding_subset : ℕ → RouteText → List Clause

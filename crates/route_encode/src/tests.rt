@@ -8,8 +8,8 @@ use std::test::Fail;
 
 const HEAD: &[u8] = b"Array size: 2 x 1 logic blocks.\nRouting:\n";
 
-// Adds a net from the pad at (1,0) with this number, through CHANX (1,0) and this further cell, to a
-// pad below column `to.0`.
+// Adds a net from the pad at (1,0) with this number, through CHANX (1,0) and this further cell, to
+// a pad below column `to.0`.
 fn push_net(
     alloc: Global,
     text: &mut Vec<u8>,
@@ -40,8 +40,8 @@ fn crossing(alloc: Global) -> Result<Problem, Fail> {
     problem(alloc, text.as_slice())
 }
 
-// 8,943 nets through CHANX (1,0). Those below the first number go on to CHANX (2,0), then those below
-// the second to CHANY (1,1), and then those below the third to CHANY (0,1).
+// 8,943 nets through CHANX (1,0). Those below the first number go on to CHANX (2,0), then those
+// below the second to CHANY (1,1), and then those below the third to CHANY (0,1).
 fn crowd(alloc: Global, until: [u32; 3]) -> Result<Problem, Fail> {
     let further = [
         "CHANX (2,0) Track: 0\n",
@@ -59,8 +59,8 @@ fn crowd(alloc: Global, until: [u32; 3]) -> Result<Problem, Fail> {
     problem(alloc, text.as_slice())
 }
 
-// At width 1 each slot, each step and each two slots of a cell have a clause. 8,943 nets of one cell
-// make 39,993,096, and n of them that go on to another cell make 2n + n(n - 1)/2 more.
+// At width 1 each slot, each step and each two slots of a cell have a clause. 8,943 nets of one
+// cell make 39,993,096, and n of them that go on to another cell make 2n + n(n - 1)/2 more.
 #[test]
 fn the_most_clauses_and_one_more_are_counted(rt: HostRuntime) -> Result<(), Fail> {
     let alloc = rt.alloc();

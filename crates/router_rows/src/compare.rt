@@ -5,8 +5,6 @@ ghost use Rattle.router_top.specs.Report.{NamesKnownFile};
 
 use crate::stop::RowStop;
 use desk_io::MemShelf;
-use fpga_route::read_route_or_fault;
-use fpga_text::TextFault;
 use itoa::Buffer;
 use router_top::{Outcome, report, status};
 use std::alloc::{AllocError, Global};
@@ -40,9 +38,6 @@ pub struct Wants {
     pub status: Option<u64>,
     /// Whether the report line must not be said.
     pub is_silent: bool,
-    /// The first bad line of the route and its code, or the number that is past a limit and the code of
-    /// that, or 0 and 0 where there is none.
-    pub first: Option<(u64, u64)>,
     pub files: Vec<WantedFile>,
 }
 
@@ -53,23 +48,8 @@ impl Wants {
             outcome: None,
             status: None,
             is_silent: false,
-            first: None,
             files: Vec::new(alloc),
         }
-    }
-
-    /// Whether the route has the first bad line that it must have.
-    pub fn compare_first(&self, alloc: Global, text: &[u8]) -> Result<(), RowStop> {
-        let Some((line, code)) = self.first else {
-            return Ok(());
-        };
-        let (came_line, came_code) = match read_route_or_fault(alloc, text) {
-            Err(TextFault::Bad { line, code }) => (line, u64::from(code)),
-            Err(TextFault::Limit { code, count }) => (count, u64::from(code)),
-            _ => (0, 0),
-        };
-        same_number(alloc, "the first bad line", line, came_line)?;
-        same_number(alloc, "its code", code, came_code)
     }
 
     /// Whether all came that must.

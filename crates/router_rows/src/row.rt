@@ -60,7 +60,6 @@ impl Row {
             "comes" => Ok(self.wants.outcome = Some(String::from_str(self.alloc, rest)?)),
             "silent" => Ok(self.wants.is_silent = true),
             "status" => Ok(self.wants.status = Some(number(rest)?)),
-            "first" => self.take_first(rest),
             "writes" => self.take_wanted(Wanted::Whole, rest),
             "begins" => self.take_wanted(Wanted::Begins, rest),
             "holds" => self.take_wanted(Wanted::Holds, rest),
@@ -111,22 +110,10 @@ impl Row {
         Ok(())
     }
 
-    // Takes the first bad line of the route, and its code.
-    fn take_first(&mut self, rest: &str) -> Result<(), LineFault> {
-        let Some((code, line)) = rest.split_once(" at ") else {
-            return Err(LineFault::NotUnderstood);
-        };
-        self.wants.first = Some((number(line)?, number(code)?));
-        Ok(())
-    }
-
     /// Runs, and compares what comes; gives the shelf then.
     pub fn play(self) -> Result<MemShelf, RowStop>
         ensures { IfOk result (λ shelf. (outcome : Outcome) × AreMet self.wants outcome shelf) }
     {
-        if let Some((_, text)) = self.files.first() {
-            self.wants.compare_first(self.alloc, text)?;
-        }
         let mut desk = MemDesk::new(self.alloc, self.files, self.desk_fails);
         let mut shelf = MemShelf::new(self.alloc, self.shelf_fails);
         let outcome = run(self.alloc, &self.words, &mut desk, &mut shelf);

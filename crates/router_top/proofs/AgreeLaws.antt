@@ -1,34 +1,24 @@
 -- Outcomes that are true of the same words and files agree: they are one, or answers of a search.
 use Rattle.std.proofs.Common.{◌≡◌, ◌∙◌, ◌⊎◌, ℕ, suc, ◌<◌, ◌++◌, List, [], ◌∷◌, length, Some, None, Ok, Err, Result, refl, sym, ap, subst, inl, inr, arith, length-append}
 use Rattle.std.specs.Prelude.{MatchResult}
-use Rattle.list_laws.proofs.Places.{none_is_not_some, some_is}
 use Rattle.desk_io.specs.Files.{Bytes, FileMap}
 use Rattle.fpga_types.specs.Fit.{IsFit}
 use Rattle.fpga_types.specs.declared.route.RouteText.{RouteText}
-use Rattle.fpga_text.specs.declared.fault.TextFault.{TextFault}
 use Rattle.fpga_route.specs.Value.{Reads}
 use Rattle.sat_clause.specs.Formula.{Cnf}
 use Rattle.sat_clause.specs.Judge.{judge}
 use Rattle.sat_clause.specs.Step.{Step}
-use Rattle.sat_text.specs.CnfText.{ReadsCnf, cnf_faults}
-use Rattle.fpga_text.specs.FirstFault.{Faults, IsFaultless, IsFirst}
-use Rattle.sat_text.specs.LratText.{ReadsLrat, lrat_faults}
-use Rattle.router_top.specs.Asked.{HasFew, IsRouteFile, IsTrueOfClauses, IsUnbuilt, Poses, ROUTE_LIMIT, clause_count, route_file}
+use Rattle.sat_text.specs.CnfText.{ReadsCnf}
+use Rattle.sat_text.specs.LratText.{ReadsLrat}
+use Rattle.router_top.specs.Asked.{HasFew, IsRouteFile, IsTrueOfClauses, IsUnbuilt, Poses, clause_count, route_file}
 use Rattle.router_top.specs.Command.{CheckJob, Checks, Encodes, Job, RouteJob, Routes, Word, job_of}
-use Rattle.router_top.specs.Finding.{ChecksFiles, ChecksLog, PROOF_LIMIT, cnf_file, judgement_outcome, lrat_file}
+use Rattle.router_top.specs.Finding.{ChecksFiles, ChecksLog, cnf_file, judgement_outcome, lrat_file}
 use Rattle.router_top.specs.Inputs.{IsHalted}
 use Rattle.router_top.specs.Truth.{Agrees, IsOfSearch, IsTrueOf, IsTrueOfJob, IsTrueOfSearch}
+use Rattle.router_top.specs.declared.limits.TheConstants.{PROOF_BYTES, ROUTE_BYTES}
 use Rattle.router_top.specs.declared.outcome.Outcome.{Outcome}
 use Rattle.router_top.specs.declared.outcome.Outcome.TheVariants.{Done, Limit, Usage}
 use Rattle.router_top.proofs.FileLaws.{halted-reads, one-halt, one-text}
-
--- ---- of the faults of a text one is the first
-
-faultless-first : (faults : Faults) (f : TextFault) → IsFaultless faults → IsFirst faults f → ⊥
-faultless-first faults f clean first = none_is_not_some (sym clean ∙ first)
-
-first-same : (faults : Faults) (f g : TextFault) → IsFirst faults f → IsFirst faults g → f ≡ g
-first-same faults f g h k = some_is (sym h ∙ k)
 
 -- ---- of a command that works on the clauses of its route file
 
@@ -37,16 +27,14 @@ module _ (files : FileMap) (name : Bytes) where
       → IsRouteFile (Some files) name s →
       r ≡ s
   same-route r s h g =
-      let t = one-text files name ROUTE_LIMIT (λ text. Reads text r) (λ text. Reads text s) h g in
+      let t = one-text files name ROUTE_BYTES (λ text. Reads text r) (λ text. Reads text s) h g in
       t.1.1 ∙ sym t.2.1
 
   -- a route file that reads is not halted
   reads-on : (r : RouteText) (a : Outcome) → IsHalted (Some files) (route_file name) a →
       IsRouteFile (Some files) name r → ⊥
-  reads-on r a h g = halted-reads files (route_file name) (λ text. Reads text r) clash a h g
-    where
-      clash : (text : Bytes) (f : TextFault) → Reads text r → (route_file name).refuses text f → ⊥
-      clash text f read refused = none_is_not_some (sym read.0 ∙ refused.1.1)
+  reads-on r a h g =
+      halted-reads files (route_file name) (λ text. Reads text r) (λ text read. read.0) a h g
 
   module _ (width : ℕ) where
     unbuilt-reads : (a : Outcome) → IsUnbuilt (Some files) name width a →
@@ -80,7 +68,7 @@ module _ (files : FileMap) (name : Bytes) where
         → IsTrueOfClauses name width says (Some files) b →
         (a ≡ b) ⊎ ((route : RouteText) × says route a × says route b)
     clauses-agree says a b (inl h) (inl g) =
-        inl (one-halt files (route_file name) (λ t f k one two. one.0 ∙ sym two.0) a b h g)
+        inl (one-halt files (route_file name) a b h g)
     clauses-agree says a b (inl h) (inr (inl g)) =
         let r = unbuilt-reads b g in absurd (reads-on r.0 a h r.1)
     clauses-agree says a b (inl h) (inr (inr p)) = absurd (reads-on p.0 a h p.1.reads)
@@ -115,40 +103,30 @@ module _ (job : CheckJob) (files : FileMap) where
       reads-log : List Step → Bytes → Type 0
       reads-log log text = ReadsLrat (length cnf.clauses) text log
 
-      clash : (log : List Step) (text : Bytes) (f : TextFault) → reads-log log text →
-          IsFirst (lrat_faults (length cnf.clauses) text) f → ⊥
-      clash log text f read first =
-          faultless-first (lrat_faults (length cnf.clauses) text) f read.faultless first
-
       go : ChecksLog (IsHalted (Some files)) job (Some files) cnf a →
           ChecksLog (IsHalted (Some files)) job (Some files) cnf b → a ≡ b
       go (inl h) (inl g) =
-          one-halt files (lrat_file (length cnf.clauses) job.lrat)
-          (λ t. first-same (lrat_faults (length cnf.clauses) t)) a b h g
+          one-halt files (lrat_file (length cnf.clauses) job.lrat) a b h g
       go (inl h) (inr g) = absurd (halted-reads files (lrat_file (length cnf.clauses) job.lrat)
-          (reads-log g.0) (clash g.0) a h g.1)
+          (reads-log g.0) (λ text read. read.faultless) a h g.1)
       go (inr h) (inl g) = absurd (halted-reads files (lrat_file (length cnf.clauses) job.lrat)
-          (reads-log h.0) (clash h.0) b g h.1)
+          (reads-log h.0) (λ text read. read.faultless) b g h.1)
       go (inr h) (inr g) =
-          let t = one-text files job.lrat PROOF_LIMIT (reads-log h.0) (reads-log g.0) h.1 g.1 in
+          let t = one-text files job.lrat PROOF_BYTES (reads-log h.0) (reads-log g.0) h.1 g.1 in
           h.2 ∙ ap (λ (log : List Step). judgement_outcome (judge cnf log))
           (t.1.steps ∙ sym t.2.steps)
           ∙ sym g.2
 
-  cnf-clash : (cnf : Cnf) (text : Bytes) (f : TextFault) → ReadsCnf text cnf →
-      IsFirst (cnf_faults text) f → ⊥
-  cnf-clash cnf text f read first = faultless-first (cnf_faults text) f read.faultless first
-
   check-agree : (a b : Outcome) → ChecksFiles (IsHalted (Some files)) job (Some files) a →
       ChecksFiles (IsHalted (Some files)) job (Some files) b → a ≡ b
   check-agree a b (inl h) (inl g) =
-      one-halt files (cnf_file job.cnf) (λ t. first-same (cnf_faults t)) a b h g
+      one-halt files (cnf_file job.cnf) a b h g
   check-agree a b (inl h) (inr g) = absurd (halted-reads files (cnf_file job.cnf)
-      (λ text. ReadsCnf text g.0) (cnf-clash g.0) a h g.1)
+      (λ text. ReadsCnf text g.0) (λ text read. read.faultless) a h g.1)
   check-agree a b (inr h) (inl g) = absurd (halted-reads files (cnf_file job.cnf)
-      (λ text. ReadsCnf text h.0) (cnf-clash h.0) b g h.1)
+      (λ text. ReadsCnf text h.0) (λ text read. read.faultless) b g h.1)
   check-agree a b (inr h) (inr g) =
-      let t = one-text files job.cnf PROOF_LIMIT (λ text. ReadsCnf text h.0)
+      let t = one-text files job.cnf PROOF_BYTES (λ text. ReadsCnf text h.0)
       (λ text. ReadsCnf text g.0) h.1 g.1 in
       let same : g.0 ≡ h.0 = t.2.formula ∙ sym t.1.formula in
       log-agree h.0 a b h.2

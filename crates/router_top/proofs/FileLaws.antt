@@ -4,8 +4,8 @@ use Rattle.desk_io.specs.DeskState.{DeskState}
 use Rattle.desk_io.specs.Files.{Bytes, FileMap, HasRisen, RisesByOne}
 use Rattle.desk_io.specs.Reading.{FaultIsOn}
 use Rattle.desk_io.proofs.FileLemmas.{has_risen}
-use Rattle.fpga_text.specs.declared.fault.TextFault.{TextFault}
-use Rattle.list_laws.proofs.Places.{some_is}
+use Rattle.fpga_text.specs.FirstFault.{IsFaultless, IsFirst}
+use Rattle.list_laws.proofs.Places.{none_is_not_some, some_is}
 use Rattle.router_top.specs.Inputs.{HasText, InputFile, IsHalted, IsLonger, IsStopped, fault_outcome}
 use Rattle.router_top.specs.declared.outcome.Outcome.{Outcome}
 use Rattle.router_top.specs.declared.outcome.Outcome.TheVariants.{OutOfMemory}
@@ -30,30 +30,27 @@ module _ (files : FileMap) (name : Bytes) where
       let same : a.0 ≡ b.0 = some_is (sym a.1 ∙ b.1) in
       omega (arith, a.2, b.2, ap length same)
 
--- a file whose text is refused with one fault alone
-module _ (files : FileMap) (file : InputFile)
-    (one : (text : Bytes) (f g : TextFault) → file.refuses text f → file.refuses text g
-    → f ≡ g) where
-  pub one-halt : (a b : Outcome) → IsHalted (Some files) file a → IsHalted (Some files) file b
-      → a ≡ b
-  one-halt a b (inl h) (inl g) = h.1 ∙ sym g.1
-  one-halt a b (inl h) (inr g) =
-      absurd (long-text files file.name file.limit (λ t. file.refuses t g.0) h.0 g.1)
-  one-halt a b (inr h) (inl g) =
-      absurd (long-text files file.name file.limit (λ t. file.refuses t h.0) g.0 h.1)
-  one-halt a b (inr h) (inr g) =
-      let t = one-text files file.name file.limit (λ t. file.refuses t h.0)
-      (λ t. file.refuses t g.0) h.1 g.1 in
-      h.2 ∙ ap (fault_outcome file.number) (one t.0 h.0 g.0 t.1 t.2) ∙ sym g.2
+-- a file is halted in one way
+pub one-halt : (files : FileMap) (file : InputFile) (a b : Outcome) → IsHalted (Some files) file a
+    → IsHalted (Some files) file b → a ≡ b
+one-halt files file a b (inl h) (inl g) = h.1 ∙ sym g.1
+one-halt files file a b (inl h) (inr g) =
+    absurd (long-text files file.name file.limit (λ t. IsFirst (file.faults t) g.0) h.0 g.1)
+one-halt files file a b (inr h) (inl g) =
+    absurd (long-text files file.name file.limit (λ t. IsFirst (file.faults t) h.0) g.0 h.1)
+one-halt files file a b (inr h) (inr g) =
+    let t = one-text files file.name file.limit (λ t. IsFirst (file.faults t) h.0)
+    (λ t. IsFirst (file.faults t) g.0) h.1 g.1 in
+    h.2 ∙ ap (fault_outcome file.number) (some_is (sym t.1 ∙ t.2)) ∙ sym g.2
 
 -- a file that reads is not halted
-pub halted-reads : (files : FileMap) (file : InputFile) (P : Bytes → Type 0) →
-    ((text : Bytes) (f : TextFault) → P text → file.refuses text f → ⊥) → (a : Outcome) →
-    IsHalted (Some files) file a → HasText file.limit (Some files) file.name P → ⊥
-halted-reads files file P clash a (inl h) g = long-text files file.name file.limit P h.0 g
-halted-reads files file P clash a (inr h) g =
-    let t = one-text files file.name file.limit P (λ t. file.refuses t h.0) g h.1 in
-    clash t.0 h.0 t.1 t.2
+pub halted-reads : (files : FileMap) (file : InputFile) (P : Bytes → Type 0)
+    → ((text : Bytes) → P text → IsFaultless (file.faults text)) → (a : Outcome)
+    → IsHalted (Some files) file a → HasText file.limit (Some files) file.name P → ⊥
+halted-reads files file P clean a (inl h) g = long-text files file.name file.limit P h.0 g
+halted-reads files file P clean a (inr h) g =
+    let t = one-text files file.name file.limit P (λ t. IsFirst (file.faults t) h.0) g h.1 in
+    none_is_not_some (sym (clean t.0 t.1) ∙ t.2)
 
 -- ---- of a file that is read
 
@@ -66,8 +63,7 @@ stop-halts file before now o (inr (inl h)) calm = absurd (calm (has_risen _ _ h.
 stop-halts file before now o (inr (inr h)) calm = inl h
 
 -- a file that was not read from a later state of the desk was not read from an earlier one that
--- tells
--- the same of it
+-- tells the same of it
 pub stop-before : (file : InputFile) (before between now : DeskState) (o : Outcome) →
     between.files ≡ before.files → between.faults ≡ before.faults → IsStopped file between now o →
     IsStopped file before now o

@@ -49,8 +49,7 @@ Reports before outcome now answer =
     ⊎ ((answer ≡ unsaid outcome) × FailsToSay before (line_of outcome) now)
 
 -- a run: the work leaves a shelf with an outcome, which is reported; the files of the desk stay,
--- and
--- where the desk has not failed, its count of faults is as it was
+-- and where the desk has not failed, its count of faults is as it was
 pub record Runs
     (words : List Word) (desk desk_now : DeskState) (shelf shelf_now : ShelfState)
     (answer : Outcome) : Type 0 where
@@ -62,8 +61,7 @@ pub record Runs
   pub reports : Reports between outcome shelf_now answer
 
 -- where the files are told, no fault has risen, memory sufficed and some outcome is true, the
--- answer
--- is true and agrees with that outcome
+-- answer is true and agrees with that outcome
 abbrev pub IsComplete : List Word → (desk desk_now : DeskState) → (shelf shelf_now : ShelfState)
     → Outcome → Type 0
 IsComplete words desk desk_now shelf shelf_now answer =

@@ -5,32 +5,28 @@ use Rattle.desk_io.specs.Files.{Bytes, FileMap}
 use Rattle.fpga_types.specs.Fit.{IsFit}
 use Rattle.fpga_types.specs.Legal.{IsLegalSubset}
 use Rattle.fpga_types.specs.declared.route.RouteText.{RouteText}
-use Rattle.fpga_text.specs.declared.fault.TextFault.TheVariants.{Bad}
-use Rattle.fpga_route.specs.Refusals.{HasFault}
+use Rattle.fpga_route.specs.Codes.{route_faults}
 use Rattle.fpga_route.specs.Value.{Reads}
 use Rattle.sat_clause.specs.declared.limits.TheConstants.{CLAUSE_LIMIT}
 use Rattle.route_encode.specs.Encoding.{encoding_subset}
 use Rattle.router_top.specs.Command.{Word}
 use Rattle.router_top.specs.Inputs.{HasText, InputFile, IsHalted, IsStopped}
+use Rattle.router_top.specs.declared.limits.TheConstants.{ROUTE_BYTES}
 use Rattle.router_top.specs.declared.outcome.Outcome.{Outcome}
 use Rattle.router_top.specs.declared.outcome.Outcome.TheVariants.{InputFault, Limit}
 
--- how many bytes a route file may have
-abbrev pub ROUTE_LIMIT : ℕ
-ROUTE_LIMIT = 67108864
-
--- the route file with this name; which of its lines is bad is not told
+-- the route file with this name
 abbrev pub route_file : Bytes → InputFile
 route_file name = record {
   number = 4;
   name = name;
-  limit = ROUTE_LIMIT;
-  refuses = λ text fault. (fault ≡ Bad 0 400) × HasFault text;
+  limit = ROUTE_BYTES;
+  faults = route_faults;
 }
 
 -- the file with this name is within its limit and reads as this route
 abbrev pub IsRouteFile : Option FileMap → Bytes → RouteText → Type 0
-IsRouteFile files name route = HasText ROUTE_LIMIT files name (λ text. Reads text route)
+IsRouteFile files name route = HasText ROUTE_BYTES files name (λ text. Reads text route)
 
 -- the route is one that some text reads as
 abbrev pub IsReadable : RouteText → Type 0

@@ -6,24 +6,20 @@ use Rattle.sat_clause.specs.Formula.{Cnf}
 use Rattle.sat_clause.specs.Judge.{Judgement, Accepted as IsAccepted, Refused as IsRefused, judge}
 use Rattle.sat_clause.specs.Step.{Step}
 use Rattle.sat_text.specs.CnfText.{ReadsCnf, cnf_faults}
-use Rattle.fpga_text.specs.FirstFault.{IsFirst}
 use Rattle.sat_text.specs.LratText.{ReadsLrat, lrat_faults}
 use Rattle.router_top.specs.Command.{CheckJob}
 use Rattle.router_top.specs.Inputs.{HasText, InputFile}
+use Rattle.router_top.specs.declared.limits.TheConstants.{PROOF_BYTES}
 use Rattle.router_top.specs.declared.outcome.Outcome.{Outcome}
 use Rattle.router_top.specs.declared.outcome.Outcome.TheVariants.{Accepted, NotAccepted}
-
--- how many bytes a CNF or an LRAT file may have
-abbrev pub PROOF_LIMIT : ℕ
-PROOF_LIMIT = 2147483648
 
 -- the CNF file with this name
 abbrev pub cnf_file : Bytes → InputFile
 cnf_file name = record {
   number = 5;
   name = name;
-  limit = PROOF_LIMIT;
-  refuses = λ text fault. IsFirst (cnf_faults text) fault;
+  limit = PROOF_BYTES;
+  faults = cnf_faults;
 }
 
 -- the LRAT file with this name, behind so many input clauses
@@ -31,18 +27,18 @@ abbrev pub lrat_file : ℕ → Bytes → InputFile
 lrat_file inputs name = record {
   number = 6;
   name = name;
-  limit = PROOF_LIMIT;
-  refuses = λ text fault. IsFirst (lrat_faults inputs text) fault;
+  limit = PROOF_BYTES;
+  faults = lrat_faults inputs;
 }
 
 -- the CNF file reads as this formula
 abbrev pub IsCnfFile : Option FileMap → Bytes → Cnf → Type 0
-IsCnfFile files name cnf = HasText PROOF_LIMIT files name (λ text. ReadsCnf text cnf)
+IsCnfFile files name cnf = HasText PROOF_BYTES files name (λ text. ReadsCnf text cnf)
 
 -- the LRAT file reads as this log, behind so many input clauses
 abbrev pub IsLratFile : Option FileMap → Bytes → ℕ → List Step → Type 0
 IsLratFile files name inputs log =
-    HasText PROOF_LIMIT files name (λ text. ReadsLrat inputs text log)
+    HasText PROOF_BYTES files name (λ text. ReadsLrat inputs text log)
 
 -- what a run comes to by the judgement of a log
 abbrev pub judgement_outcome : Judgement → Outcome

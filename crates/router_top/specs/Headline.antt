@@ -1,6 +1,5 @@
 -- The headline: what it means that a run answers that a routing or the clauses were written, that
--- no
--- routing is legal, that it is left open, or that a refutation is accepted.
+-- no routing is legal, that it is left open, or that a refutation is accepted.
 use Rattle.std.specs.Prelude.{◌≡◌, ℕ, List, length, Ok, Option, option_map}
 use Rattle.std.specs.FinMap.{insert}
 use Rattle.desk_io.specs.Files.{Bytes, FileMap}
@@ -32,8 +31,7 @@ WritesProofAlone before now prefix cnf log =
     (option_map (λ files. insert files (cnf_name prefix) (cnf_text cnf)) before)
 
 -- the words ask for a routing of this width, the route file reads as a route that fits its array
--- and
--- has few enough clauses, and what was left has this property
+-- and has few enough clauses, and what was left has this property
 pub record IsSearched
     (words : List Word) (desk_files : Option FileMap) (width : ℕ)
     (leaves : RouteJob → RouteText → Type 0) : Type 0 where
@@ -60,8 +58,7 @@ RoutesOnlyTruly words desk_files before now answer =
     (width : ℕ) → answer ≡ Routed width → IsSearched words desk_files width (IsRouted before now)
 
 -- of all files two were written: the clauses of the route, and a log that refutes them; so no
--- tracks
--- are legal
+-- tracks are legal
 pub record IsRefuted (before now : Option FileMap) (job : RouteJob)
     (route : RouteText) : Type 0 where
   pub log : List Step

@@ -1,10 +1,11 @@
 -- The files that a command reads, and what keeps one from being read.
-use Rattle.std.specs.Prelude.{◌≡◌, ◌⊎◌, ℕ, ◌+◌, ◌<◌, ◌≤◌, length, Option, Some}
+use Rattle.std.specs.Prelude.{◌≡◌, ◌⊎◌, ℕ, ◌+◌, ◌<◌, ◌≤◌, [], length, Option, Some}
 use Rattle.std.specs.Option.{ForSome}
 use Rattle.std.specs.FinMap.{get}
 use Rattle.desk_io.specs.DeskState.{DeskState}
 use Rattle.desk_io.specs.Files.{Bytes, FileMap, RisesByOne}
 use Rattle.desk_io.specs.Reading.{FaultIsOn}
+use Rattle.fpga_text.specs.FirstFault.{Faults, IsFirst}
 use Rattle.fpga_text.specs.declared.fault.TextFault.{TextFault}
 use Rattle.fpga_text.specs.declared.fault.TextFault.TheVariants.{Bad, Limit as PastLimit, Memory}
 use Rattle.router_top.specs.declared.outcome.Outcome.{Outcome}
@@ -31,12 +32,12 @@ pub record FailsToRead (before now : DeskState) (name : Bytes) : Type 0 where
   pub on : FaultIsOn before.files name now.fault_name
 
 -- a file of a command: its number among the files of all commands, its name, how many bytes it may
--- have, and with which faults a text is refused there
-pub record InputFile : Type 1 where
+-- have, and the faults of a text there
+pub record InputFile : Type 0 where
   pub number : ℕ
   pub name : Bytes
   pub limit : ℕ
-  pub refuses : Bytes → TextFault → Type 0
+  pub faults : Bytes → Faults
 
 -- what a run comes to where the text of the file with this number has this fault
 abbrev pub fault_outcome : ℕ → TextFault → Outcome
@@ -44,11 +45,12 @@ fault_outcome file (Bad line code) = InputFault file line code
 fault_outcome file (PastLimit code count) = Limit code count
 fault_outcome file Memory = OutOfMemory
 
--- the file is longer than it may be, or its text is refused; and the outcome says so
+-- the file is longer than it may be, or its text has a fault; and the outcome says so
 abbrev pub IsHalted : Option FileMap → InputFile → Outcome → Type 0
 IsHalted files file outcome =
     (IsLonger file.limit files file.name × (outcome ≡ Limit (910 + file.number) (file.limit + 1)))
-    ⊎ ((fault : TextFault) × HasText file.limit files file.name (λ text. file.refuses text fault)
+    ⊎ ((fault : TextFault)
+    × HasText file.limit files file.name (λ text. IsFirst (file.faults text) fault)
     × (outcome ≡ fault_outcome file.number fault))
 
 -- the file was not read, and the outcome says why: memory ran out, the desk failed, or the file is
@@ -65,5 +67,5 @@ bytes_file number name limit = record {
   number = number;
   name = name;
   limit = limit;
-  refuses = λ text fault. ⊥;
+  faults = λ text. [];
 }

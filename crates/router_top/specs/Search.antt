@@ -27,8 +27,7 @@ pub record ReadBack (cnf : Cnf) (log : List Step) : Type 0 where
   pub steps : ReadsLrat (length cnf.clauses) (log_text log) log
 
 -- the log is of a search through the clauses of the route that deleted nothing, and refutes them
--- within
--- the budget; so no tracks are legal
+-- within the budget; so no tracks are legal
 pub record IsRefutedBy (job : RouteJob) (route : RouteText) (log : List Step) : Type 0 where
   pub search : IsSearchLog (cnf_subset job.width route) log
   pub none_deleted : deletions log ≡ 0

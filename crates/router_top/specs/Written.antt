@@ -29,8 +29,7 @@ FailsToWriteProof before prefix cnf log slot now =
     (lrat_name prefix) (log_text log) now)
 
 -- what is left where the clauses and the log behind them were to be written, and the run was to
--- come
--- to this: both were written, and the clauses read back; or one of them was not
+-- come to this: both were written, and the clauses read back; or one of them was not
 abbrev pub WritesProof : ShelfState → Word → Cnf → List Step → (ended : Outcome)
     → (now : ShelfState)
     → Outcome → Type 0

@@ -8,11 +8,12 @@ ghost use Rattle.router_top.specs.Written.{WritesCnf};
 
 use crate::job_words::EncodeWords;
 use crate::outcome::Outcome;
-use crate::output::{CNF_SLOT, file_name, write_cnf_file};
+use crate::output::{CNF_SLOT, file_name};
 use crate::problem_file::pose_problem;
-use desk_io::{Desk, Shelf};
+use desk_io::{Desk, Shelf, write_file};
 use fpga_bounds::Problem;
 use route_encode::{Encoder, Strict};
+use sat_text::CnfText;
 use std::alloc::Global;
 
 // Builds the clauses of a problem and writes them.
@@ -33,7 +34,7 @@ fn write_clauses<S: Shelf>(
     let Ok(name) = file_name(alloc, job.prefix, ".cnf") else {
         return Outcome::OutOfMemory;
     };
-    let Ok(()) = write_cnf_file(shelf, name.as_str(), &formula) else {
+    let Ok(()) = write_file(&CnfText, shelf, name.as_str(), &formula) else {
         return Outcome::WriteFault { slot: CNF_SLOT };
     };
     Outcome::Done

@@ -24,8 +24,7 @@ pub enum Outcome {
     /// with this cause, from 1 to 7.
     NotAccepted { step: u64, cause: u32 },
     /// A file is bad: this is the first bad line, and the least code that holds there. Today the
-    /// faults of a route are not told apart: the line is 0, and the code is 400 where the route
-    /// file does not read and 500 where the route does not fit.
+    /// faults of a route that does not fit are not told apart: the line is 0 and the code is 500.
     InputFault { file: u32, line: u64, code: u32 },
     /// A count passes its limit.
     Limit { code: u32, count: u64 },

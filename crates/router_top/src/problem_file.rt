@@ -5,6 +5,7 @@ ghost use Rattle.router_top.specs.Asked.{EndsEarly, HasFew, IsReadable, IsRouteF
 ghost use Rattle.router_top.specs.Report.{IsReadFaultErr, NamesKnownFile};
 
 use crate::input::{read_input, text_refused};
+use crate::limits::ROUTE_BYTES;
 use crate::outcome::Outcome;
 use desk_io::Desk;
 use fpga_bounds::{Problem, fit_route};
@@ -13,9 +14,6 @@ use fpga_types::WIDTH_LIMIT;
 use route_encode::{Encoder, Strict};
 use sat_clause::CLAUSE_LIMIT;
 use std::alloc::Global;
-
-// How many bytes a route file may have.
-const ROUTE_BYTES: u64 = 67_108_864;
 
 // The number of the route file among the files of a command.
 const ROUTE_FILE: u32 = 4;

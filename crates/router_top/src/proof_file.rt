@@ -5,14 +5,12 @@ ghost use Rattle.router_top.specs.Inputs.{IsStopped};
 ghost use Rattle.router_top.specs.Report.{IsReadFaultErr, NamesKnownFile};
 
 use crate::input::{read_input, text_refused};
+use crate::limits::PROOF_BYTES;
 use crate::outcome::Outcome;
 use desk_io::Desk;
 use sat_clause::{Formula, Log};
 use sat_text::{read_cnf, read_lrat};
 use std::alloc::Global;
-
-// How many bytes a CNF or an LRAT file may have.
-const PROOF_BYTES: u64 = 2_147_483_648;
 
 // The numbers of the CNF and the LRAT file among the files of a command.
 const CNF_FILE: u32 = 5;

@@ -12,15 +12,15 @@ ghost use Rattle.sat_clause.specs.Formula.{Satisfies};
 
 use crate::job_words::RouteWords;
 use crate::outcome::Outcome;
-use crate::output::{
-    CNF_SLOT, LRAT_SLOT, ROUTE_SLOT, file_name, write_cnf_file, write_lrat_file, write_route_file,
-};
+use crate::output::{CNF_SLOT, LRAT_SLOT, ROUTE_SLOT, file_name};
 use crate::problem_file::pose_problem;
-use desk_io::{Desk, Shelf};
+use desk_io::{Desk, Shelf, write_file};
 use fpga_bounds::Problem;
+use fpga_route::WholeRoute;
 use route_encode::{Encoder, Strict};
 use sat_clause::{CLAUSE_LIMIT, Formula, Log};
 use sat_core::{Answer, solve};
+use sat_text::{CnfText, LratText};
 use std::alloc::Global;
 
 // Writes the routing that these values of the problem's variables stand for.
@@ -43,7 +43,7 @@ fn write_routing<S: Shelf>(
     let Ok(name) = file_name(alloc, job.prefix, ".route") else {
         return Outcome::OutOfMemory;
     };
-    let Ok(()) = write_route_file(shelf, name.as_str(), &found) else {
+    let Ok(()) = write_file(&WholeRoute, shelf, name.as_str(), &found) else {
         return Outcome::WriteFault { slot: ROUTE_SLOT };
     };
     Outcome::Routed { width: job.width }
@@ -71,10 +71,10 @@ fn write_proof<S: Shelf>(
     let Ok(lrat_name) = file_name(alloc, prefix, ".lrat") else {
         return Outcome::OutOfMemory;
     };
-    let Ok(()) = write_cnf_file(shelf, cnf_name.as_str(), formula) else {
+    let Ok(()) = write_file(&CnfText, shelf, cnf_name.as_str(), formula) else {
         return Outcome::WriteFault { slot: CNF_SLOT };
     };
-    let Ok(()) = write_lrat_file(shelf, lrat_name.as_str(), log) else {
+    let Ok(()) = write_file(&LratText, shelf, lrat_name.as_str(), log) else {
         return Outcome::WriteFault { slot: LRAT_SLOT };
     };
     ended

@@ -1,6 +1,7 @@
 //! Each command once over the tables in memory, with what it writes byte for byte.
 use crate::outcome::{Outcome, report, status};
 use crate::running::run;
+use crate::words::WordsFault;
 use desk_io::{MemDesk, MemShelf};
 use std::alloc::Global;
 use std::process::Abort;
@@ -8,11 +9,15 @@ use std::test::Fail;
 
 // One net from a pad to a pad, in the printed form.
 const ONE: &str =
-    "Array size: 1 x 1 logic blocks.\n\nRouting:\n\nNet 0 (n0)\n\nSOURCE (1,0)  Pad: 0  \n  OPIN (1,0)  Pad: 0  \n CHANX (1,0)  Track: 0  \n  IPIN (1,0)  Pad: 1  \n  SINK (1,0)  Pad: 1  \n\n";
+    "Array size: 1 x 1 logic blocks.\n\nRouting:\n\nNet 0 (n0)\n\nSOURCE (1,0)  Pad: 0  \n  \
+      OPIN (1,0)  Pad: 0  \n CHANX (1,0)  Track: 0  \n  IPIN (1,0)  Pad: 1  \n  \
+      SINK (1,0)  Pad: 1  \n\n";
 
 // Two nets through one cell.
-const TWO: &str =
-    "Array size: 1 x 1 logic blocks\nRouting:\nNet 0 (n0)\nSOURCE (1,0) Pad: 0\nOPIN (1,0) Pad: 0\nCHANX (1,0) Track: 0\nIPIN (1,0) Pad: 1\nSINK (1,0) Pad: 1\nNet 1 (n1)\nSOURCE (1,0) Pad: 2\nOPIN (1,0) Pad: 2\nCHANX (1,0) Track: 0\nIPIN (1,0) Pad: 3\nSINK (1,0) Pad: 3\n";
+const TWO: &str = "Array size: 1 x 1 logic blocks\nRouting:\nNet 0 (n0)\nSOURCE (1,0) Pad: 0\n\
+     OPIN (1,0) Pad: 0\nCHANX (1,0) Track: 0\nIPIN (1,0) Pad: 1\nSINK (1,0) Pad: 1\n\
+     Net 1 (n1)\nSOURCE (1,0) Pad: 2\nOPIN (1,0) Pad: 2\nCHANX (1,0) Track: 0\n\
+     IPIN (1,0) Pad: 3\nSINK (1,0) Pad: 3\n";
 
 // Its clauses at width 1.
 const TWO_CNF: &str = "p cnf 2 3\n1 0\n2 0\n-1 -2 0\n";
@@ -108,4 +113,21 @@ fn statuses_and_reports(rt: HostRuntime) {
     );
     let lost = Outcome::ReadFault { file: 7 };
     assert_eq!(rt; report(&lost).as_str(), "read fault: routed");
+}
+
+#[test]
+fn words_that_are_not_taken_say_why(rt: HostRuntime) -> Result<(), Fail> {
+    let texts = format!(in rt.alloc();
+        "{}|{}|{}",
+        WordsFault::Command,
+        WordsFault::Count,
+        WordsFault::Number
+    )?;
+    assert_eq!(rt;
+        texts.as_str(),
+        "the first word names no command\
+        |the command takes another number of words\
+        |the width or the budget is no whole number in its range"
+    );
+    Ok(())
 }

@@ -8,15 +8,19 @@ use crate::job_words::{CheckWords, EncodeWords, JobWords, RouteWords};
 use crate::limits::BUDGET_LIMIT;
 use fpga_text::whole_number;
 use fpga_types::WIDTH_LIMIT;
+use thiserror::Error;
 
 /// Why words are not taken.
-#[derive(Clone, Copy, Debug, PartialEq, Eq)]
+#[derive(Clone, Copy, Debug, PartialEq, Eq, Error)]
 pub enum WordsFault {
     /// The first word names no command, or there is none.
+    #[error("the first word names no command")]
     Command,
     /// There are not as many words after it as it takes.
+    #[error("the command takes another number of words")]
     Count,
     /// The width or the budget is no whole number in its range.
+    #[error("the width or the budget is no whole number in its range")]
     Number,
 }
 

@@ -5,7 +5,17 @@ pub use Prim.Native.Nat.{ℕ, ◌+◌, ◌*◌, ◌<◌, ◌^◌}
 pub use native.Mathlib.Omega.{arith}
 pub use mathlib.Core.List.{List, [], ◌∷◌, ◌++◌, map}
 pub use lib.Dec.{T, lit<}
-pub use lib.ListN.{length, take, set, get_or, replicate, length-set, length-take, length-drop, length-replicate}
+pub use lib.ListN.{
+  length,
+  take,
+  set,
+  get_or,
+  replicate,
+  length-set,
+  length-take,
+  length-drop,
+  length-replicate,
+}
 pub use seplogic.Ra.Ura.{Ura}
 pub use base.Fraction.{full_share}
 pub use base.Logic.{SProp, ent, never, id⊢}
@@ -22,11 +32,89 @@ pub use types.SemTy.{Body as Borrowed}
 pub use contract.Monad.{Fun, fact}
 pub use contract.BorrowLft.{◌⊑◌}
 pub use sound.WpLaws.{FmC, WpFn-mono, fm_of}
-pub use types.Kit.{Item, Post as After, ⋆, ‵, raw, ◌⊛◌, given, later, await, learn, at_ret, any_q, ◌$◌, ◌∵◌, !, qed, by, move, keep, drop, use0, use1, use2, use3, split, join, group, rewrite, fsplit, fsplit3, fjoin, fjoin3, feq_i, feq_l, flt_i, flt_l, suffices, frame, done}
+pub use types.Kit.{
+  Item,
+  Post as After,
+  ⋆,
+  ‵,
+  raw,
+  ◌⊛◌,
+  given,
+  later,
+  await,
+  learn,
+  at_ret,
+  any_q,
+  ◌$◌,
+  ◌∵◌,
+  !,
+  qed,
+  by,
+  move,
+  keep,
+  drop,
+  use0,
+  use1,
+  use2,
+  use3,
+  split,
+  join,
+  group,
+  rewrite,
+  fsplit,
+  fsplit3,
+  fjoin,
+  fjoin3,
+  feq_i,
+  feq_l,
+  flt_i,
+  flt_l,
+  suffices,
+  frame,
+  done,
+}
 pub use types.Part.{whole, sub, agg}
 pub use types.Match.{live, vrt, in_variant}
-pub use types.Run.{init, stop, fld, lit, unit_lit, of_opd, addr, bin, and_then, no_more, assigns_last, first, blocks, switches_on, exec, returns, enter, size_lit, size_word, align_word}
-pub use types.ByLocal.{alloc_all, pass_all, free_all, look_at, get, get_in, get_tag, through, sets, sets_last, lands_as, lands_last, take_at, give_at, is, env}
+pub use types.Run.{
+  init,
+  stop,
+  fld,
+  lit,
+  unit_lit,
+  of_opd,
+  addr,
+  bin,
+  and_then,
+  no_more,
+  assigns_last,
+  first,
+  blocks,
+  switches_on,
+  exec,
+  returns,
+  enter,
+  size_lit,
+  size_word,
+  align_word,
+}
+pub use types.ByLocal.{
+  alloc_all,
+  pass_all,
+  free_all,
+  look_at,
+  get,
+  get_in,
+  get_tag,
+  through,
+  sets,
+  sets_last,
+  lands_as,
+  lands_last,
+  take_at,
+  give_at,
+  is,
+  env,
+}
 pub use denote.Exit.{yes, no}
 pub use denote.RattleType.{RattleType, owns}
 pub use denote.Laws.{Is}
@@ -48,7 +136,18 @@ pub use denote.Triple.Entry.{on_entry}
 pub use denote.Triple.Spec.{Meets, triple_of}
 pub use denote.Triple.Statement.{Triple}
 pub use denote.Triple.Table.{entered, run_framed}
-pub use denote.Triple.Walked.{says, needs, Stays, stay_dropped, stay_ref, walk_of, ends_at, Goes-dropped, Goes-ref, walk_Meets}
+pub use denote.Triple.Walked.{
+  says,
+  needs,
+  Stays,
+  stay_dropped,
+  stay_ref,
+  walk_of,
+  ends_at,
+  Goes-dropped,
+  Goes-ref,
+  walk_Meets,
+}
 pub use Rattle.std.specs.Prelude.{Some, None, IfOk, Ok, Err}
 pub use Rattle.core.proofs.mem.Param.{El, R, args, el_x, elτ}
 pub use Rattle.core.proofs.ptr.Rows.{times_below, one_below}

@@ -11,12 +11,14 @@ use Rattle.sat_check.specs.FalseStore.{slot_of}
 -- turned round, a list has the same literals
 pub is_among-reverse : (lits : List Lit) (l : Lit) → is_among (reverse lits) l ≡ is_among lits l
 is_among-reverse lits l =
-    sym (list_any-IsPermutation (λ m. int_eq m.code l.code) lits (reverse lits) (IsPermutation-reverse lits))
+    sym (list_any-IsPermutation (λ m. int_eq m.code l.code) lits (reverse lits)
+    (IsPermutation-reverse lits))
 
 -- where the marks of a set's literals are taken away, and none has come, none is left
 pub none_is_marked : (size : ℕ) (old new : List ℕ) (trail : List Lit) →
     ((l : Lit) → IsWithin size l → is_set old (slot_of l.code) ≡ is_among (reverse trail) l) →
-    ((l : Lit) → IsWithin size l → IsTrue (is_among trail l) → is_set new (slot_of l.code) ≡ false) →
+    ((l : Lit) → IsWithin size l → IsTrue (is_among trail l) → is_set new (slot_of l.code) ≡ false)
+    →
     ((at : ℕ) → is_set old at ≡ false → is_set new at ≡ false) →
     (l : Lit) → IsWithin size l → is_set new (slot_of l.code) ≡ false
 none_is_marked size old new trail marked unmarked others l within = by (is_among trail l) refl

@@ -19,60 +19,76 @@ eqb_sym : (a b : ℕ) → eqb a b ≡ eqb b a
 eqb_sym a b = grind (arith, nat_tests)
 
 -- a hint names the same
-pub named_finds : (find : Finder) (live : Live) → Finds find live → (h : ℤ) → named_by find h ≡ named live h
+pub named_finds : (find : Finder) (live : Live) → Finds find live → (h : ℤ) → named_by find h
+    ≡ named live h
 named_finds find live finds (pos zero) = refl
 named_finds find live finds (pos (suc n)) = finds (suc n)
 named_finds find live finds (negsuc n) = refl
 
 -- a positive number names the clause with that id
-pub named_positive : (find : Finder) (h : ℤ) → le_z h (pos 0) ≡ false → named_by find h ≡ find (nat_abs h)
+pub named_positive : (find : Finder) (h : ℤ) → le_z h (pos 0) ≡ false → named_by find h
+    ≡ find (nat_abs h)
 named_positive find (pos zero) above = absurd (both_ways true above refl)
 named_positive find (pos (suc n)) above = refl
 named_positive find (negsuc n) above = absurd (both_ways true above refl)
 
 module _ (find new : Finder) (id : ℕ) (live : Live) (finds : Finds find live) where
   -- a clause that comes under an id is put in
-  pub finds_put : (clause : Clause) → Changes find new id (Some clause) → Finds new (put live id clause)
+  pub finds_put : (clause : Clause) → Changes find new id (Some clause)
+      → Finds new (put live id clause)
   finds_put clause changes q =
       changes q ∙ ap (cond (eqb id q) (Some clause)) (finds q)
       ∙ ap (λ b. cond b (Some clause) (clause_at live q)) (eqb_sym id q)
 
   -- and where there is none any more, it is out
   finds_without : Changes find new id None → Finds new (without live id)
-  finds_without changes q = changes q ∙ ap (cond (eqb id q) None) (finds q) ∙ sym (clause_at-without live id q)
+  finds_without changes q =
+      changes q ∙ ap (cond (eqb id q) None) (finds q) ∙ sym (clause_at-without live id q)
 
-pub finds_take_out : (find new : Finder) (id : ℤ) → le_z id (pos 0) ≡ false → Changes find new (nat_abs id) None →
+pub finds_take_out : (find new : Finder) (id : ℤ) → le_z id (pos 0) ≡ false
+    → Changes find new (nat_abs id) None →
     (live : Live) → Finds find live → Finds new (take_out live id)
-finds_take_out find new (pos n) above changes live finds = finds_without find new n live finds changes
+finds_take_out find new (pos n) above changes live finds =
+    finds_without find new n live finds changes
 finds_take_out find new (negsuc n) above changes live finds = absurd (both_ways true above refl)
 
 -- what goes out of the first and changes in the second changes in both
-pub joined_changes : (a b c d : Finder) (id : ℕ) (value : Option Clause) → Changes a b id None → Changes c d id value →
+pub joined_changes : (a b c d : Finder) (id : ℕ) (value : Option Clause) → Changes a b id None
+    → Changes c d id value →
     Changes (joined a c) (joined b d) id value
 joined_changes a b c d id value out changes q = rw (out q, changes q) (by (eqb id q)) where
-  by : (t : Bool) → option_or (cond t None (a q)) (cond t value (c q)) ≡ cond t value (option_or (a q) (c q))
+  by : (t : Bool) → option_or (cond t None (a q)) (cond t value (c q))
+      ≡ cond t value (option_or (a q) (c q))
   by true = refl
   by false = refl
 
-pub is_some-joined : (a c : Finder) (id : ℕ) → (is_some (a id) || is_some (c id)) ≡ is_some (joined a c id)
+pub is_some-joined : (a c : Finder) (id : ℕ) → (is_some (a id) || is_some (c id))
+    ≡ is_some (joined a c id)
 is_some-joined a c id = by (a id) where
   by : (o : Option Clause) → (is_some o || is_some (c id)) ≡ is_some (option_or o (c id))
   by None = refl
   by (Some clause) = refl
 
--- one more deletion: the ids that are left have the fault that they had with this one, which was live
+-- one more deletion: the ids that are left have the fault that they had with this one, which was
+-- live
 module _ (start : Live) (ids : List ℤ) (i : ℕ) (d : ℤ) (below : i < length ids) where
-  pub erase_next : erase start (take (suc i) ids) ≡ take_out (erase start (take i ids)) (get_or ids i d)
-  erase_next = ap (erase start) (take-suc ids i d below) ∙ fold_push take_out start (take i ids) (get_or ids i d)
+  pub erase_next : erase start (take (suc i) ids)
+      ≡ take_out (erase start (take i ids)) (get_or ids i d)
+  erase_next = ap (erase start) (take-suc ids i d below)
+      ∙ fold_push take_out start (take i ids) (get_or ids i d)
 
   pub erase_fault_here : (live : Live) → erase_fault live (drop i ids)
-      ≡ (if is_some (named live (get_or ids i d)) then erase_fault (take_out live (get_or ids i d)) (drop (suc i) ids) else Some DeletesNotLive)
+      ≡ (if is_some (named live (get_or ids i d)) then erase_fault (take_out live (get_or ids i d))
+      (drop (suc i) ids) else Some DeletesNotLive)
   erase_fault_here live = ap (erase_fault live) (drop-cons ids i d below)
 
 -- where a clause of the variables comes, or goes, all are of the variables still
-pub within_changes : (n : ℕ) (find new : Finder) (id : ℕ) (value : Option Clause) → Changes find new id value →
-    ((clause : Clause) → value ≡ Some clause → All (IsWithin n) clause) → AllWithin n find → AllWithin n new
-within_changes n find new id value changes here within q clause is = by (eqb id q) (sym (changes q) ∙ is)
+pub within_changes : (n : ℕ) (find new : Finder) (id : ℕ) (value : Option Clause)
+    → Changes find new id value →
+    ((clause : Clause) → value ≡ Some clause → All (IsWithin n) clause) → AllWithin n find
+    → AllWithin n new
+within_changes n find new id value changes here within q clause is =
+    by (eqb id q) (sym (changes q) ∙ is)
   where
     by : (b : Bool) → cond b value (find q) ≡ Some clause → All (IsWithin n) clause
     by true e = here clause e

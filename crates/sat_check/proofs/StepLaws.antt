@@ -15,17 +15,21 @@ use Rattle.sat_clause.specs.Judge.{Accepted, Refused, fault, after, inputs, is_e
 use Rattle.sat_check.specs.Finder.{HasVars}
 use Rattle.sat_check.specs.Verdict.{step_of}
 
-module _ (n : ℕ) (live : Live) (log : List Step) (i : ℕ) (step : Step) (at : slice_get log i ≡ Some step) where
+module _ (n : ℕ) (live : Live) (log : List Step) (i : ℕ) (step : Step)
+    (at : slice_get log i ≡ Some step) where
   here : drop i log ≡ step ∷ drop (suc i) log
   here =
       drop-cons log i step (slice_get_within log i step at)
       ∙ ap (λ s. s ∷ drop (suc i) log) (get_or_from_slice_get log i step step at)
 
   judged_as : (f : Option Cause) → fault live step ≡ f →
-      judge_from n live (drop i log) ≡ judge_step n f (is_empty_clause step) (judge_from (suc n) (after live step) (drop (suc i) log))
+      judge_from n live (drop i log)
+      ≡ judge_step n f (is_empty_clause step)
+      (judge_from (suc n) (after live step) (drop (suc i) log))
   judged_as f is =
       ap (judge_from n live) here
-      ∙ ap (λ g. judge_step n g (is_empty_clause step) (judge_from (suc n) (after live step) (drop (suc i) log))) is
+      ∙ ap (λ g. judge_step n g (is_empty_clause step)
+      (judge_from (suc n) (after live step) (drop (suc i) log))) is
 
   -- a step that is refused ends the steps
   pub judge_from-refused : (cause : Cause) → fault live step ≡ Some cause →
@@ -43,10 +47,12 @@ module _ (n : ℕ) (live : Live) (log : List Step) (i : ℕ) (step : Step) (at :
   pub judge_from-next : fault live step ≡ None → is_empty_clause step ≡ false →
       judge_from (suc n) (after live step) (drop (suc i) log) ≡ judge_from n live (drop i log)
   judge_from-next good more =
-      sym (judged_as None good ∙ ap (λ b. judge_step n None b (judge_from (suc n) (after live step) (drop (suc i) log))) more)
+      sym (judged_as None good ∙ ap (λ b. judge_step n None b
+      (judge_from (suc n) (after live step) (drop (suc i) log))) more)
 
 -- the clauses behind one more step
-pub live_next : (formula : Cnf) (log : List Step) (i : ℕ) (step : Step) → slice_get log i ≡ Some step →
+pub live_next : (formula : Cnf) (log : List Step) (i : ℕ) (step : Step) → slice_get log i
+    ≡ Some step →
     live_before formula log (suc i) ≡ after (live_before formula log i) step
 live_next formula log i step at =
     ap (fold after (inputs formula)) (take-suc log i step (slice_get_within log i step at)
@@ -63,5 +69,7 @@ lits_are_within n formula log i view vars at none = by view.erase refl
     by true is =
         rw (none is) (λ k d below. absurd (omega arith))
     by false is =
-        let here : slice_get log i ≡ Some (Added view.id view.lits.now view.hints.now) = at ∙ ap (λ b. Some (if b then Erased view.id view.hints.now else Added view.id view.lits.now view.hints.now)) is in
+        let here : slice_get log i ≡ Some (Added view.id view.lits.now view.hints.now) =
+        at ∙ ap (λ b. Some (if b then Erased view.id view.hints.now else Added view.id
+        view.lits.now view.hints.now)) is in
         vars.steps i view.id view.lits.now view.hints.now here

@@ -1,5 +1,6 @@
 -- The live clauses of a formula: they are those with a mark, and their ids are 1, 2 and so on.
 use Rattle.std.specs.Prelude.{◌≡◌, ℕ, zero, suc, ◌≤◌, Bool, false, if◌then◌else◌, List, length, slice_get, slice_index_or, Option, None, Some}
+use Rattle.sat_clause.specs.declared.limits.TheConstants.{ID_LIMIT}
 use Rattle.sat_clause.specs.Literal.{Clause}
 use Rattle.sat_check.specs.Finder.{Finder}
 
@@ -26,4 +27,4 @@ input_at state id = clause_of state.clauses (position_of state.marks id)
 -- each clause has a place for a mark, and their number has 32 bits
 pub record IsInputStore (marks : List Bool) (clauses : List Clause) : Type 0 where
   pub one_each : length marks ≡ length clauses
-  pub few : length marks ≤ 4294967295
+  pub few : length marks ≤ ID_LIMIT

@@ -14,7 +14,7 @@ use crate::false_set::FalseSet;
 use crate::hints::check_clause;
 use crate::live_clauses::LiveClauses;
 use crate::variables::greatest_variable;
-use sat_clause::{Cause, Formula, Log, StepView};
+use sat_clause::{Cause, Formula, LITERAL_LIMIT, Log, StepView};
 use std::alloc::{AllocError, Global};
 
 /// Whether the step adds the empty clause.
@@ -31,7 +31,7 @@ fn take_step<'a>(
     step: StepView<'a>,
 ) -> Result<Option<Cause>, AllocError>
     requires size { set.old.size ≡ live.old.vars }
-    requires small { set.old.size ≤ 2147483647 }
+    requires small { set.old.size ≤ LITERAL_LIMIT }
     requires empty { set.old.set ≡ [] }
     requires within { All (IsWithin set.old.size) step.lits.now }
     ensures vars { live.new.vars ≡ live.old.vars }

@@ -9,7 +9,7 @@ ghost use Rattle.sat_check.specs.LiveStore.{live_at};
 
 use crate::false_set::FalseSet;
 use crate::live_clauses::LiveClauses;
-use sat_clause::{Cause, Lit, Reading, read_clause};
+use sat_clause::{Cause, LITERAL_LIMIT, Lit, Reading, read_clause};
 use std::alloc::AllocError;
 
 /// Why the hints, in order, do not lead from the false literals of the set to a false clause; none
@@ -20,7 +20,7 @@ fn follow_hints(
     hints: &[i64],
 ) -> Result<Option<Cause>, AllocError>
     requires size { set.old.size ≡ live.now.vars }
-    requires small { set.old.size ≤ 2147483647 }
+    requires small { set.old.size ≤ LITERAL_LIMIT }
     ensures size { set.new.size ≡ set.old.size }
     ensures ok { IfOk result (λ r. (clauses : Live) → Finds (live_at live.now) clauses
         → r ≡ rup clauses set.old.set hints.now) }
@@ -53,7 +53,7 @@ pub(crate) fn check_clause(
     hints: &[i64],
 ) -> Result<Option<Cause>, AllocError>
     requires size { set.old.size ≡ live.now.vars }
-    requires small { set.old.size ≤ 2147483647 }
+    requires small { set.old.size ≤ LITERAL_LIMIT }
     requires empty { set.old.set ≡ [] }
     requires within { All (IsWithin set.old.size) clause.now }
     ensures size { set.new.size ≡ set.old.size }

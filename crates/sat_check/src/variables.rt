@@ -4,15 +4,15 @@ ghost use Rattle.std.specs.Prelude.{◌≤◌, All};
 ghost use Rattle.sat_clause.specs.Literal.{IsLiteral, IsWithin};
 ghost use Rattle.sat_check.specs.Finder.{HasVars};
 
-use sat_clause::{Formula, Lit, Log};
+use sat_clause::{Formula, LITERAL_LIMIT, Lit, Log};
 
 /// The greatest of a number and the variables of the literals.
 fn greatest_of(number: u32, lits: &[Lit]) -> u32
     requires literals { All IsLiteral lits.now }
-    requires small { number ≤ 2147483647 }
+    requires small { number ≤ LITERAL_LIMIT }
     ensures within { All (IsWithin result) lits.now }
     ensures no_less { number ≤ result }
-    ensures small { result ≤ 2147483647 }
+    ensures small { result ≤ LITERAL_LIMIT }
 {
     let mut greatest = number;
     for l in lits {
@@ -24,7 +24,7 @@ fn greatest_of(number: u32, lits: &[Lit]) -> u32
 /// A number of variables that holds those of the formula and of each clause that the log adds.
 pub(crate) fn greatest_variable(formula: &Formula, log: &Log) -> u32
     ensures vars { HasVars result formula.now.cnf log.now.steps }
-    ensures small { result ≤ 2147483647 }
+    ensures small { result ≤ LITERAL_LIMIT }
 {
     let mut greatest = formula.vars();
     for i in 0..log.len() {

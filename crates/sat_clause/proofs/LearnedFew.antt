@@ -49,18 +49,22 @@ later_differ : (vars id old : ℕ) (c : Clause) (live : Live) (log : List Step) 
 later_differ vars id old c live [] is below adds new = All-nil (λ d. ¬ SameLiterals c d)
 later_differ vars id old c live (Added n d hints ∷ log) is below adds new =
     let other : (old == n) ≡ false = ne_eqb old n (omega (arith, adds.0)) in
-    All-cons (λ x. ¬ SameLiterals c x) d (added log) (λ same. (new 0 n d hints refl adds.1).1 old c is same.0)
-    (later_differ vars (suc id) old c (put live n d) log (rw other is) (omega arith) adds.2 (λ k i x h at. new (suc k) i x h at))
+    All-cons (λ x. ¬ SameLiterals c x) d (added log)
+    (λ same. (new 0 n d hints refl adds.1).1 old c is same.0)
+    (later_differ vars (suc id) old c (put live n d) log (rw other is) (omega arith) adds.2
+    (λ k i x h at. new (suc k) i x h at))
 later_differ vars id old c live (Erased other ids ∷ log) is below adds new = absurd adds
 
-all_differ : (vars id : ℕ) (live : Live) (log : List Step) → AddsFrom id log → NewFrom vars live log →
+all_differ : (vars id : ℕ) (live : Live) (log : List Step) → AddsFrom id log → NewFrom vars live log
+    →
     AllPairs (λ c d. ¬ SameLiterals c d) (added log)
 all_differ vars id live [] adds new = λ i j d ij within. absurd (omega arith)
 all_differ vars id live (Added n clause hints ∷ log) adds new =
     let here : (n == n) ≡ true = eq-eqb n n refl in
     let rest : NewFrom vars (put live n clause) log = λ k i c h is. new (suc k) i c h is in
     AllPairs-cons (λ c d. ¬ SameLiterals c d) clause (added log)
-    (later_differ vars (suc id) n clause (put live n clause) log (rw here refl) (omega (arith, adds.0)) adds.2 rest)
+    (later_differ vars (suc id) n clause (put live n clause) log (rw here refl)
+    (omega (arith, adds.0)) adds.2 rest)
     (all_differ vars (suc id) (put live n clause) log adds.2 rest)
 all_differ vars id live (Erased other ids ∷ log) adds new = absurd adds
 

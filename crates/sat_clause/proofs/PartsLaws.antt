@@ -1,4 +1,5 @@
--- Lists that stand one after another in one list: their number, one of them, and one more at the end.
+-- Lists that stand one after another in one list: their number, one of them, and one more at the
+-- end.
 use Rattle.std.proofs.Common.{◌≡◌, ℕ, zero, suc, ◌+◌, ◌-◌, ◌<◌, ◌≤◌, List, [], ◌∷◌, ◌++◌, length, get_or, drop, Some, slice_get, slice_range, refl, sym, ap, arith}
 use Rattle.std.proofs.lemmas.List.{take-append-le, drop-append-le}
 use Rattle.std.proofs.Math.Seq.{drop-append_seam, take-length}
@@ -35,14 +36,16 @@ pub start_of-suc : (start : ℕ) (ends : List ℕ) (i : ℕ) → suc i < length 
 start_of-suc start [] i within = absurd (omega arith)
 start_of-suc start (end ∷ []) i within = absurd (omega arith)
 start_of-suc start (end ∷ next ∷ ends) zero within = refl
-start_of-suc start (end ∷ next ∷ ends) (suc i) within = start_of-suc end (next ∷ ends) i (omega arith)
+start_of-suc start (end ∷ next ∷ ends) (suc i) within =
+    start_of-suc end (next ∷ ends) i (omega arith)
 
 pub start_of-first : (start : ℕ) (ends : List ℕ) → start_of start ends 0 ≡ start
 start_of-first start [] = refl
 start_of-first start (end ∷ ends) = refl
 
 pub part_at : {X : Type 0} (start : ℕ) (items : List X) (ends : List ℕ) (i : ℕ) → i < length ends →
-    slice_get (parts_from start items ends) i ≡ Some (slice_range items (start_of start ends i) (get_or ends i 0))
+    slice_get (parts_from start items ends) i
+    ≡ Some (slice_range items (start_of start ends i) (get_or ends i 0))
 part_at start items [] i within = absurd (omega arith)
 part_at start items (end ∷ ends) zero within = refl
 part_at start items (end ∷ ends) (suc i) within = part_at end items ends i (omega arith)
@@ -64,7 +67,8 @@ parts_push start items more [] end rise is =
     let here : drop start (items ++ more) ≡ more = rw rise (drop-append_seam items more) in
     rw (far, here, take-length) refl
 parts_push start items more (e ∷ ends) end rise is =
-    let here = slice_range-append items more start e rise.0 (start_below (length items) e ends rise.1) in
+    let here = slice_range-append items more start e rise.0
+    (start_below (length items) e ends rise.1) in
     rw (here, parts_push e items more ends end rise.1 is) refl
 
 pub rise_push : (n m start : ℕ) (ends : List ℕ) → RiseTo n start ends → n ≤ m →
@@ -86,7 +90,8 @@ pub parts-all : {X : Type 0} (P : X → Type 0) (start : ℕ) (items : List X) (
 parts-all P start items [] all i part is = cc
 parts-all P start items (end ∷ ends) all zero part is =
     let same : slice_range items start end ≡ part = cc in
-    subst (λ (xs : List _). All P xs) same (All-take P (end - start) (drop start items) (All-drop P start items all))
+    subst (λ (xs : List _). All P xs) same
+    (All-take P (end - start) (drop start items) (All-drop P start items all))
 parts-all P start items (end ∷ ends) all (suc i) part is = parts-all P end items ends all i part is
 
 -- one more part without elements

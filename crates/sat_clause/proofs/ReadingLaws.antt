@@ -35,7 +35,9 @@ none_open s (m ∷ ms) all =
 all_false : (s : List Lit) (c : Clause) → open_literals s c ≡ [] → AllFalse s c
 all_false s [] none = All-nil (λ (x : Lit). is_among s x ≡ true)
 all_false s (m ∷ ms) none =
-    elim (is_among s m) as (λ b. is_among s m ≡ b → (if b then open_literals s ms else m ∷ open_literals (m ∷ s) ms) ≡ [] → AllFalse s (m ∷ ms)) [
+    elim (is_among s m) as (λ b. is_among s m ≡ b
+    → (if b then open_literals s ms else m ∷ open_literals (m ∷ s) ms) ≡ []
+    → AllFalse s (m ∷ ms)) [
       | true ↦ λ is rest. All-cons (λ (x : Lit). is_among s x ≡ true) m ms is (all_false s ms rest)
       | false ↦ λ is rest. cc
     ] refl none
@@ -44,7 +46,8 @@ all_false s (m ∷ ms) none =
 false_or : (s : List Lit) (l : Lit) (c : Clause) → AllFalse (l ∷ s) c → All (IsFalseOr s l) c
 false_or s l c all =
     All-weaker (λ (x : Lit). is_among (l ∷ s) x ≡ true) (IsFalseOr s l)
-    (λ x is. elim (among_cases s l x is) [ inl here ↦ inr (sym here) | inr later ↦ inl later ]) c all
+    (λ x is. elim (among_cases s l x is) [ inl here ↦ inr (sym here) | inr later ↦ inl later ]) c
+    all
 
 or_false : (s : List Lit) (l : Lit) (c : Clause) → All (IsFalseOr s l) c → AllFalse (l ∷ s) c
 or_false s l c all =
@@ -57,7 +60,9 @@ or_false s l c all =
 one_open : (s : List Lit) (l : Lit) (c : Clause) → open_literals s c ≡ l ∷ [] → HasOneOpen s l c
 one_open s l [] one = cc
 one_open s l (m ∷ ms) one =
-    elim (is_among s m) as (λ b. is_among s m ≡ b → (if b then open_literals s ms else m ∷ open_literals (m ∷ s) ms) ≡ l ∷ [] → HasOneOpen s l (m ∷ ms)) [
+    elim (is_among s m) as (λ b. is_among s m ≡ b
+    → (if b then open_literals s ms else m ∷ open_literals (m ∷ s) ms) ≡ l ∷ []
+    → HasOneOpen s l (m ∷ ms)) [
       | true ↦ λ is rest.
           let later = one_open s l ms rest in
           record {
@@ -71,7 +76,8 @@ one_open s l (m ∷ ms) one =
           subst (λ (x : Lit). HasOneOpen s x (m ∷ ms)) same (record {
             has = (0, omega arith, refl);
             free = is;
-            rest = All-cons (IsFalseOr s m) m ms (inr refl) (false_or s m ms (all_false (m ∷ s) ms none));
+            rest = All-cons (IsFalseOr s m) m ms (inr refl)
+                (false_or s m ms (all_false (m ∷ s) ms none));
           })
     ] refl one
 
@@ -89,20 +95,26 @@ few_open s l (m ∷ ms) free all =
 conflict_opens : (s ls : List Lit) → reading_by s ls ≡ Conflict → ls ≡ []
 conflict_opens s [] e = refl
 conflict_opens s (l ∷ []) e =
-    elim (is_among s (negation l)) as (λ b. (if b then Satisfied else Unit l) ≡ Conflict → (l ∷ []) ≡ []) [
+    elim (is_among s (negation l)) as
+    (λ b. (if b then Satisfied else Unit l) ≡ Conflict → (l ∷ []) ≡ []) [
       | true ↦ λ e. cc
       | false ↦ λ e. cc
     ] e
 conflict_opens s (l ∷ m ∷ ls) e = cc
 
-unit_opens : (s ls : List Lit) (l : Lit) → reading_by s ls ≡ Unit l → (ls ≡ l ∷ []) × (is_among s (negation l) ≡ false)
+unit_opens : (s ls : List Lit) (l : Lit) → reading_by s ls ≡ Unit l → (ls ≡ l ∷ [])
+    × (is_among s (negation l) ≡ false)
 unit_opens s [] l e = cc
 unit_opens s (m ∷ []) l e =
-    elim (is_among s (negation m)) as (λ b. is_among s (negation m) ≡ b → (if b then Satisfied else Unit m) ≡ Unit l → ((m ∷ []) ≡ l ∷ []) × (is_among s (negation l) ≡ false)) [
+    elim (is_among s (negation m)) as
+    (λ b. is_among s (negation m) ≡ b → (if b then Satisfied else Unit m) ≡ Unit l
+    → ((m ∷ []) ≡ l ∷ []) × (is_among s (negation l) ≡ false)) [
       | true ↦ λ is e. cc
       | false ↦ λ is e.
-          let same : m ≡ l = cc in
-          (ap (λ (x : Lit). x ∷ []) same, subst (λ (x : Lit). is_among s (negation x) ≡ false) same is)
+          let same : m ≡ l = cc in (
+            ap (λ (x : Lit). x ∷ []) same,
+            subst (λ (x : Lit). is_among s (negation x) ≡ false) same is,
+          )
     ] refl e
 unit_opens s (m ∷ n ∷ ls) l e = cc
 
@@ -119,18 +131,22 @@ pub unit_is_open : (s : List Lit) (l : Lit) (c : Clause) → reading_of s c ≡ 
 unit_is_open s l c e =
     let parts = unit_opens s (open_literals s c) l e in (one_open s l c parts.0, parts.1)
 
-pub open_is_unit : (s : List Lit) (l : Lit) (c : Clause) → HasOneOpen s l c → is_among s (negation l) ≡ false →
+pub open_is_unit : (s : List Lit) (l : Lit) (c : Clause) → HasOneOpen s l c
+    → is_among s (negation l) ≡ false →
     reading_of s c ≡ Unit l
 open_is_unit s l c one not_true =
     elim (few_open s l c one.free one.rest) [
-      | inl none ↦ absurd (both_ways _ one.free (All-contains (λ (x : Lit). is_among s x ≡ true) c l (all_false s c none) one.has))
+      | inl none ↦ absurd (both_ways _ one.free
+          (All-contains (λ (x : Lit). is_among s x ≡ true) c l (all_false s c none) one.has))
       | inr is ↦ rw (is, not_true) refl
     ]
 
 -- where more is false, a false clause is false
-pub conflict_stays : (s t : List Lit) (c : Clause) → AreAlso s t → reading_of s c ≡ Conflict → reading_of t c ≡ Conflict
+pub conflict_stays : (s t : List Lit) (c : Clause) → AreAlso s t → reading_of s c ≡ Conflict
+    → reading_of t c ≡ Conflict
 conflict_stays s t c also e =
-    all_conflict t c (All-weaker (λ (x : Lit). is_among s x ≡ true) (λ (x : Lit). is_among t x ≡ true) also c (conflict_all s c e))
+    all_conflict t c (All-weaker (λ (x : Lit). is_among s x ≡ true)
+    (λ (x : Lit). is_among t x ≡ true) also c (conflict_all s c e))
 
 -- where more is false, but neither the literal nor its negation, a clause still makes it true
 pub unit_stays : (s t : List Lit) (l : Lit) (c : Clause) → AreAlso s t → is_among t l ≡ false →
@@ -140,14 +156,17 @@ unit_stays s t l c also free not_true e =
     open_is_unit t l c (record {
       has = one.has;
       free = free;
-      rest = All-weaker (IsFalseOr s l) (IsFalseOr t l) (λ m is. elim is [ inl out ↦ inl (also m out) | inr same ↦ inr same ]) c one.rest;
+      rest = All-weaker (IsFalseOr s l) (IsFalseOr t l)
+          (λ m is. elim is [ inl out ↦ inl (also m out) | inr same ↦ inr same ]) c one.rest;
     }) not_true
 
 -- a clause with two open literals is quiet
 pub two_open : (s : List Lit) (p q : Lit) (c : Clause) → Contains c p → Contains c q → p ≢ q →
     is_among s p ≡ false → is_among s q ≡ false → IsQuiet (reading_of s c)
 two_open s p q c has_p has_q other p_open q_open = record {
-  no_conflict = λ e. both_ways _ p_open (All-contains (λ (x : Lit). is_among s x ≡ true) c p (conflict_all s c e) has_p);
+  no_conflict =
+      λ e. both_ways _ p_open (All-contains (λ (x : Lit). is_among s x ≡ true) c p
+      (conflict_all s c e) has_p);
   no_unit = λ l e.
       let all = (unit_is_open s l c e).0.rest in
       let is = λ (m : Lit) (has : Contains c m) (free : is_among s m ≡ false).
@@ -159,7 +178,8 @@ two_open s p q c has_p has_q other p_open q_open = record {
 }
 
 -- a clause whose literals are false or are this one literal, which is open, is not quiet
-pub not_quiet : (s : List Lit) (l : Lit) (c : Clause) → is_among s l ≡ false → is_among s (negation l) ≡ false →
+pub not_quiet : (s : List Lit) (l : Lit) (c : Clause) → is_among s l ≡ false
+    → is_among s (negation l) ≡ false →
     All (IsFalseOr s l) c → IsQuiet (reading_of s c) → ⊥
 not_quiet s l c free not_true all quiet =
     elim (few_open s l c free all) [
@@ -168,18 +188,21 @@ not_quiet s l c free not_true all quiet =
     ]
 
 -- what each clause keeps saying, a clause that may be there does
-pub reads_stays : (s t : List Lit) (r : Reading) → ((c : Clause) → reading_of s c ≡ r → reading_of t c ≡ r) →
+pub reads_stays : (s t : List Lit) (r : Reading)
+    → ((c : Clause) → reading_of s c ≡ r → reading_of t c ≡ r) →
     (o : Option Clause) → Reads s o r → Reads t o r
 reads_stays s t r stays None reads = reads
 reads_stays s t r stays (Some c) reads = stays c reads
 
 -- hints go on behind a clause that makes a literal true, and end well with a false one
-pub follow_unit : (set : List Lit) (o : Option Clause) (l : Lit) (hints : List ℤ) (next : Lit → Option Cause) →
+pub follow_unit : (set : List Lit) (o : Option Clause) (l : Lit) (hints : List ℤ)
+    (next : Lit → Option Cause) →
     Reads set o (Unit l) → follow set o hints next ≡ next l
 follow_unit set None l hints next reads = absurd reads
 follow_unit set (Some c) l hints next reads = rw reads refl
 
-pub follow_conflict : (set : List Lit) (o : Option Clause) (next : Lit → Option Cause) → Reads set o Conflict →
+pub follow_conflict : (set : List Lit) (o : Option Clause) (next : Lit → Option Cause)
+    → Reads set o Conflict →
     follow set o [] next ≡ None
 follow_conflict set None next reads = absurd reads
 follow_conflict set (Some c) next reads = rw reads refl

@@ -52,7 +52,8 @@ among_false values [] l none h = cc
 among_false values (m ∷ set) l none h =
     let parts = or_parts _ _ none in
     elim (or_cases (int_eq m.code l.code) (is_among set l) h) [
-      | inl same ↦ subst (λ (z : ℤ). makes_number_true values z ≡ false) ((Decides-int_eq m.code l.code).0 same) parts.0
+      | inl same ↦ subst (λ (z : ℤ). makes_number_true values z ≡ false)
+          ((Decides-int_eq m.code l.code).0 same) parts.0
       | inr later ↦ among_false values set l parts.1 later
     ]
 
@@ -77,13 +78,19 @@ or_out false false r t h = h
 
 -- beside the list, the open literals say as much as the clause
 open_beside : (values : List Bool) (set : List Lit) (clause : Clause) →
-    (any_true values set || any_true values (open_literals set clause)) ≡ (any_true values set || any_true values clause)
+    (any_true values set || any_true values (open_literals set clause))
+    ≡ (any_true values set || any_true values clause)
 open_beside values set [] = refl
 open_beside values set (l ∷ ls) =
-    elim (is_among set l) as (λ b. is_among set l ≡ b → (any_true values set || any_true values (if b then open_literals set ls else l ∷ open_literals (l ∷ set) ls)) ≡ (any_true values set || (makes_true values l || any_true values ls))) [
+    elim (is_among set l) as (λ b. is_among set l ≡ b
+    → (any_true values set || any_true values
+    (if b then open_literals set ls else l ∷ open_literals (l ∷ set) ls))
+    ≡ (any_true values set || (makes_true values l || any_true values ls))) [
       | true ↦ λ shut. open_beside values set ls
-          ∙ or_in (any_true values set) (makes_true values l) (any_true values ls) (among_true values set l shut)
-      | false ↦ λ _. or_out (any_true values set) (makes_true values l) _ (any_true values ls) (open_beside values (l ∷ set) ls)
+          ∙ or_in (any_true values set) (makes_true values l) (any_true values ls)
+          (among_true values set l shut)
+      | false ↦ λ _. or_out (any_true values set) (makes_true values l) _ (any_true values ls)
+          (open_beside values (l ∷ set) ls)
     ] refl
 
 -- where the list is false, a clause is true exactly where one of its open literals is
@@ -102,9 +109,11 @@ reading_by_true : (values : List Bool) (set ls : List Lit) → any_true values l
     IsReadingOfTrue values (reading_by set ls)
 reading_by_true values set [] h = absurd (both_ways false refl h)
 reading_by_true values set (l ∷ []) h =
-    elim (is_among set (negation l)) as (λ b. IsReadingOfTrue values (if b then Satisfied else Unit l)) [
+    elim (is_among set (negation l)) as
+    (λ b. IsReadingOfTrue values (if b then Satisfied else Unit l)) [
       | true ↦ tt
-      | false ↦ elim (or_cases _ _ h) [ inl here ↦ here | inr none ↦ absurd (both_ways false refl none) ]
+      | false ↦ elim (or_cases _ _ h)
+          [ inl here ↦ here | inr none ↦ absurd (both_ways false refl none) ]
     ]
 reading_by_true values set (l ∷ m ∷ ls) h = tt
 
@@ -120,15 +129,20 @@ rup_sound : (values : List Bool) (live : Live) → AllTrue values live →
     (set : List Lit) (hints : List ℤ) → any_true values set ≡ false → rup live set hints ≡ None → ⊥
 rup_sound values live all set [] none good = cc
 rup_sound values live all set (h ∷ hints) none good =
-    elim (named live h) as (λ o. ((c : Clause) → o ≡ Some c → any_true values c ≡ true) → follow set o hints (λ l. rup live (negation l ∷ set) hints) ≡ None → ⊥) [
+    elim (named live h) as (λ o. ((c : Clause) → o ≡ Some c → any_true values c ≡ true) → follow set
+    o hints (λ l. rup live (negation l ∷ set) hints) ≡ None → ⊥) [
       | None ↦ λ _ e. cc
       | Some clause ↦ λ true_if.
-          elim (reading_of set clause) as (λ r. IsReadingOfTrue values r → lead_on r hints (λ l. rup live (negation l ∷ set) hints) ≡ None → ⊥) [
+          elim (reading_of set clause) as
+          (λ r. IsReadingOfTrue values r
+          → lead_on r hints (λ l. rup live (negation l ∷ set) hints) ≡ None → ⊥) [
             | Conflict ↦ λ no _. no
-            | Unit l ↦ λ is e. rup_sound values live all (negation l ∷ set) hints (rw (not_both values l.code is) none) e
+            | Unit l ↦ λ is e. rup_sound values live all (negation l ∷ set) hints
+                (rw (not_both values l.code is) none) e
             | Satisfied ↦ λ _ e. cc
             | Unresolved ↦ λ _ e. cc
-          ] (reading_by_true values set (open_literals set clause) (open_true values set clause none ∙ true_if clause refl))
+          ] (reading_by_true values set (open_literals set clause)
+          (open_true values set clause none ∙ true_if clause refl))
     ] (named_true values live h all) good
 
 -- what is live after a deletion was live before it
@@ -136,7 +150,8 @@ take_out_true : (values : List Bool) (live : Live) (id : ℤ) → AllTrue values
     AllTrue values (take_out live id)
 take_out_true values live (pos id) all n clause is =
     let answer = clause_at-without live id n in
-    elim (id == n) as (λ b. clause_at (without live id) n ≡ cond b None (clause_at live n) → any_true values clause ≡ true) [
+    elim (id == n) as (λ b. clause_at (without live id) n ≡ cond b None (clause_at live n)
+    → any_true values clause ≡ true) [
       | true ↦ λ e. let bad : Some clause ≡ None = sym is ∙ e in cc
       | false ↦ λ e. all n clause (sym e ∙ is)
     ] answer
@@ -150,7 +165,8 @@ erase_true values live (id ∷ ids) all =
 
 -- a good added clause is true
 added_true : (values : List Bool) (live : Live) → AllTrue values live →
-    (clause : Clause) (hints : List ℤ) → rup live clause hints ≡ None → any_true values clause ≡ true
+    (clause : Clause) (hints : List ℤ) → rup live clause hints ≡ None → any_true values clause
+    ≡ true
 added_true values live all clause hints good =
     elim (any_true values clause) as (λ b. any_true values clause ≡ b → b ≡ true) [
       | true ↦ λ _. refl
@@ -160,12 +176,15 @@ added_true values live all clause hints good =
 after_true : (values : List Bool) (live : Live) (step : Step) → AllTrue values live →
     fault live step ≡ None → AllTrue values (after live step)
 after_true values live (Added id added hints) all good n clause is =
-    elim (n == id) as (λ b. cond b (Some added) (clause_at live n) ≡ Some clause → any_true values clause ≡ true) [
+    elim (n == id) as (λ b. cond b (Some added) (clause_at live n) ≡ Some clause → any_true values
+    clause ≡ true) [
       | true ↦ λ e. let same : added ≡ clause =
-          cc in subst (λ (c : Clause). any_true values c ≡ true) same (added_true values live all added hints good)
+          cc in subst (λ (c : Clause). any_true values c ≡ true) same
+          (added_true values live all added hints good)
       | false ↦ λ e. all n clause e
     ] is
-after_true values live (Erased id ids) all good n clause is = erase_true values live ids all n clause is
+after_true values live (Erased id ids) all good n clause is =
+    erase_true values live ids all n clause is
 
 -- the empty clause is not good where each live clause is true
 no_empty_clause : (values : List Bool) (live : Live) (step : Step) → AllTrue values live →
@@ -182,12 +201,16 @@ judge_sound : (values : List Bool) (n : ℕ) (live : Live) (steps : List Step) �
     judge_from n live steps ≡ Accepted → ⊥
 judge_sound values n live [] all accepted = refused_is_not_accepted accepted
 judge_sound values n live (step ∷ steps) all accepted =
-    elim (fault live step) as (λ o. fault live step ≡ o → judge_step n o (is_empty_clause step) (judge_from (suc n) (after live step) steps) ≡ Accepted → ⊥) [
+    elim (fault live step) as (λ o. fault live step ≡ o → judge_step n o (is_empty_clause step)
+    (judge_from (suc n) (after live step) steps) ≡ Accepted → ⊥) [
       | Some cause ↦ λ is e. refused_is_not_accepted e
-      | None ↦ λ good. elim (is_empty_clause step) as (λ b. is_empty_clause step ≡ b → judge_step n None b (judge_from (suc n) (after live step) steps) ≡ Accepted → ⊥) [
-        | true ↦ λ is e. no_empty_clause values live step all good is
-        | false ↦ λ is e. judge_sound values (suc n) (after live step) steps (after_true values live step all good) e
-      ] refl
+      | None ↦ λ good. elim (is_empty_clause step) as
+          (λ b. is_empty_clause step ≡ b
+          → judge_step n None b (judge_from (suc n) (after live step) steps) ≡ Accepted → ⊥) [
+            | true ↦ λ is e. no_empty_clause values live step all good is
+            | false ↦ λ is e. judge_sound values (suc n) (after live step) steps
+                (after_true values live step all good) e
+          ] refl
     ] refl accepted
 
 -- a true clause has a literal that the test finds
@@ -196,21 +219,26 @@ any_of : (values : List Bool) (ls : List Lit) (k : ℕ) (l : Lit) → k < length
 any_of values [] k l within is h = absurd (omega arith)
 any_of values (m ∷ ls) zero l within is h =
     or_left _ _ (subst (λ (x : Lit). makes_true values x ≡ true) (sym is) h)
-any_of values (m ∷ ls) (suc k) l within is h = or_right _ _ (any_of values ls k l (omega arith) is h)
+any_of values (m ∷ ls) (suc k) l within is h =
+    or_right _ _ (any_of values ls k l (omega arith) is h)
 
 -- the clauses of a satisfied formula are true under whatever ids
 numbered_true : (values : List Bool) (first : ℕ) (clauses : List Clause) →
     All (IsTrueClause values) clauses → AllTrue values (numbered first clauses)
 numbered_true values first [] each n clause is = cc
 numbered_true values first (c ∷ clauses) each n clause is =
-    elim (n == first) as (λ b. cond b (Some c) (clause_at (numbered (suc first) clauses) n) ≡ Some clause → any_true values clause ≡ true) [
+    elim (n == first) as (λ b. cond b (Some c) (clause_at (numbered (suc first) clauses) n) ≡ Some
+    clause → any_true values clause ≡ true) [
       | true ↦ λ e. let same : c ≡ clause = cc in
           let here = All-head (IsTrueClause values) c clauses each in
-          subst (λ (x : Clause). any_true values x ≡ true) same (any_of values c here.0 here.1 here.2 here.3 here.4)
-      | false ↦ λ e. numbered_true values (suc first) clauses (All-tail (IsTrueClause values) c clauses each) n clause e
+          subst (λ (x : Clause). any_true values x ≡ true) same
+          (any_of values c here.0 here.1 here.2 here.3 here.4)
+      | false ↦ λ e. numbered_true values (suc first) clauses
+          (All-tail (IsTrueClause values) c clauses each) n clause e
     ] is
 
 -- where a log is accepted, the formula is unsatisfiable
 pub refutes : (formula : Cnf) (log : List Step) → Accepts formula log → IsUnsat formula
 refutes formula log accepted values satisfies =
-    judge_sound values 1 (inputs formula) log (numbered_true values 1 formula.clauses satisfies.each_clause) accepted
+    judge_sound values 1 (inputs formula) log
+    (numbered_true values 1 formula.clauses satisfies.each_clause) accepted

@@ -34,7 +34,8 @@ hint_twice = refl
 
 -- 3 d 1 0, then 4 0 1 2 3 0
 hint_of_a_deleted_clause :
-    judge two_of_one (Erased 3 (p 1 ∷ []) ∷ added 4 [] (p 1 ∷ p 2 ∷ p 3 ∷ []) ∷ []) ≡ Refused 2 NotLive
+    judge two_of_one (Erased 3 (p 1 ∷ []) ∷ added 4 [] (p 1 ∷ p 2 ∷ p 3 ∷ []) ∷ [])
+    ≡ Refused 2 NotLive
 hint_of_a_deleted_clause = refl
 
 -- no step at all
@@ -58,23 +59,27 @@ deleted_twice = refl
 
 -- an id that comes again stands for the later clause, and the number zero names no clause
 id_again :
-    judge two_of_one (added 1 (m 2 ∷ []) (p 1 ∷ p 3 ∷ []) ∷ added 5 [] (p 1 ∷ p 2 ∷ []) ∷ []) ≡ Accepted
+    judge two_of_one (added 1 (m 2 ∷ []) (p 1 ∷ p 3 ∷ []) ∷ added 5 [] (p 1 ∷ p 2 ∷ []) ∷ [])
+    ≡ Accepted
 id_again = refl
 
 zero_names_none :
-    judge two_of_one (added 0 (m 2 ∷ []) (p 1 ∷ p 3 ∷ []) ∷ added 5 [] (p 0 ∷ p 2 ∷ []) ∷ []) ≡ Refused 2 NotLive
+    judge two_of_one (added 0 (m 2 ∷ []) (p 1 ∷ p 3 ∷ []) ∷ added 5 [] (p 0 ∷ p 2 ∷ []) ∷ [])
+    ≡ Refused 2 NotLive
 zero_names_none = refl
 
 -- the copies of a literal in a clause are one open literal
 copies_are_one :
-    judge (cnf 1 ((p 1 ∷ p 1 ∷ []) ∷ (m 1 ∷ m 1 ∷ m 1 ∷ []) ∷ [])) (added 3 [] (p 1 ∷ p 2 ∷ []) ∷ []) ≡ Accepted
+    judge (cnf 1 ((p 1 ∷ p 1 ∷ []) ∷ (m 1 ∷ m 1 ∷ m 1 ∷ []) ∷ []))
+    (added 3 [] (p 1 ∷ p 2 ∷ []) ∷ []) ≡ Accepted
 copies_are_one = refl
 
 -- three nets in one cell with two tracks: each has a track, none has both, and no two share one
 abbrev three_on_two : Cnf
 three_on_two = cnf 6 ((p 1 ∷ p 2 ∷ []) ∷ (p 3 ∷ p 4 ∷ []) ∷ (p 5 ∷ p 6 ∷ [])
     ∷ (m 1 ∷ m 2 ∷ []) ∷ (m 3 ∷ m 4 ∷ []) ∷ (m 5 ∷ m 6 ∷ [])
-    ∷ (m 1 ∷ m 3 ∷ []) ∷ (m 2 ∷ m 4 ∷ []) ∷ (m 1 ∷ m 5 ∷ []) ∷ (m 2 ∷ m 6 ∷ []) ∷ (m 3 ∷ m 5 ∷ []) ∷ (m 4 ∷ m 6 ∷ []) ∷ [])
+    ∷ (m 1 ∷ m 3 ∷ []) ∷ (m 2 ∷ m 4 ∷ []) ∷ (m 1 ∷ m 5 ∷ []) ∷ (m 2 ∷ m 6 ∷ []) ∷ (m 3 ∷ m 5 ∷ [])
+    ∷ (m 4 ∷ m 6 ∷ []) ∷ [])
 
 -- 13 -1 0 7 9 2 3 12 0, then 14 0 13 1 8 10 2 3 11 0
 by_a_learned_unit : judge three_on_two (
@@ -88,7 +93,8 @@ one_track : judge (cnf 5 ((p 1 ∷ []) ∷ (p 2 ∷ []) ∷ (p 3 ∷ []) ∷ (p 
     (added 10 [] (p 2 ∷ p 5 ∷ p 9 ∷ []) ∷ []) ≡ Accepted
 one_track = refl
 
--- the hints 1 2 3 are all needed: each of the first two makes a literal true whose negation the third has
+-- the hints 1 2 3 are all needed: each of the first two makes a literal true whose negation the
+-- third has
 each_hint_is_used : IsRelevant (inputs two_of_one) [] (p 1 ∷ p 2 ∷ p 3 ∷ [])
 each_hint_is_used = record {
   each_literal = λ k d within. absurd (omega arith);

@@ -1,6 +1,7 @@
 -- The variables with their activities, and which of them are held.
 use Rattle.std.specs.Prelude.{◌≡◌, ℕ, ◌-◌, ◌/◌, ◌^◌, ◌≤◌, Bool, true, false, List, length, map, slice_index, slice_index_or, vec_len, Vec}
 use Rattle.std.specs.Global.{Global}
+use Rattle.sat_clause.specs.declared.limits.TheConstants.{VARIABLE_LIMIT}
 use Rattle.sat_order.specs.Heap.{Seats, IsSeated, IsHeap}
 
 -- the number of variables; variable v has its activity, and whether it is held, at place v - 1
@@ -43,7 +44,7 @@ scaled activities = map (λ a. a / 2 ^ 40) activities
 
 -- the held variables are the first in their seats, as a heap
 pub record IsOrderStore (activities : Vec ℕ Global) (seats : Seats) (count : ℕ) : Type 0 where
-  pub few : vec_len activities ≤ 100000000
+  pub few : vec_len activities ≤ VARIABLE_LIMIT
   pub seated : IsSeated (length activities.items) seats
   pub within : count ≤ length activities.items
   pub heap : IsHeap activities.items seats count 0

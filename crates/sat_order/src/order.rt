@@ -5,6 +5,7 @@ ghost use Rattle.sat_order.specs.Order.{IsBest, IsEmpty, IsVariable, IsWhole, ac
 
 use crate::seating::Seating;
 use crate::sift::{heapify, sift_down, sift_up};
+use sat_clause::VARIABLE_LIMIT;
 use std::alloc::{AllocError, Global};
 use std::marker::Model;
 
@@ -48,7 +49,7 @@ fn scale(activities: &mut Vec<u64>)
 impl Order {
     /// All variables from 1 on, held with activity 0.
     pub fn new(alloc: Global, vars: u32) -> Result<Order, AllocError>
-        requires { vars ≤ 100000000 }
+        requires { vars ≤ VARIABLE_LIMIT }
         ensures { IfOk result (λ o. o ≡ record {
           vars = vars;
           activities = replicate vars 0;

@@ -3,6 +3,7 @@
 ghost use Rattle.std.specs.Prelude.{◌≡◌, ◌<◌, ◌≤◌, IfOk, ℕ, length, slice_index};
 ghost use Rattle.sat_order.specs.Heap.{IsSeated, exchanged};
 
+use sat_clause::VARIABLE_LIMIT;
 use std::alloc::{AllocError, Global};
 use std::marker::Model;
 
@@ -40,7 +41,7 @@ fn rising(alloc: Global, size: u32) -> Result<Vec<u32>, AllocError>
 impl Seating {
     /// The numbers below a size, rising.
     pub(crate) fn new(alloc: Global, size: u32) -> Result<Seating, AllocError>
-        requires { size ≤ 100000000 }
+        requires { size ≤ VARIABLE_LIMIT }
         ensures seated { IfOk result (IsSeated size) }
         ensures rising { IfOk result
             (λ s. (i : ℕ) → i < size → slice_index s.order i ≡ i) }

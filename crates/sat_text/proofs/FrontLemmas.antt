@@ -19,7 +19,9 @@ pub front_none : (words : Words) → TakesFront words words []
 front_none words = record { lacks = refl; said = refl }
 
 -- one more number is taken
-pub front_more : (old now new : Words) (numbers : List ℤ) (n : ℤ) → TakesFront old now numbers → Some n ≡ option_and_then signed_number_of (slice_get now 0) → new ≡ drop 1 now → TakesFront old new (numbers ++ n ∷ [])
+pub front_more : (old now new : Words) (numbers : List ℤ) (n : ℤ) → TakesFront old now numbers
+    → Some n ≡ option_and_then signed_number_of (slice_get now 0) → new ≡ drop 1 now
+    → TakesFront old new (numbers ++ n ∷ [])
 front_more old [] new numbers n front said rest = absurd (let clash : Some n ≡ None = said in cc)
 front_more old (word ∷ words) new numbers n front said rest = record {
   lacks = front.lacks ∙ rw (rest, ← said) refl;
@@ -27,23 +29,30 @@ front_more old (word ∷ words) new numbers n front said rest = record {
 }
 
 -- one number is taken
-pub front_one : (now new : Words) (n : ℤ) → Some n ≡ option_and_then signed_number_of (slice_get now 0) → new ≡ drop 1 now → TakesFront now new (n ∷ [])
+pub front_one : (now new : Words) (n : ℤ) → Some n
+    ≡ option_and_then signed_number_of (slice_get now 0) → new ≡ drop 1 now
+    → TakesFront now new (n ∷ [])
 front_one now new n said rest = front_more now now new [] n (front_none now) said rest
 
 -- the numbers of two fronts are those of both
-pub front_both : {old now new : Words} {first second : List ℤ} → TakesFront old now first → TakesFront now new second → TakesFront old new (first ++ second)
+pub front_both : {old now new : Words} {first second : List ℤ} → TakesFront old now first
+    → TakesFront now new second → TakesFront old new (first ++ second)
 front_both {old} {now} {new} {first} {second} one two = record {
   lacks = one.lacks ∙ two.lacks;
-  said = one.said ∙ ap (λ (ns : List ℤ). first ++ ns) two.said ∙ sym (append_assoc first second (numbers_of new));
+  said = one.said ∙ ap (λ (ns : List ℤ). first ++ ns) two.said
+      ∙ sym (append_assoc first second (numbers_of new));
 }
 
 -- and fewer words are left
-pub front_fewer : (now new : Words) (n : ℤ) → Some n ≡ option_and_then signed_number_of (slice_get now 0) → new ≡ drop 1 now → length new < length now
+pub front_fewer : (now new : Words) (n : ℤ) → Some n
+    ≡ option_and_then signed_number_of (slice_get now 0) → new ≡ drop 1 now
+    → length new < length now
 front_fewer [] new n said rest = absurd (let clash : Some n ≡ None = said in cc)
 front_fewer (word ∷ words) new n said rest = rw rest (omega arith)
 
 -- no number is next
-pub front_end : (words : Words) → None ≡ option_and_then signed_number_of (slice_get words 0) → IsAtNoNumber words
+pub front_end : (words : Words) → None ≡ option_and_then signed_number_of (slice_get words 0)
+    → IsAtNoNumber words
 front_end [] said = refl
 front_end (word ∷ words) said = rw (← said) refl
 
@@ -52,30 +61,42 @@ no_words [] none = refl
 no_words (word ∷ more) none = absurd (let clash : false ≡ true = none in cc)
 
 -- all words were taken, which say these numbers
-pub front_whole : (words rest : Words) (numbers : List ℤ) → TakesFront words rest numbers → is_empty rest ≡ true → numbers_of words ≡ numbers
-front_whole words rest numbers front none = front.said ∙ ap (λ (ws : Words). numbers ++ numbers_of ws) (no_words rest none) ∙ append-nil numbers
+pub front_whole : (words rest : Words) (numbers : List ℤ) → TakesFront words rest numbers
+    → is_empty rest ≡ true → numbers_of words ≡ numbers
+front_whole words rest numbers front none =
+    front.said ∙ ap (λ (ws : Words). numbers ++ numbers_of ws) (no_words rest none)
+    ∙ append-nil numbers
 
 -- and none of them says no number
-pub front_lacks : (words rest : Words) (numbers : List ℤ) (empty : Bool) → TakesFront words rest numbers → IsAtNoNumber rest → is_empty rest ≡ empty → lacks_number words ≡ not empty
+pub front_lacks : (words rest : Words) (numbers : List ℤ) (empty : Bool)
+    → TakesFront words rest numbers → IsAtNoNumber rest → is_empty rest ≡ empty → lacks_number words
+    ≡ not empty
 front_lacks words rest numbers empty front end is = front.lacks ∙ end ∙ ap not is
 
 -- one more number is pushed
-pub push_more : (old now new : List ℤ) (words rest after : Words) (n : ℤ) → PushesFront old now words rest → Some n ≡ option_and_then signed_number_of (slice_get rest 0) → after ≡ drop 1 rest → new ≡ now ++ n ∷ [] → PushesFront old new words after
+pub push_more : (old now new : List ℤ) (words rest after : Words) (n : ℤ)
+    → PushesFront old now words rest → Some n ≡ option_and_then signed_number_of (slice_get rest 0)
+    → after ≡ drop 1 rest → new ≡ now ++ n ∷ [] → PushesFront old new words after
 push_more old now new words rest after n so_far said behind is = record {
   numbers = so_far.numbers ++ n ∷ [];
   front = front_more words rest after so_far.numbers n so_far.front said behind;
-  pushed = is ∙ ap (λ (l : List ℤ). l ++ n ∷ []) so_far.pushed ∙ append_assoc old so_far.numbers (n ∷ []);
+  pushed = is ∙ ap (λ (l : List ℤ). l ++ n ∷ []) so_far.pushed
+      ∙ append_assoc old so_far.numbers (n ∷ []);
 }
 
 -- a word that is a letter says no number, so a line of numbers has none
-pub not_letter : (word letter : Bytes) (more : Words) → signed_number_of letter ≡ None → lacks_number (word ∷ more) ≡ false → bytes_eq word letter ≡ false
+pub not_letter : (word letter : Bytes) (more : Words) → signed_number_of letter ≡ None
+    → lacks_number (word ∷ more) ≡ false → bytes_eq word letter ≡ false
 not_letter word letter more none number = go (bytes_eq word letter) refl where
   go : (b : Bool) → bytes_eq word letter ≡ b → b ≡ false
   go false e = refl
-  go true e = absurd (let same : word ≡ letter = (bytes_eq-Decides word letter).0 e in let clash : true ≡ false = rw (same, none) at number in cc)
+  go true e = absurd (let same : word ≡ letter =
+      (bytes_eq-Decides word letter).0 e in let clash : true ≡ false =
+      rw (same, none) at number in cc)
 
 -- a number that a word says stands in 64 bits as it is
-pub same_number : (word : Option Bytes) (n : ℤ) → Some n ≡ option_and_then signed_number_of word → to_z w64 (of_z w64 n) ≡ n
+pub same_number : (word : Option Bytes) (n : ℤ) → Some n ≡ option_and_then signed_number_of word
+    → to_z w64 (of_z w64 n) ≡ n
 same_number word n said = to_z-of_z w64 n (signed_fits word n said)
 
 -- and a literal's number in 32
@@ -86,23 +107,28 @@ same_literal n few = to_z-of_z w32 n (fits n few) where
   fits (negsuc k) h = omega (arith, h)
 
 -- its bits are 0 where it is 0
-pub zero_number : (word : Option Bytes) (n : ℤ) → Some n ≡ option_and_then signed_number_of word → of_z w64 n ≡ 0 → n ≡ pos 0
+pub zero_number : (word : Option Bytes) (n : ℤ) → Some n ≡ option_and_then signed_number_of word
+    → of_z w64 n ≡ 0 → n ≡ pos 0
 zero_number word n said none = sym (same_number word n said) ∙ ap (to_z w64) none
 
 -- a number that is neither 0 nor past its limit is a literal's
-pub literal_within : (n : ℤ) → (of_z w64 n ≡ 0 → ⊥) → nat_abs n ≤ 100000000 → IsWithin 100000000 (lit n)
+pub literal_within : (n : ℤ) → (of_z w64 n ≡ 0 → ⊥) → nat_abs n ≤ 100000000
+    → IsWithin 100000000 (lit n)
 literal_within (pos zero) some few = absurd (some refl)
 literal_within (pos (suc n)) some few = (omega arith, few)
 literal_within (negsuc n) some few = (omega arith, few)
 
 -- a number that is neither negative nor 0 nor past its limit is an id
-pub hint_id : (n : ℤ) → (of_z w64 n ≡ 0 → ⊥) → lt_z n (pos 0) ≡ false → nat_abs n ≤ 4294967295 → IsIdNumber n
+pub hint_id : (n : ℤ) → (of_z w64 n ≡ 0 → ⊥) → lt_z n (pos 0) ≡ false → nat_abs n ≤ 4294967295
+    → IsIdNumber n
 hint_id (pos zero) some sign few = absurd (some refl)
-hint_id (pos (suc n)) some sign few = record { id = suc n; is = refl; some = omega arith; few = few }
+hint_id (pos (suc n)) some sign few =
+    record { id = suc n; is = refl; some = omega arith; few = few }
 hint_id (negsuc n) some sign few = absurd (let clash : true ≡ false = sign in cc)
 
 -- what holds of the numbers so far and of one more holds of all
-pub all_more : {X : Type 0} (P : X → Type 0) (xs : List X) (x : X) → All P xs → P x → All P (xs ++ x ∷ [])
+pub all_more : {X : Type 0} (P : X → Type 0) (xs : List X) (x : X) → All P xs → P x
+    → All P (xs ++ x ∷ [])
 all_more P xs x all one = All-append P xs (x ∷ []) all go where
   go : All P (x ∷ [])
   go zero d inside = one

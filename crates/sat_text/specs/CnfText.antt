@@ -1,5 +1,5 @@
--- CNF texts, as DIMACS has them: comments, the head line `p cnf VARS CLAUSES`, and numbers, of which
--- each 0 ends a clause.
+-- CNF texts, as DIMACS has them: comments, the head line `p cnf VARS CLAUSES`, and numbers, of
+-- which each 0 ends a clause.
 use Rattle.std.specs.Prelude.{◌≡◌, ℕ, ◌+◌, ◌==◌, nat_lt, nat_abs, ℤ, Bool, true, false, ◌&&◌, if◌then◌else◌, List, [], ◌∷◌, length, map, flat_map, bytes_eq, codes, Option, None, Some, is_none, option_map, option_and_then, unwrap_or}
 use Rattle.std.specs.List.{list_any, slice_split}
 use Rattle.std.specs.Option.{option_map_or}
@@ -24,7 +24,8 @@ pub record HeadWords : Type 0 where
 -- these words, if the line has the form of a head line
 abbrev pub head_words : Words → Option HeadWords
 head_words (p ∷ cnf ∷ vars ∷ clauses ∷ []) =
-    if bytes_eq p (codes "p") && bytes_eq cnf (codes "cnf") then Some (record { vars = vars; clauses = clauses })
+    if bytes_eq p (codes "p") && bytes_eq cnf (codes "cnf") then Some
+    (record { vars = vars; clauses = clauses })
     else None
 head_words words = None
 
@@ -72,10 +73,11 @@ last_part (x ∷ y ∷ more) = last_part (y ∷ more)
 -- the clauses of these parts, if there are so many, and nothing stands behind the last 0
 abbrev pub whole_clauses : ℕ → List Clause → Option (List Clause)
 whole_clauses count parts =
-    if (length (but_last parts) == count) && is_empty (last_part parts) then Some (but_last parts) else None
+    if (length (but_last parts) == count) && is_empty (last_part parts) then Some
+    (but_last parts) else None
 
--- what the codes of a line ask of the lines before it: what the head line says, if there is one, and
--- the numbers behind it
+-- what the codes of a line ask of the lines before it: what the head line says, if there is one,
+-- and the numbers behind it
 pub record CnfContext : Type 0 where
   pub head : Option Head
   pub numbers : List ℤ
@@ -87,24 +89,29 @@ head_or_none head = unwrap_or head (record { vars = 0; clauses = 0 })
 -- the context behind lines with these words
 abbrev pub context_of : List Words → CnfContext
 context_of [] = record { head = None; numbers = [] }
-context_of (first ∷ body) = record { head = Some (head_or_none (head_of first)); numbers = flat_map numbers_of body }
+context_of (first ∷ body) =
+    record { head = Some (head_or_none (head_of first)); numbers = flat_map numbers_of body }
 
 -- no head line where one is due, or a second one
 abbrev pub is_no_head_line : CnfContext → Words → Bool
-is_no_head_line context words = option_map_or (λ _. begins_as_head words) context.head (is_none (head_words words))
+is_no_head_line context words =
+    option_map_or (λ _. begins_as_head words) context.head (is_none (head_words words))
 
 -- a number is due and is none, or is negative in the head line
 abbrev pub lacks_cnf_number : CnfContext → Words → Bool
 lacks_cnf_number context words =
-    option_map_or (λ _. lacks_number words) context.head (option_map_or (λ said. is_none (head_said said)) (head_words words) false)
+    option_map_or (λ _. lacks_number words) context.head
+    (option_map_or (λ said. is_none (head_said said)) (head_words words) false)
 
 -- a literal of a variable that is not there
 abbrev pub has_strange_literal : CnfContext → Words → Bool
-has_strange_literal context words = option_map_or (λ head. has_strange_variable head.vars (numbers_of words)) context.head false
+has_strange_literal context words =
+    option_map_or (λ head. has_strange_variable head.vars (numbers_of words)) context.head false
 
 -- of the head line the first number that is past its limit
 abbrev pub past_size_limit : CnfContext → Words → Option ℕ
-past_size_limit context words = option_map_or (λ _. None) context.head (option_and_then past_limit (head_of words))
+past_size_limit context words =
+    option_map_or (λ _. None) context.head (option_and_then past_limit (head_of words))
 
 -- there is no head line at all
 abbrev pub lacks_head_line : CnfContext → Bool
@@ -112,7 +119,9 @@ lacks_head_line context = is_none context.head
 
 -- there are not so many clauses as the head line says, or no 0 ends the last one
 abbrev pub has_other_clauses : CnfContext → Bool
-has_other_clauses context = option_map_or (λ head. is_none (whole_clauses head.clauses (clause_parts context.numbers))) context.head false
+has_other_clauses context =
+    option_map_or (λ head. is_none (whole_clauses head.clauses (clause_parts context.numbers)))
+    context.head false
 
 -- the codes of a CNF text
 abbrev pub cnf_codes : Codes CnfContext Words
@@ -120,7 +129,8 @@ cnf_codes = record {
   context = context_of;
   of_line = At (code_of HeadForm) is_no_head_line ∷ At (code_of CnfNumber) lacks_cnf_number
       ∷ At (code_of Variable) has_strange_literal ∷ Past (code_of SizeLimit) past_size_limit ∷ [];
-  of_end = End (code_of HeadForm) lacks_head_line ∷ End (code_of ClauseCount) has_other_clauses ∷ [];
+  of_end = End (code_of HeadForm) lacks_head_line ∷ End
+      (code_of ClauseCount) has_other_clauses ∷ [];
 }
 
 -- the faults of these lines and of the end, which has this number

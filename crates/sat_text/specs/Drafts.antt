@@ -22,15 +22,16 @@ parts_with draft ahead =
 
 -- the clauses of the text, if it ends as it must, where these numbers are still to come
 abbrev pub clauses_with : Draft → List ℤ → Option (List Clause)
-clauses_with draft ahead = if draft.excess then None else whole_clauses draft.most (parts_with draft ahead)
+clauses_with draft ahead =
+    if draft.excess then None else whole_clauses draft.most (parts_with draft ahead)
 
 -- these numbers were taken
 pub record TakesNumbers (old new : Draft) (numbers : List ℤ) : Type 0 where
   pub head : head_in new ≡ head_in old
   pub clauses : (ahead : List ℤ) → clauses_with new ahead ≡ clauses_with old (numbers ++ ahead)
 
--- the numbers in front of a line were taken, up to a word that says none; a variable of these may be
--- none of the formula's
+-- the numbers in front of a line were taken, up to a word that says none; a variable of these may
+-- be none of the formula's
 pub record TakesLineFront (old new : Draft) (line rest : Words) (strange : Bool) : Type 0 where
   pub numbers : List ℤ
   pub front : TakesFront line rest numbers

@@ -1,5 +1,5 @@
--- LRAT texts without steps that resolve on a first literal: comments, and lines that add a clause or
--- delete clauses.
+-- LRAT texts without steps that resolve on a first literal: comments, and lines that add a clause
+-- or delete clauses.
 use Rattle.std.specs.Prelude.{◌≡◌, ℕ, ◌+◌, drop, fold, is_none, max, nat_lt, nat_le, nat_abs, ℤ, pos, int_le, int_lt, Bool, true, false, ◌&&◌, ◌||◌, if◌then◌else◌, List, [], ◌∷◌, map, find, filter_map, bytes_eq, codes, Option, None, Some, option_map}
 use Rattle.std.specs.List.{list_any, slice_split}
 use Rattle.std.specs.Option.{option_or}
@@ -129,8 +129,8 @@ past_number_limit None = None
 past_number_limit (Some (Added id clause hints)) = added_limit id clause hints
 past_number_limit (Some (Erased id ids)) = erased_limit id ids
 
--- the codes of an LRAT text that goes with so many input clauses; the id of an added clause has to be
--- above this number and all earlier ones
+-- the codes of an LRAT text that goes with so many input clauses; the id of an added clause has to
+-- be above this number and all earlier ones
 abbrev pub lrat_codes : ℕ → Codes ℕ Words
 lrat_codes inputs = record {
   context = λ before. fold raised_by inputs before;

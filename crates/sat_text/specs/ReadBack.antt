@@ -4,18 +4,19 @@ use Rattle.sat_clause.specs.declared.limits.TheConstants.{CLAUSE_LIMIT, ID_LIMIT
 use Rattle.sat_clause.specs.Formula.{Cnf}
 use Rattle.sat_clause.specs.Literal.{IsWithin}
 use Rattle.sat_clause.specs.Step.{Step, Added, Erased}
+use Rattle.sat_text.specs.CnfText.{ReadsCnf}
 use Rattle.sat_text.specs.LratText.{raised}
-
--- the formula has no more variables than may be read, and literals of these
-pub record HasOwnLiterals (cnf : Cnf) : Type 0 where
-  pub few_vars : cnf.vars ≤ VARIABLE_LIMIT
-  pub within : All (All (IsWithin cnf.vars)) cnf.clauses
+use Rattle.sat_text.specs.Printed.{cnf_text}
 
 -- the formula has no more variables and clauses than may be read, and literals of its variables
 pub record IsPrintable (cnf : Cnf) : Type 0 where
   pub few_vars : cnf.vars ≤ VARIABLE_LIMIT
   pub few_clauses : length cnf.clauses ≤ CLAUSE_LIMIT
   pub within : All (All (IsWithin cnf.vars)) cnf.clauses
+
+-- the printed form reads as the formula, if it has no more clauses than may be read
+abbrev pub ReadsBackIfFew : Cnf → Type 0
+ReadsBackIfFew cnf = length cnf.clauses ≤ CLAUSE_LIMIT → ReadsCnf (cnf_text cnf) cnf
 
 -- the number is one of those that may be read as an id or a hint
 pub record IsIdNumber (number : ℤ) : Type 0 where

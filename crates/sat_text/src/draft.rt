@@ -35,16 +35,19 @@ impl Draft {
     ghost use Rattle.sat_text.specs.FrontNumbers.{IsAtNoNumber};
     ghost use Rattle.sat_text.specs.Numbers.{numbers_of};
 
-    /// Nothing was read behind this head line.
-    pub fn new(alloc: Global, head: Head) -> Result<Draft, AllocError>
+    /// Nothing was read behind this head line of a text with so many bytes. There is room for the
+    /// clauses that the head line says, but for no more than the text can have: each takes two
+    /// bytes.
+    pub fn new(alloc: Global, head: Head, bytes: usize) -> Result<Draft, AllocError>
         requires { head.vars ≤ VARIABLE_LIMIT }
         ensures head { IfOk result (λ draft. head_in draft ≡ head) }
         ensures clauses { IfOk result (λ draft. draft.formula.cnf.clauses ≡ []) }
         ensures open { IfOk result (λ draft. draft.open_clause.items ≡ []) }
         ensures excess { IfOk result (λ draft. draft.excess ≡ false) }
     {
+        let room = u64::from(head.clauses).min(bytes as u64 / 2) as u32;
         let mut formula = Formula::new(alloc);
-        let Ok(()) = formula.reserve(head.vars, 0, 0) else {
+        let Ok(()) = formula.reserve(head.vars, room, 0) else {
             return Err(AllocError);
         };
         Ok(Draft {
@@ -72,7 +75,8 @@ impl Draft {
             };
             return Ok(());
         }
-        // The room doubles where it is missing: to count it first would read the text twice.
+        // The room for literals doubles where it is missing: to count them first would read the
+        // text twice.
         let vars = self.formula.vars();
         let Ok(()) = self.formula.reserve(vars, 1, self.open_clause.len() as u64) else {
             return Err(AllocError);
@@ -82,10 +86,12 @@ impl Draft {
         Ok(())
     }
 
-    /// Takes a number. It answers whether its variable is none of the formula's: then it isn't taken.
+    /// Takes a number. It answers whether its variable is none of the formula's: then it isn't
+    /// taken.
     #[inline(always)]
     fn take_number(&mut self, number: i64) -> Result<bool, AllocError>
-        ensures found { IfOk result (λ strange. strange ≡ has_strange_variable self.old.formula.cnf.vars
+        ensures found { IfOk result
+            (λ strange. strange ≡ has_strange_variable self.old.formula.cnf.vars
             (number ∷ [])) }
         ensures head { IfOk result (λ _. head_in self.new ≡ head_in self.old) }
         ensures taken { IfOk result (λ strange. strange ≡ false → TakesNumbers self.old self.new
@@ -109,7 +115,8 @@ impl Draft {
     /// these is none of the formula's.
     #[inline(always)]
     fn take_front(&mut self, line: &mut Line<'_>) -> Result<bool, AllocError>
-        ensures front { IfOk result (TakesLineFront self.old self.new line.old.words line.new.words) }
+        ensures front { IfOk result
+            (TakesLineFront self.old self.new line.old.words line.new.words) }
         ensures end { IfOk result (λ _. IsAtNoNumber line.new.words) }
     {
         let mut strange = false;
@@ -140,7 +147,8 @@ impl Draft {
         Ok(())
     }
 
-    /// Whether there are so many clauses as the head line says, and nothing stands behind the last 0.
+    /// Whether there are so many clauses as the head line says, and nothing stands behind the last
+    /// 0.
     #[tactic(auto, using(crate::proofs::DraftLemmas::clauses_now))]
     pub fn is_whole(&self) -> bool
         ensures { result ≡ is_some (clauses_with self.now []) }

@@ -1,5 +1,5 @@
-//! Numbers at the front of a line, in the quick way: each is read in one pass over its bytes, and put
-//! where it stays. What is out of the ordinary is left to the reader of any line.
+//! Numbers at the front of a line, in the quick way: each is read in one pass over its bytes, and
+//! put where it stays. What is out of the ordinary is left to the reader of any line.
 ghost use Rattle.std.specs.Prelude.{◌∷◌, [], ◌++◌, pos, map, All, IsTrue};
 ghost use Rattle.sat_clause.specs.Literal.{IsWithin};
 ghost use Rattle.sat_text.specs.FrontNumbers.{TakesFront};
@@ -12,7 +12,8 @@ use sat_clause::{Lit, VARIABLE_LIMIT};
 /// Puts the literals up to the next 0 in place of these. It answers whether they were all in order.
 pub fn front_literals(lits: &mut Vec<Lit>, line: &mut Line<'_>) -> bool
     ensures taken { IsTrue result
-        → TakesFront line.old.words line.new.words (map (λ l. l.code) lits.new.items ++ pos 0 ∷ []) }
+        → TakesFront line.old.words line.new.words
+        (map (λ l. l.code) lits.new.items ++ pos 0 ∷ []) }
     ensures within { IsTrue result → All (IsWithin VARIABLE_LIMIT) lits.new.items }
 {
     lits.clear();

@@ -31,7 +31,8 @@ struct HeadLine<'a> {
 
 /// These words, where the line has the form of a head line.
 fn head_line<'a>(line: &mut Line<'a>) -> Option<HeadLine<'a>>
-    ensures { option_map (λ l. record { vars = l.vars.now; clauses = l.clauses.now }) result ≡ head_words line.old.words }
+    ensures { option_map (λ l. record { vars = l.vars.now; clauses = l.clauses.now }) result
+        ≡ head_words line.old.words }
 {
     let (Some(p), Some(cnf)) = (line.next_word(), line.next_word()) else {
         return None;
@@ -50,7 +51,8 @@ fn head_line<'a>(line: &mut Line<'a>) -> Option<HeadLine<'a>>
 
 /// What a head line says, or why it is refused.
 pub fn read_head(line: &mut Line<'_>) -> Result<Head, TextFault>
-    ensures { AnswersFault (head_fault line.old) (λ head. head_of line.old.words ≡ Some head) result }
+    ensures { AnswersFault (head_fault line.old)
+        (λ head. head_of line.old.words ≡ Some head) result }
 {
     let number = line.number();
     let Some(words) = head_line(line) else {

@@ -18,5 +18,5 @@ mod write_log;
 
 pub use laws::{printed_formulas_read_back, printed_logs_read_back};
 pub use read::{read_cnf, read_lrat};
-pub use write::write_cnf;
-pub use write_log::write_lrat;
+pub use write::{CnfText, write_cnf};
+pub use write_log::{LratText, write_lrat};

@@ -12,7 +12,8 @@ use sat_clause::{Lit, Log};
 use std::alloc::{AllocError, Global};
 
 /// The steps that were read, and the number that the id of the next added clause has to be above.
-/// The numbers and the literals are those of the line that was read last: each line reuses their room.
+/// The numbers and the literals are those of the line that was read last: each line reuses their
+/// room.
 #[derive(Drop)]
 pub struct LogDraft {
     pub log: Log,

@@ -30,9 +30,10 @@ fn take_body(draft: &mut Draft, lines: &mut Lines<'_>) -> Result<(), TextFault>
     Ok(())
 }
 
-/// The formula that a CNF text says, in the format of the second DIMACS challenge (1993). The text is
-/// read once, and the formula grows with it. Behind as many clauses as the head line says nothing is
-/// kept any more, so that a text takes no more memory than its formula.
+/// The formula that a CNF text says, in the format of the second DIMACS challenge (1993). The text
+/// is read once. The head line says for how many clauses room is made. Behind as many clauses as
+/// the head line says nothing is kept any more, so that a text takes no more memory than its
+/// formula.
 ///
 /// # Errors
 /// `Bad` has the first bad line, counted from 1, with the least code that holds there:
@@ -54,7 +55,7 @@ pub fn read_cnf(alloc: Global, bytes: &[u8]) -> Result<Formula, TextFault>
         Ok(head) => head,
         Err(fault) => return Err(fault),
     };
-    let Ok(mut draft) = Draft::new(alloc, head) else {
+    let Ok(mut draft) = Draft::new(alloc, head, bytes.len()) else {
         return Err(TextFault::Memory);
     };
     match take_body(&mut draft, &mut lines) {
@@ -74,8 +75,8 @@ pub fn read_cnf(alloc: Global, bytes: &[u8]) -> Result<Formula, TextFault>
 }
 
 /// The log that an LRAT text says which goes with so many input clauses, in the format of
-/// Cruz-Filipe, Heule, Hunt, Kaufmann and Schneider-Kamp (2017) without steps that resolve on a first
-/// literal. The text is read once.
+/// Cruz-Filipe, Heule, Hunt, Kaufmann and Schneider-Kamp (2017) without steps that resolve on a
+/// first literal. The text is read once.
 ///
 /// # Errors
 /// `Bad` has the first bad line, counted from 1, with the least code that holds there:
@@ -87,7 +88,8 @@ pub fn read_cnf(alloc: Global, bytes: &[u8]) -> Result<Formula, TextFault>
 /// `Limit` has the code 705 and a number: an id or a hint above 4,294,967,295, or a literal of a
 /// variable above 100,000,000. `Memory` comes where memory is short.
 pub fn read_lrat(alloc: Global, bytes: &[u8], inputs: u32) -> Result<Log, TextFault>
-    ensures { Answers (lrat_faults inputs bytes.now) (λ log. log.steps ≡ lrat_said bytes.now) result }
+    ensures { Answers (lrat_faults inputs bytes.now)
+        (λ log. log.steps ≡ lrat_said bytes.now) result }
 {
     let mut lines = Lines::new(bytes, Style::Plain);
     let mut log_draft = LogDraft::new(alloc, inputs);

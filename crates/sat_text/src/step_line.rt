@@ -171,9 +171,12 @@ fn deleted<'a>(numbers: &'a [i64]) -> (&'a [i64], bool)
 
 /// The deletion that the numbers of a line say, or why they are refused.
 pub fn deletion_said<'a>(numbers: &'a [i64], line: u64) -> Result<Deletion<'a>, TextFault>
-    ensures step { IfOk result (λ said. erased_step numbers.now ≡ Some (Erased said.id said.ids.now)) }
-    ensures clean { IfOk result (λ _. (above : ℕ) → numbers_fault above line true numbers.now ≡ None) }
-    ensures err { IfErr result (λ fault. (above : ℕ) → IsFaultOf (numbers_fault above line true numbers.now)
+    ensures step { IfOk result (λ said. erased_step numbers.now ≡ Some
+        (Erased said.id said.ids.now)) }
+    ensures clean { IfOk result
+        (λ _. (above : ℕ) → numbers_fault above line true numbers.now ≡ None) }
+    ensures err { IfErr result (λ fault. (above : ℕ) → IsFaultOf
+        (numbers_fault above line true numbers.now)
         fault) }
 {
     let Some((id, more)) = numbers.split_first() else {
@@ -195,8 +198,8 @@ pub fn deletion_said<'a>(numbers: &'a [i64], line: u64) -> Result<Deletion<'a>, 
     })
 }
 
-/// The literals and the hints of an added clause: what the first 0 ends, and what the second, the last
-/// number, ends.
+/// The literals and the hints of an added clause: what the first 0 ends, and what the second, the
+/// last number, ends.
 fn clause_and_hints<'a>(numbers: &'a [i64]) -> Option<(&'a [i64], &'a [i64])>
     ensures step { (id : ℤ) → added_by id (slice_split is_zero_of numbers.now) ≡ option_map
         (λ said. Added (nat_abs id) (map lit said.0.now) said.1.now) result }

@@ -112,16 +112,17 @@ fn write_clauses<S: Shelf>(
     Ok(())
 }
 
-/// A formula: the head line, and each clause on a line.
+/// Prints a formula: the head line, and each clause on a line.
 #[derive(Debug)]
-struct CnfText;
+pub struct CnfText;
 
 impl Prints<Formula> for CnfText {
-    ghost use Rattle.sat_text.specs.ReadBack.{HasOwnLiterals};
+    ghost use Rattle.sat_text.specs.Printed.{cnf_text};
+    ghost use Rattle.sat_text.specs.ReadBack.{ReadsBackIfFew};
 
     ghost text = { λ formula. cnf_text formula.cnf };
 
-    ghost known = { λ formula. HasOwnLiterals formula.cnf };
+    ghost known = { λ formula. ReadsBackIfFew formula.cnf };
 
     fn print<S: Shelf>(
         &self,

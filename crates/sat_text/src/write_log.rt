@@ -76,7 +76,8 @@ fn write_step<S: Shelf>(
     step: &StepView<'_>,
 ) -> Result<(), Failed>
     requires { (S.state shelf.old).is_created ≡ true }
-    ensures { Writes (S.state shelf.old) writer.old (step_text (viewed step.now)) (S.state shelf.new)
+    ensures { Writes (S.state shelf.old) writer.old (step_text (viewed step.now))
+        (S.state shelf.new)
         writer.new result }
 {
     if step.erase {
@@ -91,11 +92,13 @@ fn write_step<S: Shelf>(
     write_clause_and_hints(writer, shelf, step.lits, step.hints)
 }
 
-/// A log: each step on a line.
+/// Prints a log: each step on a line.
 #[derive(Debug)]
-struct LratText;
+pub struct LratText;
 
 impl Prints<Log> for LratText {
+    ghost use Rattle.sat_text.specs.Printed.{log_text};
+
     ghost text = { λ log. log_text log.steps };
 
     fn print<S: Shelf>(
@@ -120,10 +123,12 @@ impl Prints<Log> for LratText {
 /// is printed of a log that was read reads back as it is.
 pub fn write_lrat<S: Shelf>(log: &Log, shelf: &mut S) -> Result<(), Failed>
     requires { (S.state shelf.old).is_created ≡ true }
-    ensures ok { OnOk result (S.state shelf.new ≡ after_append (S.state shelf.old) (log_text log.now.steps)) }
+    ensures ok { OnOk result (S.state shelf.new ≡ after_append (S.state shelf.old)
+        (log_text log.now.steps)) }
     ensures err { OnErr result (FailsToAppend (S.state shelf.old) (log_text log.now.steps)
         (S.state shelf.new)) }
-    ensures read_back { (inputs : ℕ) (text : Bytes) → ReadsLrat inputs text log.now.steps → ReadsLrat
+    ensures read_back { (inputs : ℕ) (text : Bytes) → ReadsLrat inputs text log.now.steps
+        → ReadsLrat
         inputs (log_text log.now.steps) log.now.steps }
 {
     append_text(&LratText, shelf, log)

@@ -11,7 +11,8 @@ returns-in-Some-clause-ok c =
     let at = at_index files c.in-Some.p c.index_mut.result.now h.inside c.index_mut.ensures.value in
     let name = name_is files c.in-Some.p _ c.args.name.now at h.name in (
       search rules,
-      rw (← name, ← c.clear.ensures.items) (written-map files c.in-Some.p _ c.clear.new.self at h.first),
+      rw (← name, ← c.clear.ensures.items)
+          (written-map files c.in-Some.p _ c.clear.new.self at h.first),
       written-name files c.in-Some.p _ c.clear.new.self at ∙ h.name,
       written-first files c.in-Some.p _ c.clear.new.self at h.first,
     )
@@ -23,7 +24,8 @@ returns-in_ok-push-in-None-clause-ok c =
     let items = c.in_ok-push-in-None.ensures.items in
     let name = c.in_ok-from_str-in-None.ensures.ok in
     let f : Named = (c.in_ok-from_str-in-None.field-0, c.new.result) in
-    let absent : map.get (table_map files) (string_bytes c.in_ok-from_str-in-None.field-0) ≡ None = rw name h.none in
+    let absent : map.get (table_map files) (string_bytes c.in_ok-from_str-in-None.field-0) ≡ None =
+    rw name h.none in
     let end : c.len-p.result ≡ length files = search rules in (
       search rules,
       rw (items, ← name, ← c.new.ensures.items) (pushed-map files f absent),

@@ -14,10 +14,22 @@ loop-slot-preserved c =
     let i : ℕ = c.loop-slot.slot-index in
     let x : Slot = get_or all i NO_SLOT in
     let below : i < length all = omega arith in
-    let crowd : c.unwrap_or-crowd.result ≡ crowd_in (take i all) x.cell = c.unwrap_or-crowd.ensures ∙ rw (c.copied.ensures, c.get.ensures.value) (c.loop-slot.invariant.crowds x.cell) in
-    let few : crowd_in (take i all) x.cell ≤ length (take i all) = count_by-le-length (λ (slot : Slot). same_cell slot.cell x.cell) (take i all) in
+    let crowd : c.unwrap_or-crowd.result ≡ crowd_in (take i all) x.cell =
+    c.unwrap_or-crowd.ensures ∙ rw (c.copied.ensures, c.get.ensures.value)
+    (c.loop-slot.invariant.crowds x.cell) in
+    let few : crowd_in (take i all) x.cell ≤ length (take i all) =
+    count_by-le-length (λ (slot : Slot). same_cell slot.cell x.cell) (take i all) in
     record {
-      counted = take-more all i c.loop-slot.count c.unwrap_or-crowd.result below c.requires.distinct c.loop-slot.invariant.counted crowd;
-      limit = omega (arith, crowd, few, length-take i all, c.requires.few, c.loop-slot.invariant.limit);
-      crowds = crowd-more all i c.unwrap_or-crowd.result c.loop-slot.crowds c.insert.new.self below c.loop-slot.invariant.crowds crowd c.in_ok-insert.ensures.updates.0;
+      counted = take-more all i c.loop-slot.count c.unwrap_or-crowd.result below c.requires.distinct
+          c.loop-slot.invariant.counted crowd;
+      limit = omega (
+        arith,
+        crowd,
+        few,
+        length-take i all,
+        c.requires.few,
+        c.loop-slot.invariant.limit,
+      );
+      crowds = crowd-more all i c.unwrap_or-crowd.result c.loop-slot.crowds c.insert.new.self below
+          c.loop-slot.invariant.crowds crowd c.in_ok-insert.ensures.updates.0;
     }

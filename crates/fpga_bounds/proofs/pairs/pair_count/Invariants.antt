@@ -12,5 +12,6 @@ abbrev pub invariant-loop-slot : goal.invariant-loop-slot
 invariant-loop-slot l = record {
   counted : l.count ≡ length (pairs (take l.slot-index l.slots));
   limit : l.count ≤ l.slot-index * 200000;
-  crowds : (c : Cell) → unwrap_or (get cmp-value.it l.crowds c) 0 ≡ crowd_in (take l.slot-index l.slots) c;
+  crowds : (c : Cell) → unwrap_or (get cmp-value.it l.crowds c) 0
+      ≡ crowd_in (take l.slot-index l.slots) c;
 }

@@ -9,11 +9,15 @@ pub loop-e-preserved : goal.loop-e-preserved
 loop-e-preserved c =
     let below : c.loop-e.e-index < length c.loop-e.elems = omega arith in
     rw c.retracked_elem.ensures
-    (changed-more (map (with_track c.args.table.now c.args.tracks.now c.args.n)) (λ _. with_track c.args.table.now c.args.tracks.now c.args.n) (map-push (with_track c.args.table.now c.args.tracks.now c.args.n))
+    (changed-more (map (with_track c.args.table.now c.args.tracks.now c.args.n))
+    (λ _. with_track c.args.table.now c.args.tracks.now c.args.n)
+    (map-push (with_track c.args.table.now c.args.tracks.now c.args.n))
     c.loop-e.e-index c.args.elems.now c.loop-e.elems NO_ELEM below c.loop-e.invariant)
 
 pub returns : goal.returns
 returns c =
     let end : c.loop-e.e-index ≡ length c.loop-e.elems = omega arith in
-    changed-all (map (with_track c.args.table.now c.args.tracks.now c.args.n)) (λ _. with_track c.args.table.now c.args.tracks.now c.args.n) (map-push (with_track c.args.table.now c.args.tracks.now c.args.n))
+    changed-all (map (with_track c.args.table.now c.args.tracks.now c.args.n))
+    (λ _. with_track c.args.table.now c.args.tracks.now c.args.n)
+    (map-push (with_track c.args.table.now c.args.tracks.now c.args.n))
     c.loop-e.e-index c.args.elems.now c.loop-e.elems end c.loop-e.invariant

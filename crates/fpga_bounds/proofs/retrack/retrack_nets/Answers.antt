@@ -7,11 +7,15 @@ pub loop-n-preserved : goal.loop-n-preserved
 loop-n-preserved c =
     let below : c.loop-n.n < length c.loop-n.nets = omega arith in
     rw c.retrack_net.ensures
-    (changed-more (nets_with_tracks c.args.table.now c.args.tracks.now) (net_with_tracks c.args.table.now c.args.tracks.now) (numbered-map-push (λ n. net_with_tracks c.args.table.now c.args.tracks.now n.0 n.1))
+    (changed-more (nets_with_tracks c.args.table.now c.args.tracks.now)
+    (net_with_tracks c.args.table.now c.args.tracks.now)
+    (numbered-map-push (λ n. net_with_tracks c.args.table.now c.args.tracks.now n.0 n.1))
     c.loop-n.n c.args.nets.now c.loop-n.nets c.index-nets-n.result below c.loop-n.invariant)
 
 pub returns : goal.returns
 returns c =
     let end : c.loop-n.n ≡ length c.loop-n.nets = omega arith in
-    changed-all (nets_with_tracks c.args.table.now c.args.tracks.now) (net_with_tracks c.args.table.now c.args.tracks.now) (numbered-map-push (λ n. net_with_tracks c.args.table.now c.args.tracks.now n.0 n.1))
+    changed-all (nets_with_tracks c.args.table.now c.args.tracks.now)
+    (net_with_tracks c.args.table.now c.args.tracks.now)
+    (numbered-map-push (λ n. net_with_tracks c.args.table.now c.args.tracks.now n.0 n.1))
     c.loop-n.n c.args.nets.now c.loop-n.nets end c.loop-n.invariant

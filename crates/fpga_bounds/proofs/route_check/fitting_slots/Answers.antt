@@ -14,9 +14,11 @@ use Rattle.fpga_bounds.proofs.route_check.fitting_slots.Goals as goal
 
 pub returns-in-Err : goal.returns-in-Err
 returns-in-Err c =
-    subst (λ (nets : List RouteNet). IsRefusal (nets_faults c.args.route.now.grid nets 0) c.in-Err.fault)
+    subst (λ (nets : List RouteNet). IsRefusal
+    (nets_faults c.args.route.now.grid nets 0) c.in-Err.fault)
     c.as_slice-nets.ensures
-    (subst (λ fault. IsFaultOf fault c.in-Err.fault) (sym c.loop-n.invariant.past) c.in-Err.ensures.refused)
+    (subst (λ fault. IsFaultOf fault c.in-Err.fault)
+    (sym c.loop-n.invariant.past) c.in-Err.ensures.refused)
 
 pub loop-n-preserved : goal.loop-n-preserved
 loop-n-preserved c = record {
@@ -26,16 +28,23 @@ loop-n-preserved c = record {
   pins = λ e.
       let nets : List RouteNet = c.as_slice-nets.result.now in
       let below : c.loop-n.n < length nets = omega arith in
-      let here : slice_get nets c.loop-n.n ≡ Some c.index-nets-n.result = slice_get_read nets (length nets) c.loop-n.n c.index-nets-n.result refl below c.index-nets-n.is in
-      c.in-Ok.ensures e ∙ ap (λ (b : Bool). b || list_any (same_pin e) c.as_slice.result.now) (c.loop-n.invariant.pins e)
-      ∙ rw (c.as_slice.ensures, ← c.index-nets-n.is) (sym (pins-more nets c.loop-n.n c.index-nets-n.result e here));
+      let here : slice_get nets c.loop-n.n ≡ Some c.index-nets-n.result =
+      slice_get_read nets (length nets) c.loop-n.n c.index-nets-n.result refl below
+      c.index-nets-n.is in
+      c.in-Ok.ensures e ∙ ap (λ (b : Bool). b || list_any (same_pin e) c.as_slice.result.now)
+      (c.loop-n.invariant.pins e)
+      ∙ rw (c.as_slice.ensures, ← c.index-nets-n.is)
+      (sym (pins-more nets c.loop-n.n c.index-nets-n.result e here));
 }
 
 pub returns : goal.returns
 returns c =
     let nets : List RouteNet = c.as_slice-nets.result.now in
     let end : c.loop-n.n ≡ length nets = omega arith in (
-      subst (λ (all : List RouteNet). IsFaultless (nets_faults c.args.route.now.grid all 0)) c.as_slice-nets.ensures
-          (c.loop-n.invariant.past ∙ past-nets c.args.route.now.grid nets c.loop-n.n (get-none nets c.loop-n.n (omega arith))),
-      c.loop-n.invariant.table ∙ ap slots_of (ap (λ m. take m nets) end ∙ take-length nets ∙ c.as_slice-nets.ensures),
+      subst (λ (all : List RouteNet). IsFaultless (nets_faults c.args.route.now.grid all 0))
+          c.as_slice-nets.ensures
+          (c.loop-n.invariant.past ∙ past-nets c.args.route.now.grid nets c.loop-n.n
+          (get-none nets c.loop-n.n (omega arith))),
+      c.loop-n.invariant.table ∙ ap slots_of
+          (ap (λ m. take m nets) end ∙ take-length nets ∙ c.as_slice-nets.ensures),
     )

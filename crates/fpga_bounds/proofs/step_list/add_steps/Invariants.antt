@@ -7,5 +7,6 @@ use Rattle.fpga_bounds.proofs.step_list.add_steps.Given as goal
 abbrev pub invariant-loop-e : goal.invariant-loop-e
 invariant-loop-e l = record {
   found : l.found.items ≡ l.initial.found.items ++ net_steps l.table l.net (take l.e-index l.elems);
-  previous : l.previous ≡ option_and_then (elem_number l.table l.net) (last_or None (take l.e-index l.elems));
+  previous : l.previous ≡ option_and_then (elem_number l.table l.net)
+      (last_or None (take l.e-index l.elems));
 }

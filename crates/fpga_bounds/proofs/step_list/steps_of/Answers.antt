@@ -9,5 +9,13 @@ pub loop-n-preserved : goal.loop-n-preserved
 loop-n-preserved c =
     let nets : List RouteNet = c.args.nets.now in
     let below : c.loop-n.n < length nets = omega arith in
-    let here : slice_get nets c.loop-n.n ≡ Some c.index-nets-n.result = slice_get_read nets (length nets) c.loop-n.n c.index-nets-n.result refl below c.index-nets-n.is in
-    nets-more c.args.table.now nets c.loop-n.n c.index-nets-n.result _ here below (c.in_ok-add_steps.ensures ∙ rw (c.loop-n.invariant, c.as_slice.ensures, ← c.index-nets-n.is) refl)
+    let here : slice_get nets c.loop-n.n ≡ Some c.index-nets-n.result =
+    slice_get_read nets (length nets) c.loop-n.n c.index-nets-n.result refl below
+    c.index-nets-n.is in
+    nets-more c.args.table.now nets c.loop-n.n c.index-nets-n.result _ here below
+    (c.in_ok-add_steps.ensures ∙ rw (
+      c.loop-n.invariant,
+      c.as_slice.ensures,
+      ←
+          c.index-nets-n.is,
+    ) refl)

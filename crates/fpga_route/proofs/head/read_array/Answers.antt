@@ -9,10 +9,14 @@ said : (c : In-Some) → array_form c.args.line.now.words ≡ Array (array_said 
 said c = ap (λ o. option_map_or Array o OtherHead) (sym c.in-Some.ensures)
 
 pub returns-clause-clean : goal.returns-clause-clean
-returns-clause-clean c = rw (said (goal.at.returns-clause-clean c).In-Some, ← c.number-number.ensures) c.read_size.ensures.clean
+returns-clause-clean c =
+    rw (said (goal.at.returns-clause-clean c).In-Some, ← c.number-number.ensures)
+    c.read_size.ensures.clean
 
 pub returns-clause-grid : goal.returns-clause-grid
 returns-clause-grid c = rw (said (goal.at.returns-clause-grid c).In-Some) c.read_size.ensures.grid
 
 pub returns-clause-err : goal.returns-clause-err
-returns-clause-err c = rw (said (goal.at.returns-clause-err c).In-Some, ← c.number-number.ensures) c.read_size.ensures.err
+returns-clause-err c =
+    rw (said (goal.at.returns-clause-err c).In-Some, ← c.number-number.ensures)
+    c.read_size.ensures.err

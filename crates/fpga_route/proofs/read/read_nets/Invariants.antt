@@ -1,4 +1,5 @@
--- the lines that were taken have no fault, and what they and those ahead lead to is what all lead to
+-- the lines that were taken have no fault, and what they and those ahead lead to is what all lead
+-- to
 use Rattle.std.proofs.Common.{◌≡◌, length}
 use Rattle.fpga_text.proofs.FaultLemmas.{IsPast}
 use Rattle.fpga_route.specs.Drafts.{nets_with}

@@ -5,4 +5,5 @@ pub returns-clause-read_back : goal.returns-clause-read_back
 returns-clause-read_back g c = λ text reads. read_back text c.args.route.now reads
 
 pub returns-clause-tracks_read_back : goal.returns-clause-tracks_read_back
-returns-clause-tracks_read_back g c = λ text source tracks reads fits is. tracks_read_back text source c.args.route.now tracks reads fits is
+returns-clause-tracks_read_back g c = λ text source tracks reads fits is.
+    tracks_read_back text source c.args.route.now tracks reads fits is

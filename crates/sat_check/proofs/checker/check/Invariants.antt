@@ -12,5 +12,6 @@ invariant-loop-i l = record {
   size : l.set.size ≡ l.vars;
   empty : l.set.set ≡ [];
   finds : Finds (live_at l.live) (live_before l.formula.cnf l.log.steps l.i);
-  left : judge_from (suc l.i) (live_before l.formula.cnf l.log.steps l.i) (drop l.i l.log.steps) ≡ judge l.formula.cnf l.log.steps;
+  left : judge_from (suc l.i) (live_before l.formula.cnf l.log.steps l.i) (drop l.i l.log.steps)
+      ≡ judge l.formula.cnf l.log.steps;
 }

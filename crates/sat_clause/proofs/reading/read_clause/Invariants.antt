@@ -9,5 +9,6 @@ use Rattle.sat_clause.proofs.reading.read_clause.Given as goal
 abbrev pub invariant-loop-l : goal.invariant-loop-l
 invariant-loop-l g l =
     (open_literals (g.F.FalseLiterals.falses l.literals) l.clause
-    ≡ option_to_list l.open ++ open_literals (option_to_list l.open ++ g.F.FalseLiterals.falses l.literals) (drop l.l-index l.clause))
+    ≡ option_to_list l.open ++ open_literals
+    (option_to_list l.open ++ g.F.FalseLiterals.falses l.literals) (drop l.l-index l.clause))
     × ForSome l.open (IsWithin (g.F.FalseLiterals.most l.literals))

@@ -1,4 +1,5 @@
--- no line so far has a fault, and the steps so far and those of the lines that are left are all steps
+-- no line so far has a fault, and the steps so far and those of the lines that are left are all
+-- steps
 use Rattle.std.proofs.Common.{◌≡◌, ◌+◌, ◌++◌, length}
 use Rattle.fpga_text.specs.Words.{line_count, line_words}
 use Rattle.fpga_text.proofs.FaultLemmas.{IsPast}
@@ -9,7 +10,8 @@ use Rattle.sat_text.proofs.read.read_lrat.Given as goal
 
 abbrev pub invariant-loop-line : goal.invariant-loop-line
 invariant-loop-line l = record {
-  past : IsPast (lrat_faults l.inputs l.bytes) (faults_above l.log_draft.above (told l.lines.ahead) (line_count l.bytes + 1));
+  past : IsPast (lrat_faults l.inputs l.bytes)
+      (faults_above l.log_draft.above (told l.lines.ahead) (line_count l.bytes + 1));
   steps : l.log_draft.log.steps ++ steps_of (line_words (told l.lines.ahead)) ≡ lrat_said l.bytes;
 }
 

@@ -9,7 +9,8 @@ use Rattle.sat_text.proofs.read.take_body.Given as goal
 
 abbrev pub invariant-loop-line : goal.invariant-loop-line
 invariant-loop-line l = record {
-  past : IsPast (body_faults (head_in l.initial.draft) (told l.initial.lines.ahead)) (body_faults (head_in l.initial.draft) (told l.lines.ahead));
+  past : IsPast (body_faults (head_in l.initial.draft) (told l.initial.lines.ahead))
+      (body_faults (head_in l.initial.draft) (told l.lines.ahead));
   read : IsReadTo l.initial.draft l.draft (told l.initial.lines.ahead) (told l.lines.ahead);
   total : l.lines.total ≡ l.initial.lines.total;
 }

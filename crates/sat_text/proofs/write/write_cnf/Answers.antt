@@ -1,6 +1,5 @@
 use Rattle.std.proofs.Common.{Result, Ok, Err, refl}
 use Rattle.std.specs.Prelude.{IsOk, OnOk}
-use Rattle.sat_text.proofs.CnfBack.{printed_reads}
 use Rattle.sat_text.proofs.CnfSound.{read_again}
 use Rattle.sat_text.proofs.write.write_cnf.Goals as goal
 
@@ -9,9 +8,8 @@ on_ok (Ok value) P known = known refl
 on_ok (Err error) P known = tt
 
 pub returns-clause-reads : goal.returns-clause-reads
-returns-clause-reads g c few = on_ok c.append_text.result _ (λ ok.
-    let own = c.append_text.ensures.known ok in
-    printed_reads c.args.formula.now.cnf (record { few_vars = own.few_vars; few_clauses = few; within = own.within }))
+returns-clause-reads g c few =
+    on_ok c.append_text.result _ (λ ok. c.append_text.ensures.known ok few)
 
 pub returns-clause-read_back : goal.returns-clause-read_back
 returns-clause-read_back g c = read_again c.args.formula.now.cnf

@@ -5,14 +5,15 @@ use Rattle.desk_io.proofs.WritingLaws.{fails_at_once}
 use Rattle.desk_io.proofs.mem_shelf.MemShelfShelf.append.Goals as goal
 
 pub returns-then-next_fails-clause-err : goal.returns-then-next_fails-clause-err
-returns-then-next_fails-clause-err c = rw (← c.self.view_is) (fails_at_once c.args.piece.now (record {
-  files = refl;
-  said = refl;
-  is_created = refl;
-  created = refl;
-  risen = c.add.ensures.risen;
-  say_failed = c.add.ensures.in_say;
-}))
+returns-then-next_fails-clause-err c =
+    rw (← c.self.view_is) (fails_at_once c.args.piece.now (record {
+      files = refl;
+      said = refl;
+      is_created = refl;
+      created = refl;
+      risen = c.add.ensures.risen;
+      say_failed = c.add.ensures.in_say;
+    }))
 
 pub returns-in_default-append_at-clause-err : goal.returns-in_default-append_at-clause-err
 returns-in_default-append_at-clause-err c =

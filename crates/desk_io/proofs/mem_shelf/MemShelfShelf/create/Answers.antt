@@ -15,7 +15,8 @@ returns-then-next_fails-clause-err c = rw (← c.self.view_is) (record {
 
 pub returns-in_default-clause-err : goal.returns-in_default-clause-err
 returns-in_default-clause-err c = rw (← c.self.view_is) (record {
-  others = others_stay c.self.inside.files.items c.empty_file.new.files.items c.args.name.now c.in_default.ensures.err;
+  others = others_stay c.self.inside.files.items c.empty_file.new.files.items c.args.name.now
+      c.in_default.ensures.err;
   untold = λ none. absurd (let clash : Some _ ≡ None = none in cc);
   said = refl;
   is_created = refl;

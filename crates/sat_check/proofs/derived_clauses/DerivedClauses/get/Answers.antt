@@ -14,6 +14,8 @@ pub returns : goal.returns
 returns c =
     let p = c.self.inside in
     let some = rw (c.len.ensures, p.table.ok.0) at c.in-Some.ensures.value in
-    let within : c.in-Some.at < length p.table.items = rw (← p.table.ok.0, ← c.len.ensures) c.in-Some.ensures.within in
+    let within : c.in-Some.at < length p.table.items =
+    rw (← p.table.ok.0, ← c.len.ensures) c.in-Some.ensures.within in
     rw (← c.self.view_is, ← some)
-    (ap (option_map now) (c.index.ensures ∙ get_or_default p.table.items c.in-Some.at c.index.result.now None within))
+    (ap (option_map now) (c.index.ensures ∙ get_or_default p.table.items c.in-Some.at
+    c.index.result.now None within))

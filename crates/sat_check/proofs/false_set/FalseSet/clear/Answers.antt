@@ -9,5 +9,7 @@ invariant_of-self c =
       many = omega (arith, c.unmark.ensures.many, c.self.invariant.many);
       within = rw c.clear.ensures.items (λ k d none. absurd (omega arith));
       marked = rw c.clear.ensures.items
-          (none_is_marked c.self.inside.size marks c.unmark.new.marks c.self.inside.trail.items c.self.invariant.marked (simp c.deref.ensures.value at c.unmark.ensures.unmarked) c.unmark.ensures.others);
+          (none_is_marked c.self.inside.size marks c.unmark.new.marks c.self.inside.trail.items
+          c.self.invariant.marked (simp c.deref.ensures.value at c.unmark.ensures.unmarked)
+          c.unmark.ensures.others);
     }

@@ -9,7 +9,9 @@ use Rattle.sat_check.proofs.live_clauses.LiveClauses.erase.Given as goal
 abbrev pub invariant-loop-id : goal.invariant-loop-id
 invariant-loop-id l = record {
   vars : l.self.vars ≡ l.initial.self.vars;
-  live : (live : Live) → Finds (live_at l.initial.self) live → Finds (live_at l.self) (erase live (take l.id-index l.ids));
+  live : (live : Live) → Finds (live_at l.initial.self) live
+      → Finds (live_at l.self) (erase live (take l.id-index l.ids));
   left : (live : Live) → Finds (live_at l.initial.self) live →
-      erase_fault (erase live (take l.id-index l.ids)) (drop l.id-index l.ids) ≡ erase_fault live l.ids;
+      erase_fault (erase live (take l.id-index l.ids)) (drop l.id-index l.ids)
+      ≡ erase_fault live l.ids;
 }

@@ -14,4 +14,7 @@ returns-clause-live c = λ found live finds.
     let above = simp to_z-of_z at c.if-id-le0.false in
     let inputs = simp to_z-of_z at c.take_out-was_input.ensures.live in
     let derived = simp to_z-of_z at c.take_out-was_derived.ensures.clauses in
-    finds_take_out _ _ c.args.id above (joined_changes (input_at p.inputs) (input_at c.take_out-was_input.new.self) (derived_at p.derived) (derived_at c.take_out-was_derived.new.self) (nat_abs c.args.id) _ inputs derived) live (rw (← c.self.view_is) at finds)
+    finds_take_out _ _ c.args.id above
+    (joined_changes (input_at p.inputs) (input_at c.take_out-was_input.new.self)
+    (derived_at p.derived) (derived_at c.take_out-was_derived.new.self)
+    (nat_abs c.args.id) _ inputs derived) live (rw (← c.self.view_is) at finds)

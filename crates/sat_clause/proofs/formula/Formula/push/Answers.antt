@@ -13,9 +13,12 @@ invariant_of-self c =
     let lits_room = rw (← c.self.view_is) at c.requires.lit_room in
     record {
       rise =
-          rw (c.push_reserved.ensures.items, c.len.ensures) (rise_push c.self.inside.lits.len _ 0 c.self.inside.ends.items old.rise (omega arith));
+          rw (c.push_reserved.ensures.items, c.len.ensures)
+          (rise_push c.self.inside.lits.len _ 0 c.self.inside.ends.items old.rise
+          (omega arith));
       within =
-          rw more.items (All-append (IsWithin c.self.inside.vars) c.self.inside.lits.items c.args.lits.now old.within within);
+          rw more.items (All-append (IsWithin c.self.inside.vars) c.self.inside.lits.items
+          c.args.lits.now old.within within);
       few_vars = old.few_vars;
       few_clauses = omega arith;
       clauses_fit = omega arith;
@@ -28,5 +31,7 @@ returns-clause-clauses c =
     let more = c.in-Ok.ensures in
     let full = c.self.inside.lits.ok.0 in
     let rise = rw full at c.self.invariant.rise in
-    let end : c.len.result ≡ length c.self.inside.lits.items + length c.args.lits.now = omega arith in
-    rw (← c.self.view_is, c.push_reserved.ensures.items, more.items) (parts_push 0 c.self.inside.lits.items c.args.lits.now c.self.inside.ends.items _ rise end)
+    let end : c.len.result ≡ length c.self.inside.lits.items + length c.args.lits.now =
+    omega arith in
+    rw (← c.self.view_is, c.push_reserved.ensures.items, more.items)
+    (parts_push 0 c.self.inside.lits.items c.args.lits.now c.self.inside.ends.items _ rise end)

@@ -16,7 +16,8 @@ invariant_of-self-2 c =
     record {
       rise = rw (ends_ok.items, lits_ok.len) old.rise;
       within =
-          rw lits_ok.items (IsWithin-more c.self.inside.vars c.args.vars c.self.inside.lits.items c.self.inside.ends.items old.within rise no_fewer);
+          rw lits_ok.items (IsWithin-more c.self.inside.vars c.args.vars c.self.inside.lits.items
+          c.self.inside.ends.items old.within rise no_fewer);
       few_vars = c.requires.few_vars;
       few_clauses = omega arith;
       clauses_fit = omega arith;

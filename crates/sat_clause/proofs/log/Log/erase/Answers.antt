@@ -11,9 +11,13 @@ invariant_of-self c =
     let number_room = rw (← c.self.view_is) at c.requires.number_room in
     record {
       lits_rise =
-          rw (c.push_reserved-2.ensures.items, c.len.ensures) (rise_push c.self.inside.lits.len _ 0 c.self.inside.lit_ends.items old.lits_rise (omega arith));
+          rw (c.push_reserved-2.ensures.items, c.len.ensures)
+          (rise_push c.self.inside.lits.len _ 0 c.self.inside.lit_ends.items old.lits_rise
+          (omega arith));
       numbers_rise =
-          rw (c.push_reserved-3.ensures.items, c.len-2.ensures) (rise_push c.self.inside.numbers.len _ 0 c.self.inside.number_ends.items old.numbers_rise (omega arith));
+          rw (c.push_reserved-3.ensures.items, c.len-2.ensures)
+          (rise_push c.self.inside.numbers.len _ 0 c.self.inside.number_ends.items
+          old.numbers_rise (omega arith));
       lit_parts = omega arith;
       number_parts = omega arith;
       are_literals = old.are_literals;
@@ -34,10 +38,23 @@ returns-clause-steps c =
     let lits_rise = rw inside.lits.ok.0 at old.lits_rise in
     let numbers_rise = rw inside.numbers.ok.0 at old.numbers_rise in
     let lit_end : c.len.result ≡ length inside.lits.items = omega arith in
-    let number_end : c.len-2.result ≡ length inside.numbers.items + length c.args.ids.now = omega arith in
+    let number_end : c.len-2.result ≡ length inside.numbers.items + length c.args.ids.now =
+    omega arith in
     let lits = parts_push_none 0 inside.lits.items inside.lit_ends.items _ lits_rise lit_end in
-    let numbers = parts_push 0 inside.numbers.items c.args.ids.now inside.number_ends.items _ numbers_rise number_end in
-    rw (← c.self.view_is, c.push_reserved.ensures.items, c.push_reserved-2.ensures.items, c.push_reserved-3.ensures.items, more_numbers.items, lits, numbers)
+    let numbers =
+    parts_push 0 inside.numbers.items c.args.ids.now inside.number_ends.items _ numbers_rise
+    number_end in
+    rw (
+      ← c.self.view_is,
+      c.push_reserved.ensures.items,
+      c.push_reserved-2.ensures.items,
+      c.push_reserved-3.ensures.items,
+      more_numbers.items,
+      lits,
+      numbers,
+    )
     (steps_push inside.heads.items _ _ _ [] c.args.ids.now
-    (lit_parts-many inside.heads inside.lits inside.lit_ends inside.numbers inside.number_ends inside.step_room inside.number_room old)
-    (number_parts-many inside.heads inside.lits inside.lit_ends inside.numbers inside.number_ends inside.step_room inside.number_room old))
+    (lit_parts-many inside.heads inside.lits inside.lit_ends inside.numbers inside.number_ends
+    inside.step_room inside.number_room old)
+    (number_parts-many inside.heads inside.lits inside.lit_ends inside.numbers inside.number_ends
+    inside.step_room inside.number_room old))

@@ -12,7 +12,9 @@ returns-then-number-ne0 c =
 
 pub returns : goal.returns
 returns c =
-    let zero = sym (to_z-of_z w64 c.args.number c.ranges.number) ∙ ap (to_z w64) c.if-number-ne0.false in
+    let zero = sym (to_z-of_z w64 c.args.number c.ranges.number)
+    ∙ ap (to_z w64) c.if-number-ne0.false in
     rw zero (takes_zero c.args.self.now _
     (rw (c.push-2.ensures.vars, c.in-Ok-reserve.ensures.ok, c.vars-vars.ensures.value) refl) refl
-    (rw (c.push-2.ensures.clauses, c.in-Ok-reserve.ensures.ok, c.deref.ensures.value) refl) c.clear.ensures.items)
+    (rw (c.push-2.ensures.clauses, c.in-Ok-reserve.ensures.ok, c.deref.ensures.value) refl)
+    c.clear.ensures.items)

@@ -4,7 +4,8 @@ use Rattle.sat_text.specs.Drafts.{TakesLineFront}
 use Rattle.sat_text.proofs.draft.Draft.take_front.Given as goal
 
 abbrev pub invariant-loop-number : goal.invariant-loop-number
-invariant-loop-number l = TakesLineFront l.initial.self l.self l.initial.line.words l.line.words l.strange
+invariant-loop-number l =
+    TakesLineFront l.initial.self l.self l.initial.line.words l.line.words l.strange
 
 abbrev pub decreases-loop-number : goal.decreases-loop-number
 decreases-loop-number l = length l.line.words

@@ -12,19 +12,29 @@ same c = same_number (slice_get c.args.line.now.words 0) c.in-Some.id c.in-Some.
 -- the id is above all earlier ones
 above : (c : After-add) → IsAbove c.args.self.now.above c.in-Some.id
 above c =
-    let least = to_z-of_z w64 (pos c.args.self.now.above) (omega (arith, rw c.from.ensures at c.from.type_inv)) in
-    is_above c.args.self.now.above c.in-Some.id (rw (c.from.ensures, least, same c) at c.if-id-from.false)
+    let least = to_z-of_z w64 (pos c.args.self.now.above)
+    (omega (arith, rw c.from.ensures at c.from.type_inv)) in
+    is_above c.args.self.now.above c.in-Some.id
+    (rw (c.from.ensures, least, same c) at c.if-id-from.false)
 
 -- the line was taken to its end
-taken : (c : After-add) → AddsClause c.args.self.now.above c.args.line.now (nat_abs c.in-Some.id) c.front_literals.new.lits.items c.front_hints.new.hints.items
+taken : (c : After-add) → AddsClause c.args.self.now.above c.args.line.now (nat_abs c.in-Some.id)
+    c.front_literals.new.lits.items c.front_hints.new.hints.items
 taken c =
     let over = above c in
     let few = rw (same c) at c.if-id-gt-MOST_ID.false in
-    addition_taken c.args.self.now.above c.args.line.now c.next_number.new.self.words c.front_literals.new.line.words c.front_hints.new.line.words (nat_abs c.in-Some.id)
+    addition_taken c.args.self.now.above c.args.line.now c.next_number.new.self.words
+    c.front_literals.new.line.words c.front_hints.new.line.words (nat_abs c.in-Some.id)
     c.front_literals.new.lits.items c.front_hints.new.hints.items
-    (ap (λ n. Some n) (sym over.plain) ∙ c.in-Some.ensures.number) (ap (λ l. l.words) c.in-Some.ensures.after)
-    (c.if-not-front_literals.ensures.taken refl) (c.if-not-front_hints.ensures.taken refl) c.if-has_words.ensures
-    (over.over, few, c.if-not-front_literals.ensures.within refl, c.if-not-front_hints.ensures.ids refl)
+    (ap (λ n. Some n) (sym over.plain) ∙ c.in-Some.ensures.number)
+    (ap (λ l. l.words) c.in-Some.ensures.after)
+    (c.if-not-front_literals.ensures.taken refl)
+    (c.if-not-front_hints.ensures.taken refl) c.if-has_words.ensures (
+      over.over,
+      few,
+      c.if-not-front_literals.ensures.within refl,
+      c.if-not-front_hints.ensures.ids refl,
+    )
 
 pub returns-clause-clean : goal.returns-clause-clean
 returns-clause-clean c _ = (taken (goal.at.returns-clause-clean c).After-add).clean
@@ -35,6 +45,12 @@ returns-clause-step c _ =
     let said = (taken at).said in
     let over = above at in
     rw (said, same at) (record {
-      steps = rw (c.add.ensures.steps, c.in-Ok.ensures.kept, c.deref.ensures.value, c.deref-2.ensures.value, same at) refl;
+      steps = rw (
+        c.add.ensures.steps,
+        c.in-Ok.ensures.kept,
+        c.deref.ensures.value,
+        c.deref-2.ensures.value,
+        same at,
+      ) refl;
       above = greater c.args.self.now.above (nat_abs c.in-Some.id) over.over;
     })
