@@ -12,44 +12,63 @@ use Rattle.fpga_text.specs.Reading.{with_line}
 use Rattle.fpga_text.proofs.LineLemmas.{words-blank, words-last}
 
 -- a blank in front says no word
-pub words-skip : (text : Bytes) (i : ℕ) → i < length text → is_blank (slice_index text i) ≡ true → words (drop (i + 1) text) ≡ words (drop i text)
-words-skip text i within blank = rw (add-one, drop-cons text i 0) (sym (words-blank (slice_index text i) (drop (suc i) text) blank))
+pub words-skip : (text : Bytes) (i : ℕ) → i < length text → is_blank (slice_index text i) ≡ true
+    → words (drop (i + 1) text) ≡ words (drop i text)
+words-skip text i within blank =
+    rw (add-one, drop-cons text i 0)
+    (sym (words-blank (slice_index text i) (drop (suc i) text) blank))
 
 -- a byte that is no blank begins a word
-pub begins-drop : (text : Bytes) (i : ℕ) → i < length text → is_blank (slice_index text i) ≡ false → IsTrue (begins_word (drop i text))
+pub begins-drop : (text : Bytes) (i : ℕ) → i < length text → is_blank (slice_index text i) ≡ false
+    → IsTrue (begins_word (drop i text))
 begins-drop text i within said = rw (drop-cons text i 0) (go (is_blank (slice_index text i)) said)
   where
     go : (b : Bool) → b ≡ false → IsTrue (not b)
     go b e = rw e refl
 
 -- an element that fails the test is passed by
-pub position_or_len-cons_no : {X : Type 0} (p : X → Bool) (x : X) (xs : List X) → p x ≡ false → position_or_len p (x ∷ xs) ≡ suc (position_or_len p xs)
+pub position_or_len-cons_no : {X : Type 0} (p : X → Bool) (x : X) (xs : List X) → p x ≡ false
+    → position_or_len p (x ∷ xs) ≡ suc (position_or_len p xs)
 position_or_len-cons_no p x xs e = rw (e, one-add (position_or_len p xs)) refl
 
-filter-cons_word : (c : ℕ) (word : Bytes) (parts : List Bytes) → filter (λ (part : Bytes). not (is_empty part)) ((c ∷ word) ∷ parts) ≡ (c ∷ word) ∷ filter (λ (part : Bytes). not (is_empty part)) parts
+filter-cons_word : (c : ℕ) (word : Bytes) (parts : List Bytes)
+    → filter (λ (part : Bytes). not (is_empty part)) ((c ∷ word) ∷ parts)
+    ≡ (c ∷ word) ∷ filter (λ (part : Bytes). not (is_empty part)) parts
 filter-cons_word c word parts = refl
 
 -- the first word is what stands before the first blank, and the others are those after it
-pub words-first : (c : ℕ) (more : Bytes) → is_blank c ≡ false → words (c ∷ more) ≡ before_first is_blank (c ∷ more) ∷ words (after_first is_blank (c ∷ more))
-words-first c more begins = elim (cases_lt (position_or_len is_blank (c ∷ more)) (length (c ∷ more))) [ inl inside ↦ ended inside | inr past ↦ last past ]
+pub words-first : (c : ℕ) (more : Bytes) → is_blank c ≡ false → words (c ∷ more)
+    ≡ before_first is_blank (c ∷ more) ∷ words (after_first is_blank (c ∷ more))
+words-first c more begins =
+    elim (cases_lt (position_or_len is_blank (c ∷ more)) (length (c ∷ more)))
+    [ inl inside ↦ ended inside | inr past ↦ last past ]
   where
     word : before_first is_blank (c ∷ more) ≡ c ∷ before_first is_blank more
     word = ap (λ n. take n (c ∷ more)) (position_or_len-cons_no is_blank c more begins)
 
-    ended : position_or_len is_blank (c ∷ more) < length (c ∷ more) → words (c ∷ more) ≡ before_first is_blank (c ∷ more) ∷ words (after_first is_blank (c ∷ more))
-    ended inside = ap (filter (λ (part : Bytes). not (is_empty part))) (slice_split_first is_blank (c ∷ more) c inside)
-        ∙ ap (λ (w : Bytes). filter (λ (part : Bytes). not (is_empty part)) (w ∷ slice_split is_blank (after_first is_blank (c ∷ more)))) word
+    ended : position_or_len is_blank (c ∷ more) < length (c ∷ more) → words (c ∷ more)
+        ≡ before_first is_blank (c ∷ more) ∷ words (after_first is_blank (c ∷ more))
+    ended inside =
+        ap (filter (λ (part : Bytes). not (is_empty part)))
+        (slice_split_first is_blank (c ∷ more) c inside)
+        ∙ ap (λ (w : Bytes). filter (λ (part : Bytes). not (is_empty part))
+        (w ∷ slice_split is_blank (after_first is_blank (c ∷ more)))) word
         ∙ ap (λ (w : Bytes). w ∷ words (after_first is_blank (c ∷ more))) (sym word)
 
-    last : length (c ∷ more) ≤ position_or_len is_blank (c ∷ more) → words (c ∷ more) ≡ before_first is_blank (c ∷ more) ∷ words (after_first is_blank (c ∷ more))
+    last : length (c ∷ more) ≤ position_or_len is_blank (c ∷ more) → words (c ∷ more)
+        ≡ before_first is_blank (c ∷ more) ∷ words (after_first is_blank (c ∷ more))
     last past =
-        let one_word : All (λ d. is_blank d ≡ false) (c ∷ more) = (λ k d h. fails_before_first is_blank (c ∷ more) k d (omega (arith, h, past))) in
-        let whole : before_first is_blank (c ∷ more) ≡ c ∷ more = take_all (position_or_len is_blank (c ∷ more)) (c ∷ more) past in
-        let nothing : after_first is_blank (c ∷ more) ≡ [] = drop_all (position_or_len is_blank (c ∷ more) + 1) (c ∷ more) (omega (arith, past)) in
+        let one_word : All (λ d. is_blank d ≡ false) (c ∷ more) =
+        (λ k d h. fails_before_first is_blank (c ∷ more) k d (omega (arith, h, past))) in
+        let whole : before_first is_blank (c ∷ more) ≡ c ∷ more =
+        take_all (position_or_len is_blank (c ∷ more)) (c ∷ more) past in
+        let nothing : after_first is_blank (c ∷ more) ≡ [] =
+        drop_all (position_or_len is_blank (c ∷ more) + 1) (c ∷ more) (omega (arith, past)) in
         words-last c more one_word ∙ sym (λ i. whole i ∷ words (nothing i))
 
 -- the same of a text that is not empty and begins with a word
-pub words-cut : (text : Bytes) → 0 < length text → IsTrue (begins_word text) → words text ≡ before_first is_blank text ∷ words (after_first is_blank text)
+pub words-cut : (text : Bytes) → 0 < length text → IsTrue (begins_word text) → words text
+    ≡ before_first is_blank text ∷ words (after_first is_blank text)
 words-cut [] some begins = absurd (omega (arith, some))
 words-cut (c ∷ more) some begins = words-first c more (go (is_blank c) begins)
   where
@@ -58,7 +77,8 @@ words-cut (c ∷ more) some begins = words-first c more (go (is_blank c) begins)
     go false said = refl
 
 -- a text that begins with a word has one, unless it is empty
-pub is_empty-words : (text : Bytes) → IsTrue (begins_word text) → is_empty (words text) ≡ is_empty text
+pub is_empty-words : (text : Bytes) → IsTrue (begins_word text) → is_empty (words text)
+    ≡ is_empty text
 is_empty-words [] begins = refl
 is_empty-words (c ∷ more) begins = rw (words-cut (c ∷ more) (omega arith) begins) refl
 
@@ -79,6 +99,8 @@ nonempty [] some = absurd (let clash : false ≡ true = some in cc)
 nonempty (b ∷ more) some = omega arith
 
 -- a cut at the first blank gives the first word and what says the others
-pub words-part : (text word rest : Bytes) (place : ℕ) → false ≡ (length text == 0) → IsTrue (begins_word text) → place ≡ position_or_len is_blank text
+pub words-part : (text word rest : Bytes) (place : ℕ) → false ≡ (length text == 0)
+    → IsTrue (begins_word text) → place ≡ position_or_len is_blank text
     → word ≡ take place text → rest ≡ drop (place + 1) text → words text ≡ word ∷ words rest
-words-part text word rest place some begins at before after = rw (before, after, at) (words-cut text (nonempty text some) begins)
+words-part text word rest place some begins at before after =
+    rw (before, after, at) (words-cut text (nonempty text some) begins)

@@ -26,7 +26,8 @@ trimmed-at text end within blanks last =
     ap (λ n. take n text) (sym same)
 
 -- the line without its comment, by the place of the first hash
-pub before_hash-at : (raw : Bytes) (place : ℕ) → place ≡ position_or_len is_hash raw → take place raw
+pub before_hash-at : (raw : Bytes) (place : ℕ) → place ≡ position_or_len is_hash raw
+    → take place raw
     ≡ before_first is_hash raw
 before_hash-at raw place at = ap (λ n. take n raw) at
 
@@ -58,7 +59,8 @@ goes_on-push raw before last is =
 
 -- and a line without bytes does not
 pub goes_on-nothing : (raw : Bytes) → bare raw ≡ [] → goes_on raw ≡ false
-goes_on-nothing raw is = ap (λ (text : Bytes). option_map_or is_backslash (last_or None text) false) is
+goes_on-nothing raw is =
+    ap (λ (text : Bytes). option_map_or is_backslash (last_or None text) false) is
 
 -- a line that does not go on
 pub said_part-alone : (raw : Bytes) → goes_on raw ≡ false → said_part raw ≡ before_first is_hash raw
@@ -79,7 +81,8 @@ pub record IsPart (text raw behind : Bytes) : Type 0 where
 
 -- a cut at the first newline
 pub part-cut : (text raw behind : Bytes) (place : ℕ) → false ≡ (length text == 0)
-    → place ≡ position_or_len is_newline text → raw ≡ take place text → behind ≡ drop (place + 1) text
+    → place ≡ position_or_len is_newline text → raw ≡ take place text → behind
+    ≡ drop (place + 1) text
     → IsPart text raw behind
 part-cut [] raw behind place some at before after = absurd (let clash : false ≡ true = some in cc)
 part-cut (b ∷ more) raw behind place some at before after = record {
@@ -108,7 +111,8 @@ next-same text later raw behind said front rest on so_far part says goes same at
     (sym (words_later-part later raw behind part) ∙ so_far)
 
 -- a part that says no word is passed by
-pub next-none : (text front rest : Bytes) → words front ++ words_later rest ≡ words_later text → true
+pub next-none : (text front rest : Bytes) → words front ++ words_later rest ≡ words_later text
+    → true
     ≡ (length front == 0) → words_later rest ≡ words_later text
 next-none text [] rest same none = same
 next-none text (b ∷ front) rest same none = absurd (grind (arith, none))
@@ -142,7 +146,8 @@ passed_none text = record {
 
 joined-part : (n : ℕ) (text raw behind : Bytes) → IsPart text raw behind → joined_from n text
     ≡ put_before (goes_on raw) (part_line n raw) (joined_from (n + 1) behind)
-joined-part n text raw behind part = ap (λ (ls : List Bytes). joined (enumerate_from n ls)) part.lines
+joined-part n text raw behind part =
+    ap (λ (ls : List Bytes). joined (enumerate_from n ls)) part.lines
 
 count-part : (text raw behind : Bytes) → IsPart text raw behind → line_count text
     ≡ line_count behind + 1
@@ -157,13 +162,15 @@ passed_more text rest raw behind taken passed part on = record {
       ∙ drop-put_before (part_line (n + taken) raw) (joined_from (n + taken + 1) behind)
       ∙ ap (λ k. drop 1 (joined_from k behind)) (next n);
   last = λ n. passed.last n ∙ ap (end_of_first (n + taken)) (here n)
-      ∙ end-put_before (part_line (n + taken) raw) (n + taken) (joined_from (n + taken + 1) behind) refl
+      ∙ end-put_before (part_line (n + taken) raw) (n + taken)
+      (joined_from (n + taken + 1) behind) refl
       ∙ ap (λ k. end_of_first k (joined_from k behind)) (next n);
   count = omega (arith, passed.count, count-part rest raw behind part);
   shorter = omega (arith, passed.shorter, part.shorter);
 }
   where
-    here : (n : ℕ) → joined_from (n + taken) rest ≡ put_before true (part_line (n + taken) raw) (joined_from (n + taken + 1) behind)
+    here : (n : ℕ) → joined_from (n + taken) rest
+        ≡ put_before true (part_line (n + taken) raw) (joined_from (n + taken + 1) behind)
     here n = joined-part (n + taken) rest raw behind part
         ∙ ap (λ b. put_before b (part_line (n + taken) raw) (joined_from (n + taken + 1) behind)) on
 
@@ -181,9 +188,11 @@ passed_last text rest raw behind taken passed part ends = record {
   shorter = omega (arith, passed.shorter, part.shorter);
 }
   where
-    here : (n : ℕ) → joined_from (n + taken) rest ≡ part_line (n + taken) raw ∷ joined_from (n + taken + 1) behind
+    here : (n : ℕ) → joined_from (n + taken) rest
+        ≡ part_line (n + taken) raw ∷ joined_from (n + taken + 1) behind
     here n = joined-part (n + taken) rest raw behind part
-        ∙ ap (λ b. put_before b (part_line (n + taken) raw) (joined_from (n + taken + 1) behind)) ends
+        ∙ ap (λ b. put_before b (part_line (n + taken) raw) (joined_from (n + taken + 1) behind))
+        ends
 
     next : (n : ℕ) → n + taken + 1 ≡ n + (taken + 1)
     next n = omega arith
@@ -222,7 +231,13 @@ joined-words n (part ∷ more) =
 put_before-first : (n m : ℕ) (raw : Bytes) (ls : List TextLine) → end_of_first (n + 1) ls
     ≡ n + 1 + m
     → put_before true (part_line n raw) ls
-    ≡ record { number = n; last = n + m; raw = raw; words = words (said_part raw) ++ first_words ls }
+    ≡ record {
+      number = n;
+      last = n + m;
+      raw = raw;
+      words =
+          words (said_part raw) ++ first_words ls;
+    }
     ∷ drop 1 ls
 put_before-first n m raw [] end =
     let none : m ≡ 0 = omega (arith, end) in
@@ -251,7 +266,8 @@ first_plain raw text said later behind more says ends at none = record {
 pub first_hash : (raw text said later behind : Bytes) (more : ℕ) → said ≡ before_first is_hash raw
     → later ≡ [] → behind ≡ text → more ≡ 0 → IsFirstLine Hash raw text said later behind more
 first_hash raw text said later behind more says ends at none = record {
-  made = λ n. rw (says, ends, at, none, add-zero n, append-nil (words (before_first is_hash raw))) refl;
+  made = λ n. rw (says, ends, at, none, add-zero n, append-nil (words (before_first is_hash raw)))
+      refl;
   count = rw (at, none) (omega arith);
   shorter = rw (at, none) (omega arith);
 }
@@ -275,13 +291,20 @@ first_going_on raw text said behind more on says ends = record {
   made = λ n. ap (λ b. put_before b (part_line n raw) (joined_from (n + 1) text)) on
       ∙ put_before-first n more raw (joined_from (n + 1) text) (ends.last (n + 1))
       ∙ line n
-      ∙ ap (λ (ls : List TextLine). line_made n more raw (words said ++ words_later text) ∷ ls) (others n);
+      ∙ ap (λ (ls : List TextLine). line_made n more raw (words said ++ words_later text) ∷ ls)
+      (others n);
   count = ends.count;
   shorter = ends.shorter;
 }
   where
     line : (n : ℕ)
-        → record { number = n; last = n + more; raw = raw; words = words (said_part raw) ++ first_words (joined_from (n + 1) text) }
+        → record {
+          number = n;
+          last = n + more;
+          raw = raw;
+          words =
+              words (said_part raw) ++ first_words (joined_from (n + 1) text);
+        }
         ∷ drop 1 (joined_from (n + 1) text)
         ≡ line_made n more raw (words said ++ words_later text) ∷ drop 1 (joined_from (n + 1) text)
     line n = rw (says, joined-words (n + 1) (lines text)) refl
@@ -289,14 +312,26 @@ first_going_on raw text said behind more on says ends = record {
     others : (n : ℕ) → drop 1 (joined_from (n + 1) text)
         ≡ lines_made Joined (enumerate_from (n + more + 1) (lines behind))
     others n = ends.others (n + 1)
-        ∙ ap (λ k. joined_from k behind) (let same : n + 1 + more ≡ n + more + 1 = omega arith in same)
+        ∙ ap (λ k. joined_from k behind)
+        (let same : n + 1 + more ≡ n + more + 1 = omega arith in same)
 
 -- the first line of a text is taken
 pub takes_line-first : (style : Style) (taken more : ℕ) (text raw later said on rest : Bytes)
     (line : TextLine) → IsPart text raw later → IsFirstLine style raw later said on rest more
-    → line ≡ record { number = taken + 1; last = taken + 1 + more; raw = raw; words = words said ++ words_later on }
+    → line ≡ record {
+      number = taken + 1;
+      last = taken + 1 + more;
+      raw = raw;
+      words =
+          words said ++ words_later on;
+    }
     → TakesLine
-    (record { ahead = lines_from style (taken + 1) text; taken = taken; total = taken + line_count text })
+    (record {
+      ahead = lines_from style (taken + 1) text;
+      taken = taken;
+      total =
+          taken + line_count text;
+    })
     (record {
       ahead = lines_from style (taken + 1 + more + 1) rest;
       taken = taken + 1 + more;

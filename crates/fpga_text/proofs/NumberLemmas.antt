@@ -12,14 +12,18 @@ use Rattle.fpga_text.specs.Bytes.{Bytes, is_empty}
 use Rattle.fpga_text.specs.Numbers.{if_64_bits, is_point, millionths_of, negated_number, plain_number, signed_number_of, six_digits, whole_number_of, with_digits}
 
 -- one more digit
-pub digits-more : (word : Bytes) (i value digit next : ℕ) → i < length word → digits_value 10 (take i word) ≡ value → digit ≡ digit_value (slice_index word i)
+pub digits-more : (word : Bytes) (i value digit next : ℕ) → i < length word
+    → digits_value 10 (take i word) ≡ value → digit ≡ digit_value (slice_index word i)
     → next ≡ value * 10 + digit → digits_value 10 (take (i + 1) word) ≡ next
-digits-more word i value digit next within so_far said more = rw (digits_value_more 10 word i within) (cc)
+digits-more word i value digit next within so_far said more =
+    rw (digits_value_more 10 word i within) (cc)
 
 -- and it is a digit
-pub list_all-more : (word : Bytes) (i : ℕ) → i < length word → list_all is_ascii_digit (take i word) ≡ true → is_ascii_digit (slice_index word i) ≡ true
+pub list_all-more : (word : Bytes) (i : ℕ) → i < length word → list_all is_ascii_digit (take i word)
+    ≡ true → is_ascii_digit (slice_index word i) ≡ true
     → list_all is_ascii_digit (take (i + 1) word) ≡ true
-list_all-more word i within so_far said = rw (list_all_more is_ascii_digit word i 0 within, so_far, said) refl
+list_all-more word i within so_far said =
+    rw (list_all_more is_ascii_digit word i 0 within, so_far, said) refl
 
 -- digits that follow others
 digits_value_after-append : (n : ℕ) (a b : Bytes) → digits_value_after 10 n (a ++ b)
@@ -44,7 +48,8 @@ digits_value_after-more : (n : ℕ) (ds : Bytes) (i : ℕ) → i < length ds
     → digits_value_after 10 n (take (i + 1) ds)
     ≡ digits_value_after 10 n (take i ds) * 10 + digit_value (slice_index ds i)
 digits_value_after-more n ds i within =
-    rw (take_more ds i 0 within, digits_value_after-append n (take i ds) (slice_index ds i ∷ [])) refl
+    rw (take_more ds i 0 within, digits_value_after-append n (take i ds) (slice_index ds i ∷ []))
+    refl
 
 -- a value that fits 64 bits
 if_64_bits-small : (n : ℕ) → n < 2 ^ 64 → if_64_bits n ≡ Some n
@@ -76,12 +81,14 @@ pub followed-foreign : (number : Option ℕ) (digits : Bytes) (i value : ℕ)
     → IsFollowed number digits i value → i < length digits
     → is_ascii_digit (slice_index digits i) ≡ false → with_digits number digits ≡ None
 followed-foreign number digits i value so_far within foreign =
-    rw so_far.was (ap (λ b. if b then if_64_bits (digits_value_after 10 so_far.first digits) else None)
+    rw so_far.was (ap
+    (λ b. if b then if_64_bits (digits_value_after 10 so_far.first digits) else None)
     (list_all_at is_ascii_digit digits i 0 within foreign))
 
 -- the value with one more digit
 pub followed-value : (number : Option ℕ) (digits : Bytes) (i value digit : ℕ)
-    → (so_far : IsFollowed number digits i value) → i < length digits → digit ≡ digit_value (slice_index digits i)
+    → (so_far : IsFollowed number digits i value) → i < length digits → digit
+    ≡ digit_value (slice_index digits i)
     → digits_value_after 10 so_far.first (take (i + 1) digits) ≡ value * 10 + digit
 followed-value number digits i value digit so_far within is =
     digits_value_after-more so_far.first digits i within
@@ -89,7 +96,8 @@ followed-value number digits i value digit so_far within is =
 
 -- it passes 64 bits
 pub followed-great : (number : Option ℕ) (digits : Bytes) (i value digit : ℕ)
-    → IsFollowed number digits i value → i < length digits → digit ≡ digit_value (slice_index digits i)
+    → IsFollowed number digits i value → i < length digits → digit
+    ≡ digit_value (slice_index digits i)
     → 2 ^ 64 ≤ value * 10 + digit → with_digits number digits ≡ None
 followed-great number digits i value digit so_far within is great =
     rw so_far.was (go (list_all is_ascii_digit digits))
@@ -152,7 +160,8 @@ with_digits-append n a b =
     great : (v : ℕ) → 2 ^ 64 ≤ v → (u : Bool)
         → (if u then if_64_bits (digits_value_after 10 v b) else None) ≡ None
     great v past true =
-        if_64_bits-great (digits_value_after 10 v b) (omega (arith, past, digits_value_after-least v b))
+        if_64_bits-great (digits_value_after 10 v b)
+        (omega (arith, past, digits_value_after-least v b))
     great v past false = refl
 
     by_size : (v : ℕ) → with_digits (if_64_bits v) b
@@ -236,7 +245,8 @@ millionths-split : (word whole part : Bytes) → IsSplit word whole part → mil
 millionths-split word whole part split = rw (split.before, split.behind) refl
 
 -- no digit
-pub millionths-nothing : (word whole part : Bytes) → IsSplit word whole part → whole ≡ [] → part ≡ []
+pub millionths-nothing : (word whole part : Bytes) → IsSplit word whole part → whole ≡ [] → part
+    ≡ []
     → millionths_of word ≡ None
 millionths-nothing word whole part split no_whole no_part =
     millionths-split word whole part split ∙ rw (no_whole, no_part) refl
@@ -250,7 +260,8 @@ millionths-foreign word whole part split foreign =
     (go (not (is_empty (whole ++ part))) (list_all is_ascii_digit whole))
   where
     go : (t u : Bool)
-        → (if t && (u && false) then if_64_bits (digits_value 10 (whole ++ six_digits part)) else None)
+        → (if t && (u && false) then if_64_bits
+        (digits_value 10 (whole ++ six_digits part)) else None)
         ≡ None
     go true true = refl
     go true false = refl
@@ -260,12 +271,14 @@ millionths-foreign word whole part split foreign =
 pub millionths-digits : (word whole part kept : Bytes) → IsSplit word whole part
     → is_empty (whole ++ part) ≡ false → list_all is_ascii_digit part ≡ true
     → kept ≡ take (min (length part) 6) part
-    → with_digits (with_digits (with_digits (Some 0) whole) kept) (drop (length kept) (codes "000000"))
+    → with_digits (with_digits (with_digits (Some 0) whole) kept)
+    (drop (length kept) (codes "000000"))
     ≡ millionths_of word
 millionths-digits word whole part kept split some all is =
     rw (with_digits-append 0 whole kept)
     (with_digits-append 0 (whole ++ kept) (drop (length kept) (codes "000000")))
-    ∙ ap (with_digits (Some 0)) (append_assoc whole kept (drop (length kept) (codes "000000")) ∙ ap (λ (six : Bytes). whole ++ six) six)
+    ∙ ap (with_digits (Some 0)) (append_assoc whole kept (drop (length kept) (codes "000000"))
+    ∙ ap (λ (six : Bytes). whole ++ six) six)
     ∙ ap (λ b. if b then if_64_bits (digits_value 10 (whole ++ six_digits part)) else None) same
     ∙ sym (millionths-split word whole part split)
   where
@@ -291,13 +304,17 @@ plain_number-small n small = ap (λ b. if b then Some (pos n) else None) (lt-ltb
 
 -- and one that does so with a minus sign
 pub negated_number-small : (n : ℕ) → n ≤ 2 ^ 63 → negated_number n ≡ Some (neg_ℤ (pos n))
-negated_number-small n small = ap (λ b. if b then Some (neg_ℤ (pos n)) else None) (le-leb n (2 ^ 63) small)
+negated_number-small n small =
+    ap (λ b. if b then Some (neg_ℤ (pos n)) else None) (le-leb n (2 ^ 63) small)
 
 plain_fits : (n : ℕ) (z : ℤ) → plain_number n ≡ Some z → FitsSigned w64 z
 plain_fits n z said = go (nat_lt n (2 ^ 63)) refl said
   where
-    go : (b : Bool) → nat_lt n (2 ^ 63) ≡ b → (if b then Some (pos n) else None) ≡ Some z → FitsSigned w64 z
-    go true e is = let same : pos n ≡ z = cc in subst (FitsSigned w64) same (omega (arith, ltb-true n (2 ^ 63) e))
+    go : (b : Bool) → nat_lt n (2 ^ 63) ≡ b → (if b then Some (pos n) else None) ≡ Some z
+        → FitsSigned w64 z
+    go true e is =
+        let same : pos n ≡ z = cc in subst (FitsSigned w64) same
+        (omega (arith, ltb-true n (2 ^ 63) e))
     go false e is = absurd (let clash : None ≡ Some z = is in cc)
 
 negated_fits : (n : ℕ) (z : ℤ) → negated_number n ≡ Some z → FitsSigned w64 z
@@ -307,20 +324,26 @@ negated_fits n z said = go (nat_le n (2 ^ 63)) refl said
     neg_fits zero few = omega arith
     neg_fits (suc k) few = omega (arith, few)
 
-    go : (b : Bool) → nat_le n (2 ^ 63) ≡ b → (if b then Some (neg_ℤ (pos n)) else None) ≡ Some z → FitsSigned w64 z
-    go true e is = let same : neg_ℤ (pos n) ≡ z = cc in subst (FitsSigned w64) same (neg_fits n (leb-true n (2 ^ 63) e))
+    go : (b : Bool) → nat_le n (2 ^ 63) ≡ b → (if b then Some (neg_ℤ (pos n)) else None) ≡ Some z
+        → FitsSigned w64 z
+    go true e is =
+        let same : neg_ℤ (pos n) ≡ z =
+        cc in subst (FitsSigned w64) same (neg_fits n (leb-true n (2 ^ 63) e))
     go false e is = absurd (let clash : None ≡ Some z = is in cc)
 
 -- a number that a word says fits 64 bits with its sign
-pub signed_fits : (word : Option Bytes) (z : ℤ) → Some z ≡ option_and_then signed_number_of word → FitsSigned w64 z
+pub signed_fits : (word : Option Bytes) (z : ℤ) → Some z ≡ option_and_then signed_number_of word
+    → FitsSigned w64 z
 signed_fits None z said = absurd (let clash : Some z ≡ None = said in cc)
 signed_fits (Some []) z said = absurd (let clash : Some z ≡ None = said in cc)
 signed_fits (Some (b ∷ more)) z said = go (b == 45) (sym said)
   where
-    of : (by : ℕ → Option ℤ) → ((n : ℕ) (y : ℤ) → by n ≡ Some y → FitsSigned w64 y) → (o : Option ℕ) → option_and_then by o ≡ Some z → FitsSigned w64 z
+    of : (by : ℕ → Option ℤ) → ((n : ℕ) (y : ℤ) → by n ≡ Some y → FitsSigned w64 y) → (o : Option ℕ)
+        → option_and_then by o ≡ Some z → FitsSigned w64 z
     of by fits None is = absurd (let clash : None ≡ Some z = is in cc)
     of by fits (Some n) is = fits n z is
 
-    go : (t : Bool) → (if t then option_and_then negated_number (whole_number_of more) else option_and_then plain_number (whole_number_of (b ∷ more))) ≡ Some z → FitsSigned w64 z
+    go : (t : Bool) → (if t then option_and_then negated_number (whole_number_of more) else
+        option_and_then plain_number (whole_number_of (b ∷ more))) ≡ Some z → FitsSigned w64 z
     go true is = of negated_number negated_fits (whole_number_of more) is
     go false is = of plain_number plain_fits (whole_number_of (b ∷ more)) is

@@ -176,14 +176,25 @@ whole_number_of-decimal n fits =
     some (d ∷ ds) e = sym (ne_eqb (suc (length ds)) 0 (λ z. omega (arith, z)))
 
 -- and with its sign, where it fits 64 bits
-pub signed_number_of-decimal : (z : ℤ) → nat_abs z < 2 ^ 63 → signed_number_of (signed_decimal z) ≡ Some z
-signed_number_of-decimal (negsuc n) fits = rw (whole_number_of-decimal (suc n) (omega (arith, fits))) (negated_number-small (suc n) (omega (arith, fits)))
-signed_number_of-decimal (pos n) fits = go (decimal n) (decimal-word n wide).some (decimal-pass (λ c. not (c == 45)) (λ c least most. ap not (digit-differs 45 c least most (inl (omega arith)))) n wide) (whole_number_of-decimal n wide)
+pub signed_number_of-decimal : (z : ℤ) → nat_abs z < 2 ^ 63 → signed_number_of (signed_decimal z)
+    ≡ Some z
+signed_number_of-decimal (negsuc n) fits =
+    rw (whole_number_of-decimal (suc n) (omega (arith, fits)))
+    (negated_number-small (suc n) (omega (arith, fits)))
+signed_number_of-decimal (pos n) fits =
+    go (decimal n) (decimal-word n wide).some
+    (decimal-pass (λ c. not (c == 45))
+    (λ c least most. ap not (digit-differs 45 c least most (inl (omega arith)))) n wide)
+    (whole_number_of-decimal n wide)
   where
     wide : n < 2 ^ 64
     wide = omega (arith, fits)
 
-    go : (digits : Bytes) → is_empty digits ≡ false → lacks (λ c. c == 45) digits ≡ true → whole_number_of digits ≡ Some n → signed_number_of digits ≡ Some (pos n)
+    go : (digits : Bytes) → is_empty digits ≡ false → lacks (λ c. c == 45) digits ≡ true
+        → whole_number_of digits ≡ Some n → signed_number_of digits ≡ Some (pos n)
     go [] some unsigned says = absurd (let clash : true ≡ false = some in cc)
     go (d ∷ ds) some unsigned says =
-        rw (not-true (d == 45) (and_parts (not (d == 45)) (lacks (λ c. c == 45) ds) unsigned).0, says) (plain_number-small n fits)
+        rw (
+          not-true (d == 45) (and_parts (not (d == 45)) (lacks (λ c. c == 45) ds) unsigned).0,
+          says,
+        ) (plain_number-small n fits)

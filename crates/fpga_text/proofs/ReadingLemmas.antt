@@ -10,14 +10,16 @@ pub record IsTaken (old new : LinesAhead) (line : TextLine) : Type 0 where
   pub total : new.total ≡ old.total
 
 first_taken : (ahead : List TextLine) (total : ℕ) (line : TextLine) → Some line ≡ slice_get ahead 0
-    → (ahead ≡ line ∷ (past_first ahead total).ahead) × ((past_first ahead total).taken ≡ line.last) × ((past_first ahead total).total ≡ total)
+    → (ahead ≡ line ∷ (past_first ahead total).ahead) × ((past_first ahead total).taken ≡ line.last)
+    × ((past_first ahead total).total ≡ total)
 first_taken [] total line said = absurd (let clash : Some line ≡ None = said in cc)
 first_taken (first ∷ more) total line said =
     let same : line ≡ first = cc in
     (ap (λ (l : TextLine). l ∷ more) (sym same), ap (λ (l : TextLine). l.last) (sym same), refl)
 
 -- `next_line` gave a line
-pub next_line-taken : (old new : LinesAhead) (line : TextLine) → Some line ≡ slice_get old.ahead 0 → new ≡ after_line old → IsTaken old new line
+pub next_line-taken : (old new : LinesAhead) (line : TextLine) → Some line ≡ slice_get old.ahead 0
+    → new ≡ after_line old → IsTaken old new line
 next_line-taken old new line said after =
     let facts = first_taken old.ahead old.total line said in
     record {
@@ -38,7 +40,8 @@ none_ahead [] said = refl
 none_ahead (first ∷ more) said = absurd (let clash : None ≡ Some first = said in cc)
 
 -- `next_line` gave none
-pub next_line-past : (old new : LinesAhead) → None ≡ slice_get old.ahead 0 → new ≡ after_line old → IsPast old new
+pub next_line-past : (old new : LinesAhead) → None ≡ slice_get old.ahead 0 → new ≡ after_line old
+    → IsPast old new
 next_line-past old new said after =
     let none : old.ahead ≡ [] = none_ahead old.ahead said in
     let is : new ≡ past_first [] old.total = after ∙ ap (λ ls. past_first ls old.total) none in

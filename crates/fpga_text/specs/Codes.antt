@@ -16,8 +16,7 @@ pub data EndCode (Context : Type 0) : Type 0 where
   End : ℕ → (Context → Bool) → EndCode Context
 
 -- the codes of a format, least first, and what they look at besides a line: the context that
--- earlier
--- lines make
+-- earlier lines make
 pub record Codes (Context Line : Type 0) : Type 0 where
   pub context : List Line → Context
   pub of_line : List (LineCode Context Line)

@@ -33,7 +33,8 @@ IsRefusal faults fault = IsFaultOf (first_fault faults) fault
 
 -- a reader gives a value, of which this is true, only where there is no fault; else it gives the
 -- fault, or want of memory
-abbrev pub AnswersFault : {T : Type 0} → Option TextFault → (T → Type 0) → Result T TextFault → Type 0
+abbrev pub AnswersFault : {T : Type 0} → Option TextFault → (T → Type 0) → Result T TextFault
+    → Type 0
 AnswersFault fault says result =
     MatchResult result (λ value. (fault ≡ None) × says value) (IsFaultOf fault)
 

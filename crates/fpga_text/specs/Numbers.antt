@@ -25,7 +25,8 @@ plain_number n = if nat_lt n (2 ^ 63) then Some (pos n) else None
 abbrev pub negated_number : ℕ → Option ℤ
 negated_number n = if nat_le n (2 ^ 63) then Some (neg_ℤ (pos n)) else None
 
--- the number that a word says: digits with or without a leading minus sign, of 64 bits with its sign
+-- the number that a word says: digits with or without a leading minus sign, of 64 bits with its
+-- sign
 abbrev pub signed_number_of : Bytes → Option ℤ
 signed_number_of [] = None
 signed_number_of (b ∷ more) =

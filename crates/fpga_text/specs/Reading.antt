@@ -3,13 +3,15 @@ use Rattle.std.specs.Prelude.{◌≡◌, ℕ, ◌+◌, ◌≤◌, List, [], ◌�
 use Rattle.fpga_text.specs.Bytes.{is_empty}
 use Rattle.fpga_text.specs.Words.{TextLine}
 
--- the lines that are still to come, how many lines of the text were taken, and how many it has, those without words counted
+-- the lines that are still to come, how many lines of the text were taken, and how many it has,
+-- those without words counted
 pub record LinesAhead : Type 0 where
   pub ahead : List TextLine
   pub taken : ℕ
   pub total : ℕ
 
--- past the first of these lines, of a text with so many lines; past the whole text where there is none
+-- past the first of these lines, of a text with so many lines; past the whole text where there is
+-- none
 abbrev pub past_first : List TextLine → ℕ → LinesAhead
 past_first [] total = record { ahead = []; taken = total; total = total }
 past_first (line ∷ more) total = record { ahead = more; taken = line.last; total = total }

@@ -1,5 +1,5 @@
-//! Short numbers at the front of a text. Each is read in one pass over its bytes, since texts of many
-//! numbers are read no faster than those.
+//! Short numbers at the front of a text. Each is read in one pass over its bytes, since texts of
+//! many numbers are read no faster than those.
 ghost use Rattle.std.specs.Prelude.{◌≡◌, ◌<◌, ◌≤◌, ◌^◌, Some, IfSome, take, length, nat_abs, neg_ℤ, pos};
 ghost use Rattle.std.specs.List.{position_or_len};
 ghost use Rattle.fpga_text.specs.Bytes.{is_blank};
@@ -30,7 +30,8 @@ pub struct FrontNumber {
 fn front_digits(text: &[u8]) -> Option<FrontDigits>
     ensures len { IfSome result (λ front. front.len ≡ position_or_len is_blank text.now) }
     ensures within { IfSome result (λ front. front.len ≤ length text.now) }
-    ensures size { IfSome result (λ front. whole_number_of (take front.len text.now) ≡ Some front.size) }
+    ensures size { IfSome result (λ front. whole_number_of (take front.len text.now) ≡ Some
+        front.size) }
     ensures small { IfSome result (λ front. front.size < 10 ^ 18) }
 {
     let mut size: u64 = 0;
@@ -68,7 +69,8 @@ fn negated(size: u64) -> i64
 pub fn front_number(text: &[u8]) -> Option<FrontNumber>
     ensures len { IfSome result (λ front. front.len ≡ position_or_len is_blank text.now) }
     ensures within { IfSome result (λ front. front.len ≤ length text.now) }
-    ensures value { IfSome result (λ front. signed_number_of (take front.len text.now) ≡ Some front.value) }
+    ensures value { IfSome result
+        (λ front. signed_number_of (take front.len text.now) ≡ Some front.value) }
     ensures small { IfSome result (λ front. nat_abs front.value < 10 ^ 18) }
 {
     let Some((first, behind)) = text.split_first() else {

@@ -2,11 +2,12 @@
 ghost use Rattle.std.specs.Prelude.{◌≡◌, not, drop, slice_get, option_map, option_and_then, IfSome, IfNone};
 ghost use Rattle.fpga_text.specs.Bytes.{is_empty};
 ghost use Rattle.fpga_text.specs.Numbers.{signed_number_of};
+ghost use Rattle.fpga_text.specs.Said.{decimal_said, is_text, whole_said};
 
 use crate::cut::{first_blank, from_first_word, part_at};
 use crate::front::front_number;
 use crate::joined::front_part;
-use crate::number::signed_number;
+use crate::number::{millionths, signed_number, whole_number};
 use std::marker::Model;
 
 /// A word, and the number of its line.
@@ -14,6 +15,17 @@ use std::marker::Model;
 pub struct Word<'a> {
     pub line: u64,
     pub text: &'a [u8],
+}
+
+impl<'a> Word<'a> {
+    ghost use Rattle.std.specs.Prelude.{bytes_eq};
+
+    /// Whether the word is this text.
+    pub fn is(self, text: &[u8]) -> bool
+        ensures { result ≡ bytes_eq self.entry.text.now text.now }
+    {
+        self.text == text
+    }
 }
 
 /// A line: its number, its bytes without the newline, and its words that were not yet taken.
@@ -113,13 +125,49 @@ impl<'a> Line<'a> {
         })
     }
 
-    /// The number that the next word says, or None: exactly where there is no next word, or it says no
-    /// number of 64 bits with its sign. That word is then not taken.
+    /// Whether there is a next word that is this text. It is taken, whatever it is.
+    pub fn next_is(&mut self, text: &[u8]) -> bool
+        ensures is { result ≡ is_text text.now (slice_get self.old.words 0) }
+        ensures after { self.new ≡ record self.old { words = drop 1 self.old.words } }
+    {
+        let Some(word) = self.next_word() else {
+            return false;
+        };
+        word.is(text)
+    }
+
+    /// The whole number that the next word says, or None where there is no such word or it says
+    /// none. It is taken, whatever it is.
+    pub fn next_whole(&mut self) -> Option<u64>
+        ensures number { result ≡ whole_said (slice_get self.old.words 0) }
+        ensures after { self.new ≡ record self.old { words = drop 1 self.old.words } }
+    {
+        let Some(word) = self.next_word() else {
+            return None;
+        };
+        whole_number(word.text)
+    }
+
+    /// The decimal that the next word says, in millionths, or None where there is no such word or
+    /// it says none. It is taken, whatever it is.
+    pub fn next_millionths(&mut self) -> Option<u64>
+        ensures number { result ≡ decimal_said (slice_get self.old.words 0) }
+        ensures after { self.new ≡ record self.old { words = drop 1 self.old.words } }
+    {
+        let Some(word) = self.next_word() else {
+            return None;
+        };
+        millionths(word.text)
+    }
+
+    /// The number that the next word says, or None: exactly where there is no next word, or it says
+    /// no number of 64 bits with its sign. That word is then not taken.
     // Inlined, so that what is left of the line stays in registers from one number to the next.
     #[inline(always)]
     pub fn next_number(&mut self) -> Option<i64>
         ensures number { result ≡ option_and_then signed_number_of (slice_get self.old.words 0) }
-        ensures after { IfSome result (λ _. self.new ≡ record self.old { words = drop 1 self.old.words }) }
+        ensures after { IfSome result
+            (λ _. self.new ≡ record self.old { words = drop 1 self.old.words }) }
         ensures kept { IfNone result (self.new ≡ self.old) }
     {
         let Some(front) = front_number(self.rest) else {
@@ -133,7 +181,8 @@ impl<'a> Line<'a> {
     /// The same, by the whole word.
     fn next_long_number(&mut self) -> Option<i64>
         ensures number { result ≡ option_and_then signed_number_of (slice_get self.old.words 0) }
-        ensures after { IfSome result (λ _. self.new ≡ record self.old { words = drop 1 self.old.words }) }
+        ensures after { IfSome result
+            (λ _. self.new ≡ record self.old { words = drop 1 self.old.words }) }
         ensures kept { IfNone result (self.new ≡ self.old) }
     {
         let mut behind = self.again();

@@ -65,8 +65,8 @@ impl<'a> Lines<'a> {
         None
     }
 
-    /// How many of the text's lines were taken so far, those without words and each part of a joined
-    /// line counted.
+    /// How many of the text's lines were taken so far, those without words and each part of a
+    /// joined line counted.
     pub fn line_count(&self) -> u64
         ensures count { result ≡ self.now.taken }
         ensures within { result < 2 ^ 63 }

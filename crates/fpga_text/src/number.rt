@@ -20,9 +20,9 @@ pub fn whole_number(word: &[u8]) -> Option<u64>
     followed_by_digits(Some(0), word)
 }
 
-/// The decimal that a word says, in millionths, or None: exactly where it is not decimal digits with
-/// at most one point and at least one digit, or its value passes 64 bits. Digits behind the sixth
-/// after the point are cut off.
+/// The decimal that a word says, in millionths, or None: exactly where it is not decimal digits
+/// with at most one point and at least one digit, or its value passes 64 bits. Digits behind the
+/// sixth after the point are cut off.
 pub fn millionths(word: &[u8]) -> Option<u64>
     ensures { result ≡ millionths_of word.now }
 {
@@ -97,8 +97,8 @@ fn followed_by(value: u64, digit: u64) -> Option<u64>
     value.checked_mul(10)?.checked_add(digit)
 }
 
-/// The number that a word says, or None: exactly where it is not one or more decimal digits behind a
-/// minus sign or without one, or passes 64 bits with a sign.
+/// The number that a word says, or None: exactly where it is not one or more decimal digits behind
+/// a minus sign or without one, or passes 64 bits with a sign.
 pub fn signed_number(word: &[u8]) -> Option<i64>
     ensures { result ≡ signed_number_of word.now }
 {

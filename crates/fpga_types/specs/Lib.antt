@@ -1,3 +1,4 @@
+pub mod ArchSound
 pub mod ArraySize
 pub mod Boxes
 pub mod CellNumbers

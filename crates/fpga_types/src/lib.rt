@@ -21,7 +21,10 @@ pub use cells::{cell_number, cell_of};
 pub use fit_cause::FitCause;
 pub use grid::{Axis, Cell, Grid, PinAt, Side, SwitchAt, Wire};
 pub use items::Items;
-pub use limits::{NET_LIMIT, SIDE_LIMIT, SLOT_LIMIT, STEP_LIMIT, WIDTH_LIMIT};
+pub use limits::{
+    CLASS_LIMIT, NET_LIMIT, PAD_LIMIT, PIN_LIMIT, SHARE_LIMIT, SIDE_LIMIT, SLOT_LIMIT, STEP_LIMIT,
+    WIDTH_LIMIT,
+};
 pub use netlist::{Block, BlockKind, Net, Netlist, PinRef};
 pub use placement::{Place, Placement, Spot};
 pub use problem::{PinStep, RouteStep, Slot};

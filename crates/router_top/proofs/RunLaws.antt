@@ -15,9 +15,9 @@ use Rattle.sat_clause.specs.Judge.{Judgement, Accepted as IsAccepted, Refused as
 use Rattle.sat_clause.specs.Step.{Step}
 use Rattle.sat_clause.proofs.Refutes.{refutes}
 use Rattle.router_top.specs.Answer.{IsComplete, Leaves, LeavesClauses, LeavesJob, Runs}
-use Rattle.router_top.specs.Asked.{EndsEarly, IsTrueOfClauses}
+use Rattle.router_top.specs.Asked.{EndsEarly, IsTrueOfClauses, route_file}
 use Rattle.router_top.specs.Command.{CheckJob, Checks, EncodeJob, Encodes, Job, RouteJob, Routes, Word, job_of}
-use Rattle.router_top.specs.Finding.{ChecksFiles, IsLratFile, judgement_outcome}
+use Rattle.router_top.specs.Finding.{ChecksFiles, IsLratFile, cnf_file, judgement_outcome, lrat_file}
 use Rattle.router_top.specs.Headline.{AcceptsOnlyTruly, EncodesOnlyTruly, IsEncoded, IsLeftOpen, IsProved, IsRefuted, IsRouted, IsSearched, LeavesOpenOnlyTruly, RefutesOnlyTruly, RoutesOnlyTruly}
 use Rattle.router_top.specs.Inputs.{InputFile, IsHalted, IsStopped, fault_outcome}
 use Rattle.router_top.specs.Report.{line_of, unsaid}
@@ -99,25 +99,27 @@ module _ (desk desk_now : DeskState) (calm : ¬ HasRisen desk.faults desk_now.fa
   check-halts : (job : CheckJob) (o : Outcome) →
       ChecksFiles (λ file. IsStopped file desk desk_now) job desk.files o →
       ChecksFiles (IsHalted desk.files) job desk.files o ⊎ (o ≡ OutOfMemory)
-  check-halts job o (inl h) = elim (stop-halts _ desk desk_now o h calm) [
+  check-halts job o (inl h) = elim (stop-halts (cnf_file job.cnf) desk desk_now o h calm) [
     | inl halt ↦ inl (inl halt)
     | inr spent ↦ inr spent
   ]
   check-halts job o (inr h) = elim h.2 [
-    | inl stop ↦ (elim (stop-halts _ desk desk_now o stop calm) [
-      | inl halt ↦ inl (inr (h.0, h.1, inl halt))
-      | inr spent ↦ inr spent
-    ])
+    | inl stop ↦ (elim (stop-halts (lrat_file (length h.0.clauses) job.lrat) desk desk_now o stop
+        calm) [
+          | inl halt ↦ inl (inr (h.0, h.1, inl halt))
+          | inr spent ↦ inr spent
+        ])
     | inr judged ↦ inl (inr (h.0, h.1, inr judged))
   ]
 
   early-halts : (name : Bytes) (width : ℕ) (says : RouteText → Outcome → Type 0) (o : Outcome) →
       EndsEarly name width desk desk_now o →
       IsTrueOfClauses name width says desk.files o ⊎ (o ≡ OutOfMemory)
-  early-halts name width says o (inl h) = elim (stop-halts _ desk desk_now o h calm) [
-    | inl halt ↦ inl (inl halt)
-    | inr spent ↦ inr spent
-  ]
+  early-halts name width says o (inl h) =
+      elim (stop-halts (route_file name) desk desk_now o h calm) [
+        | inl halt ↦ inl (inl halt)
+        | inr spent ↦ inr spent
+      ]
   early-halts name width says o (inr h) = inl (inr (inl h))
 
 module _ (desk desk_now : DeskState) (shelf between : ShelfState) where
@@ -210,7 +212,7 @@ module _ (desk desk_now : DeskState) (o : Outcome) (of : IsOfEnd o) where
   stop-ends file (inr (inr (inr h))) = fault-ends file.number h.0 (subst IsOfEnd h.2 of)
 
   early-ends : (name : Bytes) (width : ℕ) → EndsEarly name width desk desk_now o → ⊥
-  early-ends name width (inl h) = stop-ends _ h
+  early-ends name width (inl h) = stop-ends (route_file name) h
   early-ends name width (inr (inl h)) = subst IsOfEnd h.3 of
   early-ends name width (inr (inr h)) = subst IsOfEnd h.3 of
 
@@ -218,9 +220,9 @@ module _ (desk desk_now : DeskState) (o : Outcome) (of : IsOfEnd o) where
   check-ends : (job : CheckJob) (words : List Word) → job_of words ≡ Ok (Checks job) →
       ChecksFiles (λ file. IsStopped file desk desk_now) job desk.files o →
       (o ≡ Accepted) × IsProved words desk.files
-  check-ends job words asked (inl h) = absurd (stop-ends _ h)
+  check-ends job words asked (inl h) = absurd (stop-ends (cnf_file job.cnf) h)
   check-ends job words asked (inr h) = elim h.2 [
-    | inl stop ↦ absurd (stop-ends _ stop)
+    | inl stop ↦ absurd (stop-ends (lrat_file (length h.0.clauses) job.lrat) stop)
     | inr judged ↦ go judged.0 judged.1 judged.2 (judge h.0 judged.0) refl
   ]
     where

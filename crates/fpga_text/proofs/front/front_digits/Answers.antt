@@ -10,7 +10,8 @@ use Rattle.fpga_text.proofs.front.front_digits.Goals.{After-digit_of, Else-looke
 -- the byte is looked at
 place : (c : After-digit_of) → IsLookedAt c.args.text.now c.min-looked_at.result c.loop-i.i
 place c =
-    looked_at c.args.text.now c.min-looked_at.result c.loop-i.i c.min-looked_at.ensures c.loop-i-test.true
+    looked_at c.args.text.now c.min-looked_at.result c.loop-i.i c.min-looked_at.ensures
+    c.loop-i-test.true
 
 -- a blank ends the digits
 pub returns-in_default-clause-len : goal.returns-in_default-clause-len
@@ -51,13 +52,15 @@ loop-i-preserved c =
       size = digits-more c.args.text.now c.loop-i.i c.loop-i.size c.in-Some.digit
           (c.loop-i.size * 10 + c.in-Some.digit) at.inside c.loop-i.invariant.size
           (c.in-Some.ensures.value ∙ ap digit_value same) refl;
-      small = more_small c.loop-i.i c.loop-i.size c.in-Some.digit c.loop-i.invariant.small c.in-Some.ensures.small;
+      small = more_small c.loop-i.i c.loop-i.size c.in-Some.digit c.loop-i.invariant.small
+          c.in-Some.ensures.small;
     }
 
 -- the text ends with the digits
 whole : (c : Else-looked_at-gt-MOST_DIGITS) → IsAll c.args.text.now c.loop-i.i
 whole c =
-    looked_all c.args.text.now c.min-looked_at.result c.loop-i.i c.min-looked_at.ensures c.loop-i.auto.i-end c.loop-i-test.false c.if-looked_at-gt-MOST_DIGITS.false
+    looked_all c.args.text.now c.min-looked_at.result c.loop-i.i c.min-looked_at.ensures
+    c.loop-i.auto.i-end c.loop-i-test.false c.if-looked_at-gt-MOST_DIGITS.false
 
 pub returns-clause-len : goal.returns-clause-len
 returns-clause-len c =

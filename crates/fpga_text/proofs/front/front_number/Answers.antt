@@ -15,11 +15,16 @@ returns-then-first-eq45-clause-value c =
           (small_fits c.negated.result c.negated.ensures.small),
       c.negated.ensures.value,
     )
-    (signed_number_of-minus c.args.text.now c.in-Some.behind.now c.in-Some-front_digits.front.len c.in-Some-front_digits.front.size (minus (goal.at.returns-then-first-eq45-clause-value c).Then-first-eq45) c.in-Some-front_digits.ensures.size c.in-Some-front_digits.ensures.small)
+    (signed_number_of-minus c.args.text.now c.in-Some.behind.now c.in-Some-front_digits.front.len
+    c.in-Some-front_digits.front.size
+    (minus (goal.at.returns-then-first-eq45-clause-value c).Then-first-eq45)
+    c.in-Some-front_digits.ensures.size c.in-Some-front_digits.ensures.small)
 
 pub returns-clause-value : goal.returns-clause-value
 returns-clause-value c =
     rw (to_z_pos w64 c.in-Some-front_digits-2.front.size
     (omega (arith, c.in-Some-front_digits-2.ensures.small)))
-    (signed_number_of-plain c.args.text.now c.in-Some.behind.now c.in-Some.first.now c.in-Some-front_digits-2.front.len c.in-Some-front_digits-2.front.size
-    c.in-Some.ensures.cases.0 c.if-first-eq45.false c.in-Some-front_digits-2.ensures.size c.in-Some-front_digits-2.ensures.small)
+    (signed_number_of-plain c.args.text.now c.in-Some.behind.now c.in-Some.first.now
+    c.in-Some-front_digits-2.front.len c.in-Some-front_digits-2.front.size
+    c.in-Some.ensures.cases.0 c.if-first-eq45.false c.in-Some-front_digits-2.ensures.size
+    c.in-Some-front_digits-2.ensures.small)

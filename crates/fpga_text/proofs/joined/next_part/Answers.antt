@@ -12,8 +12,10 @@ same c =
     next-same c.args.text.now c.loop-later.later.now c.part_at.result.0.now c.part_at.result.1.now
     c.part_of-part.result.said.now c.from_first_word-words.result.now c.text_later-later.result.now
     c.part_of-part.result.goes_on c.loop-later.invariant
-    (part-cut c.loop-later.later.now c.part_at.result.0.now c.part_at.result.1.now c.first_byte.result
-    c.loop-later-test.ensures c.first_byte.ensures.place c.part_at.ensures.before c.part_at.ensures.after)
+    (part-cut c.loop-later.later.now c.part_at.result.0.now c.part_at.result.1.now
+    c.first_byte.result
+    c.loop-later-test.ensures c.first_byte.ensures.place c.part_at.ensures.before
+    c.part_at.ensures.after)
     c.part_of-part.ensures.said c.part_of-part.ensures.goes_on c.from_first_word-words.ensures.words
     c.text_later-later.ensures
 

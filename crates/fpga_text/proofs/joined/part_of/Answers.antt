@@ -9,7 +9,8 @@ use Rattle.fpga_text.proofs.joined.part_of.Goals.{Then-last-ne92, Else-last-ne92
 -- what is left ends with another byte
 alone : (c : Then-last-ne92) → goes_on c.args.raw.now ≡ false
 alone c = goes_on-push c.args.raw.now c.in-Some.before.now c.in-Some.last.now
-    (bare-at c.args.raw.now c.trimmed.result.now c.first_byte.result c.first_byte.ensures.place c.trimmed.ensures
+    (bare-at c.args.raw.now c.trimmed.result.now c.first_byte.result c.first_byte.ensures.place
+    c.trimmed.ensures
     ∙ c.in-Some.ensures.cases.0)
     ∙ ne_eqb c.in-Some.last.now 92 c.if-last-ne92.true
 
@@ -26,7 +27,8 @@ returns-then-last-ne92-clause-goes_on c =
 -- what is left ends with a backslash
 left : (c : Else-last-ne92) → bare c.args.raw.now ≡ c.in-Some.before.now ++ c.in-Some.last.now ∷ []
 left c =
-    bare-at c.args.raw.now c.trimmed.result.now c.first_byte.result c.first_byte.ensures.place c.trimmed.ensures
+    bare-at c.args.raw.now c.trimmed.result.now c.first_byte.result c.first_byte.ensures.place
+    c.trimmed.ensures
     ∙ c.in-Some.ensures.cases.0
 
 on : (c : Else-last-ne92) → goes_on c.args.raw.now ≡ true

@@ -5,7 +5,8 @@ use Rattle.fpga_text.proofs.joined.trimmed.Goals as goal
 -- behind the last byte that is no blank stand blanks
 pub returns-then-not-blank : goal.returns-then-not-blank
 returns-then-not-blank c =
-    trimmed-at c.args.text.now c.loop-end.end c.loop-end.invariant.within c.loop-end.invariant.blanks
+    trimmed-at c.args.text.now c.loop-end.end c.loop-end.invariant.within
+    c.loop-end.invariant.blanks
     (λ some. sym c.if-not-blank.ensures)
 
 -- all bytes are blanks

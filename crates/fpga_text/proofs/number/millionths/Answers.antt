@@ -5,7 +5,8 @@ use Rattle.fpga_text.proofs.number.millionths.Goals as goal
 use Rattle.fpga_text.proofs.number.millionths.Goals.{else-is_empty-via-then-is_empty+else-is_empty-2, else-is_empty-via-else-is_empty, After-followed_by_digits-2}
 
 -- one of the parts has a digit
-some : (c : After-followed_by_digits-2) → is_empty (c.part_at.result.0.now ++ c.part_at.result.1.now) ≡ false
+some : (c : After-followed_by_digits-2)
+    → is_empty (c.part_at.result.0.now ++ c.part_at.result.1.now) ≡ false
 some c = elim c.else-is_empty.branch [
   | else-is_empty-via-then-is_empty+else-is_empty-2 w ↦
       some-back c.part_at.result.0.now c.part_at.result.1.now w.if-is_empty-2.ensures

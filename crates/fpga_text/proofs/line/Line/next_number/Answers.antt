@@ -9,8 +9,10 @@ use Rattle.fpga_text.proofs.line.Line.next_number.Goals.{After-part_at}
 -- the first word was cut off
 cut : (c : After-part_at) → words c.self.inside.rest.now ≡ c.part_at.result.0.now
     ∷ words c.part_at.result.1.now
-cut c = words-part c.self.inside.rest.now c.part_at.result.0.now c.part_at.result.1.now c.in-Some.front.len
-    (number_some c.self.inside.rest.now c.in-Some.front.len c.in-Some.front.value c.in-Some.ensures.value) c.self.invariant
+cut c = words-part c.self.inside.rest.now c.part_at.result.0.now c.part_at.result.1.now
+    c.in-Some.front.len
+    (number_some c.self.inside.rest.now c.in-Some.front.len c.in-Some.front.value
+    c.in-Some.ensures.value) c.self.invariant
     c.in-Some.ensures.len c.part_at.ensures.before c.part_at.ensures.after
 
 pub returns-clause-number : goal.returns-clause-number
@@ -21,7 +23,8 @@ returns-clause-number c =
           (goal.at.returns-clause-number c).After-part_at,
       c.part_at.ensures.before,
       c.in-Some.ensures.value,
-      to_z-of_z w64 c.in-Some.front.value (small_fits c.in-Some.front.value c.in-Some.ensures.small),
+      to_z-of_z w64 c.in-Some.front.value
+          (small_fits c.in-Some.front.value c.in-Some.ensures.small),
     ) refl
 
 pub returns-clause-after : goal.returns-clause-after

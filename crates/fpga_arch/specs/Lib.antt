@@ -1,0 +1,9 @@
+pub mod Causes
+pub mod Codes
+pub mod Drafts
+pub mod Keywords
+pub mod Lines
+pub mod Pins
+pub mod SegmentLines
+pub mod Segments
+pub mod Value
