@@ -18,12 +18,13 @@ pub record StandsAt (blocks : List Block) (places : List Place) (number : ℕ) (
   pub block_is : slice_get blocks number ≡ Some block
   pub place_is : slice_get places number ≡ Some place
 
--- each place is lawful for its block, where a place beside the array has room for `io_rat` pads, and
--- no two blocks share a spot
+-- each place is lawful for its block, where a place beside the array has room for `io_rat` pads,
+-- and no two blocks share a spot
 pub record AreLawful (grid : Size) (io_rat : ℕ) (blocks : List Block) (places : List Place) : Type 0
   where
     pub lawful : (number : ℕ) (block : Block) (place : Place)
-        → StandsAt blocks places number block place → IsTrue (is_lawful grid io_rat block.kind place)
+        → StandsAt blocks places number block place
+        → IsTrue (is_lawful grid io_rat block.kind place)
     pub apart : (i j : ℕ) (a b : Block) (p q : Place) → i < j → StandsAt blocks places i a p
         → StandsAt blocks places j b q → spot_of a.kind p ≢ spot_of b.kind q
 

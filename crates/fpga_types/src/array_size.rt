@@ -20,8 +20,8 @@ impl Grid {
     /// The array that these words say.
     ///
     /// # Errors
-    /// `NoNumber` where one of them is no whole number, or 0; `PastLimit` where both are numbers and one is
-    /// more than 100, with the first that is.
+    /// `NoNumber` where one of them is no whole number, or 0; `PastLimit` where both are numbers and
+    /// one is more than 100, with the first that is.
     pub fn said_by(size: &SizeLine<'_>) -> Result<Grid, SizeFault>
         ensures ok { IfOk result (SaysSize (size_said size.now)) }
         ensures err { IfErr result (IsSizeFault (size_said size.now)) }

@@ -1,6 +1,7 @@
 //! The values that the texts of an island-style FPGA stand for: the array, its cells and wires, an
-//! architecture, a netlist, a placement, and a global or detailed route; and where blocks may stand,
-//! what a route's slots and steps are, which routes fit their array, and which routings are legal.
+//! architecture, a netlist, a placement, and a global or detailed route; and where blocks may
+//! stand, what a route's slots and steps are, which routes fit their array, and which routings are
+//! legal.
 #![tactic(auto)]
 
 mod arch;
