@@ -30,7 +30,8 @@ use Rattle.fpga_place.specs.Value.{place_named, said_place}
 use Rattle.fpga_place.proofs.SpotLemmas.{spots-none}
 
 -- the first of three
-or-assoc : {X : Type 0} (a b c : Option X) → option_or (option_or a b) c ≡ option_or a (option_or b c)
+or-assoc : {X : Type 0} (a b c : Option X) → option_or (option_or a b) c
+    ≡ option_or a (option_or b c)
 or-assoc None b c = refl
 or-assoc (Some x) b c = refl
 

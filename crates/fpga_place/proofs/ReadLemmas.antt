@@ -60,7 +60,8 @@ module _ (setting : Setting) (bytes : Bytes) (old new : LinesAhead) (grid : Size
     grid_is = rest.grid ∙ ap (λ (d : Progress). d.grid) begun
 
     -- the places are those that the lines say
-    named : (name : Bytes) → placed draft_after name ≡ place_named (said (block_forms new.ahead)) name
+    named : (name : Bytes) → placed draft_after name ≡ place_named (said (block_forms new.ahead))
+        name
     named name = rest.named name
         ∙ (λ i. option_or ((ap (λ d. placed d name) begun ∙ placed-none setting grid name) i)
         (place_named (said (block_forms new.ahead)) name))
@@ -78,7 +79,8 @@ module _ (setting : Setting) (bytes : Bytes) (old new : LinesAhead) (grid : Size
         left ∙ none,
         (λ i. record {
           grid = grid;
-          places = (places_are ∙ (λ k. map (place_of (λ name. named name k)) (setting_is k).blocks)) i;
+          places = (places_are ∙ (λ k. map (place_of (λ name. named name k)) (setting_is k).blocks))
+              i;
         })
             ∙ sym value,
       )

@@ -25,8 +25,8 @@ pub record Setting : Type 0 where
   pub io_rat : ℕ
   pub blocks : List BlockOf
 
--- what stands before a line: whether both head lines do, the array that they say, which names have a
--- block line, and which spots have a block
+-- what stands before a line: whether both head lines do, the array that they say, which names have
+-- a block line, and which spots have a block
 pub record Context : Type 0 where
   pub in_body : Bool
   pub grid : Option Size

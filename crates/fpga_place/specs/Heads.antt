@@ -15,7 +15,8 @@ NOTHING = record { io_rat = 0; blocks = [] }
 
 -- why the second line is refused
 abbrev pub array_fault : ℕ → Option SizeWords → Option TextFault
-array_fault number size = line_fault (place_codes NOTHING) (context_of NOTHING []) number (Array size)
+array_fault number size = line_fault (place_codes NOTHING) (context_of NOTHING []) number
+    (Array size)
 
 -- the line says this array, and has no fault
 pub record SaysArray (line : TextLine) (grid : Size) : Type 0 where

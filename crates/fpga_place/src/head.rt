@@ -73,7 +73,8 @@ fn is_file_frame(netlist: &[u8], file: &[u8], architecture: &[u8], again: &[u8])
 /// The array that the second line says, or what is wrong with the line.
 fn read_array(line: &mut Line<'_>) -> Result<Grid, TextFault>
     ensures ok { IfOk result (SaysArray line.old) }
-    ensures err { IfErr result (IsFaultOf (array_fault line.old.number (size_words line.old.words))) }
+    ensures err { IfErr result
+        (IsFaultOf (array_fault line.old.number (size_words line.old.words))) }
 {
     let number = line.number();
     let Some(size) = size_line(line) else {

@@ -23,11 +23,11 @@ use std::alloc::Global;
 /// - 304: a block that stands on an earlier line;
 /// - 305: a block of the netlist has no line, which counts as the line after the last;
 /// - 306: a place where a block of its kind may not stand;
-/// - 307: a logic block on the place of an earlier one, or a pad on the place and the subblock number of
-///   an earlier one.
+/// - 307: a logic block on the place of an earlier one, or a pad on the place and the subblock
+///   number of an earlier one.
 ///
-/// `Limit` has the code 308 and a count: more than 100 columns or rows. `Memory` comes where memory is
-/// short.
+/// `Limit` has the code 308 and a count: more than 100 columns or rows. `Memory` comes where memory
+/// is short.
 pub fn read_place(
     alloc: Global,
     bytes: &[u8],

@@ -1,4 +1,5 @@
--- the lines that were taken have no fault, and the places so far and those ahead are the places of all
+-- the lines that were taken have no fault, and the places so far and those ahead are the places of
+-- all
 use Rattle.std.proofs.Common.{◌≡◌, length}
 use Rattle.std.specs.Option.{option_or}
 use Rattle.fpga_text.specs.Bytes.{Bytes}
