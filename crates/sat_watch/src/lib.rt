@@ -16,6 +16,7 @@
 mod chains;
 mod choice;
 mod entry;
+mod links;
 mod place;
 mod sight;
 #[cfg(test)]
