@@ -239,7 +239,8 @@ last_changed f ks all new k c stays h is = record {
 
 -- with its links set and in front of its two chains, the last clause leaves the chains whole
 module _ (n : ℕ) (ks all new : List Stored) (heads now : List (Option ClauseRef)) (k : Stored)
-    (c : ClauseRef) (h : IsChained n ks heads) (simple : IsSimple n k.lits) (unmarked : k.mark ≡ false)
+    (c : ClauseRef) (h : IsChained n ks heads) (simple : IsSimple n k.lits)
+    (unmarked : k.mark ≡ false)
     (two : 2 ≤ length k.lits) (last : IsLast ks all k c) (place : c ≡ ref (size_all ks))
     (links : new ≡ changed (with_link 1 (head_in heads (lit_at k.lits 1))) c
     (changed (with_link 0 (head_in heads (lit_at k.lits 0))) c all))

@@ -1,19 +1,17 @@
 -- What is left once clauses are taken out of an arena, and what contracts see of it.
-use Rattle.std.proofs.Common.{◌≡◌, ◌≢◌, ℕ, ◌+◌, ◌*◌, Bool, true, false, inl, inr, List, [], ◌∷◌, length, map, get_or, Option, None, Some, All, refl, sym, ap, ◌∙◌, subst}
+use Rattle.std.proofs.Common.{◌≡◌, ℕ, ◌+◌, ◌*◌, Bool, true, false, inl, inr, List, [], ◌∷◌, map, get_or, Option, None, Some, All, refl, sym, ap, ◌∙◌, subst}
 use Rattle.std.specs.Prelude.{if◌then◌else◌, replicate}
-use Rattle.std.proofs.lemmas.Bool.{both_ways}
 use Rattle.sat_clause.specs.Learned.{IsSimple}
 use Rattle.sat_arena.specs.declared.clause_ref.ClauseRef.{ClauseRef}
-use Rattle.sat_arena.specs.Compact.{Leads, compacted, moved_by, moves_from, moves_of, placed_from, unmarked, with_place}
+use Rattle.sat_arena.specs.Compact.{Leads, moved_by, moves_from, moves_of, placed_from, unmarked, with_place}
 use Rattle.sat_arena.specs.Store.{ArePlaced, Stored, is_held, ref, size_of, stored_at, with_mark}
 use Rattle.sat_arena.proofs.CompactLemmas.{comes, leads, true_or_false, unmarked_marked, unmarked_other}
 use Rattle.sat_arena.proofs.StoreLaws.{same_or_other}
-use Rattle.sat_watch.specs.declared.entry.TrailEntry.{TrailEntry}
 use Rattle.sat_watch.specs.Chains.{AreChained, AreUnmarked, ChainsState, IsChained, is_in}
 use Rattle.sat_watch.specs.Forget.{AreRefsOf, AreUnlinked, HasMoved, IsNoReason, OthersMove, entry_moved, forgotten, marked, moved_to, placed_anew, stored_without, without}
 use Rattle.sat_watch.specs.Levels.{IsWatchStore}
 use Rattle.sat_watch.specs.Trail.{TrailState}
-use Rattle.sat_watch.specs.Watches.{Attached, IsWatches, attached, id_at, is_attached, lits_at, watch_state}
+use Rattle.sat_watch.specs.Watches.{IsWatches, attached, id_at, is_attached, lits_at, watch_state}
 use Rattle.sat_watch.proofs.ReasonLemmas.{AreKept, IsKept, moved_all, not_among, store_moved_on, trail_moved}
 use Rattle.sat_watch.proofs.StoredLemmas.{default_free}
 use Rattle.sat_watch.proofs.RelinkLemmas.{marked_held}

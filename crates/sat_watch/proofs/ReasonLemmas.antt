@@ -1,5 +1,5 @@
 -- A trail whose reasons have moved is the same but for them.
-use Rattle.std.proofs.Common.{◌≡◌, ◌≢◌, ℕ, suc, ◌<◌, ◌≤◌, true, false, inl, inr, List, [], ◌∷◌, ◌++◌, length, map, drop, reverse, slice_index_or, Option, None, Some, Vec, All, Contains, refl, sym, ap, ◌∙◌, subst, arith}
+use Rattle.std.proofs.Common.{◌≡◌, ℕ, ◌<◌, true, false, inl, inr, List, [], ◌∷◌, ◌++◌, length, map, reverse, slice_index_or, Option, None, Some, Vec, All, Contains, refl, sym, ap, ◌∙◌, subst, arith}
 use Rattle.std.specs.Global.{Global}
 use Rattle.std.specs.Vec.{with_items}
 use Rattle.std.proofs.lemmas.List.{length-map, map-append, reverse-append, with_items_is}
@@ -158,7 +158,8 @@ module _ (to : ClauseRef → Option ClauseRef) where
     pub store_moved_on : (entries : List TrailEntry) → IsWatchStore ks entries 0 0 None →
         AreKept ks new entries →
         ((d : ClauseRef) → is_held new d ≡ true →
-        (c : ClauseRef) × (is_held ks c ≡ true) × ((stored_at new d).lits ≡ (stored_at ks c).lits)) →
+        (c : ClauseRef) × (is_held ks c ≡ true)
+        × ((stored_at new d).lits ≡ (stored_at ks c).lits)) →
         IsWatchStore new (moved_all entries) 0 0 None
     store_moved_on entries h kept back = record {
       few = omega arith;

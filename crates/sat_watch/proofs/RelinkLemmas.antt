@@ -1,9 +1,8 @@
 -- Clauses that are marked, and clauses that are linked one after another.
-use Rattle.std.proofs.Common.{◌≡◌, ◌≢◌, ℕ, zero, suc, pos, ◌+◌, ◌*◌, ◌<◌, ◌≤◌, ◌==◌, Bool, true, false, inl, inr, List, [], ◌∷◌, ◌++◌, length, map, take, drop, get_or, set, Option, None, Some, refl, sym, ap, ◌∙◌, subst, arith, append_assoc, length-append}
+use Rattle.std.proofs.Common.{◌≡◌, ◌≢◌, ℕ, suc, pos, ◌+◌, ◌<◌, ◌≤◌, ◌==◌, Bool, true, false, inl, inr, List, [], ◌∷◌, ◌++◌, length, map, take, drop, get_or, set, Option, None, Some, refl, sym, ap, ◌∙◌, subst, arith, append_assoc, length-append}
 use Rattle.std.specs.Prelude.{if◌then◌else◌}
 use Rattle.std.proofs.lemmas.List.{get_or-map, length-map, length-take-le}
 use Rattle.std.proofs.Math.Seq.{split_at, take-append_seam, take-length}
-use Rattle.sat_clause.specs.declared.literal.Lit.{Lit}
 use Rattle.sat_clause.specs.Learned.{IsSimple}
 use Rattle.sat_clause.specs.Literal.{Clause, IsWithin, lit, variable}
 use Rattle.sat_arena.specs.declared.clause_ref.ClauseRef.{ClauseRef}
@@ -16,7 +15,7 @@ use Rattle.sat_watch.specs.Watches.{Attached, attached, is_attached, lits_at}
 use Rattle.sat_watch.proofs.AttachLemmas.{absent, long_attached, short_attached}
 use Rattle.sat_watch.proofs.ChainLemmas.{empty_chained, head_held, index_within}
 use Rattle.sat_watch.proofs.PathLemmas.{in_back, in_here}
-use Rattle.sat_watch.proofs.StoredLemmas.{link_mark, placed_changed, unmarked_changed}
+use Rattle.sat_watch.proofs.StoredLemmas.{placed_changed, unmarked_changed}
 use Rattle.sat_watch.proofs.WatchesLemmas.{attached_held, attached_lits}
 
 -- marks change neither references nor literals

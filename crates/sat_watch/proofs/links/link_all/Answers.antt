@@ -1,4 +1,4 @@
-use Rattle.std.proofs.Common.{◌≡◌, ◌+◌, ◌<◌, suc, List, length, get_or, sym, ap, ◌∙◌, subst, arith}
+use Rattle.std.proofs.Common.{◌≡◌, ◌<◌, List, length, get_or, ap, ◌∙◌, subst, arith}
 use Rattle.sat_arena.specs.declared.clause_ref.ClauseRef.{ClauseRef}
 use Rattle.sat_arena.specs.declared.moves.Move.{Move}
 use Rattle.sat_arena.specs.Store.{ref}

@@ -1,4 +1,4 @@
-use Rattle.std.proofs.Common.{◌≡◌, ◌<◌, ◌≤◌, length, refl, sym, ap, ◌∙◌, subst}
+use Rattle.std.proofs.Common.{◌<◌, ◌≤◌, length, refl, sym, ◌∙◌, subst}
 use Rattle.sat_clause.specs.Literal.{Clause}
 use Rattle.sat_watch.specs.Chains.{literals}
 use Rattle.sat_watch.proofs.RelinkLemmas.{heads_long, heads_short, linked_long, linked_short}

@@ -15,8 +15,8 @@ loop-entry-preserved c =
     let f = entry_moved (moved_by c.args.moves.now) in
     let d : TrailEntry = record { lit = lit (pos 0); level = 0; reason = None } in
     let x = get_or l.entries l.entry-index d in
-    let lt : l.entry-index < length l.entries = omega (arith, l.auto.entries, c.loop-entry-test.true)
-    in
+    let lt : l.entry-index < length l.entries =
+    omega (arith, l.auto.entries, c.loop-entry-test.true) in
     ap (set l.entries l.entry-index) c.moved.ensures ∙
     map_over_more f xs l.entries l.entry-index x c.loop-entry-test.true l.invariant
     (default_free l.entries l.entry-index d x lt)

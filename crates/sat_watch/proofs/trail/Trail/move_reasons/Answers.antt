@@ -1,4 +1,4 @@
-use Rattle.std.proofs.Common.{◌≡◌, map, ap, ◌∙◌}
+use Rattle.std.proofs.Common.{map, ap, ◌∙◌}
 use Rattle.sat_arena.specs.Compact.{moved_by}
 use Rattle.sat_watch.specs.Forget.{entry_moved}
 use Rattle.sat_watch.specs.Trail.{TrailState}
