@@ -1,6 +1,7 @@
 -- What is left once clauses are taken out of an arena, and what contracts see of it.
 use Rattle.std.proofs.Common.{◌≡◌, ℕ, ◌+◌, ◌*◌, Bool, true, false, inl, inr, List, [], ◌∷◌, map, get_or, Option, None, Some, All, refl, sym, ap, ◌∙◌, subst}
 use Rattle.std.specs.Prelude.{if◌then◌else◌, replicate}
+use Rattle.std.proofs.lemmas.Bool.{both_ways}
 use Rattle.sat_clause.specs.Learned.{IsSimple}
 use Rattle.sat_arena.specs.declared.clause_ref.ClauseRef.{ClauseRef}
 use Rattle.sat_arena.specs.Compact.{Leads, moved_by, moves_from, moves_of, placed_from, unmarked, with_place}
@@ -8,7 +9,7 @@ use Rattle.sat_arena.specs.Store.{ArePlaced, Stored, is_held, ref, size_of, stor
 use Rattle.sat_arena.proofs.CompactLemmas.{comes, leads, true_or_false, unmarked_marked, unmarked_other}
 use Rattle.sat_arena.proofs.StoreLaws.{same_or_other}
 use Rattle.sat_watch.specs.Chains.{AreChained, AreUnmarked, ChainsState, IsChained, is_in}
-use Rattle.sat_watch.specs.Forget.{AreRefsOf, AreUnlinked, HasMoved, IsNoReason, OthersMove, entry_moved, forgotten, marked, moved_to, placed_anew, stored_without, without}
+use Rattle.sat_watch.specs.Forget.{AreRefsOf, AreUnlinked, HasMoved, IsNoReason, OthersMove, OthersStay, entry_moved, forgotten, marked, moved_to, placed_anew, stored_without, without}
 use Rattle.sat_watch.specs.Levels.{IsWatchStore}
 use Rattle.sat_watch.specs.Trail.{TrailState}
 use Rattle.sat_watch.specs.Watches.{IsWatches, attached, id_at, is_attached, lits_at, watch_state}
@@ -63,6 +64,21 @@ stays_unmarked refs (k ∷ ks) c un out = elim (same_or_other k.place c) [
   | inr other ↦ rw other.0 (stays_unmarked refs ks c un.1 out)
 ]
 
+-- and one without a mark is not among them
+not_marked : (refs : List ClauseRef) (ks : List Stored) (c : ClauseRef) → is_held ks c ≡ true →
+    (stored_at (marked true refs ks) c).mark ≡ false → is_in refs c ≡ false
+not_marked refs [] c held out = cc
+not_marked refs (k ∷ ks) c held out = elim (same_or_other k.place c) [
+  | inl same ↦ ap (is_in refs) (sym same.1) ∙ by_test (is_in refs k.place) refl (rw same.0 at out)
+  | inr other ↦ not_marked refs ks c (rw other.0 at held) (rw other.0 at out)
+]
+  where
+    by_test : (b : Bool) → is_in refs k.place ≡ b →
+        (if is_in refs k.place then true else k.mark) ≡ false → is_in refs k.place ≡ false
+    by_test false e mark = e
+    by_test true e mark =
+        absurd (both_ways true (ap (λ b. if b then true else k.mark) (sym e) ∙ mark) refl)
+
 -- what compaction leaves
 left_placed : (at : ℕ) (us : List Stored) → ArePlaced at (placed_from at us)
 left_placed at [] = tt
@@ -92,16 +108,24 @@ module _ (n : ℕ) (ks : List Stored) (heads : List (Option ClauseRef)) (h : IsC
   pub record Was (d : ClauseRef) : Type 0 where
     pub from : ClauseRef
     pub held : is_held ks from ≡ true
+    pub out : is_in refs from ≡ false
     pub lits : (stored_at (stored_without refs ks) d).lits ≡ (stored_at ks from).lits
+    pub id : (stored_at (stored_without refs ks) d).id ≡ (stored_at ks from).id
 
   pub was : (d : ClauseRef) → is_held (stored_without refs ks) d ≡ true → Was d
   was d held =
       let came = comes (marked true refs ks) d placed_marked held in
       let led = leads (marked true refs ks) came.from placed_marked came.held came.stays in
       let same : led.to ≡ d = (let e : Some led.to ≡ Some d = sym led.pair ∙ came.pair in cc) in
+      let held : is_held ks came.from ≡ true =
+      sym (marked_held true refs ks came.from) ∙ came.held in
       record {
         from = came.from;
-        held = sym (marked_held true refs ks came.from) ∙ came.held;
+        held = held;
+        out = not_marked refs ks came.from held came.stays;
+        id =
+            ap (λ r. (stored_at (stored_without refs ks) r).id) (sym same) ∙
+            (ap (λ (k : Stored). k.id) led.same ∙ marked_id true refs ks came.from);
         lits =
             ap (λ r. (stored_at (stored_without refs ks) r).lits) (sym same) ∙
             (ap (λ (k : Stored). k.lits) led.same ∙ marked_lits true refs ks came.from);
@@ -185,6 +209,17 @@ module _ (n : ℕ) (ks : List Stored) (heads : List (Option ClauseRef)) (h : IsC
   comes_from d held =
       let w = was n ks heads h refs d (sym (now_held d) ∙ held) in
       (w.from, w.held, now_lits d ∙ w.lits)
+
+  pub others_stay : OthersStay refs (map attached ks) (map attached new)
+  others_stay d is =
+      let w = was n ks heads h refs d (sym (now_held d) ∙ (sym (attached_held new d) ∙ is)) in
+      record {
+        from = w.from;
+        attached = attached_held ks w.from ∙ w.held;
+        out = w.out;
+        lits = attached_lits new d ∙ (now_lits d ∙ (w.lits ∙ sym (attached_lits ks w.from)));
+        id = attached_id new d ∙ (now_id d ∙ (w.id ∙ sym (attached_id ks w.from)));
+      }
 
   module _ (c : ClauseRef) (held : is_held ks c ≡ true) (out : is_in refs c ≡ false) where
     led : Leads (marked true refs ks) c

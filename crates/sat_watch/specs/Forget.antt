@@ -106,7 +106,20 @@ pub record HasMoved (refs : List ClauseRef) (old new : List Attached) (c : Claus
   pub lits : lits_at new to ≡ lits_at old c
   pub id : id_at new to ≡ id_at old c
 
--- each clause but those with these references does
+-- the clause was another one before, with the same literals and id
+pub record HasStayed (refs : List ClauseRef) (old new : List Attached) (d : ClauseRef) : Type 0
+  where
+    pub from : ClauseRef
+    pub attached : is_attached old from ≡ true
+    pub out : is_in refs from ≡ false
+    pub lits : lits_at new d ≡ lits_at old from
+    pub id : id_at new d ≡ id_at old from
+
+-- each clause that is left was one but those with these references
+abbrev pub OthersStay : List ClauseRef → List Attached → List Attached → Type 0
+OthersStay refs old new = (d : ClauseRef) → is_attached new d ≡ true → HasStayed refs old new d
+
+-- each clause but those with these references has moved
 abbrev pub OthersMove : List ClauseRef → List Attached → List Attached → Type 0
 OthersMove refs old new = (c : ClauseRef) → is_attached old c ≡ true → is_in refs c ≡ false →
     HasMoved refs old new c

@@ -6,11 +6,11 @@ ghost use Rattle.sat_clause.specs.Learned.{IsSimple};
 ghost use Rattle.sat_clause.specs.Literal.{IsWithin};
 ghost use Rattle.sat_watch.specs.Chains.{lit_at};
 ghost use Rattle.sat_watch.specs.Choice.{IsAttachedAs, IsTrueAt};
-ghost use Rattle.sat_watch.specs.Forget.{IsNoReason, OthersMove, forgotten};
+ghost use Rattle.sat_watch.specs.Forget.{IsNoReason, OthersMove, OthersStay, forgotten};
 ghost use Rattle.sat_watch.specs.Levels.{due_without as due_without_of};
 ghost use Rattle.sat_watch.specs.Trail.{AreWithin, IsOpen, IsOnce, value_in};
 ghost use Rattle.sat_watch.specs.Watched.{IsReason, is_false, true_at, AreFalse};
-ghost use Rattle.sat_watch.specs.Watches.{Attaches, HasLevels, IsOnlyOne, MayAttach, highest, IsSettledAt, IsSettledState, IsWithinLooks, Propagates, assumed, gone_back, id_at, implied, is_attached, left_queued, lits_at};
+ghost use Rattle.sat_watch.specs.Watches.{AreInPlace, Attaches, HasLevels, IsOnlyOne, MayAttach, highest, IsSettledAt, IsSettledState, IsWithinLooks, Propagates, assumed, gone_back, id_at, implied, is_attached, left_queued, lits_at};
 
 use crate::chains::Chains;
 use crate::choice::{free_position, highest_position};
@@ -96,6 +96,7 @@ impl Watches {
     pub fn value(&self, l: Lit) -> Option<bool>
         requires within { IsWithin self.now.vars l }
         ensures value { result ≡ value_in self.now.trail l }
+        ensures open { IfNone result (IsOpen self.now.trail l) }
     {
         self.trail.value(l)
     }
@@ -122,11 +123,13 @@ impl Watches {
     }
 
     /// The literals of a clause, lent where they stand; the first two are watched. It costs one
-    /// load.
+    /// load. The first clause has the reference 0, and each next one stands behind the literals of
+    /// the one before and 6 words, so that all are found by their lengths.
     pub fn lits(&self, c: ClauseRef) -> &[Lit]
         requires attached { is_attached self.now.clauses c ≡ true }
         ensures value { result.now ≡ lits_at self.now.clauses c }
         ensures simple { IsSimple self.now.vars result.now }
+        ensures placed { AreInPlace 0 self.now.clauses }
     {
         self.chains.lits(c)
     }
@@ -295,6 +298,7 @@ impl Watches {
         requires no_reason { All (IsNoReason self.old.trail) clauses.now }
         ensures ok { OnOk result (self.new ≡ forgotten clauses.now self.old) }
         ensures others { OnOk result (OthersMove clauses.now self.old.clauses self.new.clauses) }
+        ensures left { OnOk result (OthersStay clauses.now self.old.clauses self.new.clauses) }
         ensures err { OnErr result (self.new ≡ self.old) }
     {
         let moves = self.chains.remove(alloc, clauses)?;

@@ -2,9 +2,9 @@ use Rattle.std.proofs.Common.{◌≡◌, ℕ, List, map, Option, None, All, true
 use Rattle.sat_arena.specs.declared.clause_ref.ClauseRef.{ClauseRef}
 use Rattle.sat_arena.specs.declared.moves.Move.{Move}
 use Rattle.sat_arena.specs.Compact.{moved_by}
-use Rattle.sat_watch.specs.Forget.{IsNoReason, OthersMove, forgotten}
+use Rattle.sat_watch.specs.Forget.{IsNoReason, OthersMove, OthersStay, forgotten}
 use Rattle.sat_watch.specs.Watches.{IsWatches, WatchState, attached, is_attached}
-use Rattle.sat_watch.proofs.ForgetLemmas.{others_move, state_forgotten, watches_forgotten}
+use Rattle.sat_watch.proofs.ForgetLemmas.{others_move, others_stay, state_forgotten, watches_forgotten}
 use Rattle.sat_watch.proofs.WatchesLemmas.{attached_held}
 use Rattle.sat_watch.proofs.watches.Watches.forget.Goals as goal
 
@@ -55,4 +55,12 @@ returns-clause-others c =
     subst (λ (s : WatchState). OthersMove refs s.clauses
     (map attached c.remove.new.self.clauses)) c.self.view_is
     (others_move i.chains.vars i.chains.clauses i.chains.heads c.self.invariant.whole.chained refs
+    c.remove.new.self.clauses c.in_ok-moves.ensures.clauses)
+
+pub returns-clause-left : goal.returns-clause-left
+returns-clause-left c =
+    let i = c.self.inside in let refs = c.args.clauses.now in
+    subst (λ (s : WatchState). OthersStay refs s.clauses
+    (map attached c.remove.new.self.clauses)) c.self.view_is
+    (others_stay i.chains.vars i.chains.clauses i.chains.heads c.self.invariant.whole.chained refs
     c.remove.new.self.clauses c.in_ok-moves.ensures.clauses)
