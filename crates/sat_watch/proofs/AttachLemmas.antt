@@ -12,6 +12,7 @@ use Rattle.sat_watch.proofs.ChainLemmas.{head_held, head_set_other, head_set_sam
 use Rattle.sat_arena.proofs.StoreLaws.{same_or_other}
 use Rattle.sat_watch.proofs.PathLemmas.{PutsFirst, put_first, same_chain}
 use Rattle.sat_arena.proofs.StoreLaws.{not_held}
+use Rattle.sat_watch.proofs.StoredLemmas.{unmarked_append}
 use Rattle.sat_watch.proofs.WatchLemmas.{apart_first, length_swap, lit_tells, no_next, own_next, simple_swap}
 
 pub absent : (at : ℕ) (ks : List Stored) (c : ClauseRef) → ArePlaced at ks →
@@ -64,7 +65,7 @@ held_push_other (x ∷ ks) k d ne = elim (same_or_other x.place d) [
 ]
 
 module _ (n : ℕ) (ks : List Stored) (heads : List (Option ClauseRef)) (k : Stored)
-    (h : IsChained n ks heads) (simple : IsSimple n k.lits)
+    (h : IsChained n ks heads) (simple : IsSimple n k.lits) (unmarked : k.mark ≡ false)
     (place : k.place ≡ ref (size_all ks)) where
   fresh : is_held ks k.place ≡ false
   fresh =
@@ -91,6 +92,7 @@ module _ (n : ℕ) (ks : List Stored) (heads : List (Option ClauseRef)) (k : Sto
     few = h.few;
     many = h.many;
     placed = now_placed;
+    unmarked = unmarked_append ks (k ∷ []) h.unmarked (unmarked, tt);
     simple = now_simple;
     chains =
         λ l within. same_chain (next_on ks l) (next_on (ks ++ k ∷ []) l) (head_in heads l)
@@ -127,6 +129,7 @@ module _ (n : ℕ) (ks : List Stored) (heads : List (Option ClauseRef)) (k : Sto
         many =
             length-set (set heads (index_of a) (Some k.place)) (index_of b) (Some k.place) ∙ many_a;
         placed = now_placed;
+        unmarked = unmarked_append ks (k ∷ []) h.unmarked (unmarked, tt);
         simple = now_simple;
         chains = λ l within. elim (lit_tells l b) [
           | inl same ↦ subst (λ x. HasChain (next_on (ks ++ k ∷ []) x)
@@ -237,6 +240,7 @@ last_changed f ks all new k c stays h is = record {
 -- with its links set and in front of its two chains, the last clause leaves the chains whole
 module _ (n : ℕ) (ks all new : List Stored) (heads now : List (Option ClauseRef)) (k : Stored)
     (c : ClauseRef) (h : IsChained n ks heads) (simple : IsSimple n k.lits)
+    (unmarked : k.mark ≡ false)
     (two : 2 ≤ length k.lits) (last : IsLast ks all k c) (place : c ≡ ref (size_all ks))
     (links : new ≡ changed (with_link 1 (head_in heads (lit_at k.lits 1))) c
     (changed (with_link 0 (head_in heads (lit_at k.lits 0))) c all))
@@ -265,7 +269,7 @@ module _ (n : ℕ) (ks all new : List Stored) (heads now : List (Option ClauseRe
         let first : lit_at k.lits 0 ≡ a = ap (λ l. lit_at l 0) e in
         let second : lit_at k.lits 1 ≡ b = ap (λ l. lit_at l 1) e in
         let at : linked_clause.place ≡ ref (size_all ks) = last_linked.place ∙ place in
-        let whole = long_attached n ks heads linked_clause h simple at a b ls e
+        let whole = long_attached n ks heads linked_clause h simple unmarked at a b ls e
         (ap (head_in heads) first) (ap (head_in heads) second) in
         let heads_are : now ≡ set (set heads (index_of a) (Some linked_clause.place)) (index_of b)
         (Some linked_clause.place) =
@@ -345,7 +349,7 @@ module _ (n : ℕ) (ks reserved all : List Stored) (heads : List (Option ClauseR
 
     pub ordered_chained : IsChained n new now
     ordered_chained =
-        linked_chained n ks all new heads now ordered c h simple_ordered long ordered_last
+        linked_chained n ks all new heads now ordered c h simple_ordered refl long ordered_last
         ordered_place links_are fronts_are
 
     pub ordered_added : (spare spare' : ℕ) →
@@ -354,10 +358,10 @@ module _ (n : ℕ) (ks reserved all : List Stored) (heads : List (Option ClauseR
         (swap (swap lits 0 i) 1 j) id c
     ordered_added spare spare' = record {
       clause =
-          linked_clause n ks all new heads now ordered c h simple_ordered long ordered_last
+          linked_clause n ks all new heads now ordered c h simple_ordered refl long ordered_last
           ordered_place links_are fronts_are;
       last =
-          last_linked n ks all new heads now ordered c h simple_ordered long ordered_last
+          last_linked n ks all new heads now ordered c h simple_ordered refl long ordered_last
           ordered_place links_are fronts_are;
       place = ordered_place;
       lits = refl;

@@ -1,5 +1,6 @@
 pub mod Chains
 pub mod Choice
+pub mod Forget
 pub mod Levels
 pub mod Tests
 pub mod Trail
