@@ -26,8 +26,9 @@ pin_past pins output rest =
 
 -- one of the pins has the class of this one and another direction
 abbrev pub is_mixed : List PinSpec → Bool → Words → Bool
-is_mixed pins output rest = option_map_or
-    (λ (pin : PinSpec). list_any (is_opposed pin.class pin.output) pins) (pin_said output rest) false
+is_mixed pins output rest =
+    option_map_or (λ (pin : PinSpec). list_any (is_opposed pin.class pin.output) pins)
+    (pin_said output rest) false
 
 -- why words behind a pin's keyword are refused behind these pins
 abbrev pub pin_fault : List PinSpec → Bool → ℕ → Words → Option TextFault

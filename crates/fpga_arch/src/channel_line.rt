@@ -6,8 +6,8 @@ ghost use Rattle.fpga_arch.specs.ChannelLines.{IsChannel, channel_fault, differs
 use crate::cause::Cause;
 use fpga_text::{Line, TextFault};
 
-/// The width that the words behind the keyword say, in millionths, or what is wrong with them behind
-/// a line with the earlier width.
+/// The width that the words behind the keyword say, in millionths, or what is wrong with them where
+/// an earlier line says this width.
 pub fn read_channel(earlier: Option<u64>, line: &mut Line<'_>) -> Result<u64, TextFault>
     ensures ok { IfOk result (IsChannel earlier line.old.words) }
     ensures err { IfErr result
