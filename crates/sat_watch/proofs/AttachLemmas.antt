@@ -9,7 +9,7 @@ use Rattle.sat_arena.specs.declared.clause_ref.ClauseRef.{ClauseRef}
 use Rattle.sat_arena.specs.Store.{ArePlaced, Stored, changed, is_held, new_clause, ref, size_all, size_of, stored_at, with_link}
 use Rattle.sat_watch.specs.Chains.{HasChain, HasHead, IsAdded, IsChained, IsLast, head_at, head_in, index_of, lit_at, next_by, next_in, next_on, with_head, with_order}
 use Rattle.sat_watch.proofs.ChainLemmas.{head_held, head_set_other, head_set_same, index_within}
-use Rattle.sat_arena.proofs.StoreLaws.{same_or_other}
+use Rattle.sat_arena.proofs.StoreLaws.{held_push, push_held, same_or_other}
 use Rattle.sat_watch.proofs.PathLemmas.{PutsFirst, put_first, same_chain}
 use Rattle.sat_arena.proofs.StoreLaws.{not_held}
 use Rattle.sat_watch.proofs.StoredLemmas.{unmarked_append}
@@ -190,24 +190,6 @@ changed_last f (x ∷ ks) k out = elim (same_or_other x.place k.place) [
   | inr other ↦ rw other.0 (ap (λ l. x ∷ l) (changed_last f ks k (rw other.0 at out)))
 ]
 
-pub held_last : (ks : List Stored) (k : Stored) → is_held (ks ++ k ∷ []) k.place ≡ true
-held_last [] k = elim (same_or_other k.place k.place) [
-  | inl same ↦ rw same.0 refl
-  | inr other ↦ absurd (other.1 refl)
-]
-held_last (x ∷ ks) k = elim (same_or_other x.place k.place) [
-  | inl same ↦ rw same.0 refl
-  | inr other ↦ rw other.0 (held_last ks k)
-]
-
-pub held_front : (ks : List Stored) (k : Stored) (d : ClauseRef) → is_held ks d ≡ true →
-    is_held (ks ++ k ∷ []) d ≡ true
-held_front [] k d held = cc
-held_front (x ∷ ks) k d held = elim (same_or_other x.place d) [
-  | inl same ↦ rw same.0 refl
-  | inr other ↦ rw other.0 (held_front ks k d (rw other.0 at held))
-]
-
 pub last_pushed : (ks all : List Stored) (k : Stored) (c : ClauseRef) → ArePlaced 0 ks →
     k.place ≡ ref (size_all ks) → c ≡ ref (size_all ks) → all ≡ ks ++ k ∷ [] → IsLast ks all k c
 last_pushed ks all k c placed at here is = record {
@@ -218,7 +200,7 @@ last_pushed ks all k c placed at here is = record {
 
 pub last_held : (ks all : List Stored) (k : Stored) (c : ClauseRef) → IsLast ks all k c →
     is_held all c ≡ true
-last_held ks all k c h = subst (λ r. is_held all r ≡ true) h.place (rw h.is (held_last ks k))
+last_held ks all k c h = subst (λ r. is_held all r ≡ true) h.place (rw h.is (push_held ks k))
 
 pub last_stored : (ks all : List Stored) (k : Stored) (c : ClauseRef) → IsLast ks all k c →
     stored_at all c ≡ k
@@ -327,7 +309,7 @@ module _ (n : ℕ) (ks reserved all : List Stored) (heads : List (Option ClauseR
             subst (λ (x : Stored). index_of (lit_at x.lits k) < length heads) (sym stored)
             (omega arith);
         held = λ d e. subst (λ l. is_held l d ≡ true) (sym ordered_last.is)
-            (held_front ks ordered d (head_held n ks heads (lit_at ordered.lits k) d h within
+            (held_push ks ordered d (head_held n ks heads (lit_at ordered.lits k) d h within
             (ap (λ (x : Stored). head_in heads (lit_at x.lits k)) (sym stored) ∙ e)));
       }
 

@@ -10,10 +10,11 @@ use Rattle.sat_arena.specs.Store.{ArePlaced, Stored, changed, is_held, link_of, 
 use Rattle.sat_watch.specs.declared.place.Place.{Place}
 use Rattle.sat_watch.specs.Chains.{holders, AreUnmarked, ChainsState, AreOnce, HasCursor, HasHead, IsPath, is_in, HasChain, IsChained, IsCursor, IsPlaceOf, IsRewatched, MayBePlaceOf, clause_of, head_in, index_by, index_of, lit_at, next_in, next_on, unlinked, unlinked_heads, with_watch}
 use Rattle.sat_arena.proofs.StoreLaws.{same_or_other}
-use Rattle.sat_watch.proofs.PathLemmas.{at_first, last_in_all, once_before, true_not_false, PutsFirst, TakesOut, head_behind, put_first, same_chain, take_out, whole_chain}
+use Rattle.sat_watch.proofs.PathLemmas.{at_first, last_in_all, once_before, PutsFirst, TakesOut, head_behind, put_first, same_chain, take_out, whole_chain}
 use Rattle.sat_arena.proofs.StoreLaws.{changed_other, changed_same, held_changed}
 use Rattle.sat_watch.proofs.StoredLemmas.{counted_changed, link_mark, placed_changed, unmarked_changed, ids_changed, length_changed, next_is_held}
 use Rattle.sat_watch.proofs.WatchLemmas.{among_swap, length_swap, Moves, link_other, link_own, lit_tells, moves, simple_swap, goes_on}
+use Rattle.sat_watch.proofs.TrailLemmas.{never}
 
 -- a literal's place in a table tells the literal
 index_tells : (x y : ℤ) → 1 ≤ nat_abs x → 1 ≤ nat_abs y → index_by x ≡ index_by y → x ≡ y
@@ -381,7 +382,7 @@ before_apart ks f head before at cursor p e same =
     subst (λ l. AreOnce (cursor.kept ++ l)) first.1 cursor.is.once in
     let there : is_in cursor.kept p.clause ≡ true =
     last_in_all cursor.kept p.clause (cursor.is.last ∙ ap clause_of e) in
-    true_not_false (is_in cursor.kept at) (subst (λ r. is_in cursor.kept r ≡ true) same there)
+    never (is_in cursor.kept at) (subst (λ r. is_in cursor.kept r ≡ true) same there)
     (once_before cursor.kept at first.0 once)
 
 -- what is linked anew before a place leaves the clause at the place

@@ -9,7 +9,8 @@ use Rattle.sat_arena.specs.Store.{ArePlaced, Stored, is_held, ref, size_of, stor
 use Rattle.sat_arena.proofs.CompactLemmas.{comes, leads, true_or_false, unmarked_marked, unmarked_other}
 use Rattle.sat_arena.proofs.StoreLaws.{same_or_other}
 use Rattle.sat_watch.specs.Chains.{AreChained, AreUnmarked, ChainsState, IsChained, is_in}
-use Rattle.sat_watch.specs.Forget.{AreRefsOf, AreUnlinked, HasMoved, IsNoReason, OthersMove, OthersStay, entry_moved, forgotten, marked, moved_to, placed_anew, stored_without, without}
+use Rattle.sat_watch.specs.Forget.{HasMoved, IsNoReason, OthersMove, OthersStay, entry_moved, forgotten, moved_to, placed_anew, without}
+use Rattle.sat_watch.specs.Relinking.{AreRefsOf, AreUnlinked, marked, stored_without}
 use Rattle.sat_watch.specs.Levels.{IsWatchStore}
 use Rattle.sat_watch.specs.Trail.{TrailState}
 use Rattle.sat_watch.specs.Watches.{IsWatches, attached, id_at, is_attached, lits_at, watch_state}

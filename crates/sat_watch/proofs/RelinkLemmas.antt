@@ -10,7 +10,7 @@ use Rattle.sat_arena.specs.declared.moves.Move.{Move}
 use Rattle.sat_arena.specs.Store.{ArePlaced, Stored, changed, is_held, ref, size_all, size_of, stored_at, with_link, with_mark}
 use Rattle.sat_arena.proofs.StoreLaws.{same_or_other}
 use Rattle.sat_watch.specs.Chains.{AreUnmarked, HasHead, IsChained, head_in, index_of, is_in, lit_at, literals}
-use Rattle.sat_watch.specs.Forget.{AreRefsOf, AreUnlinked, IsRelinking, heads_with, linked, marked}
+use Rattle.sat_watch.specs.Relinking.{AreRefsOf, AreUnlinked, IsRelinking, heads_with, linked, marked}
 use Rattle.sat_watch.specs.Watches.{Attached, attached, is_attached, lits_at}
 use Rattle.sat_watch.proofs.AttachLemmas.{absent, long_attached, short_attached}
 use Rattle.sat_watch.proofs.ChainLemmas.{empty_chained, head_held, index_within}

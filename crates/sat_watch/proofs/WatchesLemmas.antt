@@ -283,3 +283,23 @@ longer_whole c old new e whole vars is within free = record {
       longer_trail old new e vars is
       (subst (λ n. IsWithin n e.lit) (sym whole.vars) within) free whole.trail;
 }
+
+-- where something is queued and nothing is due
+pub record AtQueue (c : ChainsState) (t : TrailState) (q level : ℕ) (due : Option ClauseRef) :
+    Type 0 where
+  pub none : due ≡ None
+  pub some : 1 ≤ q
+  pub few : q ≤ length t.entries
+  pub store : IsWatchStore c.clauses t.entries q level None
+
+pub at_queue : (c : ChainsState) (t : TrailState) (q level : ℕ) (due : Option ClauseRef)
+    (s : WatchState) → IsWatches c t q level due → watch_state c t q level due ≡ s →
+    s.due ≡ None → 1 ≤ s.queued → AtQueue c t q level due
+at_queue c t q level due s h view quiet some =
+    let none : due ≡ None = ap (λ (x : WatchState). x.due) view ∙ quiet in
+    record {
+      none = none;
+      some = subst (λ (x : WatchState). 1 ≤ x.queued) (sym view) some;
+      few = h.store.few;
+      store = subst (IsWatchStore c.clauses t.entries q level) none h.store;
+    }

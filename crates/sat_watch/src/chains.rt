@@ -9,7 +9,7 @@ ghost use Rattle.sat_arena.specs.Compact.{AreRising, moves_of};
 ghost use Rattle.sat_arena.specs.Store.{is_held, link_of, stored_at};
 ghost use Rattle.sat_watch.specs.Chains.{AreChained, GoesOn, HasCursor, IsAdded, IsCursor, IsPlaceOf, IsRewatched, MayBePlaceOf, clause_of, head_at, head_in, holders, literals, next_on};
 ghost use Rattle.sat_watch.specs.Choice.{IsAhead, after_first as after_first_of};
-ghost use Rattle.sat_watch.specs.Forget.{marked, stored_without};
+ghost use Rattle.sat_watch.specs.Relinking.{marked, stored_without};
 ghost use Rattle.sat_watch.specs.Watches.{attached};
 
 use crate::links::{index, link_all, link_first, mark_all, push_ordered, put_first, unlink};

@@ -5,7 +5,7 @@ ghost use Rattle.sat_clause.specs.Literal.{variable as variable_of};
 ghost use Rattle.sat_arena.specs.declared.clause_ref.ClauseRef.{ClauseRef};
 ghost use Rattle.sat_arena.specs.Store.{ArePlaced, IsLinkTo, changed, is_held, new_clause, ref, size_all, with_link, with_swap};
 ghost use Rattle.sat_watch.specs.Chains.{HasHead, IsChained, IsLast, MayBePlaceOf, head_at, index_of, literals, unlinked, unlinked_heads, with_head, with_order};
-ghost use Rattle.sat_watch.specs.Forget.{AreRefsOf, AreUnlinked, heads_with, linked, marked};
+ghost use Rattle.sat_watch.specs.Relinking.{AreRefsOf, AreUnlinked, heads_with, linked, marked};
 ghost use Rattle.sat_watch.specs.Watches.{attached};
 
 use crate::place::Place;

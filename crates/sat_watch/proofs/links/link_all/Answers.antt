@@ -2,7 +2,7 @@ use Rattle.std.proofs.Common.{◌≡◌, ◌<◌, List, length, get_or, ap, ◌�
 use Rattle.sat_arena.specs.declared.clause_ref.ClauseRef.{ClauseRef}
 use Rattle.sat_arena.specs.declared.moves.Move.{Move}
 use Rattle.sat_arena.specs.Store.{ref}
-use Rattle.sat_watch.specs.Forget.{IsRelinking}
+use Rattle.sat_watch.specs.Relinking.{IsRelinking}
 use Rattle.sat_watch.proofs.RelinkLemmas.{count_of_moves, count_same, no_clause, pair_leads, relink_head, relink_held, relinking_begins, relinking_ends, relinks_on}
 use Rattle.sat_watch.proofs.links.link_all.Goals as goal
 

@@ -1,4 +1,4 @@
-use Rattle.sat_watch.specs.Forget.{IsRelinking}
+use Rattle.sat_watch.specs.Relinking.{IsRelinking}
 use Rattle.sat_watch.proofs.links.link_all.Given as goal
 
 -- the clauses so far are linked

@@ -3,7 +3,7 @@ use Rattle.std.proofs.lemmas.List.{take_more}
 use Rattle.std.proofs.Math.Seq.{take-length}
 use Rattle.sat_arena.specs.declared.clause_ref.ClauseRef.{ClauseRef}
 use Rattle.sat_arena.specs.Store.{changed, ref, with_mark}
-use Rattle.sat_watch.specs.Forget.{marked}
+use Rattle.sat_watch.specs.Relinking.{marked}
 use Rattle.sat_watch.proofs.RelinkLemmas.{marked_held, marked_more, marked_none}
 use Rattle.sat_watch.proofs.links.mark_all.Goals as goal
 

@@ -1,5 +1,5 @@
 use Rattle.std.proofs.Common.{◌≡◌, take}
-use Rattle.sat_watch.specs.Forget.{marked}
+use Rattle.sat_watch.specs.Relinking.{marked}
 use Rattle.sat_watch.proofs.links.mark_all.Given as goal
 
 -- the clauses so far are marked

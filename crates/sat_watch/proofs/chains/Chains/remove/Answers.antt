@@ -3,7 +3,7 @@ use Rattle.sat_arena.specs.declared.moves.Move.{Move}
 use Rattle.sat_arena.specs.Compact.{compacted, moves_of}
 use Rattle.sat_arena.specs.Store.{Store, Stored, is_held}
 use Rattle.sat_watch.specs.Chains.{ChainsState, IsChained}
-use Rattle.sat_watch.specs.Forget.{AreRefsOf, AreUnlinked, marked}
+use Rattle.sat_watch.specs.Relinking.{AreRefsOf, AreUnlinked, marked}
 use Rattle.sat_watch.proofs.ForgetLemmas.{refs_without, unlinked_without, unmarked_again}
 use Rattle.sat_watch.proofs.RelinkLemmas.{marked_held}
 use Rattle.sat_watch.proofs.chains.Chains.remove.Goals as goal
