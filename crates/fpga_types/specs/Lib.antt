@@ -7,6 +7,8 @@ pub mod FitCauses
 pub mod Kinds
 pub mod Legal
 pub mod Pins
+pub mod Placements
+pub mod Places
 pub mod Size
 pub mod Slots
 pub mod Sound

@@ -1,6 +1,6 @@
-//! The values that the texts of an island-style FPGA stand for: the array, its cells and wires, and
-//! a global or detailed route; and what a route's slots and steps are, which routes fit their
-//! array, and which routings are legal.
+//! The values that the texts of an island-style FPGA stand for: the array, its cells and wires, an
+//! architecture, a netlist, a placement, and a global or detailed route; and where blocks may stand,
+//! what a route's slots and steps are, which routes fit their array, and which routings are legal.
 #![tactic(auto)]
 
 mod arch;
@@ -9,6 +9,8 @@ mod fit_cause;
 mod grid;
 mod items;
 mod limits;
+mod netlist;
+mod placement;
 mod problem;
 mod route;
 
@@ -18,5 +20,7 @@ pub use fit_cause::FitCause;
 pub use grid::{Axis, Cell, Grid, PinAt, Side, SwitchAt, Wire};
 pub use items::Items;
 pub use limits::{NET_LIMIT, SIDE_LIMIT, SLOT_LIMIT, STEP_LIMIT, WIDTH_LIMIT};
+pub use netlist::{Block, BlockKind, Net, Netlist, PinRef};
+pub use placement::{Place, Placement, Spot};
 pub use problem::{PinStep, RouteStep, Slot};
 pub use route::{Elem, ElemKind, Label, Name, RouteNet, RouteText};

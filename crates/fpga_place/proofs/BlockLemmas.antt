@@ -1,0 +1,176 @@
+-- Blocks by their names.
+use Rattle.std.proofs.Common.{◌≡◌, ◌≢◌, ℕ, suc, ◌+◌, ◌<◌, ◌≤◌, Bool, true, false, cond, Option, Some, None, List, [], ◌∷◌, ◌++◌, length, take, get_or, refl, sym, ap, ◌∙◌, arith, add-one, length-take-le}
+use Rattle.std.specs.Prelude.{IfSome, bytes_eq, find, is_some, nat_lt, option_and_then, slice_get, if◌then◌else◌}
+use Rattle.std.specs.BTreeMap.{BTreeMap}
+use Rattle.std.specs.Borrow.{Bor}
+use Rattle.std.specs.List.{position_from, position_or_len}
+use Rattle.std.specs.Option.{option_or}
+use Rattle.std.proofs.lemmas.Bool.{false_from_ne_true}
+use Rattle.std.proofs.lemmas.Bool.Decides.{nat_tests}
+use Rattle.std.proofs.lemmas.Iterator.Adapters.{position_from-zero}
+use Rattle.std.proofs.lemmas.List.Folds.{find_at}
+use Rattle.std.proofs.lemmas.List.Sums.{passes_at_first, position_or_len_is, prefix_len-le-length}
+use Rattle.std.proofs.lemmas.Option.{slice_get-get_or, get_or_from_slice_get, slice_get_past, slice_get_within}
+use Rattle.std.proofs.lemmas.Slice.Eq.{bytes_eq-Decides}
+use Rattle.list_laws.proofs.Places.{take-get}
+use Rattle.fpga_types.specs.Placements.{HaveOwnNames}
+use Rattle.fpga_types.specs.declared.netlist.Block.{Block}
+use Rattle.fpga_text.specs.Bytes.{Bytes}
+use Rattle.fpga_place.specs.BlockTables.{AreNumbered, GainsName}
+use Rattle.fpga_place.specs.Blocks.{block_named, has_name, number_named}
+
+-- one element more is found where no earlier one was
+pub position-push : {T : Type 0} (p : T → Bool) (i : ℕ) (xs : List T) (x : T)
+    → position_from p i (xs ++ x ∷ [])
+    ≡ option_or (position_from p i xs) (cond (p x) (Some (i + length xs)) None)
+position-push p i [] x = let e : i ≡ i + 0 = omega arith in ap (λ n. cond (p x) (Some n) None) e
+position-push {T} p i (y ∷ ys) x = rw (position-push p (i + 1) ys x) (go (p y))
+  where
+    go : (b : Bool) → cond b (Some i)
+        (option_or (position_from p (i + 1) ys) (cond (p x) (Some (i + 1 + length ys)) None))
+        ≡ option_or (cond b (Some i) (position_from p (i + 1) ys))
+        (cond (p x) (Some (i + length (y ∷ ys))) None)
+    go true = refl
+    go false = let e : i + 1 + length ys ≡ i + length (y ∷ ys) = omega arith in rw e refl
+
+-- two names that pass as one are one
+pub same_name : (a b : Bytes) → bytes_eq a b ≡ true → a ≡ b
+same_name a b is = (bytes_eq-Decides a b).0 is
+
+pub name_itself : (a : Bytes) → bytes_eq a a ≡ true
+name_itself a = (bytes_eq-Decides a a).1 refl
+
+-- a name that has no number yet is given one
+pub gains-name : (number_in : Bytes → Option ℕ) (name other : Bytes) (number : ℕ)
+    → is_some (number_in name) ≡ false
+    → cond (bytes_eq name other) (Some number) (number_in other)
+    ≡ option_or (number_in other) (if bytes_eq name other then Some number else None)
+gains-name number_in name other number absent = go (bytes_eq name other) refl
+  where
+    none : (o : Option ℕ) → is_some o ≡ false → o ≡ None
+    none None e = refl
+    none (Some n) e = absurd (let clash : true ≡ false = e in cc)
+
+    last : (o : Option ℕ) → o ≡ option_or o None
+    last None = refl
+    last (Some n) = refl
+
+    go : (b : Bool) → bytes_eq name other ≡ b → cond b (Some number) (number_in other)
+        ≡ option_or (number_in other) (if b then Some number else None)
+    go true is = rw (← same_name name other is, none (number_in name) absent) refl
+    go false is = last (number_in other)
+
+-- the first place where a test passes, as a number
+module _ {T : Type 0} (p : T → Bool) (xs : List T) where
+  found : (n : ℕ) → position_from p 0 xs ≡ Some n
+      → (position_or_len p xs ≡ n) × (position_or_len p xs < length xs)
+  found n is = go (nat_lt (position_or_len p xs) (length xs)) refl (position_from-zero p xs ∙ is)
+    where
+      go : (b : Bool) → nat_lt (position_or_len p xs) (length xs) ≡ b
+          → cond b (Some (position_or_len p xs)) None ≡ Some n
+          → (position_or_len p xs ≡ n) × (position_or_len p xs < length xs)
+      go true within e = (cc, grind (arith, nat_tests))
+      go false past e = absurd (let clash : None ≡ Some n = e in cc)
+
+  -- what stands at the number passes the test
+  pub position-passes : (n : ℕ) (d : T) → position_from p 0 xs ≡ Some n → p (get_or xs n d) ≡ true
+  position-passes n d is =
+      let f = found n is in rw (sym f.0) (passes_at_first p xs d f.1)
+
+  pub position-within : (n : ℕ) → position_from p 0 xs ≡ Some n → n < length xs
+  position-within n is = let f = found n is in omega (arith, f.0, f.1)
+
+  -- the first that passes stands at the number
+  pub find-position : find p xs ≡ option_and_then (slice_get xs) (position_from p 0 xs)
+  find-position = rw (find_at p xs, ← position_from-zero p xs)
+      (go (nat_lt (position_or_len p xs) (length xs)) refl)
+    where
+      go : (b : Bool) → nat_lt (position_or_len p xs) (length xs) ≡ b
+          → slice_get xs (position_or_len p xs)
+          ≡ option_and_then (slice_get xs) (cond b (Some (position_or_len p xs)) None)
+      go true within = refl
+      go false past = slice_get_past xs (position_or_len p xs) (grind (arith, nat_tests))
+
+  -- where the test passes at a number and not before it, that number is found
+  pub position-first : (i : ℕ) (d : T) → i < length xs
+      → ((k : ℕ) → k < i → p (get_or xs k d) ≡ false) → p (get_or xs i d) ≡ true
+      → position_from p 0 xs ≡ Some i
+  position-first i d within before here =
+      let is : position_or_len p xs ≡ i =
+      position_or_len_is p xs i d (omega arith) before (λ _. here) in
+      sym (position_from-zero p xs) ∙ go (nat_lt (position_or_len p xs) (length xs)) refl is
+    where
+      go : (b : Bool) → nat_lt (position_or_len p xs) (length xs) ≡ b → position_or_len p xs ≡ i
+          → cond b (Some (position_or_len p xs)) None ≡ Some i
+      go true e is = ap (λ n. Some n) is
+      go false e is = absurd (grind (arith, nat_tests))
+
+-- the block with a number that a name has
+module _ (blocks : List Block) (name : Bytes) (number : ℕ)
+    (is : number_named blocks name ≡ Some number) where
+  pub number-within : number < length blocks
+  number-within = position-within (has_name name) blocks number is
+
+  pub named-at : (block : Block) → slice_get blocks number ≡ Some block
+      → block_named blocks name ≡ Some block
+  named-at block here =
+      find-position (has_name name) blocks ∙ (λ i. option_and_then (slice_get blocks) (is i)) ∙ here
+
+  pub name-at : (block : Block) → slice_get blocks number ≡ Some block → block.name ≡ name
+  name-at block here =
+      same_name block.name name
+      (ap (has_name name) (sym (get_or_from_slice_get blocks number block block here))
+      ∙ position-passes (has_name name) blocks number block is)
+
+-- a name without a number is of no block
+pub unnamed : (blocks : List Block) (name : Bytes) → number_named blocks name ≡ None
+    → block_named blocks name ≡ None
+unnamed blocks name none =
+    find-position (has_name name) blocks ∙ (λ i. option_and_then (slice_get blocks) (none i))
+
+-- where no two blocks have one name, a block is found at its own number
+pub own_number : (blocks : List Block) (i : ℕ) (block : Block) → HaveOwnNames blocks
+    → slice_get blocks i ≡ Some block → number_named blocks block.name ≡ Some i
+own_number blocks i block own here =
+    position-first (has_name block.name) blocks i block within before at
+  where
+    within : i < length blocks
+    within = slice_get_within blocks i block here
+
+    is : get_or blocks i block ≡ block
+    is = get_or_from_slice_get blocks i block block here
+
+    before : (k : ℕ) → k < i → has_name block.name (get_or blocks k block) ≡ false
+    before k below = false_from_ne_true _
+        (λ e. own k i block below within (same_name _ _ e ∙ ap (λ (b : Block). b.name) (sym is)))
+
+    at : has_name block.name (get_or blocks i block) ≡ true
+    at = ap (has_name block.name) is ∙ name_itself block.name
+
+-- one block more is numbered
+pub numbered-more : (blocks : List Block) (i : ℕ) (block : Block) (name : Bytes)
+    (old new : BTreeMap (Bor Bytes) ℕ) → slice_get blocks i ≡ Some block → name ≡ block.name
+    → GainsName old name i new → AreNumbered (take i blocks) old
+    → AreNumbered (take (i + 1) blocks) new
+numbered-more blocks i block name old new here is gains numbered = record {
+  found = λ other. gains other
+      ∙ (λ k. option_or (numbered.found other k)
+      (if bytes_eq (is k) other then Some (sym count k) else None))
+      ∙ sym (position-push (has_name other) 0 (take i blocks) block)
+      ∙ (λ k. number_named (sym more k) other);
+}
+  where
+    within : i < length blocks
+    within = slice_get_within blocks i block here
+
+    count : 0 + length (take i blocks) ≡ i
+    count = let l : length (take i blocks) ≡ i = length-take-le i blocks (let w = within in omega (arith, w)) in omega (arith, l)
+
+    more : take (i + 1) blocks ≡ take i blocks ++ block ∷ []
+    more = rw add-one (take-get blocks i block here)
+
+-- a number that is found is one of a block
+pub numbers-within : (blocks : List Block) (name : Bytes) (found : Option ℕ)
+    → found ≡ number_named blocks name → IfSome found (λ number. number < length blocks)
+numbers-within blocks name None is = tt
+numbers-within blocks name (Some n) is = number-within blocks name n (sym is)

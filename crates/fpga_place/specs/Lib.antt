@@ -1,0 +1,9 @@
+pub mod ArrayLine
+pub mod BlockTables
+pub mod Blocks
+pub mod Causes
+pub mod Codes
+pub mod Drafts
+pub mod Lines
+pub mod Spots
+pub mod Value

@@ -1,0 +1,7 @@
+//! The placement text of VPR 4.30: its lines and its value.
+#![tactic(auto)]
+
+mod block_table;
+mod cause;
+mod draft;
+mod words;

@@ -1,0 +1,36 @@
+-- What is true of each placement that was read for an architecture and a netlist.
+use Rattle.std.specs.Prelude.{◌≡◌, ◌≢◌, ℕ, ◌<◌, IsTrue, AllPairs, List, length, slice_get, Some}
+use Rattle.fpga_types.specs.Places.{is_lawful, spot_of}
+use Rattle.fpga_types.specs.Size.{Size}
+use Rattle.fpga_types.specs.declared.arch.Arch.{Arch}
+use Rattle.fpga_types.specs.declared.netlist.Block.{Block}
+use Rattle.fpga_types.specs.declared.netlist.Netlist.{Netlist}
+use Rattle.fpga_types.specs.declared.placement.Place.{Place}
+use Rattle.fpga_types.specs.declared.placement.Placement.{Placement}
+
+-- no two blocks have one name
+abbrev pub HaveOwnNames : List Block → Type 0
+HaveOwnNames blocks = AllPairs (λ (a b : Block). a.name ≢ b.name) blocks
+
+-- the block with this number stands at this place
+pub record StandsAt (blocks : List Block) (places : List Place) (number : ℕ) (block : Block)
+    (place : Place) : Type 0 where
+  pub block_is : slice_get blocks number ≡ Some block
+  pub place_is : slice_get places number ≡ Some place
+
+-- each place is lawful for its block, where a place beside the array has room for `io_rat` pads, and
+-- no two blocks share a spot
+pub record AreLawful (grid : Size) (io_rat : ℕ) (blocks : List Block) (places : List Place) : Type 0
+  where
+    pub lawful : (number : ℕ) (block : Block) (place : Place)
+        → StandsAt blocks places number block place → IsTrue (is_lawful grid io_rat block.kind place)
+    pub apart : (i j : ℕ) (a b : Block) (p q : Place) → i < j → StandsAt blocks places i a p
+        → StandsAt blocks places j b q → spot_of a.kind p ≢ spot_of b.kind q
+
+-- each block has a place; and the places are lawful where no two blocks have one name, as in each
+-- netlist that was read
+pub record IsSoundPlacement (arch : Arch) (netlist : Netlist) (placement : Placement) : Type 0
+  where
+    pub count : length placement.places ≡ length netlist.blocks
+    pub lawful : HaveOwnNames netlist.blocks
+        → AreLawful placement.grid arch.io_rat netlist.blocks placement.places
