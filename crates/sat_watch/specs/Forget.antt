@@ -46,7 +46,7 @@ forgotten refs s =
 abbrev pub IsNoReason : List TrailEntry → ClauseRef → Type 0
 IsNoReason entries c = All (λ e. e.reason ≢ Some c) entries
 
--- the clause has its literals and its id at its new reference
+-- the clause has a new reference, and there its literals and its id
 pub record HasMoved (refs : List ClauseRef) (old new : List Attached) (c : ClauseRef) : Type 0 where
   pub to : ClauseRef
   pub moved : moved_to 0 (without refs old) c ≡ Some to
@@ -54,7 +54,7 @@ pub record HasMoved (refs : List ClauseRef) (old new : List Attached) (c : Claus
   pub lits : lits_at new to ≡ lits_at old c
   pub id : id_at new to ≡ id_at old c
 
--- the clause was another one before, with the same literals and id
+-- the clause was there before, with the same literals and id, and none of these
 pub record HasStayed (refs : List ClauseRef) (old new : List Attached) (d : ClauseRef) : Type 0
   where
     pub from : ClauseRef
@@ -63,11 +63,11 @@ pub record HasStayed (refs : List ClauseRef) (old new : List Attached) (d : Clau
     pub lits : lits_at new d ≡ lits_at old from
     pub id : id_at new d ≡ id_at old from
 
--- each clause that is left was one but those with these references
+-- each clause that is left was there before, and none of those with these references
 abbrev pub OthersStay : List ClauseRef → List Attached → List Attached → Type 0
 OthersStay refs old new = (d : ClauseRef) → is_attached new d ≡ true → HasStayed refs old new d
 
--- each clause but those with these references has moved
+-- each clause but those with these references has its literals and its id at a new one
 abbrev pub OthersMove : List ClauseRef → List Attached → List Attached → Type 0
 OthersMove refs old new = (c : ClauseRef) → is_attached old c ≡ true → is_in refs c ≡ false →
     HasMoved refs old new c
