@@ -68,7 +68,7 @@ new_name names name apart new =
     both : has_text names name ≡ true → ⊥
     both there = absurd (let clash : false ≡ true = sym new ∙ there in cc)
 
-no_block : {X : Type 0} (o : Option X) → is_some o ≡ false → o ≡ None
+pub no_block : {X : Type 0} (o : Option X) → is_some o ≡ false → o ≡ None
 no_block None none = refl
 no_block (Some x) none = absurd (let clash : true ≡ false = none in cc)
 
@@ -106,10 +106,19 @@ takes-block old number kind name kept new closed few = record {
 pub takes-other : (old : Progress) (number : ℕ) (in_logic : Bool) (form : Form) → IsKept old
     → is_some old.context.begun ≡ false → form_fault old.context number form ≡ None
     → behind old.context form ≡ record old.context { begun = None; in_logic = in_logic }
-    → TakesForm old (record old { context = record old.context { in_logic = in_logic } }) number form
+    → TakesForm old (record old {
+      context = record old.context {
+        in_logic =
+            in_logic;
+      };
+    }) number form
 takes-other old number in_logic form kept closed clean is = record {
   clean = clean;
-  after = (λ i. record old.context { begun = no_block old.context.begun closed i; in_logic = in_logic })
+  after = (λ i. record old.context {
+    begun = no_block old.context.begun closed i;
+    in_logic =
+        in_logic;
+  })
       ∙ sym is;
   kept = record {
     entries = kept.entries;

@@ -54,7 +54,7 @@ module _ (global : Bytes → Bool) (uses : List Use) where
   nets_in-entries (name ∷ more) = ap (λ ns. net_of global uses name ∷ ns) (nets_in-entries more)
 
 -- why the end is refused, by its tests
-abbrev end_refused : (begun undriven unended : Bool) → ℕ → Option TextFault
+abbrev pub end_refused : (begun undriven unended : Bool) → ℕ → Option TextFault
 end_refused begun undriven unended number =
     if not begun && undriven then Some (Bad number (code_of Drivers))
     else if not begun && unended then Some (Bad number (code_of NoSink))

@@ -35,7 +35,8 @@ on_net-push p net uses u =
 
 -- a pin of another net
 on_net-other : (p : Use → Bool) (net : Bytes) (uses : List Use) (u : Use)
-    → bytes_eq u.net net ≡ false → on_net net (filter p (uses ++ u ∷ [])) ≡ on_net net (filter p uses)
+    → bytes_eq u.net net ≡ false → on_net net (filter p (uses ++ u ∷ []))
+    ≡ on_net net (filter p uses)
 on_net-other p net uses u apart =
     on_net-push p net uses u ∙ ap (λ us. on_net net (filter p uses) ++ us) (go (p u))
     ∙ append-nil (on_net net (filter p uses))
@@ -165,7 +166,8 @@ module _ (is_global : Bytes → Bool) (uses : List Use) (u : Use) where
       go : (same : Bool) → bytes_eq name u.net ≡ same
           → changed_at u.net (with_use u) (map (entry_of is_global uses) more)
           ≡ map (entry_of is_global (uses ++ u ∷ [])) more
-          → cond same (with_use u (entry_of is_global uses name) ∷ map (entry_of is_global uses) more)
+          → cond same (with_use u (entry_of is_global uses name)
+          ∷ map (entry_of is_global uses) more)
           (entry_of is_global uses name
           ∷ changed_at u.net (with_use u) (map (entry_of is_global uses) more))
           ≡ map (entry_of is_global (uses ++ u ∷ [])) (name ∷ more)
@@ -237,7 +239,8 @@ pub changed_at-place : (name : Bytes) (change : Entry → Entry) (entries : List
     → set entries k (change e) ≡ changed_at name change entries
 changed_at-place name change entries k e is here =
     ap (λ (x : Entry). set entries k (change x)) here
-    ∙ ap (λ n. set entries n (change (get_or entries n e))) (sym (place (nat_lt place_of (length (names_in entries))) is))
+    ∙ ap (λ n. set entries n (change (get_or entries n e))) (sym (place (nat_lt place_of (length
+    (names_in entries))) is))
     ∙ changed_at-first name change entries e
   where
     place_of : ℕ

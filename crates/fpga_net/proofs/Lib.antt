@@ -1,3 +1,4 @@
+pub mod CodeRows
 pub mod ConnectLemmas
 pub mod DraftLemmas
 pub mod EndLemmas
@@ -5,4 +6,7 @@ pub mod EntryLemmas
 pub mod LineLemmas
 pub mod NameLemmas
 pub mod ReadLemmas
+pub mod ReadRows
+pub mod RowTexts
+pub mod SoundLemmas
 pub mod UseLemmas

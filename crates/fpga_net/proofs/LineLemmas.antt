@@ -48,7 +48,8 @@ ahead draft old new line taken = λ i. faults_from behind (codes_at draft.contex
 pub past_line : {all : Faults} (draft draft_after : Progress) (old new : LinesAhead)
     (line : TextLine) → IsTaken old new line
     → TakesForm draft draft_after line.number (form_of line.words)
-    → IsPast all (faults_ahead draft.context old) → IsPast all (faults_ahead draft_after.context new)
+    → IsPast all (faults_ahead draft.context old)
+    → IsPast all (faults_ahead draft_after.context new)
 past_line {all} draft draft_after old new line taken takes past =
     past-line (subst (λ (rest : Faults). IsPast all rest)
     (ahead draft old new line taken ∙ after) past) takes.clean

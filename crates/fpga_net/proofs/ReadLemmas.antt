@@ -1,6 +1,6 @@
 -- What was read is what the text reads as.
-use Rattle.std.proofs.Common.{◌≡◌, ℕ, ◌+◌, [], refl, sym, ap, subst, ◌∙◌, arith}
-use Rattle.std.specs.Prelude.{Result, fold}
+use Rattle.std.proofs.Common.{◌≡◌, ℕ, ◌+◌, [], refl, sym, ap, subst, ◌∙◌, arith, List, ◌∷◌}
+use Rattle.std.specs.Prelude.{Result, Ok, Err, IfOk, fold}
 use Rattle.fpga_types.specs.declared.arch.Arch.{Arch}
 use Rattle.fpga_types.specs.declared.netlist.Netlist.{Netlist}
 use Rattle.fpga_text.specs.declared.fault.TextFault.{TextFault}
@@ -9,10 +9,13 @@ use Rattle.fpga_text.specs.Bytes.{Bytes}
 use Rattle.fpga_text.specs.FirstFault.{Answers, AnswersFault, IsFaultOf, IsRefusal, first_fault}
 use Rattle.fpga_text.specs.Reading.{LinesAhead}
 use Rattle.fpga_text.specs.Words.{line_count, text_lines}
-use Rattle.fpga_net.specs.Codes.{before_all, behind, forms_of, globals_of, net_faults}
+use Rattle.fpga_net.specs.Codes.{Context, before_all, behind, forms_of, globals_of, net_faults}
 use Rattle.fpga_net.specs.Drafts.{IsKept, Progress, ReadsLines, faults_ahead, last_fault}
+use Rattle.fpga_net.specs.Forms.{Form, Begins, Pinlist, Subblock, Globals, Other}
+use Rattle.fpga_net.specs.Sound.{IsSound}
 use Rattle.fpga_net.specs.Value.{context_of, net_value, netlist_before}
 use Rattle.fpga_net.proofs.LineLemmas.{by_context}
+use Rattle.fpga_net.proofs.SoundLemmas.{sound}
 
 -- a reader before the text
 abbrev pub whole_text : Bytes → LinesAhead
@@ -33,8 +36,22 @@ no_lines-kept arch bytes = record {
   pins = λ k d within. absurd (omega (arith, within));
 }
 
+-- no line changes the architecture
+arch-behind : (context : Context) (form : Form) → (behind context form).arch ≡ context.arch
+arch-behind context (Begins kind names) = refl
+arch-behind context (Pinlist nets) = refl
+arch-behind context Subblock = refl
+arch-behind context (Globals nets) = refl
+arch-behind context Other = refl
+
+arch-fold : (context : Context) (forms : List Form)
+    → (fold behind context forms).arch ≡ context.arch
+arch-fold context [] = refl
+arch-fold context (form ∷ more) = arch-fold (behind context form) more ∙ arch-behind context form
+
 -- what was read of a text
-module _ (arch : Arch) (bytes : Bytes) (lines lines_after : LinesAhead) (draft draft_after : Progress)
+module _ (arch : Arch) (bytes : Bytes) (lines lines_after : LinesAhead)
+    (draft draft_after : Progress)
     (text : lines ≡ whole_text bytes) (start : draft ≡ no_lines arch bytes) where
   all_faults : first_fault (net_faults arch bytes) ≡ first_fault (faults_ahead draft.context lines)
   all_faults = ap first_fault (by_context arch (text_lines Joined bytes) (line_count bytes))
@@ -66,3 +83,20 @@ module _ (arch : Arch) (bytes : Bytes) (lines lines_after : LinesAhead) (draft d
       where
         number : lines.total + 1 ≡ end
         number = ap (λ n. n + 1) (sym rest.taken) ∙ sym at
+
+    -- the architecture stays
+    arch_same : draft_after.context.arch ≡ arch
+    arch_same = ap (λ (c : Context). c.arch) all_said
+        ∙ arch-fold (before_all arch (globals_of (text_lines Joined bytes)))
+        (forms_of (text_lines Joined bytes))
+
+    -- a value is sound
+    pub read_sound : (end : ℕ) (result : Result Netlist TextFault)
+        → AnswersFault (last_fault draft_after.context end)
+        (λ netlist. netlist ≡ netlist_before draft_after.context) result
+        → IfOk result (IsSound arch)
+    read_sound end (Ok netlist) is =
+        subst (IsSound arch) (sym is.1)
+        (subst (λ a. IsSound a (netlist_before draft_after.context)) arch_same
+        (sound draft_after end rest.kept is.0))
+    read_sound end (Err fault) is = tt

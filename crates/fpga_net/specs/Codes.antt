@@ -179,7 +179,8 @@ ends_open context = is_some context.begun
 -- an ordinary net has no pin of those that are looked for
 abbrev pub some_net_lacks : (List Use → List Use) → Context → Bool
 some_net_lacks sought context = let uses = uses_before context in
-    list_any (λ net. is_ordinary (is_global context) net && is_empty (on_net net (sought uses))) (nets_of uses)
+    list_any (λ net. is_ordinary (is_global context) net && is_empty (on_net net (sought uses)))
+    (nets_of uses)
 
 -- at the end: an ordinary net has no driver
 abbrev pub lacks_driver : Context → Bool

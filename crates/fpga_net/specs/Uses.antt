@@ -55,7 +55,8 @@ use_of block p =
     if is_open p.1.1 then None
     else Some (record { at = record { block = block; pin = p.0 }; pin = p.1.0; net = p.1.1 })
 
--- the nets that these words name on these pins, numbered from here on, of the block with this number
+-- the nets that these words name on these pins, numbered from here on, of the block with this
+-- number
 abbrev pub uses_from : (block first : ℕ) → List PinSpec → List Bytes → List Use
 uses_from block first pins nets =
     filter_map (use_of block) (enumerate_from first (zip pins nets))

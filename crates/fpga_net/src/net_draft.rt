@@ -23,7 +23,12 @@ impl<'a> Model for NetDraft<'a> {
     ghost Value = { Entry };
 
     ghost view = { λ n. record {
-      net = record { name = n.name.now; global = n.global; driver = n.driver; sinks = n.sinks.items };
+      net = record {
+        name = n.name.now;
+        global = n.global;
+        driver = n.driver;
+        sinks = n.sinks.items;
+      };
       driven_twice = n.driven_twice;
     } };
 }

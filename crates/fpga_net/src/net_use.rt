@@ -13,7 +13,8 @@ use crate::names::NameTable;
 use fpga_types::{Arch, BlockKind, PinRef, PinSpec, SideSet};
 use std::alloc::{AllocError, Global};
 
-/// A net on a pin of a block: the block and the pin by number, what the pin is, and the net by name.
+/// A net on a pin of a block: the block and the pin by number, what the pin is, and the net by
+/// name.
 #[derive(Clone, Copy, Debug)]
 pub struct NetUse<'a> {
     pub at: PinRef,

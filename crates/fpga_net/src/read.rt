@@ -33,6 +33,7 @@ use std::alloc::Global;
 pub fn read_net(alloc: Global, bytes: &[u8], arch: &Arch) -> Result<Netlist, TextFault>
     ensures answers { Answers (net_faults arch.now bytes.now)
         (λ netlist. netlist ≡ net_value arch.now bytes.now) result }
+    ensures sound { IfOk result (IsSound arch.now) }
 {
     let Ok(globals) = global_names(alloc, bytes) else {
         return Err(TextFault::Memory);
