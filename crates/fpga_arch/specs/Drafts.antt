@@ -1,25 +1,22 @@
 -- The value of an architecture text as far as it was read.
-use Rattle.std.specs.Prelude.{◌≡◌, ◌<◌, ◌≤◌, ◌+◌, ◌==◌, ℕ, Bool, true, false, not, ◌||◌, All, AllPairs, List, [], ◌∷◌, ◌++◌, length, replicate, slice_set, slice_index_or, Option, Some, None, Result, option_and_then, option_map, unwrap_or, if◌then◌else◌}
-use Rattle.std.specs.List.{list_any}
-use Rattle.std.specs.Option.{option_or, option_map_or}
+use Rattle.std.specs.Prelude.{◌≡◌, ◌≤◌, ℕ, Bool, true, false, All, AllPairs, List, [], ◌∷◌, ◌++◌, length, replicate, slice_set, slice_index_or, Option, Some, None, Result, unwrap_or}
+use Rattle.std.specs.Option.{option_or}
 use Rattle.fpga_types.specs.ArchSound.{AgreeInClass, IsSoundPin}
 use Rattle.fpga_types.specs.Fc.{IsFcLimited}
 use Rattle.fpga_types.specs.declared.arch.Arch.{Arch}
 use Rattle.fpga_types.specs.declared.arch.PinSpec.{PinSpec}
-use Rattle.fpga_types.specs.declared.limits.TheConstants.{CLASS_LIMIT, PAD_LIMIT, PIN_LIMIT}
+use Rattle.fpga_types.specs.declared.limits.TheConstants.{PAD_LIMIT, PIN_LIMIT}
 use Rattle.fpga_text.specs.declared.fault.TextFault.{TextFault}
-use Rattle.fpga_text.specs.declared.fault.TextFault.TheVariants.{Bad, Limit}
 use Rattle.fpga_text.specs.Codes.{line_fault}
 use Rattle.fpga_text.specs.FirstFault.{AnswersFault}
-use Rattle.fpga_text.specs.Said.{decimal_said, past, whole_said}
-use Rattle.fpga_text.specs.Words.{TextLine, Words}
-use Rattle.fpga_arch.specs.declared.cause.Cause.TheVariants.{NoNumber, NotUniform, OtherWidth, PinForm, MixedClass, PastLimit}
+use Rattle.fpga_text.specs.Said.{decimal_said, whole_said}
+use Rattle.fpga_text.specs.Words.{TextLine}
 use Rattle.fpga_arch.specs.declared.keyword.Keyword.{Keyword}
 use Rattle.fpga_arch.specs.declared.keyword.Keyword.TheVariants.{IoRat, SwitchBlock, FcType, FcOutput, FcInput, FcPad}
-use Rattle.fpga_arch.specs.Causes.{code_of}
-use Rattle.fpga_arch.specs.Codes.{Context, arch_codes, fraction_of, is_other, is_uniform, lacks_class, lacks_width, pattern_of, uniform_width, width_of}
+use Rattle.fpga_arch.specs.ChannelLines.{differs_from}
+use Rattle.fpga_arch.specs.Codes.{Context, arch_codes, fraction_of, pattern_of, width_of}
 use Rattle.fpga_arch.specs.Keywords.{ArchLine, arch_line, place_of, word_behind}
-use Rattle.fpga_arch.specs.Pins.{class_rest, class_said, has_class, is_opposed, lacks_sides, pin_of, pin_with, side_words}
+use Rattle.fpga_arch.specs.Pins.{pin_of}
 use Rattle.fpga_arch.specs.Value.{arch_of}
 
 -- for each keyword whether it had a line, the width of the channels, if one had a line, and the
@@ -45,7 +42,7 @@ marked flags keyword = slice_set flags (place_of keyword) true
 abbrev pub context_at : Progress → Context
 context_at draft = record {
   stands = stands_in draft.flags;
-  differs = λ width. option_map_or (is_other width) draft.width false;
+  differs = differs_from draft.width;
   pins = draft.arch.pins;
 }
 
@@ -100,57 +97,6 @@ text_after draft (Some line) = draft_after draft line
 abbrev pub TakesText : Progress → Progress → TextLine → Result (Unit {0}) TextFault → Type 0
 TakesText old new line result = AnswersFault (text_fault old line.number (arch_line line.words))
     (λ _. new ≡ text_after old (arch_line line.words)) result
-
--- why the next line is refused, if it is of a channel along rows or columns whose words are these,
--- and does not repeat
-abbrev pub channel_fault : Progress → ℕ → Words → Option TextFault
-channel_fault draft number rest =
-    if lacks_width rest then Some (Bad number (code_of NoNumber))
-    else if not (is_uniform rest) then Some (Bad number (code_of NotUniform))
-    else if option_map_or (context_at draft).differs (uniform_width rest) false
-    then Some (Bad number (code_of OtherWidth)) else None
-
--- it is not refused, and says this width
-pub record IsChannel (draft : Progress) (rest : Words) (width : ℕ) : Type 0 where
-  pub clean : (number : ℕ) → channel_fault draft number rest ≡ None
-  pub says : uniform_width rest ≡ Some width
-  pub number : lacks_width rest ≡ false
-  pub uniform : is_uniform rest ≡ true
-  pub same : (context_at draft).differs width ≡ false
-
--- the pin that words behind `inpin` or `outpin` say, if they say a class
-abbrev pub pin_said : Bool → Words → Option PinSpec
-pin_said output rest = option_map (pin_with (class_rest rest) output) (class_said rest)
-
--- how many pins there are with this one, or its class, if that is more than may be
-abbrev pub pin_past : Progress → Bool → Words → Option ℕ
-pin_past draft output rest =
-    option_or (if length draft.arch.pins == PIN_LIMIT then Some (PIN_LIMIT + 1) else None)
-    (option_and_then (λ (pin : PinSpec). past CLASS_LIMIT (Some pin.class)) (pin_said output rest))
-
--- an earlier pin has the class of this one and another direction
-abbrev pub is_mixed : Progress → Bool → Words → Bool
-is_mixed draft output rest = option_map_or
-    (λ (pin : PinSpec). list_any (is_opposed pin.class pin.output) draft.arch.pins)
-    (pin_said output rest) false
-
--- why the next line is refused, if it is of a pin with this direction whose words are these
-abbrev pub pin_fault : Progress → Bool → ℕ → Words → Option TextFault
-pin_fault draft output number rest =
-    if lacks_class rest then Some (Bad number (code_of NoNumber))
-    else if not (has_class rest) || lacks_sides (side_words (class_rest rest))
-    then Some (Bad number (code_of PinForm))
-    else if is_mixed draft output rest then Some (Bad number (code_of MixedClass))
-    else option_or (option_map (λ n. Limit (code_of PastLimit) n) (pin_past draft output rest)) None
-
--- it is not refused, and says this pin
-pub record IsNextPin (draft : Progress) (output : Bool) (rest : Words) (pin : PinSpec)
-    : Type 0 where
-  pub clean : (number : ℕ) → pin_fault draft output number rest ≡ None
-  pub says : pin_said output rest ≡ Some pin
-  pub room : length draft.arch.pins < PIN_LIMIT
-  pub sound : IsSoundPin pin
-  pub agrees : list_any (is_opposed pin.class pin.output) draft.arch.pins ≡ false
 
 -- what is true of each draft
 pub record IsDraft (flags : List Bool) (io_rat : ℕ) (pins : List PinSpec) (output input pad : ℕ)

@@ -1,17 +1,16 @@
 //! The value of an architecture text as far as it was read.
-ghost use Rattle.std.specs.Prelude.{◌≡◌, true, false, IfOk, IfErr};
-ghost use Rattle.std.specs.List.{list_all, list_any};
-ghost use Rattle.std.specs.Option.{option_map_or};
-ghost use Rattle.fpga_text.specs.FirstFault.{IsFaultOf};
+ghost use Rattle.std.specs.Prelude.{◌≡◌, true};
+ghost use Rattle.std.specs.List.{list_all};
 ghost use Rattle.fpga_arch.specs.Drafts.{marked};
 
 use crate::cause::Cause;
+use crate::channel_line::{differs, read_channel};
 use crate::keyword::{KEYWORDS, Keyword, keyword_named};
-use crate::pin_line::read_rest;
+use crate::pin_line::read_pin;
 use crate::segment_line::read_segment;
 use crate::words::{next_fraction, next_pattern, next_share};
 use fpga_text::{Line, TextFault};
-use fpga_types::{Arch, CLASS_LIMIT, FcSpec, Items, PAD_LIMIT, PIN_LIMIT, Pattern, PinSpec};
+use fpga_types::{Arch, FcSpec, Items, PAD_LIMIT, Pattern, PinSpec};
 use std::alloc::Global;
 use std::marker::Model;
 
@@ -56,19 +55,8 @@ impl Model for Draft {
 
 impl Draft {
     ghost use Rattle.fpga_types.specs.ArchSound.{IsSoundArch};
-    ghost use Rattle.fpga_arch.specs.Codes.{is_other};
-    ghost use Rattle.fpga_arch.specs.Drafts.{
-      IsChannel,
-      IsNextPin,
-      START,
-      Takes,
-      TakesText,
-      channel_fault,
-      pin_fault,
-      stands_in,
-    };
+    ghost use Rattle.fpga_arch.specs.Drafts.{START, Takes, TakesText, stands_in};
     ghost use Rattle.fpga_arch.specs.Keywords.{keywords};
-    ghost use Rattle.fpga_arch.specs.Pins.{is_opposed};
     ghost use Rattle.fpga_arch.specs.declared.keyword.Keyword.TheVariants.{
       IoRat,
       WidthIo,
@@ -178,7 +166,7 @@ impl Draft {
         let Some(width) = line.next_millionths() else {
             return Err(Cause::NoNumber.at(number));
         };
-        if self.differs(width) {
+        if differs(self.width, width) {
             return Err(Cause::OtherWidth.at(number));
         }
         if self.stands(Keyword::WidthIo) {
@@ -193,7 +181,7 @@ impl Draft {
     fn take_row_width(&mut self, line: &mut Line<'_>) -> Result<(), TextFault>
         ensures { Takes WidthX self.old self.new line.old result }
     {
-        let width = match self.read_channel(line) {
+        let width = match read_channel(self.width, line) {
             Ok(width) => width,
             Err(fault) => return Err(fault),
         };
@@ -209,7 +197,7 @@ impl Draft {
     fn take_column_width(&mut self, line: &mut Line<'_>) -> Result<(), TextFault>
         ensures { Takes WidthY self.old self.new line.old result }
     {
-        let width = match self.read_channel(line) {
+        let width = match read_channel(self.width, line) {
             Ok(width) => width,
             Err(fault) => return Err(fault),
         };
@@ -221,41 +209,11 @@ impl Draft {
         Ok(())
     }
 
-    /// The width that a line of channels says.
-    fn read_channel(&self, line: &mut Line<'_>) -> Result<u64, TextFault>
-        ensures ok { IfOk result (IsChannel self.now line.old.words) }
-        ensures err { IfErr result
-            (IsFaultOf (channel_fault self.now line.old.number line.old.words)) }
-        ensures number { line.new.number ≡ line.old.number }
-    {
-        let number = line.number();
-        if !line.next_is(b"uniform") {
-            return Err(Cause::NotUniform.at(number));
-        }
-        let Some(width) = line.next_millionths() else {
-            return Err(Cause::NoNumber.at(number));
-        };
-        if self.differs(width) {
-            return Err(Cause::OtherWidth.at(number));
-        }
-        Ok(width)
-    }
-
-    /// Whether a line said another width.
-    fn differs(&self, width: u64) -> bool
-        ensures { result ≡ option_map_or (is_other width) self.now.width false }
-    {
-        match self.width {
-            None => false,
-            Some(earlier) => earlier != width,
-        }
-    }
-
     /// Takes a line of a pin that a net drives.
     fn take_input(&mut self, line: &mut Line<'_>) -> Result<(), TextFault>
         ensures { Takes Inpin self.old self.new line.old result }
     {
-        let pin = match self.read_pin(false, line) {
+        let pin = match read_pin(self.pins.as_slice(), false, line) {
             Ok(pin) => pin,
             Err(fault) => return Err(fault),
         };
@@ -270,7 +228,7 @@ impl Draft {
     fn take_output(&mut self, line: &mut Line<'_>) -> Result<(), TextFault>
         ensures { Takes Outpin self.old self.new line.old result }
     {
-        let pin = match self.read_pin(true, line) {
+        let pin = match read_pin(self.pins.as_slice(), true, line) {
             Ok(pin) => pin,
             Err(fault) => return Err(fault),
         };
@@ -279,49 +237,6 @@ impl Draft {
         };
         mark(&mut self.flags, Keyword::Outpin);
         Ok(())
-    }
-
-    /// The pin that a line says, of which this is known: whether it drives a net.
-    fn read_pin(&self, output: bool, line: &mut Line<'_>) -> Result<PinSpec, TextFault>
-        ensures ok { IfOk result (IsNextPin self.now output line.old.words) }
-        ensures err { IfErr result
-            (IsFaultOf (pin_fault self.now output line.old.number line.old.words)) }
-    {
-        let number = line.number();
-        let has_class = line.next_is(b"class:");
-        let class = line.next_whole();
-        if !has_class {
-            return Err(Cause::PinForm.at(number));
-        }
-        let Some(class) = class else {
-            return Err(Cause::NoNumber.at(number));
-        };
-        let rest = read_rest(line);
-        let Some(sides) = rest.sides else {
-            return Err(Cause::PinForm.at(number));
-        };
-        if self.opposes(class, output) {
-            return Err(Cause::MixedClass.at(number));
-        }
-        if self.pins.len() == PIN_LIMIT {
-            return Err(Cause::PastLimit.past(PIN_LIMIT as u64 + 1));
-        }
-        if class > u64::from(CLASS_LIMIT) {
-            return Err(Cause::PastLimit.past(class));
-        }
-        Ok(PinSpec {
-            class: class as u32,
-            output,
-            global: rest.global,
-            sides,
-        })
-    }
-
-    /// Whether a pin has this class and another direction.
-    fn opposes(&self, class: u64, output: bool) -> bool
-        ensures { result ≡ list_any (is_opposed class output) self.now.arch.pins }
-    {
-        self.pins.iter().any(|pin| u64::from(pin.class) == class && pin.output != output)
     }
 
     /// Takes a line of the switch blocks.

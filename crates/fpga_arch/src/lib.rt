@@ -2,6 +2,7 @@
 #![tactic(auto)]
 
 mod cause;
+mod channel_line;
 mod draft;
 mod keyword;
 mod pin_line;

@@ -1,23 +1,78 @@
-//! What a pin line says behind its class.
-ghost use Rattle.std.specs.Prelude.{◌≡◌, true, false, IfSome, IfNone};
+//! What a pin line says.
+ghost use Rattle.std.specs.Prelude.{◌≡◌, ◌≤◌, true, false, length, IfOk, IfErr, IfSome, IfNone};
+ghost use Rattle.std.specs.List.{list_any};
+ghost use Rattle.fpga_text.specs.FirstFault.{IsFaultOf};
 ghost use Rattle.fpga_types.specs.ArchSound.{has_side as has_side_of};
-ghost use Rattle.fpga_arch.specs.Pins.{is_global, lacks_sides, side_set, side_words, with_sides};
+ghost use Rattle.fpga_arch.specs.PinLines.{IsNextPin, pin_fault};
+ghost use Rattle.fpga_arch.specs.Pins.{
+  is_global,
+  is_opposed,
+  lacks_sides,
+  side_set,
+  side_words,
+  with_sides,
+};
 
+use crate::cause::Cause;
 use crate::words::side_named;
-use fpga_text::Line;
-use fpga_types::SideSet;
+use fpga_text::{Line, TextFault};
+use fpga_types::{CLASS_LIMIT, PIN_LIMIT, PinSpec, SideSet};
 
 /// What stands behind the class of a pin.
 #[derive(Clone, Copy, Debug)]
-pub struct PinRest {
+struct PinRest {
     /// Whether the pin takes global nets alone.
-    pub global: bool,
+    global: bool,
     /// Its sides, unless there is none or another word among them.
-    pub sides: Option<SideSet>,
+    sides: Option<SideSet>,
+}
+
+/// The pin that the words behind the keyword say, or what is wrong with them behind these pins.
+pub fn read_pin(pins: &[PinSpec], output: bool, line: &mut Line<'_>) -> Result<PinSpec, TextFault>
+    requires { length pins.now ≤ PIN_LIMIT }
+    ensures ok { IfOk result (IsNextPin pins.now output line.old.words) }
+    ensures err { IfErr result
+        (IsFaultOf (pin_fault pins.now output line.old.number line.old.words)) }
+{
+    let number = line.number();
+    let has_class = line.next_is(b"class:");
+    let class = line.next_whole();
+    if !has_class {
+        return Err(Cause::PinForm.at(number));
+    }
+    let Some(class) = class else {
+        return Err(Cause::NoNumber.at(number));
+    };
+    let rest = read_rest(line);
+    let Some(sides) = rest.sides else {
+        return Err(Cause::PinForm.at(number));
+    };
+    if opposes(pins, class, output) {
+        return Err(Cause::MixedClass.at(number));
+    }
+    if pins.len() == PIN_LIMIT {
+        return Err(Cause::PastLimit.past(PIN_LIMIT as u64 + 1));
+    }
+    if class > u64::from(CLASS_LIMIT) {
+        return Err(Cause::PastLimit.past(class));
+    }
+    Ok(PinSpec {
+        class: class as u32,
+        output,
+        global: rest.global,
+        sides,
+    })
+}
+
+/// Whether one of the pins has this class and another direction.
+fn opposes(pins: &[PinSpec], class: u64, output: bool) -> bool
+    ensures { result ≡ list_any (is_opposed class output) pins.now }
+{
+    pins.iter().any(|pin| u64::from(pin.class) == class && pin.output != output)
 }
 
 /// The words of a line behind its class.
-pub fn read_rest(line: &mut Line<'_>) -> PinRest
+fn read_rest(line: &mut Line<'_>) -> PinRest
     ensures global { result.global ≡ is_global line.old.words }
     ensures some { IfSome result.sides (λ sides. sides ≡ side_set (side_words line.old.words)) }
     ensures clean { IfSome result.sides (λ _. lacks_sides (side_words line.old.words) ≡ false) }

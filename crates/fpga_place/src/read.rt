@@ -49,7 +49,8 @@ fn read_for<'a>(
     io_rat: u32,
     blocks: &'a [Block],
 ) -> Result<Placement, TextFault>
-    ensures answers { Answers (faults_for (record { io_rat = io_rat; blocks = blocks.now }) bytes.now)
+    ensures answers { Answers
+        (faults_for (record { io_rat = io_rat; blocks = blocks.now }) bytes.now)
         (λ placement. placement ≡ value_for blocks.now bytes.now) result }
     ensures sound { IfOk result (IsSoundFor io_rat blocks.now) }
 {

@@ -14,8 +14,8 @@ pub struct SizeLine<'a> {
     pub ny: &'a [u8],
 }
 
-/// The words that say the size in `Array size: nx x ny logic blocks.`, whose point may be absent, of
-/// a line of which no word was taken yet.
+/// The words that say the size in `Array size: nx x ny logic blocks.`, whose point may be absent,
+/// of a line of which no word was taken yet.
 #[tactic(auto, using(crate::proofs::ArrayLemmas::size_words_take))]
 pub fn size_line<'a>(line: &mut Line<'a>) -> Option<SizeLine<'a>>
     ensures { option_map size_said result ≡ spec.size_words line.old.words }

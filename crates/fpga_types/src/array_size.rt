@@ -6,13 +6,16 @@ ghost use Rattle.fpga_types.specs.ArraySize.{IsSizeFault, SaysSize};
 use crate::grid::Grid;
 use crate::limits::SIDE_LIMIT;
 use fpga_text::{SizeLine, whole_number};
+use thiserror::Error;
 
 /// Why an array line says no size.
-#[derive(Clone, Copy, Debug, PartialEq, Eq)]
+#[derive(Clone, Copy, Debug, PartialEq, Eq, Error)]
 pub enum SizeFault {
     /// A word is no number, or 0.
+    #[error("a word is no number, or 0")]
     NoNumber,
     /// More columns, or else more rows, than may be.
+    #[error("{count} is more than an array may have")]
     PastLimit { count: u64 },
 }
 
@@ -20,8 +23,8 @@ impl Grid {
     /// The array that these words say.
     ///
     /// # Errors
-    /// `NoNumber` where one of them is no whole number, or 0; `PastLimit` where both are numbers and
-    /// one is more than 100, with the first that is.
+    /// `NoNumber` where one of them is no whole number, or 0; `PastLimit` where both are numbers
+    /// and one is more than 100, with the first that is.
     pub fn said_by(size: &SizeLine<'_>) -> Result<Grid, SizeFault>
         ensures ok { IfOk result (SaysSize (size_said size.now)) }
         ensures err { IfErr result (IsSizeFault (size_said size.now)) }

@@ -9,5 +9,5 @@ invariant_of-self-2 c = rw (c.mark.ensures, c.in-Ok-push.ensures.items)
     (draft-pin c.self.inside.flags c.self.inside.io_rat c.self.inside.pins.items
     c.self.inside.output c.self.inside.input c.self.inside.pad Inpin c.in-Ok.pin c.self.invariant
     (λ e. absurd (omega (arith, e)))
-    (rw (← c.self.view_is) at c.in-Ok.ensures.ok.room) c.in-Ok.ensures.ok.sound
-    (rw (← c.self.view_is) at c.in-Ok.ensures.ok.agrees))
+    (rw c.as_slice.ensures.value at c.in-Ok.ensures.ok.room) c.in-Ok.ensures.ok.sound
+    (rw c.as_slice.ensures.value at c.in-Ok.ensures.ok.agrees))

@@ -1,0 +1,68 @@
+-- What was read is what the text reads as.
+use Rattle.std.proofs.Common.{◌≡◌, ℕ, ◌+◌, [], refl, sym, ap, subst, ◌∙◌, arith}
+use Rattle.std.specs.Prelude.{Result, fold}
+use Rattle.fpga_types.specs.declared.arch.Arch.{Arch}
+use Rattle.fpga_types.specs.declared.netlist.Netlist.{Netlist}
+use Rattle.fpga_text.specs.declared.fault.TextFault.{TextFault}
+use Rattle.fpga_text.specs.declared.style.Style.TheVariants.{Joined}
+use Rattle.fpga_text.specs.Bytes.{Bytes}
+use Rattle.fpga_text.specs.FirstFault.{Answers, AnswersFault, IsFaultOf, IsRefusal, first_fault}
+use Rattle.fpga_text.specs.Reading.{LinesAhead}
+use Rattle.fpga_text.specs.Words.{line_count, text_lines}
+use Rattle.fpga_net.specs.Codes.{before_all, behind, forms_of, globals_of, net_faults}
+use Rattle.fpga_net.specs.Drafts.{IsKept, Progress, ReadsLines, faults_ahead, last_fault}
+use Rattle.fpga_net.specs.Value.{context_of, net_value, netlist_before}
+use Rattle.fpga_net.proofs.LineLemmas.{by_context}
+
+-- a reader before the text
+abbrev pub whole_text : Bytes → LinesAhead
+whole_text bytes = record { ahead = text_lines Joined bytes; taken = 0; total = line_count bytes }
+
+-- a draft without lines
+abbrev pub no_lines : Arch → Bytes → Progress
+no_lines arch bytes =
+    record { context = before_all arch (globals_of (text_lines Joined bytes)); entries = [] }
+
+pub no_lines-kept : (arch : Arch) (bytes : Bytes) → IsKept (no_lines arch bytes)
+no_lines-kept arch bytes = record {
+  entries = refl;
+  net_count = omega arith;
+  block_count = omega arith;
+  names = refl;
+  apart = λ i j d below within. absurd (omega (arith, within));
+  pins = λ k d within. absurd (omega (arith, within));
+}
+
+-- what was read of a text
+module _ (arch : Arch) (bytes : Bytes) (lines lines_after : LinesAhead) (draft draft_after : Progress)
+    (text : lines ≡ whole_text bytes) (start : draft ≡ no_lines arch bytes) where
+  all_faults : first_fault (net_faults arch bytes) ≡ first_fault (faults_ahead draft.context lines)
+  all_faults = ap first_fault (by_context arch (text_lines Joined bytes) (line_count bytes))
+      ∙ (λ i. first_fault (faults_ahead (sym start i).context (sym text i)))
+
+  -- a fault of a line
+  pub refused : (found : TextFault) → IsRefusal (faults_ahead draft.context lines) found
+      → IsRefusal (net_faults arch bytes) found
+  refused found is = subst (λ f. IsFaultOf f found) (sym all_faults) is
+
+  module _ (rest : ReadsLines lines draft lines_after draft_after) where
+    all_lines : lines_after.taken ≡ line_count bytes
+    all_lines = rest.taken ∙ ap (λ (l : LinesAhead). l.total) text
+
+    all_said : draft_after.context ≡ context_of arch (text_lines Joined bytes)
+    all_said = rest.context
+        ∙ (λ i. fold behind (start i).context (forms_of (text i).ahead))
+
+    -- no fault, or one of the end
+    pub read : (end : ℕ) (result : Result Netlist TextFault) → end ≡ lines_after.taken + 1
+        → AnswersFault (last_fault draft_after.context end)
+        (λ netlist. netlist ≡ netlist_before draft_after.context) result
+        → Answers (net_faults arch bytes) (λ netlist. netlist ≡ net_value arch bytes) result
+    read end result at is =
+        subst (λ f. AnswersFault f (λ netlist. netlist ≡ net_value arch bytes) result)
+        (sym (all_faults ∙ rest.last ∙ ap (last_fault draft_after.context) number))
+        (subst (λ c. AnswersFault (last_fault draft_after.context end)
+        (λ netlist. netlist ≡ netlist_before c) result) all_said is)
+      where
+        number : lines.total + 1 ≡ end
+        number = ap (λ n. n + 1) (sym rest.taken) ∙ sym at

@@ -1,0 +1,12 @@
+pub mod Begun
+pub mod Causes
+pub mod Codes
+pub mod Drafts
+pub mod Entries
+pub mod Forms
+pub mod Lines
+pub mod Names
+pub mod NetUses
+pub mod Sound
+pub mod Uses
+pub mod Value
