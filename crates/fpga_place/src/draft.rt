@@ -119,7 +119,7 @@ impl<'a> Draft<'a> {
         Ok(number)
     }
 
-    /// Gives a block its place. After an error the draft is of no more use.
+    /// Gives a block its place.
     fn put(&mut self, number: usize, place: Place) -> Result<(), AllocError>
         requires { FitsBlock self.old number place }
         ensures { OnOk result (self.new ≡ with_place self.old number place) }

@@ -29,10 +29,7 @@ pub fn read_head(lines: &mut Lines<'_>) -> Result<Grid, TextFault>
     let Some(mut second) = lines.next_line() else {
         return Err(missing_line(lines));
     };
-    match read_array(&mut second) {
-        Ok(grid) => Ok(grid),
-        Err(fault) => Err(fault),
-    }
+    read_array(&mut second)
 }
 
 /// The fault of a text whose head ends with its last line.
