@@ -1,6 +1,6 @@
 -- What a block line does to the value as far as it was read, and why one is refused.
 use Rattle.std.proofs.Common.{◌≡◌, ◌≢◌, ℕ, ◌<◌, Bool, true, false, Option, Some, None, List, [], ◌∷◌, length, get_or, refl, sym, ap, ◌∙◌, arith}
-use Rattle.std.specs.Prelude.{◌||◌, bytes_eq, is_none, is_some, option_and_then, slice_get, slice_set, unwrap_or, if◌then◌else◌}
+use Rattle.std.specs.Prelude.{◌||◌, bytes_eq, is_some, option_and_then, slice_get, slice_set, unwrap_or, if◌then◌else◌}
 use Rattle.std.specs.BTreeSet.{BTreeSet, contains}
 use Rattle.std.specs.Option.{option_or}
 use Rattle.std.proofs.lemmas.Option.{slice_get-get_or}
@@ -15,7 +15,7 @@ use Rattle.fpga_text.specs.Words.{Words}
 use Rattle.fpga_text.specs.declared.fault.TextFault.TheVariants.{Bad}
 use Rattle.fpga_place.specs.Blocks.{block_named, number_named}
 use Rattle.fpga_place.specs.Codes.{takes_spot}
-use Rattle.fpga_place.specs.Drafts.{FitsBlock, FitsNamed, IsInOrder, Progress, TakesLine, next_fault, placed, with_place}
+use Rattle.fpga_place.specs.Drafts.{FitsNamed, IsInOrder, Progress, TakesLine, next_fault, placed, with_place}
 use Rattle.fpga_place.specs.Lines.{Form, Block as BlockLine, block_form, form_place}
 use Rattle.fpga_place.specs.Spots.{has_spot, spot_cmp}
 use Rattle.fpga_place.proofs.BlockLemmas.{name-at, name_itself, named-at, same_name, unnamed}

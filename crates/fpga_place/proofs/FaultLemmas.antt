@@ -7,11 +7,10 @@ use Rattle.std.proofs.Math.Bool.{or-false}
 use Rattle.std.proofs.lemmas.List.Folds.{list_any-append}
 use Rattle.fpga_types.specs.Places.{same_spot}
 use Rattle.fpga_types.specs.Size.{Size}
-use Rattle.fpga_types.specs.declared.netlist.Block.{Block}
 use Rattle.fpga_types.specs.declared.placement.Place.{Place}
 use Rattle.fpga_text.specs.ArrayLine.{SizeWords, size_words}
 use Rattle.fpga_text.specs.Bytes.{Bytes}
-use Rattle.fpga_text.specs.Codes.{faults_from, line_fault}
+use Rattle.fpga_text.specs.Codes.{faults_from}
 use Rattle.fpga_text.specs.FirstFault.{Faults, IsFaultOf, IsRefusal, first_fault}
 use Rattle.fpga_text.specs.Reading.{LinesAhead}
 use Rattle.fpga_text.specs.Words.{TextLine}

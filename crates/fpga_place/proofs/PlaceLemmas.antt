@@ -10,7 +10,7 @@ use Rattle.fpga_types.specs.Size.{Size}
 use Rattle.fpga_types.specs.declared.netlist.Block.{Block}
 use Rattle.fpga_types.specs.declared.placement.Place.{Place}
 use Rattle.fpga_types.specs.declared.placement.Spot.{Spot}
-use Rattle.fpga_place.specs.Drafts.{FitsBlock, IsInOrder, Progress, Stands}
+use Rattle.fpga_place.specs.Drafts.{FitsBlock, IsInOrder, Stands}
 use Rattle.fpga_place.specs.Spots.{has_spot, spot_cmp}
 use Rattle.fpga_place.proofs.SpotLemmas.{has_spot-there, has_spots-none, has_spots-put}
 

@@ -1,25 +1,24 @@
 -- What was read is what the text reads as.
-use Rattle.std.proofs.Common.{◌≡◌, ◌+◌, ℕ, List, [], ◌∷◌, Option, Some, None, length, refl, sym, ap, subst, ◌∙◌}
+use Rattle.std.proofs.Common.{◌≡◌, ◌+◌, ℕ, List, ◌∷◌, None, length, refl, sym, ap, subst, ◌∙◌}
 use Rattle.std.specs.Prelude.{map}
 use Rattle.std.specs.Option.{option_or}
 use Rattle.std.proofs.lemmas.List.{length-map}
 use Rattle.fpga_types.specs.Placements.{AreLawful, HaveOwnNames, IsSoundFor}
 use Rattle.fpga_types.specs.Size.{Size}
-use Rattle.fpga_types.specs.declared.netlist.Block.{Block}
 use Rattle.fpga_types.specs.declared.placement.Place.{Place}
 use Rattle.fpga_text.specs.Bytes.{Bytes}
 use Rattle.fpga_text.specs.FirstFault.{IsFaultOf, IsRefusal, first_fault}
 use Rattle.fpga_text.specs.Reading.{LinesAhead}
-use Rattle.fpga_text.specs.Words.{TextLine, line_count, text_lines}
+use Rattle.fpga_text.specs.Words.{line_count, text_lines}
 use Rattle.fpga_text.specs.declared.fault.TextFault.{TextFault}
 use Rattle.fpga_text.specs.declared.style.Style.TheVariants.{Hash}
 use Rattle.fpga_text.proofs.FaultLemmas.{IsPast, refusal-past}
 use Rattle.fpga_place.specs.Codes.{Setting, faults_for, lines_faults}
 use Rattle.fpga_place.specs.Drafts.{Progress, last_fault, placed}
 use Rattle.fpga_place.specs.Heads.{IsHead}
-use Rattle.fpga_place.specs.Lines.{block_forms, forms, said}
+use Rattle.fpga_place.specs.Lines.{block_forms, said}
 use Rattle.fpga_place.specs.Reading.{ReadsBlocks, faults_ahead}
-use Rattle.fpga_place.specs.Value.{place_named, place_of, value_for, value_of}
+use Rattle.fpga_place.specs.Value.{place_named, place_of, value_for}
 use Rattle.fpga_place.proofs.FaultLemmas.{none_placed, past_head, placed-none}
 
 -- a reader before the text

@@ -1,5 +1,5 @@
 -- The places of a placement that was read are lawful.
-use Rattle.std.proofs.Common.{◌≡◌, ℕ, ◌≤◌, Bool, true, false, Option, Some, None, List, length, take, get_or, refl, sym, ap, ◌∙◌}
+use Rattle.std.proofs.Common.{◌≡◌, ℕ, ◌≤◌, Bool, true, false, Option, Some, None, List, length, take, refl, sym, ap, ◌∙◌}
 use Rattle.std.specs.Prelude.{is_some, map, not, option_and_then, option_map, slice_get, unwrap_or}
 use Rattle.std.specs.BTreeSet.{BTreeSet}
 use Rattle.std.specs.List.{list_any}
@@ -12,7 +12,6 @@ use Rattle.fpga_types.specs.Size.{Size}
 use Rattle.fpga_types.specs.declared.netlist.Block.{Block}
 use Rattle.fpga_types.specs.declared.placement.Place.{Place}
 use Rattle.fpga_types.specs.declared.placement.Spot.{Spot}
-use Rattle.fpga_place.specs.Blocks.{number_named}
 use Rattle.fpga_place.specs.Drafts.{IsInOrder, Progress, Stands, placed}
 use Rattle.fpga_place.specs.Value.{place_of}
 use Rattle.fpga_place.proofs.BlockLemmas.{own_number}

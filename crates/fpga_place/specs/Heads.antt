@@ -6,7 +6,7 @@ use Rattle.fpga_text.specs.Codes.{line_fault}
 use Rattle.fpga_text.specs.Reading.{LinesAhead}
 use Rattle.fpga_text.specs.Words.{TextLine}
 use Rattle.fpga_text.specs.declared.fault.TextFault.{TextFault}
-use Rattle.fpga_place.specs.Codes.{Context, Setting, context_of, place_codes, said_grid}
+use Rattle.fpga_place.specs.Codes.{Setting, context_of, place_codes, said_grid}
 use Rattle.fpga_place.specs.Lines.{Array, is_file_line}
 
 -- no blocks and no pads: why a head line is refused does not depend on what is placed

@@ -1,7 +1,6 @@
 -- The value that a placement text reads as: its array, and for each block the place on its line.
-use Rattle.std.specs.Prelude.{◌≡◌, List, [], ◌∷◌, map, bytes_eq, Option, Some, None, unwrap_or, if◌then◌else◌}
+use Rattle.std.specs.Prelude.{◌≡◌, List, [], ◌∷◌, map, bytes_eq, Option, None, unwrap_or, if◌then◌else◌}
 use Rattle.std.specs.Option.{option_or}
-use Rattle.fpga_types.specs.Size.{Size}
 use Rattle.fpga_types.specs.declared.arch.Arch.{Arch}
 use Rattle.fpga_types.specs.declared.netlist.Block.{Block as BlockOf}
 use Rattle.fpga_types.specs.declared.netlist.Netlist.{Netlist}

@@ -1,6 +1,5 @@
-use Rattle.std.proofs.Common.{◌≡◌, ap, ◌∙◌}
+use Rattle.std.proofs.Common.{◌≡◌, ◌∙◌}
 use Rattle.std.proofs.lemmas.Result.{err_from_is_err_and}
-use Rattle.fpga_types.specs.Size.{Size}
 use Rattle.fpga_place.specs.Codes.{Setting}
 use Rattle.fpga_place.proofs.FaultLemmas.{none_placed}
 use Rattle.fpga_place.proofs.ReadLemmas.{reads, refused_end, refused_later, sound}

@@ -1,5 +1,4 @@
 use Rattle.fpga_place.proofs.DraftLemmas.{takes_line}
-use Rattle.fpga_text.specs.Words.{TextLine}
 use Rattle.fpga_place.specs.Lines.{block_form}
 use Rattle.fpga_place.proofs.draft.Draft.take_line.Goals as goal
 
