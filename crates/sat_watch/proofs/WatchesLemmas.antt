@@ -6,7 +6,7 @@ use Rattle.std.proofs.lemmas.List.Sorted.{IsPermutation-refl, IsPermutation-tran
 use Rattle.sat_clause.specs.declared.literal.Lit.{Lit}
 use Rattle.sat_clause.specs.Literal.{IsWithin, lit, negation, is_among}
 use Rattle.sat_arena.specs.declared.clause_ref.ClauseRef.{ClauseRef}
-use Rattle.sat_arena.specs.Store.{Stored, is_held, stored_at}
+use Rattle.sat_arena.specs.Store.{ArePlaced, Stored, is_held, size_of, stored_at}
 use Rattle.sat_watch.specs.declared.entry.TrailEntry.{TrailEntry}
 use Rattle.sat_watch.specs.Chains.{holders, ChainsState}
 use Rattle.std.proofs.Math.Seq.{drop-append-add}
@@ -15,7 +15,7 @@ use Rattle.sat_watch.specs.Trail.{IsOpen, TrailState, falses}
 use Rattle.sat_watch.proofs.FewLemmas.{longer_trail}
 use Rattle.sat_watch.proofs.BackLemmas.{settled_below, settled_now}
 use Rattle.sat_watch.specs.Watched.{AreImplied, AreWhole, Goes, IsReason, is_false}
-use Rattle.sat_watch.specs.Watches.{Attached, HasCause, HasLevels, IsSettledState, IsWatches, IsWithinLooks, holder_count, holder_sum, left_queued, taken_between, Propagates, SameClauses, WatchState, attached, id_at, is_attached, lits_at, watch_state}
+use Rattle.sat_watch.specs.Watches.{Attached, HasCause, HasLevels, IsSettledState, IsWatches, IsWithinLooks, holder_count, holder_sum, left_queued, taken_between, Propagates, SameClauses, StandFrom, WatchState, attached, id_at, is_attached, lits_at, watch_state}
 use Rattle.sat_arena.proofs.StoreLaws.{same_or_other}
 use Rattle.sat_clause.proofs.LiteralLaws.{among_here, among_more}
 
@@ -73,10 +73,16 @@ holders_attached l (k ∷ ks) = by_test (is_among k.lits l) refl (holders_attach
   by_test true e rest = rw e (ap suc rest)
   by_test false e rest = rw e rest
 
+stand_attached : (at : ℕ) (ks : List Stored) → ArePlaced at ks → StandFrom at (map attached ks)
+stand_attached at [] placed = tt
+stand_attached at (k ∷ ks) placed =
+    (ap (λ (c : ClauseRef). c.word) placed.0, stand_attached (at + size_of k) ks placed.1)
+
 pub same_clauses : (base : List TrailEntry) (level : ℕ) (f : Lit) (ks new : List Stored)
-    (entries now : List TrailEntry) → Goes base level f ks new entries now →
+    (entries now : List TrailEntry) → ArePlaced 0 new → Goes base level f ks new entries now →
     SameClauses (map attached ks) (map attached new)
-same_clauses base level f ks new entries now go = record {
+same_clauses base level f ks new entries now placed go = record {
+  places = λ _. stand_attached 0 new placed;
   count = length_attached new ∙ (go.count ∙ sym (length_attached ks));
   attached = λ c. attached_held new c ∙ (go.held c ∙ sym (attached_held ks c));
   ids = λ c. attached_id new c ∙ (go.ids c ∙ sym (attached_id ks c));
@@ -87,15 +93,15 @@ same_clauses base level f ks new entries now go = record {
 -- one step of propagation
 pub step_propagates : (s : WatchState) (c c' : ChainsState) (t t' : TrailState) (q q' level : ℕ)
     (due : Option ClauseRef) (f : Lit) →
-    watch_state c t q level due ≡ s → due ≡ None → c'.vars ≡ c.vars →
+    watch_state c t q level due ≡ s → due ≡ None → c'.vars ≡ c.vars → ArePlaced 0 c'.clauses →
     Goes t.entries level f c.clauses c'.clauses t.entries t'.entries →
     Propagates s (watch_state c' t' q' level due)
-step_propagates s c c' t t' q q' level due f view none vars go =
+step_propagates s c c' t t' q q' level due f view none vars placed go =
     subst (λ (x : WatchState). Propagates x (watch_state c' t' q' level due)) view (record {
       vars = vars;
       level = refl;
       due = none;
-      clauses = same_clauses t.entries level f c.clauses c'.clauses t.entries t'.entries go;
+      clauses = same_clauses t.entries level f c.clauses c'.clauses t.entries t'.entries placed go;
       added = go.grows.added;
       trail = go.grows.is;
       added_level = added_known c'.clauses level go.grows.added t.entries go.grows.implied;
@@ -158,6 +164,7 @@ same_refl : (ks : List Attached) → SameClauses ks ks
 same_refl ks =
     record {
       count = refl;
+      places = λ stand. stand;
       attached = λ c. refl;
       ids = λ c. refl;
       lits =
@@ -168,6 +175,7 @@ same_refl ks =
 same_trans : (a b c : List Attached) → SameClauses a b → SameClauses b c → SameClauses a c
 same_trans a b c x y = record {
   count = y.count ∙ x.count;
+  places = λ stand. y.places (x.places stand);
   attached = λ r. y.attached r ∙ x.attached r;
   ids = λ r. y.ids r ∙ x.ids r;
   holders = λ l. y.holders l ∙ x.holders l;

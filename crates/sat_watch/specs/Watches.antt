@@ -1,6 +1,6 @@
 -- What contracts see of watches: the clauses with their ids, the trail, what is queued and what is
 -- due.
-use Rattle.std.specs.Prelude.{◌≡◌, ◌≢◌, ℕ, suc, ◌+◌, ◌-◌, ◌<◌, ◌≤◌, ◌==◌, nat_lt, Bool, true, false, if◌then◌else◌, ◌⊎◌, List, [], ◌∷◌, ◌++◌, length, map, drop, take, Option, None, Some, is_some, All, IsPermutation, Contains, max, unwrap_or}
+use Rattle.std.specs.Prelude.{◌≡◌, ◌≢◌, ℕ, suc, ◌+◌, ◌-◌, ◌<◌, ◌≤◌, ◌==◌, nat_lt, Bool, true, false, if◌then◌else◌, ⊤, ◌⊎◌, List, [], ◌∷◌, ◌++◌, length, map, drop, take, Option, None, Some, is_some, All, IsPermutation, Contains, max, unwrap_or}
 use Rattle.sat_clause.specs.declared.literal.Lit.{Lit}
 use Rattle.sat_clause.specs.Literal.{Clause, is_among, negation}
 use Rattle.sat_clause.specs.Rup.{reading_of}
@@ -83,9 +83,16 @@ abbrev pub holder_count : Lit → List Attached → ℕ
 holder_count l [] = 0
 holder_count l (k ∷ ks) = if is_among k.lits l then suc (holder_count l ks) else holder_count l ks
 
--- the clauses keep their references and ids, and as sets their literals
+-- the first clause stands at this word, and each next one right behind the one before
+abbrev pub StandFrom : ℕ → List Attached → Type 0
+StandFrom at [] = ⊤
+StandFrom at (k ∷ ks) = (k.place.word ≡ at) × StandFrom (at + (length k.lits + 6)) ks
+
+-- the clauses keep their references and ids, and as sets their literals; and where they stood one
+-- behind another, they still do
 pub record SameClauses (old new : List Attached) : Type 0 where
   pub count : length new ≡ length old
+  pub places : StandFrom 0 old → StandFrom 0 new
   pub attached : (c : ClauseRef) → is_attached new c ≡ is_attached old c
   pub ids : (c : ClauseRef) → id_at new c ≡ id_at old c
   pub lits : (c : ClauseRef) → IsPermutation (lits_at old c) (lits_at new c)
