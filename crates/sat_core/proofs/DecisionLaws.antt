@@ -1,5 +1,5 @@
 -- The negated decisions of a trail: what is learned of them, and what stands before the newest.
-use Rattle.std.proofs.Common.{inl, inr, ◌⊎◌, ◌≡◌, ◌≢◌, ◌≤◌, ℕ, zero, suc, ℤ, Bool, true, false, List, [], ◌∷◌, ◌++◌, length, Option, None, Some, Contains, All, refl, sym, ap, ◌∙◌, subst, arith}
+use Rattle.std.proofs.Common.{inl, inr, ◌⊎◌, ◌≡◌, ◌≢◌, ◌≤◌, ℕ, zero, suc, ℤ, Bool, true, false, List, [], ◌∷◌, ◌++◌, Option, None, Some, Contains, All, refl, sym, ap, ◌∙◌, subst, arith}
 use Rattle.std.specs.Prelude.{is_some}
 use Rattle.std.proofs.lemmas.Bool.{both_ways}
 use Rattle.std.proofs.lemmas.List.{append-nil}
@@ -14,12 +14,9 @@ use Rattle.sat_clause.specs.Trail.{IsOnce}
 use Rattle.sat_clause.proofs.LiteralLaws.{among_both, among_cases, among_contains, among_here, among_more, contains_among, variable_negation, within_negation}
 use Rattle.sat_clause.proofs.ReadingLaws.{IsFalseOr, conflict_all, unit_is_open}
 use Rattle.sat_clause.proofs.TrailLaws.{false_is_other}
-use Rattle.sat_core.specs.declared.entry.Entry.{Entry}
 use Rattle.sat_core.specs.Kept.{HasOnce}
 use Rattle.sat_core.specs.Lesson.{decided, negated_decisions, reason_id, reason_ids, with_reasons}
 use Rattle.sat_core.specs.Levels.{AreAccounted, AreCaused, AreLevels, Assigned, HasCause, IsAccounted, IsAsserting, IsDerived, IsFalseFrom, IsMarked, after_entry, level_of, lits_of, made_false, marked_ids, marked_reason, up_to}
-use Rattle.sat_core.specs.SearchStore.{assigned, assigned_of}
-use Rattle.sat_core.specs.Trail.{from_decision, from_entry, literals}
 use Rattle.sat_core.proofs.DistinctLaws.{pairs_push}
 use Rattle.sat_core.proofs.LevelLaws.{only_entry, up_to_below, up_to_current}
 use Rattle.sat_core.proofs.LessonLaws.{marked_later}
@@ -251,162 +248,124 @@ pub record IsLastDecision (trail : List Assigned) (d : Assigned) (older : List A
     pub lesson : negated_decisions trail ≡ negated_decisions older ++ negation d.lit ∷ []
     pub back : up_to (level_of older) trail ≡ older
     pub inside : (e : Assigned) → Contains older e → Contains trail e
+    pub levels : AreLevels older
 
 -- there is none
 pub record HasNoDecision (trail : List Assigned) : Type 0 where
   pub level : level_of trail ≡ 0
   pub lesson : negated_decisions trail ≡ []
 
--- the levels of entries are those that they make
-pub assigned_levels : (entries : List Entry) → AreLevels (assigned_of entries)
-assigned_levels [] = tt
-assigned_levels (e ∷ older) = (refl, assigned_levels older)
+abbrev pub Newest : List Assigned → Type 0
+Newest trail = HasNoDecision trail
+    ⊎ ((d : Assigned) × (older : List Assigned) × IsLastDecision trail d older)
 
-pub last_decision : (entries : List Entry) (d : Entry) (older : List Entry) → from_decision entries
-    ≡ d ∷ older →
-    IsLastDecision (assigned_of entries) (assigned d (assigned_of older)) (assigned_of older)
-last_decision [] d older is = cc
-last_decision (x ∷ xs) d older is = by x.reason refl is (last_decision xs d older)
+pub newest : (trail : List Assigned) → AreLevels trail → Newest trail
+newest [] levels = inl (record { level = refl; lesson = refl })
+newest (e ∷ older) levels = by e.reason refl (newest older levels.1)
   where
-    by : (r : Option ℕ) → x.reason ≡ r → from_entry x r xs (from_decision xs) ≡ d ∷ older →
-        (from_decision xs ≡ d ∷ older → IsLastDecision (assigned_of xs)
-        (assigned d (assigned_of older)) (assigned_of older)) →
-        IsLastDecision (assigned_of (x ∷ xs)) (assigned d (assigned_of older)) (assigned_of older)
-    by None none is deeper =
-        let same : x ≡ d = cc in
-        let rest : xs ≡ older = cc in
-        let trail = assigned_of xs in
-        let up : after_entry x.reason (level_of trail) ≡ suc (level_of trail) = ap
-        (λ (r : Option ℕ). after_entry r (level_of trail)) none in
-        let here : IsLastDecision (assigned_of (x ∷ xs)) (assigned x trail) trail = record {
-          has = (zero, omega arith, refl);
-          no_reason = none;
-          at = refl;
-          level = up;
-          lesson = ap (λ (r : Option ℕ). negated_decisions trail ++ decided x.lit r) none;
-          back = up_to_below (level_of trail) (assigned x trail) trail (omega (arith, up)) ∙
-              up_to_current (level_of trail) trail (assigned_levels xs) (omega arith);
-          inside = λ e has. (suc has.0, omega (arith, has.1), has.2);
-        } in
-        subst (λ (y : Entry). IsLastDecision (assigned_of (x ∷ xs)) (assigned y (assigned_of older))
-        (assigned_of older)) same
-        (subst (λ (ys : List Entry). IsLastDecision (assigned_of (x ∷ xs))
-        (assigned x (assigned_of ys)) (assigned_of ys)) rest here)
-    by (Some id) some is deeper =
-        let earlier = deeper is in
-        let trail = assigned_of xs in
-        let same : after_entry x.reason (level_of trail) ≡ level_of trail = ap
-        (λ (r : Option ℕ). after_entry r (level_of trail)) some in
-        record {
-          has = (suc earlier.has.0, omega (arith, earlier.has.1), earlier.has.2);
-          no_reason = earlier.no_reason;
-          at = earlier.at ∙ sym same;
-          level = same ∙ earlier.level;
-          lesson = ap (λ (r : Option ℕ). negated_decisions trail ++ decided x.lit r) some ∙
-              append-nil (negated_decisions trail) ∙ earlier.lesson;
-          back = up_to_below (level_of (assigned_of older)) (assigned x trail) trail
-              (omega (arith, same, earlier.level)) ∙ earlier.back;
-          inside = λ e has. let in_older = earlier.inside e has in
-              (suc in_older.0, omega (arith, in_older.1), in_older.2);
-        }
-
-pub no_decision : (entries : List Entry) → from_decision entries ≡ [] → HasNoDecision
-    (assigned_of entries)
-no_decision [] is = record { level = refl; lesson = refl }
-no_decision (x ∷ xs) is = by x.reason refl is (no_decision xs)
-  where
-    by : (r : Option ℕ) → x.reason ≡ r → from_entry x r xs (from_decision xs) ≡ [] →
-        (from_decision xs ≡ [] → HasNoDecision (assigned_of xs)) → HasNoDecision
-        (assigned_of (x ∷ xs))
-    by None none is deeper = cc
-    by (Some id) some is deeper =
-        let earlier = deeper is in
-        let trail = assigned_of xs in
-        record {
-          level = ap (λ (r : Option ℕ). after_entry r (level_of trail)) some ∙ earlier.level;
-          lesson = ap (λ (r : Option ℕ). negated_decisions trail ++ decided x.lit r) some ∙
-              append-nil (negated_decisions trail) ∙ earlier.lesson;
-        }
-
--- the newest decision, if there is one
-pub newest : (entries : List Entry) → HasNoDecision (assigned_of entries)
-    ⊎ ((d : Entry) × (older : List Entry) × (from_decision entries ≡ d ∷ older))
-newest entries = by (from_decision entries) refl where
-  by : (xs : List Entry) → from_decision entries ≡ xs → HasNoDecision (assigned_of entries)
-      ⊎ ((d : Entry) × (older : List Entry) × (from_decision entries ≡ d ∷ older))
-  by [] is = inl (no_decision entries is)
-  by (d ∷ older) is = inr (d, older, is)
+    by : (r : Option ℕ) → e.reason ≡ r → Newest older → Newest (e ∷ older)
+    by None none deeper =
+        let up : after_entry e.reason (level_of older) ≡ suc (level_of older) =
+        ap (λ (r : Option ℕ). after_entry r (level_of older)) none in
+        inr (
+          e,
+          older,
+          record {
+            has = (zero, omega arith, refl);
+            no_reason = none;
+            at = levels.0;
+            level = up;
+            lesson = ap (λ (r : Option ℕ). negated_decisions older ++ decided e.lit r) none;
+            back =
+                up_to_below (level_of older) e older (omega (arith, up, levels.0))
+                ∙ up_to_current (level_of older) older levels.1 (omega arith);
+            inside = λ f has. (suc has.0, omega (arith, has.1), has.2);
+            levels = levels.1;
+          },
+        )
+    by (Some id) some deeper =
+        let same : after_entry e.reason (level_of older) ≡ level_of older =
+        ap (λ (r : Option ℕ). after_entry r (level_of older)) some in
+        let lesson : negated_decisions (e ∷ older) ≡ negated_decisions older =
+        ap (λ (r : Option ℕ). negated_decisions older ++ decided e.lit r) some
+        ∙ append-nil (negated_decisions older) in
+        elim deeper [
+          | inl none ↦ inl (record { level = same ∙ none.level; lesson = lesson ∙ none.lesson })
+          | inr found ↦
+              let last = found.2 in
+              inr (
+                found.0,
+                found.1,
+                record {
+                  has = (suc last.has.0, omega (arith, last.has.1), last.has.2);
+                  no_reason = last.no_reason;
+                  at = last.at ∙ sym same;
+                  level = same ∙ last.level;
+                  lesson = lesson ∙ last.lesson;
+                  back =
+                      up_to_below (level_of found.1) e older
+                      (omega (arith, same, last.level, levels.0)) ∙ last.back;
+                  inside =
+                      λ f has. let there = last.inside f has in
+                      (suc there.0, omega (arith, there.1), there.2);
+                  levels = last.levels;
+                },
+              )
+        ]
 
 -- a decision is of level 1 or above, and of no higher one than the trail's
-decision_level : (entries : List Entry) (e : Assigned) → Contains (assigned_of entries) e → e.reason
-    ≡ None →
-    (1 ≤ e.level) × (e.level ≤ level_of (assigned_of entries))
-decision_level [] e (k, within, is) none = absurd (omega (arith, within))
-decision_level (x ∷ xs) e (zero, within, is) none =
-    let same : assigned x (assigned_of xs) ≡ e = is in
+decision_level : (trail : List Assigned) (e : Assigned) → AreLevels trail → Contains trail e →
+    e.reason ≡ None → (1 ≤ e.level) × (e.level ≤ level_of trail)
+decision_level [] e levels (k, within, is) none = absurd (omega (arith, within))
+decision_level (x ∷ xs) e levels (zero, within, is) none =
+    let same : x ≡ e = is in
     let none_too : x.reason ≡ None = ap (λ (y : Assigned). y.reason) same ∙ none in
-    let level : e.level ≡ after_entry x.reason (level_of (assigned_of xs)) = ap
-    (λ (y : Assigned). y.level) (sym same) in
-    let up : after_entry x.reason (level_of (assigned_of xs)) ≡ suc (level_of (assigned_of xs)) = ap
-    (λ (r : Option ℕ). after_entry r (level_of (assigned_of xs))) none_too in
+    let level : e.level ≡ after_entry x.reason (level_of xs) =
+    ap (λ (y : Assigned). y.level) (sym same) ∙ levels.0 in
+    let up : after_entry x.reason (level_of xs) ≡ suc (level_of xs) =
+    ap (λ (r : Option ℕ). after_entry r (level_of xs)) none_too in
     (omega (arith, level, up), omega (arith, level))
-decision_level (x ∷ xs) e (suc k, within, is) none =
-    let earlier = decision_level xs e (k, omega (arith, within), is) none in
+decision_level (x ∷ xs) e levels (suc k, within, is) none =
+    let earlier = decision_level xs e levels.1 (k, omega (arith, within), is) none in
     (earlier.0, below x.reason earlier.1)
   where
-    below : (r : Option ℕ) → e.level ≤ level_of (assigned_of xs) → e.level ≤ after_entry r
-        (level_of (assigned_of xs))
+    below : (r : Option ℕ) → e.level ≤ level_of xs → e.level ≤ after_entry r (level_of xs)
     below None most = omega (arith, most)
     below (Some id) most = most
 
 -- the negated decisions are asserting, back to the level before the newest one
-pub decisions_assert : (entries : List Entry) (d : Entry) (older : List Entry) → from_decision
-    entries ≡ d ∷ older →
-    IsAsserting (assigned_of entries) (level_of (assigned_of entries))
-    (level_of (assigned_of older)) (negation d.lit) (negated_decisions (assigned_of entries))
-decisions_assert entries d older is =
-    let trail = assigned_of entries in
-    let before = assigned_of older in
-    let last = last_decision entries d older is in
-    let clause = negated_decisions before ++ negation d.lit ∷ [] in
-    let asserts : IsAsserting trail (level_of trail) (level_of before) (negation d.lit) clause =
+pub decisions_assert : (trail : List Assigned) (d : Assigned) (older : List Assigned) →
+    IsLastDecision trail d older →
+    IsAsserting trail (level_of trail) (level_of older) (negation d.lit) (negated_decisions trail)
+decisions_assert trail d older last =
+    let clause = negated_decisions older ++ negation d.lit ∷ [] in
+    let Lower = λ (l : Lit). (l ≡ negation d.lit)
+    ⊎ ((j : ℕ) × (1 ≤ j) × (j ≤ level_of older) × IsFalseFrom trail j l) in
+    let asserts : IsAsserting trail (level_of trail) (level_of older) (negation d.lit) clause =
     record {
-      has = Contains-push (negated_decisions before) (negation d.lit);
-      last = (assigned d before, last.has, refl, last.at);
+      has = Contains-push (negated_decisions older) (negation d.lit);
+      last = (d, last.has, refl, last.at);
       below = omega (arith, last.level);
-      lower = All-push (λ l. (l ≡ negation d.lit) ⊎
-          ((j : ℕ) × (1 ≤ j) × (j ≤ level_of before) × IsFalseFrom trail j l))
-          (negated_decisions before) (negation d.lit)
-          (All-weaker (Contains (negated_decisions before))
-          (λ l. (l ≡ negation d.lit) ⊎ ((j : ℕ) × (1 ≤ j) × (j ≤ level_of before) × IsFalseFrom
-          trail j l))
+      lower = All-push Lower (negated_decisions older) (negation d.lit)
+          (All-weaker (Contains (negated_decisions older)) Lower
           (λ l has.
-          let e = decision_of before l has in
-          let levels = decision_level older e.0 e.1 e.2 in
+          let e = decision_of older l has in
+          let levels = decision_level older e.0 last.levels e.1 e.2 in
           inr ((e.0).level, levels.0, levels.1, (e.0, last.inside e.0 e.1, e.3, refl)))
-          (negated_decisions before) (All-contains_itself (negated_decisions before))) (inl refl);
-      highest = λ some. elim (newest older) [
+          (negated_decisions older) (All-contains_itself (negated_decisions older))) (inl refl);
+      highest = λ some. elim (newest older last.levels) [
         | inl none ↦ absurd (omega (arith, some, none.level))
         | inr found ↦
-            let second = last_decision older found.0 found.1 found.2 in
-            let e = assigned found.0 (assigned_of found.1) in
-            let there : Contains (negated_decisions before) (negation e.lit) = has_decision before e
-            second.has second.no_reason in (
+            let e = found.0 in
+            let second = found.2 in
+            let there : Contains (negated_decisions older) (negation e.lit) =
+            has_decision older e second.has second.no_reason in (
               negation e.lit,
-              Contains-append_left (negated_decisions before) (negation d.lit ∷ []) (negation e.lit)
-                  there,
+              Contains-append_left (negated_decisions older) (negation d.lit ∷ [])
+                  (negation e.lit) there,
               (e, last.inside e second.has, refl, second.at),
             )
       ];
     } in
-    subst (IsAsserting trail (level_of trail) (level_of before) (negation d.lit)) (sym last.lesson)
+    subst (IsAsserting trail (level_of trail) (level_of older) (negation d.lit)) (sym last.lesson)
     asserts
-
--- entries and their levels have the same literals
-pub same_lits : (entries : List Entry) → lits_of (assigned_of entries) ≡ literals entries
-same_lits [] = refl
-same_lits (e ∷ older) = ap (λ (ls : List Lit). e.lit ∷ ls) (same_lits older)
-
-pub same_length : (entries : List Entry) → length (assigned_of entries) ≡ length entries
-same_length [] = refl
-same_length (e ∷ older) = ap suc (same_length older)

@@ -17,9 +17,9 @@ use Rattle.sat_clause.specs.Live.{Live, clause_at, named, put}
 use Rattle.sat_clause.specs.Rup.{follow, lead_on, reading_of, rup}
 use Rattle.sat_clause.proofs.LiteralLaws.{among_contains, negation_differs, variable_negation}
 use Rattle.sat_clause.proofs.LiveLaws.{inputs_at, inputs_none}
-use Rattle.sat_core.specs.Kept.{AreAmong, AreBelow, AreKept, HasOnce, is_always_true}
+use Rattle.sat_core.specs.Kept.{AreAmong, AreBelow, AreKept, HasOnce, SameLive, is_always_true}
 use Rattle.sat_core.specs.Underway.{with_input}
-use Rattle.sat_core.proofs.SameLaws.{same_conflict, same_unit}
+use Rattle.sat_core.proofs.SameLaws.{same_back, same_conflict, same_then, same_unit}
 
 -- of a variable one literal stands in a clause that has none twice
 of_one_variable : (clause : Clause) (a b : Lit) → HasOnce clause → variable a ≡ variable b →
@@ -214,14 +214,31 @@ pub more_below : (id : ℕ) (live : Live) → AreBelow id live → AreBelow (suc
 more_below id live below n c at = let old = below n c at in (old.0, omega (arith, old.1))
 
 -- maps with the same clauses
-abbrev pub SameLive : Live → Live → Type 0
-SameLive live now = (id : ℕ) → clause_at live id ≡ clause_at now id
+pub kept_alike : (kept more live now : Live) → SameLive kept more → SameLive live now →
+    AreKept kept live → AreKept more now
+kept_alike kept more live now same_kept same_live are = record {
+  are_live = λ id c at.
+      let d = are.are_live id c (same_kept id ∙ at) in (d.0, sym (same_live id) ∙ d.1, d.2);
+  are_all = λ id d at not_always.
+      let c = are.are_all id d (same_live id ∙ at) not_always in
+      (c.0, sym (same_kept id) ∙ c.1, c.2);
+  once = λ id c at. are.once id c (same_kept id ∙ at);
+}
 
-pub kept_alike : (kept live now : Live) → SameLive live now → AreKept kept live → AreKept kept now
-kept_alike kept live now same are = record {
-  are_live = λ id c at. let d = are.are_live id c at in (d.0, sym (same id) ∙ d.1, d.2);
-  are_all = λ id d at not_always. are.are_all id d (same id ∙ at) not_always;
-  once = are.once;
+-- the same clauses in other orders
+pub kept_same : (kept now live : Live) → AreAmong kept now → AreAmong now kept →
+    ((id : ℕ) (c : Clause) → clause_at now id ≡ Some c → HasOnce c) → AreKept kept live →
+    AreKept now live
+kept_same kept now live among back once are = record {
+  are_live = λ id c at.
+      let x = back id c at in
+      let d = are.are_live id x.0 x.1 in
+      (d.0, d.1, same_then c x.0 d.0 x.2 d.2);
+  are_all = λ id d at not_always.
+      let x = are.are_all id d at not_always in
+      let c = among id x.0 x.1 in
+      (c.0, c.1, same_then c.0 x.0 d (same_back x.0 c.0 c.2) x.2);
+  once = once;
 }
 
 pub kept_nil : AreKept [] []

@@ -202,7 +202,7 @@ module _ (clauses : Live) (trail : List Assigned) (level back : ℕ) (first : Li
       (sym (variable_negation e.lit) ∙ ap variable same ∙ variable_negation l))
 
   -- from the level `back` on its other literals are false
-  all_false_or : (j : ℕ) → back ≤ j → All (IsFalseOr (made_false (up_to j trail)) first) clause
+  pub all_false_or : (j : ℕ) → back ≤ j → All (IsFalseOr (made_false (up_to j trail)) first) clause
   all_false_or j most =
       All-weaker (λ l. (l ≡ first) ⊎ ((k : ℕ) × (1 ≤ k) × (k ≤ back) × IsFalseFrom trail k l))
       (IsFalseOr (made_false (up_to j trail)) first)
@@ -290,7 +290,7 @@ module _ (clauses : Live) (vars : ℕ) (trail : List Assigned) (back : ℕ) (fir
       variable_negation e.lit in
       (omega (arith, same, e_in.0), omega (arith, same, e_in.1))
 
-  first_is_open : IsOpen (lits_of (up_to back trail)) first
+  pub first_is_open : IsOpen (lits_of (up_to back trail)) first
   first_is_open =
       open_from_entries (up_to back trail) first (λ f has.
       let low : nat_le f.level back ≡ true = All-contains

@@ -180,7 +180,8 @@ higher None level = omega arith
 higher (Some id) level = omega arith
 
 -- no entry is above the level
-none_above : (trail : List Assigned) → AreLevels trail → All (λ e. e.level ≤ level_of trail) trail
+pub none_above : (trail : List Assigned) → AreLevels trail
+    → All (λ e. e.level ≤ level_of trail) trail
 none_above [] levels = All-nil (λ (e : Assigned). e.level ≤ 0)
 none_above (e ∷ older) levels =
     let up : level_of older ≤ after_entry e.reason (level_of older) = higher e.reason

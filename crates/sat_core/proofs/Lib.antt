@@ -1,7 +1,11 @@
+pub mod AttachLaws
+pub mod AttachedLaws
+pub mod DecideLaws
 pub mod DecisionLaws
 pub mod DistinctLaws
 pub mod EarlierLaw
 pub mod KeptLaws
+pub mod LearnLaws
 pub mod LessonLaws
 pub mod LevelLaws
 pub mod ListLaws
@@ -9,6 +13,5 @@ pub mod LogLemmas
 pub mod ModelLemmas
 pub mod SameLaws
 pub mod SearchLaws
-pub mod StoreLemmas
 pub mod UnderwayLemmas
-pub mod ValueLemmas
+pub mod WatchLaws

@@ -1,6 +1,6 @@
 -- Clauses with the same literals say the same.
-use Rattle.std.proofs.Common.{◌≡◌, true, List, Contains}
-use Rattle.std.proofs.lemmas.List.Elements.{All-contains, All-weaker}
+use Rattle.std.proofs.Common.{◌≡◌, true, List, All, Contains, subst}
+use Rattle.std.proofs.lemmas.List.Elements.{All-contains, All-contains_itself, All-weaker}
 use Rattle.sat_clause.specs.declared.literal.Lit.{Lit}
 use Rattle.sat_clause.specs.declared.reading.Reading.TheVariants.{Conflict, Unit}
 use Rattle.sat_clause.specs.Literal.{Clause, is_among}
@@ -33,3 +33,18 @@ same_quiet s c d same quiet = record {
   no_conflict = λ e. quiet.no_conflict (same_conflict s d c (same.1, same.0) e);
   no_unit = λ l e. quiet.no_unit l (same_unit s l d c (same.1, same.0) e);
 }
+
+pub same_itself : (c : Clause) → SameLiterals c c
+same_itself c = (All-contains_itself c, All-contains_itself c)
+
+pub same_back : (c d : Clause) → SameLiterals c d → SameLiterals d c
+same_back c d same = (same.1, same.0)
+
+pub same_then : (c d e : Clause) → SameLiterals c d → SameLiterals d e → SameLiterals c e
+same_then c d e first second = (
+  All-weaker (Contains d) (Contains e) (λ x has. All-contains_in e d x second.0 has) c first.0,
+  All-weaker (Contains d) (Contains c) (λ x has. All-contains_in c d x first.1 has) e second.1,
+)
+  where
+    All-contains_in : (e d : Clause) (x : Lit) → All (Contains e) d → Contains d x → Contains e x
+    All-contains_in e d x all (k, within, is) = subst (Contains e) is (all k x within)

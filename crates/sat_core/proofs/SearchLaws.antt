@@ -1,234 +1,473 @@
--- How a search lies, with one more entry on its trail and with one more clause.
-use Rattle.std.proofs.Common.{inl, inr, ◌≡◌, ◌≢◌, ◌≤◌, ◌+◌, ℕ, suc, ℤ, pos, Bool, true, false, List, [], ◌∷◌, ◌++◌, length, Option, None, Some, All, refl, sym, ap, ◌∙◌, subst, arith}
-use Rattle.std.specs.Prelude.{IsTrue}
-use Rattle.std.proofs.lemmas.List.{length-append}
-use Rattle.std.proofs.lemmas.List.Elements.{All-weaker}
+-- How a search lies, with one more input, with a single clause attached, behind decisions, and with
+-- one more learned clause.
+use Rattle.std.proofs.Common.{inl, inr, ◌⊎◌, ◌≡◌, ◌≢◌, ◌==◌, ◌<◌, ◌≤◌, ◌+◌, ◌-◌, ℕ, suc, ℤ, pos, Bool, true, false, cond, List, [], ◌∷◌, ◌++◌, length, reverse, Option, None, Some, slice_get, All, refl, sym, ap, ◌∙◌, subst, arith}
+use Rattle.std.proofs.lemmas.Bool.{cases_eq, eqb-true}
+use Rattle.std.proofs.lemmas.List.{length-reverse, reverse-append}
+use Rattle.std.proofs.lemmas.List.Elements.{All-cons, All-head, All-nil, All-tail, All-weaker}
+use Rattle.std.proofs.lemmas.Option.{slice_get_within}
+use Rattle.list_laws.proofs.Places.{get-cases, some_is}
 use Rattle.sat_clause.specs.declared.literal.Lit.{Lit}
-use Rattle.sat_clause.specs.declared.reading.Reading.TheVariants.{Conflict, Unit}
-use Rattle.sat_clause.specs.Formula.{Cnf, makes_true}
-use Rattle.sat_clause.specs.Judge.{inputs}
+use Rattle.sat_clause.specs.declared.reading.Reading.TheVariants.{Conflict}
 use Rattle.sat_clause.specs.Learned.{IsFresh, IsSimple, SameLiterals}
 use Rattle.sat_clause.specs.Literal.{Clause, IsLiteral, IsWithin, is_among, negation}
-use Rattle.sat_clause.specs.Live.{clause_at, put}
-use Rattle.sat_clause.specs.Rup.{Reads, rup}
-use Rattle.sat_clause.specs.Trail.{IsOpen, falses}
-use Rattle.sat_core.specs.declared.entry.Entry.{Entry}
+use Rattle.sat_clause.specs.Live.{Live, clause_at, put}
+use Rattle.sat_clause.specs.Rup.{Reads, reading_of, rup}
+use Rattle.sat_clause.proofs.ReadingLaws.{all_conflict}
+use Rattle.sat_clause.specs.Trail.{IsClosed}
+use Rattle.sat_arena.specs.declared.clause_ref.ClauseRef.{ClauseRef}
+use Rattle.sat_watch.specs.declared.entry.TrailEntry.{TrailEntry}
+use Rattle.sat_watch.specs.Trail.{AreWithin, IsOnce, falses}
+use Rattle.sat_watch.specs.Watched.{AreFalse}
+use Rattle.sat_watch.specs.Watches.{Attached, Attaches, HasLevels, IsSettledAt, IsSettledState, WatchState, id_at, is_attached}
 use Rattle.sat_core.specs.ClauseList.{ClauseListState}
-use Rattle.sat_core.specs.Kept.{AreBelow, AreKept, HasOnce, is_always_true}
+use Rattle.sat_core.specs.Deciding.{AreValuesOf, GoesOn, IsFalse}
+use Rattle.sat_core.specs.Kept.{AreAmong, AreBelow, HasOnce, SameLive}
 use Rattle.sat_core.specs.Lesson.{negated_decisions, reason_ids, with_reasons}
-use Rattle.sat_core.specs.Levels.{AreSettled, Assigned, IsSettledTrail, level_of, made_false, up_to}
-use Rattle.sat_core.specs.SearchStore.{AreTrue, IsLesson, IsSearchStore, assigned_of}
-use Rattle.sat_core.specs.Stands.{SearchValue, StandsFor}
-use Rattle.sat_core.specs.Trail.{TrailState, from_decision, literals}
-use Rattle.sat_core.specs.Underway.{with_input}
-use Rattle.sat_core.proofs.DecisionLaws.{decisions_assert, decisions_derived, decisions_simple, last_decision, marked_reasons, newest, same_lits}
-use Rattle.sat_core.proofs.KeptLaws.{inputs_put, kept_alike, kept_put, kept_skip, none_next, none_zero, put_below}
-use Rattle.sat_core.proofs.LessonLaws.{asserting_is_fresh, derived_follows, settled_again}
-use Rattle.sat_core.proofs.LevelLaws.{settled_implied, settled_with_decision}
+use Rattle.sat_core.specs.Levels.{AreSettled, Assigned, IsSettledTrail, level_of, lits_of, made_false}
+use Rattle.sat_core.specs.SearchStore.{AreTaken, AreTrue, IsKeeping, IsLesson, IsLeveled, IsSearchStore, SameKept, assigned, assigned_in, live_of, search_value}
+use Rattle.sat_core.specs.Single.{IsTaken}
+use Rattle.sat_core.specs.Stands.{SearchValue}
+use Rattle.sat_core.proofs.AttachedLaws.{added_attached, added_id, keeping_added, last_is, new_place, same_permuted, simple_permuted}
+use Rattle.sat_core.proofs.DecisionLaws.{decisions_assert, decisions_derived, decisions_simple, marked_reasons, newest}
+use Rattle.sat_core.proofs.KeptLaws.{more_below, none_next, none_zero, put_below}
+use Rattle.sat_core.proofs.LessonLaws.{asserting_is_fresh, derived_follows}
 use Rattle.sat_core.proofs.ModelLemmas.{quiet_is_true}
+use Rattle.sat_core.proofs.SameLaws.{same_itself, same_then}
+use Rattle.sat_core.proofs.WatchLaws.{among_same, caused_here, false_in, falses_in, keeping_same, lits_in, same_among, settled_here, settled_in, single_found, value_added, value_again, value_found, value_origin}
 
--- what the entries make false, with and without their levels
-pub same_falses : (entries : List Entry) → made_false (assigned_of entries) ≡ falses
-    (literals entries)
-same_falses entries = ap falses (same_lits entries)
+-- IDS
 
-module _ (inputs added : ℕ) (known : ClauseListState) (trail now : TrailState)
-    (store : IsSearchStore inputs added known trail) (vars : now.vars ≡ trail.vars) where
-  with_entry : (e : Entry) → now.entries ≡ e ∷ trail.entries → IsSettledTrail known.clauses
-      known.vars (assigned_of (e ∷ trail.entries)) →
-      IsSearchStore inputs added known now
-  with_entry e entries holds = record {
-    few_ids = store.few_ids;
-    few = store.few;
-    few_vars = store.few_vars;
-    trail_vars = vars ∙ store.trail_vars;
-    below = store.below;
-    holds = rw entries holds;
-  }
+-- an attached clause has an id below the next
+attached_below : (vars id : ℕ) (singles : Live) (ks : List Attached) (c : ClauseRef)
+    → IsKeeping vars singles ks → AreBelow id (singles ++ live_of ks) →
+    is_attached ks c ≡ true → id_at ks c < id
+attached_below vars id singles ks c keeps below is =
+    let x = value_found vars singles ks keeps c is in (below (id_at ks c) x.0 x.1).1
 
-  -- with a literal that a clause makes true
-  implied_trail : (l : Lit) (id : ℕ) → IsWithin known.vars l → Reads
-      (made_false (assigned_of trail.entries)) (clause_at known.clauses id) (Unit l) →
-      IsSettledTrail known.clauses known.vars
-      (assigned_of (record { lit = l; reason = Some id } ∷ trail.entries))
-  implied_trail l id within reads =
-      settled_implied known.clauses known.vars (assigned_of trail.entries) l id store.holds within
-      reads
+below_alike : (id : ℕ) (live now : Live) → SameLive live now → AreBelow id live → AreBelow id now
+below_alike id live now same below n c at = below n c (same n ∙ at)
 
-  pub implied_open : (l : Lit) (id : ℕ) → IsWithin known.vars l → Reads
-      (made_false (assigned_of trail.entries)) (clause_at known.clauses id) (Unit l) →
-      IsOpen (literals trail.entries) l
-  implied_open l id within reads =
-      subst (λ (ls : List Lit). IsOpen ls l) (same_lits trail.entries)
-      (implied_trail l id within reads).once.0
+below_among : (id : ℕ) (live now : Live) → AreAmong now live → AreBelow id live → AreBelow id now
+below_among id live now among below n c at = let x = among n c at in below n x.0 x.1
 
-  pub store_implied : (l : Lit) (id : ℕ) → IsWithin known.vars l → Reads
-      (made_false (assigned_of trail.entries)) (clause_at known.clauses id) (Unit l) →
-      now.entries ≡ record { lit = l; reason = Some id } ∷ trail.entries → IsSearchStore inputs
-      added known now
-  store_implied l id within reads entries =
-      with_entry (record { lit = l; reason = Some id }) entries (implied_trail l id within reads)
+-- single clauses and the others have no variable twice
+short_once : (x : Clause) → length x ≤ 1 → HasOnce x
+short_once x few i j d below within same = omega (arith, few, below, within)
 
-  -- with a decision where the clauses are settled
-  pub store_decided : (l : Lit) → IsWithin known.vars l → IsOpen (literals trail.entries) l →
-      AreSettled known.clauses (made_false (assigned_of trail.entries)) →
-      now.entries ≡ record { lit = l; reason = None } ∷ trail.entries → IsSearchStore inputs added
-      known now
-  store_decided l within free settled entries =
-      with_entry (record { lit = l; reason = None }) entries
-      (settled_with_decision known.clauses known.vars (assigned_of trail.entries) l store.holds
-      settled within
-      (subst (λ (ls : List Lit). IsOpen ls l) (sym (same_lits trail.entries)) free))
+store_once : (i a t : ℕ) (s : ClauseListState) (w : WatchState) → IsSearchStore i a t s w
+    → (id : ℕ) (x : Clause) →
+    clause_at (s.clauses ++ live_of w.clauses) id ≡ Some x → HasOnce x
+store_once i a t s w store id x at =
+    elim (value_origin w.vars s.clauses w.clauses store.keeps id x at) [
+      | inl single ↦ short_once x (store.short id x single)
+      | inr from ↦ subst HasOnce from.3 (store.keeps.simple from.0 from.1).once
+    ]
 
--- with the clause of the negated decisions, back where the newest of them was made
-pub store_learned : (inputs added : ℕ) (known more : ClauseListState) (trail now : TrailState)
-    (d : Entry) (older : List Entry) (clause : Clause) →
-    IsSearchStore inputs added known trail → inputs + suc added ≤ 4294967295 → from_decision
-    trail.entries ≡ d ∷ older →
-    clause ≡ negated_decisions (assigned_of trail.entries) → more.vars ≡ known.vars → more.clauses ≡
-    put known.clauses (suc (inputs + added)) clause →
-    now.vars ≡ trail.vars → now.entries ≡ record
-    { lit = negation d.lit; reason = Some (suc (inputs + added)) } ∷ older →
-    IsSearchStore inputs (suc added) more now
-store_learned inputs added known more trail now d older clause store few found lesson vars clauses
-    same entries =
-    let id : ℕ = suc (inputs + added) in
-    let last = last_decision trail.entries d older found in
-    let new : clause_at known.clauses id ≡ None = none_next id known.clauses store.below in
-    let again = settled_again known.clauses known.vars (assigned_of trail.entries)
-    (level_of (assigned_of older)) (negation d.lit)
-    (negated_decisions (assigned_of trail.entries)) store.holds
-    (decisions_assert trail.entries d older found) id new in
-    let holds : IsSettledTrail (put known.clauses id clause) known.vars
-    (assigned_of (record { lit = negation d.lit; reason = Some id } ∷ older)) =
-    subst (λ (t : List Assigned). IsSettledTrail (put known.clauses id clause) known.vars
-    (record { lit = negation d.lit; level = level_of (assigned_of older); reason = Some id } ∷
-    t)) last.back
-    (subst (λ (x : Clause). IsSettledTrail (put known.clauses id x) known.vars
-    (record { lit = negation d.lit; level = level_of (assigned_of older); reason = Some id } ∷
-    up_to (level_of (assigned_of older)) (assigned_of trail.entries))) (sym lesson) again) in
-    let up : id ≡ inputs + suc added = omega arith in
-    record {
-      few_ids = few;
-      few = rw clauses (omega (arith, store.few));
-      few_vars = rw vars store.few_vars;
-      trail_vars = same ∙ store.trail_vars ∙ sym vars;
-      below = rw clauses (subst (λ (n : ℕ). AreBelow (suc n) (put known.clauses id clause)) up
-          (put_below id known.clauses clause (omega arith) store.below));
-      holds = rw (clauses, vars, entries) holds;
-    }
+-- ONE MORE INPUT
 
--- what is learned where a clause is false
-module _ (inputs added : ℕ) (known : ClauseListState) (trail : TrailState)
-    (store : IsSearchStore inputs added known trail) where
-  abbrev entries : List Assigned
-  entries = assigned_of trail.entries
-
-  abbrev value : SearchValue
-  value = record {
-    vars = known.vars;
-    inputs = inputs;
-    added = added;
-    clauses = known.clauses;
-    trail
-        = entries;
-  }
-
-  decisions_follow : (id : ℕ) (o : Option Clause) → clause_at known.clauses id ≡ o → Reads
-      (made_false entries) o Conflict →
-      rup known.clauses (negated_decisions entries) (reason_ids entries ++ pos id ∷ []) ≡ None
-  decisions_follow id None at reads = absurd reads
-  decisions_follow id (Some conflict) at reads =
-      subst (λ (ids : List ℤ). rup known.clauses (negated_decisions entries) (ids ++ pos id ∷ []) ≡
-      None) (marked_reasons entries)
-      (derived_follows known.clauses (none_zero (suc (inputs + added)) known.clauses store.below)
-      (negated_decisions entries) entries (with_reasons entries) id conflict
-      store.holds.once store.holds.caused at
-      (decisions_derived known.clauses entries conflict store.holds.once store.holds.caused
-      reads))
-
-  decisions_fresh : negated_decisions entries ≢ [] → IsFresh known.clauses
-      (negated_decisions entries)
-  decisions_fresh some =
-      elim (newest trail.entries) [
-        | inl none ↦ absurd (some none.lesson)
-        | inr found ↦
-            asserting_is_fresh known.clauses entries (level_of entries)
-            (level_of (assigned_of found.1)) (negation (found.0).lit)
-            (negated_decisions entries)
-            store.holds.once (decisions_assert trail.entries found.0 found.1 found.2)
-            store.holds.settled
-      ]
-
-  pub lesson_is : (id : ℕ) (clause : Clause) (hints : List ℤ) → Reads (made_false entries)
-      (clause_at known.clauses id) Conflict →
-      clause ≡ negated_decisions entries → hints ≡ reason_ids entries ++ pos id ∷ [] → IsLesson
-      value clause hints
-  lesson_is id clause hints reads is hints_are =
-      let simple : IsSimple known.vars (negated_decisions entries) = decisions_simple known.vars
-      entries store.holds.within store.holds.once in
-      record {
-        is = is;
-        simple = rw is simple;
-        literals = rw is (All-weaker (IsWithin known.vars) IsLiteral
-            (λ l inside. (inside.0, omega (arith, inside.1, store.few_vars)))
-            (negated_decisions entries) simple.within);
-        follows = rw (is, hints_are) (decisions_follow id (clause_at known.clauses id) refl reads);
-        fresh = λ some. rw is (decisions_fresh (λ none. some (is ∙ none)));
-      }
-
--- values that make true what is not false make the clauses true where they are settled
-pub true_values : (inputs added : ℕ) (known : ClauseListState) (entries : List Entry)
-    (values : List Bool) →
-    length values ≡ known.vars → ((l : Lit) → IsWithin known.vars l → is_among
-    (falses (literals entries)) l ≡ false → IsTrue (makes_true values l)) →
-    AreSettled known.clauses (made_false (assigned_of entries)) →
-    AreTrue (record {
-      vars = known.vars;
-      inputs = inputs;
-      added = added;
-      clauses = known.clauses;
-      trail = assigned_of entries;
-    }) values
-true_values inputs added known entries values many truth settled = record {
-  many = many;
-  each = λ id c at within.
-      quiet_is_true known.vars values (made_false (assigned_of entries)) c
-      (λ l inside not_false. truth l inside
-      (subst (λ (set : List Lit). is_among set l ≡ false) (same_falses entries) not_false))
-      (subst (λ (n : ℕ). All (IsWithin n) c) many within) (settled id c at);
+-- one that is always true
+pub store_skipped : (i t : ℕ) (s : ClauseListState) (w : WatchState) → IsSearchStore i 0 t s w
+    → suc i ≤ 4294967295 → IsSearchStore (suc i) 0 t s w
+store_skipped i t s w store few = record {
+  few_ids = omega (arith, few);
+  few = omega (arith, store.few);
+  few_vars = store.few_vars;
+  same_vars = store.same_vars;
+  below = subst (λ (n : ℕ). AreBelow n (s.clauses ++ live_of w.clauses)) (let up : suc (suc (i + 0))
+      ≡ suc (suc i + 0) = omega arith in
+      up) (more_below (suc (i + 0)) (s.clauses ++ live_of w.clauses) store.below);
+  few_taken = store.few_taken;
+  short = store.short;
+  keeps = store.keeps;
+  taken_are = store.taken_are;
+  waiting = store.waiting;
+  leveled = store.leveled;
+  none_due = store.none_due;
 }
 
--- one more input clause
-module _ (old new : SearchValue) (front : Cnf) (lits : Clause) (stands : StandsFor old front [])
-    (below : AreBelow (suc old.inputs) old.clauses) (vars : new.vars ≡ old.vars)
-    (more : new.inputs ≡ suc old.inputs) (same : new.added ≡ old.added) where
-  now_stands : AreKept new.clauses (put (inputs front) (suc (length front.clauses)) lits) →
-      StandsFor new (with_input front lits) []
-  now_stands are = record {
-    vars = vars ∙ stands.vars;
-    inputs = omega (arith, more, stands.inputs, length-append front.clauses (lits ∷ []));
-    added = same ∙ stands.added;
-    clauses = kept_alike new.clauses (put (inputs front) (suc (length front.clauses)) lits)
-        (inputs (with_input front lits)) (inputs_put front lits) are;
+-- at the start of a trail the level is 0
+pub level_zero : (w : WatchState) → IsLeveled w → assigned_in w.clauses w.trail ≡ [] → w.level ≡ 0
+level_zero w leveled none = leveled.current ∙ ap level_of none
+
+-- a single clause
+pub store_single : (i t : ℕ) (s more : ClauseListState) (w : WatchState) (kept : Clause)
+    → IsSearchStore i 0 t s w → suc i ≤ 4294967295 →
+    assigned_in w.clauses w.trail ≡ [] → length kept ≤ 1 → more.vars ≡ s.vars
+    → more.clauses ≡ put s.clauses (suc i) kept → IsSearchStore (suc i) 0 t more w
+store_single i t s more w kept store few none short vars is =
+    let id : ℕ = suc i in
+    let next : suc (i + 0) ≡ id = omega arith in
+    let below : AreBelow id (s.clauses ++ live_of w.clauses) =
+    subst (λ (n : ℕ). AreBelow n (s.clauses ++ live_of w.clauses)) next store.below in
+    record {
+      few_ids = omega (arith, few);
+      few = rw is (omega (arith, store.few));
+      few_vars = store.few_vars;
+      same_vars = vars ∙ store.same_vars;
+      below = rw is (subst (λ (n : ℕ). AreBelow n (put (s.clauses ++ live_of w.clauses) id kept))
+          (let up : suc id ≡ suc (suc i + 0) = omega arith in
+          up) (put_below id (s.clauses ++ live_of w.clauses) kept (omega arith) below));
+      few_taken = rw is (omega (arith, store.few_taken));
+      short = rw is (λ n x at. by_short n x (n == id) at);
+      keeps = rw is (record {
+        stand = store.keeps.stand;
+        ids = λ c d c_is d_is alone one. store.keeps.ids c d c_is d_is
+            (later c c_is below alone) one;
+        agree = λ c x c_is at. store.keeps.agree c x c_is (sym (other c c_is below) ∙ at);
+        simple = store.keeps.simple;
+      });
+      taken_are = rw is (λ k n x lt at. store.taken_are k n x lt (front k n x (omega
+          (arith, lt, store.few_taken)) at));
+      waiting = inr (level_zero w store.leveled none);
+      leveled = store.leveled;
+      none_due = store.none_due;
+    }
+  where
+    by_short : (n : ℕ) (x : Clause) (b : Bool) → cond b (Some kept) (clause_at s.clauses n) ≡ Some x
+        → length x ≤ 1
+    by_short n x true at = let same : kept ≡ x = cc in
+        subst (λ (y : Clause). length y ≤ 1) same short
+    by_short n x false at = store.short n x at
+
+    other : (c : ClauseRef) → is_attached w.clauses c ≡ true
+        → AreBelow (suc i) (s.clauses ++ live_of w.clauses) →
+        clause_at (put s.clauses (suc i) kept) (id_at w.clauses c)
+        ≡ clause_at s.clauses (id_at w.clauses c)
+    other c is below = by (id_at w.clauses c == suc i) refl
+      where
+        by : (b : Bool) → (id_at w.clauses c == suc i) ≡ b
+            → cond b (Some kept) (clause_at s.clauses (id_at w.clauses c))
+            ≡ clause_at s.clauses (id_at w.clauses c)
+        by true same =
+            let one = eqb-true (id_at w.clauses c) (suc i) same in
+            let low = attached_below w.vars (suc i) s.clauses w.clauses c store.keeps below is in
+            absurd (omega (arith, one, low))
+        by false differ = refl
+
+    later : (c : ClauseRef) → is_attached w.clauses c ≡ true
+        → AreBelow (suc i) (s.clauses ++ live_of w.clauses) →
+        clause_at (put s.clauses (suc i) kept) (id_at w.clauses c) ≡ None
+        → clause_at s.clauses (id_at w.clauses c) ≡ None
+    later c is below none = sym (other c is below) ∙ none
+
+    front : (k n : ℕ) (x : Clause) → k < length s.clauses
+        → slice_get (reverse (put s.clauses (suc i) kept)) k ≡ Some (n, x) →
+        slice_get (reverse s.clauses) k ≡ Some (n, x)
+    front k n x lt at =
+        let pushed : slice_get (reverse s.clauses ++ (suc i, kept) ∷ []) k ≡ Some (n, x) =
+        ap (λ (l : Live). slice_get l k) (sym (reverse-append ((suc i, kept) ∷ []) s.clauses))
+        ∙ at in
+        elim (get-cases (reverse s.clauses) (suc i, kept) (n, x) k pushed) [
+          | inl last ↦ absurd (omega (arith, last.0, lt, length-reverse s.clauses))
+          | inr earlier ↦ earlier
+        ]
+
+-- a clause that is attached, under the next id
+module _ (i a t : ℕ) (s : ClauseListState) (w now : WatchState) (id : ℕ) (lits : Clause)
+    (c : ClauseRef) (does : Attaches w now lits id c) (store : IsSearchStore i a t s w) (next : id
+    ≡ suc (i + a)) (simple : IsSimple w.vars lits) where
+  abbrev entry : Attached
+  entry = record { place = c; id = id; lits = does.order }
+
+  no_single : clause_at (s.clauses ++ live_of w.clauses) id ≡ None
+  no_single = rw next (none_next (suc (i + a)) (s.clauses ++ live_of w.clauses) store.below)
+
+  pub attached_alike : SameLive (put (s.clauses ++ live_of w.clauses) id does.order)
+      (s.clauses ++ live_of (w.clauses ++ entry ∷ []))
+  attached_alike = value_added s.clauses w.clauses entry no_single
+
+  attached_keeps : IsKeeping w.vars s.clauses (w.clauses ++ entry ∷ [])
+  attached_keeps =
+      keeping_added w.vars s.clauses w.clauses entry store.keeps does.place
+      (simple_permuted w.vars lits does.order does.same simple)
+      (λ alone d d_is same.
+      let low = attached_below w.vars (suc (i + a)) s.clauses w.clauses d store.keeps store.below
+      d_is in omega (arith, low, same, next))
+      (λ x at.
+      let bad : None ≡ Some x = sym no_single ∙ single_found s.clauses w.clauses id x at in cc)
+
+  attached_below_next : AreBelow (suc (suc (i + a))) (s.clauses ++ live_of (w.clauses ++ entry
+      ∷ []))
+  attached_below_next =
+      below_alike (suc (suc (i + a))) (put (s.clauses ++ live_of w.clauses) id does.order)
+      (s.clauses ++ live_of (w.clauses ++ entry ∷ [])) attached_alike
+      (rw next (put_below (suc (i + a)) (s.clauses ++ live_of w.clauses) does.order
+      (omega arith) store.below))
+
+  attached_taken : AreTaken t s.clauses (w.clauses ++ entry ∷ [])
+  attached_taken k n x lt at =
+      let d = store.taken_are k n x lt at in
+      (d.0, added_attached w.clauses entry d.0 d.1, added_id w.clauses entry d.0 d.1 ∙ d.2)
+
+  -- the store of any state with these clauses
+  pub store_attached : (j b : ℕ) (after : WatchState) → j + b ≡ suc (i + a) → i ≤ j
+      → j + b ≤ 4294967295 → after.clauses ≡ w.clauses ++ entry ∷ [] → after.vars ≡ w.vars →
+      (t ≡ length s.clauses) ⊎ (after.level ≡ 0) → IsLeveled after → after.due ≡ None
+      → IsSearchStore j b t s after
+  store_attached j b after up more few clauses vars waiting leveled due = record {
+    few_ids = few;
+    few = omega (arith, store.few, more);
+    few_vars = rw vars store.few_vars;
+    same_vars = store.same_vars ∙ sym vars;
+    below = rw (clauses, up) attached_below_next;
+    few_taken = store.few_taken;
+    short = store.short;
+    keeps = rw (clauses, vars) attached_keeps;
+    taken_are = rw clauses attached_taken;
+    waiting = waiting;
+    leveled = leveled;
+    none_due = due;
   }
 
-  next_input : suc old.inputs ≡ suc (length front.clauses)
-  next_input = ap suc stands.inputs
+-- A SINGLE CLAUSE IS ATTACHED
 
-  pub stands_without : new.clauses ≡ old.clauses → is_always_true lits ≡ true → StandsFor new
-      (with_input front lits) []
-  stands_without unchanged always =
-      let none : clause_at old.clauses (suc (length front.clauses)) ≡ None =
-      subst (λ (n : ℕ). clause_at old.clauses n ≡ None) next_input
-      (none_next (suc old.inputs) old.clauses below) in
-      now_stands (rw unchanged (kept_skip old.clauses (inputs front) (suc (length front.clauses))
-      lits stands.clauses none always))
+pub kept_refl : (i a t : ℕ) (s : ClauseListState) (w : WatchState) → IsSearchStore i a t s w
+    → SameKept (search_value i a s w) (search_value i a s w)
+kept_refl i a t s w store = record {
+  vars = refl;
+  inputs = refl;
+  added = refl;
+  among = λ n x at. (x, at, same_itself x);
+  back = λ n x at. (x, at, same_itself x);
+  once = λ n x at. store_once i a t s w store n x at;
+}
 
-  pub stands_with : (kept : Clause) → new.clauses ≡ put old.clauses (suc old.inputs) kept →
-      SameLiterals kept lits → HasOnce kept →
-      StandsFor new (with_input front lits) []
-  stands_with kept is same_lits once =
-      now_stands (rw (is, next_input)
-      (kept_put old.clauses (inputs front) (suc (length front.clauses)) kept lits stands.clauses
-      same_lits once))
+pub kept_then : (old mid new : SearchValue) → SameKept old mid → SameKept mid new → SameKept old new
+kept_then old mid new first second = record {
+  vars = second.vars ∙ first.vars;
+  inputs = second.inputs ∙ first.inputs;
+  added = second.added ∙ first.added;
+  among = λ id x at. let y = first.among id x at in let z = second.among id y.0 y.1 in
+      (z.0, z.1, same_then x y.0 z.0 y.2 z.2);
+  back = λ id x at. let y = second.back id x at in let z = first.back id y.0 y.1 in
+      (z.0, z.1, same_then x y.0 z.0 y.2 z.2);
+  once = second.once;
+}
+
+module _ (i a t : ℕ) (s : ClauseListState) (w now : WatchState) (id : ℕ) (lits : Clause)
+    (taken : IsTaken w now lits id) (store : IsSearchStore i a t s w) (at : slice_get
+    (reverse s.clauses) t ≡ Some (id, lits)) (is : clause_at s.clauses id
+    ≡ Some lits) (simple : IsSimple w.vars lits) where
+  abbrev taken_entry : Attached
+  taken_entry = record { place = taken.place; id = id; lits = taken.order }
+
+  taken_alike : SameLive (s.clauses ++ live_of w.clauses) (s.clauses ++ live_of now.clauses)
+  taken_alike n =
+      subst (λ (ks : List Attached). clause_at (s.clauses ++ live_of w.clauses) n
+      ≡ clause_at (s.clauses ++ live_of ks) n) (sym taken.clauses)
+      (value_again s.clauses w.clauses taken_entry lits is n)
+
+  taken_keeps : IsKeeping w.vars s.clauses (w.clauses ++ taken_entry ∷ [])
+  taken_keeps =
+      keeping_added w.vars s.clauses w.clauses taken_entry store.keeps taken.behind
+      (simple_permuted w.vars lits taken.order taken.same simple)
+      (λ none c c_is same. let bad : Some lits ≡ None = sym is ∙ none in cc)
+      (λ x x_at.
+      let one : lits ≡ x = some_is (sym is ∙ x_at) in
+      subst (λ (y : Clause). SameLiterals y taken.order) one
+      (same_permuted lits taken.order taken.same))
+
+  taken_all : AreTaken (suc t) s.clauses (w.clauses ++ taken_entry ∷ [])
+  taken_all k n x lt k_at =
+      elim (cases_eq k t) [
+        | inl same ↦
+            let last = last_is w.clauses taken_entry
+            (new_place w.clauses taken.place store.keeps.stand taken.behind) in
+            let here : slice_get (reverse s.clauses) t ≡ Some (n, x) =
+            subst (λ (j : ℕ). slice_get (reverse s.clauses) j ≡ Some (n, x)) same k_at in
+            let one : id ≡ n = ap (λ (entry : ℕ × Clause). entry.0) (some_is (sym at ∙ here)) in
+            (taken.place, last.attached, last.id ∙ one)
+        | inr other ↦
+            let d = store.taken_are k n x (omega (arith, lt, other)) k_at in (
+              d.0,
+              added_attached w.clauses taken_entry d.0 d.1,
+              added_id w.clauses taken_entry d.0
+                  d.1 ∙ d.2,
+            )
+      ]
+
+  pub store_taken : IsSearchStore i a (suc t) s now
+  store_taken = record {
+    few_ids = store.few_ids;
+    few = store.few;
+    few_vars = rw taken.vars store.few_vars;
+    same_vars = store.same_vars ∙ sym taken.vars;
+    below = below_alike (suc (i + a)) (s.clauses ++ live_of w.clauses)
+        (s.clauses ++ live_of now.clauses) taken_alike store.below;
+    few_taken = let within = slice_get_within (reverse s.clauses) t (id, lits) at in
+        omega (arith, within, length-reverse s.clauses);
+    short = store.short;
+    keeps = rw (taken.clauses, taken.vars) taken_keeps;
+    taken_are = rw taken.clauses taken_all;
+    waiting = inr taken.level;
+    leveled = taken.leveled;
+    none_due = taken.due;
+  }
+
+  pub kept_taken : SameKept (search_value i a s w) (search_value i a s now)
+  kept_taken = record {
+    vars = taken.vars;
+    inputs = refl;
+    added = refl;
+    among = λ n x x_at. (x, sym (taken_alike n) ∙ x_at, same_itself x);
+    back = λ n x x_at. (x, taken_alike n ∙ x_at, same_itself x);
+    once = λ n x x_at. store_once i a t s w store n x (taken_alike n ∙ x_at);
+  }
+
+-- the clause of a position, where its literals are simple
+pub single_simple : (i a t : ℕ) (s : ClauseListState) (w : WatchState) (id : ℕ) (lits : Clause)
+    → IsSearchStore i a t s w → clause_at s.clauses id ≡ Some lits →
+    All (IsWithin s.vars) lits → IsSimple w.vars lits
+single_simple i a t s w id lits store is within = record {
+  within = subst (λ (n : ℕ). All (IsWithin n) lits) store.same_vars within;
+  once = short_once lits (store.short id lits is);
+}
+
+-- a single clause that is false
+pub single_false : (s : ClauseListState) (w : WatchState) (id : ℕ) (lits : Clause)
+    → clause_at s.clauses id ≡ Some lits → AreFalse w.trail lits →
+    Reads (made_false (assigned_in w.clauses w.trail)) (clause_at
+    (s.clauses ++ live_of w.clauses) id) Conflict
+single_false s w id lits is all =
+    let reads : reading_of (falses w.trail) lits ≡ Conflict =
+    all_conflict (falses w.trail) lits all in
+    rw (single_found s.clauses w.clauses id lits is, falses_in w.clauses w.trail) reads
+
+-- BEHIND DECISIONS
+
+module _ (i a t : ℕ) (s : ClauseListState) (w now : WatchState) (store : IsSearchStore i a t s w)
+    (goes : GoesOn w now) (all : t ≡ length s.clauses) where
+  pub store_decided : IsSearchStore i a t s now
+  store_decided = record {
+    few_ids = store.few_ids;
+    few = store.few;
+    few_vars = rw goes.vars store.few_vars;
+    same_vars = store.same_vars ∙ sym goes.vars;
+    below = below_among (suc (i + a)) (s.clauses ++ live_of w.clauses)
+        (s.clauses ++ live_of now.clauses)
+        (same_among w.vars s.clauses w.clauses now.clauses goes.clauses store.keeps) store.below;
+    few_taken = store.few_taken;
+    short = store.short;
+    keeps = rw goes.vars (keeping_same w.vars s.clauses w.clauses now.clauses goes.clauses
+        store.keeps);
+    taken_are = λ k n x lt at.
+        let d = store.taken_are k n x lt at in
+        (d.0, goes.clauses.attached d.0 ∙ d.1, goes.clauses.ids d.0 ∙ d.2);
+    waiting = inl all;
+    leveled = goes.leveled store.leveled;
+    none_due = goes.due;
+  }
+
+  pub kept_decided : SameKept (search_value i a s w) (search_value i a s now)
+  kept_decided = record {
+    vars = goes.vars;
+    inputs = refl;
+    added = refl;
+    among = among_same w.vars s.clauses w.clauses now.clauses goes.clauses store.keeps;
+    back = same_among w.vars s.clauses w.clauses now.clauses goes.clauses store.keeps;
+    once = λ n x at. store_once i a t s now store_decided n x at;
+  }
+
+  pub settled_now : IsSettledAt now now.level
+      → AreSettled (s.clauses ++ live_of now.clauses) (made_false
+      (assigned_in now.clauses now.trail))
+  settled_now settled = settled_here s.clauses t now store_decided.keeps store_decided.taken_are all
+      store_decided.leveled settled
+
+  pub false_now : (c : ClauseRef) → IsFalse now c
+      → Reads (made_false (assigned_in now.clauses now.trail)) (clause_at
+      (s.clauses ++ live_of now.clauses) (id_at now.clauses c)) Conflict
+  false_now c is = false_in now.vars s.clauses now.clauses now.trail c store_decided.keeps is.0 is.1
+
+-- WHAT IS LEARNED
+
+-- a trail by ids is one of settled levels
+pub settled_trail : (i a t : ℕ) (s : ClauseListState) (w : WatchState) → IsSearchStore i a t s w
+    → IsOnce w.trail → AreWithin w.vars w.trail →
+    HasLevels w.clauses w.level w.trail → IsSettledState w
+    → IsSettledTrail (s.clauses ++ live_of w.clauses) w.vars (assigned_in w.clauses w.trail)
+settled_trail i a t s w store once within levels settled = record {
+  once = rw (lits_in w.clauses w.trail) once;
+  within = all_in w.trail within;
+  caused = caused_here w.vars w.level s.clauses w.clauses w.trail store.keeps levels once;
+  levels = store.leveled.levels;
+  settled = λ j below. elim store.waiting [
+    | inl all ↦ settled_in s.clauses t w store.keeps store.taken_are all j (settled.below j (omega
+        (arith, below, store.leveled.current)))
+    | inr low ↦ absurd (omega (arith, below, store.leveled.current, low))
+  ];
+}
+  where
+    all_in : (trail : List TrailEntry) → AreWithin w.vars trail
+        → All (λ (e : Assigned). IsWithin w.vars e.lit) (assigned_in w.clauses trail)
+    all_in [] all = All-nil (λ (e : Assigned). IsWithin w.vars e.lit)
+    all_in (e ∷ older) all =
+        let P = λ (e : TrailEntry). IsWithin w.vars e.lit in
+        All-cons (λ (e : Assigned). IsWithin w.vars e.lit) (assigned w.clauses e)
+        (assigned_in w.clauses older) (All-head P e older all) (all_in older
+        (All-tail P e older all))
+
+module _ (i a t : ℕ) (s : ClauseListState) (w : WatchState) (store : IsSearchStore i a t s w) where
+  abbrev entries : List Assigned
+  entries = assigned_in w.clauses w.trail
+
+  abbrev clauses : Live
+  clauses = s.clauses ++ live_of w.clauses
+
+  module _ (holds : IsSettledTrail clauses w.vars entries) where
+    decisions_follow : (id : ℕ) (o : Option Clause) → clause_at clauses id ≡ o
+        → Reads (made_false entries) o Conflict →
+        rup clauses (negated_decisions entries) (reason_ids entries ++ pos id ∷ []) ≡ None
+    decisions_follow id None at reads = absurd reads
+    decisions_follow id (Some conflict) at reads =
+        subst (λ (ids : List ℤ). rup clauses (negated_decisions entries) (ids ++ pos id ∷ [])
+        ≡ None) (marked_reasons entries)
+        (derived_follows clauses (none_zero (suc (i + a)) clauses store.below)
+        (negated_decisions entries) entries (with_reasons entries) id conflict holds.once
+        holds.caused at
+        (decisions_derived clauses entries conflict holds.once holds.caused reads))
+
+    decisions_fresh : negated_decisions entries ≢ [] → IsFresh clauses (negated_decisions entries)
+    decisions_fresh some =
+        elim (newest entries holds.levels) [
+          | inl none ↦ absurd (some none.lesson)
+          | inr found ↦
+              asserting_is_fresh clauses entries (level_of entries) (level_of found.1) (negation
+              (found.0).lit) (negated_decisions entries)
+              holds.once (decisions_assert entries found.0 found.1 found.2) holds.settled
+        ]
+
+    pub lesson_is : (id : ℕ) (clause : Clause) (hints : List ℤ) (back : ℕ)
+        → Reads (made_false entries) (clause_at clauses id) Conflict →
+        clause ≡ negated_decisions entries → hints ≡ reason_ids entries ++ pos id ∷ []
+        → back ≡ w.level - 1 → IsLesson (search_value i a s w) clause hints back
+    lesson_is id clause hints back reads is hints_are back_is =
+        let simple : IsSimple w.vars (negated_decisions entries) =
+        decisions_simple w.vars entries holds.within holds.once in
+        record {
+          is = is;
+          simple = rw is simple;
+          literals = rw is (All-weaker (IsWithin w.vars) IsLiteral
+              (λ l inside. (inside.0, omega (arith, inside.1, store.few_vars)))
+              (negated_decisions entries) simple.within);
+          follows = rw (is, hints_are) (decisions_follow id (clause_at clauses id) refl reads);
+          fresh = λ some. rw is (decisions_fresh (λ none. some (is ∙ none)));
+          trail = holds;
+          level = back_is ∙ ap (λ (n : ℕ). n - 1) store.leveled.current;
+        }
+
+-- values that make true what is not false make the clauses true where they are settled
+pub true_values : (i a : ℕ) (s : ClauseListState) (w : WatchState) (values : List Bool)
+    → length values ≡ w.vars → AreValuesOf w.trail w.vars values →
+    AreSettled (s.clauses ++ live_of w.clauses) (made_false (assigned_in w.clauses w.trail))
+    → IsClosed w.vars (lits_of (assigned_in w.clauses w.trail)) →
+    AreTrue (search_value i a s w) values
+true_values i a s w values many truth settled closed = record {
+  many = many;
+  each = λ id c at within.
+      quiet_is_true w.vars values (made_false (assigned_in w.clauses w.trail)) c
+      (λ l inside not_false. truth (subst (IsClosed w.vars)
+      (lits_in w.clauses w.trail) closed) l inside
+      (subst (λ (set : List Lit). is_among set l ≡ false) (falses_in w.clauses w.trail) not_false))
+      (subst (λ (n : ℕ). All (IsWithin n) c) many within) (settled id c at);
+}

@@ -1,9 +1,9 @@
 -- The log of a search at its start, with one more learned clause, and at its end.
-use Rattle.std.proofs.Common.{◌≡◌, ◌≢◌, ◌<◌, ◌≤◌, ◌+◌, ℕ, suc, ℤ, Bool, false, List, [], ◌∷◌, ◌++◌, length, None, All, refl, sym, ap, ◌∙◌, subst, arith}
+use Rattle.std.proofs.Common.{◌≡◌, ◌≢◌, ◌<◌, ◌≤◌, ◌+◌, ℕ, suc, ℤ, Bool, false, List, [], ◌∷◌, ◌++◌, length, None, All, refl, sym, ◌∙◌, subst, arith}
 use Rattle.std.specs.Prelude.{IfOk, Ok, Result}
 use Rattle.std.specs.declared.alloc.AllocError.{AllocError}
 use Rattle.std.proofs.lemmas.List.{append-nil}
-use Rattle.std.proofs.lemmas.List.Elements.{All-contains_itself, All-nil, All-push}
+use Rattle.std.proofs.lemmas.List.Elements.{All-nil, All-push}
 use Rattle.sat_clause.specs.Formula.{Cnf, Satisfies}
 use Rattle.sat_clause.specs.Judge.{Accepted, inputs, is_empty_clause, judge}
 use Rattle.sat_clause.specs.Learned.{IsFresh, IsSimple, LearnedNew, deletions}
@@ -14,13 +14,13 @@ use Rattle.sat_clause.specs.Step.{Step, Added}
 use Rattle.sat_core.specs.declared.answer.Answer.{Answer}
 use Rattle.sat_core.specs.declared.answer.Answer.TheVariants.{Refuted}
 use Rattle.sat_core.specs.Answer.{IsAnswer, SpendsAll}
-use Rattle.sat_core.specs.Kept.{AreKept}
+use Rattle.sat_core.specs.Kept.{AreKept, SameLive}
 use Rattle.sat_core.specs.SearchLog.{AreNumbered, EndsAtEmpty, added_count}
-use Rattle.sat_core.specs.SearchStore.{AreTrue, ChangesTrail, IsLesson, Learns}
+use Rattle.sat_core.specs.SearchStore.{AreTrue, IsLesson, Learns, SameKept}
 use Rattle.sat_core.specs.Stands.{AreGood, IsOpenLog, SearchValue, StandsFor, live_after, next_id}
 use Rattle.sat_core.specs.Underway.{HasSearched, IsDone, IsUnderway}
 use Rattle.sat_core.proofs.EarlierLaw.{hints_are_earlier}
-use Rattle.sat_core.proofs.KeptLaws.{fresh_kept, kept_put, model_kept, rup_kept}
+use Rattle.sat_core.proofs.KeptLaws.{fresh_kept, kept_alike, kept_put, kept_same, model_kept, rup_kept}
 use Rattle.sat_core.proofs.LogLemmas.{added_count-push, deletions-push, each_added_push, ends_behind, good_accepted, good_behind, good_so_far, inputs_live, live_after-push, not_empty_step, numbered_push, spares_push, sparse_without}
 
 open_start : (formula : Cnf) → IsOpenLog formula []
@@ -41,22 +41,22 @@ underway_start search formula stands within = record {
   none_deleted = refl;
 }
 
--- whatever stands on the trail
-pub underway_along : (old new : SearchValue) (formula : Cnf) (log : List Step) → ChangesTrail old
-    new →
+-- whatever stands on the trail, and in whatever orders the literals
+pub underway_along : (old new : SearchValue) (formula : Cnf) (log : List Step) → SameKept old new →
     IsUnderway old formula log → IsUnderway new formula log
-underway_along old new formula log same on =
-    subst (λ (s : SearchValue). IsUnderway s formula log) (sym same) (record {
-      within = on.within;
-      stands = record {
-        vars = on.stands.vars;
-        inputs = on.stands.inputs;
-        added = on.stands.added;
-        clauses = on.stands.clauses;
-      };
-      open_log = on.open_log;
-      none_deleted = on.none_deleted;
-    })
+underway_along old new formula log same on = record {
+  within = on.within;
+  stands = record {
+    vars = same.vars ∙ on.stands.vars;
+    inputs = same.inputs ∙ on.stands.inputs;
+    added = same.added ∙ on.stands.added;
+    clauses =
+        kept_same old.clauses new.clauses (live_after formula log) same.among same.back same.once
+        on.stands.clauses;
+  };
+  open_log = on.open_log;
+  none_deleted = on.none_deleted;
+}
 
 module _ (search : SearchValue) (formula : Cnf) (log : List Step)
     (on : IsUnderway search formula log) where
@@ -64,16 +64,16 @@ module _ (search : SearchValue) (formula : Cnf) (log : List Step)
   pub next_is : suc (search.inputs + search.added) ≡ next_id formula log
   next_is = omega (arith, on.stands.inputs, on.stands.added)
 
-  good_hints : (clause : Clause) (hints : List ℤ) → IsLesson search clause hints →
+  good_hints : (clause : Clause) (hints : List ℤ) (back : ℕ) → IsLesson search clause hints back →
       rup (live_after formula log) clause hints ≡ None
-  good_hints clause hints lesson =
+  good_hints clause hints back lesson =
       rup_kept search.clauses (live_after formula log) on.stands.clauses.are_live clause hints
       lesson.follows
 
-  open_next : (id : ℕ) (clause : Clause) (hints : List ℤ) → id ≡ next_id formula log → IsLesson
-      search clause hints →
+  open_next : (id : ℕ) (clause : Clause) (hints : List ℤ) (back : ℕ) → id ≡ next_id formula log →
+      IsLesson search clause hints back →
       clause ≢ [] → IsOpenLog formula (log ++ Added id clause hints ∷ [])
-  open_next id clause hints is lesson some =
+  open_next id clause hints back is lesson some =
       let live : Live = live_after formula log in
       let simple : IsSimple formula.vars clause = subst (λ (n : ℕ). IsSimple n clause)
       on.stands.vars lesson.simple in
@@ -81,7 +81,7 @@ module _ (search : SearchValue) (formula : Cnf) (log : List Step)
       formula.vars clause simple (lesson.fresh some) in
       record {
         good = good_behind (inputs formula) log (Added id clause hints ∷ []) on.open_log.good
-            (good_hints clause hints lesson, tt);
+            (good_hints clause hints back lesson, tt);
         none_empty = All-push (λ (step : Step). is_empty_clause step ≡ false) log
             (Added id clause hints) on.open_log.none_empty (not_empty_step id clause hints some);
         numbered = numbered_push (suc (length formula.clauses)) id log clause hints
@@ -92,18 +92,18 @@ module _ (search : SearchValue) (formula : Cnf) (log : List Step)
       }
 
   -- one more learned clause
-  pub underway_next : (new : SearchValue) (id : ℕ) (clause : Clause) (hints : List ℤ) →
-      id ≡ suc (search.inputs + search.added) → IsLesson search clause hints → clause ≢ [] → Learns
-      search new clause →
-      IsUnderway new formula (log ++ Added id clause hints ∷ [])
-  underway_next new id clause hints is lesson some learns =
+  pub underway_next : (new : SearchValue) (id : ℕ) (clause : Clause) (hints : List ℤ) (back : ℕ) →
+      id ≡ suc (search.inputs + search.added) → IsLesson search clause hints back → clause ≢ [] →
+      Learns search new clause → IsUnderway new formula (log ++ Added id clause hints ∷ [])
+  underway_next new id clause hints back is lesson some learns =
       let live : Live = live_after formula log in
       let next : id ≡ next_id formula log = is ∙ next_is in
-      let are : AreKept (put search.clauses id clause) (put live id clause) =
-      kept_put search.clauses live id clause clause on.stands.clauses
-      (All-contains_itself clause, All-contains_itself clause) lesson.simple.once in
-      let now : put search.clauses id clause ≡ new.clauses = ap
-      (λ (n : ℕ). put search.clauses n clause) is ∙ sym learns.clauses in
+      let order : Clause = learns.order in
+      let are : AreKept (put search.clauses id order) (put live id clause) =
+      kept_put search.clauses live id order clause on.stands.clauses learns.same learns.once in
+      let alike : SameLive (put search.clauses id order) new.clauses =
+      subst (λ (n : ℕ). SameLive (put search.clauses n order) new.clauses) (sym is)
+      learns.clauses in
       record {
         within = on.within;
         stands = record {
@@ -117,22 +117,23 @@ module _ (search : SearchValue) (formula : Cnf) (log : List Step)
                 hints,
           );
           clauses = rw (live_after-push formula log (Added id clause hints))
-              (subst (λ (kept : Live). AreKept kept (put live id clause)) now are);
+              (kept_alike (put search.clauses id order) new.clauses (put live id clause)
+              (put live id clause) alike (λ n. refl) are);
         };
-        open_log = open_next id clause hints next lesson some;
+        open_log = open_next id clause hints back next lesson some;
         none_deleted = deletions-push log id clause hints ∙ on.none_deleted;
       }
 
   -- the empty clause
-  pub underway_done : (id : ℕ) (clause : Clause) (hints : List ℤ) → id ≡ suc
+  pub underway_done : (id : ℕ) (clause : Clause) (hints : List ℤ) (back : ℕ) → id ≡ suc
       (search.inputs + search.added) →
-      IsLesson search clause hints → clause ≡ [] → IsDone formula log
+      IsLesson search clause hints back → clause ≡ [] → IsDone formula log
       (log ++ Added id clause hints ∷ [])
-  underway_done id clause hints is lesson none = record {
+  underway_done id clause hints back is lesson none = record {
     hints = hints;
     last = rw (is ∙ next_is, none) refl;
     good = subst (λ (c : Clause). rup (live_after formula log) c hints ≡ None) none
-        (good_hints clause hints lesson);
+        (good_hints clause hints back lesson);
   }
 
   -- values that make the kept clauses true satisfy the formula

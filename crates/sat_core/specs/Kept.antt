@@ -27,6 +27,10 @@ pub record AreKept (kept live : Live) : Type 0 where
       (c : Clause) × (clause_at kept id ≡ Some c) × SameLiterals c d
   pub once : (id : ℕ) (c : Clause) → clause_at kept id ≡ Some c → HasOnce c
 
+-- the same clauses by their ids
+abbrev pub SameLive : Live → Live → Type 0
+SameLive live now = (id : ℕ) → clause_at live id ≡ clause_at now id
+
 -- each id is at least 1 and below this one
 abbrev pub AreBelow : ℕ → Live → Type 0
 AreBelow id live = (n : ℕ) (c : Clause) → clause_at live n ≡ Some c → (1 ≤ n) × (n < id)

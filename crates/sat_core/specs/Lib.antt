@@ -1,10 +1,11 @@
 pub mod Answer
 pub mod ClauseList
+pub mod Deciding
 pub mod Kept
 pub mod Lesson
 pub mod Levels
 pub mod SearchLog
 pub mod SearchStore
+pub mod Single
 pub mod Stands
-pub mod Trail
 pub mod Underway

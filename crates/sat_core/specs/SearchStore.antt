@@ -1,47 +1,90 @@
 -- How a search lies, and what its steps say of it.
-use Rattle.std.specs.Prelude.{◌≡◌, ◌≢◌, ℕ, suc, ◌+◌, ◌<◌, ◌≤◌, ℤ, List, [], ◌∷◌, length, All, Bool, None, Some}
+use Rattle.std.specs.Prelude.{◌≡◌, ◌≢◌, ◌⊎◌, ℕ, suc, ◌+◌, ◌-◌, ◌<◌, ◌≤◌, ℤ, true, List, [], ◌++◌, length, map, reverse, slice_get, All, Bool, None, Some, option_map}
 use Rattle.sat_clause.specs.declared.limits.TheConstants.{ID_LIMIT, VARIABLE_LIMIT}
-use Rattle.sat_clause.specs.declared.literal.Lit.{Lit}
 use Rattle.sat_clause.specs.declared.reading.Reading.{Reading}
 use Rattle.sat_clause.specs.declared.reading.Reading.TheVariants.{Conflict}
 use Rattle.sat_clause.specs.Formula.{IsTrueClause}
-use Rattle.sat_clause.specs.Learned.{IsFresh, IsSimple}
+use Rattle.sat_clause.specs.Learned.{IsFresh, IsSimple, SameLiterals}
 use Rattle.sat_clause.specs.Literal.{Clause, IsLiteral, IsWithin}
-use Rattle.sat_clause.specs.Live.{clause_at, put}
+use Rattle.sat_clause.specs.Live.{Live, clause_at, put}
 use Rattle.sat_clause.specs.Rup.{Reads, rup}
-use Rattle.sat_core.specs.declared.entry.Entry.{Entry}
-use Rattle.sat_core.specs.declared.scan.Scan.{Scan}
-use Rattle.sat_core.specs.declared.scan.Scan.TheVariants.{Settled, Implied, False}
+use Rattle.sat_arena.specs.declared.clause_ref.ClauseRef.{ClauseRef}
+use Rattle.sat_watch.specs.declared.entry.TrailEntry.{TrailEntry}
+use Rattle.sat_watch.specs.Watches.{Attached, AreInPlace, WatchState, id_at, is_attached, lits_at}
 use Rattle.sat_core.specs.ClauseList.{ClauseListState}
-use Rattle.sat_core.specs.Kept.{AreBelow}
+use Rattle.sat_core.specs.Kept.{AreAmong, AreBelow, HasOnce, SameLive}
 use Rattle.sat_core.specs.Lesson.{negated_decisions}
-use Rattle.sat_core.specs.Levels.{AreSettled, Assigned, IsSettledTrail, after_entry, level_of, made_false}
+use Rattle.sat_core.specs.Levels.{AreLevels, AreSettled, Assigned, IsSettledTrail, level_of, made_false}
 use Rattle.sat_core.specs.Stands.{SearchValue}
-use Rattle.sat_core.specs.Trail.{TrailState}
 
--- an entry in front of others, at the level that it makes behind them
-abbrev pub assigned : Entry → List Assigned → Assigned
-assigned e older =
-    record { lit = e.lit; level = after_entry e.reason (level_of older); reason = e.reason }
+-- an entry with the id of its reason
+abbrev pub assigned : List Attached → TrailEntry → Assigned
+assigned clauses e =
+    record { lit = e.lit; level = e.level; reason = option_map (id_at clauses) e.reason }
 
--- the entries with their levels
-abbrev pub assigned_of : List Entry → List Assigned
-assigned_of [] = []
-assigned_of (e ∷ older) = assigned e (assigned_of older) ∷ assigned_of older
+abbrev pub assigned_in : List Attached → List TrailEntry → List Assigned
+assigned_in clauses trail = map (assigned clauses) trail
 
--- the ids are those of inputs and of added clauses, and the trail is one of the clauses
-pub record IsSearchStore (inputs added : ℕ) (known : ClauseListState) (trail : TrailState) : Type 0
-  where
-    pub few_ids : inputs + added ≤ ID_LIMIT
-    pub few : length known.clauses ≤ inputs + added
-    pub few_vars : known.vars ≤ VARIABLE_LIMIT
-    pub trail_vars : trail.vars ≡ known.vars
-    pub below : AreBelow (suc (inputs + added)) known.clauses
-    pub holds : IsSettledTrail known.clauses known.vars (assigned_of trail.entries)
+-- the attached clauses by their ids
+abbrev pub live_of : List Attached → Live
+live_of clauses = map (λ k. (k.id, k.lits)) clauses
 
--- nothing but the trail is another one
-abbrev pub ChangesTrail : (old new : SearchValue) → Type 0
-ChangesTrail old new = new ≡ record old { trail = new.trail }
+-- a search with clauses of fewer than two literals beside the attached ones
+abbrev pub search_value : (inputs added : ℕ) → ClauseListState → WatchState → SearchValue
+search_value inputs added singles watches = record {
+  vars = watches.vars;
+  inputs = inputs;
+  added = added;
+  clauses = singles.clauses ++ live_of watches.clauses;
+  trail = assigned_in watches.clauses watches.trail;
+}
+
+-- the attached clauses stand one behind another, without a variable twice; one with the id of a
+-- single clause is that clause, and the others are each of another id
+pub record IsKeeping (vars : ℕ) (singles : Live) (clauses : List Attached) : Type 0 where
+  pub stand : AreInPlace 0 clauses
+  pub ids : (c d : ClauseRef) → is_attached clauses c ≡ true → is_attached clauses d ≡ true →
+      clause_at singles (id_at clauses c) ≡ None → id_at clauses c ≡ id_at clauses d → c ≡ d
+  pub agree : (c : ClauseRef) (x : Clause) → is_attached clauses c ≡ true →
+      clause_at singles (id_at clauses c) ≡ Some x → SameLiterals x (lits_at clauses c)
+  pub simple : (c : ClauseRef) → is_attached clauses c ≡ true → IsSimple vars (lits_at clauses c)
+
+-- the trail's levels are those of its decisions
+pub record IsLeveled (watches : WatchState) : Type 0 where
+  pub levels : AreLevels (assigned_in watches.clauses watches.trail)
+  pub current : watches.level ≡ level_of (assigned_in watches.clauses watches.trail)
+
+-- so many of the single clauses, the oldest, are attached
+abbrev pub AreTaken : ℕ → Live → List Attached → Type 0
+AreTaken taken singles clauses = (k id : ℕ) (x : Clause) → k < taken →
+    slice_get (reverse singles) k ≡ Some (id, x) →
+    (c : ClauseRef) × (is_attached clauses c ≡ true) × (id_at clauses c ≡ id)
+
+-- the clauses are those of the inputs and of added clauses; until all single ones are attached
+-- nothing is decided, and none is due
+pub record IsSearchStore
+    (inputs added taken : ℕ) (singles : ClauseListState) (watches : WatchState) : Type 0 where
+  pub few_ids : inputs + added ≤ ID_LIMIT
+  pub few : length singles.clauses ≤ inputs
+  pub few_vars : watches.vars ≤ VARIABLE_LIMIT
+  pub same_vars : singles.vars ≡ watches.vars
+  pub below : AreBelow (suc (inputs + added)) (singles.clauses ++ live_of watches.clauses)
+  pub few_taken : taken ≤ length singles.clauses
+  pub short : (id : ℕ) (x : Clause) → clause_at singles.clauses id ≡ Some x → length x ≤ 1
+  pub keeps : IsKeeping watches.vars singles.clauses watches.clauses
+  pub taken_are : AreTaken taken singles.clauses watches.clauses
+  pub waiting : (taken ≡ length singles.clauses) ⊎ (watches.level ≡ 0)
+  pub leveled : IsLeveled watches
+  pub none_due : watches.due ≡ None
+
+-- the search has the same clauses as sets, and the same numbers
+pub record SameKept (old new : SearchValue) : Type 0 where
+  pub vars : new.vars ≡ old.vars
+  pub inputs : new.inputs ≡ old.inputs
+  pub added : new.added ≡ old.added
+  pub among : AreAmong old.clauses new.clauses
+  pub back : AreAmong new.clauses old.clauses
+  pub once : (id : ℕ) (c : Clause) → clause_at new.clauses id ≡ Some c → HasOnce c
 
 -- what the clause with this id says
 abbrev pub ReadsAt : SearchValue → ℕ → Reading → Type 0
@@ -55,35 +98,30 @@ IsFalseAt search id = ReadsAt search id Conflict
 abbrev pub IsSettledState : SearchValue → Type 0
 IsSettledState search = AreSettled search.clauses (made_false search.trail)
 
--- a literal is made true by the clause with this id
-abbrev pub implied : SearchValue → Lit → ℕ → SearchValue
-implied old l id = record old {
-  trail = record { lit = l; level = level_of old.trail; reason = Some id } ∷ old.trail;
-}
-
--- what a pass over the clauses says of the search behind it
-abbrev pub ScanSays : (before now : SearchValue) → Scan → Type 0
-ScanSays before now Settled = IsSettledState now
-ScanSays before now Implied = length before.trail < length now.trail
-ScanSays before now (False id) = IsFalseAt now id
-
 -- there is a value for each variable, and they make each clause true that is of these variables
 pub record AreTrue (search : SearchValue) (values : List Bool) : Type 0 where
   pub many : length values ≡ search.vars
   pub each : (id : ℕ) (c : Clause) → clause_at search.clauses id ≡ Some c →
       All (IsWithin (length values)) c → IsTrueClause values c
 
--- the clause of the negated decisions has no variable twice, the hints justify it, and it is new
-pub record IsLesson (search : SearchValue) (clause : Clause) (hints : List ℤ) : Type 0 where
-  pub is : clause ≡ negated_decisions search.trail
-  pub simple : IsSimple search.vars clause
-  pub literals : All IsLiteral clause
-  pub follows : rup search.clauses clause hints ≡ None
-  pub fresh : clause ≢ [] → IsFresh search.clauses clause
+-- the clause of the negated decisions has no variable twice, the hints justify it, and it is new;
+-- the way back is to the level before the last decision
+pub record IsLesson (search : SearchValue) (clause : Clause) (hints : List ℤ) (back : ℕ) : Type 0
+  where
+    pub is : clause ≡ negated_decisions search.trail
+    pub simple : IsSimple search.vars clause
+    pub literals : All IsLiteral clause
+    pub follows : rup search.clauses clause hints ≡ None
+    pub fresh : clause ≢ [] → IsFresh search.clauses clause
+    pub trail : IsSettledTrail search.clauses search.vars search.trail
+    pub level : back ≡ level_of search.trail - 1
 
--- one more clause is kept, under the next id
+-- one more clause is kept, in some order of its literals, under the next id
 pub record Learns (old new : SearchValue) (clause : Clause) : Type 0 where
   pub vars : new.vars ≡ old.vars
   pub inputs : new.inputs ≡ old.inputs
   pub added : new.added ≡ suc old.added
-  pub clauses : new.clauses ≡ put old.clauses (suc (old.inputs + old.added)) clause
+  pub order : Clause
+  pub same : SameLiterals order clause
+  pub once : HasOnce order
+  pub clauses : SameLive (put old.clauses (suc (old.inputs + old.added)) order) new.clauses

@@ -51,6 +51,14 @@ impl ClauseList {
         })
     }
 
+    /// The number of variables.
+    pub(crate) fn vars(&self) -> u32
+        ensures value { result ≡ self.now.vars }
+        ensures few { result ≤ VARIABLE_LIMIT }
+    {
+        self.store.vars()
+    }
+
     /// The number of clauses.
     pub(crate) fn len(&self) -> u32
         ensures { result ≡ length self.now.clauses }

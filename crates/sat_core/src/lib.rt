@@ -3,15 +3,14 @@
 
 mod answer;
 mod clause_list;
+mod deciding;
 mod distinct;
-mod entry;
 mod lesson;
-mod scan;
 mod search;
+mod single;
 mod solving;
 #[cfg(test)]
 mod tests;
-mod trail;
 mod turn;
 
 pub use answer::Answer;

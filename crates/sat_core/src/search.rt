@@ -1,23 +1,22 @@
 //! A search: what it knows, and how it goes on.
 
-ghost use Rattle.std.specs.Prelude.{◌≡◌, ◌≢◌, ◌<◌, ◌≤◌, ◌+◌, ℕ, suc, [], All, IfNone, IfOk, IfSome, IsTrue, OnOk, Some, length, reverse, slice_get, false};
+ghost use Rattle.std.specs.Prelude.{◌≡◌, ◌≢◌, ◌<◌, ◌≤◌, ◌+◌, suc, [], All, IfNone, IfOk, IfSome, OnOk, length};
 ghost use Rattle.sat_clause.specs.Formula.{Cnf};
-ghost use Rattle.sat_clause.specs.Literal.{Clause, IsWithin};
-ghost use Rattle.sat_clause.specs.Rup.{reading_of};
+ghost use Rattle.sat_clause.specs.Literal.{IsWithin};
 ghost use Rattle.sat_clause.specs.Trail.{IsClosed};
-ghost use Rattle.sat_core.specs.Lesson.{negated_decisions};
-ghost use Rattle.sat_core.specs.Levels.{lits_of, made_false};
-ghost use Rattle.sat_core.specs.SearchStore.{AreTrue, ChangesTrail, IsFalseAt, IsLesson, IsSettledState, Learns, ReadsAt, ScanSays, implied as implied_by};
+ghost use Rattle.sat_core.specs.Levels.{lits_of};
+ghost use Rattle.sat_core.specs.SearchStore.{AreTrue, IsFalseAt, IsLesson, IsSettledState, Learns, SameKept};
 ghost use Rattle.sat_core.specs.Stands.{StandsFor};
 ghost use Rattle.sat_core.specs.Underway.{with_input};
 
 use crate::clause_list::ClauseList;
+use crate::deciding::{decide_on, values};
 use crate::distinct::distinct_literals;
-use crate::entry::Entry;
 use crate::lesson::Lesson;
-use crate::scan::Scan;
-use crate::trail::Trail;
-use sat_clause::{Formula, ID_LIMIT, Lit, Reading, VARIABLE_LIMIT, read_clause};
+use crate::single::attach_single;
+use sat_arena::Arena;
+use sat_clause::{Formula, ID_LIMIT, Lit, VARIABLE_LIMIT};
+use sat_watch::Watches;
 use std::alloc::{AllocError, Global};
 use std::marker::Model;
 
@@ -25,37 +24,26 @@ use std::marker::Model;
 /// the log, and the literals that are true, each decided or made true by a clause.
 ///
 /// A clause has the literals of an input or an added clause, each once. Clauses with a literal and
-/// its negation are left out.
+/// its negation are left out. Input clauses of fewer than two literals are attached before the
+/// first decision, when all others are.
 #[derive(Drop)]
 pub(crate) struct Search {
     inputs: u32,
     added: u32,
-    clauses: ClauseList,
-    trail: Trail,
+    singles: ClauseList,
+    taken: u32,
+    watches: Watches,
 }
 
 impl Model for Search {
-    ghost use Rattle.sat_core.specs.SearchStore.{IsSearchStore, assigned_of};
+    ghost use Rattle.sat_core.specs.SearchStore.{IsSearchStore, search_value};
     ghost use Rattle.sat_core.specs.Stands.{SearchValue};
 
     ghost Value = { SearchValue };
 
-    ghost view = { λ s. record {
-      vars = s.clauses.vars;
-      inputs = s.inputs;
-      added = s.added;
-      clauses = s.clauses.clauses;
-      trail = assigned_of s.trail.entries;
-    } };
+    ghost view = { λ s. search_value s.inputs s.added s.singles s.watches };
 
-    ghost invariant = { λ s. IsSearchStore s.inputs s.added s.clauses s.trail };
-}
-
-/// What a clause says.
-#[derive(Clone, Copy, Debug)]
-struct Said {
-    id: u32,
-    reading: Reading,
+    ghost invariant = { λ s. IsSearchStore s.inputs s.added s.taken s.singles s.watches };
 }
 
 impl Search {
@@ -73,8 +61,9 @@ impl Search {
         Ok(Search {
             inputs: 0,
             added: 0,
-            clauses: ClauseList::new(alloc, vars)?,
-            trail: Trail::new(alloc, vars)?,
+            singles: ClauseList::new(alloc, vars)?,
+            taken: 0,
+            watches: Watches::new(alloc, Arena::new(alloc), vars)?,
         })
     }
 
@@ -96,7 +85,12 @@ impl Search {
             self.inputs = id;
             return Ok(());
         };
-        self.clauses.add(id, &kept)?;
+        if kept.len() < 2 {
+            self.singles.add(id, &kept)?;
+            self.inputs = id;
+            return Ok(());
+        }
+        self.watches.attach(&kept, id)?;
         self.inputs = id;
         Ok(())
     }
@@ -123,105 +117,26 @@ impl Search {
         self.inputs + self.added + 1
     }
 
-    /// What the clause at a position says.
-    fn said(&self, i: u32) -> Said
-        requires { i < length self.now.clauses }
-        ensures at { (id : ℕ) (c : Clause) → slice_get (reverse self.now.clauses) i ≡ Some (id, c)
-            → reading_of (made_false self.now.trail) c ≡ result.reading }
-        ensures reads { ReadsAt self.now result.id result.reading }
-        ensures within { (l : Lit) → result.reading ≡ Reading.Unit l → IsWithin self.now.vars l }
+    /// Attaches the clauses of fewer than two literals that wait for it, and then decides variable
+    /// after variable, until a clause is false, whose id it gives, or each variable has a value.
+    pub(crate) fn next_conflict(&mut self) -> Result<Option<u32>, AllocError>
+        ensures same { OnOk result (SameKept self.old self.new) }
+        ensures conflict { IfOk result (λ found. IfSome found (IsFalseAt self.new)) }
+        ensures settled { IfOk result (λ found. IfNone found (IsSettledState self.new)) }
+        ensures closed { IfOk result (λ found.
+            IfNone found (IsClosed self.new.vars (lits_of self.new.trail))) }
     {
-        let clause = self.clauses.get(i);
-        Said {
-            id: clause.id,
-            reading: read_clause(&self.trail, clause.lits),
-        }
-    }
-
-    /// Makes the literal true that the clause with an id makes true.
-    fn imply(&mut self, l: Lit, id: u32)
-        requires within { IsWithin self.old.vars l }
-        requires reason { ReadsAt self.old id (Reading.Unit l) }
-        ensures state { self.new ≡ implied_by self.old l id }
-        ensures few { length self.new.trail ≤ self.new.vars }
-    {
-        self.trail.push(Entry {
-            lit: l,
-            reason: Some(id),
-        });
-    }
-
-    /// Goes over the clauses once, and makes true what they make true.
-    fn scan(&mut self) -> Scan
-        ensures same { ChangesTrail self.old self.new }
-        ensures longer { length self.old.trail ≤ length self.new.trail }
-        ensures few { result ≡ Scan.Implied → length self.new.trail ≤ self.new.vars }
-        ensures says { ScanSays self.old self.new result }
-    {
-        let before = self.trail.len();
-        for i in 0..self.clauses.len() {
-            let said = self.said(i);
-            match said.reading {
-                Reading::Conflict => return Scan::False(said.id),
-                Reading::Unit(l) => self.imply(l, said.id),
-                _ => {}
+        while self.taken < self.singles.len() {
+            let single = self.singles.get(self.taken);
+            if !attach_single(&mut self.watches, single.lits, single.id)? {
+                return Ok(Some(single.id));
             }
+            self.taken += 1;
         }
-        if self.trail.len() == before {
-            return Scan::Settled;
-        }
-        Scan::Implied
-    }
-
-    /// Makes true what the clauses make true, until one of them is false, whose id it gives, or
-    /// none makes a literal true any more.
-    fn settle(&mut self) -> Option<u32>
-        ensures same { ChangesTrail self.old self.new }
-        ensures longer { length self.old.trail ≤ length self.new.trail }
-        ensures conflict { IfSome result (IsFalseAt self.new) }
-        ensures settled { IfNone result (IsSettledState self.new) }
-    {
-        loop {
-            match self.scan() {
-                Scan::Settled => return None,
-                Scan::Implied => {}
-                Scan::False(id) => return Some(id),
-            }
-        }
-    }
-
-    /// Decides that the least open variable is true, where one is open. The clauses are settled.
-    fn decide(&mut self) -> bool
-        requires { IsSettledState self.old }
-        ensures same { ChangesTrail self.old self.new }
-        ensures longer { IsTrue result → length self.new.trail ≡ length self.old.trail + 1 }
-        ensures few { IsTrue result → length self.new.trail ≤ self.new.vars }
-        ensures none { result ≡ false → self.new ≡ self.old }
-        ensures closed { result ≡ false → IsClosed self.old.vars (lits_of self.old.trail) }
-    {
-        let Some(lit) = self.trail.open_literal() else {
-            return false;
+        let Some(c) = decide_on(&mut self.watches, self.singles.vars()) else {
+            return Ok(None);
         };
-        self.trail.push(Entry { lit, reason: None });
-        true
-    }
-
-    /// Decides variable after variable until a clause is false, whose id it gives, or each variable
-    /// has a value. Each variable is decided once at the most.
-    pub(crate) fn next_conflict(&mut self) -> Option<u32>
-        ensures same { ChangesTrail self.old self.new }
-        ensures conflict { IfSome result (IsFalseAt self.new) }
-        ensures settled { IfNone result (IsSettledState self.new) }
-        ensures closed { IfNone result (IsClosed self.new.vars (lits_of self.new.trail)) }
-    {
-        loop {
-            if let Some(id) = self.settle() {
-                return Some(id);
-            }
-            if !self.decide() {
-                return None;
-            }
-        }
+        Ok(Some(self.watches.id(c)))
     }
 
     /// The value of each variable, where each has one and the clauses are settled.
@@ -230,35 +145,49 @@ impl Search {
         requires closed { IsClosed self.now.vars (lits_of self.now.trail) }
         ensures { IfOk result (λ values. AreTrue self.now values.items) }
     {
-        self.trail.values(alloc)
+        values(alloc, &self.watches, self.singles.vars())
     }
 
-    /// What is learned where the clause with an id is false.
+    /// What is learned where the clause with an id is false: the negated decisions, by the reasons
+    /// in the order of the trail and then the false clause.
     pub(crate) fn lesson(&self, alloc: Global, conflict: u32) -> Result<Lesson, AllocError>
         requires { IsFalseAt self.now conflict }
-        ensures { IfOk result (λ lesson. IsLesson self.now lesson.clause.items lesson.hints.items) }
+        ensures { IfOk result (λ lesson.
+            IsLesson self.now lesson.clause.items lesson.hints.items lesson.back) }
     {
-        Lesson::of_conflict(alloc, self.trail.entries(), conflict)
+        let mut clause = Vec::new(alloc);
+        let mut hints = Vec::new(alloc);
+        for entry in self.watches.trail() {
+            match entry.reason {
+                None => clause.push(entry.lit.negation())?,
+                Some(c) => hints.push(i64::from(self.watches.id(c)))?,
+            }
+        }
+        hints.push(i64::from(conflict))?;
+        let back = self.watches.level().saturating_sub(1);
+        Ok(Lesson {
+            clause,
+            hints,
+            back,
+        })
     }
 
-    /// Learns the clause of the negated decisions, of which there is one at least, under the next
-    /// id: it goes back to where the last of them was made, and makes its negation true.
-    pub(crate) fn learn(&mut self, clause: &[Lit]) -> Result<(), AllocError>
-        requires lesson { clause.now ≡ negated_decisions self.old.trail }
-        requires within { All (IsWithin self.old.vars) clause.now }
-        requires some { clause.now ≢ [] }
+    /// Learns the clause of a lesson, which is not empty, under the next id: it goes back to before
+    /// the last decision, and makes its negation true.
+    pub(crate) fn learn(&mut self, lesson: &Lesson) -> Result<(), AllocError>
+        requires lesson { IsLesson self.old lesson.now.clause.items lesson.now.hints.items
+            lesson.now.back }
+        requires some { lesson.now.clause.items ≢ [] }
         requires few { self.old.inputs + self.old.added < ID_LIMIT }
-        ensures { OnOk result (Learns self.old self.new clause.now) }
+        ensures { OnOk result (Learns self.old self.new lesson.now.clause.items) }
     {
         let id = self.next_id();
-        self.clauses.add(id, clause)?;
-        let Some(decision) = self.trail.take_back() else {
+        let Some(last) = lesson.clause.last() else {
             unreachable!();
         };
-        self.trail.push(Entry {
-            lit: decision.lit.negation(),
-            reason: Some(id),
-        });
+        self.watches.back_to(lesson.back);
+        let c = self.watches.attach(&lesson.clause, id)?;
+        self.watches.imply(*last, c);
         self.added += 1;
         Ok(())
     }

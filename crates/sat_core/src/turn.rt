@@ -34,7 +34,7 @@ pub(crate) fn take_turn(
         → IsTurn search.new formula log.old.steps log.new.steps turn) }
     ensures err { OnErr result (log.new.steps ≡ log.old.steps) }
 {
-    let Some(conflict) = search.next_conflict() else {
+    let Some(conflict) = search.next_conflict()? else {
         let values = search.model(alloc)?;
         return Ok(Turn::Model(values));
     };
@@ -46,7 +46,7 @@ pub(crate) fn take_turn(
         log.add(id, &lesson.clause, &lesson.hints);
         return Ok(Turn::Refuted);
     }
-    search.learn(&lesson.clause)?;
+    search.learn(&lesson)?;
     log.add(id, &lesson.clause, &lesson.hints);
     Ok(Turn::Learned)
 }

@@ -46,7 +46,8 @@ attached_id (k ∷ ks) c = elim (same_or_other k.place c) [
 -- the clauses stand one behind the other
 pub in_place : (at : ℕ) (ks : List Stored) → ArePlaced at ks → AreInPlace at (map attached ks)
 in_place at [] placed = tt
-in_place at (k ∷ ks) placed = (placed.0, in_place (at + size_of k) ks placed.1)
+in_place at (k ∷ ks) placed =
+    (ap (λ (c : ClauseRef). c.word) placed.0, in_place (at + size_of k) ks placed.1)
 
 length_attached : (ks : List Stored) → length (map attached ks) ≡ length ks
 length_attached [] = refl
@@ -79,9 +80,10 @@ holders_attached l (k ∷ ks) = by_test (is_among k.lits l) refl (holders_attach
   by_test false e rest = rw e rest
 
 pub same_clauses : (base : List TrailEntry) (level : ℕ) (f : Lit) (ks new : List Stored)
-    (entries now : List TrailEntry) → Goes base level f ks new entries now →
+    (entries now : List TrailEntry) → ArePlaced 0 new → Goes base level f ks new entries now →
     SameClauses (map attached ks) (map attached new)
-same_clauses base level f ks new entries now go = record {
+same_clauses base level f ks new entries now placed go = record {
+  places = λ _. in_place 0 new placed;
   count = length_attached new ∙ (go.count ∙ sym (length_attached ks));
   attached = λ c. attached_held new c ∙ (go.held c ∙ sym (attached_held ks c));
   ids = λ c. attached_id new c ∙ (go.ids c ∙ sym (attached_id ks c));
@@ -92,15 +94,15 @@ same_clauses base level f ks new entries now go = record {
 -- one step of propagation
 pub step_propagates : (s : WatchState) (c c' : ChainsState) (t t' : TrailState) (q q' level : ℕ)
     (due : Option ClauseRef) (f : Lit) →
-    watch_state c t q level due ≡ s → due ≡ None → c'.vars ≡ c.vars →
+    watch_state c t q level due ≡ s → due ≡ None → c'.vars ≡ c.vars → ArePlaced 0 c'.clauses →
     Goes t.entries level f c.clauses c'.clauses t.entries t'.entries →
     Propagates s (watch_state c' t' q' level due)
-step_propagates s c c' t t' q q' level due f view none vars go =
+step_propagates s c c' t t' q q' level due f view none vars placed go =
     subst (λ (x : WatchState). Propagates x (watch_state c' t' q' level due)) view (record {
       vars = vars;
       level = refl;
       due = none;
-      clauses = same_clauses t.entries level f c.clauses c'.clauses t.entries t'.entries go;
+      clauses = same_clauses t.entries level f c.clauses c'.clauses t.entries t'.entries placed go;
       added = go.grows.added;
       trail = go.grows.is;
       added_level = added_known c'.clauses level go.grows.added t.entries go.grows.implied;
@@ -163,6 +165,7 @@ same_refl : (ks : List Attached) → SameClauses ks ks
 same_refl ks =
     record {
       count = refl;
+      places = λ stand. stand;
       attached = λ c. refl;
       ids = λ c. refl;
       lits =
@@ -173,6 +176,7 @@ same_refl ks =
 same_trans : (a b c : List Attached) → SameClauses a b → SameClauses b c → SameClauses a c
 same_trans a b c x y = record {
   count = y.count ∙ x.count;
+  places = λ stand. y.places (x.places stand);
   attached = λ r. y.attached r ∙ x.attached r;
   ids = λ r. y.ids r ∙ x.ids r;
   holders = λ l. y.holders l ∙ x.holders l;

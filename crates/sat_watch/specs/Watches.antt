@@ -5,7 +5,7 @@ use Rattle.sat_clause.specs.declared.literal.Lit.{Lit}
 use Rattle.sat_clause.specs.Literal.{Clause, is_among, negation}
 use Rattle.sat_clause.specs.Rup.{reading_of}
 use Rattle.sat_arena.specs.declared.clause_ref.ClauseRef.{ClauseRef}
-use Rattle.sat_arena.specs.Store.{Stored, ref}
+use Rattle.sat_arena.specs.Store.{Stored}
 use Rattle.sat_watch.specs.declared.entry.TrailEntry.{TrailEntry}
 use Rattle.sat_watch.specs.Levels.{IsWatchStore, due_without, upto}
 use Rattle.sat_clause.specs.Settled.{IsQuiet}
@@ -50,7 +50,7 @@ id_at (k ∷ ks) c = if k.place.word == c.word then k.id else id_at ks c
 -- six words
 abbrev pub AreInPlace : ℕ → List Attached → Type 0
 AreInPlace at [] = ⊤
-AreInPlace at (k ∷ ks) = (k.place ≡ ref at) × AreInPlace (at + (length k.lits + 6)) ks
+AreInPlace at (k ∷ ks) = (k.place.word ≡ at) × AreInPlace (at + (length k.lits + 6)) ks
 
 -- at level j no clause is false, and none has one open literal and all others false
 abbrev pub IsSettledAt : WatchState → ℕ → Type 0
@@ -89,9 +89,11 @@ abbrev pub holder_count : Lit → List Attached → ℕ
 holder_count l [] = 0
 holder_count l (k ∷ ks) = if is_among k.lits l then suc (holder_count l ks) else holder_count l ks
 
--- the clauses keep their references and ids, and as sets their literals
+-- the clauses keep their references and ids, and as sets their literals; and where they stood one
+-- behind another, they still do
 pub record SameClauses (old new : List Attached) : Type 0 where
   pub count : length new ≡ length old
+  pub places : AreInPlace 0 old → AreInPlace 0 new
   pub attached : (c : ClauseRef) → is_attached new c ≡ is_attached old c
   pub ids : (c : ClauseRef) → id_at new c ≡ id_at old c
   pub lits : (c : ClauseRef) → IsPermutation (lits_at old c) (lits_at new c)

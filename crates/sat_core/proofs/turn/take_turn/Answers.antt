@@ -14,7 +14,8 @@ returns-then-is_empty-clause-ok c formula underway =
     let steps = c.args.log.now.steps in
     let id = c.next_id-id.result in
     let lesson = c.in_ok-lesson.lesson in
-    let on = underway_along c.args.search.now state formula steps c.in-Some.ensures.same underway in
+    let on = underway_along c.args.search.now state formula steps c.in_ok-conflict.ensures.same
+    underway in
     let none : lesson.clause.items ≡ [] =
     nil_from_length lesson.clause.items
     (sym lesson.clause.ok.0 ∙ eqb-true lesson.clause.len 0
@@ -27,7 +28,7 @@ returns-then-is_empty-clause-ok c formula underway =
           c.in_ok-reserve.ensures.kept,
     ) c.add.ensures.steps in
     subst (IsDone formula steps) (sym is)
-    (underway_done state formula steps on id lesson.clause.items lesson.hints.items
+    (underway_done state formula steps on id lesson.clause.items lesson.hints.items lesson.back
     c.next_id-id.ensures c.in_ok-lesson.ensures none)
 
 pub returns-clause-ok : goal.returns-clause-ok
@@ -37,14 +38,16 @@ returns-clause-ok c formula underway =
     let id = c.next_id-id.result in
     let lesson = c.in_ok-lesson.lesson in
     let clause = lesson.clause.items in
-    let on = underway_along c.args.search.now state formula steps c.in-Some.ensures.same underway in
+    let on = underway_along c.args.search.now state formula steps c.in_ok-conflict.ensures.same
+    underway in
     let some : clause ≢ [] = λ none. both_ways _ (sym c.is_empty.ensures ∙ c.if-is_empty.false)
     (eq-eqb lesson.clause.len 0 (lesson.clause.ok.0 ∙ ap length none)) in
     let is : c.add-2.new.self.steps ≡ steps ++ Added id clause lesson.hints.items ∷ [] =
-    rw (← c.deref-3.ensures.value, ← c.deref-4.ensures.value, ← c.in_ok-reserve.ensures.kept)
+    rw (← c.deref-2.ensures.value, ← c.deref-3.ensures.value, ← c.in_ok-reserve.ensures.kept)
     c.add-2.ensures.steps in
-    let learns = rw (c.deref-2.ensures.value) at c.in_ok-learn.ensures in
+    let learns = c.in_ok-learn.ensures in
     let next = underway_next state formula steps on c.learn.new.self id clause lesson.hints.items
+    lesson.back
     c.next_id-id.ensures c.in_ok-lesson.ensures some learns in
     (rw is next, ap added_count is ∙ added_count-push steps id clause lesson.hints.items)
 
@@ -52,6 +55,7 @@ pub returns-in_default-clause-ok : goal.returns-in_default-clause-ok
 returns-in_default-clause-ok c formula underway =
     let state = c.next_conflict.new.self in
     let steps = c.args.log.now.steps in
-    let on = underway_along c.args.search.now state formula steps c.in_default.ensures.same underway
+    let on = underway_along c.args.search.now state formula steps c.in_ok-conflict.ensures.same
+    underway
     in
     (underway_model state formula steps on c.in_ok-values.values.items c.in_ok-values.ensures, refl)

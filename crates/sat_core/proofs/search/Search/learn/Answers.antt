@@ -1,45 +1,260 @@
-use Rattle.std.proofs.Common.{◌≡◌, ◌<◌, ◌+◌, ◌∷◌, ◌∙◌, suc, Some, ap, subst, sym, arith}
-use Rattle.sat_clause.specs.Literal.{negation}
-use Rattle.sat_clause.specs.Live.{put}
-use Rattle.sat_core.specs.Lesson.{negated_decisions}
-use Rattle.sat_core.specs.SearchStore.{IsSearchStore}
+use Rattle.std.proofs.Common.{◌≡◌, ◌∙◌, ◌<◌, ◌+◌, ℕ, suc, add-one, ap, subst, sym, arith}
+use Rattle.sat_clause.specs.declared.literal.Lit.{Lit}
+use Rattle.sat_clause.specs.Trail.{IsOpen}
+use Rattle.sat_watch.specs.Trail.{lits_of}
+use Rattle.sat_watch.specs.Watched.{IsReason}
+use Rattle.sat_watch.specs.Watches.{Attaches, WatchState, implied, lits_at}
+use Rattle.sat_core.specs.SearchStore.{IsLesson, IsSearchStore, Learns, search_value}
 use Rattle.sat_core.specs.Stands.{SearchValue}
-use Rattle.sat_core.proofs.DecisionLaws.{no_decision}
-use Rattle.sat_core.proofs.SearchLaws.{store_learned}
+use Rattle.sat_core.proofs.LearnLaws.{ends_in_first, first, first_inside, gone, gone_is, has_last, last_literal, learn_attached, learn_may, learn_open, learn_reason, learns, store_gone, store_learned}
 use Rattle.sat_core.proofs.search.Search.learn.Goals as goal
 
 pub unreachable-requires : goal.unreachable-requires
 unreachable-requires c =
-    let lesson = subst (λ (s : SearchValue). c.args.clause.now ≡ negated_decisions s.trail)
+    has_last c.args.lesson.now.clause.items c.requires.some (rw (← c.deref.ensures.value)
+    (sym c.in_default.ensures.value))
+
+pub attach-requires-clause-simple : goal.attach-requires-clause-simple
+attach-requires-clause-simple c =
+    let p = c.self.inside in
+    let clause = c.args.lesson.now.clause.items in
+    let lesson = subst (λ (s : SearchValue). IsLesson s clause c.args.lesson.now.hints.items
+    c.args.lesson.now.back) (sym c.self.view_is) c.requires.lesson in
+    let is = c.back_to.ensures ∙ gone_is p.inputs p.added p.taken p.singles p.watches
+    c.self.invariant clause c.args.lesson.now.hints.items c.args.lesson.now.back lesson
+    c.requires.some in
+    rw (is, c.deref-2.ensures.value) lesson.simple
+
+pub attach-requires-clause-quiet : goal.attach-requires-clause-quiet
+attach-requires-clause-quiet c =
+    let p = c.self.inside in
+    let clause = c.args.lesson.now.clause.items in
+    let lesson = subst (λ (s : SearchValue). IsLesson s clause c.args.lesson.now.hints.items
+    c.args.lesson.now.back) (sym c.self.view_is) c.requires.lesson in
+    let is = c.back_to.ensures ∙ gone_is p.inputs p.added p.taken p.singles p.watches
+    c.self.invariant clause c.args.lesson.now.hints.items c.args.lesson.now.back lesson
+    c.requires.some in
+    ap (λ (s : WatchState). s.due) is
+
+pub attach-requires-clause-may : goal.attach-requires-clause-may
+attach-requires-clause-may c =
+    let p = c.self.inside in
+    let clause = c.args.lesson.now.clause.items in
+    let hints = c.args.lesson.now.hints.items in
+    let back = c.args.lesson.now.back in
+    let lesson = subst (λ (s : SearchValue). IsLesson s clause hints back)
     (sym c.self.view_is) c.requires.lesson in
-    c.requires.some (lesson ∙ (no_decision c.self.inside.trail.entries
-    c.in_default.ensures.none).lesson)
+    let is = c.back_to.ensures ∙ gone_is p.inputs p.added p.taken p.singles p.watches
+    c.self.invariant clause hints back lesson c.requires.some in
+    rw (is, c.deref-2.ensures.value) (learn_may p.inputs p.added p.taken p.singles p.watches
+    c.self.invariant clause hints back lesson c.requires.some)
+
+pub invariant_of-self : goal.invariant_of-self
+invariant_of-self c =
+    let p = c.self.inside in
+    let clause = c.args.lesson.now.clause.items in
+    let hints = c.args.lesson.now.hints.items in
+    let back = c.args.lesson.now.back in
+    let lesson = subst (λ (s : SearchValue). IsLesson s clause hints back)
+    (sym c.self.view_is) c.requires.lesson in
+    let is = c.in_err-c.ensures.err ∙ c.back_to.ensures
+    ∙ gone_is p.inputs p.added p.taken p.singles p.watches c.self.invariant clause hints back
+    lesson c.requires.some in
+    subst (IsSearchStore p.inputs p.added p.taken p.singles) (sym is)
+    (store_gone p.inputs p.added p.taken p.singles p.watches c.self.invariant clause hints back
+    lesson c.requires.some)
+
+pub imply-requires-clause-within : goal.imply-requires-clause-within
+imply-requires-clause-within c =
+    let p = c.self.inside in
+    let clause = c.args.lesson.now.clause.items in
+    let hints = c.args.lesson.now.hints.items in
+    let back = c.args.lesson.now.back in
+    let store = c.self.invariant in
+    let lesson = subst (λ (s : SearchValue). IsLesson s clause hints back)
+    (sym c.self.view_is) c.requires.lesson in
+    let is = c.back_to.ensures ∙ gone_is p.inputs p.added p.taken p.singles p.watches store clause
+    hints back lesson c.requires.some in
+    let w = gone p.inputs p.added p.taken p.singles p.watches store clause hints back lesson
+    c.requires.some in
+    let id = c.next_id-id.result in
+    let ref = c.in_ok-c.c in
+    let does : Attaches w c.attach.new.self clause id ref =
+    rw (is, c.deref-2.ensures.value) at c.in_ok-c.ensures.ok in
+    let counted : p.inputs + p.added ≡ c.args.self.now.inputs + c.args.self.now.added =
+    ap (λ (s : SearchValue). s.inputs + s.added) c.self.view_is in
+    let next : id ≡ suc (p.inputs + p.added) = omega (arith, c.next_id-id.ensures, counted) in
+    let l : Lit = c.in-Some.last.now in
+    let first_is = last_literal clause _ (first p.inputs p.added p.taken p.singles p.watches store
+    clause hints back lesson c.requires.some) l
+    (ends_in_first p.inputs p.added p.taken p.singles p.watches store clause hints back lesson
+    c.requires.some)
+    (rw (← c.deref.ensures.value) (sym c.in-Some.ensures.value)) in
+    let vars : c.attach.new.self.vars ≡ p.watches.vars = ap (λ (s : WatchState). s.vars) does.is in
+    rw (vars, first_is) (first_inside p.inputs p.added p.taken p.singles p.watches store clause
+    hints back lesson c.requires.some)
+
+pub imply-requires-clause-open : goal.imply-requires-clause-open
+imply-requires-clause-open c =
+    let p = c.self.inside in
+    let clause = c.args.lesson.now.clause.items in
+    let hints = c.args.lesson.now.hints.items in
+    let back = c.args.lesson.now.back in
+    let store = c.self.invariant in
+    let lesson = subst (λ (s : SearchValue). IsLesson s clause hints back)
+    (sym c.self.view_is) c.requires.lesson in
+    let is = c.back_to.ensures ∙ gone_is p.inputs p.added p.taken p.singles p.watches store clause
+    hints back lesson c.requires.some in
+    let w = gone p.inputs p.added p.taken p.singles p.watches store clause hints back lesson
+    c.requires.some in
+    let id = c.next_id-id.result in
+    let ref = c.in_ok-c.c in
+    let does : Attaches w c.attach.new.self clause id ref =
+    rw (is, c.deref-2.ensures.value) at c.in_ok-c.ensures.ok in
+    let counted : p.inputs + p.added ≡ c.args.self.now.inputs + c.args.self.now.added =
+    ap (λ (s : SearchValue). s.inputs + s.added) c.self.view_is in
+    let next : id ≡ suc (p.inputs + p.added) = omega (arith, c.next_id-id.ensures, counted) in
+    let l : Lit = c.in-Some.last.now in
+    let first_is = last_literal clause _ (first p.inputs p.added p.taken p.singles p.watches store
+    clause hints back lesson c.requires.some) l
+    (ends_in_first p.inputs p.added p.taken p.singles p.watches store clause hints back lesson
+    c.requires.some)
+    (rw (← c.deref.ensures.value) (sym c.in-Some.ensures.value)) in
+    subst (IsOpen (lits_of c.attach.new.self.trail)) (sym first_is)
+    (learn_open p.inputs p.added p.taken p.singles p.watches store clause hints back lesson
+    c.requires.some c.attach.new.self id ref does next)
+
+pub imply-requires-clause-attached : goal.imply-requires-clause-attached
+imply-requires-clause-attached c =
+    let p = c.self.inside in
+    let clause = c.args.lesson.now.clause.items in
+    let hints = c.args.lesson.now.hints.items in
+    let back = c.args.lesson.now.back in
+    let store = c.self.invariant in
+    let lesson = subst (λ (s : SearchValue). IsLesson s clause hints back)
+    (sym c.self.view_is) c.requires.lesson in
+    let is = c.back_to.ensures ∙ gone_is p.inputs p.added p.taken p.singles p.watches store clause
+    hints back lesson c.requires.some in
+    let w = gone p.inputs p.added p.taken p.singles p.watches store clause hints back lesson
+    c.requires.some in
+    let id = c.next_id-id.result in
+    let ref = c.in_ok-c.c in
+    let does : Attaches w c.attach.new.self clause id ref =
+    rw (is, c.deref-2.ensures.value) at c.in_ok-c.ensures.ok in
+    let counted : p.inputs + p.added ≡ c.args.self.now.inputs + c.args.self.now.added =
+    ap (λ (s : SearchValue). s.inputs + s.added) c.self.view_is in
+    let next : id ≡ suc (p.inputs + p.added) = omega (arith, c.next_id-id.ensures, counted) in
+    let l : Lit = c.in-Some.last.now in
+    let first_is = last_literal clause _ (first p.inputs p.added p.taken p.singles p.watches store
+    clause hints back lesson c.requires.some) l
+    (ends_in_first p.inputs p.added p.taken p.singles p.watches store clause hints back lesson
+    c.requires.some)
+    (rw (← c.deref.ensures.value) (sym c.in-Some.ensures.value)) in
+    learn_attached p.inputs p.added p.taken p.singles p.watches store clause hints back lesson
+    c.requires.some c.attach.new.self id ref does next
+
+pub imply-requires-clause-unit : goal.imply-requires-clause-unit
+imply-requires-clause-unit c =
+    let p = c.self.inside in
+    let clause = c.args.lesson.now.clause.items in
+    let hints = c.args.lesson.now.hints.items in
+    let back = c.args.lesson.now.back in
+    let store = c.self.invariant in
+    let lesson = subst (λ (s : SearchValue). IsLesson s clause hints back)
+    (sym c.self.view_is) c.requires.lesson in
+    let is = c.back_to.ensures ∙ gone_is p.inputs p.added p.taken p.singles p.watches store clause
+    hints back lesson c.requires.some in
+    let w = gone p.inputs p.added p.taken p.singles p.watches store clause hints back lesson
+    c.requires.some in
+    let id = c.next_id-id.result in
+    let ref = c.in_ok-c.c in
+    let does : Attaches w c.attach.new.self clause id ref =
+    rw (is, c.deref-2.ensures.value) at c.in_ok-c.ensures.ok in
+    let counted : p.inputs + p.added ≡ c.args.self.now.inputs + c.args.self.now.added =
+    ap (λ (s : SearchValue). s.inputs + s.added) c.self.view_is in
+    let next : id ≡ suc (p.inputs + p.added) = omega (arith, c.next_id-id.ensures, counted) in
+    let l : Lit = c.in-Some.last.now in
+    let first_is = last_literal clause _ (first p.inputs p.added p.taken p.singles p.watches store
+    clause hints back lesson c.requires.some) l
+    (ends_in_first p.inputs p.added p.taken p.singles p.watches store clause hints back lesson
+    c.requires.some)
+    (rw (← c.deref.ensures.value) (sym c.in-Some.ensures.value)) in
+    subst (IsReason c.attach.new.self.trail (lits_at c.attach.new.self.clauses ref)) (sym first_is)
+    (learn_reason p.inputs p.added p.taken p.singles p.watches store clause hints back lesson
+    c.requires.some c.attach.new.self id ref does next)
 
 pub invariant_of-self-2 : goal.invariant_of-self-2
 invariant_of-self-2 c =
     let p = c.self.inside in
-    let d = c.in-Some.decision in
-    let older = c.take_back.new.self.entries in
-    let lesson = subst (λ (s : SearchValue). c.args.clause.now ≡ negated_decisions s.trail)
+    let clause = c.args.lesson.now.clause.items in
+    let hints = c.args.lesson.now.hints.items in
+    let back = c.args.lesson.now.back in
+    let store = c.self.invariant in
+    let lesson = subst (λ (s : SearchValue). IsLesson s clause hints back)
     (sym c.self.view_is) c.requires.lesson in
-    let few = subst (λ (s : SearchValue). s.inputs + s.added < 4294967295) (sym c.self.view_is)
-    c.requires.few in
+    let is = c.back_to.ensures ∙ gone_is p.inputs p.added p.taken p.singles p.watches store clause
+    hints back lesson c.requires.some in
+    let w = gone p.inputs p.added p.taken p.singles p.watches store clause hints back lesson
+    c.requires.some in
+    let id = c.next_id-id.result in
+    let ref = c.in_ok-c.c in
+    let does : Attaches w c.attach.new.self clause id ref =
+    rw (is, c.deref-2.ensures.value) at c.in_ok-c.ensures.ok in
     let counted : p.inputs + p.added ≡ c.args.self.now.inputs + c.args.self.now.added =
     ap (λ (s : SearchValue). s.inputs + s.added) c.self.view_is in
-    let id : c.next_id-id.result ≡ suc (p.inputs + p.added) = omega
-    (arith, c.next_id-id.ensures, counted) in
-    let clauses : c.add.new.self.clauses ≡ put p.clauses.clauses (suc (p.inputs + p.added))
-    c.args.clause.now =
-    c.in_ok-add.ensures.ok ∙ ap (λ n. put p.clauses.clauses n c.args.clause.now) id in
-    let entries : c.push.new.self.entries ≡ record
-    { lit = negation d.lit; reason = Some (suc (p.inputs + p.added)) } ∷ older =
-    c.push.ensures.entries
-    ∙ ap (λ l. record { lit = l; reason = Some c.next_id-id.result } ∷ older)
-    c.negation.ensures.value
-    ∙ ap (λ n. record { lit = negation d.lit; reason = Some n } ∷ older) id in
-    let one : suc p.added ≡ p.added + 1 = omega arith in
-    subst (λ n. IsSearchStore p.inputs n c.add.new.self c.push.new.self) one
-    (store_learned p.inputs p.added p.clauses c.add.new.self p.trail c.push.new.self d older
-    c.args.clause.now c.self.invariant (omega (arith, few))
-    c.in-Some.ensures.some lesson c.in_ok-add.ensures.vars clauses
-    (c.push.ensures.vars ∙ c.in-Some.ensures.vars) entries)
+    let next : id ≡ suc (p.inputs + p.added) = omega (arith, c.next_id-id.ensures, counted) in
+    let l : Lit = c.in-Some.last.now in
+    let first_is = last_literal clause _ (first p.inputs p.added p.taken p.singles p.watches store
+    clause hints back lesson c.requires.some) l
+    (ends_in_first p.inputs p.added p.taken p.singles p.watches store clause hints back lesson
+    c.requires.some)
+    (rw (← c.deref.ensures.value) (sym c.in-Some.ensures.value)) in
+    let few = subst (λ (s : SearchValue). s.inputs + s.added < 4294967295)
+    (sym c.self.view_is) c.requires.few in
+    let after : c.imply.new.self
+    ≡ implied (first p.inputs p.added p.taken p.singles p.watches store clause hints back lesson
+    c.requires.some) ref c.attach.new.self =
+    c.imply.ensures ∙ ap (λ (x : Lit). implied x ref c.attach.new.self) first_is in
+    subst (λ (n : ℕ). IsSearchStore p.inputs n p.taken p.singles c.imply.new.self) (sym
+    (add-one p.added))
+    (subst (IsSearchStore p.inputs (suc p.added) p.taken p.singles) (sym after)
+    (store_learned p.inputs p.added p.taken p.singles p.watches store clause hints back lesson
+    c.requires.some c.attach.new.self id ref does next (omega (arith, few))))
+
+pub returns : goal.returns
+returns c =
+    let p = c.self.inside in
+    let clause = c.args.lesson.now.clause.items in
+    let hints = c.args.lesson.now.hints.items in
+    let back = c.args.lesson.now.back in
+    let store = c.self.invariant in
+    let lesson = subst (λ (s : SearchValue). IsLesson s clause hints back)
+    (sym c.self.view_is) c.requires.lesson in
+    let is = c.back_to.ensures ∙ gone_is p.inputs p.added p.taken p.singles p.watches store clause
+    hints back lesson c.requires.some in
+    let w = gone p.inputs p.added p.taken p.singles p.watches store clause hints back lesson
+    c.requires.some in
+    let id = c.next_id-id.result in
+    let ref = c.in_ok-c.c in
+    let does : Attaches w c.attach.new.self clause id ref =
+    rw (is, c.deref-2.ensures.value) at c.in_ok-c.ensures.ok in
+    let counted : p.inputs + p.added ≡ c.args.self.now.inputs + c.args.self.now.added =
+    ap (λ (s : SearchValue). s.inputs + s.added) c.self.view_is in
+    let next : id ≡ suc (p.inputs + p.added) = omega (arith, c.next_id-id.ensures, counted) in
+    let l : Lit = c.in-Some.last.now in
+    let first_is = last_literal clause _ (first p.inputs p.added p.taken p.singles p.watches store
+    clause hints back lesson c.requires.some) l
+    (ends_in_first p.inputs p.added p.taken p.singles p.watches store clause hints back lesson
+    c.requires.some)
+    (rw (← c.deref.ensures.value) (sym c.in-Some.ensures.value)) in
+    let after : c.imply.new.self
+    ≡ implied (first p.inputs p.added p.taken p.singles p.watches store clause hints back lesson
+    c.requires.some) ref c.attach.new.self =
+    c.imply.ensures ∙ ap (λ (x : Lit). implied x ref c.attach.new.self) first_is in
+    rw (← c.self.view_is)
+    (subst (λ (n : ℕ). Learns (search_value p.inputs p.added p.singles p.watches)
+    (search_value p.inputs n p.singles c.imply.new.self) clause) (sym (add-one p.added))
+    (subst (λ (s : WatchState). Learns (search_value p.inputs p.added p.singles p.watches)
+    (search_value p.inputs (suc p.added) p.singles s) clause) (sym after)
+    (learns p.inputs p.added p.taken p.singles p.watches store clause hints back lesson
+    c.requires.some c.attach.new.self id ref does next)))

@@ -1,10 +1,17 @@
 use Rattle.std.proofs.Common.{◌-◌, length}
-use Rattle.sat_core.specs.SearchStore.{ChangesTrail}
+use Rattle.sat_core.specs.SearchStore.{IsSearchStore, SameKept, search_value}
 use Rattle.sat_core.proofs.search.Search.next_conflict.Given as goal
 
--- each turn decides a variable
-abbrev pub decreases-loop-id : goal.decreases-loop-id
-decreases-loop-id l = l.self.vars - length l.self.trail
+-- each turn attaches one of the clauses that wait
+abbrev pub decreases-loop-self : goal.decreases-loop-self
+decreases-loop-self l = length l.self-inside.singles.clauses - l.self-inside.taken
 
-abbrev pub invariant-loop-id : goal.invariant-loop-id
-invariant-loop-id l = ChangesTrail l.initial.self l.self
+abbrev pub invariant-loop-self : goal.invariant-loop-self
+invariant-loop-self l = record {
+  store : IsSearchStore l.self-inside.inputs l.self-inside.added l.self-inside.taken
+      l.self-inside.singles l.self-inside.watches;
+  same : SameKept (search_value l.initial.self-inside.inputs l.initial.self-inside.added
+      l.initial.self-inside.singles l.initial.self-inside.watches)
+      (search_value l.self-inside.inputs l.self-inside.added l.self-inside.singles
+      l.self-inside.watches);
+}

@@ -85,7 +85,8 @@ returns-in-Some-clause-propagates c =
     c.self.view_is c.requires.quiet c.requires.some in
     step_propagates c.args.self.now i.chains c.walk-found.new.chains i.trail c.walk-found.new.trail
     i.queued (i.queued + (c.len.result - c.len-before.result)) i.level i.due c.negation.result
-    c.self.view_is q.none c.walk-found.ensures.vars c.walk-found.ensures.goes
+    c.self.view_is q.none c.walk-found.ensures.vars c.walk-found.ensures.whole.chained.placed
+    c.walk-found.ensures.goes
 
 pub returns-clause-propagates : goal.returns-clause-propagates
 returns-clause-propagates c =
@@ -94,7 +95,8 @@ returns-clause-propagates c =
     c.self.view_is c.requires.quiet c.requires.some in
     step_propagates c.args.self.now i.chains c.walk-found.new.chains i.trail c.walk-found.new.trail
     i.queued (i.queued + (c.len.result - c.len-before.result) - 1) i.level i.due c.negation.result
-    c.self.view_is q.none c.walk-found.ensures.vars c.walk-found.ensures.goes
+    c.self.view_is q.none c.walk-found.ensures.vars c.walk-found.ensures.whole.chained.placed
+    c.walk-found.ensures.goes
 
 pub returns-in-Some-clause-attached : goal.returns-in-Some-clause-attached
 returns-in-Some-clause-attached c =

@@ -1,0 +1,213 @@
+-- When a clause may be attached, and what it is then.
+use Rattle.std.specs.Prelude.{if◌then◌else◌}
+use Rattle.std.proofs.Common.{inl, inr, ◌≡◌, ◌≤◌, ℕ, zero, suc, Bool, true, false, List, [], ◌∷◌, ◌++◌, length, Option, None, Some, slice_get, Contains, refl, sym, ap, ◌∙◌, subst, arith}
+use Rattle.std.proofs.lemmas.Bool.{both_ways, eq-eqb}
+use Rattle.std.proofs.lemmas.List.Elements.{All-contains}
+use Rattle.sat_clause.specs.declared.literal.Lit.{Lit}
+use Rattle.sat_clause.specs.Literal.{Clause, negation}
+use Rattle.sat_arena.specs.declared.clause_ref.ClauseRef.{ClauseRef}
+use Rattle.sat_watch.specs.declared.entry.TrailEntry.{TrailEntry}
+use Rattle.sat_watch.specs.Levels.{due_without}
+use Rattle.sat_watch.specs.Trail.{value_in}
+use Rattle.sat_watch.specs.Watched.{IsReason, is_false, true_at}
+use Rattle.sat_watch.specs.Watches.{Attached, Attaches, HasOneOpen, HasOneTrue, IsOnlyOne, AreInPlace, WatchState, highest, implied, is_attached, lits_at}
+use Rattle.sat_watch.proofs.ChoiceLemmas.{free_level}
+use Rattle.sat_watch.proofs.GoesLemmas.{reason_moves}
+use Rattle.sat_watch.proofs.LevelLemmas.{true_is_false, true_level}
+use Rattle.sat_watch.proofs.WatchLemmas.{lit_tells}
+use Rattle.sat_core.specs.Levels.{Assigned, level_of}
+use Rattle.sat_core.specs.SearchStore.{IsLeveled, assigned, assigned_in}
+use Rattle.sat_core.specs.Single.{IsTaken}
+use Rattle.sat_core.proofs.AttachedLaws.{last_is, new_place}
+use Rattle.sat_core.proofs.DecideLaws.{leveled_any, leveled_implied}
+use Rattle.sat_core.proofs.LevelLaws.{none_above}
+
+-- LITERALS
+
+pub true_none : (trail : List TrailEntry) (l : Lit) → is_false trail (negation l) ≡ false
+    → true_at trail l ≡ None
+true_none trail l free = by (true_at trail l) refl
+  where
+    by : (o : Option ℕ) → true_at trail l ≡ o → true_at trail l ≡ None
+    by None is = is
+    by (Some n) is = absurd (both_ways _ free (true_is_false trail l n is))
+
+-- a literal is true at the level of its entry
+pub true_entry : (trail : List TrailEntry) (l : Lit) (n : ℕ) → true_at trail l ≡ Some n →
+    (e : TrailEntry) × Contains trail e × (e.lit ≡ l) × (e.level ≡ n)
+true_entry [] l n is = cc
+true_entry (e ∷ older) l n is =
+    elim (lit_tells e.lit l) [
+      | inl same ↦ (let at : Some e.level ≡ Some n = rw same.0 at is in
+          let level : e.level ≡ n = cc in (e, (zero, omega arith, refl), same.1, level))
+      | inr other ↦
+          let rest = true_entry older l n (rw other.0 at is) in
+          (rest.0, (suc rest.1.0, omega (arith, rest.1.1), rest.1.2), rest.2, rest.3)
+    ]
+
+pub contains_assigned : (ks : List Attached) (trail : List TrailEntry) (e : TrailEntry)
+    → Contains trail e →
+    Contains (assigned_in ks trail) (assigned ks e)
+contains_assigned ks [] e (k, within, is) = absurd (omega (arith, within))
+contains_assigned ks (x ∷ older) e (zero, within, is) =
+    let same : x ≡ e = is in (zero, omega arith, ap (assigned ks) same)
+contains_assigned ks (x ∷ older) e (suc k, within, is) =
+    let rest = contains_assigned ks older e (k, omega (arith, within), is) in
+    (suc rest.0, omega (arith, rest.1), rest.2)
+
+-- at level 0 each true literal is true at level 0
+level_zero : (s : WatchState) (l : Lit) (n : ℕ) → IsLeveled s → s.level ≡ 0
+    → true_at s.trail l ≡ Some n → n ≡ 0
+level_zero s l n leveled zero_is is =
+    let e = true_entry s.trail l n is in
+    let low = All-contains (λ (x : Assigned). x.level ≤ level_of (assigned_in s.clauses s.trail))
+    (assigned_in s.clauses s.trail) (assigned s.clauses e.0)
+    (none_above (assigned_in s.clauses s.trail) leveled.levels)
+    (contains_assigned s.clauses s.trail e.0 e.1) in
+    omega (arith, low, leveled.current, zero_is, e.3)
+
+-- what a value says of a literal and its negation
+abbrev pub Says : List TrailEntry → Lit → Option Bool → Type 0
+Says trail l None = (is_false trail l ≡ false) × (is_false trail (negation l) ≡ false)
+Says trail l (Some true) = (is_false trail l ≡ false) × (is_false trail (negation l) ≡ true)
+Says trail l (Some false) = is_false trail l ≡ true
+
+pub value_says : (trail : List TrailEntry) (l : Lit) → (o : Option Bool) → value_in trail l ≡ o
+    → Says trail l o
+value_says trail l o is = by (is_false trail l) refl (is_false trail (negation l)) refl is
+  where
+    by : (a : Bool) → is_false trail l ≡ a → (b : Bool) → is_false trail (negation l) ≡ b →
+        (if a then Some false else if b then Some true else None) ≡ o → Says trail l o
+    by true a b_any b e = subst (Says trail l) e a
+    by false a true b e = subst (Says trail l) e (a, b)
+    by false a false b e = subst (Says trail l) e (a, b)
+
+-- ONE LITERAL
+
+pub one_literal : (xs : Clause) (l : Lit) → length xs ≤ 1 → slice_get xs 0 ≡ Some l → xs ≡ l ∷ []
+one_literal [] l few at = cc
+one_literal (x ∷ []) l few at = let same : x ≡ l = cc in ap (λ (y : Lit). y ∷ []) same
+one_literal (x ∷ y ∷ ys) l few at = absurd (omega (arith, few))
+
+pub no_literal : (xs : Clause) → slice_get xs 0 ≡ None → xs ≡ []
+no_literal [] at = refl
+no_literal (x ∷ xs) at = cc
+
+only_literal : (trail : List TrailEntry) (l : Lit) → is_false trail l ≡ false
+    → IsOnlyOne trail (l ∷ []) l
+only_literal trail l free = (
+  (zero, omega arith, refl),
+  free,
+  λ m has other. absurd (other (by m has)),
+)
+  where
+    by : (m : Lit) → Contains (l ∷ []) m → m ≡ l
+    by m (zero, within, is) = sym is
+    by m (suc k, within, is) = absurd (omega (arith, within))
+
+one_highest : (trail : List TrailEntry) (l : Lit) → is_false trail l ≡ false
+    → highest trail (l ∷ []) ≡ 0
+one_highest trail l free = rw (free_level trail l free) refl
+
+pub one_open : (s : WatchState) (l : Lit) → s.level ≡ 0 → is_false s.trail l ≡ false
+    → is_false s.trail (negation l) ≡ false →
+    HasOneOpen s.trail s.level (l ∷ [])
+one_open s l level free not_true = (
+  l,
+  only_literal s.trail l free,
+  true_none s.trail l not_true,
+  level
+      ∙ sym (one_highest s.trail l free),
+)
+
+pub one_true : (s : WatchState) (l : Lit) → IsLeveled s → s.level ≡ 0 → is_false s.trail l ≡ false
+    → is_false s.trail (negation l) ≡ true →
+    HasOneTrue s.trail (l ∷ [])
+one_true s l leveled level free is_true =
+    let at = true_level s.trail l is_true in
+    let low : at.0 ≡ 0 = level_zero s l at.0 leveled level at.1 in
+    (l, at.0, only_literal s.trail l free, at.1, omega (arith, low))
+
+pub one_reason : (trail : List TrailEntry) (l : Lit) → IsReason trail (l ∷ []) l
+one_reason trail l = record {
+  has = (zero, omega arith, refl);
+  others = λ m has other. absurd (other (by m has));
+}
+  where
+    by : (m : Lit) → Contains (l ∷ []) m → m ≡ l
+    by m (zero, within, is) = sym is
+    by m (suc k, within, is) = absurd (omega (arith, within))
+
+-- WHAT IS ATTACHED
+
+module _ (old new : WatchState) (lits : Clause) (id : ℕ) (c : ClauseRef)
+    (does : Attaches old new lits id c) (stand : AreInPlace 0 old.clauses) where
+  abbrev attached : Attached
+  attached = record { place = c; id = id; lits = does.order }
+
+  pub now_clauses : new.clauses ≡ old.clauses ++ attached ∷ []
+  now_clauses = ap (λ (s : WatchState). s.clauses) does.is
+
+  pub now_trail : new.trail ≡ old.trail
+  now_trail = ap (λ (s : WatchState). s.trail) does.is
+
+  pub now_level : new.level ≡ old.level
+  now_level = ap (λ (s : WatchState). s.level) does.is
+
+  pub now_vars : new.vars ≡ old.vars
+  now_vars = ap (λ (s : WatchState). s.vars) does.is
+
+  pub now_attached : is_attached new.clauses c ≡ true
+  now_attached =
+      let last = last_is old.clauses attached (new_place old.clauses c stand does.place) in
+      rw now_clauses last.attached
+
+  pub now_lits : lits_at new.clauses c ≡ does.order
+  now_lits =
+      let last = last_is old.clauses attached (new_place old.clauses c stand does.place) in
+      rw now_clauses last.lits
+
+  pub now_reason : (l : Lit) → IsReason old.trail lits l
+      → IsReason new.trail (lits_at new.clauses c) l
+  now_reason l why = rw (now_trail, now_lits) (reason_moves old.trail lits does.order l does.same
+      why)
+
+  pub now_leveled : IsLeveled old → IsLeveled new
+  now_leveled leveled = leveled_any old new now_trail now_level leveled
+
+-- behind the implied literal of a due clause none is due
+pub implied_due : (s : WatchState) (l : Lit) (c : ClauseRef) → s.due ≡ Some c
+    → (implied l c s).due ≡ None
+implied_due s l c due = ap (due_without c) due ∙ rw (eq-eqb c.word c.word refl) refl
+
+-- SINGLE CLAUSES
+
+module _ (old new : WatchState) (lits : Clause) (id : ℕ) (c : ClauseRef)
+    (does : Attaches old new lits id c) (stand : AreInPlace 0 old.clauses) where
+  pub taken_true : IsLeveled old → old.level ≡ 0 → HasOneTrue old.trail lits
+      → IsTaken old new lits id
+  taken_true leveled level case = record {
+    place = c;
+    behind = does.place;
+    order = does.order;
+    same = does.same;
+    clauses = now_clauses old new lits id c does stand;
+    vars = now_vars old new lits id c does stand;
+    level = now_level old new lits id c does stand ∙ level;
+    leveled = now_leveled old new lits id c does stand leveled;
+    due = does.not_due (inr case);
+  }
+
+  pub taken_open : (l : Lit) → IsLeveled old → old.level ≡ 0 → HasOneOpen old.trail old.level lits
+      → IsTaken old (implied l c new) lits id
+  taken_open l leveled level case = record {
+    place = c;
+    behind = does.place;
+    order = does.order;
+    same = does.same;
+    clauses = now_clauses old new lits id c does stand;
+    vars = now_vars old new lits id c does stand;
+    level = now_level old new lits id c does stand ∙ level;
+    leveled = leveled_implied new l c (now_leveled old new lits id c does stand leveled);
+    due = implied_due new l c (does.due case);
+  }

@@ -1,0 +1,475 @@
+-- The way back behind a lesson, and what one more clause makes of a search.
+use Rattle.std.specs.Prelude.{max, nat_le, option_map, unwrap_or}
+use Rattle.std.proofs.Common.{inl, inr, ◌≡◌, ◌≢◌, ◌<◌, ◌≤◌, ◌+◌, ◌-◌, ℕ, zero, suc, ℤ, pos, true, List, [], ◌∷◌, ◌++◌, length, Option, None, Some, slice_get, get_or, take, reverse, add-one, Contains, refl, sym, ap, ◌∙◌, subst, arith}
+use Rattle.std.proofs.Math.Nat.{le-max_left, le-max_right}
+use Rattle.std.proofs.lemmas.Bool.{cases_eq, le-leb, lt-ltb}
+use Rattle.std.proofs.lemmas.List.{append-nil, get_or_default, length-append, reverse-append}
+use Rattle.std.proofs.lemmas.List.Sorted.{Contains-permutation, IsPermutation-reverse}
+use Rattle.std.proofs.lemmas.Option.{slice_get-get_or, slice_get_within}
+use Rattle.list_laws.proofs.Places.{get-cases, some_is, take-get}
+use Rattle.std.proofs.lemmas.List.Elements.{All-contains, All-contains_itself, All-filter}
+use Rattle.sat_clause.specs.declared.literal.Lit.{Lit}
+use Rattle.sat_clause.specs.Formula.{Cnf}
+use Rattle.sat_clause.specs.Judge.{inputs}
+use Rattle.sat_clause.specs.Learned.{SameLiterals}
+use Rattle.sat_clause.specs.Literal.{Clause, IsWithin, is_among, negation, variable}
+use Rattle.sat_clause.specs.Live.{Live, clause_at, put}
+use Rattle.sat_clause.specs.Trail.{IsOpen as IsOpenOn}
+use Rattle.sat_clause.proofs.LiteralLaws.{negation-negation}
+use Rattle.sat_clause.proofs.ReadingLaws.{IsFalseOr}
+use Rattle.sat_clause.proofs.TrailLaws.{open_not_false, open_not_true}
+use Rattle.sat_arena.specs.declared.clause_ref.ClauseRef.{ClauseRef}
+use Rattle.sat_watch.specs.declared.entry.TrailEntry.{TrailEntry}
+use Rattle.sat_watch.specs.Levels.{upto}
+use Rattle.sat_watch.specs.Trail.{lits_of as watch_lits}
+use Rattle.sat_watch.specs.Watched.{IsReason, is_false, true_at}
+use Rattle.sat_watch.specs.Watches.{Attached, Attaches, HasCause, HasLevels, HasOneOpen, HasTwoFree, MayAttach, WatchState, gone_back, highest, id_at, implied, is_attached, lits_at}
+use Rattle.sat_watch.proofs.LevelLemmas.{true_level}
+use Rattle.sat_core.specs.ClauseList.{ClauseListState}
+use Rattle.sat_core.specs.Kept.{AreBelow, AreKept, HasOnce, SameLive, is_always_true}
+use Rattle.sat_core.specs.Lesson.{decided, negated_decisions, reason_id, reason_ids}
+use Rattle.sat_core.specs.Levels.{AreLevels, Assigned, IsAsserting, level_of, lits_of, made_false, up_to}
+use Rattle.sat_core.specs.SearchStore.{IsLesson, IsLeveled, IsSearchStore, Learns, assigned, assigned_in, live_of, search_value}
+use Rattle.sat_core.specs.Stands.{SearchValue, StandsFor}
+use Rattle.sat_core.specs.Underway.{with_input}
+use Rattle.sat_core.proofs.AttachLaws.{contains_assigned, implied_due, now_attached, now_clauses, now_leveled, now_reason, now_trail, now_vars, true_entry, true_none}
+use Rattle.sat_core.proofs.AttachedLaws.{same_permuted, simple_permuted}
+use Rattle.sat_core.proofs.DecideLaws.{leveled_implied}
+use Rattle.sat_core.proofs.DecisionLaws.{IsLastDecision, decisions_assert, newest}
+use Rattle.sat_core.proofs.KeptLaws.{inputs_put, kept_alike, kept_put, kept_skip, none_next}
+use Rattle.sat_core.proofs.LessonLaws.{all_false_or, first_is_open}
+use Rattle.sat_core.proofs.LevelLaws.{in_made_false, level_back, levels_back, none_above, only_entry}
+use Rattle.sat_core.proofs.SameLaws.{same_back}
+use Rattle.sat_core.proofs.SearchLaws.{attached_alike, store_attached}
+use Rattle.sat_core.proofs.WatchLaws.{falses_in, lits_in, single_found, up_to_in}
+
+-- ONE MORE INPUT
+
+module _ (old new : SearchValue) (front : Cnf) (lits : Clause) (stands : StandsFor old front [])
+    (below : AreBelow (suc old.inputs) old.clauses) (vars : new.vars ≡ old.vars)
+    (more : new.inputs ≡ suc old.inputs) (same : new.added ≡ old.added) where
+  now_stands : AreKept new.clauses (put (inputs front) (suc (length front.clauses)) lits) →
+      StandsFor new (with_input front lits) []
+  now_stands are = record {
+    vars = vars ∙ stands.vars;
+    inputs = omega (arith, more, stands.inputs, length-append front.clauses (lits ∷ []));
+    added = same ∙ stands.added;
+    clauses = kept_alike new.clauses new.clauses (put (inputs front) (suc
+        (length front.clauses)) lits)
+        (inputs (with_input front lits)) (λ n. refl) (inputs_put front lits) are;
+  }
+
+  next_input : suc old.inputs ≡ suc (length front.clauses)
+  next_input = ap suc stands.inputs
+
+  pub stands_without : new.clauses ≡ old.clauses → is_always_true lits ≡ true
+      → StandsFor new (with_input front lits) []
+  stands_without unchanged always =
+      let none : clause_at old.clauses (suc (length front.clauses)) ≡ None =
+      subst (λ (n : ℕ). clause_at old.clauses n ≡ None) next_input
+      (none_next (suc old.inputs) old.clauses below) in
+      now_stands (rw unchanged (kept_skip old.clauses (inputs front) (suc (length front.clauses))
+      lits stands.clauses none always))
+
+  pub stands_with : (kept : Clause) → SameLive (put old.clauses (suc old.inputs) kept) new.clauses →
+      SameLiterals kept lits → HasOnce kept → StandsFor new (with_input front lits) []
+  stands_with kept alike same_lits once =
+      let live : Live = put (inputs front) (suc (length front.clauses)) lits in
+      let are : AreKept (put old.clauses (suc old.inputs) kept) live =
+      rw next_input (kept_put old.clauses (inputs front) (suc
+      (length front.clauses)) kept lits stands.clauses same_lits once) in
+      now_stands (kept_alike (put old.clauses (suc old.inputs) kept) new.clauses live live alike
+      (λ n. refl) are)
+
+-- THE HIGHEST LEVEL
+
+max_le : (a b n : ℕ) → a ≤ n → b ≤ n → max a b ≤ n
+max_le a b n la lb = omega arith
+
+highest_most : (trail : List TrailEntry) (lits : Clause) (n : ℕ) →
+    ((l : Lit) → Contains lits l → unwrap_or (true_at trail (negation l)) 0 ≤ n)
+    → highest trail lits ≤ n
+highest_most trail [] n all = omega arith
+highest_most trail (l ∷ ls) n all =
+    max_le (unwrap_or (true_at trail (negation l)) 0) (highest trail ls) n (all l
+    (zero, omega arith, refl))
+    (highest_most trail ls n (λ m has. all m (suc has.0, omega (arith, has.1), has.2)))
+
+highest_least : (trail : List TrailEntry) (lits : Clause) (l : Lit) → Contains lits l
+    → unwrap_or (true_at trail (negation l)) 0 ≤ highest trail lits
+highest_least trail [] l (k, within, is) = absurd (omega (arith, within))
+highest_least trail (x ∷ xs) l (zero, within, is) =
+    let same : x ≡ l = is in
+    subst (λ (m : Lit). unwrap_or (true_at trail (negation m)) 0 ≤ highest trail (x ∷ xs)) same
+    (le-max_left (unwrap_or (true_at trail (negation x)) 0) (highest trail xs))
+highest_least trail (x ∷ xs) l (suc k, within, is) =
+    let rest = highest_least trail xs l (k, omega (arith, within), is) in
+    let up = le-max_right (unwrap_or (true_at trail (negation x)) 0) (highest trail xs) in
+    omega (arith, rest, up)
+
+-- THE WAY BACK
+
+module _ (i a t : ℕ) (s : ClauseListState) (w : WatchState) (store : IsSearchStore i a t s w)
+    (clause : Clause) (hints : List ℤ) (back : ℕ) (lesson : IsLesson
+    (search_value i a s w) clause hints back)
+    (some : clause ≢ []) where
+  abbrev entries : List Assigned
+  entries = assigned_in w.clauses w.trail
+
+  abbrev pub gone : WatchState
+  gone = record w { trail = upto back w.trail; queued = 0; level = back; due = None }
+
+  pub last_decision : (d : Assigned) × (older : List Assigned) × IsLastDecision entries d older
+  last_decision =
+      elim (newest entries lesson.trail.levels) [
+        | inl none ↦ absurd (some (lesson.is ∙ none.lesson))
+        | inr found ↦ found
+      ]
+
+  abbrev pub first : Lit
+  first = negation (last_decision.0).lit
+
+  back_level : back ≡ level_of last_decision.1
+  back_level = let up = last_decision.2.level in omega (arith, lesson.level, up)
+
+  back_below : back < w.level
+  back_below = let up = last_decision.2.level in
+      omega (arith, lesson.level, up, store.leveled.current)
+
+  asserts : IsAsserting entries (level_of entries) back first clause
+  asserts =
+      subst (λ (x : Clause). IsAsserting entries (level_of entries) back first x) (sym lesson.is)
+      (subst (λ (b : ℕ). IsAsserting entries (level_of entries) b first (negated_decisions entries))
+      (sym back_level)
+      (decisions_assert entries last_decision.0 last_decision.1 last_decision.2))
+
+  -- the last literal is the negated last decision
+  pub ends_in_first : clause ≡ negated_decisions last_decision.1 ++ first ∷ []
+  ends_in_first = lesson.is ∙ last_decision.2.lesson
+
+  -- it is of the variables of the search
+  pub first_inside : IsWithin w.vars first
+  first_inside =
+      let has : Contains clause first = asserts.has in
+      All-contains (IsWithin w.vars) clause first lesson.simple.within has
+
+  pub gone_is : gone_back back w ≡ gone
+  gone_is = rw (lt-ltb back w.level back_below) refl
+
+  gone_trail : up_to back entries ≡ assigned_in w.clauses gone.trail
+  gone_trail = up_to_in w.clauses back w.trail
+
+  gone_leveled : IsLeveled gone
+  gone_leveled = record {
+    levels = subst AreLevels gone_trail (levels_back back entries store.leveled.levels);
+    current =
+        sym (level_back back entries store.leveled.levels (omega
+        (arith, back_below, store.leveled.current)))
+        ∙ ap level_of gone_trail;
+  }
+
+  all_taken : t ≡ length s.clauses
+  all_taken = elim store.waiting [
+    | inl all ↦ all
+    | inr low ↦ absurd (omega
+        (arith, low, back_below))
+  ]
+
+  pub store_gone : IsSearchStore i a t s gone
+  store_gone = record {
+    few_ids = store.few_ids;
+    few = store.few;
+    few_vars = store.few_vars;
+    same_vars = store.same_vars;
+    below = store.below;
+    few_taken = store.few_taken;
+    short = store.short;
+    keeps = store.keeps;
+    taken_are = store.taken_are;
+    waiting = inl all_taken;
+    leveled = gone_leveled;
+    none_due = refl;
+  }
+
+  first_open : IsOpenOn (watch_lits gone.trail) first
+  first_open =
+      subst (λ (ls : List Lit). IsOpenOn ls first) (ap lits_of gone_trail
+      ∙ lits_in w.clauses gone.trail)
+      (first_is_open (s.clauses ++ live_of w.clauses) w.vars entries back first clause lesson.trail
+      asserts)
+
+  abbrev set_gone : List Lit
+  set_gone = made_false (up_to back entries)
+
+  falses_gone : (m : Lit) → is_among set_gone m ≡ true → is_false gone.trail m ≡ true
+  falses_gone m is =
+      subst (λ (set : List Lit). is_among set m
+      ≡ true) (ap made_false gone_trail ∙ falses_in w.clauses gone.trail) is
+
+  others_false : (m : Lit) → Contains clause m → m ≢ first → is_false gone.trail m ≡ true
+  others_false m has other =
+      elim (All-contains (IsFalseOr set_gone first) clause m
+      (all_false_or (s.clauses ++ live_of w.clauses) entries
+      (level_of entries) back first clause lesson.trail.once asserts back (omega arith)) has) [
+        | inl is ↦ falses_gone m is
+        | inr same ↦ absurd (other same)
+      ]
+
+  levels_low : (x : Lit) (n : ℕ) → true_at gone.trail x ≡ Some n → n ≤ back
+  levels_low x n is =
+      let e = true_entry gone.trail x n is in
+      let low = All-contains (λ (y : Assigned). y.level ≤ level_of
+      (assigned_in w.clauses gone.trail)) (assigned_in w.clauses gone.trail)
+      (assigned w.clauses e.0)
+      (none_above (assigned_in w.clauses gone.trail) gone_leveled.levels)
+      (contains_assigned w.clauses gone.trail e.0 e.1) in
+      omega (arith, low, gone_leveled.current, e.3)
+
+  level_low : (x : Lit) → unwrap_or (true_at gone.trail x) 0 ≤ back
+  level_low x = by (true_at gone.trail x) refl
+    where
+      by : (o : Option ℕ) → true_at gone.trail x ≡ o → unwrap_or o 0 ≤ back
+      by None is = omega arith
+      by (Some n) is = levels_low x n is
+
+  highest_some : 1 ≤ back → back ≤ highest gone.trail clause
+  highest_some one =
+      let high = asserts.highest one in
+      let l : Lit = high.0 in
+      let f : Assigned = high.2.0 in
+      let level : f.level ≡ back = high.2.3 in
+      let under : nat_le f.level back ≡ true = le-leb f.level back (omega (arith, level)) in
+      let is : is_among set_gone l ≡ true = subst (λ (x : Lit). is_among set_gone x
+      ≡ true) high.2.2 (in_made_false back entries f high.2.1 under) in
+      let there : is_false gone.trail (negation (negation l)) ≡ true =
+      subst (λ (x : Lit). is_false gone.trail x
+      ≡ true) (sym (negation-negation l)) (falses_gone l is) in
+      let at = true_level gone.trail (negation l) there in
+      let e = true_entry gone.trail (negation l) at.0 at.1 in
+      let e_in : Contains (up_to back entries) (assigned w.clauses e.0) =
+      subst (λ (es : List Assigned). Contains es (assigned w.clauses e.0)) (sym gone_trail)
+      (contains_assigned w.clauses gone.trail e.0 e.1) in
+      let e_all : Contains entries (assigned w.clauses e.0) =
+      All-contains (Contains entries) (up_to back entries) (assigned w.clauses e.0)
+      (All-filter (λ (x : Assigned). nat_le x.level back) (Contains entries) entries
+      (All-contains_itself entries)) e_in in
+      let lit_is : (e.0).lit ≡ f.lit = e.2 ∙ ap negation (sym high.2.2) ∙ negation-negation f.lit in
+      let one_entry : assigned w.clauses e.0 ≡ f =
+      only_entry entries lesson.trail.once (assigned w.clauses e.0) f e_all high.2.1
+      (ap variable lit_is) in
+      let n_is : at.0 ≡ back = sym e.3 ∙ ap (λ (x : Assigned). x.level) one_entry ∙ level in
+      let most = highest_least gone.trail clause l high.1 in
+      let value : unwrap_or (true_at gone.trail (negation l)) 0 ≡ at.0 =
+      ap (λ (o : Option ℕ). unwrap_or o 0) at.1 in
+      omega (arith, n_is, most, value)
+
+  highest_back : back ≡ highest gone.trail clause
+  highest_back =
+      let most = highest_most gone.trail clause back (λ l has. level_low (negation l)) in
+      elim (cases_eq back 0) [
+        | inl none ↦ omega (arith, most, none)
+        | inr other ↦ let least = highest_some (omega (arith, other)) in omega (arith, most, least)
+      ]
+
+  one_open : HasOneOpen gone.trail gone.level clause
+  one_open = (
+    first,
+    (asserts.has, open_not_false (watch_lits gone.trail) first first_open, others_false),
+    true_none gone.trail first (open_not_true (watch_lits gone.trail) first first_open),
+    highest_back,
+  )
+
+  pub learn_may : MayAttach gone clause
+  learn_may = inr (inr one_open)
+
+  -- WITH THE CLAUSE
+
+  module _ (now : WatchState) (id : ℕ) (c : ClauseRef) (does : Attaches gone now clause id c)
+      (next : id ≡ suc (i + a)) where
+    pub learn_open : IsOpenOn (watch_lits now.trail) first
+    learn_open = rw (now_trail gone now clause id c does store.keeps.stand) first_open
+
+    pub learn_attached : is_attached now.clauses c ≡ true
+    learn_attached = now_attached gone now clause id c does store.keeps.stand
+
+    pub learn_reason : IsReason now.trail (lits_at now.clauses c) first
+    learn_reason = now_reason gone now clause id c does store.keeps.stand first (record {
+      has =
+          asserts.has;
+      others = others_false;
+    })
+
+    pub store_learned : suc (i + a) ≤ 4294967295 → IsSearchStore i (suc a) t s (implied first c now)
+    store_learned few =
+        store_attached i a t s gone now id clause c does store_gone next lesson.simple i (suc a)
+        (implied first c now) (omega arith) (omega arith)
+        (omega (arith, few)) (now_clauses gone now clause id c does store.keeps.stand)
+        (now_vars gone now clause id c does store.keeps.stand) (inl all_taken)
+        (leveled_implied now first c (now_leveled gone now clause id c does store.keeps.stand
+        gone_leveled))
+        (implied_due now first c (does.due one_open))
+
+    pub learns : Learns (search_value i a s w) (search_value i (suc a) s
+        (implied first c now)) clause
+    learns = record {
+      vars = now_vars gone now clause id c does store.keeps.stand;
+      inputs = refl;
+      added = refl;
+      order = does.order;
+      same = same_back clause does.order (same_permuted clause does.order does.same);
+      once = (simple_permuted w.vars clause does.order does.same lesson.simple).once;
+      clauses = λ n.
+          ap (λ (j : ℕ). clause_at (put (s.clauses ++ live_of w.clauses) j does.order) n) (sym next)
+          ∙ attached_alike i a t s gone now id clause c does store_gone next lesson.simple n
+          ∙ ap (λ (ks : List Attached). clause_at (s.clauses ++ live_of ks) n) (sym
+          (now_clauses gone now clause id c does store.keeps.stand));
+    }
+
+-- INPUTS THAT ARE ATTACHED
+
+nil_in : (ks : List Attached) (trail : List TrailEntry) → assigned_in ks trail ≡ [] → trail ≡ []
+nil_in ks [] none = refl
+nil_in ks (e ∷ older) none = cc
+
+-- where nothing is true two literals are free
+pub two_free : (w : WatchState) (kept : Clause) → assigned_in w.clauses w.trail ≡ [] → HasOnce kept
+    → 2 ≤ length kept → HasTwoFree w.trail kept
+two_free w [] none once long = absurd (omega (arith, long))
+two_free w (a ∷ []) none once long = absurd (omega (arith, long))
+two_free w (a ∷ b ∷ ls) none once long =
+    let empty : w.trail ≡ [] = nil_in w.clauses w.trail none in (
+      a,
+      b,
+      (zero, omega arith, refl),
+      (suc zero, omega arith, refl),
+      (λ same. once 0 1 a (omega arith) (omega arith) (ap variable same)),
+      ap (λ (trail : List TrailEntry). is_false trail a) empty,
+      ap (λ (trail : List TrailEntry). is_false trail b) empty,
+    )
+
+pub none_true_now : (w now : WatchState) → now.trail ≡ w.trail → assigned_in w.clauses w.trail ≡ []
+    → assigned_in now.clauses now.trail ≡ []
+none_true_now w now same none = rw (same, nil_in w.clauses w.trail none) refl
+
+-- the next id is that of no single clause
+pub no_single_next : (i a t : ℕ) (s : ClauseListState) (w : WatchState) (id : ℕ)
+    → IsSearchStore i a t s w → id ≡ suc (i + a) → clause_at s.clauses id ≡ None
+no_single_next i a t s w id store next = by (clause_at s.clauses id) refl
+  where
+    by : (o : Option Clause) → clause_at s.clauses id ≡ o → clause_at s.clauses id ≡ None
+    by None is = is
+    by (Some x) is =
+        let none : clause_at (s.clauses ++ live_of w.clauses) id ≡ None =
+        rw next (none_next (suc (i + a)) (s.clauses ++ live_of w.clauses) store.below) in
+        let bad : None ≡ Some x = sym none ∙ single_found s.clauses w.clauses id x is in cc
+
+pub at_zero : (i a t : ℕ) (s : ClauseListState) (w : WatchState) → a ≡ 0 → IsSearchStore i a t s w
+    → IsSearchStore i 0 t s w
+at_zero i a t s w none store = subst (λ (n : ℕ). IsSearchStore i n t s w) none store
+
+pub moved_store : (i j a t : ℕ) (s : ClauseListState) (w : WatchState) → j ≡ suc i → a ≡ 0
+    → IsSearchStore (suc i) 0 t s w → IsSearchStore j a t s w
+moved_store i j a t s w more none store =
+    subst (λ (n : ℕ). IsSearchStore j n t s w) (sym none) (subst (λ
+    (n : ℕ). IsSearchStore n 0 t s w) (sym more) store)
+
+-- THE ENTRIES ONE AFTER ANOTHER
+
+entries_more : (ks : List Attached) (items : List TrailEntry) (k : ℕ) (e : TrailEntry)
+    → slice_get items k ≡ Some e →
+    assigned_in ks (reverse (take (k + 1) items))
+    ≡ assigned ks e ∷ assigned_in ks (reverse (take k items))
+entries_more ks items k e at =
+    ap (λ (n : ℕ). assigned_in ks (reverse (take n items))) (add-one k)
+    ∙ ap (λ (l : List TrailEntry). assigned_in ks (reverse l)) (take-get items k e at)
+    ∙ ap (assigned_in ks) (reverse-append (take k items) (e ∷ []))
+
+module _ (ks : List Attached) (items : List TrailEntry) (k : ℕ) (e : TrailEntry)
+    (at : slice_get items k ≡ Some e) where
+  -- one more decision
+  pub decision_clause : e.reason ≡ None
+      → negated_decisions (assigned_in ks (reverse (take (k + 1) items)))
+      ≡ negated_decisions (assigned_in ks (reverse (take k items))) ++ negation e.lit ∷ []
+  decision_clause none =
+      ap negated_decisions (entries_more ks items k e at)
+      ∙ ap (λ (r : Option ClauseRef). negated_decisions (assigned_in ks (reverse
+      (take k items))) ++ decided e.lit (option_map (id_at ks) r)) none
+
+  pub decision_hints : e.reason ≡ None → reason_ids (assigned_in ks (reverse (take (k + 1) items)))
+      ≡ reason_ids (assigned_in ks (reverse (take k items)))
+  decision_hints none =
+      ap reason_ids (entries_more ks items k e at)
+      ∙ ap (λ (r : Option ClauseRef). reason_ids (assigned_in ks (reverse
+      (take k items))) ++ reason_id (option_map (id_at ks) r)) none
+      ∙ append-nil (reason_ids (assigned_in ks (reverse (take k items))))
+
+  -- or one more reason
+  pub reason_clause : (c : ClauseRef) → e.reason ≡ Some c
+      → negated_decisions (assigned_in ks (reverse (take (k + 1) items)))
+      ≡ negated_decisions (assigned_in ks (reverse (take k items)))
+  reason_clause c some =
+      ap negated_decisions (entries_more ks items k e at)
+      ∙ ap (λ (r : Option ClauseRef). negated_decisions (assigned_in ks (reverse
+      (take k items))) ++ decided e.lit (option_map (id_at ks) r)) some
+      ∙ append-nil (negated_decisions (assigned_in ks (reverse (take k items))))
+
+  pub reason_hints : (c : ClauseRef) → e.reason ≡ Some c
+      → reason_ids (assigned_in ks (reverse (take (k + 1) items)))
+      ≡ reason_ids (assigned_in ks (reverse (take k items))) ++ pos (id_at ks c) ∷ []
+  reason_hints c some =
+      ap reason_ids (entries_more ks items k e at)
+      ∙ ap (λ (r : Option ClauseRef). reason_ids (assigned_in ks (reverse
+      (take k items))) ++ reason_id (option_map (id_at ks) r)) some
+
+-- an entry at a position is one of the trail
+pub entry_there : (items trail : List TrailEntry) (k : ℕ) (d : TrailEntry) → reverse items ≡ trail
+    → k < length items → Contains trail (get_or items k d)
+entry_there items trail k d is lt =
+    subst (λ (l : List TrailEntry). Contains l (get_or items k d)) is
+    (Contains-permutation items (reverse items) (get_or items k d) (IsPermutation-reverse items)
+    (k, lt, get_or_default items k (get_or items k d) d lt))
+
+-- its reason is attached
+pub reason_attached : (ks : List Attached) (level : ℕ) (trail : List TrailEntry) (e : TrailEntry)
+    (c : ClauseRef) → HasLevels ks level trail → Contains trail e →
+    e.reason ≡ Some c → is_attached ks c ≡ true
+reason_attached ks level [] e c levels (k, within, is) some = absurd (omega (arith, within))
+reason_attached ks level (x ∷ older) e c levels (zero, within, is) some =
+    let same : x ≡ e = is in
+    by x.reason (ap (λ (y : TrailEntry). y.reason) same ∙ some) levels.1
+  where
+    by : (r : Option ClauseRef) → r ≡ Some c
+        → HasCause ks level x.lit older r (λ n. HasLevels ks n older) → is_attached ks c ≡ true
+    by None is cause = cc
+    by (Some r) is cause = subst (λ (d : ClauseRef). is_attached ks d ≡ true) (some_is is) cause.0
+reason_attached ks level (x ∷ older) e c levels (suc k, within, is) some =
+    by x.reason levels.1 (λ n rest. reason_attached ks n older e c rest (
+      k,
+      omega
+          (arith, within),
+      is,
+    ) some)
+  where
+    by : (r : Option ClauseRef) → HasCause ks level x.lit older r (λ n. HasLevels ks n older)
+        → ((n : ℕ) → HasLevels ks n older → is_attached ks c ≡ true) → is_attached ks c ≡ true
+    by None cause deeper = deeper cause.0 cause.2
+    by (Some r) cause deeper = deeper level cause.2
+
+-- THE LAST LITERAL
+
+pub last_literal : (xs front : Clause) (first l : Lit) → xs ≡ front ++ first ∷ []
+    → slice_get xs (length xs - 1) ≡ Some l → l ≡ first
+last_literal xs front first l is at =
+    let there = subst (λ (ys : Clause). slice_get ys (length ys - 1) ≡ Some l) is at in
+    elim (get-cases front first l (length (front ++ first ∷ []) - 1) there) [
+      | inl last ↦ sym last.1
+      | inr earlier ↦
+          let within = slice_get_within front (length (front ++ first ∷ []) - 1) l earlier in
+          absurd (omega (arith, within, length-append front (first ∷ [])))
+    ]
+
+pub has_last : (xs : Clause) → xs ≢ [] → slice_get xs (length xs - 1) ≢ None
+has_last [] some none = some refl
+has_last (x ∷ xs) some none =
+    let at = slice_get-get_or (x ∷ xs) (length (x ∷ xs) - 1) x (omega arith) in
+    let bad : None ≡ Some (get_or (x ∷ xs) (length (x ∷ xs) - 1) x) = sym none ∙ at in cc

@@ -1,0 +1,177 @@
+use Rattle.std.proofs.Common.{◌≡◌, ◌∙◌, ℕ, Ok, length, add-one, ap, subst, sym, inl, inr, arith}
+use Rattle.sat_clause.specs.Trail.{IsClosed}
+use Rattle.sat_watch.specs.Trail.{lits_of as watch_lits}
+use Rattle.sat_watch.specs.Watches.{WatchState}
+use Rattle.sat_core.specs.SearchStore.{IsFalseAt, IsSearchStore, SameKept, search_value}
+use Rattle.sat_core.specs.Single.{IsTaken}
+use Rattle.sat_core.proofs.SearchLaws.{false_now, kept_decided, kept_refl, kept_taken, kept_then, settled_now, single_false, single_simple, store_decided, store_taken}
+use Rattle.sat_core.proofs.WatchLaws.{lits_in}
+use Rattle.sat_core.proofs.search.Search.next_conflict.Goals as goal
+
+pub loop-self-init : goal.loop-self-init
+loop-self-init c =
+    let p = c.self.inside in
+    record {
+      store = c.self.invariant;
+      same = kept_refl p.inputs p.added p.taken p.singles p.watches c.self.invariant;
+    }
+
+pub attach_single-requires-clause-simple : goal.attach_single-requires-clause-simple
+attach_single-requires-clause-simple c =
+    let q = c.loop-self.self-inside in
+    single_simple q.inputs q.added q.taken q.singles q.watches c.get-single.result.id
+    c.get-single.result.lits.now
+    c.loop-self.invariant.store c.get-single.ensures.found c.get-single.ensures.within
+
+pub attach_single-requires-clause-short : goal.attach_single-requires-clause-short
+attach_single-requires-clause-short c =
+    c.loop-self.invariant.store.short c.get-single.result.id c.get-single.result.lits.now
+    c.get-single.ensures.found
+
+pub attach_single-requires-clause-level : goal.attach_single-requires-clause-level
+attach_single-requires-clause-level c =
+    elim c.loop-self.invariant.store.waiting [
+      | inl all ↦ absurd (omega (arith, all, c.loop-self-test.true, c.len.ensures))
+      | inr low ↦ low
+    ]
+
+pub attach_single-requires-clause-leveled : goal.attach_single-requires-clause-leveled
+attach_single-requires-clause-leveled c = c.loop-self.invariant.store.leveled
+
+pub attach_single-requires-clause-stand : goal.attach_single-requires-clause-stand
+attach_single-requires-clause-stand c = c.loop-self.invariant.store.keeps.stand
+
+pub attach_single-requires-clause-quiet : goal.attach_single-requires-clause-quiet
+attach_single-requires-clause-quiet c = c.loop-self.invariant.store.none_due
+
+pub invariant_of-self-then-not-branch : goal.invariant_of-self-then-not-branch
+invariant_of-self-then-not-branch c =
+    let q = c.loop-self.self-inside in
+    let same : c.attach_single.new.watches ≡ q.watches =
+    c.in_ok-attach_single.ensures.same (ap Ok c.if-not-branch.true) in
+    subst (IsSearchStore q.inputs q.added q.taken q.singles) (sym same) c.loop-self.invariant.store
+
+pub returns-then-not-branch-clause-same : goal.returns-then-not-branch-clause-same
+returns-then-not-branch-clause-same c =
+    let q = c.loop-self.self-inside in
+    let same : c.attach_single.new.watches ≡ q.watches =
+    c.in_ok-attach_single.ensures.same (ap Ok c.if-not-branch.true) in
+    rw (← c.self.view_is)
+    (subst (λ (w : WatchState). SameKept (search_value c.self.inside.inputs c.self.inside.added
+    c.self.inside.singles c.self.inside.watches) (search_value q.inputs q.added q.singles w))
+    (sym same) c.loop-self.invariant.same)
+
+pub returns-then-not-branch-clause-conflict : goal.returns-then-not-branch-clause-conflict
+returns-then-not-branch-clause-conflict c =
+    let q = c.loop-self.self-inside in
+    let same : c.attach_single.new.watches ≡ q.watches =
+    c.in_ok-attach_single.ensures.same (ap Ok c.if-not-branch.true) in
+    let id : ℕ = c.get-single.result.id in
+    let is : IsFalseAt (search_value q.inputs q.added q.singles q.watches) id =
+    single_false q.singles q.watches id c.get-single.result.lits.now c.get-single.ensures.found
+    (c.in_ok-attach_single.ensures.is_false (ap Ok c.if-not-branch.true)) in
+    subst (λ (w : WatchState). IsFalseAt (search_value q.inputs q.added q.singles w) id)
+    (sym same) is
+
+pub loop-self-preserved : goal.loop-self-preserved
+loop-self-preserved c =
+    let q = c.loop-self.self-inside in
+    let now = c.attach_single.new.watches in
+    let id : ℕ = c.get-single.result.id in
+    let lits = c.get-single.result.lits.now in
+    let store = c.loop-self.invariant.store in
+    let taken : IsTaken q.watches now lits id =
+    c.in_ok-attach_single.ensures.attached (ap Ok c.if-not-branch.false) in
+    let simple = single_simple q.inputs q.added q.taken q.singles q.watches id lits store
+    c.get-single.ensures.found c.get-single.ensures.within in
+    record {
+      store = subst (λ (n : ℕ). IsSearchStore q.inputs q.added n q.singles now) (sym
+          (add-one q.taken))
+          (store_taken q.inputs q.added q.taken q.singles q.watches now id lits taken store
+          c.get-single.ensures.at c.get-single.ensures.found simple);
+      same = kept_then (search_value c.self.inside.inputs c.self.inside.added c.self.inside.singles
+          c.self.inside.watches) (search_value q.inputs q.added q.singles q.watches)
+          (search_value q.inputs q.added q.singles now)
+          c.loop-self.invariant.same
+          (kept_taken q.inputs q.added q.taken q.singles q.watches now id lits taken store
+          c.get-single.ensures.at c.get-single.ensures.found simple);
+    }
+
+pub loop-self-smaller : goal.loop-self-smaller
+loop-self-smaller c = omega (arith, c.loop-self-test.true, c.len.ensures)
+
+-- all single clauses are attached behind the loop
+pub invariant_of-self-in_default : goal.invariant_of-self-in_default
+invariant_of-self-in_default c =
+    let q = c.loop-self.self-inside in
+    let store = c.loop-self.invariant.store in
+    let all : q.taken ≡ length q.singles.clauses =
+    omega (arith, c.loop-self-test.false, c.len.ensures, store.few_taken) in
+    store_decided q.inputs q.added q.taken q.singles q.watches c.decide_on.new.watches store
+    c.in_default.ensures.goes all
+
+pub returns-in_default-clause-same : goal.returns-in_default-clause-same
+returns-in_default-clause-same c =
+    let q = c.loop-self.self-inside in
+    let now = c.decide_on.new.watches in
+    let store = c.loop-self.invariant.store in
+    let all : q.taken ≡ length q.singles.clauses =
+    omega (arith, c.loop-self-test.false, c.len.ensures, store.few_taken) in
+    rw (← c.self.view_is)
+    (kept_then (search_value c.self.inside.inputs c.self.inside.added c.self.inside.singles
+    c.self.inside.watches) (search_value q.inputs q.added q.singles q.watches)
+    (search_value q.inputs q.added q.singles now)
+    c.loop-self.invariant.same (kept_decided q.inputs q.added q.taken q.singles q.watches now store
+    c.in_default.ensures.goes all))
+
+pub returns-in_default-clause-settled : goal.returns-in_default-clause-settled
+returns-in_default-clause-settled c =
+    let q = c.loop-self.self-inside in
+    let store = c.loop-self.invariant.store in
+    let all : q.taken ≡ length q.singles.clauses =
+    omega (arith, c.loop-self-test.false, c.len.ensures, store.few_taken) in
+    settled_now q.inputs q.added q.taken q.singles q.watches c.decide_on.new.watches store
+    c.in_default.ensures.goes all c.in_default.ensures.settled
+
+pub returns-in_default-clause-closed : goal.returns-in_default-clause-closed
+returns-in_default-clause-closed c =
+    let q = c.loop-self.self-inside in
+    let now = c.decide_on.new.watches in
+    let vars = c.vars.ensures.value ∙ c.loop-self.invariant.store.same_vars
+    ∙ sym c.in_default.ensures.goes.vars in
+    subst (IsClosed now.vars) (sym (lits_in now.clauses now.trail))
+    (subst (λ (n : ℕ). IsClosed n (watch_lits now.trail)) vars c.in_default.ensures.closed)
+
+pub invariant_of-self-2 : goal.invariant_of-self-2
+invariant_of-self-2 c =
+    let q = c.loop-self.self-inside in
+    let store = c.loop-self.invariant.store in
+    let all : q.taken ≡ length q.singles.clauses =
+    omega (arith, c.loop-self-test.false, c.len.ensures, store.few_taken) in
+    store_decided q.inputs q.added q.taken q.singles q.watches c.decide_on.new.watches store
+    c.in-Some.ensures.goes all
+
+pub returns-clause-same : goal.returns-clause-same
+returns-clause-same c =
+    let q = c.loop-self.self-inside in
+    let now = c.decide_on.new.watches in
+    let store = c.loop-self.invariant.store in
+    let all : q.taken ≡ length q.singles.clauses =
+    omega (arith, c.loop-self-test.false, c.len.ensures, store.few_taken) in
+    rw (← c.self.view_is)
+    (kept_then (search_value c.self.inside.inputs c.self.inside.added c.self.inside.singles
+    c.self.inside.watches) (search_value q.inputs q.added q.singles q.watches)
+    (search_value q.inputs q.added q.singles now)
+    c.loop-self.invariant.same (kept_decided q.inputs q.added q.taken q.singles q.watches now store
+    c.in-Some.ensures.goes all))
+
+pub returns-clause-conflict : goal.returns-clause-conflict
+returns-clause-conflict c =
+    let q = c.loop-self.self-inside in
+    let now = c.decide_on.new.watches in
+    let store = c.loop-self.invariant.store in
+    let all : q.taken ≡ length q.singles.clauses =
+    omega (arith, c.loop-self-test.false, c.len.ensures, store.few_taken) in
+    subst (IsFalseAt (search_value q.inputs q.added q.singles now)) (sym c.id.ensures.value)
+    (false_now q.inputs q.added q.taken q.singles q.watches now store c.in-Some.ensures.goes all
+    c.in-Some.c c.in-Some.ensures.conflict)
