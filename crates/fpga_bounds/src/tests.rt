@@ -1,4 +1,4 @@
-//! Small routes, and a long one.
+//! Small routes.
 use crate::{Problem, fit_route};
 use fpga_route::read_route;
 use fpga_text::TextFault;
@@ -68,41 +68,6 @@ fn a_net_whose_cells_do_not_meet(rt: HostRuntime) -> Result<(), Fail> {
             fit_route(rt.alloc(), route),
             Err(TextFault::Bad { line: 0, code: 500 })
         )
-    );
-    Ok(())
-}
-
-/// A route text of one net through each cell of the rows of an array of 100 by 100, row by row and
-/// to and fro, by the cells of columns at its sides.
-fn long_net(alloc: Global) -> Result<Vec<u8>, Fail> {
-    let mut text = Vec::from_slice(
-        alloc,
-        b"Array size: 100 x 100 logic blocks.\nRouting:\nNet 0 (a)\n",
-    )?;
-    text.extend_from_slice(b"SOURCE (1,1) Class: 1\nOPIN (1,1) Pin: 4\n")?;
-    for y in 0..101u32 {
-        for step in 0..100u32 {
-            let x = if y % 2 == 0 { step + 1 } else { 100 - step };
-            let line = format!(in alloc; "CHANX ({x},{y}) Track: 0\n")?;
-            text.extend_from_slice(line.as_bytes())?;
-        }
-        if y < 100 {
-            let x = if y % 2 == 0 { 100 } else { 0 };
-            let line = format!(in alloc; "CHANY ({x},{}) Track: 0\n", y + 1)?;
-            text.extend_from_slice(line.as_bytes())?;
-        }
-    }
-    text.extend_from_slice(b"IPIN (1,1) Pin: 0\nSINK (1,1) Class: 0\n")?;
-    Ok(text)
-}
-
-#[test]
-fn no_limit_on_steps_keeps_a_long_net_from_fitting(rt: HostRuntime) -> Result<(), Fail> {
-    let text = long_net(rt.alloc())?;
-    let problem = problem(rt.alloc(), text.as_slice())?;
-    assert_eq!(rt;
-        (problem.slots().len(), problem.steps().len()),
-        (10_200, 10_199)
     );
     Ok(())
 }

@@ -164,7 +164,8 @@ numbered-more blocks i block name old new here is gains numbered = record {
     within = slice_get_within blocks i block here
 
     count : 0 + length (take i blocks) ≡ i
-    count = let l : length (take i blocks) ≡ i = length-take-le i blocks (let w = within in omega (arith, w)) in omega (arith, l)
+    count = let l : length (take i blocks) ≡ i = length-take-le i blocks
+        (let w = within in omega (arith, w)) in omega (arith, l)
 
     more : take (i + 1) blocks ≡ take i blocks ++ block ∷ []
     more = rw add-one (take-get blocks i block here)

@@ -32,43 +32,55 @@ junction_row = refl
 pub one_line_row : fault_of (codes "Netlist file: f Architecture file: g") ≡ Some (Bad 2 301)
 one_line_row = refl
 
-pub two_lines_row : fault_of (codes "Netlist file: f Architecture file: g\nArray size: 2 x 1 logic blocks.\n") ≡ Some (Bad 3 305)
+pub two_lines_row : fault_of
+    (codes "Netlist file: f Architecture file: g\nArray size: 2 x 1 logic blocks.\n")
+    ≡ Some (Bad 3 305)
 two_lines_row = refl
 
-pub file_missing_row : fault_of (changed 1 (codes "Netlist file: Architecture file: j.arch")) ≡ Some (Bad 1 301)
+pub file_missing_row : fault_of (changed 1 (codes "Netlist file: Architecture file: j.arch"))
+    ≡ Some (Bad 1 301)
 file_missing_row = refl
 
-pub word_behind_files_row : fault_of (changed 1 (codes "Netlist file: a Architecture file: b c")) ≡ Some (Bad 1 301)
+pub word_behind_files_row : fault_of (changed 1 (codes "Netlist file: a Architecture file: b c"))
+    ≡ Some (Bad 1 301)
 word_behind_files_row = refl
 
-pub words_in_place_of_files_row : fault_of (changed 1 (codes "Netlist file: Netlist Architecture file: file:")) ≡ None
+pub words_in_place_of_files_row : fault_of
+    (changed 1 (codes "Netlist file: Netlist Architecture file: file:")) ≡ None
 words_in_place_of_files_row = refl
 
-pub array_without_blocks_row : fault_of (changed 2 (codes "Array size: 2 x 1 logic")) ≡ Some (Bad 2 301)
+pub array_without_blocks_row : fault_of (changed 2 (codes "Array size: 2 x 1 logic"))
+    ≡ Some (Bad 2 301)
 array_without_blocks_row = refl
 
 pub array_with_point_row : fault_of (changed 2 (codes "Array size: 2 x 1 logic blocks.")) ≡ None
 array_with_point_row = refl
 
-pub array_with_comment_row : fault_of (changed 2 (codes "Array size: 2 x 1 logic #blocks")) ≡ Some (Bad 2 301)
+pub array_with_comment_row : fault_of (changed 2 (codes "Array size: 2 x 1 logic #blocks"))
+    ≡ Some (Bad 2 301)
 array_with_comment_row = refl
 
-pub array_first_row : fault_of (changed 1 (codes "Array size: 2 x 1 logic blocks")) ≡ Some (Bad 1 301)
+pub array_first_row : fault_of (changed 1 (codes "Array size: 2 x 1 logic blocks"))
+    ≡ Some (Bad 1 301)
 array_first_row = refl
 
 pub no_column_row : fault_of (changed 2 (codes "Array size: 0 x 1 logic blocks")) ≡ Some (Bad 2 302)
 no_column_row = refl
 
-pub rows_word_row : fault_of (changed 2 (codes "Array size: 2 x one logic blocks")) ≡ Some (Bad 2 302)
+pub rows_word_row : fault_of (changed 2 (codes "Array size: 2 x one logic blocks"))
+    ≡ Some (Bad 2 302)
 rows_word_row = refl
 
-pub columns_past_limit_row : fault_of (changed 2 (codes "Array size: 101 x 102 logic blocks")) ≡ Some (Limit 308 101)
+pub columns_past_limit_row : fault_of (changed 2 (codes "Array size: 101 x 102 logic blocks"))
+    ≡ Some (Limit 308 101)
 columns_past_limit_row = refl
 
-pub rows_past_limit_row : fault_of (changed 2 (codes "Array size: 100 x 4294967296 logic blocks")) ≡ Some (Limit 308 4294967296)
+pub rows_past_limit_row : fault_of (changed 2 (codes "Array size: 100 x 4294967296 logic blocks"))
+    ≡ Some (Limit 308 4294967296)
 rows_past_limit_row = refl
 
-pub rows_past_64_bits_row : fault_of (changed 2 (codes "Array size: 101 x 18446744073709551616 logic blocks")) ≡ Some (Bad 2 302)
+pub rows_past_64_bits_row : fault_of
+    (changed 2 (codes "Array size: 101 x 18446744073709551616 logic blocks")) ≡ Some (Bad 2 302)
 rows_past_64_bits_row = refl
 
 pub columns_at_limit_row : fault_of (changed 2 (codes "Array size: 100 x 1 logic blocks")) ≡ None

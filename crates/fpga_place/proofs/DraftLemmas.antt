@@ -120,7 +120,8 @@ module _ (draft : Progress) (name : Bytes) (place : Place) (number : ℕ)
               let apart : n ≢ number =
               λ same. let clash : false ≡ true =
               sym differs ∙ ap (λ b. bytes_eq b other)
-              (sym (name-at draft.setting.blocks name number fits.named fits.fits.block fits.fits.is))
+              (sym (name-at draft.setting.blocks name number fits.named fits.fits.block
+              fits.fits.is))
               ∙ ap (λ b. bytes_eq b other)
               (name-at draft.setting.blocks other n is fits.fits.block
               (ap (slice_get draft.setting.blocks) same ∙ fits.fits.is))
@@ -147,8 +148,8 @@ module _ (draft : Progress) (name : Bytes) (place : Place) (number : ℕ)
       grid = Some draft.grid;
       has_line = λ other. (ap is_some (placed-put other)
           ∙ some-or (placed draft other) (bytes_eq name other)) k;
-      is_taken = λ spot. (has_spot-put draft.setting.blocks draft.places number fits.fits.block place
-          spot fits.fits.is fits.fits.unplaced ∙ taken spot) k;
+      is_taken = λ spot. (has_spot-put draft.setting.blocks draft.places number fits.fits.block
+          place spot fits.fits.is fits.fits.unplaced ∙ taken spot) k;
     };
     named = placed-put;
   })
@@ -167,11 +168,11 @@ pub repeated-at : (io_rat : ℕ) (grid : Size) (blocks : List Block) (places : L
     → (entry : Option Place) → entry ≡ get_or places number entry → is_some entry ≡ true
     → (line : ℕ) → next_fault (so_far io_rat grid blocks places) line (BlockLine name (Some place))
     ≡ Some (Bad line 304)
-repeated-at io_rat grid blocks places taken order name place number named within entry is again line =
+repeated-at io_rat grid blocks places taken order name place number named within entry is again l =
     let block = get-some blocks number within in
-    refused-repeated (so_far io_rat grid blocks places) name place number (sym named) block.0 block.1
-    entry (get-there places number entry entry
-    (let c = order.count in omega (arith, c, within)) is) line again
+    refused-repeated (so_far io_rat grid blocks places) name place number (sym named) block.0
+    block.1 entry (get-there places number entry entry
+    (let c = order.count in omega (arith, c, within)) is) l again
 
 -- what is at hand of a block with a number: its entry, and a row that has the blocks
 module _ (io_rat : ℕ) (grid : Size) (blocks : List Block) (places : List (Option Place))

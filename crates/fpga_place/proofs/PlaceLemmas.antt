@@ -80,7 +80,8 @@ module _ (io_rat : ℕ) (grid : Size) (blocks : List Block) (places : List (Opti
   -- where a block stands then, it stood before, or it is the new one
   stands-put : (i : ℕ) (a : Block) (p : Place)
       → Stands blocks (slice_set places number (Some place)) i a p
-      → ((i ≡ number) × (a ≡ fits.block) × (p ≡ place)) ⊎ ((i ≢ number) × Stands blocks places i a p)
+      → ((i ≡ number) × (a ≡ fits.block) × (p ≡ place)) ⊎
+      ((i ≢ number) × Stands blocks places i a p)
   stands-put i a p stands =
       elim (get-set_cases places number i (Some place) (Some p) stands.place_is) [
         | inl new ↦ inl (

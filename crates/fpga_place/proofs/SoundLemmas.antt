@@ -46,7 +46,8 @@ module _ (io_rat : ℕ) (grid : Size) (blocks : List Block) (places : List (Opti
             cc
 
     -- its entry is at its own number
-    entry_is : placed (so_far io_rat grid blocks places) b.name ≡ unwrap_or (slice_get places i) None
+    entry_is : placed (so_far io_rat grid blocks places) b.name ≡ unwrap_or (slice_get places i)
+        None
     entry_is = λ k. option_and_then (λ n. unwrap_or (slice_get places n) None)
         (own_number blocks i b own stands.block_is k)
 
@@ -59,7 +60,8 @@ module _ (io_rat : ℕ) (grid : Size) (blocks : List Block) (places : List (Opti
     stood : Stands blocks places i b p
     stood = record { block_is = stands.block_is; place_is = go (slice_get places i) refl }
       where
-        go : (o : Option (Option Place)) → slice_get places i ≡ o → slice_get places i ≡ Some (Some p)
+        go : (o : Option (Option Place)) → slice_get places i ≡ o → slice_get places i ≡ Some
+            (Some p)
         go None e =
             let clash : true ≡ false =
             sym (ap (λ o. not (is_some o)) (entry_is ∙ ap (λ o. unwrap_or o None) e)) ∙ had_line in

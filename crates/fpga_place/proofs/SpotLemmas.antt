@@ -76,7 +76,8 @@ has_spot-there (b ∷ bs) (Some p ∷ ps) zero block place is here =
 has_spot-there (b ∷ bs) (None ∷ ps) (suc n) block place is here =
     has_spot-there bs ps n block place is here
 has_spot-there (b ∷ bs) (Some p ∷ ps) (suc n) block place is here =
-    rw (has_spot-there bs ps n block place is here) (either (same_spot (spot_of block.kind place) (spot_of b.kind p)))
+    rw (has_spot-there bs ps n block place is here)
+    (either (same_spot (spot_of block.kind place) (spot_of b.kind p)))
   where
     either : (b : Bool) → (b || true) ≡ true
     either true = refl

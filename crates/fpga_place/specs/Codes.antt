@@ -2,6 +2,7 @@
 use Rattle.std.specs.Prelude.{ℕ, ◌+◌, Bool, true, false, not, ◌&&◌, ◌||◌, List, [], ◌∷◌, bytes_eq, Option, Some, None, is_none, option_and_then, option_map, if◌then◌else◌}
 use Rattle.std.specs.List.{list_any}
 use Rattle.std.specs.Option.{option_map_or, option_or}
+use Rattle.fpga_types.specs.ArraySize.{lacks_size, said_size, size_past}
 use Rattle.fpga_types.specs.Places.{is_lawful, same_spot, spot_of}
 use Rattle.fpga_types.specs.Size.{Size}
 use Rattle.fpga_types.specs.declared.arch.Arch.{Arch}
@@ -14,7 +15,6 @@ use Rattle.fpga_text.specs.Bytes.{Bytes}
 use Rattle.fpga_text.specs.Codes.{Codes, At, Past, End, faults_by}
 use Rattle.fpga_text.specs.FirstFault.{Faults}
 use Rattle.fpga_text.specs.Words.{TextLine, line_count, text_lines}
-use Rattle.fpga_place.specs.ArrayLine.{lacks_size, size_past, size_said}
 use Rattle.fpga_place.specs.Blocks.{block_named}
 use Rattle.fpga_place.specs.Causes.{code_of}
 use Rattle.fpga_place.specs.Lines.{Form, Files, Array, Block, forms}
@@ -25,8 +25,8 @@ pub record Setting : Type 0 where
   pub io_rat : ℕ
   pub blocks : List BlockOf
 
--- what stands before a line: whether both head lines do, the array that they say, which names have a
--- block line, and which spots have a block
+-- what stands before a line: whether both head lines do, the array that they say, which names have
+-- a block line, and which spots have a block
 pub record Context : Type 0 where
   pub in_body : Bool
   pub grid : Option Size
@@ -40,7 +40,7 @@ is_second _ = false
 
 -- the array that a line says
 abbrev pub said_grid : Form → Option Size
-said_grid (Array size) = option_and_then size_said size
+said_grid (Array size) = option_and_then said_size size
 said_grid _ = None
 
 -- the array that the first of these lines to say one says
@@ -155,7 +155,10 @@ setting_of arch netlist = record { io_rat = arch.io_rat; blocks = netlist.blocks
 abbrev pub lines_faults : Setting → List TextLine → ℕ → Faults
 lines_faults setting lines count = faults_by (place_codes setting) (forms lines) (count + 1)
 
--- the faults of a placement text, line by line
+-- the faults of a text that is read for these, line by line
+abbrev pub faults_for : Setting → Bytes → Faults
+faults_for setting text = lines_faults setting (text_lines Hash text) (line_count text)
+
+-- the faults of a placement text of this netlist in this architecture
 abbrev pub place_faults : Arch → Netlist → Bytes → Faults
-place_faults arch netlist text =
-    lines_faults (setting_of arch netlist) (text_lines Hash text) (line_count text)
+place_faults arch netlist text = faults_for (setting_of arch netlist) text

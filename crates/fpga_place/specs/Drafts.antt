@@ -16,8 +16,8 @@ use Rattle.fpga_place.specs.Lines.{Form}
 use Rattle.fpga_place.specs.Spots.{HasSpots, has_spot}
 use Rattle.fpga_place.specs.Value.{said_place}
 
--- what the text is read for, the array that its head says, and for each block its place, if it had a
--- line
+-- what the text is read for, the array that its head says, and for each block its place, if it had
+-- a line
 pub record Progress : Type 0 where
   pub setting : Setting
   pub grid : Size

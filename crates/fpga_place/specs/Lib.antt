@@ -1,9 +1,10 @@
-pub mod ArrayLine
 pub mod BlockTables
 pub mod Blocks
 pub mod Causes
 pub mod Codes
 pub mod Drafts
+pub mod Heads
 pub mod Lines
+pub mod Reading
 pub mod Spots
 pub mod Value

@@ -1,10 +1,10 @@
 -- What the lines of a placement say: a profile of the placement text of VPR 4.30.
 use Rattle.std.specs.Prelude.{ℕ, ◌^◌, nat_lt, Bool, false, ◌&&◌, List, [], ◌∷◌, map, codes, bytes_eq, Option, Some, None, option_and_then, if◌then◌else◌}
 use Rattle.fpga_types.specs.declared.placement.Place.{Place}
+use Rattle.fpga_text.specs.ArrayLine.{SizeWords, size_words}
 use Rattle.fpga_text.specs.Bytes.{Bytes}
 use Rattle.fpga_text.specs.Numbers.{whole_number_of}
 use Rattle.fpga_text.specs.Words.{TextLine, Words}
-use Rattle.fpga_place.specs.ArrayLine.{SizeWords, size_words}
 
 -- the words round the two names in the first line
 abbrev pub is_file_frame : (netlist file architecture again : Bytes) → Bool
@@ -61,3 +61,7 @@ forms [] = []
 forms (first ∷ []) = (first.number, Files (is_file_line first.words)) ∷ []
 forms (first ∷ second ∷ more) = (first.number, Files (is_file_line first.words))
     ∷ (second.number, Array (size_words second.words)) ∷ block_forms more
+
+-- what numbered lines say
+abbrev pub said : List (ℕ × Form) → List Form
+said numbered = map (λ (line : ℕ × Form). line.1) numbered

@@ -1,5 +1,5 @@
 -- The value that a placement text reads as: its array, and for each block the place on its line.
-use Rattle.std.specs.Prelude.{◌≡◌, ℕ, List, [], ◌∷◌, map, bytes_eq, Option, Some, None, unwrap_or, if◌then◌else◌}
+use Rattle.std.specs.Prelude.{◌≡◌, List, [], ◌∷◌, map, bytes_eq, Option, Some, None, unwrap_or, if◌then◌else◌}
 use Rattle.std.specs.Option.{option_or}
 use Rattle.fpga_types.specs.Size.{Size}
 use Rattle.fpga_types.specs.declared.arch.Arch.{Arch}
@@ -10,9 +10,9 @@ use Rattle.fpga_types.specs.declared.placement.Placement.{Placement}
 use Rattle.fpga_text.specs.declared.style.Style.TheVariants.{Hash}
 use Rattle.fpga_text.specs.Bytes.{Bytes}
 use Rattle.fpga_text.specs.FirstFault.{IsFaultless}
-use Rattle.fpga_text.specs.Words.{TextLine, text_lines}
+use Rattle.fpga_text.specs.Words.{text_lines}
 use Rattle.fpga_place.specs.Codes.{grid_in, place_faults}
-use Rattle.fpga_place.specs.Lines.{Form, Block, forms}
+use Rattle.fpga_place.specs.Lines.{Form, Block, forms, said}
 
 -- the place that a line says, if it is the block line of this name
 abbrev pub said_place : Bytes → Form → Option Place
@@ -28,20 +28,20 @@ place_named (form ∷ more) name = option_or (said_place name form) (place_named
 abbrev pub place_of : (Bytes → Option Place) → BlockOf → Place
 place_of named block = unwrap_or (named block.name) (record { x = 0; y = 0; sub = 0 })
 
--- what the lines of a text say
-abbrev pub said_forms : List TextLine → List Form
-said_forms lines = map (λ (line : ℕ × Form). line.1) (forms lines)
-
 -- the placement of these blocks that lines say
 abbrev pub value_of : List BlockOf → List Form → Placement
-value_of blocks said = record {
-  grid = unwrap_or (grid_in said) (record { nx = 0; ny = 0 });
-  places = map (place_of (place_named said)) blocks;
+value_of blocks lines = record {
+  grid = unwrap_or (grid_in lines) (record { nx = 0; ny = 0 });
+  places = map (place_of (place_named lines)) blocks;
 }
+
+-- what a text reads as, for these blocks
+abbrev pub value_for : List BlockOf → Bytes → Placement
+value_for blocks text = value_of blocks (said (forms (text_lines Hash text)))
 
 -- what a text reads as, for this netlist
 abbrev pub place_value : Netlist → Bytes → Placement
-place_value netlist text = value_of netlist.blocks (said_forms (text_lines Hash text))
+place_value netlist text = value_for netlist.blocks text
 
 -- the text has no fault and reads as this placement
 abbrev pub Reads : Arch → Netlist → Bytes → Placement → Type 0

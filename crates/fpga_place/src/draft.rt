@@ -16,7 +16,8 @@ use std::alloc::{AllocError, Global};
 use std::collections::BTreeSet;
 use std::marker::Model;
 
-/// The array, the place of each block that had a line, by its number, and the spots of these blocks.
+/// The array, the place of each block that had a line, by its number, and the spots of these
+/// blocks.
 #[derive(Drop)]
 pub struct Draft<'a> {
     io_rat: u32,
@@ -118,7 +119,7 @@ impl<'a> Draft<'a> {
         Ok(number)
     }
 
-    /// Gives a block its place. After an error the draft is of no more use.
+    /// Gives a block its place.
     fn put(&mut self, number: usize, place: Place) -> Result<(), AllocError>
         requires { FitsBlock self.old number place }
         ensures { OnOk result (self.new ≡ with_place self.old number place) }
@@ -137,7 +138,8 @@ impl<'a> Draft<'a> {
             (λ places. places.items ≡ map (place_of (placed self.now)) self.now.setting.blocks)
             result }
         ensures sound { IfOk result (λ places. HaveOwnNames self.now.setting.blocks
-            → AreLawful self.now.grid self.now.setting.io_rat self.now.setting.blocks places.items) }
+            → AreLawful self.now.grid self.now.setting.io_rat self.now.setting.blocks
+            places.items) }
     {
         let blocks = self.blocks.as_slice();
         let Ok(mut places) = Vec::with_capacity(alloc, blocks.len()) else {

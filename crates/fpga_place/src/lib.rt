@@ -4,4 +4,10 @@
 mod block_table;
 mod cause;
 mod draft;
+mod head;
+mod read;
+#[cfg(test)]
+mod tests;
 mod words;
+
+pub use read::read_place;

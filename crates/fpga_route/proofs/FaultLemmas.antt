@@ -15,7 +15,8 @@ use Rattle.fpga_text.proofs.ReadingLemmas.{IsTaken}
 use Rattle.fpga_route.specs.declared.head.Head.{Head}
 use Rattle.fpga_route.specs.Codes.{START, behind, forms, later_forms, lines_faults, route_codes}
 use Rattle.fpga_route.specs.Drafts.{Progress, TakesLine, standing_of}
-use Rattle.fpga_route.specs.Forms.{Form, Array, OtherHead, SizeWords, array_form, later_form, routing_form, size_words}
+use Rattle.fpga_text.specs.ArrayLine.{SizeWords, size_words}
+use Rattle.fpga_route.specs.Forms.{Form, Array, OtherHead, array_form, later_form, routing_form}
 use Rattle.fpga_route.specs.Heads.{IsHead, array_fault, said_grid}
 use Rattle.fpga_route.specs.Nets.{faults_ahead}
 use Rattle.fpga_route.specs.Standings.{context_at, later_fault}

@@ -11,7 +11,7 @@ use Rattle.fpga_types.specs.declared.route.ElemKind.{ElemKind}
 use Rattle.fpga_types.specs.declared.route.Label.{Label}
 use Rattle.fpga_text.specs.Bytes.{Bytes}
 use Rattle.fpga_text.specs.Words.{Words}
-use Rattle.fpga_route.specs.Forms.{SizeWords, NetWords, ElemWords, Form, Array, Routing, Net, Elem, Block, Span, OtherLine, size_words, is_routing, is_comma, comma_parts, net_words, kind_of, label_of, place_words, elem_of_parts, elem_words, is_block, is_span, later_form}
+use Rattle.fpga_route.specs.Forms.{NetWords, ElemWords, Form, Array, Routing, Net, Elem, Block, Span, OtherLine, is_routing, is_comma, comma_parts, net_words, kind_of, label_of, place_words, elem_of_parts, elem_words, is_block, is_span, later_form}
 
 -- the sides of a comma that a scan has found
 pub comma_parts-at : (text : Bytes) (i : ℕ) → i < length text
@@ -31,8 +31,8 @@ comma_parts-none text clear =
     rw (list_any_none is_comma text (All-from_get_or (λ b. is_comma b ≡ false) text 0 clear)) refl
 
 -- what the forms make of a line's words
-abbrev said : Words → Option SizeWords × Bool × Form
-said words = (size_words words, is_routing words, later_form words)
+abbrev said : Words → Bool × Form
+said words = (is_routing words, later_form words)
 
 -- no form looks at more than eight words
 said-take : (words : Words) → said (take 8 words) ≡ said words
@@ -46,14 +46,11 @@ said-take (a ∷ b ∷ c ∷ d ∷ e ∷ f ∷ []) = refl
 said-take (a ∷ b ∷ c ∷ d ∷ e ∷ f ∷ g ∷ []) = refl
 said-take (a ∷ b ∷ c ∷ d ∷ e ∷ f ∷ g ∷ h ∷ more) = refl
 
-pub size_words-take : (words : Words) → size_words (take 8 words) ≡ size_words words
-size_words-take words = λ i. (said-take words i).0
-
 pub is_routing-take : (words : Words) → is_routing (take 8 words) ≡ is_routing words
-is_routing-take words = λ i. (said-take words i).1
+is_routing-take words = λ i. (said-take words i).0
 
 pub later_form_take : (words : Words) → later_form (take 8 words) ≡ later_form words
-later_form_take words = λ i. (said-take words i).2
+later_form_take words = λ i. (said-take words i).1
 
 -- the form of a line with these parts
 abbrev of_parts : Option NetWords → Option ElemWords → Bool → Bool → Form

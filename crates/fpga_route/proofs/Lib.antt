@@ -13,4 +13,3 @@ pub mod ReadRows
 pub mod RowTexts
 pub mod SlotRows
 pub mod SoundLemmas
-pub mod WordLemmas

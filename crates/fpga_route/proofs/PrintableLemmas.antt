@@ -30,7 +30,8 @@ use Rattle.fpga_text.proofs.PartLemmas.{IsWhole, whole-lines, words-are_words}
 use Rattle.fpga_text.proofs.PrintedWords.{IsWord, is_word_byte}
 use Rattle.fpga_route.specs.declared.standing.Standing.{Standing}
 use Rattle.fpga_route.specs.Codes.{START, behind, forms, is_number, is_32_bits, later_forms, lines_faults, number_of, route_codes}
-use Rattle.fpga_route.specs.Forms.{Form, Array, Routing, OtherHead, Net, Elem as ElemForm, Block, NetWords, ElemWords, SizeWords, array_form, enclosed, is_global_frame, is_routing, later_form, named_net, net_words, routing_form, size_words}
+use Rattle.fpga_text.specs.ArrayLine.{SizeWords, size_words}
+use Rattle.fpga_route.specs.Forms.{Form, Array, Routing, OtherHead, Net, Elem as ElemForm, Block, NetWords, ElemWords, array_form, enclosed, is_global_frame, is_routing, later_form, named_net, net_words, routing_form}
 use Rattle.fpga_route.specs.Heads.{array_fault, said_grid}
 use Rattle.fpga_route.specs.Standings.{later_fault}
 use Rattle.fpga_route.specs.Value.{begins_net, elem_of, elems_of, kept_of, own_lines, with_net, nets_of, grid_of, value_of, Reads}

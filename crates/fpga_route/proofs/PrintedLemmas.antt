@@ -24,7 +24,8 @@ use Rattle.fpga_text.proofs.CutLemmas.{position_or_len-cons_no}
 use Rattle.fpga_text.proofs.LineLemmas.{lines-next}
 use Rattle.fpga_text.proofs.PrintedLines.{ended, said, said-line}
 use Rattle.fpga_text.proofs.PrintedWords.{IsWord, both-pass, decimal-pass, decimal-word, digit-differs, is_line_byte, is_word_byte, lacks, lacks-each, line-newline, word-line, words-end, words-word}
-use Rattle.fpga_route.specs.Forms.{ElemWords, Form, Array, Net, Elem as ElemForm, Block, Span, OtherLine, NetWords, SizeWords, array_form, is_comma, comma_parts, enclosed, named_net, kind_word, kind_of, label_word, label_of, later_form, place_words, elem_of_parts}
+use Rattle.fpga_text.specs.ArrayLine.{SizeWords}
+use Rattle.fpga_route.specs.Forms.{ElemWords, Form, Array, Net, Elem as ElemForm, Block, Span, OtherLine, NetWords, array_form, is_comma, comma_parts, enclosed, named_net, kind_word, kind_of, label_word, label_of, later_form, place_words, elem_of_parts}
 use Rattle.fpga_route.specs.Printed.{after_name, before_name, in_six_places, printed_elem, printed_lines, printed_net, printed_head, printed}
 
 -- the element is sound, and its numbers fit 32 bits

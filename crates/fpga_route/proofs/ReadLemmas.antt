@@ -5,7 +5,6 @@ use Rattle.fpga_types.specs.Size.{Size}
 use Rattle.fpga_types.specs.Sound.{IsSound, RisesWithin, net_numbers}
 use Rattle.fpga_types.specs.declared.route.RouteNet.{RouteNet}
 use Rattle.fpga_text.specs.declared.fault.TextFault.{TextFault}
-use Rattle.fpga_text.specs.declared.fault.TextFault.TheVariants.{Bad, Limit, Memory}
 use Rattle.fpga_text.specs.declared.style.Style.TheVariants.{Hash}
 use Rattle.fpga_text.specs.Bytes.{Bytes}
 use Rattle.fpga_text.specs.FirstFault.{IsFaultless, IsRefusal, first_fault}

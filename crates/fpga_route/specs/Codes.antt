@@ -1,9 +1,10 @@
 -- What can be wrong with a line of a route text, by its form and by what stands before it.
-use Rattle.std.specs.Prelude.{ℕ, ◌+◌, ◌^◌, ◌==◌, nat_lt, Bool, true, false, not, ◌&&◌, List, [], ◌∷◌, fold, map, Option, Some, None, option_map, option_and_then, unwrap_or, if◌then◌else◌}
+use Rattle.std.specs.Prelude.{ℕ, ◌+◌, ◌^◌, ◌==◌, nat_lt, Bool, true, false, not, ◌&&◌, List, [], ◌∷◌, fold, map, Option, Some, None, unwrap_or, if◌then◌else◌}
 use Rattle.std.specs.Option.{option_map_or}
+use Rattle.fpga_types.specs.ArraySize.{lacks_size, said_size, size_past}
 use Rattle.fpga_types.specs.Size.{Size}
 use Rattle.fpga_types.specs.Sound.{has_place}
-use Rattle.fpga_types.specs.declared.limits.TheConstants.{NET_LIMIT, SIDE_LIMIT}
+use Rattle.fpga_types.specs.declared.limits.TheConstants.{NET_LIMIT}
 use Rattle.fpga_text.specs.declared.style.Style.TheVariants.{Hash}
 use Rattle.fpga_text.specs.Bytes.{Bytes}
 use Rattle.fpga_text.specs.Codes.{Codes, At, Past, End, faults_by}
@@ -11,7 +12,7 @@ use Rattle.fpga_text.specs.FirstFault.{Faults}
 use Rattle.fpga_text.specs.Numbers.{whole_number_of}
 use Rattle.fpga_text.specs.Words.{TextLine, line_count, text_lines}
 use Rattle.fpga_route.specs.Causes.{code_of}
-use Rattle.fpga_route.specs.Forms.{ElemWords, Form, Array, Routing, OtherHead, Net, Elem, Block, Span, OtherLine, SizeWords, array_form, later_form, routing_form}
+use Rattle.fpga_route.specs.Forms.{ElemWords, Form, Array, Routing, OtherHead, Net, Elem, Block, Span, OtherLine, array_form, later_form, routing_form}
 use Rattle.fpga_route.specs.declared.cause.Cause.TheVariants.{HeadForm, LineForm, NoNumber, SpannedChannel, StrayElement, NoPlace, PastLimit}
 
 -- the word is a whole number with this property
@@ -21,12 +22,6 @@ is_number test word = option_map_or test (whole_number_of word) false
 -- the number that a word says
 abbrev pub number_of : Bytes → ℕ
 number_of word = unwrap_or (whole_number_of word) 0
-
--- the numbers of the array line
-abbrev pub size_said : SizeWords → Option Size
-size_said size = option_and_then
-    (λ nx. option_map (λ ny. record { nx = nx; ny = ny }) (whole_number_of size.ny))
-    (whole_number_of size.nx)
 
 -- what stands before a line: the array, whether the head has ended, how many Net lines there are,
 -- and whether the net that the line stands in is global, if it stands in one
@@ -42,7 +37,7 @@ START = record { grid = None; in_body = false; nets = 0; in_global = None }
 
 -- behind a line of this form
 abbrev pub behind : Context → Form → Context
-behind context (Array size) = record context { grid = size_said size }
+behind context (Array size) = record context { grid = said_size size }
 behind context Routing = record context { in_body = true }
 behind context (Net net) =
     record context { nets = context.nets + 1; in_global = Some net.global }
@@ -62,10 +57,6 @@ abbrev pub is_other_line : Context → Form → Bool
 is_other_line context OtherLine = true
 is_other_line context Block = not (unwrap_or context.in_global false)
 is_other_line context _ = false
-
--- the size has a word that is no number or 0
-abbrev pub lacks_size : SizeWords → Bool
-lacks_size size = not (is_number (nat_lt 0) size.nx && is_number (nat_lt 0) size.ny)
 
 -- the number fits 32 bits
 abbrev pub is_32_bits : ℕ → Bool
@@ -103,14 +94,9 @@ abbrev pub lacks_place : Context → Form → Bool
 lacks_place context (Elem e) = option_map_or (λ grid. is_misplaced grid e) context.grid false
 lacks_place context _ = false
 
--- the number that a word says, where it is more than an array may have of columns or rows
-abbrev pub past_side : Bytes → Option ℕ
-past_side word = if is_number (nat_lt SIDE_LIMIT) word then whole_number_of word else None
-
 -- more columns, rows or nets than may be, and how many
 abbrev pub past_limit : Context → Form → Option ℕ
-past_limit context (Array size) =
-    if is_number (nat_lt SIDE_LIMIT) size.nx then whole_number_of size.nx else past_side size.ny
+past_limit context (Array size) = size_past size
 past_limit context (Net net) =
     if context.nets == NET_LIMIT then Some (context.nets + 1) else None
 past_limit context _ = None

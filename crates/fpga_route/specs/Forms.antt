@@ -1,7 +1,8 @@
 -- Which form a line of a route text has, by its words: a profile of the route text of VPR 4.30.
-use Rattle.std.specs.Prelude.{ℕ, ◌+◌, ◌-◌, ◌==◌, nat_eq, nat_le, Bool, true, false, ◌&&◌, ◌||◌, [], ◌∷◌, length, slice_range, find, codes, bytes_eq, Option, Some, None, is_some, if◌then◌else◌}
+use Rattle.std.specs.Prelude.{ℕ, ◌+◌, ◌-◌, ◌==◌, nat_eq, nat_le, Bool, true, false, ◌&&◌, [], ◌∷◌, length, slice_range, find, codes, bytes_eq, Option, Some, None, is_some, if◌then◌else◌}
 use Rattle.std.specs.List.{starts_with, ends_with, before_first, after_first, list_any}
 use Rattle.std.specs.Option.{option_map_or}
+use Rattle.fpga_text.specs.ArrayLine.{SizeWords, size_words}
 use Rattle.fpga_text.specs.Bytes.{Bytes}
 use Rattle.fpga_text.specs.Words.{Words}
 use Rattle.fpga_types.specs.Kinds.{takes}
@@ -9,11 +10,6 @@ use Rattle.fpga_types.specs.declared.route.ElemKind.{ElemKind}
 use Rattle.fpga_types.specs.declared.route.ElemKind.TheVariants.{Source, Opin, ChanX, ChanY, Ipin, Sink}
 use Rattle.fpga_types.specs.declared.route.Label.{Label}
 use Rattle.fpga_types.specs.declared.route.Label.TheVariants.{Class, Pin, Pad, Track}
-
--- the words of the array line that say its size
-pub record SizeWords : Type 0 where
-  pub nx : Bytes
-  pub ny : Bytes
 
 -- the parts of a Net line
 pub record NetWords : Type 0 where
@@ -28,22 +24,6 @@ pub record ElemWords : Type 0 where
   pub y : Bytes
   pub label : Label
   pub number : Bytes
-
--- the point at the end may be absent
-abbrev pub is_blocks : Bytes → Bool
-is_blocks word = bytes_eq word (codes "blocks.") || bytes_eq word (codes "blocks")
-
--- the words round the size in an array line
-abbrev pub is_size_frame : (array size by logic blocks : Bytes) → Bool
-is_size_frame array size by logic blocks =
-    bytes_eq array (codes "Array") && bytes_eq size (codes "size:") && bytes_eq by
-    (codes "x") && bytes_eq logic (codes "logic") && is_blocks blocks
-
--- `Array size: nx x ny logic blocks.`
-abbrev pub size_words : Words → Option SizeWords
-size_words (array ∷ size ∷ nx ∷ by ∷ ny ∷ logic ∷ blocks ∷ []) =
-    if is_size_frame array size by logic blocks then Some (record { nx = nx; ny = ny }) else None
-size_words _ = None
 
 -- `Routing:`
 abbrev pub is_routing : Words → Bool

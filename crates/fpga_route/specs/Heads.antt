@@ -1,12 +1,13 @@
 -- The two head lines of a route text.
 use Rattle.std.specs.Prelude.{◌≡◌, ℕ, ◌∷◌, Option, Some, None}
+use Rattle.fpga_types.specs.ArraySize.{said_size}
 use Rattle.fpga_types.specs.Size.{Size}
 use Rattle.fpga_text.specs.declared.fault.TextFault.{TextFault}
 use Rattle.fpga_text.specs.Codes.{line_fault}
 use Rattle.fpga_text.specs.Reading.{LinesAhead}
 use Rattle.fpga_text.specs.Words.{TextLine}
 use Rattle.fpga_route.specs.declared.head.Head.{Head}
-use Rattle.fpga_route.specs.Codes.{START, route_codes, size_said}
+use Rattle.fpga_route.specs.Codes.{START, route_codes}
 use Rattle.fpga_route.specs.Forms.{Form, Array, Routing, array_form, routing_form}
 
 -- why the first line is refused
@@ -15,7 +16,7 @@ array_fault number form = line_fault route_codes START number form
 
 -- the array that a line says, if it is an array line
 abbrev pub said_grid : Form → Option Size
-said_grid (Array size) = size_said size
+said_grid (Array size) = said_size size
 said_grid _ = None
 
 -- both head lines were taken, and this is what they say

@@ -1,16 +1,11 @@
 -- What the parts of a line are, as the forms of a route text name them.
-use Rattle.fpga_route.specs.declared.forms.SizeLine.{SizeLine}
 use Rattle.fpga_route.specs.declared.forms.NetLine.{NetLine}
 use Rattle.fpga_route.specs.declared.forms.ElemLine.{ElemLine}
 use Rattle.fpga_route.specs.declared.forms.LineForm.{LineForm}
 use Rattle.fpga_route.specs.declared.forms.LineForm.TheVariants.{Net as NetOf, Elem as ElemOf, Block as BlockOf, Span as SpanOf, Other}
 use Rattle.fpga_route.specs.declared.words.PlaceWord.{PlaceWord}
 use Rattle.fpga_text.specs.Bytes.{Bytes}
-use Rattle.fpga_route.specs.Forms.{SizeWords, NetWords, ElemWords, Form, Net, Elem, Block, Span, OtherLine}
-
--- the words of an array line
-abbrev pub array_said : SizeLine → SizeWords
-array_said line = record { nx = line.nx.now; ny = line.ny.now }
+use Rattle.fpga_route.specs.Forms.{NetWords, ElemWords, Form, Net, Elem, Block, Span, OtherLine}
 
 -- the words of a Net line
 abbrev pub net_said : NetLine → NetWords

@@ -1,19 +1,11 @@
 //! Which form a line of a route text has, by its words.
 ghost use Rattle.std.specs.Prelude.{◌≡◌, map, option_map};
 ghost use Rattle.fpga_route.specs.Forms as spec;
-ghost use Rattle.fpga_route.specs.Lines.{array_said, net_said, elem_said, form_said};
+ghost use Rattle.fpga_route.specs.Lines.{net_said, elem_said, form_said};
 
-use crate::first_words::FirstWords;
-use crate::words::{enclosed, is_text, kind_named, label_named, place_said};
-use fpga_text::Line;
+use crate::words::{enclosed, kind_named, label_named, place_said};
+use fpga_text::{FirstWords, Line, is_text};
 use fpga_types::{ElemKind, Label};
-
-/// The words of the array line that say its size.
-#[derive(Clone, Copy, Debug)]
-pub struct SizeLine<'a> {
-    pub nx: &'a [u8],
-    pub ny: &'a [u8],
-}
 
 /// The parts of a Net line.
 #[derive(Clone, Copy, Debug)]
@@ -74,37 +66,6 @@ fn sort_line<'a>(words: &[&'a [u8]]) -> LineForm<'a>
         return LineForm::Span;
     }
     LineForm::Other
-}
-
-/// The words that say the size in `Array size: nx x ny logic blocks.`, whose point may be absent.
-pub fn size_line<'a>(words: &[&'a [u8]]) -> Option<SizeLine<'a>>
-    ensures { option_map array_said result ≡ spec.size_words (map (λ w. w.now) words.now) }
-{
-    let [array, size, nx, by, ny, logic, blocks] = words else {
-        return None;
-    };
-    if !is_size_frame(array, size, by, logic, blocks) {
-        return None;
-    }
-    Some(SizeLine { nx, ny })
-}
-
-/// Whether these words stand round the size.
-fn is_size_frame(array: &[u8], size: &[u8], by: &[u8], logic: &[u8], blocks: &[u8]) -> bool
-    ensures { result ≡ spec.is_size_frame array.now size.now by.now logic.now blocks.now }
-{
-    is_text(array, b"Array")
-        && is_text(size, b"size:")
-        && is_text(by, b"x")
-        && is_text(logic, b"logic")
-        && is_blocks(blocks)
-}
-
-/// Whether a word is `blocks.` or `blocks`.
-fn is_blocks(word: &[u8]) -> bool
-    ensures { result ≡ spec.is_blocks word.now }
-{
-    is_text(word, b"blocks.") || is_text(word, b"blocks")
 }
 
 /// Whether the line is `Routing:`.

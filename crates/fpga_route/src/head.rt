@@ -1,19 +1,17 @@
 //! The head of a route text: its array line and `Routing:`.
-ghost use Rattle.std.specs.Prelude.{◌≡◌, ◌+◌, Some, None, IfOk, IfErr, option_map};
+ghost use Rattle.std.specs.Prelude.{◌≡◌, ◌+◌, Some, None, IfOk, IfErr};
 ghost use Rattle.fpga_text.specs.FirstFault.{IsFaultOf, IsRefusal};
 ghost use Rattle.fpga_text.specs.declared.fault.TextFault.TheVariants.{Bad};
 ghost use Rattle.fpga_route.specs.Causes.{code_of};
 ghost use Rattle.fpga_route.specs.Codes.{lines_faults};
-ghost use Rattle.fpga_route.specs.Forms.{Array, array_form, is_routing as routing, size_words};
+ghost use Rattle.fpga_route.specs.Forms.{array_form, is_routing as routing};
 ghost use Rattle.fpga_route.specs.Heads.{IsHead, array_fault, said_grid};
-ghost use Rattle.fpga_route.specs.Lines.{array_said};
 ghost use Rattle.fpga_route.specs.declared.cause.Cause.TheVariants.{HeadForm};
 
 use crate::cause::Cause;
-use crate::first_words::FirstWords;
-use crate::forms::{SizeLine, is_routing, size_line};
-use fpga_text::{Line, Lines, TextFault, whole_number};
-use fpga_types::{Grid, SIDE_LIMIT};
+use crate::forms::is_routing;
+use fpga_text::{FirstWords, Line, Lines, TextFault, size_line};
+use fpga_types::{Grid, SizeFault};
 
 /// What the head says: the array, and the number of the line that says it.
 #[derive(Clone, Copy, Debug)]
@@ -60,14 +58,6 @@ fn says_routing(line: &mut Line<'_>) -> bool
     is_routing(words.as_slice())
 }
 
-/// The words of a line that say the size of an array.
-fn size_said_by<'a>(line: &mut Line<'a>) -> Option<SizeLine<'a>>
-    ensures { option_map array_said result ≡ size_words line.old.words }
-{
-    let words = FirstWords::of(line);
-    size_line(words.as_slice())
-}
-
 /// The array that the first line says, or what is wrong with the line.
 fn read_array(line: &mut Line<'_>) -> Result<Grid, TextFault>
     ensures clean { IfOk result
@@ -77,38 +67,12 @@ fn read_array(line: &mut Line<'_>) -> Result<Grid, TextFault>
         (IsFaultOf (array_fault line.old.number (array_form line.old.words))) }
 {
     let number = line.number();
-    let Some(size) = size_said_by(line) else {
+    let Some(size) = size_line(line) else {
         return Err(Cause::HeadForm.at(number));
     };
-    read_size(&size, number)
-}
-
-/// The array of this size, or what is wrong with the size.
-fn read_size(size: &SizeLine<'_>, line: u64) -> Result<Grid, TextFault>
-    ensures clean { IfOk result (λ grid. array_fault line (Array (array_said size.now)) ≡ None) }
-    ensures grid { IfOk result (λ grid. said_grid (Array (array_said size.now)) ≡ Some grid) }
-    ensures err { IfErr result (IsFaultOf (array_fault line (Array (array_said size.now)))) }
-{
-    let Some(nx) = whole_number(size.nx) else {
-        return Err(Cause::NoNumber.at(line));
-    };
-    let Some(ny) = whole_number(size.ny) else {
-        return Err(Cause::NoNumber.at(line));
-    };
-    if nx == 0 {
-        return Err(Cause::NoNumber.at(line));
+    match Grid::said_by(&size) {
+        Ok(grid) => Ok(grid),
+        Err(SizeFault::NoNumber) => Err(Cause::NoNumber.at(number)),
+        Err(SizeFault::PastLimit { count }) => Err(Cause::PastLimit.past(count)),
     }
-    if ny == 0 {
-        return Err(Cause::NoNumber.at(line));
-    }
-    if nx > u64::from(SIDE_LIMIT) {
-        return Err(Cause::PastLimit.past(nx));
-    }
-    if ny > u64::from(SIDE_LIMIT) {
-        return Err(Cause::PastLimit.past(ny));
-    }
-    Ok(Grid {
-        nx: nx as u32,
-        ny: ny as u32,
-    })
 }

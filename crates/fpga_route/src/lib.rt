@@ -3,7 +3,6 @@
 
 mod cause;
 mod draft;
-mod first_words;
 mod forms;
 mod head;
 mod open_net;

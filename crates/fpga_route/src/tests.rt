@@ -3,7 +3,7 @@ use crate::read::read_route;
 use crate::write::write_route;
 use desk_io::{MemShelf, Shelf};
 use fpga_text::TextFault;
-use fpga_types::{Elem, ElemKind, Label};
+use fpga_types::{Elem, ElemKind, Label, SizeFault};
 use std::test::Fail;
 
 const ONE: &[u8] =
@@ -71,4 +71,18 @@ fn a_text_that_is_refused(rt: HostRuntime) {
             count: 101
         })
     );
+}
+
+#[test]
+fn a_size_that_is_refused_says_why(rt: HostRuntime) -> Result<(), Fail> {
+    let texts = format!(in rt.alloc();
+        "{}|{}",
+        SizeFault::NoNumber,
+        SizeFault::PastLimit { count: 101 }
+    )?;
+    assert_eq!(rt;
+        texts.as_str(),
+        "a word is no number, or 0|101 is more than an array may have"
+    );
+    Ok(())
 }

@@ -1,8 +1,9 @@
 //! What a single word of a route text says.
-ghost use Rattle.std.specs.Prelude.{◌≡◌, bytes_eq, option_map};
+ghost use Rattle.std.specs.Prelude.{◌≡◌, option_map};
 ghost use Rattle.fpga_route.specs.Forms as spec;
 ghost use Rattle.fpga_route.specs.Lines.{place_said as said};
 
+use fpga_text::is_text;
 use fpga_types::{ElemKind, Label};
 
 /// The parts of a place.
@@ -10,13 +11,6 @@ use fpga_types::{ElemKind, Label};
 pub struct PlaceWord<'a> {
     pub x: &'a [u8],
     pub y: &'a [u8],
-}
-
-/// Whether a word is this text.
-pub fn is_text(word: &[u8], text: &[u8]) -> bool
-    ensures { result ≡ bytes_eq word.now text.now }
-{
-    word == text
 }
 
 /// The kind that a word names.

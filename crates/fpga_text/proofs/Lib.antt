@@ -1,3 +1,4 @@
+pub mod ArrayLemmas
 pub mod CodeLemmas
 pub mod CutLemmas
 pub mod FaultLemmas
@@ -10,3 +11,4 @@ pub mod PrintedLines
 pub mod PrintedWords
 pub mod ReadingLemmas
 pub mod Rows
+pub mod WordLemmas

@@ -1,3 +1,4 @@
+pub mod ArrayLine
 pub mod Bytes
 pub mod Codes
 pub mod FirstFault
@@ -6,4 +7,5 @@ pub mod Joining
 pub mod Numbers
 pub mod Reading
 pub mod Said
+pub mod SizeLines
 pub mod Words

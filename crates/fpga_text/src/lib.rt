@@ -1,19 +1,25 @@
 //! Lines, words, whole numbers and decimals of texts.
 #![tactic(auto)]
 
+mod array_line;
 mod cut;
 mod fault;
+mod first_words;
 mod front;
 mod joined;
 mod line;
 mod lines;
 mod number;
+mod said;
 mod style;
 #[cfg(test)]
 mod tests;
 
+pub use array_line::{SizeLine, size_line};
 pub use fault::TextFault;
+pub use first_words::FirstWords;
 pub use line::{Line, Word};
 pub use lines::Lines;
 pub use number::{millionths, signed_number, whole_number};
+pub use said::is_text;
 pub use style::Style;

@@ -2,11 +2,12 @@
 ghost use Rattle.std.specs.Prelude.{◌≡◌, not, drop, slice_get, option_map, option_and_then, IfSome, IfNone};
 ghost use Rattle.fpga_text.specs.Bytes.{is_empty};
 ghost use Rattle.fpga_text.specs.Numbers.{signed_number_of};
+ghost use Rattle.fpga_text.specs.Said.{decimal_said, is_text, whole_said};
 
 use crate::cut::{first_blank, from_first_word, part_at};
 use crate::front::front_number;
 use crate::joined::front_part;
-use crate::number::signed_number;
+use crate::number::{millionths, signed_number, whole_number};
 use std::marker::Model;
 
 /// A word, and the number of its line.
@@ -14,6 +15,17 @@ use std::marker::Model;
 pub struct Word<'a> {
     pub line: u64,
     pub text: &'a [u8],
+}
+
+impl<'a> Word<'a> {
+    ghost use Rattle.std.specs.Prelude.{bytes_eq};
+
+    /// Whether the word is this text.
+    pub fn is(self, text: &[u8]) -> bool
+        ensures { result ≡ bytes_eq self.entry.text.now text.now }
+    {
+        self.text == text
+    }
 }
 
 /// A line: its number, its bytes without the newline, and its words that were not yet taken.
@@ -111,6 +123,41 @@ impl<'a> Line<'a> {
             line: self.number,
             text,
         })
+    }
+
+    /// Whether there is a next word that is this text. It is taken, whatever it is.
+    pub fn next_is(&mut self, text: &[u8]) -> bool
+        ensures is { result ≡ is_text text.now (slice_get self.old.words 0) }
+        ensures after { self.new ≡ record self.old { words = drop 1 self.old.words } }
+    {
+        let Some(word) = self.next_word() else {
+            return false;
+        };
+        word.is(text)
+    }
+
+    /// The whole number that the next word says, or None where there is no such word or it says
+    /// none. It is taken, whatever it is.
+    pub fn next_whole(&mut self) -> Option<u64>
+        ensures number { result ≡ whole_said (slice_get self.old.words 0) }
+        ensures after { self.new ≡ record self.old { words = drop 1 self.old.words } }
+    {
+        let Some(word) = self.next_word() else {
+            return None;
+        };
+        whole_number(word.text)
+    }
+
+    /// The decimal that the next word says, in millionths, or None where there is no such word or
+    /// it says none. It is taken, whatever it is.
+    pub fn next_millionths(&mut self) -> Option<u64>
+        ensures number { result ≡ decimal_said (slice_get self.old.words 0) }
+        ensures after { self.new ≡ record self.old { words = drop 1 self.old.words } }
+    {
+        let Some(word) = self.next_word() else {
+            return None;
+        };
+        millionths(word.text)
     }
 
     /// The number that the next word says, or None: exactly where there is no next word, or it says

@@ -67,7 +67,10 @@ one_of_three a b c x y da db dc h e =
     elim h [
       | inl p ↦ da (p ∙ e)
       | inr t ↦
-          (elim t [ inl q ↦ db (q ∙ e) | inr u ↦ (elim u [ inl r ↦ dc (r ∙ e) | inr v ↦ absurd v ]) ])
+          (elim t [
+            | inl q ↦ db (q ∙ e)
+            | inr u ↦ (elim u [ inl r ↦ dc (r ∙ e) | inr v ↦ absurd v ])
+          ])
     ]
 
 from_In-other_sides : (s t : Side) → In (other_sides s) t → t ≢ s

@@ -1,3 +1,5 @@
+pub mod ArchSound
+pub mod ArraySize
 pub mod Boxes
 pub mod CellNumbers
 pub mod Fabric

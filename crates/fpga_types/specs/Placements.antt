@@ -18,19 +18,21 @@ pub record StandsAt (blocks : List Block) (places : List Place) (number : ℕ) (
   pub block_is : slice_get blocks number ≡ Some block
   pub place_is : slice_get places number ≡ Some place
 
--- each place is lawful for its block, where a place beside the array has room for `io_rat` pads, and
--- no two blocks share a spot
+-- each place is lawful for its block, where a place beside the array has room for `io_rat` pads,
+-- and no two blocks share a spot
 pub record AreLawful (grid : Size) (io_rat : ℕ) (blocks : List Block) (places : List Place) : Type 0
   where
     pub lawful : (number : ℕ) (block : Block) (place : Place)
-        → StandsAt blocks places number block place → IsTrue (is_lawful grid io_rat block.kind place)
+        → StandsAt blocks places number block place
+        → IsTrue (is_lawful grid io_rat block.kind place)
     pub apart : (i j : ℕ) (a b : Block) (p q : Place) → i < j → StandsAt blocks places i a p
         → StandsAt blocks places j b q → spot_of a.kind p ≢ spot_of b.kind q
 
--- each block has a place; and the places are lawful where no two blocks have one name, as in each
--- netlist that was read
-pub record IsSoundPlacement (arch : Arch) (netlist : Netlist) (placement : Placement) : Type 0
-  where
-    pub count : length placement.places ≡ length netlist.blocks
-    pub lawful : HaveOwnNames netlist.blocks
-        → AreLawful placement.grid arch.io_rat netlist.blocks placement.places
+-- each of these blocks has a place; and the places are lawful where no two blocks have one name
+pub record IsSoundFor (io_rat : ℕ) (blocks : List Block) (placement : Placement) : Type 0 where
+  pub count : length placement.places ≡ length blocks
+  pub lawful : HaveOwnNames blocks → AreLawful placement.grid io_rat blocks placement.places
+
+-- the same of the blocks of a netlist; those of a netlist that was read have names of their own
+abbrev pub IsSoundPlacement : Arch → Netlist → Placement → Type 0
+IsSoundPlacement arch netlist placement = IsSoundFor arch.io_rat netlist.blocks placement

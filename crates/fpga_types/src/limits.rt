@@ -14,3 +14,15 @@ pub const STEP_LIMIT: usize = 1 << 40;
 
 /// The greatest number of tracks of a channel.
 pub const WIDTH_LIMIT: u32 = 64;
+
+/// The greatest number of pads at a place of the border.
+pub const PAD_LIMIT: u32 = 16;
+
+/// The greatest number of pins of a logic block.
+pub const PIN_LIMIT: usize = 64;
+
+/// The greatest class of a pin.
+pub const CLASS_LIMIT: u32 = 63;
+
+/// The greatest share of an FcSpec, in millionths.
+pub const SHARE_LIMIT: u64 = 1_000_000_000_000_000;

@@ -115,10 +115,11 @@ module _ (desk desk_now : DeskState) (calm : ¬ HasRisen desk.faults desk_now.fa
   early-halts : (name : Bytes) (width : ℕ) (says : RouteText → Outcome → Type 0) (o : Outcome) →
       EndsEarly name width desk desk_now o →
       IsTrueOfClauses name width says desk.files o ⊎ (o ≡ OutOfMemory)
-  early-halts name width says o (inl h) = elim (stop-halts (route_file name) desk desk_now o h calm) [
-    | inl halt ↦ inl (inl halt)
-    | inr spent ↦ inr spent
-  ]
+  early-halts name width says o (inl h) =
+      elim (stop-halts (route_file name) desk desk_now o h calm) [
+        | inl halt ↦ inl (inl halt)
+        | inr spent ↦ inr spent
+      ]
   early-halts name width says o (inr h) = inl (inr (inl h))
 
 module _ (desk desk_now : DeskState) (shelf between : ShelfState) where
@@ -211,7 +212,7 @@ module _ (desk desk_now : DeskState) (o : Outcome) (of : IsOfEnd o) where
   stop-ends file (inr (inr (inr h))) = fault-ends file.number h.0 (subst IsOfEnd h.2 of)
 
   early-ends : (name : Bytes) (width : ℕ) → EndsEarly name width desk desk_now o → ⊥
-  early-ends name width (inl h) = stop-ends _ h
+  early-ends name width (inl h) = stop-ends (route_file name) h
   early-ends name width (inr (inl h)) = subst IsOfEnd h.3 of
   early-ends name width (inr (inr h)) = subst IsOfEnd h.3 of
 
@@ -219,9 +220,9 @@ module _ (desk desk_now : DeskState) (o : Outcome) (of : IsOfEnd o) where
   check-ends : (job : CheckJob) (words : List Word) → job_of words ≡ Ok (Checks job) →
       ChecksFiles (λ file. IsStopped file desk desk_now) job desk.files o →
       (o ≡ Accepted) × IsProved words desk.files
-  check-ends job words asked (inl h) = absurd (stop-ends _ h)
+  check-ends job words asked (inl h) = absurd (stop-ends (cnf_file job.cnf) h)
   check-ends job words asked (inr h) = elim h.2 [
-    | inl stop ↦ absurd (stop-ends _ stop)
+    | inl stop ↦ absurd (stop-ends (lrat_file (length h.0.clauses) job.lrat) stop)
     | inr judged ↦ go judged.0 judged.1 judged.2 (judge h.0 judged.0) refl
   ]
     where

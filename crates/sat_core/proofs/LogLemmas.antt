@@ -1,122 +1,80 @@
 -- One more step of a log.
-use Rattle.std.proofs.Common.{inl, inr, ◌≡◌, ◌≢◌, ◌==◌, ◌+◌, ℕ, zero, suc, ℤ, true, false, cond, List, [], ◌∷◌, ◌++◌, length, take, fold, None, Some, slice_get, All, refl, sym, ap, ◌∙◌, subst, arith}
-use Rattle.std.proofs.lemmas.Bool.{both_ways, eqb-true, eq-eqb, ne_eqb}
+use Rattle.std.proofs.Common.{inl, inr, ◌≡◌, ◌≢◌, ◌==◌, ◌<◌, ◌≤◌, ◌+◌, ℕ, zero, suc, ℤ, pos, negsuc, true, false, List, [], ◌∷◌, ◌++◌, length, take, fold, None, Some, slice_get, All, refl, sym, ap, ◌∙◌, arith}
+use Rattle.std.proofs.lemmas.Bool.{both_ways, ne_eqb}
 use Rattle.std.proofs.lemmas.List.{take-append-le, take_at}
-use Rattle.std.proofs.lemmas.List.Elements.{All-nil, All-cons}
+use Rattle.std.proofs.lemmas.List.Elements.{All-head, All-tail}
 use Rattle.std.proofs.lemmas.List.Sums.{fold_push}
 use Rattle.std.proofs.lemmas.Option.{slice_get_within}
-use Rattle.list_laws.proofs.Places.{get-cases, get-front, get-last}
+use Rattle.list_laws.proofs.Places.{get-cases}
 use Rattle.sat_clause.specs.declared.cause.Cause.{Cause}
 use Rattle.sat_clause.specs.declared.cause.Cause.TheVariants.{NoEmptyClause}
 use Rattle.sat_clause.specs.Formula.{Cnf}
-use Rattle.sat_clause.specs.Live.{Live, clause_at, numbered, put}
-use Rattle.sat_clause.specs.Step.{Step, Added, Erased}
-use Rattle.sat_clause.specs.Judge.{Accepted, Refused, after, inputs, is_empty_clause, judge_from, judge_step}
-use Rattle.sat_clause.specs.Learned.{AddsFrom, EachAdded, Sparse, deletions}
-use Rattle.sat_clause.proofs.LiveLaws.{inputs_at, inputs_none}
-use Rattle.sat_core.specs.SearchLog.{AreNumbered, EndsAtEmpty, added_count}
-use Rattle.sat_core.specs.Underway.{AreGood, live_after}
-use Rattle.sat_core.specs.SearchStore.{AreLive}
+use Rattle.sat_clause.specs.Judge.{Accepted, Refused, after, erase, inputs, is_empty_clause, judge_from, judge_step, take_out}
+use Rattle.sat_clause.specs.Learned.{EachAdded, EachErased, Sparse, deletions}
 use Rattle.sat_clause.specs.Literal.{Clause}
+use Rattle.sat_clause.specs.Live.{Live, clause_at, put, without}
+use Rattle.sat_clause.specs.Step.{Step, Added, Erased}
+use Rattle.sat_clause.proofs.LiveLaws.{clause_at-without, inputs_at}
+use Rattle.sat_core.specs.SearchLog.{AreNumbered, EndsAtEmpty, added_count}
+use Rattle.sat_core.specs.Stands.{AreGood, IsAbove, SparesInputs, live_after}
 
 -- steps without a refused one, and more of them
-pub good_behind : (live : Live) (log more : List Step) → AreGood live log → AreGood (fold after live log) more →
+pub good_behind : (live : Live) (log more : List Step) → AreGood live log → AreGood
+    (fold after live log) more →
     AreGood live (log ++ more)
 good_behind live [] more good rest = rest
-good_behind live (step ∷ log) more good rest = (good.0, good_behind (after live step) log more good.1 rest)
+good_behind live (step ∷ log) more good rest =
+    (good.0, good_behind (after live step) log more good.1 rest)
 
 -- if the judge refuses them, it is for want of an empty clause
-pub good_so_far : (n : ℕ) (live : Live) (log : List Step) → AreGood live log → (m : ℕ) (cause : Cause) →
+pub good_so_far : (n : ℕ) (live : Live) (log : List Step) → AreGood live log → (m : ℕ)
+    (cause : Cause) →
     judge_from n live log ≡ Refused m cause → cause ≡ NoEmptyClause
 good_so_far n live [] good m cause e = cc
 good_so_far n live (step ∷ log) good m cause e =
-    elim (is_empty_clause step) as (λ b. judge_step n None b (judge_from (suc n) (after live step) log) ≡ Refused m cause → cause ≡ NoEmptyClause) [
+    elim (is_empty_clause step) as (λ b. judge_step n None b
+    (judge_from (suc n) (after live step) log) ≡ Refused m cause → cause ≡ NoEmptyClause) [
       | true ↦ λ is. cc
       | false ↦ λ is. good_so_far (suc n) (after live step) log good.1 m cause is
-    ] (ap (λ f. judge_step n f (is_empty_clause step) (judge_from (suc n) (after live step) log)) (sym good.0) ∙ e)
+    ] (ap (λ f. judge_step n f (is_empty_clause step) (judge_from (suc n) (after live step) log))
+    (sym good.0) ∙ e)
 
 -- with an empty clause it accepts them
 pub good_accepted : (n : ℕ) (live : Live) (log : List Step) (id : ℕ) (hints : List ℤ) →
-    AreGood live (log ++ Added id [] hints ∷ []) → judge_from n live (log ++ Added id [] hints ∷ []) ≡ Accepted
+    AreGood live (log ++ Added id [] hints ∷ []) → judge_from n live (log ++ Added id [] hints ∷ [])
+    ≡ Accepted
 good_accepted n live [] id hints good = rw good.0 refl
 good_accepted n live (step ∷ log) id hints good =
-    rw good.0 (elim (is_empty_clause step) as (λ b. judge_step n None b (judge_from (suc n) (after live step) (log ++ Added id [] hints ∷ [])) ≡ Accepted) [
+    rw good.0 (elim (is_empty_clause step) as
+    (λ b. judge_step n None b (judge_from (suc n) (after live step)
+    (log ++ Added id [] hints ∷ [])) ≡ Accepted) [
       | true ↦ refl
       | false ↦ good_accepted (suc n) (after live step) log id hints good.1
     ])
-
--- the input clauses are live at the start
-pub live_start : (formula : Cnf) → AreLive formula.clauses (inputs formula)
-live_start formula = record { at = inputs_at formula; none = inputs_none formula }
-
--- one more clause is live
-pub live_push : (clauses : List Clause) (live : Live) (id : ℕ) (clause : Clause) → AreLive clauses live →
-    id ≡ suc (length clauses) → AreLive (clauses ++ clause ∷ []) (put live id clause)
-live_push clauses live id clause are is = record {
-  at = λ i.
-      elim (suc i == id) as (λ b. (suc i == id) ≡ b → cond b (Some clause) (clause_at live (suc i)) ≡ slice_get (clauses ++ clause ∷ []) i) [
-        | true ↦ λ same. let last = eqb-true (suc i) id same in sym (get-last clauses clause i (omega arith))
-        | false ↦ λ differ. are.at i
-            ∙ sym (get-front clauses clause i (λ same. both_ways _ differ (eq-eqb (suc i) id (omega arith))))
-      ] refl;
-  none = let other : (0 == id) ≡ false = ne_eqb 0 id (omega arith) in rw other are.none;
-}
 
 pub live_after-push : (formula : Cnf) (log : List Step) (step : Step) →
     live_after formula (log ++ step ∷ []) ≡ after (live_after formula log) step
 live_after-push formula log step = fold_push after (inputs formula) log step
 
 -- each added clause has a property, and so has one more
-pub EachAdded-push : (P : Live → Clause → List ℤ → Type 0) (formula : Cnf) (log : List Step) (id : ℕ) (clause : Clause) (hints : List ℤ) →
+pub each_added_push : (P : Live → Clause → List ℤ → Type 0) (formula : Cnf) (log : List Step)
+    (id : ℕ) (clause : Clause) (hints : List ℤ) →
     EachAdded P formula log → P (live_after formula log) clause hints →
     EachAdded P formula (log ++ Added id clause hints ∷ [])
-EachAdded-push P formula log id clause hints each more k i c h is =
+each_added_push P formula log id clause hints each more k i c h is =
     elim (get-cases log (Added id clause hints) (Added i c h) k is) [
       | inl last ↦
           let same : clause ≡ c = cc in
           let hints_same : hints ≡ h = cc in
-          let all : take k (log ++ Added id clause hints ∷ []) ≡ log = take_at log (Added id clause hints ∷ []) k (sym last.0) in
+          let all : take k (log ++ Added id clause hints ∷ []) ≡ log = take_at log
+          (Added id clause hints ∷ []) k (sym last.0) in
           rw (all, sym same, sym hints_same) more
       | inr earlier ↦
           let within = slice_get_within log k (Added i c h) earlier in
-          let front : take k (log ++ Added id clause hints ∷ []) ≡ take k log = take-append-le k log (Added id clause hints ∷ []) (omega arith) in
+          let front : take k (log ++ Added id clause hints ∷ []) ≡ take k log = take-append-le k log
+          (Added id clause hints ∷ []) (omega arith) in
           rw front (each k i c h earlier)
     ]
-
-pub AddsFrom-push : (id new : ℕ) (log : List Step) (clause : Clause) (hints : List ℤ) → AddsFrom id log →
-    clause ≢ [] → new ≡ id + length log → AddsFrom id (log ++ Added new clause hints ∷ [])
-AddsFrom-push id new [] clause hints adds some is = (omega arith, some, tt)
-AddsFrom-push id new (Added n c h ∷ log) clause hints adds some is =
-    (adds.0, adds.1, AddsFrom-push (suc id) new log clause hints adds.2 some (omega arith))
-AddsFrom-push id new (Erased n ids ∷ log) clause hints adds some is = absurd adds
-
--- what holds behind steps that add clauses alone
-module _ (more : List Step) where
-  pub numbered_behind : (id next : ℕ) (log : List Step) → AddsFrom id log → next ≡ id + length log →
-      AreNumbered next more → AreNumbered id (log ++ more)
-  numbered_behind id next [] adds is numbered =
-      subst (λ n. AreNumbered n more) (let same : next ≡ id = omega (arith, is) in same) numbered
-  numbered_behind id next (Added n c h ∷ log) adds is numbered =
-      (adds.0, numbered_behind (suc id) next log adds.2 (omega (arith, is)) numbered)
-  numbered_behind id next (Erased n ids ∷ log) adds is numbered = absurd adds
-
-  pub ends_behind : (id : ℕ) (log : List Step) → AddsFrom id log → EndsAtEmpty more → EndsAtEmpty (log ++ more)
-  ends_behind id [] adds ends = ends
-  ends_behind id (Added n [] h ∷ log) adds ends = absurd (adds.1 refl)
-  ends_behind id (Added n (l ∷ ls) h ∷ log) adds ends =
-      (λ is. absurd (both_ways false refl is), ends_behind (suc id) log adds.2 ends)
-  ends_behind id (Erased n ids ∷ log) adds ends = absurd adds
-
-  pub count_behind : (id : ℕ) (log : List Step) → AddsFrom id log →
-      added_count (log ++ more) ≡ length log + added_count more
-  count_behind id [] adds = omega arith
-  count_behind id (Added n c h ∷ log) adds = let rest = count_behind (suc id) log adds.2 in omega (arith, rest)
-  count_behind id (Erased n ids ∷ log) adds = absurd adds
-
-  pub deletions_behind : (id : ℕ) (log : List Step) → AddsFrom id log → deletions (log ++ more) ≡ deletions more
-  deletions_behind id [] adds = refl
-  deletions_behind id (Added n c h ∷ log) adds = deletions_behind (suc id) log adds.2
-  deletions_behind id (Erased n ids ∷ log) adds = absurd adds
 
 -- where nothing is deleted
 not_erased : (log : List Step) (k id : ℕ) (ids : List ℤ) → deletions log ≡ 0 →
@@ -129,9 +87,106 @@ not_erased (Erased n i ∷ log) k id ids none is = absurd (omega arith)
 pub sparse_without : (log : List Step) → deletions log ≡ 0 → Sparse log
 sparse_without log none k id ids is = absurd (not_erased log k id ids none is)
 
-pub none_empty : (id : ℕ) (log : List Step) → AddsFrom id log → All (λ step. is_empty_clause step ≡ false) log
-none_empty id [] adds = All-nil (λ (step : Step). is_empty_clause step ≡ false)
-none_empty id (Added n [] h ∷ log) adds = absurd (adds.1 refl)
-none_empty id (Added n (l ∷ ls) h ∷ log) adds =
-    All-cons (λ (step : Step). is_empty_clause step ≡ false) (Added n (l ∷ ls) h) log refl (none_empty (suc id) log adds.2)
-none_empty id (Erased n ids ∷ log) adds = absurd adds
+-- each deletion has a property, and an added clause makes no difference
+each_erased_push : (P : List Step → List ℤ → Type 0) (log : List Step) (id : ℕ) (clause : Clause)
+    (hints : List ℤ) →
+    EachErased P log → EachErased P (log ++ Added id clause hints ∷ [])
+each_erased_push P log id clause hints each k i ids is =
+    elim (get-cases log (Added id clause hints) (Erased i ids) k is) [
+      | inl last ↦ let both : Added id clause hints ≡ Erased i ids = last.1 in cc
+      | inr earlier ↦
+          let within = slice_get_within log k (Erased i ids) earlier in
+          let front : take k (log ++ Added id clause hints ∷ []) ≡ take k log = take-append-le k log
+          (Added id clause hints ∷ []) (omega arith) in
+          rw front (each k i ids earlier)
+    ]
+
+pub spares_push : (m : ℕ) (log : List Step) (id : ℕ) (clause : Clause) (hints : List ℤ) →
+    SparesInputs m log →
+    SparesInputs m (log ++ Added id clause hints ∷ [])
+spares_push m log id clause hints spares =
+    each_erased_push (λ before ids. All (IsAbove m) ids) log id clause hints spares
+
+-- one more clause
+pub numbered_push : (id new : ℕ) (log : List Step) (clause : Clause) (hints : List ℤ) → AreNumbered
+    id log →
+    new ≡ id + added_count log → AreNumbered id (log ++ Added new clause hints ∷ [])
+numbered_push id new [] clause hints numbered is = (omega (arith, is), tt)
+numbered_push id new (Added n c h ∷ log) clause hints numbered is =
+    (numbered.0, numbered_push (suc id) new log clause hints numbered.1 (omega (arith, is)))
+numbered_push id new (Erased n ids ∷ log) clause hints numbered is =
+    (numbered.0, numbered.1, numbered_push id new log clause hints numbered.2 (omega (arith, is)))
+
+pub added_count-push : (log : List Step) (id : ℕ) (clause : Clause) (hints : List ℤ) →
+    added_count (log ++ Added id clause hints ∷ []) ≡ suc (added_count log)
+added_count-push [] id clause hints = refl
+added_count-push (Added n c h ∷ log) id clause hints = ap suc (added_count-push log id clause hints)
+added_count-push (Erased n ids ∷ log) id clause hints = added_count-push log id clause hints
+
+pub deletions-push : (log : List Step) (id : ℕ) (clause : Clause) (hints : List ℤ) →
+    deletions (log ++ Added id clause hints ∷ []) ≡ deletions log
+deletions-push [] id clause hints = refl
+deletions-push (Added n c h ∷ log) id clause hints = deletions-push log id clause hints
+deletions-push (Erased n ids ∷ log) id clause hints = ap suc (deletions-push log id clause hints)
+
+pub not_empty_step : (id : ℕ) (clause : Clause) (hints : List ℤ) → clause ≢ [] →
+    is_empty_clause (Added id clause hints) ≡ false
+not_empty_step id [] hints some = absurd (some refl)
+not_empty_step id (l ∷ ls) hints some = refl
+
+-- an empty clause may stand behind steps that add none
+pub ends_behind : (log more : List Step) → All (λ step. is_empty_clause step ≡ false) log →
+    EndsAtEmpty more →
+    EndsAtEmpty (log ++ more)
+ends_behind [] more none ends = ends
+ends_behind (step ∷ log) more none ends = (
+  λ is. absurd (both_ways _ (All-head (λ (s : Step). is_empty_clause s ≡ false) step log none) is),
+  ends_behind log more (All-tail (λ (s : Step). is_empty_clause s ≡ false) step log none) ends,
+)
+
+-- INPUTS STAY
+
+stays_without : (m out n : ℕ) (live : Live) → m < out → n ≤ m → clause_at (without live out) n ≡
+    clause_at live n
+stays_without m out n live over most =
+    let other : (out == n) ≡ false = ne_eqb out n (omega (arith, over, most)) in
+    clause_at-without live out n ∙ rw other refl
+
+stays_out : (m n : ℕ) (live : Live) (h : ℤ) → IsAbove m h → n ≤ m → clause_at (take_out live h) n ≡
+    clause_at live n
+stays_out m n live (pos h) is most =
+    let k : ℕ = is.0 in let same : h ≡ k = cc in stays_without m h n live
+    (omega (arith, same, is.2)) most
+stays_out m n live (negsuc h) is most = refl
+
+stays_erase : (m n : ℕ) (ids : List ℤ) (live : Live) → All (IsAbove m) ids → n ≤ m →
+    clause_at (erase live ids) n ≡ clause_at live n
+stays_erase m n [] live over most = refl
+stays_erase m n (id ∷ ids) live over most =
+    stays_erase m n ids (take_out live id) (All-tail (IsAbove m) id ids over) most
+    ∙ stays_out m n live id (All-head (IsAbove m) id ids over) most
+
+stays : (m id : ℕ) (log : List Step) (live : Live) → m < id → AreNumbered id log → SparesInputs m
+    log →
+    (n : ℕ) → n ≤ m → clause_at (fold after live log) n ≡ clause_at live n
+stays m id [] live over numbered spares n most = refl
+stays m id (Added new clause hints ∷ log) live over numbered spares n most =
+    let other : (n == new) ≡ false = ne_eqb n new (omega (arith, over, numbered.0, most)) in
+    stays m (suc id) log (put live new clause) (omega (arith, over)) numbered.1
+    (λ j number ids is. spares (suc j) number ids is) n most
+    ∙ rw other refl
+stays m id (Erased number ids ∷ log) live over numbered spares n most =
+    stays m id log (erase live ids) over numbered.2
+    (λ j other others is. spares (suc j) other others is) n most
+    ∙ stays_erase m n ids live (spares 0 number ids refl) most
+
+-- each input stays live where no deletion names one
+pub inputs_live : (formula : Cnf) (log : List Step) → AreNumbered (suc (length formula.clauses)) log
+    →
+    SparesInputs (length formula.clauses) log → (i : ℕ) (c : Clause) → slice_get formula.clauses i ≡
+    Some c →
+    clause_at (live_after formula log) (suc i) ≡ Some c
+inputs_live formula log numbered spares i c is =
+    stays (length formula.clauses) (suc (length formula.clauses)) log (inputs formula) (omega arith)
+    numbered spares (suc i) (slice_get_within formula.clauses i c is)
+    ∙ inputs_at formula i ∙ is

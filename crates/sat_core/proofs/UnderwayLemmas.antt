@@ -1,135 +1,203 @@
 -- The log of a search at its start, with one more learned clause, and at its end.
-use Rattle.std.proofs.Common.{◌≡◌, ◌≢◌, ◌<◌, ◌≤◌, ◌+◌, ℕ, zero, suc, ℤ, Bool, List, [], ◌∷◌, ◌++◌, length, slice_get, None, Some, Contains, refl, sym, ap, ◌∙◌, subst, arith}
+use Rattle.std.proofs.Common.{◌≡◌, ◌≢◌, ◌<◌, ◌≤◌, ◌+◌, ℕ, suc, ℤ, Bool, false, List, [], ◌∷◌, ◌++◌, length, None, All, refl, sym, ap, ◌∙◌, subst, arith}
 use Rattle.std.specs.Prelude.{IfOk, Ok, Result}
 use Rattle.std.specs.declared.alloc.AllocError.{AllocError}
-use Rattle.std.proofs.lemmas.List.{append-nil, length-append}
-use Rattle.std.proofs.lemmas.List.Elements.{All-contains, All-contains_itself, All-weaker, Contains-append_left}
-use Rattle.std.proofs.lemmas.Option.{get_or_from_slice_get, slice_get_within}
-use Rattle.sat_clause.specs.Formula.{Cnf, IsTrueClause, Satisfies}
-use Rattle.sat_clause.specs.Judge.{Accepted, inputs, judge}
+use Rattle.std.proofs.lemmas.List.{append-nil}
+use Rattle.std.proofs.lemmas.List.Elements.{All-contains_itself, All-nil, All-push}
+use Rattle.sat_clause.specs.Formula.{Cnf, Satisfies}
+use Rattle.sat_clause.specs.Judge.{Accepted, inputs, is_empty_clause, judge}
 use Rattle.sat_clause.specs.Learned.{IsFresh, IsSimple, LearnedNew, deletions}
-use Rattle.sat_clause.specs.Literal.{Clause}
-use Rattle.sat_clause.specs.Live.{Live}
+use Rattle.sat_clause.specs.Literal.{Clause, IsWithin}
+use Rattle.sat_clause.specs.Live.{Live, put}
 use Rattle.sat_clause.specs.Rup.{rup}
 use Rattle.sat_clause.specs.Step.{Step, Added}
 use Rattle.sat_core.specs.declared.answer.Answer.{Answer}
 use Rattle.sat_core.specs.declared.answer.Answer.TheVariants.{Refuted}
 use Rattle.sat_core.specs.Answer.{IsAnswer, SpendsAll}
+use Rattle.sat_core.specs.Kept.{AreKept}
 use Rattle.sat_core.specs.SearchLog.{AreNumbered, EndsAtEmpty, added_count}
-use Rattle.sat_core.specs.SearchStore.{AreLive, IsNewTo, with_clause}
-use Rattle.sat_core.specs.Underway.{AreGood, HasSearched, IsDone, IsUnderway, live_after}
+use Rattle.sat_core.specs.SearchStore.{AreTrue, ChangesTrail, IsLesson, Learns}
+use Rattle.sat_core.specs.Stands.{AreGood, IsOpenLog, SearchValue, StandsFor, live_after, next_id}
+use Rattle.sat_core.specs.Underway.{HasSearched, IsDone, IsUnderway}
 use Rattle.sat_core.proofs.EarlierLaw.{hints_are_earlier}
-use Rattle.sat_core.proofs.LogLemmas.{AddsFrom-push, EachAdded-push, count_behind, deletions_behind, ends_behind, good_accepted, good_behind, good_so_far, live_after-push, live_push, live_start, none_empty, numbered_behind, sparse_without}
+use Rattle.sat_core.proofs.KeptLaws.{fresh_kept, kept_put, model_kept, rup_kept}
+use Rattle.sat_core.proofs.LogLemmas.{added_count-push, deletions-push, each_added_push, ends_behind, good_accepted, good_behind, good_so_far, inputs_live, live_after-push, not_empty_step, numbered_push, spares_push, sparse_without}
 
-pub underway_start : (formula : Cnf) → IsUnderway formula formula []
-underway_start formula = record {
+open_start : (formula : Cnf) → IsOpenLog formula []
+open_start formula = record {
   good = tt;
-  adds = tt;
+  none_empty = All-nil (λ (step : Step). is_empty_clause step ≡ false);
+  numbered = tt;
   new = λ k id clause hints is. cc;
-  vars = refl;
-  inputs = All-contains_itself formula.clauses;
-  many = omega arith;
-  live = live_start formula;
+  spares = λ k id ids is. cc;
 }
 
--- a clause that is new to the clauses is fresh where these are live
-fresh_from_new : (clauses : List Clause) (live : Live) (clause : Clause) → AreLive clauses live → IsNewTo clauses clause →
-    IsFresh live clause
-fresh_from_new clauses live clause are new zero old is = λ all. let none : Some old ≡ None = sym is ∙ are.none in cc
-fresh_from_new clauses live clause are new (suc i) old is =
-    let at : slice_get clauses i ≡ Some old = sym (are.at i) ∙ is in
-    new old (i, slice_get_within clauses i old at, get_or_from_slice_get clauses i old old at)
+pub underway_start : (search : SearchValue) (formula : Cnf) → StandsFor search formula [] →
+    All (All (IsWithin formula.vars)) formula.clauses → IsUnderway search formula []
+underway_start search formula stands within = record {
+  within = within;
+  stands = stands;
+  open_log = open_start formula;
+  none_deleted = refl;
+}
 
-module _ (formula known : Cnf) (log : List Step) (underway : IsUnderway formula known log) where
+-- whatever stands on the trail
+pub underway_along : (old new : SearchValue) (formula : Cnf) (log : List Step) → ChangesTrail old
+    new →
+    IsUnderway old formula log → IsUnderway new formula log
+underway_along old new formula log same on =
+    subst (λ (s : SearchValue). IsUnderway s formula log) (sym same) (record {
+      within = on.within;
+      stands = record {
+        vars = on.stands.vars;
+        inputs = on.stands.inputs;
+        added = on.stands.added;
+        clauses = on.stands.clauses;
+      };
+      open_log = on.open_log;
+      none_deleted = on.none_deleted;
+    })
+
+module _ (search : SearchValue) (formula : Cnf) (log : List Step)
+    (on : IsUnderway search formula log) where
+  -- the next id, by what the search knows
+  pub next_is : suc (search.inputs + search.added) ≡ next_id formula log
+  next_is = omega (arith, on.stands.inputs, on.stands.added)
+
+  good_hints : (clause : Clause) (hints : List ℤ) → IsLesson search clause hints →
+      rup (live_after formula log) clause hints ≡ None
+  good_hints clause hints lesson =
+      rup_kept search.clauses (live_after formula log) on.stands.clauses.are_live clause hints
+      lesson.follows
+
+  open_next : (id : ℕ) (clause : Clause) (hints : List ℤ) → id ≡ next_id formula log → IsLesson
+      search clause hints →
+      clause ≢ [] → IsOpenLog formula (log ++ Added id clause hints ∷ [])
+  open_next id clause hints is lesson some =
+      let live : Live = live_after formula log in
+      let simple : IsSimple formula.vars clause = subst (λ (n : ℕ). IsSimple n clause)
+      on.stands.vars lesson.simple in
+      let fresh : IsFresh live clause = fresh_kept search.clauses live on.stands.clauses
+      formula.vars clause simple (lesson.fresh some) in
+      record {
+        good = good_behind (inputs formula) log (Added id clause hints ∷ []) on.open_log.good
+            (good_hints clause hints lesson, tt);
+        none_empty = All-push (λ (step : Step). is_empty_clause step ≡ false) log
+            (Added id clause hints) on.open_log.none_empty (not_empty_step id clause hints some);
+        numbered = numbered_push (suc (length formula.clauses)) id log clause hints
+            on.open_log.numbered (omega (arith, is));
+        new = each_added_push (λ live c h. c ≢ [] → IsSimple formula.vars c × IsFresh live c)
+            formula log id clause hints on.open_log.new (λ _. (simple, fresh));
+        spares = spares_push (length formula.clauses) log id clause hints on.open_log.spares;
+      }
+
   -- one more learned clause
-  pub underway_next : (id : ℕ) (clause : Clause) (hints : List ℤ) → id ≡ suc (length known.clauses) →
-      rup (live_after formula log) clause hints ≡ None → clause ≢ [] → IsSimple formula.vars clause →
-      IsNewTo known.clauses clause →
-      IsUnderway formula (with_clause known clause) (log ++ Added id clause hints ∷ [])
-  underway_next id clause hints is follows some simple new = record {
-    good = good_behind (inputs formula) log (Added id clause hints ∷ []) underway.good (follows, tt);
-    adds = AddsFrom-push (suc (length formula.clauses)) id log clause hints underway.adds some (omega (arith, is, underway.many));
-    new = EachAdded-push (λ live c h. c ≢ [] → IsSimple formula.vars c × IsFresh live c) formula log id clause hints underway.new
-        (λ _. (simple, fresh_from_new known.clauses (live_after formula log) clause underway.live new));
-    vars = underway.vars;
-    inputs = All-weaker (Contains known.clauses) (Contains (known.clauses ++ clause ∷ []))
-        (λ c. Contains-append_left known.clauses (clause ∷ []) c) formula.clauses underway.inputs;
-    many = omega (arith, underway.many, length-append log (Added id clause hints ∷ []), length-append known.clauses (clause ∷ []));
-    live = rw (live_after-push formula log (Added id clause hints))
-        (live_push known.clauses (live_after formula log) id clause underway.live is);
-  }
+  pub underway_next : (new : SearchValue) (id : ℕ) (clause : Clause) (hints : List ℤ) →
+      id ≡ suc (search.inputs + search.added) → IsLesson search clause hints → clause ≢ [] → Learns
+      search new clause →
+      IsUnderway new formula (log ++ Added id clause hints ∷ [])
+  underway_next new id clause hints is lesson some learns =
+      let live : Live = live_after formula log in
+      let next : id ≡ next_id formula log = is ∙ next_is in
+      let are : AreKept (put search.clauses id clause) (put live id clause) =
+      kept_put search.clauses live id clause clause on.stands.clauses
+      (All-contains_itself clause, All-contains_itself clause) lesson.simple.once in
+      let now : put search.clauses id clause ≡ new.clauses = ap
+      (λ (n : ℕ). put search.clauses n clause) is ∙ sym learns.clauses in
+      record {
+        within = on.within;
+        stands = record {
+          vars = learns.vars ∙ on.stands.vars;
+          inputs = learns.inputs ∙ on.stands.inputs;
+          added = omega (
+            arith,
+            learns.added,
+            on.stands.added,
+            added_count-push log id clause
+                hints,
+          );
+          clauses = rw (live_after-push formula log (Added id clause hints))
+              (subst (λ (kept : Live). AreKept kept (put live id clause)) now are);
+        };
+        open_log = open_next id clause hints next lesson some;
+        none_deleted = deletions-push log id clause hints ∙ on.none_deleted;
+      }
 
   -- the empty clause
-  pub underway_done : (id : ℕ) (clause : Clause) (hints : List ℤ) → id ≡ suc (length known.clauses) →
-      rup (live_after formula log) clause hints ≡ None → clause ≡ [] →
-      IsDone formula log (log ++ Added id clause hints ∷ [])
-  underway_done id clause hints is follows none = record {
-    id = id;
+  pub underway_done : (id : ℕ) (clause : Clause) (hints : List ℤ) → id ≡ suc
+      (search.inputs + search.added) →
+      IsLesson search clause hints → clause ≡ [] → IsDone formula log
+      (log ++ Added id clause hints ∷ [])
+  underway_done id clause hints is lesson none = record {
     hints = hints;
-    last = ap (λ c. log ++ Added id c hints ∷ []) none;
-    numbered = omega (arith, is, underway.many);
-    good = rw none at follows;
+    last = rw (is ∙ next_is, none) refl;
+    good = subst (λ (c : Clause). rup (live_after formula log) c hints ≡ None) none
+        (good_hints clause hints lesson);
   }
 
-  -- values that satisfy what is known satisfy the formula
-  pub known_satisfied : (values : List Bool) → Satisfies values known → Satisfies values formula
-  known_satisfied values satisfies = record {
-    one_each = satisfies.one_each ∙ underway.vars;
-    each_clause = All-weaker (Contains known.clauses) (IsTrueClause values)
-        (λ c has. All-contains (IsTrueClause values) known.clauses c satisfies.each_clause has) formula.clauses underway.inputs;
-  }
+  -- values that make the kept clauses true satisfy the formula
+  pub underway_model : (values : List Bool) → AreTrue search values → Satisfies values formula
+  underway_model values are =
+      model_kept search.clauses (live_after formula log) on.stands.clauses formula values
+      (are.many ∙ on.stands.vars) on.within
+      (inputs_live formula log on.open_log.numbered on.open_log.spares) are.each
 
   -- the log, with or without a last step
   searched_behind : (more : List Step) (budget : ℕ) (result : Result Answer AllocError) →
-      AreGood (live_after formula log) more → AreNumbered (suc (length formula.clauses) + length log) more →
-      EndsAtEmpty more → deletions more ≡ 0 → LearnedNew formula (log ++ more) →
-      length log + added_count more ≤ budget → IfOk result (IsAnswer formula budget (log ++ more)) →
+      AreGood (inputs formula) (log ++ more) → AreNumbered (suc (length formula.clauses))
+      (log ++ more) →
+      EndsAtEmpty more → deletions (log ++ more) ≡ 0 → LearnedNew formula (log ++ more) →
+      added_count (log ++ more) ≤ budget → IfOk result (IsAnswer formula budget (log ++ more)) →
       HasSearched formula budget (log ++ more) result
-  searched_behind more budget result good numbered ends none new few answer =
-      let first = suc (length formula.clauses) in
-      let all = good_behind (inputs formula) log more underway.good good in
-      let ids = numbered_behind more first (first + length log) log underway.adds refl numbered in
-      let kept : deletions (log ++ more) ≡ 0 = deletions_behind more first log underway.adds ∙ none in
-      record {
-        answer = answer;
-        logged = record {
-          good = good_so_far 1 (inputs formula) (log ++ more) all;
-          ends = ends_behind more first log underway.adds ends;
-          numbered = ids;
-          earlier = hints_are_earlier formula (log ++ more) all ids;
-          new = new;
-          sparse = sparse_without (log ++ more) kept;
-        };
-        within = omega (arith, count_behind more first log underway.adds, few);
-        kept = kept;
-      }
+  searched_behind more budget result good numbered ends none new few answer = record {
+    answer = answer;
+    logged = record {
+      good = good_so_far 1 (inputs formula) (log ++ more) good;
+      ends = ends_behind log more on.open_log.none_empty ends;
+      numbered = numbered;
+      earlier = hints_are_earlier formula (log ++ more) good numbered;
+      new = new;
+      sparse = sparse_without (log ++ more) none;
+    };
+    within = few;
+    kept = none;
+  }
 
-  pub searched : (budget : ℕ) (result : Result Answer AllocError) → length log ≤ budget →
+  pub searched : (budget : ℕ) (result : Result Answer AllocError) → added_count log ≤ budget →
       IfOk result (IsAnswer formula budget log) → HasSearched formula budget log result
   searched budget result few answer =
-      subst (λ (l : List Step). HasSearched formula budget l result) (append-nil log)
-      (searched_behind [] budget result tt tt tt refl
-      (subst (LearnedNew formula) (sym (append-nil log)) underway.new) (omega (arith, few))
-      (subst (λ (l : List Step). IfOk result (IsAnswer formula budget l)) (sym (append-nil log)) answer))
+      let same : log ++ [] ≡ log = append-nil log in
+      subst (λ (l : List Step). HasSearched formula budget l result) same
+      (searched_behind [] budget result (rw same on.open_log.good) (rw same on.open_log.numbered) tt
+      (rw same on.none_deleted) (subst (LearnedNew formula) (sym same) on.open_log.new)
+      (rw same few)
+      (subst (λ (l : List Step). IfOk result (IsAnswer formula budget l)) (sym same) answer))
 
-  pub spent : (budget : ℕ) → length log ≡ budget → SpendsAll budget log
-  spent budget many =
-      let first = suc (length formula.clauses) in
-      record {
-        all = ap added_count (sym (append-nil log)) ∙ count_behind [] first log underway.adds ∙ omega (arith, many);
-        none_empty = none_empty first log underway.adds;
-      }
+  pub spent : (budget : ℕ) → added_count log ≡ budget → SpendsAll budget log
+  spent budget many = record { all = many; none_empty = on.open_log.none_empty }
 
-  pub refuted : (budget : ℕ) (now : List Step) → length log < budget → IsDone formula log now →
+  pub refuted : (budget : ℕ) (now : List Step) → added_count log < budget → IsDone formula log now →
       HasSearched formula budget now (Ok Refuted)
   refuted budget now few done =
-      let last = Added done.id [] done.hints in
-      let accepts : judge formula (log ++ last ∷ []) ≡ Accepted =
-      good_accepted 1 (inputs formula) log done.id done.hints (good_behind (inputs formula) log (last ∷ []) underway.good (done.good, tt)) in
-      let within : added_count (log ++ last ∷ []) ≤ budget =
-      omega (arith, count_behind (last ∷ []) (suc (length formula.clauses)) log underway.adds, few) in
+      let id : ℕ = next_id formula log in
+      let last = Added id [] done.hints in
+      let good : AreGood (inputs formula) (log ++ last ∷ []) = good_behind (inputs formula) log
+      (last ∷ []) on.open_log.good (done.good, tt) in
+      let accepts : judge formula (log ++ last ∷ []) ≡ Accepted = good_accepted 1 (inputs formula)
+      log id done.hints good in
+      let within : added_count (log ++ last ∷ []) ≤ budget = omega
+      (arith, added_count-push log id [] done.hints, few) in
       subst (λ (l : List Step). HasSearched formula budget l (Ok Refuted)) (sym done.last)
-      (searched_behind (last ∷ []) budget (Ok Refuted) (done.good, tt) (done.numbered, tt) (λ _. refl, tt) refl
-      (EachAdded-push (λ live c h. c ≢ [] → IsSimple formula.vars c × IsFresh live c) formula log done.id [] done.hints underway.new (λ some. absurd (some refl)))
-      (omega (arith, few))
-      (record { accepts = accepts; within = within; last = record { before = log; id = done.id; hints = done.hints; is = refl } }))
+      (searched_behind (last ∷ []) budget (Ok Refuted) good
+      (numbered_push (suc (length formula.clauses)) id log [] done.hints on.open_log.numbered
+      (omega arith))
+      (λ _. refl, tt) (deletions-push log id [] done.hints ∙ on.none_deleted)
+      (each_added_push (λ live c h. c ≢ [] → IsSimple formula.vars c × IsFresh live c) formula log
+      id [] done.hints on.open_log.new (λ some. absurd (some refl)))
+      within
+      (record {
+        accepts = accepts;
+        within = within;
+        last = record
+            { before = log; id = id; hints = done.hints; is = refl };
+      }))

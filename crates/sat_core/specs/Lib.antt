@@ -1,7 +1,10 @@
 pub mod Answer
-pub mod Causes
+pub mod ClauseList
+pub mod Kept
 pub mod Lesson
+pub mod Levels
 pub mod SearchLog
 pub mod SearchStore
+pub mod Stands
 pub mod Trail
 pub mod Underway

@@ -47,3 +47,13 @@ pub record IsTrailStore
   pub within : AreWithin vars entries.items
   pub once : IsOnce (literals (reverse entries.items))
   pub valued : AreValued vars (literals (reverse entries.items)) values.items
+
+-- whether an entry has a reason, this and the older ones or what those give
+abbrev pub from_entry : Entry → Option ℕ → (older since : List Entry) → List Entry
+from_entry e None older since = e ∷ older
+from_entry e (Some id) older since = since
+
+-- the entries from the newest decision on
+abbrev pub from_decision : List Entry → List Entry
+from_decision [] = []
+from_decision (e ∷ older) = from_entry e e.reason older (from_decision older)

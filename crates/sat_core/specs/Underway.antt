@@ -1,52 +1,42 @@
 -- The log of a search that is under way, and what one turn and the whole search make of it.
-use Rattle.std.specs.Prelude.{◌≡◌, ℕ, suc, ◌+◌, ◌≤◌, ⊤, ℤ, List, [], ◌∷◌, ◌++◌, length, fold, All, Contains, IfOk, None, Result}
+use Rattle.std.specs.Prelude.{◌≡◌, ℕ, suc, ◌≤◌, ℤ, List, [], ◌∷◌, ◌++◌, All, IfOk, None, Result}
 use Rattle.std.specs.declared.alloc.AllocError.{AllocError}
 use Rattle.sat_clause.specs.Formula.{Cnf, Satisfies}
-use Rattle.sat_clause.specs.Judge.{after, fault, inputs}
-use Rattle.sat_clause.specs.Learned.{AddsFrom, LearnedNew, deletions}
-use Rattle.sat_clause.specs.Live.{Live}
+use Rattle.sat_clause.specs.Judge.{fault}
+use Rattle.sat_clause.specs.Learned.{deletions}
+use Rattle.sat_clause.specs.Literal.{Clause, IsWithin}
 use Rattle.sat_clause.specs.Step.{Step, Added}
 use Rattle.sat_core.specs.Answer.{IsAnswer}
 use Rattle.sat_core.specs.SearchLog.{IsSearchLog, added_count}
-use Rattle.sat_core.specs.SearchStore.{AreLive}
+use Rattle.sat_core.specs.Stands.{IsOpenLog, SearchValue, StandsFor, live_after, next_id}
 use Rattle.sat_core.specs.declared.answer.Answer.{Answer}
 use Rattle.sat_core.specs.declared.turn.Turn.{Turn}
 use Rattle.sat_core.specs.declared.turn.Turn.TheVariants.{Learned, Model, Refuted}
 
--- the clauses that are live after the steps
-abbrev pub live_after : Cnf → List Step → Live
-live_after formula log = fold after (inputs formula) log
+-- the clauses are of the formula's variables, and the search stands for it and a log that is open
+-- and has deleted nothing
+pub record IsUnderway (search : SearchValue) (formula : Cnf) (log : List Step) : Type 0 where
+  pub within : All (All (IsWithin formula.vars)) formula.clauses
+  pub stands : StandsFor search formula log
+  pub open_log : IsOpenLog formula log
+  pub none_deleted : deletions log ≡ 0
 
--- no step is refused, where these clauses are live at the start
-abbrev pub AreGood : Live → List Step → Type 0
-AreGood live [] = ⊤
-AreGood live (step ∷ steps) = (fault live step ≡ None) × AreGood (after live step) steps
-
--- no step is refused and none adds the empty clause; each adds a clause that is new; and these are
--- known, beside those of the formula
-pub record IsUnderway (formula known : Cnf) (log : List Step) : Type 0 where
-  pub good : AreGood (inputs formula) log
-  pub adds : AddsFrom (suc (length formula.clauses)) log
-  pub new : LearnedNew formula log
-  pub vars : known.vars ≡ formula.vars
-  pub inputs : All (Contains known.clauses) formula.clauses
-  pub many : length known.clauses ≡ length formula.clauses + length log
-  pub live : AreLive known.clauses (live_after formula log)
+-- one more input clause
+abbrev pub with_input : Cnf → Clause → Cnf
+with_input formula clause = record formula { clauses = formula.clauses ++ clause ∷ [] }
 
 -- a good step more that adds the empty clause
 pub record IsDone (formula : Cnf) (before log : List Step) : Type 0 where
-  pub id : ℕ
   pub hints : List ℤ
-  pub last : log ≡ before ++ Added id [] hints ∷ []
-  pub numbered : id ≡ suc (length formula.clauses) + length before
-  pub good : fault (live_after formula before) (Added id [] hints) ≡ None
+  pub last : log ≡ before ++ Added (next_id formula before) [] hints ∷ []
+  pub good : fault (live_after formula before) (Added (next_id formula before) [] hints) ≡ None
 
 -- what a turn says: one more clause is learned, or values satisfy the formula, or it is refuted
-abbrev pub IsTurn : (formula known : Cnf) → (before now : List Step) → Turn → Type 0
-IsTurn formula known before now Learned =
-    IsUnderway formula known now × (length now ≡ suc (length before))
-IsTurn formula known before now (Model values) = Satisfies values.items formula × (now ≡ before)
-IsTurn formula known before now Refuted = IsDone formula before now
+abbrev pub IsTurn : SearchValue → Cnf → (before now : List Step) → Turn → Type 0
+IsTurn search formula before now Learned =
+    IsUnderway search formula now × (added_count now ≡ suc (added_count before))
+IsTurn search formula before now (Model values) = Satisfies values.items formula × (now ≡ before)
+IsTurn search formula before now Refuted = IsDone formula before now
 
 -- what a search comes to, and what its log is whatever that is
 pub record HasSearched

@@ -7,6 +7,6 @@ use sat_clause::Lit;
 pub(crate) struct Entry {
     /// The literal.
     pub(crate) lit: Lit,
-    /// The position of the clause that makes it true; a decision has none.
+    /// The id of the clause that makes it true; a decision has none.
     pub(crate) reason: Option<u32>,
 }

@@ -1,8 +1,8 @@
 //! What is learned where a clause is false.
 
-ghost use Rattle.std.specs.Prelude.{◌≡◌, ◌≤◌, ◌∷◌, [], ◌++◌, ℕ, IfOk, length, reverse, All};
-ghost use Rattle.sat_core.specs.Lesson.{id_at, negated_decisions, reason_ids};
-ghost use Rattle.sat_clause.specs.Literal.{IsWithin};
+ghost use Rattle.std.specs.Prelude.{◌≡◌, ◌∷◌, [], ◌++◌, IfOk, pos, reverse};
+ghost use Rattle.sat_core.specs.Lesson.{negated_decisions, reason_ids};
+ghost use Rattle.sat_core.specs.SearchStore.{assigned_of};
 ghost use Rattle.sat_core.specs.Trail.{AreWithin};
 
 use crate::entry::Entry;
@@ -16,35 +16,30 @@ pub(crate) struct Lesson {
     pub(crate) hints: Vec<i64>,
 }
 
-/// The id of the clause at a position.
-fn id_of(position: u32) -> i64
-    ensures { result ≡ id_at position }
-{
-    i64::from(position) + 1
-}
-
 impl Lesson {
-    /// The lesson of a trail, oldest entry first, where the clause at a position is false: the
-    /// negated decisions, by the reasons in the order of the trail and then the false clause.
+    /// The lesson of a trail, oldest entry first, where the clause with an id is false: the negated
+    /// decisions, by the reasons in the order of the trail and then the false clause.
     pub(crate) fn of_conflict(
         alloc: Global,
         entries: &[Entry],
         conflict: u32,
     ) -> Result<Lesson, AllocError>
         requires { AreWithin VARIABLE_LIMIT entries.now }
-        ensures { IfOk result (λ lesson.
-            (lesson.clause.items ≡ negated_decisions (reverse entries.now))
-            × (lesson.hints.items ≡ reason_ids (reverse entries.now) ++ id_at conflict ∷ [])) }
+        ensures clause { IfOk result (λ lesson.
+            lesson.clause.items ≡ negated_decisions (assigned_of (reverse entries.now))) }
+        ensures hints { IfOk result (λ lesson.
+            lesson.hints.items ≡ reason_ids (assigned_of (reverse entries.now))
+            ++ pos conflict ∷ []) }
     {
         let mut clause = Vec::new(alloc);
         let mut hints = Vec::new(alloc);
         for entry in entries {
             match entry.reason {
                 None => clause.push(entry.lit.negation())?,
-                Some(position) => hints.push(id_of(position))?,
+                Some(id) => hints.push(i64::from(id))?,
             }
         }
-        hints.push(id_of(conflict))?;
+        hints.push(i64::from(conflict))?;
         Ok(Lesson { clause, hints })
     }
 }

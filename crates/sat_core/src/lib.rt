@@ -2,6 +2,8 @@
 #![tactic(auto)]
 
 mod answer;
+mod clause_list;
+mod distinct;
 mod entry;
 mod lesson;
 mod scan;

@@ -7,6 +7,6 @@ pub(crate) enum Scan {
     Settled,
     /// Some clause made a literal true.
     Implied,
-    /// The clause at this position is false.
+    /// The clause with this id is false.
     False(u32),
 }

@@ -1,120 +1,169 @@
 //! A search: what it knows, and how it goes on.
 
-ghost use Rattle.std.specs.Prelude.{◌≡◌, ◌≢◌, ◌<◌, ◌≤◌, ◌+◌, [], All, IfNone, IfOk, IfSome, IsTrue, OnOk, None, Some, length, slice_get, false};
-ghost use Rattle.sat_clause.specs.Formula.{Satisfies};
-ghost use Rattle.sat_clause.specs.Literal.{IsWithin};
+ghost use Rattle.std.specs.Prelude.{◌≡◌, ◌≢◌, ◌<◌, ◌≤◌, ◌+◌, ℕ, suc, [], All, IfNone, IfOk, IfSome, IsTrue, OnOk, Some, length, reverse, slice_get, false};
+ghost use Rattle.sat_clause.specs.Formula.{Cnf};
+ghost use Rattle.sat_clause.specs.Literal.{Clause, IsWithin};
+ghost use Rattle.sat_clause.specs.Rup.{reading_of};
 ghost use Rattle.sat_clause.specs.Trail.{IsClosed};
 ghost use Rattle.sat_core.specs.Lesson.{negated_decisions};
-ghost use Rattle.sat_core.specs.Trail.{literals};
-ghost use Rattle.sat_core.specs.SearchStore.{IsFalseAt, IsLesson, IsNewTo, IsSettledState, ReadsAt, ScanSays, with_clause};
+ghost use Rattle.sat_core.specs.Levels.{lits_of, made_false};
+ghost use Rattle.sat_core.specs.SearchStore.{AreTrue, ChangesTrail, IsFalseAt, IsLesson, IsSettledState, Learns, ReadsAt, ScanSays, implied as implied_by};
+ghost use Rattle.sat_core.specs.Stands.{StandsFor};
+ghost use Rattle.sat_core.specs.Underway.{with_input};
 
+use crate::clause_list::ClauseList;
+use crate::distinct::distinct_literals;
 use crate::entry::Entry;
 use crate::lesson::Lesson;
 use crate::scan::Scan;
 use crate::trail::Trail;
-use sat_clause::{Formula, ID_LIMIT, Lit, Reading, read_clause};
+use sat_clause::{Formula, ID_LIMIT, Lit, Reading, VARIABLE_LIMIT, read_clause};
 use std::alloc::{AllocError, Global};
 use std::marker::Model;
 
-/// A search through the values of a formula's variables: the formula, the clauses that were
-/// learned, and the literals that are true, each decided or made true by a clause.
+/// A search through the values of a formula's variables: its clauses and those that were added to
+/// the log, and the literals that are true, each decided or made true by a clause.
+///
+/// A clause has the literals of an input or an added clause, each once. Clauses with a literal and
+/// its negation are left out.
 #[derive(Drop)]
-pub(crate) struct Search<'a> {
-    formula: &'a Formula,
-    learned: Formula,
+pub(crate) struct Search {
+    inputs: u32,
+    added: u32,
+    clauses: ClauseList,
     trail: Trail,
 }
 
-impl<'a> Model for Search<'a> {
-    ghost use Rattle.std.specs.Prelude.{◌++◌};
-    ghost use Rattle.sat_core.specs.SearchStore.{SearchState, IsSearchStore};
+impl Model for Search {
+    ghost use Rattle.sat_core.specs.SearchStore.{IsSearchStore, assigned_of};
+    ghost use Rattle.sat_core.specs.Stands.{SearchValue};
 
-    ghost Value = { SearchState };
+    ghost Value = { SearchValue };
 
     ghost view = { λ s. record {
-      known = record {
-        vars = s.formula.now.cnf.vars;
-        clauses = s.formula.now.cnf.clauses ++ s.learned.cnf.clauses;
-      };
-      entries = s.trail.entries;
+      vars = s.clauses.vars;
+      inputs = s.inputs;
+      added = s.added;
+      clauses = s.clauses.clauses;
+      trail = assigned_of s.trail.entries;
     } };
 
-    ghost invariant = { λ s.
-        IsSearchStore s.formula.now.cnf s.learned.cnf s.trail.vars s.trail.entries };
+    ghost invariant = { λ s. IsSearchStore s.inputs s.added s.clauses s.trail };
 }
 
-impl<'a> Search<'a> {
-    /// The search that has learned and decided nothing.
-    pub(crate) fn new(alloc: Global, formula: &'a Formula) -> Result<Search<'a>, AllocError>
-        requires { length formula.now.cnf.clauses < 4294967296 }
-        ensures { IfOk result (λ s. s ≡ record { known = formula.now.cnf; entries = [] }) }
+/// What a clause says.
+#[derive(Clone, Copy, Debug)]
+struct Said {
+    id: u32,
+    reading: Reading,
+}
+
+impl Search {
+    /// The search of so many variables that has no clause.
+    fn without_clauses(alloc: Global, vars: u32) -> Result<Search, AllocError>
+        requires { vars ≤ VARIABLE_LIMIT }
+        ensures { IfOk result (λ s. s ≡ record {
+          vars = vars;
+          inputs = 0;
+          added = 0;
+          clauses = [];
+          trail = [];
+        }) }
     {
-        let vars = formula.vars();
-        let mut learned = Formula::new(alloc);
-        learned.reserve(vars, 0, 0)?;
-        let trail = Trail::new(alloc, vars)?;
         Ok(Search {
-            formula,
-            learned,
-            trail,
+            inputs: 0,
+            added: 0,
+            clauses: ClauseList::new(alloc, vars)?,
+            trail: Trail::new(alloc, vars)?,
         })
     }
 
-    /// How many clauses it knows.
-    pub(crate) fn clause_count(&self) -> u32
-        ensures { result ≡ length self.now.known.clauses }
+    /// Keeps one more input clause, behind those before it.
+    fn add_input(&mut self, alloc: Global, lits: &[Lit]) -> Result<(), AllocError>
+        requires few { self.old.inputs < ID_LIMIT }
+        requires none_added { self.old.added ≡ 0 }
+        requires none_true { self.old.trail ≡ [] }
+        requires within { All (IsWithin self.old.vars) lits.now }
+        ensures inputs { OnOk result (self.new.inputs ≡ suc self.old.inputs) }
+        ensures none_added { OnOk result (self.new.added ≡ 0) }
+        ensures none_true { OnOk result (self.new.trail ≡ []) }
+        ensures vars { OnOk result (self.new.vars ≡ self.old.vars) }
+        ensures stands { OnOk result ((front : Cnf) → StandsFor self.old front []
+            → StandsFor self.new (with_input front lits.now) []) }
     {
-        self.formula.len() + self.learned.len()
+        let id = self.inputs + 1;
+        let Some(kept) = distinct_literals(alloc, lits)? else {
+            self.inputs = id;
+            return Ok(());
+        };
+        self.clauses.add(id, &kept)?;
+        self.inputs = id;
+        Ok(())
     }
 
-    /// The clause at a position: those of the formula come first.
-    fn clause(&self, i: u32) -> &[Lit]
-        requires { i < length self.now.known.clauses }
-        ensures value { slice_get self.now.known.clauses i ≡ Some result.now }
-        ensures within { All (IsWithin self.now.known.vars) result.now }
+    /// The search that has the clauses of a formula, and has decided nothing.
+    pub(crate) fn new(alloc: Global, formula: &Formula) -> Result<Search, AllocError>
+        requires { length formula.now.cnf.clauses ≤ ID_LIMIT }
+        ensures stands { IfOk result (λ s. StandsFor s formula.now.cnf []) }
+        ensures within { IfOk result (λ _.
+            All (All (IsWithin formula.now.cnf.vars)) formula.now.cnf.clauses) }
     {
-        let inputs = self.formula.len();
-        if i < inputs {
-            return self.formula.clause(i);
+        let mut search = Search::without_clauses(alloc, formula.vars())?;
+        for i in 0..formula.len() {
+            search.add_input(alloc, formula.clause(i))?;
         }
-        self.learned.clause(i - inputs)
+        Ok(search)
+    }
+
+    /// The id of the next clause that is added.
+    pub(crate) fn next_id(&self) -> u32
+        requires { self.now.inputs + self.now.added < ID_LIMIT }
+        ensures { result ≡ suc (self.now.inputs + self.now.added) }
+    {
+        self.inputs + self.added + 1
     }
 
     /// What the clause at a position says.
-    fn reading(&self, i: u32) -> Reading
-        requires { i < length self.now.known.clauses }
-        ensures value { ReadsAt self.now i result }
-        ensures within { (l : Lit) → result ≡ Reading.Unit l → IsWithin self.now.known.vars l }
+    fn said(&self, i: u32) -> Said
+        requires { i < length self.now.clauses }
+        ensures at { (id : ℕ) (c : Clause) → slice_get (reverse self.now.clauses) i ≡ Some (id, c)
+            → reading_of (made_false self.now.trail) c ≡ result.reading }
+        ensures reads { ReadsAt self.now result.id result.reading }
+        ensures within { (l : Lit) → result.reading ≡ Reading.Unit l → IsWithin self.now.vars l }
     {
-        read_clause(&self.trail, self.clause(i))
+        let clause = self.clauses.get(i);
+        Said {
+            id: clause.id,
+            reading: read_clause(&self.trail, clause.lits),
+        }
     }
 
-    /// Makes the literal true that the clause at a position makes true.
-    fn imply(&mut self, l: Lit, i: u32)
-        requires within { IsWithin self.old.known.vars l }
-        requires reason { ReadsAt self.old i (Reading.Unit l) }
-        ensures known { self.new.known ≡ self.old.known }
-        ensures longer { length self.new.entries ≡ length self.old.entries + 1 }
-        ensures few { length self.new.entries ≤ self.new.known.vars }
+    /// Makes the literal true that the clause with an id makes true.
+    fn imply(&mut self, l: Lit, id: u32)
+        requires within { IsWithin self.old.vars l }
+        requires reason { ReadsAt self.old id (Reading.Unit l) }
+        ensures state { self.new ≡ implied_by self.old l id }
+        ensures few { length self.new.trail ≤ self.new.vars }
     {
         self.trail.push(Entry {
             lit: l,
-            reason: Some(i),
+            reason: Some(id),
         });
     }
 
     /// Goes over the clauses once, and makes true what they make true.
     fn scan(&mut self) -> Scan
-        ensures known { self.new.known ≡ self.old.known }
-        ensures longer { length self.old.entries ≤ length self.new.entries }
-        ensures few { result ≡ Scan.Implied → length self.new.entries ≤ self.new.known.vars }
+        ensures same { ChangesTrail self.old self.new }
+        ensures longer { length self.old.trail ≤ length self.new.trail }
+        ensures few { result ≡ Scan.Implied → length self.new.trail ≤ self.new.vars }
         ensures says { ScanSays self.old self.new result }
     {
         let before = self.trail.len();
-        for i in 0..self.clause_count() {
-            match self.reading(i) {
-                Reading::Conflict => return Scan::False(i),
-                Reading::Unit(l) => self.imply(l, i),
+        for i in 0..self.clauses.len() {
+            let said = self.said(i);
+            match said.reading {
+                Reading::Conflict => return Scan::False(said.id),
+                Reading::Unit(l) => self.imply(l, said.id),
                 _ => {}
             }
         }
@@ -124,11 +173,11 @@ impl<'a> Search<'a> {
         Scan::Implied
     }
 
-    /// Makes true what the clauses make true, until one of them is false, whose position it gives,
-    /// or none makes a literal true any more.
+    /// Makes true what the clauses make true, until one of them is false, whose id it gives, or
+    /// none makes a literal true any more.
     fn settle(&mut self) -> Option<u32>
-        ensures known { self.new.known ≡ self.old.known }
-        ensures longer { length self.old.entries ≤ length self.new.entries }
+        ensures same { ChangesTrail self.old self.new }
+        ensures longer { length self.old.trail ≤ length self.new.trail }
         ensures conflict { IfSome result (IsFalseAt self.new) }
         ensures settled { IfNone result (IsSettledState self.new) }
     {
@@ -136,7 +185,7 @@ impl<'a> Search<'a> {
             match self.scan() {
                 Scan::Settled => return None,
                 Scan::Implied => {}
-                Scan::False(i) => return Some(i),
+                Scan::False(id) => return Some(id),
             }
         }
     }
@@ -144,11 +193,11 @@ impl<'a> Search<'a> {
     /// Decides that the least open variable is true, where one is open. The clauses are settled.
     fn decide(&mut self) -> bool
         requires { IsSettledState self.old }
-        ensures known { self.new.known ≡ self.old.known }
-        ensures longer { IsTrue result → length self.new.entries ≡ length self.old.entries + 1 }
-        ensures few { IsTrue result → length self.new.entries ≤ self.new.known.vars }
+        ensures same { ChangesTrail self.old self.new }
+        ensures longer { IsTrue result → length self.new.trail ≡ length self.old.trail + 1 }
+        ensures few { IsTrue result → length self.new.trail ≤ self.new.vars }
         ensures none { result ≡ false → self.new ≡ self.old }
-        ensures closed { result ≡ false → IsClosed self.old.known.vars (literals self.old.entries) }
+        ensures closed { result ≡ false → IsClosed self.old.vars (lits_of self.old.trail) }
     {
         let Some(lit) = self.trail.open_literal() else {
             return false;
@@ -157,17 +206,17 @@ impl<'a> Search<'a> {
         true
     }
 
-    /// Decides variable after variable until a clause is false, whose position it gives, or each
-    /// variable has a value. Each variable is decided once at the most.
+    /// Decides variable after variable until a clause is false, whose id it gives, or each variable
+    /// has a value. Each variable is decided once at the most.
     pub(crate) fn next_conflict(&mut self) -> Option<u32>
-        ensures known { self.new.known ≡ self.old.known }
+        ensures same { ChangesTrail self.old self.new }
         ensures conflict { IfSome result (IsFalseAt self.new) }
         ensures settled { IfNone result (IsSettledState self.new) }
-        ensures closed { IfNone result (IsClosed self.new.known.vars (literals self.new.entries)) }
+        ensures closed { IfNone result (IsClosed self.new.vars (lits_of self.new.trail)) }
     {
         loop {
-            if let Some(i) = self.settle() {
-                return Some(i);
+            if let Some(id) = self.settle() {
+                return Some(id);
             }
             if !self.decide() {
                 return None;
@@ -178,13 +227,13 @@ impl<'a> Search<'a> {
     /// The value of each variable, where each has one and the clauses are settled.
     pub(crate) fn model(&self, alloc: Global) -> Result<Vec<bool>, AllocError>
         requires settled { IsSettledState self.now }
-        requires closed { IsClosed self.now.known.vars (literals self.now.entries) }
-        ensures { IfOk result (λ values. Satisfies values.items self.now.known) }
+        requires closed { IsClosed self.now.vars (lits_of self.now.trail) }
+        ensures { IfOk result (λ values. AreTrue self.now values.items) }
     {
         self.trail.values(alloc)
     }
 
-    /// What is learned where the clause at a position is false.
+    /// What is learned where the clause with an id is false.
     pub(crate) fn lesson(&self, alloc: Global, conflict: u32) -> Result<Lesson, AllocError>
         requires { IsFalseAt self.now conflict }
         ensures { IfOk result (λ lesson. IsLesson self.now lesson.clause.items lesson.hints.items) }
@@ -192,27 +241,25 @@ impl<'a> Search<'a> {
         Lesson::of_conflict(alloc, self.trail.entries(), conflict)
     }
 
-    /// Learns the clause of the negated decisions, of which there is one at least: it goes back to
-    /// where the last of them was made, and makes its negation true.
+    /// Learns the clause of the negated decisions, of which there is one at least, under the next
+    /// id: it goes back to where the last of them was made, and makes its negation true.
     pub(crate) fn learn(&mut self, clause: &[Lit]) -> Result<(), AllocError>
-        requires lesson { clause.now ≡ negated_decisions self.old.entries }
-        requires within { All (IsWithin self.old.known.vars) clause.now }
+        requires lesson { clause.now ≡ negated_decisions self.old.trail }
+        requires within { All (IsWithin self.old.vars) clause.now }
         requires some { clause.now ≢ [] }
-        requires few { length self.old.known.clauses < ID_LIMIT }
-        ensures known { OnOk result (self.new.known ≡ with_clause self.old.known clause.now) }
-        ensures fresh { OnOk result (IsNewTo self.old.known.clauses clause.now) }
+        requires few { self.old.inputs + self.old.added < ID_LIMIT }
+        ensures { OnOk result (Learns self.old self.new clause.now) }
     {
-        let position = self.clause_count();
-        let vars = self.formula.vars();
-        self.learned.reserve(vars, 1, clause.len() as u64)?;
+        let id = self.next_id();
+        self.clauses.add(id, clause)?;
         let Some(decision) = self.trail.take_back() else {
             unreachable!();
         };
-        self.learned.push(clause);
         self.trail.push(Entry {
             lit: decision.lit.negation(),
-            reason: Some(position),
+            reason: Some(id),
         });
+        self.added += 1;
         Ok(())
     }
 }

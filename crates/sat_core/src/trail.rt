@@ -2,10 +2,9 @@
 
 ghost use Rattle.std.specs.Prelude.{◌≡◌, ◌≤◌, ◌∷◌, [], length, reverse, false, pos, IfNone, IfOk, IfSome, IsTrue, All};
 ghost use Rattle.sat_clause.specs.Formula.{makes_true};
-ghost use Rattle.sat_core.specs.Lesson.{from_decision};
 ghost use Rattle.sat_clause.specs.Literal.{IsWithin, is_among, lit};
 ghost use Rattle.sat_clause.specs.Trail.{IsClosed, IsOnce, IsOpen, falses};
-ghost use Rattle.sat_core.specs.Trail.{AreWithin, literals};
+ghost use Rattle.sat_core.specs.Trail.{AreWithin, from_decision, literals};
 
 use crate::entry::Entry;
 use sat_clause::{FalseLiterals, Lit, VARIABLE_LIMIT};

@@ -1,6 +1,6 @@
 //! One turn of a search: on to the next false clause, and what is learned from it.
 
-ghost use Rattle.std.specs.Prelude.{◌≡◌, ◌<◌, IfOk, OnErr, length};
+ghost use Rattle.std.specs.Prelude.{◌≡◌, ◌+◌, ◌<◌, IfOk, OnErr};
 ghost use Rattle.sat_clause.specs.Formula.{Cnf};
 ghost use Rattle.sat_core.specs.Underway.{IsTurn, IsUnderway};
 
@@ -25,13 +25,13 @@ pub(crate) enum Turn {
 /// Memory is taken before anything is logged, so the log is as it was where memory is short.
 pub(crate) fn take_turn(
     alloc: Global,
-    search: &mut Search<'_>,
+    search: &mut Search,
     log: &mut Log,
 ) -> Result<Turn, AllocError>
-    requires few { length search.old.known.clauses < ID_LIMIT }
+    requires few { search.old.inputs + search.old.added < ID_LIMIT }
     ensures ok { IfOk result (λ turn. (formula : Cnf)
-        → IsUnderway formula search.old.known log.old.steps
-        → IsTurn formula search.new.known log.old.steps log.new.steps turn) }
+        → IsUnderway search.old formula log.old.steps
+        → IsTurn search.new formula log.old.steps log.new.steps turn) }
     ensures err { OnErr result (log.new.steps ≡ log.old.steps) }
 {
     let Some(conflict) = search.next_conflict() else {
@@ -41,7 +41,7 @@ pub(crate) fn take_turn(
     let lesson = search.lesson(alloc, conflict)?;
     let numbers = lesson.clause.len() as u64 + lesson.hints.len() as u64;
     log.reserve(1, numbers)?;
-    let id = search.clause_count() + 1;
+    let id = search.next_id();
     if lesson.clause.is_empty() {
         log.add(id, &lesson.clause, &lesson.hints);
         return Ok(Turn::Refuted);

@@ -159,7 +159,8 @@ good_added above n id more clean =
           let limits = option_or-none (first_past 4294967295 (pos (nat_abs id) ∷ [])) _
           (rw codes_of_lits at (not_limited (added_limit (nat_abs id) (map lit lits) hints) sign.1))
           in
-          let few = option_or-none (first_past 100000000 lits) (first_past 4294967295 hints) limits.1 in
+          let few = option_or-none (first_past 100000000 lits) (first_past 4294967295 hints)
+          limits.1 in
           record {
             step = Added (nat_abs id) (map lit lits) hints;
             said = rw e refl;
@@ -167,7 +168,8 @@ good_added above n id more clean =
               over,
               none_past 4294967295 (pos (nat_abs id) ∷ []) limits.0 0 id (omega arith),
               literals lits (some 0 [] (omega arith)) (none_past 100000000 lits few.0),
-              hint_numbers hints sign.0 (some 1 [] (omega arith)) (none_past 4294967295 hints few.1),
+              hint_numbers hints sign.0 (some 1 [] (omega arith))
+                  (none_past 4294967295 hints few.1),
             );
           }
 

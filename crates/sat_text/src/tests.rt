@@ -27,9 +27,9 @@ fn printed_formulas(rt: HostRuntime) -> Result<(), Fail> {
     write_cnf(&great, &mut shelf).map_err(|_| "not written")?;
     assert_eq!(rt;
         shelf.file("f"),
-        Some(
-            b"p cnf 2 3\n1 0\n2 0\n-1 -2 0\np cnf 100000000 2\n-100000000 99999999 0\n0\n".as_slice()
-        )
+        Some(b"p cnf 2 3\n1 0\n2 0\n-1 -2 0\n\
+              p cnf 100000000 2\n-100000000 99999999 0\n0\n"
+            .as_slice())
     );
     printed_formulas_read_back();
     Ok(())

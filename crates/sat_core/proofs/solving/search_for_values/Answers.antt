@@ -1,52 +1,68 @@
-use Rattle.std.proofs.Common.{rules, ◌≡◌, Ok, length, refl, subst, arith}
+use Rattle.std.proofs.Common.{rules, ◌≡◌, Ok, refl, subst, arith}
 use Rattle.sat_core.specs.declared.answer.Answer.TheVariants.{Model, Spent}
+use Rattle.sat_core.specs.SearchLog.{added_count}
 use Rattle.sat_core.specs.Underway.{IsTurn}
 use Rattle.sat_core.proofs.UnderwayLemmas.{refuted, searched, spent, underway_start}
 use Rattle.sat_core.proofs.solving.search_for_values.Goals as goal
 
 pub loop-init : goal.loop-init
 loop-init c = record {
-  underway = rw (c.in_ok-search.ensures, c.requires.fresh) (underway_start c.args.formula.now.cnf);
+  underway = rw c.requires.fresh (underway_start c.in_ok-search.search c.args.formula.now.cnf
+      c.in_ok-search.ensures.stands c.in_ok-search.ensures.within);
   many = rw c.requires.fresh refl;
 }
 
 pub take_turn-requires : goal.take_turn-requires
 take_turn-requires c =
-    omega (arith, c.loop.invariant.underway.many, c.requires.ids, c.loop-test.true, c.loop.invariant.many)
+    let stands = c.loop.invariant.underway.stands in
+    omega (
+      arith,
+      stands.inputs,
+      stands.added,
+      c.requires.ids,
+      c.loop-test.true,
+      c.loop.invariant.many,
+    )
 
 pub returns-in_err-take_turn : goal.returns-in_err-take_turn
 returns-in_err-take_turn c =
     rw c.in_err-take_turn.ensures.err
-    (searched c.args.formula.now.cnf c.loop.search.known c.loop.log.steps c.loop.invariant.underway c.args.budget _
+    (searched c.loop.search c.args.formula.now.cnf c.loop.log.steps c.loop.invariant.underway
+    c.args.budget _
     (omega (arith, c.loop.invariant.many, c.loop-test.true)) (search rules))
 
 pub returns-in-Model : goal.returns-in-Model
 returns-in-Model c =
     let formula = c.args.formula.now.cnf in
     let on = c.loop.invariant.underway in
-    let says = subst (IsTurn formula c.take_turn.new.search.known c.loop.log.steps c.take_turn.new.log.steps) c.in-Model.is (c.in_ok-take_turn.ensures.ok formula on) in
+    let says = subst (IsTurn c.take_turn.new.search formula c.loop.log.steps
+    c.take_turn.new.log.steps) c.in-Model.is (c.in_ok-take_turn.ensures.ok formula on) in
     rw says.1
-    (searched formula c.loop.search.known c.loop.log.steps on c.args.budget (Ok (Model c.in-Model.values))
+    (searched c.loop.search formula c.loop.log.steps on c.args.budget (Ok (Model c.in-Model.values))
     (omega (arith, c.loop.invariant.many, c.loop-test.true)) says.0)
 
 pub returns-in-Refuted : goal.returns-in-Refuted
 returns-in-Refuted c =
     let formula = c.args.formula.now.cnf in
     let on = c.loop.invariant.underway in
-    let says = subst (IsTurn formula c.take_turn.new.search.known c.loop.log.steps c.take_turn.new.log.steps) c.in-Refuted.is (c.in_ok-take_turn.ensures.ok formula on) in
-    refuted formula c.loop.search.known c.loop.log.steps on c.args.budget c.take_turn.new.log.steps
+    let says = subst (IsTurn c.take_turn.new.search formula c.loop.log.steps
+    c.take_turn.new.log.steps) c.in-Refuted.is (c.in_ok-take_turn.ensures.ok formula on) in
+    refuted c.loop.search formula c.loop.log.steps on c.args.budget c.take_turn.new.log.steps
     (omega (arith, c.loop.invariant.many, c.loop-test.true)) says
 
 pub loop-preserved : goal.loop-preserved
 loop-preserved c =
     let formula = c.args.formula.now.cnf in
-    let says = subst (IsTurn formula c.take_turn.new.search.known c.loop.log.steps c.take_turn.new.log.steps) c.in-Learned.is (c.in_ok-take_turn.ensures.ok formula c.loop.invariant.underway) in
+    let says = subst (IsTurn c.take_turn.new.search formula c.loop.log.steps
+    c.take_turn.new.log.steps) c.in-Learned.is
+    (c.in_ok-take_turn.ensures.ok formula c.loop.invariant.underway) in
     record { underway = says.0; many = omega (arith, says.1, c.loop.invariant.many) }
 
 pub returns : goal.returns
 returns c =
     let formula = c.args.formula.now.cnf in
     let on = c.loop.invariant.underway in
-    let all : length c.loop.log.steps ≡ c.args.budget = omega (arith, c.loop.invariant.many, c.loop-test.false, c.loop.auto.counter-end) in
-    searched formula c.loop.search.known c.loop.log.steps on c.args.budget (Ok Spent) (omega (arith, all))
-    (spent formula c.loop.search.known c.loop.log.steps on c.args.budget all)
+    let all : added_count c.loop.log.steps ≡ c.args.budget = omega
+    (arith, c.loop.invariant.many, c.loop-test.false, c.loop.auto.counter-end) in
+    searched c.loop.search formula c.loop.log.steps on c.args.budget (Ok Spent) (omega (arith, all))
+    (spent c.loop.search formula c.loop.log.steps on c.args.budget all)

@@ -1,10 +1,11 @@
-use Rattle.std.proofs.Common.{◌≡◌, length}
+use Rattle.std.proofs.Common.{◌≡◌}
+use Rattle.sat_core.specs.SearchLog.{added_count}
 use Rattle.sat_core.specs.Underway.{IsUnderway}
 use Rattle.sat_core.proofs.solving.search_for_values.Given as goal
 
 -- the log is under way, and each turn so far has added a clause
 abbrev pub invariant-loop : goal.invariant-loop
 invariant-loop l = record {
-  underway : IsUnderway l.formula.cnf l.search.known l.log.steps;
-  many : length l.log.steps ≡ l.counter;
+  underway : IsUnderway l.search l.formula.cnf l.log.steps;
+  many : added_count l.log.steps ≡ l.counter;
 }

@@ -5,4 +5,5 @@ use Rattle.sat_core.proofs.tests.literals.Goals as goal
 
 pub loop-code-preserved : goal.loop-code-preserved
 loop-code-preserved g c =
-    rw c.in_ok-push.ensures.items (All-push (IsWithin c.args.vars) c.loop-code.lits.items _ c.loop-code.invariant (omega arith, omega arith))
+    rw c.in_ok-push.ensures.items (All-push (IsWithin c.args.vars) c.loop-code.lits.items _
+    c.loop-code.invariant (omega arith, omega arith))

@@ -1,5 +1,5 @@
 use Rattle.std.proofs.Common.{◌≡◌, length}
-use Rattle.sat_core.specs.Lesson.{from_decision}
+use Rattle.sat_core.specs.Trail.{from_decision}
 use Rattle.sat_core.proofs.trail.Trail.take_back.Given as goal
 
 -- each turn takes an entry off

@@ -9,7 +9,18 @@ pub returns-clause-truth : goal.returns-clause-truth
 returns-clause-truth c =
     let p = c.self.inside in
     let made = c.loop-value.values in
-    let closed = subst (λ (t : TrailState). IsClosed t.vars (literals t.entries)) (sym c.self.view_is) c.requires.closed in
-    let read : (k : ℕ) (d : Bool) → k < p.vars → slice_index_or made.items k d ≡ unwrap_or (slice_index_or p.values.items k None) false =
-    λ k d below. rw (← c.deref-value-items.ensures.value) (c.loop-value.invariant.read k d (omega (arith, below, c.self.invariant.many, c.deref-value-items.ensures.len, c.loop-value-test.false))) in
-    rw (← c.self.view_is) (values_are_true p.vars (literals (reverse p.entries.items)) p.values.items made.items c.self.invariant.valued closed read)
+    let closed = subst (λ (t : TrailState). IsClosed t.vars (literals t.entries))
+    (sym c.self.view_is) c.requires.closed in
+    let read : (k : ℕ) (d : Bool) → k < p.vars → slice_index_or made.items k d ≡ unwrap_or
+    (slice_index_or p.values.items k None) false =
+    λ k d below. rw (← c.deref-value-items.ensures.value)
+    (c.loop-value.invariant.read k d
+    (omega (
+      arith,
+      below,
+      c.self.invariant.many,
+      c.deref-value-items.ensures.len,
+      c.loop-value-test.false,
+    ))) in
+    rw (← c.self.view_is) (values_are_true p.vars (literals (reverse p.entries.items))
+    p.values.items made.items c.self.invariant.valued closed read)

@@ -7,5 +7,6 @@ abbrev pub invariant-loop-value : goal.invariant-loop-value
 invariant-loop-value l = record {
   many : vec_len l.values ≡ l.value-index;
   room : l.self.vars ≤ vec_capacity l.values;
-  read : (k : ℕ) (d : Bool) → k < l.value-index → slice_index_or l.values.items k d ≡ unwrap_or (slice_index_or l.value-items k None) false;
+  read : (k : ℕ) (d : Bool) → k < l.value-index → slice_index_or l.values.items k d ≡ unwrap_or
+      (slice_index_or l.value-items k None) false;
 }

@@ -1,0 +1,6 @@
+use Rattle.fpga_arch.proofs.draft.Draft.take_text.Goals as goal
+
+-- the line has this keyword
+pub returns : goal.returns
+returns c = rw (← c.in-Some.ensures.word, ← c.in-Some-keyword_named.ensures)
+    (rw c.in-Some.ensures.after at c.take_line.ensures)

@@ -1,0 +1,11 @@
+pub mod Causes
+pub mod ChannelLines
+pub mod Codes
+pub mod Drafts
+pub mod Keywords
+pub mod Lines
+pub mod PinLines
+pub mod Pins
+pub mod SegmentLines
+pub mod Segments
+pub mod Value

@@ -1,0 +1,256 @@
+-- How a trail lies, with one more entry and with one less.
+use Rattle.std.proofs.Common.{◌≡◌, ◌≢◌, ◌<◌, ◌≤◌, ◌+◌, ◌-◌, ◌*◌, inl, inr, ℕ, suc, ℤ, pos, negsuc, nat_abs, set, length-set, replicate, true, false, List, [], ◌∷◌, ◌++◌, length, slice_index_or, reverse, Some, Vec, refl, sym, ap, ◌∙◌, subst, arith}
+use Rattle.std.specs.Prelude.{vec_len, vec_capacity}
+use Rattle.std.specs.Global.{Global}
+use Rattle.std.specs.Vec.{with_item}
+use Rattle.std.proofs.lemmas.List.{get_or-replicate, get_or-set_same, get_or-set_other}
+use Rattle.std.proofs.lemmas.List.{length-reverse, reverse-append}
+use Rattle.std.proofs.lemmas.List.Elements.{All-pop, All-push, All-tail}
+use Rattle.sat_clause.specs.declared.literal.Lit.{Lit}
+use Rattle.sat_clause.specs.Literal.{IsWithin, is_among, lit, negation, variable}
+use Rattle.sat_watch.specs.declared.entry.TrailEntry.{TrailEntry}
+use Rattle.sat_watch.specs.Trail.{AreWithin, IsOpen, IsTrail, falses}
+use Rattle.sat_watch.specs.TrailStore.{AreLevelsOf, AreTold, IsTrailStore, place_by, place_of, trail_state, truth_by, truth_in}
+use Rattle.sat_watch.specs.Watched.{true_at}
+use Rattle.sat_watch.proofs.LevelLemmas.{not_own_negation, true_is_false}
+use Rattle.sat_watch.proofs.WatchLemmas.{lit_tells}
+use Rattle.sat_watch.proofs.FewLemmas.{longer_trail}
+use Rattle.sat_clause.proofs.LiteralLaws.{among_here, among_other, negation-negation, variable_negation}
+use Rattle.sat_watch.proofs.TrailLemmas.{false_is_other, open_negation, open_not_false, open_not_true}
+
+reverse-push : {X : Type 0} (xs : List X) (x : X) → reverse (xs ++ x ∷ []) ≡ x ∷ reverse xs
+reverse-push xs x = reverse-append xs (x ∷ [])
+
+-- different literals have different places
+place_one : (vars : ℕ) (x y : ℤ) → 1 ≤ nat_abs x → nat_abs x ≤ vars → 1 ≤ nat_abs y →
+    nat_abs y ≤ vars → place_by vars x ≡ place_by vars y → x ≡ y
+place_one vars (pos m) (pos n) a b c d e = ap pos (omega (arith, e))
+place_one vars (pos m) (negsuc n) a b c d e = absurd (omega (arith, e))
+place_one vars (negsuc m) (pos n) a b c d e = absurd (omega (arith, e))
+place_one vars (negsuc m) (negsuc n) a b c d e = ap negsuc (omega (arith, e))
+
+place_below : (vars : ℕ) (x : ℤ) → nat_abs x ≤ vars → place_by vars x < suc (vars * 2)
+place_below vars (pos m) b = omega arith
+place_below vars (negsuc m) b = omega arith
+
+pub place_within : (vars : ℕ) (l : Lit) → IsWithin vars l → place_of vars l < suc (vars * 2)
+place_within vars l within = place_below vars l.code within.1
+
+module _ (vars : ℕ) (truths : List ℕ) (wide : length truths ≡ suc (vars * 2)) where
+  set_same : (a : Lit) (x : ℕ) → IsWithin vars a →
+      slice_index_or (set truths (place_of vars a) x) (place_of vars a) 0 ≡ x
+  set_same a x within =
+      get_or-set_same truths (place_of vars a) x 0
+      (let below = place_within vars a within in omega arith)
+
+  set_other : (a l : Lit) (x : ℕ) → IsWithin vars a → IsWithin vars l → l ≢ a →
+      slice_index_or (set truths (place_of vars a) x) (place_of vars l) 0 ≡ slice_index_or truths
+      (place_of vars l) 0
+  set_other a l x within l_within ne =
+      get_or-set_other truths (place_of vars a) (place_of vars l) x 0
+      (λ e. ne (ap lit (place_one vars l.code a.code l_within.0 l_within.1 within.0 within.1 e)))
+
+-- at the start each literal is open
+pub none_told : (vars : ℕ) → AreTold vars [] (replicate (vars * 2 + 1) 0)
+none_told vars l within =
+    get_or-replicate {A = ℕ} (vars * 2 + 1) (place_of vars l) 0 0
+    (let below = place_within vars l within in omega arith)
+
+-- the table after a change of a literal and its negation
+module _ (vars : ℕ) (truths : List ℕ) (wide : length truths ≡ suc (vars * 2)) (a : Lit) (x y : ℕ)
+    (within : IsWithin vars a) where
+  negated : IsWithin vars (negation a)
+  negated = rw (variable_negation a) within
+
+  abbrev pub both : List ℕ
+  both = set (set truths (place_of vars a) x) (place_of vars (negation a)) y
+
+  wide' : length (set truths (place_of vars a) x) ≡ suc (vars * 2)
+  wide' = length-set truths (place_of vars a) x ∙ wide
+
+  both_own : slice_index_or both (place_of vars a) 0 ≡ x
+  both_own =
+      set_other vars (set truths (place_of vars a) x) wide' (negation a) a y negated within
+      (not_own_negation a within.0) ∙ set_same vars truths wide a x within
+
+  both_negation : slice_index_or both (place_of vars (negation a)) 0 ≡ y
+  both_negation = set_same vars (set truths (place_of vars a) x) wide' (negation a) y negated
+
+  both_other : (l : Lit) → IsWithin vars l → l ≢ a → l ≢ negation a →
+      slice_index_or both (place_of vars l) 0 ≡ slice_index_or truths (place_of vars l) 0
+  both_other l l_within na nn =
+      set_other vars (set truths (place_of vars a) x) wide' (negation a) l y negated l_within
+      nn ∙ set_other vars truths wide a l x within l_within na
+
+module _ (vars : ℕ) (older : List TrailEntry) (e : TrailEntry) (truths : List ℕ)
+    (within : IsWithin vars e.lit) (free : IsOpen older e.lit)
+    (wide : length truths ≡ suc (vars * 2)) where
+  truth_other : (l : Lit) → l ≢ e.lit → l ≢ negation e.lit →
+      truth_in (e ∷ older) l ≡ truth_in older l
+  truth_other l na nn =
+      let out = among_other (falses older) (negation e.lit) l (λ same. nn (sym same)) in
+      let is = among_other (falses older) (negation e.lit) (negation l)
+      (λ same. na (sym (negation-negation l) ∙ (ap negation (sym same) ∙ negation-negation e.lit)))
+      in
+      λ k. truth_by (out k) (is k)
+
+  truth_own : truth_in (e ∷ older) e.lit ≡ 1
+  truth_own =
+      let out : is_among (negation e.lit ∷ falses older) e.lit ≡ false =
+      among_other (falses older) (negation e.lit) e.lit
+      (λ same. not_own_negation e.lit within.0 (sym same)) ∙ open_not_false older e.lit free in
+      let is : is_among (negation e.lit ∷ falses older) (negation e.lit) ≡ true =
+      among_here (falses older) (negation e.lit) in
+      λ k. truth_by (out k) (is k)
+
+  truth_negation : truth_in (e ∷ older) (negation e.lit) ≡ 2
+  truth_negation =
+      ap (λ b. truth_by b (is_among (falses (e ∷ older)) (negation (negation e.lit))))
+      (among_here (falses older) (negation e.lit))
+
+  open_truth : (l : Lit) → IsOpen older l → truth_in older l ≡ 0
+  open_truth l l_free =
+      let out = open_not_false older l l_free in let is = open_not_true older l l_free in
+      λ k. truth_by (out k) (is k)
+
+  push_told : AreTold vars older truths →
+      AreTold vars (e ∷ older) (both vars truths wide e.lit 1 2 within)
+  push_told told l l_within = elim (lit_tells l e.lit) [
+    | inl same ↦ subst (λ (m : Lit). slice_index_or (both vars truths wide e.lit 1 2 within)
+        (place_of vars m) 0 ≡ truth_in (e ∷ older) m) (sym same.1)
+        (both_own vars truths wide e.lit 1 2 within ∙ sym truth_own)
+    | inr na ↦ elim (lit_tells l (negation e.lit)) [
+      | inl same ↦ subst (λ (m : Lit). slice_index_or (both vars truths wide e.lit 1 2 within)
+          (place_of vars m) 0 ≡ truth_in (e ∷ older) m) (sym same.1)
+          (both_negation vars truths wide e.lit 1 2 within ∙ sym truth_negation)
+      | inr nn ↦ both_other vars truths wide e.lit 1 2 within l l_within na.1
+          nn.1 ∙ (told l l_within ∙ sym (truth_other l na.1 nn.1))
+    ]
+  ]
+
+  pop_told : AreTold vars (e ∷ older) truths →
+      AreTold vars older (both vars truths wide e.lit 0 0 within)
+  pop_told told l l_within = elim (lit_tells l e.lit) [
+    | inl same ↦ subst (λ (m : Lit). slice_index_or (both vars truths wide e.lit 0 0 within)
+        (place_of vars m) 0 ≡ truth_in older m) (sym same.1)
+        (both_own vars truths wide e.lit 0 0 within ∙ sym (open_truth e.lit free))
+    | inr na ↦ elim (lit_tells l (negation e.lit)) [
+      | inl same ↦ subst (λ (m : Lit). slice_index_or (both vars truths wide e.lit 0 0 within)
+          (place_of vars m) 0 ≡ truth_in older m) (sym same.1)
+          (both_negation vars truths wide e.lit 0 0 within ∙ sym
+          (open_truth (negation e.lit) (open_negation older e.lit free)))
+      | inr nn ↦ both_other vars truths wide e.lit 0 0 within l l_within na.1
+          nn.1 ∙ (told l l_within ∙ truth_other l na.1 nn.1)
+    ]
+  ]
+
+  true_is_other : (l : Lit) (n : ℕ) → true_at older l ≡ Some n → variable l ≢ variable e.lit
+  true_is_other l n is same =
+      false_is_other older e.lit (negation l) free (true_is_false older l n is)
+      (variable_negation l ∙ same)
+
+  push_levels : (levels : List ℕ) → length levels ≡ vars → AreLevelsOf vars older levels →
+      AreLevelsOf vars (e ∷ older) (set levels (variable e.lit - 1) e.level)
+  push_levels levels many are l l_within n is = elim (lit_tells e.lit l) [
+    | inl same ↦
+        let at : e.level ≡ n = (let x : Some e.level ≡ Some n = rw same.0 at is in cc) in
+        subst (λ (m : Lit). slice_index_or (set levels (variable e.lit - 1) e.level)
+        (variable m - 1) 0 ≡ n) same.1
+        (get_or-set_same levels (variable e.lit - 1) e.level 0
+        (omega (arith, within.0, within.1, many)) ∙ at)
+    | inr other ↦
+        let before : true_at older l ≡ Some n = rw other.0 at is in
+        let ne = true_is_other l n before in
+        get_or-set_other levels (variable e.lit - 1) (variable l - 1) e.level 0
+        (λ same. ne (omega (arith, same, within.0, l_within.0))) ∙ are l l_within n before
+  ]
+
+  pop_levels : (levels : List ℕ) → AreLevelsOf vars (e ∷ older) levels →
+      AreLevelsOf vars older levels
+  pop_levels levels are l l_within n is = elim (lit_tells e.lit l) [
+    | inl same ↦ absurd (true_is_other l n is (ap variable (sym same.1)))
+    | inr other ↦ are l l_within n (rw other.0 is)
+  ]
+
+module _ (vars : ℕ) (entries next : Vec TrailEntry Global) (truths levels : Vec ℕ Global)
+    (e : TrailEntry) (store : IsTrailStore vars entries truths levels) where
+  wide_is : length truths.items ≡ suc (vars * 2)
+  wide_is = omega (arith, store.wide, truths.ok.0)
+
+  many_is : length levels.items ≡ vars
+  many_is = omega (arith, store.many, levels.ok.0)
+
+  -- with one more entry there are no more than variables, so there is room for it
+  pub has_room : IsWithin vars e.lit → IsOpen (reverse entries.items) e.lit →
+      vec_len entries < vec_capacity entries
+  has_room within free =
+      let longer = longer_trail (trail_state vars entries)
+      (record { vars = vars; entries = e ∷ reverse entries.items }) e refl refl within free
+      store.trail in
+      let few = longer.few in
+      omega (arith, few, length-reverse entries.items, entries.ok.0, store.room)
+
+  -- one more entry
+  pub push_store : IsWithin vars e.lit → IsOpen (reverse entries.items) e.lit →
+      next.items ≡ entries.items ++ e ∷ [] → vec_capacity next ≡ vec_capacity entries →
+      IsTrailStore vars next
+      (with_item (with_item truths (place_of vars e.lit) 1) (place_of vars (negation e.lit)) 2)
+      (with_item levels (variable e.lit - 1) e.level)
+  push_store within free items capacity =
+      let turned : reverse next.items ≡ e ∷ reverse entries.items =
+      ap reverse items ∙ reverse-push entries.items e in
+      record {
+        trail =
+            longer_trail (trail_state vars entries) (trail_state vars next) e refl turned within
+            free
+            store.trail;
+        within =
+            rw items (All-push (λ (x : TrailEntry). IsWithin vars x.lit) entries.items e
+            store.within within);
+        room = omega (arith, capacity, store.room);
+        wide = store.wide;
+        many = store.many;
+        told =
+            rw turned (push_told vars (reverse entries.items) e truths.items within free wide_is
+            store.told);
+        leveled =
+            rw turned (push_levels vars (reverse entries.items) e truths.items within free wide_is
+            levels.items many_is store.leveled);
+      }
+
+  -- one less
+  pub pop_store : entries.items ≡ next.items ++ e ∷ [] →
+      vec_capacity next ≡ vec_capacity entries →
+      IsTrailStore vars next
+      (with_item (with_item truths (place_of vars e.lit) 0) (place_of vars (negation e.lit)) 0)
+      levels
+  pop_store items capacity =
+      let turned : reverse entries.items ≡ e ∷ reverse next.items =
+      ap reverse items ∙ reverse-push next.items e in
+      let before : IsTrail (record { vars = vars; entries = e ∷ reverse next.items }) =
+      subst (λ l. IsTrail (record { vars = vars; entries = l })) turned store.trail in
+      let within = before.within 0 e (omega arith) in
+      let once = before.once in
+      let few = before.few in
+      record {
+        trail = record {
+          few_vars = before.few_vars;
+          within =
+              All-tail (λ (x : TrailEntry). IsWithin vars x.lit) e (reverse next.items)
+              before.within;
+          once = once.1;
+          few = omega (arith, few);
+        };
+        within =
+            (All-pop (λ (x : TrailEntry). IsWithin vars x.lit) (next.items ++ e ∷ []) next.items
+            (Some e) refl (subst (AreWithin vars) items store.within)).0;
+        room = omega (arith, capacity, store.room);
+        wide = store.wide;
+        many = store.many;
+        told =
+            pop_told vars (reverse next.items) e truths.items within once.0 wide_is
+            (subst (λ t. AreTold vars t truths.items) turned store.told);
+        leveled =
+            pop_levels vars (reverse next.items) e truths.items within once.0 wide_is levels.items
+            (subst (λ t. AreLevelsOf vars t levels.items) turned store.leveled);
+      }

@@ -1,0 +1,162 @@
+-- A walk along a chain: where it begins, goes on and ends.
+use Rattle.std.proofs.Common.{◌≡◌, ◌≢◌, ℕ, suc, ◌+◌, ◌<◌, ◌≤◌, Bool, true, false, inl, inr, List, [], ◌∷◌, ◌++◌, length, Option, None, Some, refl, sym, ap, ◌∙◌, subst, arith}
+use Rattle.std.proofs.lemmas.List.{append-nil}
+use Rattle.sat_clause.specs.declared.literal.Lit.{Lit}
+use Rattle.sat_clause.specs.Literal.{Clause, IsWithin, is_among}
+use Rattle.sat_arena.specs.declared.clause_ref.ClauseRef.{ClauseRef}
+use Rattle.sat_arena.specs.Store.{Stored, is_held, stored_at}
+use Rattle.sat_watch.specs.declared.entry.TrailEntry.{TrailEntry}
+use Rattle.sat_watch.specs.declared.place.Place.{Place}
+use Rattle.sat_watch.specs.Chains.{ChainsState, GoesOn, HasCursor, IsChained, IsCursor, clause_of, head_in, is_in, next_by, next_on, watch_of}
+use Rattle.sat_watch.specs.Watched.{Goes, IsVisited, IsWalking, OtherIsTrue, chain_length}
+use Rattle.sat_watch.proofs.GoesLemmas.{few_refs, goes_trans, grows_true, rest_length}
+use Rattle.sat_watch.proofs.PathLemmas.{at_end, at_first, once_before, path_goes_on}
+use Rattle.sat_arena.proofs.StoreLaws.{not_held}
+use Rattle.sat_watch.proofs.StoredLemmas.{next_is_held}
+use Rattle.sat_watch.proofs.VisitLemmas.{goes_same, grows_refl}
+use Rattle.sat_watch.proofs.WatchLemmas.{lit_tells, own_next, pick}
+use Rattle.sat_clause.proofs.LiteralLaws.{among_here, among_more}
+use Rattle.sat_watch.proofs.TrailLemmas.{never}
+
+-- a clause in a literal's chain has the literal
+next_among : (lits : Clause) (f : Lit) (x y a : Option ClauseRef) → next_by lits f x y ≡ Some a →
+    is_among lits f ≡ true
+next_among [] f x y a goes = let clash : None ≡ Some a = goes in cc
+next_among (l ∷ []) f x y a goes = let clash : None ≡ Some a = goes in cc
+next_among (l ∷ m ∷ ls) f x y a goes = elim (lit_tells l f) [
+  | inl same ↦ subst (λ z. is_among (l ∷ m ∷ ls) z ≡ true) same.1 (among_here (m ∷ ls) l)
+  | inr other ↦ elim (lit_tells m f) [
+    | inl same ↦ among_more (m ∷ ls) l f
+        (subst (λ z. is_among (m ∷ ls) z ≡ true) same.1 (among_here ls m))
+    | inr other' ↦ let none : next_by (l ∷ m ∷ ls) f x y ≡ None = rw (other.0, other'.0) refl in
+        let clash : None ≡ Some a = sym none ∙ goes in cc
+  ]
+]
+
+pub walk_begins : (entries : List TrailEntry) (level : ℕ) (f : Lit) (s : ChainsState) (looks : ℕ)
+    (next : Option ClauseRef) →
+    IsChained s.vars s.clauses s.heads → IsWithin s.vars f → next ≡ head_in s.heads f →
+    IsWalking entries level f s.clauses looks s entries None next looks
+walk_begins entries level f s looks next chained within is =
+    let chain = chained.chains f within in
+    let few = few_refs (λ k. is_among k.lits f) s.clauses chain.refs chain.is.once (λ d there.
+    let goes = path_goes_on (next_on s.clauses f) (head_in s.heads f) None chain.refs d
+    chain.is.back there in
+    let k = stored_at s.clauses d in
+    (next_is_held s.clauses f d goes.0 goes.1, next_among k.lits f k.link0 k.link1 goes.0 goes.1))
+    in
+    record {
+      kept = [];
+      rest = chain.refs;
+      cursor =
+          subst (λ o. IsCursor (next_on s.clauses f) (head_in s.heads f) [] chain.refs None o)
+          (sym is) chain.is;
+      place = tt;
+      kept_true = λ d there. let clash : false ≡ true = there in cc;
+      goes =
+          goes_same entries level f s.clauses entries entries (grows_refl s.clauses level entries);
+      few = omega (arith, few);
+    }
+
+module _ (base : List TrailEntry) (level : ℕ) (f : Lit) (old : List Stored) (start : ℕ)
+    (s : ChainsState) (entries : List TrailEntry)
+    (before : Option Place) (next : Option ClauseRef) (looks : ℕ)
+    (w : IsWalking base level f old start s entries before next looks) where
+  module _ (c : ClauseRef) (is : next ≡ Some c) where
+    cursor_here : IsCursor (next_on s.clauses f) (head_in s.heads f) w.kept w.rest
+        (clause_of before) (Some c)
+    cursor_here =
+        subst (λ o. IsCursor (next_on s.clauses f) (head_in s.heads f) w.kept w.rest
+        (clause_of before) o) is w.cursor
+
+    first : (others : List ClauseRef) × (w.rest ≡ c ∷ others)
+    first =
+        at_first (next_on s.clauses f) (head_in s.heads f) w.kept w.rest (clause_of before) c
+        cursor_here
+
+    cursor_first : IsCursor (next_on s.clauses f) (head_in s.heads f) w.kept (c ∷ first.0)
+        (clause_of before) (Some c)
+    cursor_first =
+        subst (λ l. IsCursor (next_on s.clauses f) (head_in s.heads f) w.kept l (clause_of before)
+        (Some c)) first.1 cursor_here
+
+    pub goes_here : GoesOn (next_on s.clauses f c)
+    goes_here = let back = cursor_first.back in subst GoesOn (sym back.1.1) tt
+
+    pub has_cursor : (at : Place) → at.clause ≡ c →
+        HasCursor (next_on s.clauses f) (head_in s.heads f) (clause_of before) (Some at.clause)
+    has_cursor at same = record {
+      kept = w.kept;
+      rest = c ∷ first.0;
+      is =
+          subst (λ r. IsCursor (next_on s.clauses f) (head_in s.heads f) w.kept (c ∷ first.0)
+          (clause_of before) (Some r)) (sym same) cursor_first;
+    }
+
+    module _ (at : Place) (same : at.clause ≡ c) (after : Option ClauseRef) (new : ChainsState)
+        (now : List TrailEntry) (last : Option Place)
+        (visited : IsVisited f before at after s new now last)
+        (goes : Goes entries level f s.clauses new.clauses entries now) where
+      here : IsCursor (next_on s.clauses f) (head_in s.heads f) w.kept (at.clause ∷ first.0)
+          (clause_of before) (Some at.clause)
+      here =
+          subst (λ r. IsCursor (next_on s.clauses f) (head_in s.heads f) w.kept (r ∷ first.0)
+          (clause_of before) (Some r)) (sym same) cursor_first
+
+      pub walks_on : (looks' : ℕ) → looks' ≤ looks + 1 →
+          IsWalking base level f old start new now last after looks'
+      walks_on looks' le =
+          let moved = visited.cursor w.kept first.0 here in
+          let few = w.few in
+          let long : length w.rest ≡ suc (length first.0) = ap length first.1 in
+          record {
+            kept = moved.kept_now;
+            rest = first.0;
+            cursor = moved.is;
+            place = visited.place;
+            kept_true = λ d there. elim (moved.were d there) [
+              | inl was ↦
+                  let apart : d ≢ at.clause =
+                  λ e. never (is_in w.kept at.clause)
+                  (subst (λ r. is_in w.kept r ≡ true) e was)
+                  (once_before w.kept at.clause first.0 here.once) in
+                  rw (visited.others d apart)
+                  (grows_true new.clauses level entries now (stored_at s.clauses d).lits f
+                  goes.grows (w.kept_true d was))
+              | inr is_true ↦ is_true
+            ];
+            goes = goes_trans base level f old s.clauses new.clauses entries now w.goes goes;
+            few = omega arith;
+          }
+
+      pub walk_shorter : chain_length (length new.clauses) (next_on new.clauses f) after
+          < chain_length (length s.clauses) (next_on s.clauses f) next
+      walk_shorter =
+          let moved = visited.cursor w.kept first.0 here in
+          let long : length w.rest ≡ suc (length first.0) = ap length first.1 in
+          let was = rest_length s.clauses f (head_in s.heads f) w.kept w.rest (clause_of before)
+          next w.cursor in
+          let now_is = rest_length new.clauses f (head_in new.heads f) moved.kept_now first.0
+          (clause_of last) after moved.is in
+          rw (was, now_is, long) (omega arith)
+
+  -- at the end each clause that watches f was kept
+  pub walk_ends : next ≡ None → IsChained s.vars s.clauses s.heads → (c : ClauseRef) →
+      OtherIsTrue entries (stored_at s.clauses c).lits f
+  walk_ends is chained c = λ v o lt at at_o.
+      let k = stored_at s.clauses c in
+      let held : is_held s.clauses c ≡ true = by_test (is_held s.clauses c) refl v at in
+      let goes = own_next s.vars k.lits v f k.link0 k.link1 (chained.simple c held) lt at in
+      let none = at_end (next_on s.clauses f) (head_in s.heads f) w.kept w.rest (clause_of before)
+      (subst (λ x. IsCursor (next_on s.clauses f) (head_in s.heads f) w.kept w.rest
+      (clause_of before) x) is w.cursor) in
+      let there = w.cursor.whole c (pick v k.link0 k.link1) goes in
+      w.kept_true c (subst (λ l. is_in l c ≡ true) (ap (λ l. w.kept ++ l) none ∙ append-nil w.kept)
+      there) v o lt at at_o
+    where
+      by_test : (b : Bool) → is_held s.clauses c ≡ b → (v : ℕ) →
+          watch_of (stored_at s.clauses c).lits v ≡ Some f → is_held s.clauses c ≡ true
+      by_test true e v at = e
+      by_test false e v at =
+          let clash : None ≡ Some f =
+          sym (ap (λ (k : Stored). watch_of k.lits v) (not_held s.clauses c e)) ∙ at in cc

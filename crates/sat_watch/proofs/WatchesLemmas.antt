@@ -1,0 +1,305 @@
+-- The clauses as contracts see them, and what one step of propagation leaves of the state.
+use Rattle.std.proofs.Common.{◌≡◌, ℕ, zero, suc, pos, ◌+◌, ◌-◌, ◌<◌, ◌≤◌, Bool, true, false, List, [], ◌∷◌, ◌++◌, length, map, take, drop, get_or, slice_index_or, Option, None, Some, All, refl, sym, ap, ◌∙◌, subst, arith, inl, inr, length-append, drop-cons, append_assoc}
+use Rattle.std.specs.Prelude.{is_some}
+use Rattle.std.proofs.lemmas.List.Elements.{All-append, All-cons, All-nil}
+use Rattle.std.proofs.lemmas.List.Sorted.{IsPermutation-refl, IsPermutation-trans}
+use Rattle.sat_clause.specs.declared.literal.Lit.{Lit}
+use Rattle.sat_clause.specs.Literal.{IsWithin, lit, negation, is_among}
+use Rattle.sat_arena.specs.declared.clause_ref.ClauseRef.{ClauseRef}
+use Rattle.sat_arena.specs.Store.{ArePlaced, Stored, is_held, size_of, stored_at}
+use Rattle.sat_watch.specs.declared.entry.TrailEntry.{TrailEntry}
+use Rattle.sat_watch.specs.Chains.{holders, ChainsState}
+use Rattle.std.proofs.Math.Seq.{drop-append-add}
+use Rattle.sat_watch.specs.Levels.{AreLeveled, IsLeveledBy, IsWatchStore}
+use Rattle.sat_watch.specs.Trail.{IsOpen, TrailState, falses}
+use Rattle.sat_watch.proofs.FewLemmas.{longer_trail}
+use Rattle.sat_watch.proofs.BackLemmas.{settled_below, settled_now}
+use Rattle.sat_watch.specs.Watched.{AreImplied, AreWhole, Goes, IsReason, is_false}
+use Rattle.sat_watch.specs.Watches.{AreInPlace, Attached, HasCause, HasLevels, IsSettledState, IsWatches, IsWithinLooks, holder_count, holder_sum, left_queued, taken_between, Propagates, SameClauses, WatchState, attached, id_at, is_attached, lits_at, watch_state}
+use Rattle.sat_arena.proofs.StoreLaws.{same_or_other}
+use Rattle.sat_clause.proofs.LiteralLaws.{among_here, among_more}
+
+pub attached_held : (ks : List Stored) (c : ClauseRef) →
+    is_attached (map attached ks) c ≡ is_held ks c
+attached_held [] c = refl
+attached_held (k ∷ ks) c = elim (same_or_other k.place c) [
+  | inl same ↦ rw same.0 refl
+  | inr other ↦ rw other.0 (attached_held ks c)
+]
+
+pub attached_lits : (ks : List Stored) (c : ClauseRef) →
+    lits_at (map attached ks) c ≡ (stored_at ks c).lits
+attached_lits [] c = refl
+attached_lits (k ∷ ks) c = elim (same_or_other k.place c) [
+  | inl same ↦ rw same.0 refl
+  | inr other ↦ rw other.0 (attached_lits ks c)
+]
+
+pub attached_id : (ks : List Stored) (c : ClauseRef) →
+    id_at (map attached ks) c ≡ (stored_at ks c).id
+attached_id [] c = refl
+attached_id (k ∷ ks) c = elim (same_or_other k.place c) [
+  | inl same ↦ rw same.0 refl
+  | inr other ↦ rw other.0 (attached_id ks c)
+]
+
+-- the clauses stand one behind the other
+pub in_place : (at : ℕ) (ks : List Stored) → ArePlaced at ks → AreInPlace at (map attached ks)
+in_place at [] placed = tt
+in_place at (k ∷ ks) placed = (placed.0, in_place (at + size_of k) ks placed.1)
+
+length_attached : (ks : List Stored) → length (map attached ks) ≡ length ks
+length_attached [] = refl
+length_attached (k ∷ ks) = ap suc (length_attached ks)
+
+-- an entry of the trail has a false negation
+pub at_false : (entries : List TrailEntry) (p : ℕ) (t : TrailEntry) → p < length entries →
+    slice_index_or entries p t ≡ t → is_false entries (negation t.lit) ≡ true
+at_false [] p t lt is = absurd (omega arith)
+at_false (e ∷ older) zero t lt is =
+    subst (λ (x : TrailEntry). is_false (e ∷ older) (negation x.lit) ≡ true) is
+    (among_here (falses older) (negation e.lit))
+at_false (e ∷ older) (suc p) t lt is =
+    among_more (falses older) (negation e.lit) (negation t.lit)
+    (at_false older p t (omega arith) is)
+
+added_known : (ks : List Stored) (level : ℕ) (added old : List TrailEntry) →
+    AreImplied ks level added old → All (λ e. (e.level ≡ level) × (is_some e.reason ≡ true)) added
+added_known ks level [] old are = All-nil (λ e. (e.level ≡ level) × (is_some e.reason ≡ true))
+added_known ks level (e ∷ added) old are =
+    All-cons (λ e. (e.level ≡ level) × (is_some e.reason ≡ true)) e added
+    (are.0.at_level, ap is_some are.0.is) (added_known ks level added old are.1)
+
+holders_attached : (l : Lit) (ks : List Stored) → holder_count l (map attached ks) ≡ holders l ks
+holders_attached l [] = refl
+holders_attached l (k ∷ ks) = by_test (is_among k.lits l) refl (holders_attached l ks) where
+  by_test : (b : Bool) → is_among k.lits l ≡ b → holder_count l (map attached ks) ≡ holders l ks →
+      holder_count l (map attached (k ∷ ks)) ≡ holders l (k ∷ ks)
+  by_test true e rest = rw e (ap suc rest)
+  by_test false e rest = rw e rest
+
+pub same_clauses : (base : List TrailEntry) (level : ℕ) (f : Lit) (ks new : List Stored)
+    (entries now : List TrailEntry) → Goes base level f ks new entries now →
+    SameClauses (map attached ks) (map attached new)
+same_clauses base level f ks new entries now go = record {
+  count = length_attached new ∙ (go.count ∙ sym (length_attached ks));
+  attached = λ c. attached_held new c ∙ (go.held c ∙ sym (attached_held ks c));
+  ids = λ c. attached_id new c ∙ (go.ids c ∙ sym (attached_id ks c));
+  lits = λ c. rw (attached_lits ks c, attached_lits new c) (go.lits c).same;
+  holders = λ l. holders_attached l new ∙ (go.holders_same l ∙ sym (holders_attached l ks));
+}
+
+-- one step of propagation
+pub step_propagates : (s : WatchState) (c c' : ChainsState) (t t' : TrailState) (q q' level : ℕ)
+    (due : Option ClauseRef) (f : Lit) →
+    watch_state c t q level due ≡ s → due ≡ None → c'.vars ≡ c.vars →
+    Goes t.entries level f c.clauses c'.clauses t.entries t'.entries →
+    Propagates s (watch_state c' t' q' level due)
+step_propagates s c c' t t' q q' level due f view none vars go =
+    subst (λ (x : WatchState). Propagates x (watch_state c' t' q' level due)) view (record {
+      vars = vars;
+      level = refl;
+      due = none;
+      clauses = same_clauses t.entries level f c.clauses c'.clauses t.entries t'.entries go;
+      added = go.grows.added;
+      trail = go.grows.is;
+      added_level = added_known c'.clauses level go.grows.added t.entries go.grows.implied;
+    })
+
+-- the entry whose negation is walked is the one that is taken
+one_taken : (added old : List TrailEntry) (p : ℕ) (t : TrailEntry) (n m : ℕ) → p < length old →
+    slice_index_or old p t ≡ t → n ≡ length added + p → m ≡ 1 →
+    take m (drop n (added ++ old)) ≡ t ∷ []
+one_taken added old p t n m lt is en em =
+    rw (en, em, drop-append-add added old p, drop-cons old p t lt, is) refl
+
+-- the looks of one step
+pub step_looks : (s : WatchState) (c c' : ChainsState) (t t' : TrailState) (q q' level : ℕ)
+    (due : Option ClauseRef) (f : Lit) (e : TrailEntry) (added : List TrailEntry)
+    (result : Option ClauseRef) (before after : ℕ) →
+    watch_state c t q level due ≡ s → t'.entries ≡ added ++ t.entries → 1 ≤ q →
+    q ≤ length t.entries → slice_index_or t.entries (q - 1) e ≡ e → f ≡ negation e.lit →
+    left_queued (watch_state c' t' q' level due) result ≡ length added + (q - 1) →
+    after ≤ before + holders f c.clauses →
+    IsWithinLooks s (watch_state c' t' q' level due) result before after
+step_looks s c c' t t' q q' level due f e added result before after view grown some few is fis left
+    le =
+    subst (λ (x : WatchState). IsWithinLooks x (watch_state c' t' q' level due) result before after)
+    view
+    (let long = ap length grown ∙ length-append added t.entries in
+    let count : (length t'.entries - left_queued (watch_state c' t' q' level due) result)
+    - (length t.entries - q) ≡ 1 = omega (arith, long, left) in
+    let one : take ((length t'.entries - left_queued (watch_state c' t' q' level due) result)
+    - (length t.entries - q))
+    (drop (left_queued (watch_state c' t' q' level due) result) t'.entries) ≡ e ∷ [] =
+    ap (λ l. take ((length t'.entries - left_queued (watch_state c' t' q' level due) result)
+    - (length t.entries - q)) (drop (left_queued (watch_state c' t' q' level due) result) l)) grown
+    ∙ one_taken added t.entries (q - 1) e (left_queued (watch_state c' t' q' level due) result)
+    ((length t'.entries - left_queued (watch_state c' t' q' level due) result)
+    - (length t.entries - q)) (omega arith) is left count in
+    let same : holder_count (negation e.lit) (map attached c.clauses) ≡ holders f c.clauses =
+    holders_attached (negation e.lit) c.clauses ∙ ap (λ l. holders l c.clauses) (sym fis) in
+    rw one (omega arith))
+
+-- each lower level is settled, and the current one where nothing is queued or due
+pub state_settled : (c : ChainsState) (t : TrailState) (q level : ℕ) (due : Option ClauseRef) →
+    IsWatches c t q level due → IsSettledState (watch_state c t q level due)
+state_settled c t q level due h =
+    let once = h.whole.trail.once in let simple = h.whole.chained.simple in
+    record {
+      below = λ j lt r is.
+          let held = sym (attached_held c.clauses r) ∙ is in
+          rw (attached_lits c.clauses r)
+          (settled_below c.clauses t.entries q level due j h.store once lt c.vars r held
+          (simple r held));
+      here = λ none quiet r is.
+          let held = sym (attached_held c.clauses r) ∙ is in
+          rw (attached_lits c.clauses r) (settled_now c.vars c.clauses t.entries level
+          (subst (λ (p : ℕ × Option ClauseRef). IsWatchStore c.clauses t.entries p.0 level p.1)
+          (λ x. (none x, quiet x)) h.store) once r held (simple r held));
+    }
+
+same_refl : (ks : List Attached) → SameClauses ks ks
+same_refl ks =
+    record {
+      count = refl;
+      attached = λ c. refl;
+      ids = λ c. refl;
+      lits =
+          λ c. IsPermutation-refl (lits_at ks c);
+      holders = λ l. refl;
+    }
+
+same_trans : (a b c : List Attached) → SameClauses a b → SameClauses b c → SameClauses a c
+same_trans a b c x y = record {
+  count = y.count ∙ x.count;
+  attached = λ r. y.attached r ∙ x.attached r;
+  ids = λ r. y.ids r ∙ x.ids r;
+  holders = λ l. y.holders l ∙ x.holders l;
+  lits = λ r. IsPermutation-trans (lits_at a r) (lits_at b r) (lits_at c r) (x.lits r) (y.lits r);
+}
+
+pub propagates_refl : (s : WatchState) → s.due ≡ None → Propagates s s
+propagates_refl s none = record {
+  vars = refl;
+  level = refl;
+  due = none;
+  clauses = same_refl s.clauses;
+  added = [];
+  trail = refl;
+  added_level = All-nil (λ (e : TrailEntry). (e.level ≡ s.level) × (is_some e.reason ≡ true));
+}
+
+pub propagates_trans : (a b c : WatchState) → Propagates a b → Propagates b c → Propagates a c
+propagates_trans a b c x y = record {
+  vars = y.vars ∙ x.vars;
+  level = y.level ∙ x.level;
+  due = y.due;
+  clauses = same_trans a.clauses b.clauses c.clauses x.clauses y.clauses;
+  added = y.added ++ x.added;
+  trail = y.trail ∙ (ap (λ t. y.added ++ t) x.trail ∙ sym (append_assoc y.added x.added a.trail));
+  added_level =
+      All-append (λ (e : TrailEntry). (e.level ≡ a.level) × (is_some e.reason ≡ true)) y.added
+      x.added
+      (subst (λ n. All (λ (e : TrailEntry). (e.level ≡ n) × (is_some e.reason ≡ true)) y.added)
+      x.level y.added_level) x.added_level;
+}
+
+-- nothing is known of no clauses
+pub empty_store : (ks : List Stored) (entries : List TrailEntry) → ks ≡ [] → entries ≡ [] →
+    IsWatchStore ks entries 0 0 None
+empty_store ks entries none empty = rw (none, empty) (record {
+  few = omega arith;
+  leveled = refl;
+  current = λ k d lt. absurd (omega arith);
+  watched = λ c held ne. let clash : false ≡ true = held in cc;
+  due_is = tt;
+})
+
+no_entry : TrailEntry
+no_entry = record { lit = lit (pos 0); level = 0; reason = None }
+
+pub looks_none : (s : WatchState) (l : ℕ) → IsWithinLooks s s None l l
+looks_none s l =
+    let none : (length s.trail - s.queued) - (length s.trail - s.queued) ≡ 0 = omega arith in
+    rw none (omega arith)
+
+-- the looks of a step are added to those before it
+pub looks_on : (a s b : WatchState) (result : Option ClauseRef) (added : List TrailEntry)
+    (start l l' : ℕ) → SameClauses a.clauses s.clauses → 1 ≤ s.queued → s.queued ≤ length s.trail →
+    b.trail ≡ added ++ s.trail →
+    length b.trail + s.queued ≡ length s.trail + left_queued b result + 1 →
+    length a.trail - a.queued ≤ length s.trail - s.queued →
+    IsWithinLooks a s None start l → IsWithinLooks s b result l l' →
+    IsWithinLooks a b result start l'
+looks_on a s b result added start l l' same some few grown front later le le' =
+    let long = ap length grown ∙ length-append added s.trail in
+    let p = s.queued - 1 in
+    let t = get_or s.trail p no_entry in
+    let rest = drop s.queued s.trail in
+    let left : left_queued b result ≡ length added + p = omega (arith, long) in
+    let next : suc p ≡ s.queued = omega arith in
+    let begins : drop (left_queued b result) b.trail ≡ t ∷ rest =
+    (λ x. drop (left x) (grown x)) ∙
+    (drop-append-add added s.trail
+    p ∙ (drop-cons s.trail p no_entry (omega arith) ∙ ap (λ n. t ∷ drop n s.trail) next)) in
+    let count = (length s.trail - s.queued) - (length a.trail - a.queued) in
+    let one : (length b.trail - left_queued b result) - (length s.trail - s.queued) ≡ 1 =
+    omega arith in
+    let more : (length b.trail - left_queued b result) - (length a.trail - a.queued) ≡ suc count =
+    omega arith in
+    let step : taken_between s b result ≡ t ∷ [] = (λ x. take (one x) (begins x)) in
+    let whole : taken_between a b result ≡ t ∷ take count rest = (λ x. take (more x) (begins x)) in
+    let as_many = same.holders (negation t.lit) in
+    let now : l' ≤ l + holder_sum s.clauses (t ∷ []) =
+    subst (λ x. l' ≤ l + holder_sum s.clauses x) step le' in
+    subst (λ x. l' ≤ start + holder_sum a.clauses x) (sym whole) (omega (arith, as_many, now, le))
+
+-- the trail's levels and reasons, by what contracts see of the clauses
+pub has_levels : (ks : List Stored) (level : ℕ) (entries : List TrailEntry) →
+    AreLeveled ks level entries → HasLevels (map attached ks) level entries
+has_levels ks level [] is = is
+has_levels ks level (e ∷ older) is =
+    (is.0, by_reason e.reason is.1 (λ n below. has_levels ks n older below)) where
+      by_reason : (r : Option ClauseRef) →
+          IsLeveledBy ks level e.lit older r (λ n. AreLeveled ks n older) →
+          ((n : ℕ) → AreLeveled ks n older → HasLevels (map attached ks) n older) →
+          HasCause (map attached ks) level e.lit older r (λ n. HasLevels (map attached ks) n older)
+      by_reason None by go = (by.0, by.1, go by.0 by.2)
+      by_reason (Some r) by go = (
+        attached_held ks r ∙ by.0,
+        subst (λ l. IsReason older l e.lit) (sym (attached_lits ks r)) by.1,
+        go level by.2,
+      )
+
+-- the chains and the trail after one more entry
+pub longer_whole : (c : ChainsState) (old new : TrailState) (e : TrailEntry) → AreWhole c old →
+    new.vars ≡ old.vars → new.entries ≡ e ∷ old.entries → IsWithin c.vars e.lit →
+    IsOpen old.entries e.lit → AreWhole c new
+longer_whole c old new e whole vars is within free = record {
+  vars = vars ∙ whole.vars;
+  chained = whole.chained;
+  trail =
+      longer_trail old new e vars is
+      (subst (λ n. IsWithin n e.lit) (sym whole.vars) within) free whole.trail;
+}
+
+-- where something is queued and nothing is due
+pub record AtQueue (c : ChainsState) (t : TrailState) (q level : ℕ) (due : Option ClauseRef) :
+    Type 0 where
+  pub none : due ≡ None
+  pub some : 1 ≤ q
+  pub few : q ≤ length t.entries
+  pub store : IsWatchStore c.clauses t.entries q level None
+
+pub at_queue : (c : ChainsState) (t : TrailState) (q level : ℕ) (due : Option ClauseRef)
+    (s : WatchState) → IsWatches c t q level due → watch_state c t q level due ≡ s →
+    s.due ≡ None → 1 ≤ s.queued → AtQueue c t q level due
+at_queue c t q level due s h view quiet some =
+    let none : due ≡ None = ap (λ (x : WatchState). x.due) view ∙ quiet in
+    record {
+      none = none;
+      some = subst (λ (x : WatchState). 1 ≤ x.queued) (sym view) some;
+      few = h.store.few;
+      store = subst (IsWatchStore c.clauses t.entries q level) none h.store;
+    }

@@ -1,0 +1,30 @@
+use Rattle.std.proofs.Common.{◌∙◌, ap, subst, sym}
+use Rattle.sat_clause.specs.Literal.{IsWithin}
+use Rattle.sat_watch.specs.Trail.{IsOpen, TrailState}
+use Rattle.sat_watch.specs.TrailStore.{place_of}
+use Rattle.sat_watch.proofs.StoreLemmas.{has_room, push_store}
+use Rattle.sat_watch.proofs.trail.Trail.push.Goals as goal
+
+pub push_reserved-requires : goal.push_reserved-requires
+push_reserved-requires c =
+    let p = c.self.inside in
+    let free = subst (λ (t : TrailState). IsOpen t.entries c.args.entry.lit) (sym c.self.view_is)
+    c.requires.open in
+    let within = subst (λ (t : TrailState). IsWithin t.vars c.args.entry.lit) (sym c.self.view_is)
+    c.requires.within in
+    has_room p.vars p.entries p.entries p.truths p.levels c.args.entry c.self.invariant within free
+
+pub invariant_of-self : goal.invariant_of-self
+invariant_of-self c =
+    let p = c.self.inside in
+    let free = subst (λ (t : TrailState). IsOpen t.entries c.args.entry.lit) (sym c.self.view_is)
+    c.requires.open in
+    let within = subst (λ (t : TrailState). IsWithin t.vars c.args.entry.lit) (sym c.self.view_is)
+    c.requires.within in
+    rw (
+      c.place.ensures,
+      c.place-2.ensures ∙ ap (place_of p.vars) c.negation.ensures.value,
+      c.variable.ensures,
+    )
+    (push_store p.vars p.entries c.push_reserved.new.self p.truths p.levels c.args.entry
+    c.self.invariant within free c.push_reserved.ensures.items c.push_reserved.ensures.capacity)

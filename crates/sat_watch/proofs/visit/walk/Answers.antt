@@ -1,0 +1,65 @@
+use Rattle.std.proofs.Common.{refl, ◌∙◌, arith}
+use Rattle.sat_watch.proofs.GoesLemmas.{goes_trans}
+use Rattle.sat_watch.proofs.WalkLemmas.{goes_here, walk_begins, walk_ends, walk_shorter, walks_on}
+use Rattle.sat_watch.proofs.visit.walk.Goals as goal
+
+pub loop-next-init : goal.loop-next-init
+loop-next-init c = record {
+  vars = refl;
+  whole = c.requires.whole;
+  walking =
+      walk_begins c.args.trail.now.entries c.args.level c.args.f c.args.chains.now c.args.looks.now
+      c.head-next.result
+      c.requires.whole.chained c.requires.within c.head-next.ensures;
+}
+
+pub place-at-requires : goal.place-at-requires
+place-at-requires c =
+    let l = c.loop-next in
+    record {
+      goes = goes_here c.args.trail.now.entries c.args.level c.args.f
+          c.args.chains.now.clauses c.args.looks.now l.chains l.trail.entries l.before l.next
+          l.looks
+          l.invariant.walking c.in-Some.clause c.in-Some.is;
+    }
+
+pub returns-in_default-visit_clause-clause-goes : goal.returns-in_default-visit_clause-clause-goes
+returns-in_default-visit_clause-clause-goes c =
+    let l = c.loop-next in
+    goes_trans c.args.trail.now.entries c.args.level c.args.f c.args.chains.now.clauses
+    l.chains.clauses c.visit_clause.new.chains.clauses l.trail.entries
+    c.visit_clause.new.trail.entries
+    l.invariant.walking.goes c.visit_clause.ensures.goes
+
+pub loop-next-smaller : goal.loop-next-smaller
+loop-next-smaller c =
+    let l = c.loop-next in
+    walk_shorter c.args.trail.now.entries c.args.level c.args.f c.args.chains.now.clauses
+    c.args.looks.now l.chains l.trail.entries l.before l.next l.looks l.invariant.walking
+    c.in-Some.clause c.in-Some.is c.place-at.result c.place-at.ensures.clause c.after-after.result
+    c.visit_clause.new.chains c.visit_clause.new.trail.entries c.in-Some-visit_clause.last
+    c.in-Some-visit_clause.ensures.visited c.visit_clause.ensures.goes
+
+pub loop-next-preserved : goal.loop-next-preserved
+loop-next-preserved c =
+    let l = c.loop-next in
+    let sum = c.saturating_add.ensures in
+    record {
+      vars = c.visit_clause.ensures.vars ∙ l.invariant.vars;
+      whole = c.visit_clause.ensures.whole;
+      walking =
+          walks_on c.args.trail.now.entries c.args.level c.args.f c.args.chains.now.clauses
+          c.args.looks.now l.chains l.trail.entries l.before l.next l.looks l.invariant.walking
+          c.in-Some.clause c.in-Some.is c.place-at.result c.place-at.ensures.clause
+          c.after-after.result c.visit_clause.new.chains c.visit_clause.new.trail.entries
+          c.in-Some-visit_clause.last
+          c.in-Some-visit_clause.ensures.visited c.visit_clause.ensures.goes c.saturating_add.result
+          (omega (arith, sum));
+    }
+
+pub returns-clause-none : goal.returns-clause-none
+returns-clause-none c =
+    let l = c.loop-next in
+    walk_ends c.args.trail.now.entries c.args.level c.args.f c.args.chains.now.clauses
+    c.args.looks.now l.chains l.trail.entries l.before l.next l.looks l.invariant.walking
+    c.in_default.is l.invariant.whole.chained

@@ -1,0 +1,48 @@
+use Rattle.std.proofs.Common.{◌≡◌, ℕ, suc, ◌+◌, List, Option, Some, true, sym, ◌∙◌, subst, arith}
+use Rattle.sat_arena.specs.declared.clause_ref.ClauseRef.{ClauseRef}
+use Rattle.sat_arena.specs.Store.{is_held, stored_at}
+use Rattle.sat_watch.specs.declared.entry.TrailEntry.{TrailEntry}
+use Rattle.sat_clause.specs.Literal.{IsWithin}
+use Rattle.sat_watch.specs.Levels.{IsWatchStore}
+use Rattle.sat_watch.specs.Trail.{IsOpen}
+use Rattle.sat_watch.specs.Watched.{IsReason}
+use Rattle.sat_watch.specs.Watches.{WatchState, is_attached, lits_at}
+use Rattle.sat_watch.proofs.SettledLemmas.{store_imply}
+use Rattle.sat_watch.proofs.WatchesLemmas.{attached_held, attached_lits, longer_whole}
+use Rattle.sat_watch.proofs.watches.Watches.imply.Goals as goal
+
+pub overflow_add-self : goal.overflow_add-self
+overflow_add-self c =
+    let t = c.self.invariant.whole.trail in let few = t.few in let small = t.few_vars in
+    let queued = c.self.invariant.store.few in
+    record { fits = omega arith }
+
+pub invariant_of-self : goal.invariant_of-self
+invariant_of-self c =
+    let i = c.self.inside in let a = c.args in let ks = i.chains.clauses in
+    let free : IsOpen i.trail.entries a.l =
+    subst (λ (s : WatchState). IsOpen s.trail a.l) (sym c.self.view_is) c.requires.open in
+    let held : is_held ks a.reason ≡ true =
+    sym (attached_held ks a.reason) ∙ subst
+    (λ (s : WatchState). is_attached s.clauses a.reason ≡ true) (sym c.self.view_is)
+    c.requires.attached in
+    let why : IsReason i.trail.entries (stored_at ks a.reason).lits a.l =
+    subst (λ l. IsReason i.trail.entries l a.l) (attached_lits ks a.reason)
+    (subst (λ (s : WatchState). IsReason s.trail (lits_at s.clauses a.reason) a.l)
+    (sym c.self.view_is) c.requires.unit) in
+    let next : suc i.queued ≡ i.queued + 1 = omega arith in
+    let after = store_imply ks i.trail.entries i.queued i.level i.due a.l a.reason
+    c.self.invariant.store free c.self.invariant.whole.trail.once held why in
+    let e : TrailEntry = record { lit = a.l; level = i.level; reason = Some a.reason } in
+    record {
+      whole = longer_whole i.chains i.trail c.push.new.self e c.self.invariant.whole
+          c.push.ensures.vars
+          c.push.ensures.entries (subst (λ (s : WatchState). IsWithin s.vars a.l) (sym
+          c.self.view_is)
+          c.requires.within) free;
+      store =
+          subst (λ (p : List TrailEntry × ℕ × Option ClauseRef). IsWatchStore ks p.0 p.1 i.level
+          p.2)
+          (λ x. (sym c.push.ensures.entries x, next x, sym c.due_without-self-inside.ensures x))
+          after;
+    }

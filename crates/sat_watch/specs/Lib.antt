@@ -1,0 +1,10 @@
+pub mod Chains
+pub mod Choice
+pub mod Forget
+pub mod Levels
+pub mod Relinking
+pub mod Tests
+pub mod Trail
+pub mod TrailStore
+pub mod Watched
+pub mod Watches

@@ -1,0 +1,247 @@
+//! The clauses, and the chains of those that watch a literal.
+
+ghost use Rattle.std.specs.Prelude.{◌≡◌, ◌≢◌, ◌<◌, ◌≤◌, ◌∷◌, [], List, length, map, swap, true, All, IfOk, OnErr, OnOk, Some};
+ghost use Rattle.sat_clause.specs.declared.literal.Lit.{Lit};
+ghost use Rattle.sat_clause.specs.Learned.{IsSimple};
+ghost use Rattle.sat_clause.specs.Literal.{IsWithin};
+ghost use Rattle.sat_arena.specs.declared.clause_ref.ClauseRef.{ClauseRef};
+ghost use Rattle.sat_arena.specs.Compact.{AreRising, moves_of};
+ghost use Rattle.sat_arena.specs.Store.{is_held, link_of, stored_at};
+ghost use Rattle.sat_watch.specs.Chains.{AreChained, GoesOn, HasCursor, IsAdded, IsCursor, IsPlaceOf, IsRewatched, MayBePlaceOf, clause_of, head_at, head_in, holders, literals, next_on};
+ghost use Rattle.sat_watch.specs.Choice.{IsAhead, after_first as after_first_of};
+ghost use Rattle.sat_watch.specs.Relinking.{marked, stored_without};
+ghost use Rattle.sat_watch.specs.Watches.{attached};
+
+use crate::links::{index, link_all, link_first, mark_all, push_ordered, put_first, unlink};
+use crate::place::Place;
+use sat_arena::{Arena, ClauseRef, Moves};
+use sat_clause::{LITERAL_LIMIT, Lit, VARIABLE_LIMIT};
+use std::alloc::{AllocError, Global};
+use std::marker::Model;
+
+/// The clauses in their arena, and the first clause of each literal's chain.
+#[derive(Drop)]
+pub(crate) struct Chains {
+    vars: u32,
+    arena: Arena,
+    heads: Vec<Option<ClauseRef>>,
+}
+
+impl Model for Chains {
+    ghost use Rattle.sat_watch.specs.Chains.{ChainsState, IsChained};
+
+    ghost Value = { ChainsState };
+
+    ghost view = { λ c. record {
+      vars = c.vars;
+      clauses = c.arena.clauses;
+      spare = c.arena.spare;
+      heads = c.heads.items;
+    } };
+
+    ghost invariant = { λ c. IsChained c.vars c.arena.clauses c.heads.items };
+}
+
+/// Where what stood at position `j` stands, once the one at position `i` has changed places with
+/// the first.
+fn after_first(i: u32, j: u32) -> u32
+    ensures { result ≡ after_first_of i j }
+{
+    if j == 0 {
+        return i;
+    }
+    j
+}
+
+impl Chains {
+    /// No clause, in an arena without clauses, and empty chains of so many variables.
+    pub(crate) fn new(alloc: Global, arena: Arena, vars: u32) -> Result<Chains, AllocError>
+        requires empty { arena.clauses ≡ [] }
+        requires few { vars ≤ VARIABLE_LIMIT }
+        ensures vars { IfOk result (λ c. c.vars ≡ vars) }
+        ensures clauses { IfOk result (λ c. c.clauses ≡ []) }
+        ensures chained { IfOk result AreChained }
+    {
+        let heads = vec![in alloc; None; vars as usize * 2]?;
+        Ok(Chains { vars, arena, heads })
+    }
+
+    /// Adds a clause of two or more literals, with the one at position `i` first, and then the one
+    /// that stands at position `j` second; these two are watched.
+    ///
+    /// # Errors
+    /// Where memory is short; the chains are then as they were.
+    pub(crate) fn add(
+        &mut self,
+        lits: &[Lit],
+        id: u32,
+        i: u32,
+        j: u32,
+    ) -> Result<ClauseRef, AllocError>
+        requires simple { IsSimple self.old.vars lits.now }
+        requires few { length lits.now ≤ LITERAL_LIMIT }
+        requires i { i < length lits.now }
+        requires j { j < length lits.now }
+        requires two { 2 ≤ length lits.now }
+        ensures ok { IfOk result
+            (λ c. IsAdded self.old self.new (swap (swap lits.now 0 i) 1 j) id c) }
+        ensures chained { AreChained self.new }
+        ensures err { OnErr result (self.new ≡ self.old) }
+    {
+        self.arena.reserve(lits.len() as u64 + 6)?;
+        let c = push_ordered(&mut self.arena, lits, id, i, j);
+        link_first(&mut self.arena, &mut self.heads, c);
+        Ok(c)
+    }
+
+    /// Adds a clause of one literal, which is in no chain.
+    ///
+    /// # Errors
+    /// Where memory is short; the chains are then as they were.
+    fn add_one(&mut self, lits: &[Lit], id: u32) -> Result<ClauseRef, AllocError>
+        requires simple { IsSimple self.old.vars lits.now }
+        requires one { length lits.now ≡ 1 }
+        ensures ok { IfOk result (λ c. IsAdded self.old self.new lits.now id c) }
+        ensures chained { AreChained self.new }
+        ensures err { OnErr result (self.new ≡ self.old) }
+    {
+        self.arena.reserve(lits.len() as u64 + 6)?;
+        Ok(self.arena.push(lits, id))
+    }
+
+    /// Adds a clause, with the literal at position `i` first and that at position `j` second.
+    ///
+    /// # Errors
+    /// Where memory is short; the chains are then as they were.
+    pub(crate) fn add_ahead(
+        &mut self,
+        lits: &[Lit],
+        id: u32,
+        i: u32,
+        j: u32,
+    ) -> Result<ClauseRef, AllocError>
+        requires simple { IsSimple self.old.vars lits.now }
+        requires few { length lits.now ≤ LITERAL_LIMIT }
+        requires i { i < length lits.now }
+        requires j { j < length lits.now }
+        requires other { 2 ≤ length lits.now → j ≢ i }
+        ensures ok { IfOk result (λ c. IsAhead self.old self.new lits.now id i j c) }
+        ensures chained { AreChained self.new }
+        ensures err { OnErr result (self.new ≡ self.old) }
+    {
+        if lits.len() < 2 {
+            return self.add_one(lits, id);
+        }
+        self.add(lits, id, i, after_first(i, j))
+    }
+
+    /// The first clause of a literal's chain.
+    pub(crate) fn head(&self, l: Lit) -> Option<ClauseRef>
+        requires within { IsWithin self.now.vars l }
+        ensures { result ≡ head_in self.now.heads l }
+    {
+        self.heads[index(l)]
+    }
+
+    /// The literals of a clause.
+    pub(crate) fn lits(&self, c: ClauseRef) -> &[Lit]
+        requires held { is_held self.now.clauses c ≡ true }
+        ensures value { result.now ≡ (literals self.now.clauses c) }
+        ensures simple { IsSimple self.now.vars result.now }
+        ensures few { length result.now ≤ LITERAL_LIMIT }
+    {
+        self.arena.lits(c)
+    }
+
+    /// The id of a clause.
+    pub(crate) fn id(&self, c: ClauseRef) -> u32
+        requires held { is_held self.now.clauses c ≡ true }
+        ensures value { result ≡ (stored_at self.now.clauses c).id }
+    {
+        self.arena.id(c)
+    }
+
+    /// The clause after this one in the chain of its literal at a position.
+    pub(crate) fn after(&self, p: Place) -> Option<ClauseRef>
+        requires held { is_held self.now.clauses p.clause ≡ true }
+        requires which { p.which < 2 }
+        ensures value { result ≡ link_of (stored_at self.now.clauses p.clause) p.which }
+    {
+        self.arena.link(p.clause, p.which)
+    }
+
+    /// The place of a clause that stands in a literal's chain.
+    pub(crate) fn place(&self, clause: ClauseRef, f: Lit) -> Place
+        requires goes { GoesOn (next_on self.now.clauses f clause) }
+        ensures clause { result.clause ≡ clause }
+        ensures place { IsPlaceOf self.now.clauses f result }
+    {
+        if self.arena.lits(clause)[0] == f {
+            return Place { clause, which: 0 };
+        }
+        Place { clause, which: 1 }
+    }
+
+    /// Takes these clauses out. The others close up, and chains and heads are made anew.
+    ///
+    /// # Errors
+    /// Where memory is short; the chains are then as they were.
+    pub(crate) fn remove(
+        &mut self,
+        alloc: Global,
+        clauses: &[ClauseRef],
+    ) -> Result<Moves, AllocError>
+        requires held { All (λ c. is_held self.old.clauses c ≡ true) clauses.now }
+        ensures vars { self.new.vars ≡ self.old.vars }
+        ensures clauses { OnOk result (map attached self.new.clauses
+            ≡ map attached (stored_without clauses.now self.old.clauses)) }
+        ensures moves { IfOk result
+            (λ m. m ≡ moves_of (marked true clauses.now self.old.clauses)) }
+        ensures rising { IfOk result (AreRising 0) }
+        ensures chained { AreChained self.new }
+        ensures err { OnErr result (self.new ≡ self.old) }
+    {
+        mark_all(&mut self.arena, clauses, true);
+        let Ok(moves) = self.arena.compact(alloc) else {
+            mark_all(&mut self.arena, clauses, false);
+            return Err(AllocError);
+        };
+        self.heads.fill(None);
+        link_all(&mut self.arena, &mut self.heads, &moves, self.vars);
+        Ok(moves)
+    }
+
+    /// Moves the watch of a clause from the literal at a place to the one at position `k`: it
+    /// leaves the chain of `f`, where it stands behind `before`, and comes first in the other one.
+    pub(crate) fn rewatch(
+        &mut self,
+        f: Lit,
+        before: Option<Place>,
+        at: Place,
+        k: u32,
+        after: Option<ClauseRef>,
+    )
+        requires within { IsWithin self.old.vars f }
+        requires at { IsPlaceOf self.old.clauses f at }
+        requires before { MayBePlaceOf self.old.clauses f before }
+        requires low { 2 ≤ k }
+        requires high { k < length (literals self.old.clauses at.clause) }
+        requires cursor { HasCursor (next_on self.old.clauses f) (head_in self.old.heads f)
+            (clause_of before) (Some at.clause) }
+        requires after { link_of (stored_at self.old.clauses at.clause) at.which ≡ after }
+        ensures vars { self.new.vars ≡ self.old.vars }
+        ensures spare { self.new.spare ≡ self.old.spare }
+        ensures chained { AreChained self.new }
+        ensures clauses { IsRewatched self.old.clauses self.new.clauses before at k after
+            (head_at self.old.clauses self.old.heads at.clause k) }
+        ensures holders { (l : Lit) → holders l self.new.clauses ≡ holders l self.old.clauses }
+        ensures cursor { (kept rest : List ClauseRef)
+            → IsCursor (next_on self.old.clauses f) (head_in self.old.heads f) kept
+            (at.clause ∷ rest) (clause_of before) (Some at.clause)
+            → IsCursor (next_on self.new.clauses f) (head_in self.new.heads f) kept rest
+            (clause_of before) after }
+    {
+        unlink(&mut self.arena, &mut self.heads, f, before, after);
+        put_first(&mut self.arena, &mut self.heads, at, k);
+    }
+}

@@ -1,0 +1,103 @@
+//! Visits of the clauses in the chain of a literal that has become false.
+
+ghost use Rattle.std.specs.Prelude.{◌≡◌, ◌+◌, ◌<◌, ◌≤◌, ◌∷◌, [], IfNone, IfSome, true, None, Some};
+ghost use Rattle.sat_clause.specs.Literal.{IsWithin};
+ghost use Rattle.sat_arena.specs.declared.clause_ref.ClauseRef.{ClauseRef};
+ghost use Rattle.sat_arena.specs.Store.{is_held, link_of, stored_at};
+ghost use Rattle.sat_watch.specs.Chains.{holders, HasCursor, IsPlaceOf, MayBePlaceOf, clause_of, head_in, next_on, literals};
+ghost use Rattle.sat_watch.specs.Watched.{AreWhole, GoesTo, IsVisited, OtherIsTrue, is_false, AreFalse};
+
+use crate::chains::Chains;
+use crate::entry::TrailEntry;
+use crate::place::Place;
+use crate::sight::{Sight, look};
+use crate::trail::Trail;
+use sat_arena::ClauseRef;
+use sat_clause::Lit;
+
+/// Visits the clause at a place in the chain of `f`, which is false: it stays there, where its
+/// other watched literal is true or is made true, or moves to another chain. Gives the place behind
+/// which the next clause stands, or none where the clause is false.
+fn visit_clause(
+    chains: &mut Chains,
+    trail: &mut Trail,
+    f: Lit,
+    level: u32,
+    before: Option<Place>,
+    at: Place,
+    after: Option<ClauseRef>,
+) -> Option<Option<Place>>
+    requires whole { AreWhole chains.old trail.old }
+    requires within { IsWithin chains.old.vars f }
+    requires is_false { is_false trail.old.entries f ≡ true }
+    requires at { IsPlaceOf chains.old.clauses f at }
+    requires before { MayBePlaceOf chains.old.clauses f before }
+    requires cursor { HasCursor (next_on chains.old.clauses f) (head_in chains.old.heads f)
+        (clause_of before) (Some at.clause) }
+    requires after { link_of (stored_at chains.old.clauses at.clause) at.which ≡ after }
+    ensures vars { chains.new.vars ≡ chains.old.vars }
+    ensures whole { AreWhole chains.new trail.new }
+    ensures goes { GoesTo level f chains.old trail.old chains.new trail.new }
+    ensures visited { IfSome result
+        (IsVisited f before at after chains.old chains.new trail.new.entries) }
+    ensures stopped { IfNone result
+        (AreFalse trail.new.entries (literals chains.new.clauses at.clause)) }
+{
+    match look(trail, chains.lits(at.clause), at.which) {
+        Sight::IsTrueAlready => {
+            return Some(Some(at));
+        }
+        Sight::Open(k) => {
+            chains.rewatch(f, before, at, k, after);
+            return Some(before);
+        }
+        Sight::Unit(lit) => {
+            trail.push(TrailEntry {
+                lit,
+                level,
+                reason: Some(at.clause),
+            });
+            return Some(Some(at));
+        }
+        Sight::IsFalseNow => {
+            return None;
+        }
+    }
+}
+
+/// Walks along the chain of `f`, which is false. Gives a clause that is false, or none; then the
+/// other watched literal of each clause that still watches `f` is true.
+pub(crate) fn walk(
+    chains: &mut Chains,
+    trail: &mut Trail,
+    f: Lit,
+    level: u32,
+    looks: &mut u64,
+) -> Option<ClauseRef>
+    requires whole { AreWhole chains.old trail.old }
+    requires within { IsWithin chains.old.vars f }
+    requires is_false { is_false trail.old.entries f ≡ true }
+    ensures vars { chains.new.vars ≡ chains.old.vars }
+    ensures whole { AreWhole chains.new trail.new }
+    ensures goes { GoesTo level f chains.old trail.old chains.new trail.new }
+    ensures none { IfNone result ((c : ClauseRef)
+        → OtherIsTrue trail.new.entries (literals chains.new.clauses c) f) }
+    ensures held { IfSome result (λ c. is_held chains.new.clauses c ≡ true) }
+    ensures stopped { IfSome result
+        (λ c. AreFalse trail.new.entries (literals chains.new.clauses c)) }
+    ensures looks { looks.new ≤ looks.old + holders f chains.old.clauses }
+{
+    let mut before: Option<Place> = None;
+    let mut next = chains.head(f);
+    while let Some(clause) = next {
+        *looks = looks.saturating_add(1);
+        let at = chains.place(clause, f);
+        let after = chains.after(at);
+        let Some(last) = visit_clause(chains, trail, f, level, before, at, after) else {
+            return Some(clause);
+        };
+        before = last;
+        next = after;
+    }
+    None
+}
