@@ -1,6 +1,6 @@
 -- What stands at the end of a netlist, by the entries of its nets.
-use Rattle.std.proofs.Common.{◌≡◌, ℕ, Bool, List, [], ◌∷◌, ◌++◌, refl, sym, ap, ◌∙◌, append_assoc, append-nil}
-use Rattle.std.specs.Prelude.{not, ◌&&◌, ◌||◌, fold, map, Option, Some, None, is_none, option_map, slice_get, if◌then◌else◌}
+use Rattle.std.proofs.Common.{◌≡◌, ℕ, Bool, List, [], ◌∷◌, refl, sym, ap, ◌∙◌}
+use Rattle.std.specs.Prelude.{not, ◌&&◌, ◌||◌, map, Option, Some, None, is_none, option_map, slice_get, if◌then◌else◌}
 use Rattle.std.specs.List.{list_any}
 use Rattle.fpga_text.specs.Bytes.{Bytes, is_empty}
 use Rattle.fpga_text.specs.declared.fault.TextFault.{TextFault}
@@ -10,20 +10,9 @@ use Rattle.fpga_net.specs.Causes.{code_of}
 use Rattle.fpga_net.specs.Codes.{ends_open, is_global, is_ordinary, uses_before}
 use Rattle.fpga_net.specs.Drafts.{IsKept, Progress, last_fault}
 use Rattle.fpga_net.specs.Entries.{entry_of, lacks_driver, lacks_sink, names_in, nets_in}
-use Rattle.fpga_net.specs.Names.{first_seen, names_with}
 use Rattle.fpga_net.specs.Uses.{Use, drivers, nets_of, on_net, sinks}
 use Rattle.fpga_net.specs.Value.{block_of, net_of, netlist_before}
 use Rattle.fpga_net.proofs.EntryLemmas.{names_in-entries}
-use Rattle.fpga_net.proofs.NameLemmas.{first_seen-push}
-
--- names that are added one by one
-pub fold-names_with : (done names : List Bytes)
-    → fold names_with (first_seen done) names ≡ first_seen (done ++ names)
-fold-names_with done [] = sym (ap first_seen (append-nil done))
-fold-names_with done (name ∷ more) =
-    ap (λ ns. fold names_with ns more) (sym (first_seen-push done name))
-    ∙ fold-names_with (done ++ name ∷ []) more
-    ∙ ap first_seen (append_assoc done (name ∷ []) more)
 
 module _ (global : Bytes → Bool) (uses : List Use) where
   driverless : (names : List Bytes) → list_any lacks_driver (map (entry_of global uses) names)

@@ -1,13 +1,13 @@
 -- A netlist that was read is sound.
-use Rattle.std.proofs.Common.{◌≡◌, ◌≢◌, ℕ, zero, suc, ◌+◌, ◌<◌, ◌≤◌, Bool, true, false, cond, List, [], ◌∷◌, ◌++◌, length, get_or, refl, sym, ap, subst, ◌∙◌, append-nil, one-add, inl, inr, arith}
-use Rattle.std.specs.Prelude.{not, ◌&&◌, ◌||◌, All, map, filter, bytes_eq, nat_lt, slice_get, Option, Some, None, IsSome, is_some, option_map, option_to_list, Result, Ok, Err, IfOk}
+use Rattle.std.proofs.Common.{◌≡◌, ℕ, zero, suc, ◌<◌, ◌≤◌, Bool, true, false, cond, List, [], ◌∷◌, ◌++◌, length, refl, sym, ap, subst, ◌∙◌, append-nil, one-add, inl, inr, arith}
+use Rattle.std.specs.Prelude.{not, ◌&&◌, map, filter, bytes_eq, nat_lt, slice_get, Option, Some, None, IsSome, option_map, option_to_list}
 use Rattle.std.specs.List.{IsDistinct, AllByRecursion, enumerate_from, list_any, position_or_len, zip}
 use Rattle.std.specs.Option.{ForSome}
 use Rattle.std.proofs.lemmas.Bool.{le-leb, ltb-true}
 use Rattle.std.proofs.lemmas.List.{length-map}
 use Rattle.std.proofs.lemmas.Map.Made.{IsDistinct-from_AllPairs}
 use Rattle.std.proofs.lemmas.Slice.Eq.{bytes_eq-Decides}
-use Rattle.list_laws.proofs.Members.{In, In-all, In-map, all-from_In, from_In-filter, from_In-filter_map, from_In-flat_map, from_In-map, list_any-from_In}
+use Rattle.list_laws.proofs.Members.{In, In-all, all-from_In, from_In-filter, from_In-filter_map, from_In-flat_map, from_In-map, list_any-from_In}
 use Rattle.list_laws.proofs.Numbered.{from_In-enumerate}
 use Rattle.list_laws.proofs.Places.{get-map}
 use Rattle.fpga_types.specs.declared.arch.Arch.{Arch}

@@ -1,9 +1,9 @@
 //! Which form a line of a netlist text has, by its first word.
-ghost use Rattle.std.specs.Prelude.{◌≡◌, ℕ, List, bytes_eq};
+ghost use Rattle.std.specs.Prelude.{◌≡◌, ℕ, List};
 ghost use Rattle.fpga_net.specs.Forms.{form_by, form_of as form_said_by};
 ghost use Rattle.fpga_net.specs.Lines.{form_said};
 
-use fpga_text::Line;
+use fpga_text::{Line, is_text};
 use fpga_types::BlockKind;
 
 /// The forms of a line.
@@ -55,11 +55,4 @@ fn form_begun(word: &[u8]) -> LineForm
         return LineForm::Globals;
     }
     LineForm::Other
-}
-
-/// Whether a word is this text.
-pub fn is_text(word: &[u8], text: &[u8]) -> bool
-    ensures { result ≡ bytes_eq word.now text.now }
-{
-    word == text
 }

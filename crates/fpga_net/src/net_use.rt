@@ -8,8 +8,8 @@ ghost use Rattle.fpga_net.specs.Codes.{has_pair, share_class};
 ghost use Rattle.fpga_net.specs.NetUses.{use_said};
 ghost use Rattle.fpga_net.specs.Uses.{is_open as means_no_net, pins_of, uses_on};
 
-use crate::forms::is_text;
 use crate::names::NameTable;
+use fpga_text::is_text;
 use fpga_types::{Arch, BlockKind, PinRef, PinSpec, SideSet};
 use std::alloc::{AllocError, Global};
 

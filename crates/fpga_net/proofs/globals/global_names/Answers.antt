@@ -4,7 +4,7 @@ use Rattle.fpga_text.proofs.ReadingLemmas.{next_line-past}
 use Rattle.fpga_net.specs.Codes.{forms_of}
 use Rattle.fpga_net.specs.Forms.{globals_in}
 use Rattle.fpga_net.specs.Names.{names_with}
-use Rattle.fpga_net.proofs.EndLemmas.{fold-names_with}
+use Rattle.fpga_net.proofs.NameLemmas.{fold-names_with}
 use Rattle.fpga_net.proofs.globals.global_names.Goals as goal
 
 pub returns : goal.returns
