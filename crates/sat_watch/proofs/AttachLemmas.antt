@@ -9,9 +9,10 @@ use Rattle.sat_arena.specs.declared.clause_ref.ClauseRef.{ClauseRef}
 use Rattle.sat_arena.specs.Store.{ArePlaced, Stored, changed, is_held, new_clause, ref, size_all, size_of, stored_at, with_link}
 use Rattle.sat_watch.specs.Chains.{HasChain, HasHead, IsAdded, IsChained, IsLast, head_at, head_in, index_of, lit_at, next_by, next_in, next_on, with_head, with_order}
 use Rattle.sat_watch.proofs.ChainLemmas.{head_held, head_set_other, head_set_same, index_within}
-use Rattle.sat_arena.proofs.StoreLaws.{same_or_other}
+use Rattle.sat_arena.proofs.StoreLaws.{held_push, push_held, same_or_other}
 use Rattle.sat_watch.proofs.PathLemmas.{PutsFirst, put_first, same_chain}
 use Rattle.sat_arena.proofs.StoreLaws.{not_held}
+use Rattle.sat_watch.proofs.StoredLemmas.{unmarked_append}
 use Rattle.sat_watch.proofs.WatchLemmas.{apart_first, length_swap, lit_tells, no_next, own_next, simple_swap}
 
 pub absent : (at : ℕ) (ks : List Stored) (c : ClauseRef) → ArePlaced at ks →
@@ -64,7 +65,7 @@ held_push_other (x ∷ ks) k d ne = elim (same_or_other x.place d) [
 ]
 
 module _ (n : ℕ) (ks : List Stored) (heads : List (Option ClauseRef)) (k : Stored)
-    (h : IsChained n ks heads) (simple : IsSimple n k.lits)
+    (h : IsChained n ks heads) (simple : IsSimple n k.lits) (unmarked : k.mark ≡ false)
     (place : k.place ≡ ref (size_all ks)) where
   fresh : is_held ks k.place ≡ false
   fresh =
@@ -91,6 +92,7 @@ module _ (n : ℕ) (ks : List Stored) (heads : List (Option ClauseRef)) (k : Sto
     few = h.few;
     many = h.many;
     placed = now_placed;
+    unmarked = unmarked_append ks (k ∷ []) h.unmarked (unmarked, tt);
     simple = now_simple;
     chains =
         λ l within. same_chain (next_on ks l) (next_on (ks ++ k ∷ []) l) (head_in heads l)
@@ -127,6 +129,7 @@ module _ (n : ℕ) (ks : List Stored) (heads : List (Option ClauseRef)) (k : Sto
         many =
             length-set (set heads (index_of a) (Some k.place)) (index_of b) (Some k.place) ∙ many_a;
         placed = now_placed;
+        unmarked = unmarked_append ks (k ∷ []) h.unmarked (unmarked, tt);
         simple = now_simple;
         chains = λ l within. elim (lit_tells l b) [
           | inl same ↦ subst (λ x. HasChain (next_on (ks ++ k ∷ []) x)
@@ -187,24 +190,6 @@ changed_last f (x ∷ ks) k out = elim (same_or_other x.place k.place) [
   | inr other ↦ rw other.0 (ap (λ l. x ∷ l) (changed_last f ks k (rw other.0 at out)))
 ]
 
-pub held_last : (ks : List Stored) (k : Stored) → is_held (ks ++ k ∷ []) k.place ≡ true
-held_last [] k = elim (same_or_other k.place k.place) [
-  | inl same ↦ rw same.0 refl
-  | inr other ↦ absurd (other.1 refl)
-]
-held_last (x ∷ ks) k = elim (same_or_other x.place k.place) [
-  | inl same ↦ rw same.0 refl
-  | inr other ↦ rw other.0 (held_last ks k)
-]
-
-pub held_front : (ks : List Stored) (k : Stored) (d : ClauseRef) → is_held ks d ≡ true →
-    is_held (ks ++ k ∷ []) d ≡ true
-held_front [] k d held = cc
-held_front (x ∷ ks) k d held = elim (same_or_other x.place d) [
-  | inl same ↦ rw same.0 refl
-  | inr other ↦ rw other.0 (held_front ks k d (rw other.0 at held))
-]
-
 pub last_pushed : (ks all : List Stored) (k : Stored) (c : ClauseRef) → ArePlaced 0 ks →
     k.place ≡ ref (size_all ks) → c ≡ ref (size_all ks) → all ≡ ks ++ k ∷ [] → IsLast ks all k c
 last_pushed ks all k c placed at here is = record {
@@ -215,7 +200,7 @@ last_pushed ks all k c placed at here is = record {
 
 pub last_held : (ks all : List Stored) (k : Stored) (c : ClauseRef) → IsLast ks all k c →
     is_held all c ≡ true
-last_held ks all k c h = subst (λ r. is_held all r ≡ true) h.place (rw h.is (held_last ks k))
+last_held ks all k c h = subst (λ r. is_held all r ≡ true) h.place (rw h.is (push_held ks k))
 
 pub last_stored : (ks all : List Stored) (k : Stored) (c : ClauseRef) → IsLast ks all k c →
     stored_at all c ≡ k
@@ -237,6 +222,7 @@ last_changed f ks all new k c stays h is = record {
 -- with its links set and in front of its two chains, the last clause leaves the chains whole
 module _ (n : ℕ) (ks all new : List Stored) (heads now : List (Option ClauseRef)) (k : Stored)
     (c : ClauseRef) (h : IsChained n ks heads) (simple : IsSimple n k.lits)
+    (unmarked : k.mark ≡ false)
     (two : 2 ≤ length k.lits) (last : IsLast ks all k c) (place : c ≡ ref (size_all ks))
     (links : new ≡ changed (with_link 1 (head_in heads (lit_at k.lits 1))) c
     (changed (with_link 0 (head_in heads (lit_at k.lits 0))) c all))
@@ -265,7 +251,7 @@ module _ (n : ℕ) (ks all new : List Stored) (heads now : List (Option ClauseRe
         let first : lit_at k.lits 0 ≡ a = ap (λ l. lit_at l 0) e in
         let second : lit_at k.lits 1 ≡ b = ap (λ l. lit_at l 1) e in
         let at : linked_clause.place ≡ ref (size_all ks) = last_linked.place ∙ place in
-        let whole = long_attached n ks heads linked_clause h simple at a b ls e
+        let whole = long_attached n ks heads linked_clause h simple unmarked at a b ls e
         (ap (head_in heads) first) (ap (head_in heads) second) in
         let heads_are : now ≡ set (set heads (index_of a) (Some linked_clause.place)) (index_of b)
         (Some linked_clause.place) =
@@ -323,7 +309,7 @@ module _ (n : ℕ) (ks reserved all : List Stored) (heads : List (Option ClauseR
             subst (λ (x : Stored). index_of (lit_at x.lits k) < length heads) (sym stored)
             (omega arith);
         held = λ d e. subst (λ l. is_held l d ≡ true) (sym ordered_last.is)
-            (held_front ks ordered d (head_held n ks heads (lit_at ordered.lits k) d h within
+            (held_push ks ordered d (head_held n ks heads (lit_at ordered.lits k) d h within
             (ap (λ (x : Stored). head_in heads (lit_at x.lits k)) (sym stored) ∙ e)));
       }
 
@@ -345,7 +331,7 @@ module _ (n : ℕ) (ks reserved all : List Stored) (heads : List (Option ClauseR
 
     pub ordered_chained : IsChained n new now
     ordered_chained =
-        linked_chained n ks all new heads now ordered c h simple_ordered long ordered_last
+        linked_chained n ks all new heads now ordered c h simple_ordered refl long ordered_last
         ordered_place links_are fronts_are
 
     pub ordered_added : (spare spare' : ℕ) →
@@ -354,10 +340,10 @@ module _ (n : ℕ) (ks reserved all : List Stored) (heads : List (Option ClauseR
         (swap (swap lits 0 i) 1 j) id c
     ordered_added spare spare' = record {
       clause =
-          linked_clause n ks all new heads now ordered c h simple_ordered long ordered_last
+          linked_clause n ks all new heads now ordered c h simple_ordered refl long ordered_last
           ordered_place links_are fronts_are;
       last =
-          last_linked n ks all new heads now ordered c h simple_ordered long ordered_last
+          last_linked n ks all new heads now ordered c h simple_ordered refl long ordered_last
           ordered_place links_are fronts_are;
       place = ordered_place;
       lits = refl;

@@ -12,7 +12,6 @@ use Rattle.sat_watch.specs.Watched.{IsReason, is_false, other_of, true_at}
 use Rattle.sat_watch.proofs.AttachLemmas.{held_push_other, push_other, push_same}
 use Rattle.sat_watch.proofs.LevelLemmas.{drop_true, not_both, true_is_false}
 use Rattle.sat_arena.proofs.StoreLaws.{same_or_other}
-use Rattle.sat_watch.proofs.PathLemmas.{true_not_false}
 use Rattle.sat_watch.proofs.SettledLemmas.{drop_level}
 use Rattle.sat_clause.proofs.LiteralLaws.{negation-negation}
 use Rattle.sat_watch.proofs.TrailLemmas.{never}
@@ -20,7 +19,7 @@ use Rattle.sat_watch.proofs.TrailLemmas.{never}
 module _ (ks : List Stored) (k : Stored) (fresh : is_held ks k.place ≡ false) where
   held_is_other : (c : ClauseRef) → is_held ks c ≡ true → c ≢ k.place
   held_is_other c held e =
-      true_not_false (is_held ks k.place) (subst (λ r. is_held ks r ≡ true) e held) fresh
+      never (is_held ks k.place) (subst (λ r. is_held ks r ≡ true) e held) fresh
 
   -- reasons stay reasons
   leveled_push : (level : ℕ) (entries : List TrailEntry) → AreLeveled ks level entries →

@@ -3,6 +3,7 @@
 use Rattle.std.proofs.Common.{◌≡◌, ◌≢◌, ℕ, zero, suc, ◌+◌, ◌<◌, ◌≤◌, true, false, ◌⊎◌, inl, inr, List, [], ◌∷◌, ◌++◌, length, map, drop, slice_index_or, Option, None, Some, Contains, refl, sym, ap, ◌∙◌, subst, arith}
 use Rattle.std.proofs.lemmas.List.{map-append}
 use Rattle.std.proofs.lemmas.List.Sorted.{Contains-permutation, IsPermutation-sym, length_permutation}
+use Rattle.sat_clause.specs.declared.limits.TheConstants.{LITERAL_LIMIT}
 use Rattle.sat_clause.specs.declared.literal.Lit.{Lit}
 use Rattle.sat_clause.specs.Learned.{IsSimple}
 use Rattle.sat_clause.specs.Literal.{Clause, negation, variable}
@@ -15,9 +16,10 @@ use Rattle.sat_watch.specs.Levels.{IsDueAt, IsWatchStore, IsWatched}
 use Rattle.sat_watch.specs.Trail.{IsOnce, TrailState}
 use Rattle.sat_watch.specs.Watched.{AreWhole, is_false, true_at}
 use Rattle.sat_watch.specs.Watches.{Attached, Attaches, HasOneOpen, HasOneTrue, HasTwoFree, IsOnlyOne, IsWatches, WatchState, attached, highest, watch_state, words_in}
-use Rattle.sat_watch.proofs.AttachLemmas.{held_last}
+use Rattle.sat_arena.proofs.StoreLaws.{push_held}
 use Rattle.sat_watch.proofs.AttachStoreLemmas.{one_open, one_true, store_attached, store_due, two_free, unit_true}
 use Rattle.sat_watch.proofs.ChoiceLemmas.{at_contains, contained_at, free_level, other_at, single_highest}
+use Rattle.sat_watch.proofs.FewLemmas.{simple_few}
 use Rattle.sat_watch.proofs.LevelLemmas.{true_is_false, true_level}
 use Rattle.sat_watch.proofs.StoredLemmas.{default_free}
 use Rattle.sat_watch.proofs.WatchLemmas.{lit_tells}
@@ -172,7 +174,7 @@ module _ (c c' : ChainsState) (t : TrailState) (q level : ℕ) (lits : Clause) (
               subst (λ (p : List Stored × ClauseRef). IsWatchStore p.0 t.entries q level (Some p.1))
               (λ x. (sym a.added.last.is x, a.added.last.place x))
               (store_due c.clauses a.added.clause fresh t.entries q level h.store
-              (held_last c.clauses a.added.clause)
+              (push_held c.clauses a.added.clause)
               (subst (λ ls. IsDueAt t.entries level ls) (sym a.added.lits) due));
         }
 
@@ -344,3 +346,13 @@ attaches_due old new lits id c a no_other = record {
   where
     due_is : new.due ≡ Some c
     due_is = ap (λ (s : WatchState). s.due) a.is
+
+-- a clause of the watches' variables has not too many literals
+pub few_lits : (c : ChainsState) (t : TrailState) (q level : ℕ) (due : Option ClauseRef)
+    (s : WatchState) (lits : Clause) → IsWatches c t q level due →
+    watch_state c t q level due ≡ s → IsSimple s.vars lits → length lits ≤ LITERAL_LIMIT
+few_lits c t q level due s lits h view simple =
+    let few = simple_few c.vars lits (subst (λ (x : WatchState). IsSimple x.vars lits) (sym view)
+    simple) in
+    let most = h.whole.chained.few in
+    omega arith

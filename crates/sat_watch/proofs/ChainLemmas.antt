@@ -8,12 +8,13 @@ use Rattle.sat_clause.specs.Literal.{IsWithin, is_among, lit, variable}
 use Rattle.sat_arena.specs.declared.clause_ref.ClauseRef.{ClauseRef}
 use Rattle.sat_arena.specs.Store.{ArePlaced, Stored, changed, is_held, link_of, stored_at, with_link, with_swap}
 use Rattle.sat_watch.specs.declared.place.Place.{Place}
-use Rattle.sat_watch.specs.Chains.{holders, ChainsState, AreOnce, HasCursor, HasHead, IsPath, is_in, HasChain, IsChained, IsCursor, IsPlaceOf, IsRewatched, MayBePlaceOf, clause_of, head_in, index_by, index_of, lit_at, next_in, next_on, unlinked, unlinked_heads, with_watch}
+use Rattle.sat_watch.specs.Chains.{holders, AreUnmarked, ChainsState, AreOnce, HasCursor, HasHead, IsPath, is_in, HasChain, IsChained, IsCursor, IsPlaceOf, IsRewatched, MayBePlaceOf, clause_of, head_in, index_by, index_of, lit_at, next_in, next_on, unlinked, unlinked_heads, with_watch}
 use Rattle.sat_arena.proofs.StoreLaws.{same_or_other}
-use Rattle.sat_watch.proofs.PathLemmas.{at_first, last_in_all, once_before, true_not_false, PutsFirst, TakesOut, head_behind, put_first, same_chain, take_out, whole_chain}
+use Rattle.sat_watch.proofs.PathLemmas.{at_first, last_in_all, once_before, PutsFirst, TakesOut, head_behind, put_first, same_chain, take_out, whole_chain}
 use Rattle.sat_arena.proofs.StoreLaws.{changed_other, changed_same, held_changed}
-use Rattle.sat_watch.proofs.StoredLemmas.{counted_changed, placed_changed, ids_changed, length_changed, next_is_held}
+use Rattle.sat_watch.proofs.StoredLemmas.{counted_changed, link_mark, placed_changed, unmarked_changed, ids_changed, length_changed, next_is_held}
 use Rattle.sat_watch.proofs.WatchLemmas.{among_swap, length_swap, Moves, link_other, link_own, lit_tells, moves, simple_swap, goes_on}
+use Rattle.sat_watch.proofs.TrailLemmas.{never}
 
 -- a literal's place in a table tells the literal
 index_tells : (x y : ℤ) → 1 ≤ nat_abs x → 1 ≤ nat_abs y → index_by x ≡ index_by y → x ≡ y
@@ -290,13 +291,15 @@ module _ (n : ℕ) (ks new : List Stored) (f : Lit) (before : Option Place) (at 
       of_option None = head_set_other n heads l f after wl wf lf
       of_option (Some p) = refl
 
-    pub chained_again : (kept rest : List ClauseRef) → ArePlaced 0 new → IsChained n ks heads →
+    pub chained_again : (kept rest : List ClauseRef) → ArePlaced 0 new → AreUnmarked new →
+        IsChained n ks heads →
         IsCursor (next_on ks f) (head_in heads f) kept (at.clause ∷ rest) (clause_of before)
         (Some at.clause) →
         link_of (stored_at ks at.clause) at.which ≡ after → IsChained n new heads_now
-    chained_again kept rest placed h cursor goes = record {
+    chained_again kept rest placed unmarked h cursor goes = record {
       few = h.few;
       placed = placed;
+      unmarked = unmarked;
       many =
           length-set (unlinked_heads f before after heads) (index_of m)
           (Some at.clause) ∙ many_unlinked;
@@ -379,7 +382,7 @@ before_apart ks f head before at cursor p e same =
     subst (λ l. AreOnce (cursor.kept ++ l)) first.1 cursor.is.once in
     let there : is_in cursor.kept p.clause ≡ true =
     last_in_all cursor.kept p.clause (cursor.is.last ∙ ap clause_of e) in
-    true_not_false (is_in cursor.kept at) (subst (λ r. is_in cursor.kept r ≡ true) same there)
+    never (is_in cursor.kept at) (subst (λ r. is_in cursor.kept r ≡ true) same there)
     (once_before cursor.kept at first.0 once)
 
 -- what is linked anew before a place leaves the clause at the place
@@ -525,6 +528,19 @@ module _ (n : ℕ) (ks : List Stored) (heads : List (Option ClauseRef)) (f : Lit
           ks can.chained.placed ok.held
           (ap (λ x. is_among x l) (link_same p.which after (stored_at ks p.clause)))
 
+  now_unmarked : AreUnmarked clauses_after
+  now_unmarked =
+      unmarked_changed (with_link at.which (head_in heads target)) at.clause
+      (changed (with_swap at.which i) at.clause (unlinked before after ks))
+      (link_mark at.which (head_in heads target))
+      (unmarked_changed (with_swap at.which i) at.clause (unlinked before after ks) (λ k. refl)
+      (of_before before)) where
+        of_before : (b : Option Place) → AreUnmarked (unlinked b after ks)
+        of_before None = can.chained.unmarked
+        of_before (Some p) =
+            unmarked_changed (with_link p.which after) p.clause ks (link_mark p.which after)
+            can.chained.unmarked
+
   pub now_chained : IsChained n clauses_after heads_after
   now_chained =
       let first = at_first (next_on ks f) (head_in heads f) can.cursor.kept can.cursor.rest
@@ -532,7 +548,7 @@ module _ (n : ℕ) (ks : List Stored) (heads : List (Option ClauseRef)) (f : Lit
       chained_again n ks clauses_after f before at i after (head_in heads target) can.chained.simple
       can.place can.places can.low can.high rewatched
       heads can.chained.many can.within (refl {a = head_in heads target}) can.cursor.kept first.0
-      now_placed can.chained
+      now_placed now_unmarked can.chained
       (subst (λ l. IsCursor (next_on ks f) (head_in heads f) can.cursor.kept l (clause_of before)
       (Some at.clause)) first.1 can.cursor.is) can.goes
 
@@ -622,6 +638,7 @@ pub empty_chained : (n : ℕ) (ks : List Stored) (heads : List (Option ClauseRef
 empty_chained n ks heads few none is = rw (none, is) (record {
   few = few;
   placed = tt;
+  unmarked = tt;
   many = length-replicate {A = Option ClauseRef} (n * 2) None;
   simple = λ c held. let clash : false ≡ true = held in cc;
   chains = λ l within. record {

@@ -5,9 +5,12 @@ pub mod BackLemmas
 pub mod ChainLemmas
 pub mod ChoiceLemmas
 pub mod FewLemmas
+pub mod ForgetLemmas
 pub mod GoesLemmas
 pub mod LevelLemmas
 pub mod PathLemmas
+pub mod ReasonLemmas
+pub mod RelinkLemmas
 pub mod SettledLemmas
 pub mod StoreLemmas
 pub mod StoredLemmas

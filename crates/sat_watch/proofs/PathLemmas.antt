@@ -4,6 +4,7 @@ use Rattle.std.proofs.lemmas.Bool.{both_ways}
 use Rattle.sat_arena.specs.declared.clause_ref.ClauseRef.{ClauseRef}
 use Rattle.sat_arena.proofs.StoreLaws.{same_or_other}
 use Rattle.sat_watch.specs.Chains.{Next, IsPath, is_in, AreOnce, last_or, IsCursor, HasChain}
+use Rattle.sat_watch.proofs.TrailLemmas.{never}
 
 pub in_here : (c : ClauseRef) (ds : List ClauseRef) → is_in (c ∷ ds) c ≡ true
 in_here c ds = elim (same_or_other c c) [
@@ -116,9 +117,6 @@ in_without xs c d ys ne is = elim (in_both d xs (c ∷ ys) is) [
   ]
 ]
 
-pub true_not_false : (b : Bool) → b ≡ true → b ≡ false → ⊥
-true_not_false b is out = both_ways b out is
-
 -- where two functions agree on its clauses, a path of one is one of the other
 pub path_same : (n n' : Next) (from : Option ClauseRef) (cs : List ClauseRef)
     (to : Option ClauseRef) →
@@ -144,7 +142,7 @@ path_append n from mid to (x ∷ xs) ys front back =
 pub path_goes_on : (n : Next) (from to : Option ClauseRef) (cs : List ClauseRef) (d : ClauseRef) →
     IsPath n from cs to → is_in cs d ≡ true →
     (after : Option ClauseRef) × (n d ≡ Some after)
-path_goes_on n from to [] d path is = absurd (true_not_false false is refl)
+path_goes_on n from to [] d path is = absurd (never false is refl)
 path_goes_on n from to (c ∷ cs) d path is = elim (in_cases d c cs is) [
   | inl same ↦ (path.1.0, ap n (sym same) ∙ path.1.1)
   | inr later ↦ path_goes_on n path.1.0 to cs d path.1.2 later
@@ -241,7 +239,7 @@ relink n n' c p from after x (y ∷ ys) path last out once goes same =
     not_last : (x y : ClauseRef) (ys : List ClauseRef) → is_in (y ∷ ys) x ≡ false →
         last_or (Some y) ys ≡ Some p → x ≢ p
     not_last x y ys out e is =
-        true_not_false (is_in (y ∷ ys) x)
+        never (is_in (y ∷ ys) x)
         (subst (λ r. is_in (y ∷ ys) r ≡ true) (sym is) (last_in y ys p e)) out
 
 some_last : (x : ClauseRef) (xs : List ClauseRef) → (p : ClauseRef) × (last_or (Some x) xs ≡ Some p)
@@ -256,7 +254,7 @@ once_apart : (xs ys : List ClauseRef) (d : ClauseRef) → AreOnce (xs ++ ys) →
     is_in xs d ≡ false
 once_apart [] ys d once is = refl
 once_apart (x ∷ xs) ys d once is = elim (same_or_other x d) [
-  | inl same ↦ absurd (true_not_false (is_in ys x) (subst (λ r. is_in ys r ≡ true) (sym same.1) is)
+  | inl same ↦ absurd (never (is_in ys x) (subst (λ r. is_in ys r ≡ true) (sym same.1) is)
       (not_in_back x xs ys once.0))
   | inr other ↦ not_in_more d x xs other.1 (once_apart xs ys d once.1 is)
 ]
@@ -274,7 +272,7 @@ last_in_all (x ∷ xs) q e = last_in_some x xs q e
 
 not_before : (xs : List ClauseRef) (b : Option ClauseRef) (d : ClauseRef) → last_or None xs ≡ b →
     is_in xs d ≡ false → b ≢ Some d
-not_before xs b d last out e = true_not_false (is_in xs d) (last_in_all xs d (last ∙ e)) out
+not_before xs b d last out e = never (is_in xs d) (last_in_all xs d (last ∙ e)) out
 
 before_or_not : (b : Option ClauseRef) (d : ClauseRef) → (b ≡ Some d) ⊎ (b ≢ Some d)
 before_or_not None d = inr (λ e. cc)
@@ -298,7 +296,7 @@ take_out n n' head kept rest c before after h goes out =
           front_of kept before h.front h.last (once_before kept c rest h.once)
           (once_kept kept (c ∷ rest) h.once) out;
       back = path_same n n' after rest None
-          (λ d is. out.same d (λ e. true_not_false (is_in rest c)
+          (λ d is. out.same d (λ e. never (is_in rest c)
           (subst (λ r. is_in rest r ≡ true) e is) behind)
           (not_before kept before d h.last
           (once_apart kept rest d (once_without kept c rest h.once) is)))
@@ -352,7 +350,7 @@ put_first n n' head c h puts =
             puts.first,
             path_same n n' head h.refs None
                 (λ d there. puts.same d
-                (λ e. true_not_false (is_in h.refs c) (subst (λ r. is_in h.refs r ≡ true) e there)
+                (λ e. never (is_in h.refs c) (subst (λ r. is_in h.refs r ≡ true) e there)
                 absent)) is.back,
           ),
         );

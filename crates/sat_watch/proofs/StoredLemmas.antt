@@ -1,10 +1,10 @@
 -- Looking a clause up by its reference, where one clause changes.
-use Rattle.std.proofs.Common.{◌≡◌, ℕ, zero, suc, ◌+◌, ◌<◌, Bool, true, false, inl, inr, List, [], ◌∷◌, length, get_or, Option, None, Some, refl, sym, ap, ◌∙◌, subst, arith}
+use Rattle.std.proofs.Common.{◌≡◌, ℕ, zero, suc, ◌+◌, ◌<◌, Bool, true, false, inl, inr, List, [], ◌∷◌, ◌++◌, length, get_or, Option, None, Some, refl, sym, ap, ◌∙◌, subst, arith}
 use Rattle.sat_arena.specs.declared.clause_ref.ClauseRef.{ClauseRef}
-use Rattle.sat_arena.specs.Store.{Stored, changed, is_held, stored_at, ArePlaced, size_of}
+use Rattle.sat_arena.specs.Store.{Stored, changed, is_held, stored_at, ArePlaced, size_of, with_link}
 use Rattle.sat_clause.specs.declared.literal.Lit.{Lit}
 use Rattle.sat_arena.proofs.LayoutLemmas.{unchanged}
-use Rattle.sat_watch.specs.Chains.{counted, next_on}
+use Rattle.sat_watch.specs.Chains.{AreUnmarked, counted, next_on}
 use Rattle.sat_arena.proofs.StoreLaws.{Stays, not_held, same_or_other}
 
 -- a clause that a chain goes on from is held
@@ -77,3 +77,23 @@ counted_changed p f c at (k ∷ ks) placed held same = elim (same_or_other k.pla
       (rw other.0 at same) in
       rw (other.0, rest) refl
 ]
+
+-- a change that leaves the marks leaves all clauses unmarked
+pub unmarked_changed : (f : Stored → Stored) (c : ClauseRef) (ks : List Stored) →
+    ((k : Stored) → (f k).mark ≡ k.mark) → AreUnmarked ks → AreUnmarked (changed f c ks)
+unmarked_changed f c [] same un = tt
+unmarked_changed f c (k ∷ ks) same un =
+    let others = unmarked_changed f c ks same un.1 in
+    elim (same_or_other k.place c) [
+      | inl here ↦ rw here.0 (same k ∙ un.0, others)
+      | inr other ↦ rw other.0 (un.0, others)
+    ]
+
+pub unmarked_append : (ks more : List Stored) → AreUnmarked ks → AreUnmarked more →
+    AreUnmarked (ks ++ more)
+unmarked_append [] more un un' = un'
+unmarked_append (k ∷ ks) more un un' = (un.0, unmarked_append ks more un.1 un')
+
+pub link_mark : (w : ℕ) (o : Option ClauseRef) (k : Stored) → (with_link w o k).mark ≡ k.mark
+link_mark zero o k = refl
+link_mark (suc w) o k = refl

@@ -1,6 +1,6 @@
 -- What the tests attach, and what it leaves.
-use Rattle.std.proofs.Common.{◌≡◌, ◌≢◌, ℕ, zero, suc, pos, negsuc, ◌<◌, ◌≤◌, true, inl, inr, List, [], ◌∷◌, ◌++◌, length, get_or, slice_index_or, Result, Ok, Err, refl, sym, ap, ◌∙◌, subst, arith}
-use Rattle.std.specs.Prelude.{IfOk, OnErr}
+use Rattle.std.proofs.Common.{◌≡◌, ◌≢◌, ℕ, zero, suc, pos, negsuc, ◌<◌, ◌≤◌, true, inl, inr, List, [], ◌∷◌, ◌++◌, length, map, get_or, slice_index_or, Result, Ok, Err, refl, sym, ap, ◌∙◌, subst, arith}
+use Rattle.std.specs.Prelude.{IfOk, OnErr, OnOk}
 use Rattle.std.specs.declared.alloc.AllocError.{AllocError}
 use Rattle.std.proofs.lemmas.List.Sorted.{Contains-permutation, IsPermutation-sym}
 use Rattle.sat_clause.specs.declared.literal.Lit.{Lit}
@@ -10,6 +10,7 @@ use Rattle.sat_arena.specs.declared.clause_ref.ClauseRef.{ClauseRef}
 use Rattle.sat_arena.proofs.StoreLaws.{same_or_other}
 use Rattle.sat_watch.specs.declared.entry.TrailEntry.{TrailEntry}
 use Rattle.sat_watch.specs.Chains.{lit_at}
+use Rattle.sat_watch.specs.Forget.{entry_moved, forgotten, moved_to, without}
 use Rattle.sat_watch.specs.Tests.{IsAtStart, IsDueFor, first_decided}
 use Rattle.sat_watch.specs.Watched.{IsReason, is_false}
 use Rattle.sat_watch.specs.Watches.{Attached, Attaches, HasOneOpen, HasTwoFree, IsOnlyOne, WatchState, is_attached, lits_at}
@@ -48,6 +49,7 @@ still_at_start n old new lits id (Ok c) start free ok err =
       vars = ap (λ (s : WatchState). s.vars) is ∙ start.vars;
       trail = ap (λ (s : WatchState). s.trail) is ∙ start.trail;
       queued = ap (λ (s : WatchState). s.queued) is ∙ start.queued;
+      level = ap (λ (s : WatchState). s.level) is ∙ start.level;
       due = ok.not_due (inl free);
     }
 still_at_start n old new lits id (Err e) start free ok err = subst (IsAtStart n) (sym err) start
@@ -59,6 +61,39 @@ is_attached_now old new lits id (Ok c) ok =
     ap (λ (s : WatchState). is_attached s.clauses c) ok.is ∙ last_attached old.clauses
     (record { place = c; id = id; lits = ok.order })
 is_attached_now old new lits id (Err e) ok = ok
+
+front_attached : (ks : List Attached) (k : Attached) (c : ClauseRef) → is_attached ks c ≡ true →
+    is_attached (ks ++ k ∷ []) c ≡ true
+front_attached [] k c is = cc
+front_attached (x ∷ ks) k c is = elim (same_or_other x.place c) [
+  | inl same ↦ rw same.0 refl
+  | inr other ↦ rw other.0 (front_attached ks k c (rw other.0 at is))
+]
+
+pub stays_attached : (old new : WatchState) (lits : Clause) (id : ℕ)
+    (result : Result ClauseRef AllocError) → IfOk result (λ c. Attaches old new lits id c) →
+    OnErr result (new ≡ old) → (d : ClauseRef) → is_attached old.clauses d ≡ true →
+    is_attached new.clauses d ≡ true
+stays_attached old new lits id (Ok c) ok err d is =
+    ap (λ (s : WatchState). is_attached s.clauses d) ok.is ∙ front_attached old.clauses
+    (record { place = c; id = id; lits = ok.order }) d is
+stays_attached old new lits id (Err e) ok err d is =
+    ap (λ (s : WatchState). is_attached s.clauses d) err ∙ is
+
+-- nothing is true after clauses were forgotten
+pub forgets_at_start : (n : ℕ) (old new : WatchState) (refs : List ClauseRef)
+    (result : Result (Unit {0}) AllocError) → IsAtStart n old →
+    OnOk result (new ≡ forgotten refs old) → OnErr result (new ≡ old) → IsAtStart n new
+forgets_at_start n old new refs (Ok u) start ok err = record {
+  vars = ap (λ (s : WatchState). s.vars) ok ∙ start.vars;
+  trail =
+      ap (λ (s : WatchState). s.trail) ok ∙
+      ap (map (entry_moved (moved_to 0 (without refs old.clauses)))) start.trail;
+  queued = ap (λ (s : WatchState). s.queued) ok ∙ start.queued;
+  level = ap (λ (s : WatchState). s.level) ok ∙ start.level;
+  due = ap (λ (s : WatchState). s.due) ok ∙ start.due;
+}
+forgets_at_start n old new refs (Err e) start ok err = subst (IsAtStart n) (sym err) start
 
 abbrev pub implication : Clause
 implication = lit (negsuc 0) ∷ lit (pos 2) ∷ []

@@ -10,12 +10,13 @@ use Rattle.sat_watch.specs.declared.place.Place.{Place}
 use Rattle.sat_watch.specs.Chains.{ChainsState, GoesOn, HasCursor, IsChained, IsCursor, clause_of, head_in, is_in, next_by, next_on, watch_of}
 use Rattle.sat_watch.specs.Watched.{Goes, IsVisited, IsWalking, OtherIsTrue, chain_length}
 use Rattle.sat_watch.proofs.GoesLemmas.{few_refs, goes_trans, grows_true, rest_length}
-use Rattle.sat_watch.proofs.PathLemmas.{at_end, at_first, once_before, path_goes_on, true_not_false}
+use Rattle.sat_watch.proofs.PathLemmas.{at_end, at_first, once_before, path_goes_on}
 use Rattle.sat_arena.proofs.StoreLaws.{not_held}
 use Rattle.sat_watch.proofs.StoredLemmas.{next_is_held}
 use Rattle.sat_watch.proofs.VisitLemmas.{goes_same, grows_refl}
 use Rattle.sat_watch.proofs.WatchLemmas.{lit_tells, own_next, pick}
 use Rattle.sat_clause.proofs.LiteralLaws.{among_here, among_more}
+use Rattle.sat_watch.proofs.TrailLemmas.{never}
 
 -- a clause in a literal's chain has the literal
 next_among : (lits : Clause) (f : Lit) (x y a : Option ClauseRef) → next_by lits f x y ≡ Some a →
@@ -116,7 +117,7 @@ module _ (base : List TrailEntry) (level : ℕ) (f : Lit) (old : List Stored) (s
             kept_true = λ d there. elim (moved.were d there) [
               | inl was ↦
                   let apart : d ≢ at.clause =
-                  λ e. true_not_false (is_in w.kept at.clause)
+                  λ e. never (is_in w.kept at.clause)
                   (subst (λ r. is_in w.kept r ≡ true) e was)
                   (once_before w.kept at.clause first.0 here.once) in
                   rw (visited.others d apart)

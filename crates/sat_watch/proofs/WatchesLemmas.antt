@@ -15,7 +15,7 @@ use Rattle.sat_watch.specs.Trail.{IsOpen, TrailState, falses}
 use Rattle.sat_watch.proofs.FewLemmas.{longer_trail}
 use Rattle.sat_watch.proofs.BackLemmas.{settled_below, settled_now}
 use Rattle.sat_watch.specs.Watched.{AreImplied, AreWhole, Goes, IsReason, is_false}
-use Rattle.sat_watch.specs.Watches.{Attached, HasCause, HasLevels, IsSettledState, IsWatches, IsWithinLooks, holder_count, holder_sum, left_queued, taken_between, Propagates, SameClauses, StandFrom, WatchState, attached, id_at, is_attached, lits_at, watch_state}
+use Rattle.sat_watch.specs.Watches.{AreInPlace, Attached, HasCause, HasLevels, IsSettledState, IsWatches, IsWithinLooks, holder_count, holder_sum, left_queued, taken_between, Propagates, SameClauses, StandFrom, WatchState, attached, id_at, is_attached, lits_at, watch_state}
 use Rattle.sat_arena.proofs.StoreLaws.{same_or_other}
 use Rattle.sat_clause.proofs.LiteralLaws.{among_here, among_more}
 
@@ -42,6 +42,11 @@ attached_id (k ∷ ks) c = elim (same_or_other k.place c) [
   | inl same ↦ rw same.0 refl
   | inr other ↦ rw other.0 (attached_id ks c)
 ]
+
+-- the clauses stand one behind the other
+pub in_place : (at : ℕ) (ks : List Stored) → ArePlaced at ks → AreInPlace at (map attached ks)
+in_place at [] placed = tt
+in_place at (k ∷ ks) placed = (placed.0, in_place (at + size_of k) ks placed.1)
 
 length_attached : (ks : List Stored) → length (map attached ks) ≡ length ks
 length_attached [] = refl
@@ -286,3 +291,23 @@ longer_whole c old new e whole vars is within free = record {
       longer_trail old new e vars is
       (subst (λ n. IsWithin n e.lit) (sym whole.vars) within) free whole.trail;
 }
+
+-- where something is queued and nothing is due
+pub record AtQueue (c : ChainsState) (t : TrailState) (q level : ℕ) (due : Option ClauseRef) :
+    Type 0 where
+  pub none : due ≡ None
+  pub some : 1 ≤ q
+  pub few : q ≤ length t.entries
+  pub store : IsWatchStore c.clauses t.entries q level None
+
+pub at_queue : (c : ChainsState) (t : TrailState) (q level : ℕ) (due : Option ClauseRef)
+    (s : WatchState) → IsWatches c t q level due → watch_state c t q level due ≡ s →
+    s.due ≡ None → 1 ≤ s.queued → AtQueue c t q level due
+at_queue c t q level due s h view quiet some =
+    let none : due ≡ None = ap (λ (x : WatchState). x.due) view ∙ quiet in
+    record {
+      none = none;
+      some = subst (λ (x : WatchState). 1 ≤ x.queued) (sym view) some;
+      few = h.store.few;
+      store = subst (IsWatchStore c.clauses t.entries q level) none h.store;
+    }

@@ -101,12 +101,18 @@ pub record ChainsState : Type 0 where
   pub spare : ℕ
   pub heads : List (Option ClauseRef)
 
--- the chains of all literals are whole
+-- no clause is marked
+abbrev pub AreUnmarked : List Stored → Type 0
+AreUnmarked [] = ⊤
+AreUnmarked (k ∷ ks) = (k.mark ≡ false) × AreUnmarked ks
+
+-- the chains of all literals are whole, and no clause is marked
 pub record IsChained (vars : ℕ) (clauses : List Stored) (heads : List (Option ClauseRef)) : Type 0
   where
     pub few : vars ≤ VARIABLE_LIMIT
     pub many : length heads ≡ vars * 2
     pub placed : ArePlaced 0 clauses
+    pub unmarked : AreUnmarked clauses
     pub simple : (c : ClauseRef) → is_held clauses c ≡ true →
         IsSimple vars (stored_at clauses c).lits
     pub chains : (l : Lit) → IsWithin vars l → HasChain (next_on clauses l) (head_in heads l)

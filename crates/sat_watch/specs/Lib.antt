@@ -1,6 +1,8 @@
 pub mod Chains
 pub mod Choice
+pub mod Forget
 pub mod Levels
+pub mod Relinking
 pub mod Tests
 pub mod Trail
 pub mod TrailStore

@@ -12,6 +12,7 @@ pub record IsAtStart (n : ℕ) (s : WatchState) : Type 0 where
   pub vars : s.vars ≡ n
   pub trail : s.trail ≡ []
   pub queued : s.queued ≡ 0
+  pub level : s.level ≡ 0
   pub due : s.due ≡ None
 
 -- of two variables the first is decided, without a clause

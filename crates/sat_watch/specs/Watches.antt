@@ -5,7 +5,7 @@ use Rattle.sat_clause.specs.declared.literal.Lit.{Lit}
 use Rattle.sat_clause.specs.Literal.{Clause, is_among, negation}
 use Rattle.sat_clause.specs.Rup.{reading_of}
 use Rattle.sat_arena.specs.declared.clause_ref.ClauseRef.{ClauseRef}
-use Rattle.sat_arena.specs.Store.{Stored}
+use Rattle.sat_arena.specs.Store.{Stored, ref}
 use Rattle.sat_watch.specs.declared.entry.TrailEntry.{TrailEntry}
 use Rattle.sat_watch.specs.Levels.{IsWatchStore, due_without, upto}
 use Rattle.sat_clause.specs.Settled.{IsQuiet}
@@ -45,6 +45,12 @@ lits_at (k ∷ ks) c = if k.place.word == c.word then k.lits else lits_at ks c
 abbrev pub id_at : List Attached → ClauseRef → ℕ
 id_at [] c = 0
 id_at (k ∷ ks) c = if k.place.word == c.word then k.id else id_at ks c
+
+-- the first clause stands at this word, and each next one behind the literals of the one before and
+-- six words
+abbrev pub AreInPlace : ℕ → List Attached → Type 0
+AreInPlace at [] = ⊤
+AreInPlace at (k ∷ ks) = (k.place ≡ ref at) × AreInPlace (at + (length k.lits + 6)) ks
 
 -- at level j no clause is false, and none has one open literal and all others false
 abbrev pub IsSettledAt : WatchState → ℕ → Type 0

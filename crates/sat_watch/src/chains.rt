@@ -1,16 +1,20 @@
 //! The clauses, and the chains of those that watch a literal.
 
-ghost use Rattle.std.specs.Prelude.{◌≡◌, ◌≢◌, ◌+◌, ◌*◌, ◌<◌, ◌≤◌, ◌∷◌, [], List, length, slice_set, swap, true, IfOk, OnErr, Some};
+ghost use Rattle.std.specs.Prelude.{◌≡◌, ◌≢◌, ◌<◌, ◌≤◌, ◌∷◌, [], List, length, map, swap, true, All, IfOk, OnErr, OnOk, Some};
 ghost use Rattle.sat_clause.specs.declared.literal.Lit.{Lit};
 ghost use Rattle.sat_clause.specs.Learned.{IsSimple};
-ghost use Rattle.sat_clause.specs.Literal.{IsWithin, variable as variable_of};
+ghost use Rattle.sat_clause.specs.Literal.{IsWithin};
 ghost use Rattle.sat_arena.specs.declared.clause_ref.ClauseRef.{ClauseRef};
-ghost use Rattle.sat_arena.specs.Store.{ArePlaced, changed, is_held, link_of, new_clause, ref, size_all, stored_at, with_link, with_swap, IsLinkTo};
-ghost use Rattle.sat_watch.specs.Chains.{AreChained, GoesOn, HasCursor, HasHead, IsAdded, IsCursor, IsLast, IsPlaceOf, IsRewatched, MayBePlaceOf, clause_of, head_at, head_in, holders, index_of, literals, next_on, unlinked, unlinked_heads, with_head, with_order};
+ghost use Rattle.sat_arena.specs.Compact.{AreRising, moves_of};
+ghost use Rattle.sat_arena.specs.Store.{is_held, link_of, stored_at};
+ghost use Rattle.sat_watch.specs.Chains.{AreChained, GoesOn, HasCursor, IsAdded, IsCursor, IsPlaceOf, IsRewatched, MayBePlaceOf, clause_of, head_at, head_in, holders, literals, next_on};
 ghost use Rattle.sat_watch.specs.Choice.{IsAhead, after_first as after_first_of};
+ghost use Rattle.sat_watch.specs.Relinking.{marked, stored_without};
+ghost use Rattle.sat_watch.specs.Watches.{attached};
 
+use crate::links::{index, link_all, link_first, mark_all, push_ordered, put_first, unlink};
 use crate::place::Place;
-use sat_arena::{Arena, ClauseRef};
+use sat_arena::{Arena, ClauseRef, Moves};
 use sat_clause::{LITERAL_LIMIT, Lit, VARIABLE_LIMIT};
 use std::alloc::{AllocError, Global};
 use std::marker::Model;
@@ -36,105 +40,6 @@ impl Model for Chains {
     } };
 
     ghost invariant = { λ c. IsChained c.vars c.arena.clauses c.heads.items };
-}
-
-/// The place of a literal in a table.
-fn index(l: Lit) -> usize
-    requires { 1 ≤ variable_of l }
-    ensures { result ≡ index_of l }
-{
-    let plain = (l.variable() as usize - 1) * 2;
-    if l.code > 0 {
-        return plain;
-    }
-    plain + 1
-}
-
-/// Links what stands before a clause in a literal's chain to what stands after it.
-fn unlink(
-    arena: &mut Arena,
-    heads: &mut Vec<Option<ClauseRef>>,
-    f: Lit,
-    before: Option<Place>,
-    after: Option<ClauseRef>,
-)
-    requires literal { 1 ≤ variable_of f }
-    requires within { index_of f < length heads.old.items }
-    requires place { MayBePlaceOf arena.old.clauses f before }
-    requires after { IsLinkTo arena.old.clauses after }
-    ensures clauses { arena.new.clauses ≡ unlinked before after arena.old.clauses }
-    ensures spare { arena.new.spare ≡ arena.old.spare }
-    ensures heads { heads.new.items ≡ unlinked_heads f before after heads.old.items }
-{
-    let Some(p) = before else {
-        heads[index(f)] = after;
-        return;
-    };
-    arena.set_link(p.clause, p.which, after);
-}
-
-/// Swaps the literal at a position of a clause to the place, and puts the clause in front of that
-/// literal's chain.
-fn put_first(arena: &mut Arena, heads: &mut Vec<Option<ClauseRef>>, at: Place, k: u32)
-    requires held { is_held arena.old.clauses at.clause ≡ true }
-    requires which { at.which < 2 }
-    requires low { 2 ≤ k }
-    requires high { k < length (literals arena.old.clauses at.clause) }
-    requires head { HasHead arena.old.clauses heads.old.items at.clause k }
-    ensures clauses { arena.new.clauses
-        ≡ changed (with_link at.which (head_at arena.old.clauses heads.old.items at.clause k))
-        at.clause (changed (with_swap at.which k) at.clause arena.old.clauses) }
-    ensures spare { arena.new.spare ≡ arena.old.spare }
-    ensures heads { heads.new.items ≡ with_head arena.old.clauses heads.old.items at.clause k }
-{
-    let lits = arena.lits(at.clause);
-    let first = index(lits[k as usize]);
-    arena.swap(at.clause, at.which, k);
-    arena.set_link(at.clause, at.which, heads[first]);
-    heads[first] = Some(at.clause);
-}
-
-/// Puts a clause behind the others, with the literal at position `i` first, and then the one that
-/// stands at position `j` second.
-fn push_ordered(arena: &mut Arena, lits: &[Lit], id: u32, i: u32, j: u32) -> ClauseRef
-    requires placed { ArePlaced 0 arena.old.clauses }
-    requires few { length lits.now ≤ LITERAL_LIMIT }
-    requires room { length lits.now + 6 ≤ arena.old.spare }
-    requires i { i < length lits.now }
-    requires j { j < length lits.now }
-    requires two { 2 ≤ length lits.now }
-    ensures last { IsLast arena.old.clauses arena.new.clauses
-        (with_order i j (new_clause (ref (size_all arena.old.clauses)) id lits.now)) result }
-    ensures place { result ≡ ref (size_all arena.old.clauses) }
-{
-    let c = arena.push(lits, id);
-    arena.swap(c, 0, i);
-    arena.swap(c, 1, j);
-    c
-}
-
-/// Puts a clause in front of the chains of its first two literals.
-fn link_first(arena: &mut Arena, heads: &mut Vec<Option<ClauseRef>>, c: ClauseRef)
-    requires held { is_held arena.old.clauses c ≡ true }
-    requires two { 2 ≤ length (literals arena.old.clauses c) }
-    requires first { HasHead arena.old.clauses heads.old.items c 0 }
-    requires second { HasHead arena.old.clauses heads.old.items c 1 }
-    ensures clauses { arena.new.clauses
-        ≡ changed (with_link 1 (head_at arena.old.clauses heads.old.items c 1)) c
-        (changed (with_link 0 (head_at arena.old.clauses heads.old.items c 0)) c
-        arena.old.clauses) }
-    ensures spare { arena.new.spare ≡ arena.old.spare }
-    ensures heads { heads.new.items
-        ≡ with_head arena.old.clauses (with_head arena.old.clauses heads.old.items c 0) c 1 }
-{
-    let lits = arena.lits(c);
-    let first = index(lits[0]);
-    let second = index(lits[1]);
-    let (to_first, to_second) = (heads[first], heads[second]);
-    arena.set_link(c, 0, to_first);
-    arena.set_link(c, 1, to_second);
-    heads[first] = Some(c);
-    heads[second] = Some(c);
 }
 
 /// Where what stood at position `j` stands, once the one at position `i` has changed places with
@@ -275,6 +180,35 @@ impl Chains {
             return Place { clause, which: 0 };
         }
         Place { clause, which: 1 }
+    }
+
+    /// Takes these clauses out. The others close up, and chains and heads are made anew.
+    ///
+    /// # Errors
+    /// Where memory is short; the chains are then as they were.
+    pub(crate) fn remove(
+        &mut self,
+        alloc: Global,
+        clauses: &[ClauseRef],
+    ) -> Result<Moves, AllocError>
+        requires held { All (λ c. is_held self.old.clauses c ≡ true) clauses.now }
+        ensures vars { self.new.vars ≡ self.old.vars }
+        ensures clauses { OnOk result (map attached self.new.clauses
+            ≡ map attached (stored_without clauses.now self.old.clauses)) }
+        ensures moves { IfOk result
+            (λ m. m ≡ moves_of (marked true clauses.now self.old.clauses)) }
+        ensures rising { IfOk result (AreRising 0) }
+        ensures chained { AreChained self.new }
+        ensures err { OnErr result (self.new ≡ self.old) }
+    {
+        mark_all(&mut self.arena, clauses, true);
+        let Ok(moves) = self.arena.compact(alloc) else {
+            mark_all(&mut self.arena, clauses, false);
+            return Err(AllocError);
+        };
+        self.heads.fill(None);
+        link_all(&mut self.arena, &mut self.heads, &moves, self.vars);
+        Ok(moves)
     }
 
     /// Moves the watch of a clause from the literal at a place to the one at position `k`: it

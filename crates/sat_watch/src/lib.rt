@@ -10,12 +10,14 @@
 //! false. A way back changes neither chains nor watches.
 //!
 //! A clause of one literal stands in no chain; it may be attached where that literal is true or
-//! becomes true at level 0.
+//! becomes true at level 0. Clauses that are no reasons can be forgotten at level 0: the others
+//! close up in the arena, and all chains are made anew.
 #![tactic(auto)]
 
 mod chains;
 mod choice;
 mod entry;
+mod links;
 mod place;
 mod sight;
 #[cfg(test)]

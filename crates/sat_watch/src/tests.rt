@@ -1,6 +1,7 @@
 //! Chains, trails and due clauses as worked out by hand.
 
 ghost use Rattle.std.specs.Prelude.{◌≡◌, ◌≢◌, ◌<◌, ◌≤◌, pos, true, IfOk, length, None};
+ghost use Rattle.sat_arena.specs.declared.clause_ref.ClauseRef.{ClauseRef};
 ghost use Rattle.sat_clause.specs.Learned.{IsSimple};
 ghost use Rattle.sat_clause.specs.Literal.{IsWithin, lit, variable as variable_of};
 ghost use Rattle.sat_watch.specs.Tests.{IsAtStart, IsDueFor, first_decided};
@@ -49,8 +50,19 @@ fn attach(watches: &mut Watches, vars: u32, lits: &[Lit], id: u32) -> Result<Cla
     requires two { 2 ≤ length lits.now }
     ensures start { IsAtStart vars watches.new }
     ensures attached { IfOk result (λ c. is_attached watches.new.clauses c ≡ true) }
+    ensures kept { (c : ClauseRef) → is_attached watches.old.clauses c ≡ true
+        → is_attached watches.new.clauses c ≡ true }
 {
     watches.attach(lits, id)
+}
+
+/// Forgets a clause, named twice, where nothing is true.
+fn forget(watches: &mut Watches, alloc: Global, vars: u32, c: ClauseRef) -> Result<(), AllocError>
+    requires start { IsAtStart vars watches.old }
+    requires attached { is_attached watches.old.clauses c ≡ true }
+    ensures { IsAtStart vars watches.new }
+{
+    watches.forget(alloc, &[c, c])
 }
 
 /// Goes back to level 0, where nothing is true.
@@ -61,6 +73,7 @@ fn start_again(rt: &impl Abort, watches: &mut Watches, vars: u32)
     ensures { IsAtStart vars watches.new }
 {
     watches.back_to(0);
+    assert_eq!(rt; watches.level(), 0);
     assert!(rt; watches.trail().is_empty());
 }
 
@@ -99,6 +112,26 @@ fn third_literal_is_not_looked_at(rt: HostRuntime) -> Result<(), Fail> {
     watches.assume(Lit { code: -1 });
     assert!(rt; watches.propagate(&mut looks).is_none());
     assert_eq!(rt; looks, 0);
+    Ok(())
+}
+
+/// A clause that is gone makes nothing true, and the one behind it has taken its place.
+#[test]
+fn clause_is_forgotten(rt: HostRuntime) -> Result<(), Fail> {
+    let mut looks = 0;
+    let mut watches = start(rt.alloc(), 3)?;
+    attach(&mut watches, 3, &two(3, 1, 2), 1)?;
+    let c = attach(&mut watches, 3, &two(3, -2, 3), 2)?;
+    let d = attach(&mut watches, 3, &two(3, -2, -3), 3)?;
+    assert_eq!(rt; d.word, 16);
+    forget(&mut watches, rt.alloc(), 3, c)?;
+    watches.assume(Lit { code: -1 });
+    assert!(rt; watches.propagate(&mut looks).is_none());
+    assert_eq!(rt; watches.value(Lit { code: 2 }), Some(true));
+    assert_eq!(rt; watches.value(Lit { code: 3 }), Some(false));
+    let trail = watches.trail();
+    assert_eq!(rt; trail.len(), 3);
+    assert_eq!(rt; trail[2].reason, Some(ClauseRef { word: 8 }));
     Ok(())
 }
 

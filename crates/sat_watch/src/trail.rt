@@ -1,12 +1,15 @@
 //! The literals that a search has made true, in order.
 
-ghost use Rattle.std.specs.Prelude.{◌≡◌, ◌≤◌, ◌∷◌, [], ℕ, length, drop, reverse, slice_index_or, true, false, ◌<◌, IfNone, IfOk, IfSome, Some};
+ghost use Rattle.std.specs.Prelude.{◌≡◌, ◌≤◌, ◌∷◌, [], ℕ, length, drop, map, reverse, slice_index_or, true, false, ◌<◌, IfNone, IfOk, IfSome, Some};
 ghost use Rattle.sat_clause.specs.Literal.{IsLiteral, IsWithin, is_among, negation};
-ghost use Rattle.sat_watch.specs.Trail.{AreWithin, fallen, value_in, IsOnce, IsOpen, falses};
+ghost use Rattle.sat_arena.specs.Compact.{AreRising, moved_by};
+ghost use Rattle.sat_watch.specs.Forget.{entry_moved};
+ghost use Rattle.sat_watch.specs.Trail.{IsOpen, fallen, falses, value_in};
 ghost use Rattle.sat_watch.specs.TrailStore.{place_of};
 ghost use Rattle.sat_watch.specs.Watched.{true_at};
 
 use crate::entry::TrailEntry;
+use sat_arena::Moves;
 use sat_clause::{Lit, VARIABLE_LIMIT};
 use std::alloc::{AllocError, Global};
 use std::marker::Model;
@@ -40,6 +43,30 @@ fn place(vars: u32, l: Lit) -> usize
     ensures { result ≡ place_of vars l }
 {
     (vars as i32 + l.code) as usize
+}
+
+/// The entry with its reason at the reference that the moves give for it.
+fn moved(entry: TrailEntry, moves: &Moves) -> TrailEntry
+    requires { AreRising 0 moves.now }
+    ensures { result ≡ entry_moved (moved_by moves.now) entry }
+{
+    let Some(reason) = entry.reason else {
+        return entry;
+    };
+    TrailEntry {
+        reason: moves.after(reason),
+        ..entry
+    }
+}
+
+/// Moves the reasons of all these entries.
+fn move_all(entries: &mut [TrailEntry], moves: &Moves)
+    requires { AreRising 0 moves.now }
+    ensures { entries.new ≡ map (entry_moved (moved_by moves.now)) entries.old }
+{
+    for entry in entries.iter_mut() {
+        *entry = moved(*entry, moves);
+    }
 }
 
 impl Trail {
@@ -147,6 +174,16 @@ impl Trail {
         while self.is_above(level) {
             let _entry = self.pop();
         }
+    }
+
+    /// Moves each reason to the reference that the moves give for it.
+    pub(crate) fn move_reasons(&mut self, moves: &Moves)
+        requires { AreRising 0 moves.now }
+        ensures vars { self.new.vars ≡ self.old.vars }
+        ensures entries { self.new.entries
+            ≡ map (entry_moved (moved_by moves.now)) self.old.entries }
+    {
+        move_all(&mut self.entries, moves);
     }
 
     /// Whether the newest entry is of a level above this one.

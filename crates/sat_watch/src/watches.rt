@@ -1,15 +1,16 @@
 //! Clauses, the literals that are true, and what the clauses make true.
 
-ghost use Rattle.std.specs.Prelude.{◌≡◌, ◌≢◌, ◌+◌, ◌-◌, ◌<◌, ◌≤◌, [], ◌∷◌, IfNone, IfOk, IfSome, OnErr, length, reverse, true, false, None, Some};
+ghost use Rattle.std.specs.Prelude.{◌≡◌, ◌≢◌, ◌+◌, ◌-◌, ◌<◌, ◌≤◌, [], ◌∷◌, All, IfNone, IfOk, IfSome, OnErr, OnOk, length, reverse, true, false, None, Some};
 ghost use Rattle.sat_clause.specs.declared.literal.Lit.{Lit};
 ghost use Rattle.sat_clause.specs.Learned.{IsSimple};
 ghost use Rattle.sat_clause.specs.Literal.{IsWithin};
 ghost use Rattle.sat_watch.specs.Chains.{lit_at};
 ghost use Rattle.sat_watch.specs.Choice.{IsAttachedAs, IsTrueAt};
+ghost use Rattle.sat_watch.specs.Forget.{IsNoReason, OthersMove, OthersStay, forgotten};
 ghost use Rattle.sat_watch.specs.Levels.{due_without as due_without_of};
 ghost use Rattle.sat_watch.specs.Trail.{AreWithin, IsOpen, IsOnce, value_in};
 ghost use Rattle.sat_watch.specs.Watched.{IsReason, is_false, true_at, AreFalse};
-ghost use Rattle.sat_watch.specs.Watches.{Attaches, HasLevels, IsOnlyOne, MayAttach, highest, IsSettledAt, IsSettledState, IsWithinLooks, Propagates, assumed, gone_back, id_at, implied, is_attached, left_queued, lits_at};
+ghost use Rattle.sat_watch.specs.Watches.{AreInPlace, Attaches, HasLevels, IsOnlyOne, MayAttach, highest, IsSettledAt, IsSettledState, IsWithinLooks, Propagates, assumed, gone_back, id_at, implied, is_attached, left_queued, lits_at};
 
 use crate::chains::Chains;
 use crate::choice::{free_position, highest_position};
@@ -29,7 +30,7 @@ use std::marker::Model;
 /// the clauses are *settled*, that is, none is false and none has one open literal and all others
 /// false; and so they are at the current level, where nothing is queued or due.
 ///
-/// Only [`Watches::new`] and [`Watches::attach`] take memory.
+/// Only [`Watches::new`], [`Watches::attach`] and [`Watches::forget`] take memory.
 #[derive(Drop)]
 pub struct Watches {
     chains: Chains,
@@ -95,6 +96,7 @@ impl Watches {
     pub fn value(&self, l: Lit) -> Option<bool>
         requires within { IsWithin self.now.vars l }
         ensures value { result ≡ value_in self.now.trail l }
+        ensures open { IfNone result (IsOpen self.now.trail l) }
     {
         self.trail.value(l)
     }
@@ -121,11 +123,13 @@ impl Watches {
     }
 
     /// The literals of a clause, lent where they stand; the first two are watched. It costs one
-    /// load.
+    /// load. The first clause has the reference 0, and each next one stands behind the literals of
+    /// the one before and 6 words, so that all are found by their lengths.
     pub fn lits(&self, c: ClauseRef) -> &[Lit]
         requires attached { is_attached self.now.clauses c ≡ true }
         ensures value { result.now ≡ lits_at self.now.clauses c }
         ensures simple { IsSimple self.now.vars result.now }
+        ensures placed { AreInPlace 0 self.now.clauses }
     {
         self.chains.lits(c)
     }
@@ -273,6 +277,33 @@ impl Watches {
         self.queued = 0;
         self.level = level;
         self.due = None;
+    }
+
+    /// Takes these clauses out, at level 0, where nothing is queued or due and none of them is a
+    /// reason. The list may name a clause twice.
+    ///
+    /// The others close up in their order, each with its id and its literals: the first has the
+    /// reference 0, and each next one stands behind the literals of the one before and 6 words. The
+    /// reasons of the trail move with them. All chains are made anew: it costs time linear in the
+    /// arena and the variables, and for each reason a binary search.
+    ///
+    /// # Errors
+    /// Where there is no memory for a pair of references of each clause that stays; nothing has
+    /// changed then.
+    pub fn forget(&mut self, alloc: Global, clauses: &[ClauseRef]) -> Result<(), AllocError>
+        requires level { self.old.level ≡ 0 }
+        requires empty { self.old.queued ≡ 0 }
+        requires quiet { self.old.due ≡ None }
+        requires attached { All (λ c. is_attached self.old.clauses c ≡ true) clauses.now }
+        requires no_reason { All (IsNoReason self.old.trail) clauses.now }
+        ensures ok { OnOk result (self.new ≡ forgotten clauses.now self.old) }
+        ensures others { OnOk result (OthersMove clauses.now self.old.clauses self.new.clauses) }
+        ensures left { OnOk result (OthersStay clauses.now self.old.clauses self.new.clauses) }
+        ensures err { OnErr result (self.new ≡ self.old) }
+    {
+        let moves = self.chains.remove(alloc, clauses)?;
+        self.trail.move_reasons(&moves);
+        Ok(())
     }
 
     /// Takes the oldest literal from the queue and walks along the chain of its negation. Gives a

@@ -1,6 +1,6 @@
 use Rattle.std.proofs.Common.{sym, inl, subst}
 use Rattle.sat_clause.specs.Learned.{IsSimple}
-use Rattle.sat_watch.proofs.TestLemmas.{free_at_start, is_attached_now, still_at_start}
+use Rattle.sat_watch.proofs.TestLemmas.{free_at_start, is_attached_now, stays_attached, still_at_start}
 use Rattle.sat_watch.proofs.tests.attach.Goals as goal
 
 pub attach-requires : goal.attach-requires
@@ -24,4 +24,7 @@ returns c =
           c.attach.ensures.ok c.attach.ensures.err;
       attached = is_attached_now a.watches.now c.attach.new.self a.lits.now a.id c.attach.result
           c.attach.ensures.ok;
+      kept =
+          stays_attached a.watches.now c.attach.new.self a.lits.now a.id c.attach.result
+          c.attach.ensures.ok c.attach.ensures.err;
     }

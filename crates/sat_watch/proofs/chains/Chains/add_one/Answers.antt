@@ -17,7 +17,7 @@ invariant_of-self-2 c =
     let given : IsSimple i.vars a.lits.now = subst (λ (s : ChainsState). IsSimple s.vars a.lits.now)
     (sym c.self.view_is) c.requires.simple in
     subst (λ l. IsChained i.vars l heads) (sym is)
-    (short_attached i.vars ks heads k h given refl (omega (arith, c.requires.one)))
+    (short_attached i.vars ks heads k h given refl refl (omega (arith, c.requires.one)))
 
 pub returns-clause-chained : goal.returns-clause-chained
 returns-clause-chained c =
@@ -31,7 +31,7 @@ returns-clause-chained c =
     let given : IsSimple i.vars a.lits.now = subst (λ (s : ChainsState). IsSimple s.vars a.lits.now)
     (sym c.self.view_is) c.requires.simple in
     subst (λ l. IsChained i.vars l heads) (sym is)
-    (short_attached i.vars ks heads k h given refl (omega (arith, c.requires.one)))
+    (short_attached i.vars ks heads k h given refl refl (omega (arith, c.requires.one)))
 
 pub returns-clause-ok : goal.returns-clause-ok
 returns-clause-ok c =

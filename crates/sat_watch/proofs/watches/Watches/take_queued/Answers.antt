@@ -3,9 +3,8 @@ use Rattle.sat_clause.specs.Literal.{variable}
 use Rattle.sat_arena.specs.declared.clause_ref.ClauseRef.{ClauseRef}
 use Rattle.sat_watch.specs.Levels.{IsWatchStore}
 use Rattle.sat_watch.specs.Watched.{is_false}
-use Rattle.sat_watch.specs.Watches.{WatchState}
 use Rattle.sat_watch.proofs.LevelLemmas.{store_stopped, store_taken}
-use Rattle.sat_watch.proofs.WatchesLemmas.{at_false, attached_held, attached_lits, step_looks, step_propagates}
+use Rattle.sat_watch.proofs.WatchesLemmas.{at_false, at_queue, attached_held, attached_lits, step_looks, step_propagates}
 use Rattle.sat_watch.proofs.watches.Watches.take_queued.Goals as goal
 
 pub negation-requires : goal.negation-requires
@@ -14,15 +13,10 @@ negation-requires c =
 
 pub walk-found-requires-clause-is_false : goal.walk-found-requires-clause-is_false
 walk-found-requires-clause-is_false c =
-    let i = c.self.inside in
-    let t = c.at-entry.result in
-    let none : i.due ≡ None = ap (λ (s : WatchState). s.due) c.self.view_is ∙ c.requires.quiet in
-    let some_queued : 1 ≤ i.queued = subst (λ (s : WatchState). 1 ≤ s.queued) (sym c.self.view_is)
-    c.requires.some in
-    let h : IsWatchStore i.chains.clauses i.trail.entries i.queued i.level None =
-    subst (IsWatchStore i.chains.clauses i.trail.entries i.queued i.level) none
-    c.self.invariant.store in
-    let few = h.few in
+    let i = c.self.inside in let t = c.at-entry.result in
+    let q = at_queue i.chains i.trail i.queued i.level i.due c.args.self.now c.self.invariant
+    c.self.view_is c.requires.quiet c.requires.some in
+    let some_queued = q.some in let few = q.few in
     let is_out : is_false i.trail.entries c.negation.result ≡ true =
     rw c.negation.ensures.value
     (at_false i.trail.entries (i.queued - 1) t (omega arith) c.at-entry.ensures.value) in
@@ -30,15 +24,10 @@ walk-found-requires-clause-is_false c =
 
 pub invariant_of-self : goal.invariant_of-self
 invariant_of-self c =
-    let i = c.self.inside in
-    let t = c.at-entry.result in
-    let none : i.due ≡ None = ap (λ (s : WatchState). s.due) c.self.view_is ∙ c.requires.quiet in
-    let some_queued : 1 ≤ i.queued = subst (λ (s : WatchState). 1 ≤ s.queued) (sym c.self.view_is)
-    c.requires.some in
-    let h : IsWatchStore i.chains.clauses i.trail.entries i.queued i.level None =
-    subst (IsWatchStore i.chains.clauses i.trail.entries i.queued i.level) none
-    c.self.invariant.store in
-    let few = h.few in
+    let i = c.self.inside in let t = c.at-entry.result in
+    let q = at_queue i.chains i.trail i.queued i.level i.due c.args.self.now c.self.invariant
+    c.self.view_is c.requires.quiet c.requires.some in
+    let some_queued = q.some in let few = q.few in
     let is_out : is_false i.trail.entries c.negation.result ≡ true =
     rw c.negation.ensures.value
     (at_false i.trail.entries (i.queued - 1) t (omega arith) c.at-entry.ensures.value) in
@@ -53,24 +42,19 @@ invariant_of-self c =
       whole = c.walk-found.ensures.whole;
       store =
           subst (λ (p : ℕ × Option ClauseRef). IsWatchStore c.walk-found.new.chains.clauses
-          c.walk-found.new.trail.entries p.0 i.level p.1) (λ x. (count x, sym none x))
+          c.walk-found.new.trail.entries p.0 i.level p.1) (λ x. (count x, sym q.none x))
           (store_stopped i.chains.clauses c.walk-found.new.chains.clauses i.trail.entries
-          c.walk-found.new.trail.entries i.queued i.level c.negation.result h go
+          c.walk-found.new.trail.entries i.queued i.level c.negation.result q.store go
           c.walk-found.ensures.whole.trail.once
           some is_out);
     }
 
 pub invariant_of-self-2 : goal.invariant_of-self-2
 invariant_of-self-2 c =
-    let i = c.self.inside in
-    let t = c.at-entry.result in
-    let none : i.due ≡ None = ap (λ (s : WatchState). s.due) c.self.view_is ∙ c.requires.quiet in
-    let some_queued : 1 ≤ i.queued = subst (λ (s : WatchState). 1 ≤ s.queued) (sym c.self.view_is)
-    c.requires.some in
-    let h : IsWatchStore i.chains.clauses i.trail.entries i.queued i.level None =
-    subst (IsWatchStore i.chains.clauses i.trail.entries i.queued i.level) none
-    c.self.invariant.store in
-    let few = h.few in
+    let i = c.self.inside in let t = c.at-entry.result in
+    let q = at_queue i.chains i.trail i.queued i.level i.due c.args.self.now c.self.invariant
+    c.self.view_is c.requires.quiet c.requires.some in
+    let some_queued = q.some in let few = q.few in
     let is_out : is_false i.trail.entries c.negation.result ≡ true =
     rw c.negation.ensures.value
     (at_false i.trail.entries (i.queued - 1) t (omega arith) c.at-entry.ensures.value) in
@@ -86,9 +70,9 @@ invariant_of-self-2 c =
       whole = c.walk-found.ensures.whole;
       store =
           subst (λ (p : ℕ × Option ClauseRef). IsWatchStore c.walk-found.new.chains.clauses
-          c.walk-found.new.trail.entries p.0 i.level p.1) (λ x. (count x, sym none x))
+          c.walk-found.new.trail.entries p.0 i.level p.1) (λ x. (count x, sym q.none x))
           (store_taken i.chains.clauses c.walk-found.new.chains.clauses i.trail.entries
-          c.walk-found.new.trail.entries i.queued i.level c.negation.result h go
+          c.walk-found.new.trail.entries i.queued i.level c.negation.result q.store go
           c.walk-found.ensures.whole.trail.once
           some is_out (i.queued - 1) t before c.at-entry.ensures.value c.negation.ensures.value
           c.in_default.ensures.none);
@@ -96,40 +80,22 @@ invariant_of-self-2 c =
 
 pub returns-in-Some-clause-propagates : goal.returns-in-Some-clause-propagates
 returns-in-Some-clause-propagates c =
-    let i = c.self.inside in
-    let t = c.at-entry.result in
-    let none : i.due ≡ None = ap (λ (s : WatchState). s.due) c.self.view_is ∙ c.requires.quiet in
-    let some_queued : 1 ≤ i.queued = subst (λ (s : WatchState). 1 ≤ s.queued) (sym c.self.view_is)
-    c.requires.some in
-    let h : IsWatchStore i.chains.clauses i.trail.entries i.queued i.level None =
-    subst (IsWatchStore i.chains.clauses i.trail.entries i.queued i.level) none
-    c.self.invariant.store in
-    let few = h.few in
-    let is_out : is_false i.trail.entries c.negation.result ≡ true =
-    rw c.negation.ensures.value
-    (at_false i.trail.entries (i.queued - 1) t (omega arith) c.at-entry.ensures.value) in
+    let i = c.self.inside in let t = c.at-entry.result in
+    let q = at_queue i.chains i.trail i.queued i.level i.due c.args.self.now c.self.invariant
+    c.self.view_is c.requires.quiet c.requires.some in
     step_propagates c.args.self.now i.chains c.walk-found.new.chains i.trail c.walk-found.new.trail
     i.queued (i.queued + (c.len.result - c.len-before.result)) i.level i.due c.negation.result
-    c.self.view_is none c.walk-found.ensures.vars c.walk-found.ensures.whole.chained.placed
+    c.self.view_is q.none c.walk-found.ensures.vars c.walk-found.ensures.whole.chained.placed
     c.walk-found.ensures.goes
 
 pub returns-clause-propagates : goal.returns-clause-propagates
 returns-clause-propagates c =
-    let i = c.self.inside in
-    let t = c.at-entry.result in
-    let none : i.due ≡ None = ap (λ (s : WatchState). s.due) c.self.view_is ∙ c.requires.quiet in
-    let some_queued : 1 ≤ i.queued = subst (λ (s : WatchState). 1 ≤ s.queued) (sym c.self.view_is)
-    c.requires.some in
-    let h : IsWatchStore i.chains.clauses i.trail.entries i.queued i.level None =
-    subst (IsWatchStore i.chains.clauses i.trail.entries i.queued i.level) none
-    c.self.invariant.store in
-    let few = h.few in
-    let is_out : is_false i.trail.entries c.negation.result ≡ true =
-    rw c.negation.ensures.value
-    (at_false i.trail.entries (i.queued - 1) t (omega arith) c.at-entry.ensures.value) in
+    let i = c.self.inside in let t = c.at-entry.result in
+    let q = at_queue i.chains i.trail i.queued i.level i.due c.args.self.now c.self.invariant
+    c.self.view_is c.requires.quiet c.requires.some in
     step_propagates c.args.self.now i.chains c.walk-found.new.chains i.trail c.walk-found.new.trail
     i.queued (i.queued + (c.len.result - c.len-before.result) - 1) i.level i.due c.negation.result
-    c.self.view_is none c.walk-found.ensures.vars c.walk-found.ensures.whole.chained.placed
+    c.self.view_is q.none c.walk-found.ensures.vars c.walk-found.ensures.whole.chained.placed
     c.walk-found.ensures.goes
 
 pub returns-in-Some-clause-attached : goal.returns-in-Some-clause-attached
@@ -143,21 +109,11 @@ returns-in-Some-clause-stopped c =
 
 pub returns-in-Some-clause-looks : goal.returns-in-Some-clause-looks
 returns-in-Some-clause-looks c =
-    let i = c.self.inside in
-    let t = c.at-entry.result in
-    let none : i.due ≡ None = ap (λ (s : WatchState). s.due) c.self.view_is ∙ c.requires.quiet in
-    let some_queued : 1 ≤ i.queued = subst (λ (s : WatchState). 1 ≤ s.queued) (sym c.self.view_is)
-    c.requires.some in
-    let h : IsWatchStore i.chains.clauses i.trail.entries i.queued i.level None =
-    subst (IsWatchStore i.chains.clauses i.trail.entries i.queued i.level) none
-    c.self.invariant.store in
-    let few = h.few in
-    let is_out : is_false i.trail.entries c.negation.result ≡ true =
-    rw c.negation.ensures.value
-    (at_false i.trail.entries (i.queued - 1) t (omega arith) c.at-entry.ensures.value) in
+    let i = c.self.inside in let t = c.at-entry.result in
+    let q = at_queue i.chains i.trail i.queued i.level i.due c.args.self.now c.self.invariant
+    c.self.view_is c.requires.quiet c.requires.some in
+    let some_queued = q.some in let few = q.few in
     let go = c.walk-found.ensures.goes in
-    let some : 1 ≤ variable c.negation.result =
-    rw c.negation.ensures.variable c.at-entry.ensures.within.0 in
     let len = c.len.ensures in let was = c.len-before.ensures in
     let longer = ap length go.grows.is ∙ length-append go.grows.added i.trail.entries in
     step_looks c.args.self.now i.chains c.walk-found.new.chains i.trail c.walk-found.new.trail
@@ -168,21 +124,11 @@ returns-in-Some-clause-looks c =
 
 pub returns-clause-looks : goal.returns-clause-looks
 returns-clause-looks c =
-    let i = c.self.inside in
-    let t = c.at-entry.result in
-    let none : i.due ≡ None = ap (λ (s : WatchState). s.due) c.self.view_is ∙ c.requires.quiet in
-    let some_queued : 1 ≤ i.queued = subst (λ (s : WatchState). 1 ≤ s.queued) (sym c.self.view_is)
-    c.requires.some in
-    let h : IsWatchStore i.chains.clauses i.trail.entries i.queued i.level None =
-    subst (IsWatchStore i.chains.clauses i.trail.entries i.queued i.level) none
-    c.self.invariant.store in
-    let few = h.few in
-    let is_out : is_false i.trail.entries c.negation.result ≡ true =
-    rw c.negation.ensures.value
-    (at_false i.trail.entries (i.queued - 1) t (omega arith) c.at-entry.ensures.value) in
+    let i = c.self.inside in let t = c.at-entry.result in
+    let q = at_queue i.chains i.trail i.queued i.level i.due c.args.self.now c.self.invariant
+    c.self.view_is c.requires.quiet c.requires.some in
+    let some_queued = q.some in let few = q.few in
     let go = c.walk-found.ensures.goes in
-    let some : 1 ≤ variable c.negation.result =
-    rw c.negation.ensures.variable c.at-entry.ensures.within.0 in
     let len = c.len.ensures in let was = c.len-before.ensures in
     let longer = ap length go.grows.is ∙ length-append go.grows.added i.trail.entries in
     step_looks c.args.self.now i.chains c.walk-found.new.chains i.trail c.walk-found.new.trail

@@ -3,7 +3,7 @@ use Rattle.sat_arena.specs.Store.{stored_at, with_swap}
 use Rattle.sat_watch.specs.Chains.{index_of, head_in, lit_at}
 use Rattle.sat_arena.proofs.StoreLaws.{held_changed}
 use Rattle.sat_watch.proofs.StoredLemmas.{default_free}
-use Rattle.sat_watch.proofs.chains.put_first.Goals as goal
+use Rattle.sat_watch.proofs.links.put_first.Goals as goal
 
 pub set_link-requires-clause-held : goal.set_link-requires-clause-held
 set_link-requires-clause-held c =

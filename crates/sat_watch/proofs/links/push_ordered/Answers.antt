@@ -3,7 +3,7 @@ use Rattle.sat_arena.specs.Store.{Stored, new_clause, ref, size_all, with_swap}
 use Rattle.sat_watch.specs.Chains.{IsLast}
 use Rattle.sat_watch.proofs.AttachLemmas.{last_changed, last_held, last_pushed, last_stored}
 use Rattle.sat_watch.proofs.WatchLemmas.{length_swap}
-use Rattle.sat_watch.proofs.chains.push_ordered.Goals as goal
+use Rattle.sat_watch.proofs.links.push_ordered.Goals as goal
 
 pub swap-requires : goal.swap-requires
 swap-requires c =

@@ -3,7 +3,7 @@ use Rattle.sat_arena.specs.Store.{stored_at, with_link}
 use Rattle.sat_watch.specs.Chains.{head_in, index_of, lit_at}
 use Rattle.sat_arena.proofs.StoreLaws.{held_changed}
 use Rattle.sat_watch.proofs.StoredLemmas.{default_free}
-use Rattle.sat_watch.proofs.chains.link_first.Goals as goal
+use Rattle.sat_watch.proofs.links.link_first.Goals as goal
 
 pub set_link-requires-2-clause-held : goal.set_link-requires-2-clause-held
 set_link-requires-2-clause-held c =

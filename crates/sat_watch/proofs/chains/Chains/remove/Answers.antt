@@ -1,0 +1,75 @@
+use Rattle.std.proofs.Common.{◌≡◌, ◌*◌, rules, List, None, All, true, false, vec_len, replicate, sym, ap, ◌∙◌, subst, arith}
+use Rattle.sat_arena.specs.declared.moves.Move.{Move}
+use Rattle.sat_arena.specs.Compact.{compacted, moves_of}
+use Rattle.sat_arena.specs.Store.{Store, Stored, is_held}
+use Rattle.sat_watch.specs.Chains.{ChainsState, IsChained}
+use Rattle.sat_watch.specs.Relinking.{AreRefsOf, AreUnlinked, marked}
+use Rattle.sat_watch.proofs.ForgetLemmas.{refs_without, unlinked_without, unmarked_again}
+use Rattle.sat_watch.proofs.RelinkLemmas.{marked_held}
+use Rattle.sat_watch.proofs.chains.Chains.remove.Goals as goal
+
+pub mark_all-requires-in_default : goal.mark_all-requires-in_default
+mark_all-requires-in_default c =
+    let ks = c.self.inside.arena.clauses in let refs = c.args.clauses.now in
+    let held : All (λ r. is_held ks r ≡ true) refs =
+    subst (λ (s : ChainsState). All (λ r. is_held s.clauses r ≡ true) refs) (sym c.self.view_is)
+    c.requires.held in
+    record {
+      held =
+          λ k d lt. rw (c.in_default.ensures.err, c.mark_all.ensures.clauses)
+          (marked_held true refs ks _ ∙ held k d lt);
+    }
+
+pub invariant_of-self : goal.invariant_of-self
+invariant_of-self c =
+    let i = c.self.inside in let ks = i.arena.clauses in let refs = c.args.clauses.now in
+    let same : c.mark_all-in_default.new.arena.clauses ≡ ks =
+    c.mark_all-in_default.ensures.clauses ∙
+    (ap (λ (s : Store). marked false refs s.clauses) c.in_default.ensures.err ∙
+    (ap (marked false refs) c.mark_all.ensures.clauses ∙ unmarked_again refs ks
+    c.self.invariant.unmarked)) in
+    subst (λ l. IsChained i.vars l i.heads.items) (sym same) c.self.invariant
+
+pub returns-in_default-clause-chained : goal.returns-in_default-clause-chained
+returns-in_default-clause-chained c =
+    let i = c.self.inside in let ks = i.arena.clauses in let refs = c.args.clauses.now in
+    let same : c.mark_all-in_default.new.arena.clauses ≡ ks =
+    c.mark_all-in_default.ensures.clauses ∙
+    (ap (λ (s : Store). marked false refs s.clauses) c.in_default.ensures.err ∙
+    (ap (marked false refs) c.mark_all.ensures.clauses ∙ unmarked_again refs ks
+    c.self.invariant.unmarked)) in
+    subst (λ l. IsChained i.vars l i.heads.items) (sym same) c.self.invariant
+
+pub returns-in_default-clause-err : goal.returns-in_default-clause-err
+returns-in_default-clause-err c =
+    let i = c.self.inside in let ks = i.arena.clauses in let refs = c.args.clauses.now in
+    let same : c.mark_all-in_default.new.arena.clauses ≡ ks =
+    c.mark_all-in_default.ensures.clauses ∙
+    (ap (λ (s : Store). marked false refs s.clauses) c.in_default.ensures.err ∙
+    (ap (marked false refs) c.mark_all.ensures.clauses ∙ unmarked_again refs ks
+    c.self.invariant.unmarked)) in
+    let spare : c.mark_all-in_default.new.arena.spare ≡ i.arena.spare =
+    c.mark_all-in_default.ensures.spare ∙
+    (ap (λ (s : Store). s.spare) c.in_default.ensures.err ∙ c.mark_all.ensures.spare) in
+    (λ x. record { vars = i.vars; clauses = same x; spare = spare x; heads = i.heads.items }) ∙
+    c.self.view_is
+
+pub link_all-requires : goal.link_all-requires
+link_all-requires c =
+    let i = c.self.inside in let ks = i.arena.clauses in let refs = c.args.clauses.now in
+    let h = c.self.invariant in
+    let is : c.compact.new.self.clauses ≡ compacted (marked true refs ks) =
+    c.in-Ok.ensures.clauses ∙ ap compacted c.mark_all.ensures.clauses in
+    let moves : c.in-Ok.moves ≡ moves_of (marked true refs ks) =
+    c.in-Ok.ensures.pairs ∙ ap moves_of c.mark_all.ensures.clauses in
+    let long : vec_len i.heads ≡ i.vars * 2 = omega (arith, i.heads.ok.0, h.many) in
+    let empty : c.fill.new.self.items ≡ replicate (i.vars * 2) None =
+    c.fill.ensures.items (search rules) ∙ ap (λ n. replicate n None) long in
+    record {
+      unlinked =
+          subst (λ l. AreUnlinked i.vars l c.fill.new.self.items) (sym is)
+          (unlinked_without i.vars ks i.heads.items h refs c.fill.new.self.items empty);
+      references =
+          subst (λ (p : List Stored × List Move). AreRefsOf p.0 p.1)
+          (λ x. (sym is x, sym moves x)) (refs_without i.vars ks i.heads.items h refs);
+    }

@@ -1,0 +1,66 @@
+use Rattle.std.proofs.Common.{◌≡◌, ℕ, List, map, Option, None, All, true, sym, ap, ◌∙◌, subst}
+use Rattle.sat_arena.specs.declared.clause_ref.ClauseRef.{ClauseRef}
+use Rattle.sat_arena.specs.declared.moves.Move.{Move}
+use Rattle.sat_arena.specs.Compact.{moved_by}
+use Rattle.sat_watch.specs.Forget.{IsNoReason, OthersMove, OthersStay, forgotten}
+use Rattle.sat_watch.specs.Watches.{IsWatches, WatchState, attached, is_attached}
+use Rattle.sat_watch.proofs.ForgetLemmas.{others_move, others_stay, state_forgotten, watches_forgotten}
+use Rattle.sat_watch.proofs.WatchesLemmas.{attached_held}
+use Rattle.sat_watch.proofs.watches.Watches.forget.Goals as goal
+
+pub remove-requires : goal.remove-requires
+remove-requires c =
+    let i = c.self.inside in let refs = c.args.clauses.now in
+    let all : All (λ r. is_attached (map attached i.chains.clauses) r ≡ true) refs =
+    subst (λ (s : WatchState). All (λ r. is_attached s.clauses r ≡ true) refs) (sym c.self.view_is)
+    c.requires.attached in
+    record { held = λ k d lt. sym (attached_held i.chains.clauses _) ∙ all k d lt }
+
+pub invariant_of-self-2 : goal.invariant_of-self-2
+invariant_of-self-2 c =
+    let i = c.self.inside in let refs = c.args.clauses.now in
+    let to = moved_by c.in_ok-moves.moves in
+    let queued : i.queued ≡ 0 =
+    ap (λ (s : WatchState). s.queued) c.self.view_is ∙ c.requires.empty in
+    let level : i.level ≡ 0 =
+    ap (λ (s : WatchState). s.level) c.self.view_is ∙ c.requires.level in
+    let none : i.due ≡ None = ap (λ (s : WatchState). s.due) c.self.view_is ∙ c.requires.quiet in
+    let h : IsWatches i.chains i.trail 0 0 None =
+    subst (λ (p : ℕ × ℕ × Option ClauseRef). IsWatches i.chains i.trail p.0 p.1 p.2)
+    (λ x. (queued x, level x, none x)) c.self.invariant in
+    let free : All (IsNoReason i.trail.entries) refs =
+    subst (λ (s : WatchState). All (IsNoReason s.trail) refs) (sym c.self.view_is)
+    c.requires.no_reason in
+    subst (λ (p : ℕ × ℕ × Option ClauseRef).
+    IsWatches c.remove.new.self c.move_reasons.new.self p.0 p.1 p.2)
+    (λ x. (sym queued x, sym level x, sym none x))
+    (watches_forgotten i.chains c.remove.new.self i.trail c.move_reasons.new.self refs to
+    (λ r. ap (λ (ms : List Move). moved_by ms r) c.in_ok-moves.ensures.moves)
+    c.self.invariant.whole.chained c.in_ok-moves.ensures.vars c.in_ok-moves.ensures.clauses
+    c.move_reasons.ensures.entries h c.in_ok-moves.ensures.chained
+    c.move_reasons.ensures.vars free)
+
+pub returns-clause-ok : goal.returns-clause-ok
+returns-clause-ok c =
+    let i = c.self.inside in let refs = c.args.clauses.now in
+    let to = moved_by c.in_ok-moves.moves in
+    state_forgotten i.chains c.remove.new.self i.trail c.move_reasons.new.self refs to
+    (λ r. ap (λ (ms : List Move). moved_by ms r) c.in_ok-moves.ensures.moves)
+    c.self.invariant.whole.chained c.in_ok-moves.ensures.vars c.in_ok-moves.ensures.clauses
+    c.move_reasons.ensures.entries i.queued i.level i.due ∙ ap (forgotten refs) c.self.view_is
+
+pub returns-clause-others : goal.returns-clause-others
+returns-clause-others c =
+    let i = c.self.inside in let refs = c.args.clauses.now in
+    subst (λ (s : WatchState). OthersMove refs s.clauses
+    (map attached c.remove.new.self.clauses)) c.self.view_is
+    (others_move i.chains.vars i.chains.clauses i.chains.heads c.self.invariant.whole.chained refs
+    c.remove.new.self.clauses c.in_ok-moves.ensures.clauses)
+
+pub returns-clause-left : goal.returns-clause-left
+returns-clause-left c =
+    let i = c.self.inside in let refs = c.args.clauses.now in
+    subst (λ (s : WatchState). OthersStay refs s.clauses
+    (map attached c.remove.new.self.clauses)) c.self.view_is
+    (others_stay i.chains.vars i.chains.clauses i.chains.heads c.self.invariant.whole.chained refs
+    c.remove.new.self.clauses c.in_ok-moves.ensures.clauses)
