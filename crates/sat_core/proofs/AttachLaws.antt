@@ -89,10 +89,6 @@ one_literal [] l few at = cc
 one_literal (x ∷ []) l few at = let same : x ≡ l = cc in ap (λ (y : Lit). y ∷ []) same
 one_literal (x ∷ y ∷ ys) l few at = absurd (omega (arith, few))
 
-pub no_literal : (xs : Clause) → slice_get xs 0 ≡ None → xs ≡ []
-no_literal [] at = refl
-no_literal (x ∷ xs) at = cc
-
 only_literal : (trail : List TrailEntry) (l : Lit) → is_false trail l ≡ false
     → IsOnlyOne trail (l ∷ []) l
 only_literal trail l free = (

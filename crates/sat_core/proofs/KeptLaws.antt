@@ -181,11 +181,6 @@ module _ (kept live : Live) (are : AreKept kept live) where
         true_kept values satisfied (suc k) c (inputs_live k c here) c_in;
   }
 
--- a kept id is one of a live clause
-pub kept_below : (id : ℕ) (kept live : Live) → AreKept kept live → AreBelow id live → AreBelow id
-    kept
-kept_below id kept live are below n c at = let d = are.are_live n c at in below n d.0 d.1
-
 none_at : (o : Option Clause) → ((c : Clause) → o ≡ Some c → ⊥) → o ≡ None
 none_at None never_some = refl
 none_at (Some c) never_some = absurd (never_some c refl)

@@ -1,22 +1,21 @@
 -- A clause that comes of a false one and of marked reasons follows by them; an asserting one is
 -- new, and the trail that is cut back to it is again one of the clauses.
 use Rattle.std.specs.Prelude.{nat_le}
-use Rattle.std.proofs.Common.{inl, inr, ◌⊎◌, ◌≡◌, ◌≢◌, ◌==◌, ◌<◌, ◌≤◌, ◌-◌, ℕ, zero, suc, ℤ, pos, Bool, true, false, cond, List, [], ◌∷◌, ◌++◌, Option, None, Some, slice_get, Contains, All, refl, sym, ap, ◌∙◌, subst, arith}
-use Rattle.std.proofs.lemmas.Bool.{both_ways, eq-eqb, false_from_ne_true, leb-true, le-leb}
+use Rattle.std.proofs.Common.{inl, inr, ◌⊎◌, ◌≡◌, ◌≢◌, ◌<◌, ◌≤◌, ◌-◌, ℕ, zero, suc, ℤ, pos, Bool, true, false, List, [], ◌∷◌, ◌++◌, Option, None, Some, slice_get, Contains, All, refl, sym, ap, ◌∙◌, subst, arith}
+use Rattle.std.proofs.lemmas.Bool.{both_ways, false_from_ne_true, leb-true, le-leb}
 use Rattle.std.proofs.lemmas.List.{append_assoc, append-nil}
-use Rattle.std.proofs.lemmas.List.Elements.{All-cons, All-contains, All-contains_itself, All-filter, All-head, All-tail, All-weaker, filter_passes}
+use Rattle.std.proofs.lemmas.List.Elements.{All-contains, All-contains_itself, All-filter, All-head, All-tail, All-weaker, filter_passes}
 use Rattle.sat_clause.specs.declared.literal.Lit.{Lit}
 use Rattle.sat_clause.specs.declared.reading.Reading.TheVariants.{Conflict, Unit}
 use Rattle.sat_clause.specs.Learned.{IsFresh}
-use Rattle.sat_clause.specs.Literal.{Clause, IsWithin, is_among, negation, variable}
-use Rattle.sat_clause.specs.Live.{Live, clause_at, named, put}
+use Rattle.sat_clause.specs.Literal.{Clause, is_among, negation, variable}
+use Rattle.sat_clause.specs.Live.{Live, clause_at, named}
 use Rattle.sat_clause.specs.Rup.{Reads, reading_of, rup}
-use Rattle.sat_clause.specs.Settled.{IsQuiet}
 use Rattle.sat_clause.specs.Trail.{IsOnce, IsOpen}
 use Rattle.sat_clause.proofs.LiteralLaws.{among_cases, among_contains, among_here, among_more, contains_among, variable_negation}
-use Rattle.sat_clause.proofs.ReadingLaws.{IsFalseOr, all_conflict, follow_conflict, follow_unit, not_quiet, open_is_unit, two_open, unit_is_open}
+use Rattle.sat_clause.proofs.ReadingLaws.{IsFalseOr, all_conflict, follow_conflict, follow_unit, not_quiet, open_is_unit, unit_is_open}
 use Rattle.sat_core.specs.Levels.{AreAccounted, AreCaused, Assigned, HasCause, IsAccounted, IsAsserting, IsDerived, IsFalseFrom, IsMarked, IsSettledBelow, IsSettledTrail, level_of, lits_of, made_false, marked_ids, marked_reason, up_to}
-use Rattle.sat_core.proofs.LevelLaws.{caused_back, caused_put, in_made_false, level_back, levels_back, not_in_made_false, once_back, only_entry, open_from_entries, settled_more, up_to_lower}
+use Rattle.sat_core.proofs.LevelLaws.{in_made_false, not_in_made_false, only_entry, open_from_entries}
 
 -- HINTS
 
@@ -231,65 +230,9 @@ module _ (clauses : Live) (trail : List Assigned) (level back : ℕ) (first : Li
       (all_false_or j (omega (arith, below))) has) old all)
       (settled j under id old at)
 
-  -- at the levels from `back` on it makes its first literal true
-  asserting_is_unit : (j : ℕ) → back ≤ j → j < level → reading_of (made_false (up_to j trail))
-      clause ≡ Unit first
-  asserting_is_unit j most below =
-      open_is_unit (made_false (up_to j trail)) first clause (record {
-        has = asserts.has;
-        free = later_open j level first below asserts.last;
-        rest = all_false_or j most;
-      }) (later_not_true j level first below asserts.last)
-
-  differ : (l : Lit) → IsFalseFrom trail back l → first ≢ l
-  differ l from same =
-      let e : Assigned = asserts.last.0 in
-      let f : Assigned = from.0 in
-      let one : e ≡ f = only_entry trail once e f asserts.last.1 from.1
-      (sym (variable_negation e.lit) ∙ ap variable (asserts.last.2 ∙ same ∙ sym from.2) ∙
-      variable_negation f.lit) in
-      let at : level ≡ back = sym asserts.last.3 ∙ ap (λ (x : Assigned). x.level) one ∙ from.3 in
-      absurd (omega (arith, at, asserts.below))
-
-  -- and below it two of its literals are open
-  quiet_below : (j : ℕ) → j < back → IsQuiet (reading_of (made_false (up_to j trail)) clause)
-  quiet_below j below =
-      let high = asserts.highest (omega (arith, below)) in
-      let q : Lit = high.0 in
-      two_open (made_false (up_to j trail)) first q clause asserts.has high.1 (differ q high.2)
-      (later_open j level first (omega (arith, below, asserts.below)) asserts.last)
-      (later_open j back q below high.2)
-
-  -- so behind the way back the clauses are settled below `back`, the new one among them
-  settled_behind : (id : ℕ) → IsSettledBelow clauses trail level → IsSettledBelow
-      (put clauses id clause) (up_to back trail) back
-  settled_behind id settled j below i c at =
-      rw (up_to_lower j back trail (omega (arith, below))) (by (i == id) refl at)
-    where
-      by : (b : Bool) → (i == id) ≡ b → cond b (Some clause) (clause_at clauses i) ≡ Some c →
-          IsQuiet (reading_of (made_false (up_to j trail)) c)
-      by true is e =
-          let same : clause ≡ c = cc in
-          subst (λ (x : Clause). IsQuiet (reading_of (made_false (up_to j trail)) x)) same
-          (quiet_below j below)
-      by false is e = settled j (omega (arith, below, asserts.below)) i c e
-
 module _ (clauses : Live) (vars : ℕ) (trail : List Assigned) (back : ℕ) (first : Lit)
     (clause : Clause) (holds : IsSettledTrail clauses vars trail)
     (asserts : IsAsserting trail (level_of trail) back first clause) where
-  -- the new entry
-  abbrev pub asserted : ℕ → Assigned
-  asserted id = record { lit = first; level = back; reason = Some id }
-
-  first_within : IsWithin vars first
-  first_within =
-      let e : Assigned = asserts.last.0 in
-      let e_in : IsWithin vars e.lit = All-contains (λ (f : Assigned). IsWithin vars f.lit) trail e
-      holds.within asserts.last.1 in
-      let same : variable first ≡ variable e.lit = ap variable (sym asserts.last.2) ∙
-      variable_negation e.lit in
-      (omega (arith, same, e_in.0), omega (arith, same, e_in.1))
-
   pub first_is_open : IsOpen (lits_of (up_to back trail)) first
   first_is_open =
       open_from_entries (up_to back trail) first (λ f has.
@@ -302,35 +245,3 @@ module _ (clauses : Live) (vars : ℕ) (trail : List Assigned) (back : ℕ) (fir
       (All-contains_itself trail)) has in
       later_other clauses trail (level_of trail) back first clause holds.once asserts back
       (level_of trail) first asserts.below asserts.last f there low)
-
-  -- the trail behind it is one of the clauses with the new one
-  pub settled_again : (id : ℕ) → clause_at clauses id ≡ None →
-      IsSettledTrail (put clauses id clause) vars (asserted id ∷ up_to back trail)
-  settled_again id new =
-      let level : level_of (up_to back trail) ≡ back = level_back back trail holds.levels
-      (omega (arith, asserts.below)) in
-      let here : (id == id) ≡ true = eq-eqb id id refl in
-      let unit : reading_of (made_false (up_to back trail)) clause ≡ Unit first =
-      asserting_is_unit clauses trail (level_of trail) back first clause holds.once asserts back
-      (omega arith) asserts.below in
-      let cause : HasCause (put clauses id clause) (up_to back trail) first (Some id) = rw here unit
-      in
-      let below : IsSettledBelow (put clauses id clause) (asserted id ∷ up_to back trail) back =
-      settled_more (put clauses id clause) (asserted id) (up_to back trail)
-      (settled_behind clauses trail (level_of trail) back first clause holds.once asserts id
-      holds.settled) in
-      record {
-        once = (first_is_open, once_back back trail holds.once holds.levels);
-        within = All-cons (λ (f : Assigned). IsWithin vars f.lit) (asserted id) (up_to back trail)
-            first_within
-            (All-filter (λ (e : Assigned). nat_le e.level back)
-            (λ (f : Assigned). IsWithin vars f.lit) trail holds.within);
-        caused = (
-          cause,
-          caused_put clauses id clause (up_to back trail) new
-              (caused_back clauses back trail holds.levels holds.caused),
-        );
-        levels = (sym level, levels_back back trail holds.levels);
-        settled = subst (λ (j : ℕ). IsSettledBelow (put clauses id clause)
-            (asserted id ∷ up_to back trail) j) (sym level) below;
-      }

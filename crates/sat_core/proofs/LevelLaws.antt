@@ -1,19 +1,13 @@
 -- A trail by levels: cut back, over more clauses, and with one entry more.
 use Rattle.std.specs.Prelude.{nat_le}
-use Rattle.std.proofs.Common.{inl, inr, ◌≡◌, ◌≢◌, ◌==◌, ◌<◌, ◌≤◌, ℕ, zero, suc, Bool, true, false, cond, List, [], ◌∷◌, Option, None, Some, Contains, All, refl, sym, ap, ◌∙◌, subst, arith}
-use Rattle.std.proofs.lemmas.Bool.{both_ways, cases_eq, cases_lt, eqb-true, leb-true, le-leb}
+use Rattle.std.proofs.Common.{inl, inr, ◌≡◌, ◌≢◌, ◌<◌, ◌≤◌, ℕ, zero, suc, Bool, true, false, List, [], ◌∷◌, Option, None, Some, Contains, All, refl, sym, ap, ◌∙◌, subst, arith}
+use Rattle.std.proofs.lemmas.Bool.{cases_lt, leb-true, le-leb}
 use Rattle.std.proofs.lemmas.List.Elements.{All-cons, All-head, All-nil, All-tail, All-weaker}
 use Rattle.sat_clause.specs.declared.literal.Lit.{Lit}
-use Rattle.sat_clause.specs.declared.reading.Reading.TheVariants.{Unit}
-use Rattle.sat_clause.specs.Literal.{Clause, IsWithin, is_among, negation, variable}
-use Rattle.sat_clause.specs.Live.{Live, clause_at, put}
-use Rattle.sat_clause.specs.Rup.{Reads, reading_of}
-use Rattle.sat_clause.specs.Settled.{IsQuiet}
+use Rattle.sat_clause.specs.Literal.{is_among, negation, variable}
 use Rattle.sat_clause.specs.Trail.{IsOnce, IsOpen}
 use Rattle.sat_clause.proofs.LiteralLaws.{among_here, among_more, among_other}
-use Rattle.sat_clause.proofs.ReadingLaws.{unit_is_open}
-use Rattle.sat_clause.proofs.TrailLaws.{is_open}
-use Rattle.sat_core.specs.Levels.{AreCaused, AreLevels, AreSettled, Assigned, HasCause, IsSettledAt, IsSettledBelow, IsSettledTrail, after_entry, level_of, lits_of, made_false, up_to}
+use Rattle.sat_core.specs.Levels.{AreLevels, Assigned, after_entry, level_of, lits_of, made_false, up_to}
 
 -- ONE ENTRY OF A VARIABLE
 
@@ -97,23 +91,6 @@ not_in_made_false j (x ∷ xs) l other =
         (other x (zero, omega arith, refl) is) ∙ rest)
     by false is rest = rw is rest
 
-pub up_to_lower : (j back : ℕ) (trail : List Assigned) → j ≤ back → up_to j (up_to back trail) ≡
-    up_to j trail
-up_to_lower j back [] most = refl
-up_to_lower j back (x ∷ xs) most = by (nat_le x.level back) refl (nat_le x.level j) refl
-    (up_to_lower j back xs most)
-  where
-    by : (a : Bool) → nat_le x.level back ≡ a → (b : Bool) → nat_le x.level j ≡ b → up_to j
-        (up_to back xs) ≡ up_to j xs →
-        up_to j (up_to back (x ∷ xs)) ≡ up_to j (x ∷ xs)
-    by true above true low rest = rw (above, low) (ap (λ (r : List Assigned). x ∷ r) rest)
-    by true above false low rest = rw (above, low) rest
-    by false above true low rest =
-        let under = leb-true x.level j low in
-        let high : nat_le x.level back ≡ true = le-leb x.level back (omega (arith, under, most)) in
-        absurd (both_ways _ above high)
-    by false above false low rest = rw (above, low) rest
-
 -- an entry of a higher level changes nothing below it
 pub up_to_below : (j : ℕ) (e : Assigned) (trail : List Assigned) → j < e.level → up_to j (e ∷ trail)
     ≡ up_to j trail
@@ -125,53 +102,7 @@ up_to_below j e trail below = by (nat_le e.level j) refl
 
 -- MORE CLAUSES
 
-cause_put : (clauses : Live) (id : ℕ) (c : Clause) (older : List Assigned) (l : Lit)
-    (reason : Option ℕ) →
-    clause_at clauses id ≡ None → HasCause clauses older l reason → HasCause (put clauses id c)
-    older l reason
-cause_put clauses id c older l None new cause = cause
-cause_put clauses id c older l (Some n) new cause = by (n == id) refl
-  where
-    by : (b : Bool) → (n == id) ≡ b → Reads (made_false older)
-        (cond b (Some c) (clause_at clauses n)) (Unit l)
-    by true is =
-        let same : n ≡ id = eqb-true n id is in
-        let none : clause_at clauses n ≡ None = ap (clause_at clauses) same ∙ new in
-        absurd (subst (λ (o : Option Clause). Reads (made_false older) o (Unit l)) none cause)
-    by false is = cause
-
--- with a clause under a new id the entries keep their causes
-pub caused_put : (clauses : Live) (id : ℕ) (c : Clause) (trail : List Assigned) → clause_at clauses
-    id ≡ None →
-    AreCaused clauses trail → AreCaused (put clauses id c) trail
-caused_put clauses id c [] new caused = tt
-caused_put clauses id c (e ∷ older) new caused = (
-  cause_put clauses id c older e.lit e.reason new caused.0,
-  caused_put clauses id c older new
-      caused.1,
-)
-
 -- ONE MORE ENTRY
-
--- what is settled below a level stays so with an entry of it
-pub settled_more : (clauses : Live) (e : Assigned) (trail : List Assigned) → IsSettledBelow clauses
-    trail e.level →
-    IsSettledBelow clauses (e ∷ trail) e.level
-settled_more clauses e trail settled j below id c at =
-    rw (up_to_below j e trail below) (settled j below id c at)
-
--- and a decision may follow where all is settled at the current level
-settled_decided : (clauses : Live) (e : Assigned) (trail : List Assigned) (level : ℕ) → e.level ≡
-    suc level →
-    IsSettledBelow clauses trail level → IsSettledAt clauses trail level → IsSettledBelow clauses
-    (e ∷ trail) (suc level)
-settled_decided clauses e trail level is below here j under id c at =
-    rw (up_to_below j e trail (omega (arith, is, under)))
-    (elim (cases_eq j level) [
-      | inl same ↦ subst (λ (k : ℕ). IsQuiet (reading_of (made_false (up_to k trail)) c)) (sym same)
-          (here id c at)
-      | inr other ↦ below j (omega (arith, under, other)) id c at
-    ])
 
 -- CUT BACK
 
@@ -218,25 +149,10 @@ cut P j e older levels whole less =
           whole
     ]
 
-pub caused_back : (clauses : Live) (j : ℕ) (trail : List Assigned) → AreLevels trail → AreCaused
-    clauses trail →
-    AreCaused clauses (up_to j trail)
-caused_back clauses j [] levels caused = tt
-caused_back clauses j (e ∷ older) levels caused =
-    let rest = caused_back clauses j older levels.1 caused.1 in
-    cut (AreCaused clauses) j e older levels caused (λ below. rest)
-
 pub levels_back : (j : ℕ) (trail : List Assigned) → AreLevels trail → AreLevels (up_to j trail)
 levels_back j [] levels = tt
 levels_back j (e ∷ older) levels =
     let rest = levels_back j older levels.1 in cut AreLevels j e older levels levels (λ below. rest)
-
-pub once_back : (j : ℕ) (trail : List Assigned) → IsOnce (lits_of trail) → AreLevels trail → IsOnce
-    (lits_of (up_to j trail))
-once_back j [] once levels = tt
-once_back j (e ∷ older) once levels =
-    let rest = once_back j older once.1 levels.1 in
-    cut (λ (t : List Assigned). IsOnce (lits_of t)) j e older levels once (λ below. rest)
 
 lower : (j level : ℕ) (reason : Option ℕ) → j < after_entry reason level → j ≤ level
 lower j level None below = omega (arith, below)
@@ -260,55 +176,3 @@ level_back j (e ∷ older) levels most =
     ]
 
 -- STEPS OF A SEARCH
-
--- a literal that a clause makes true is put on the trail at the current level
-pub settled_implied : (clauses : Live) (vars : ℕ) (trail : List Assigned) (l : Lit) (id : ℕ) →
-    IsSettledTrail clauses vars trail →
-    IsWithin vars l → Reads (made_false trail) (clause_at clauses id) (Unit l) →
-    IsSettledTrail clauses vars (record { lit = l; level = level_of trail; reason = Some id } ∷
-    trail)
-settled_implied clauses vars trail l id holds within unit = record {
-  once = (by (clause_at clauses id) unit, holds.once);
-  within = All-cons (λ (f : Assigned). IsWithin vars f.lit)
-      (record { lit = l; level = level_of trail; reason = Some id }) trail within holds.within;
-  caused = (unit, holds.caused);
-  levels = (refl, holds.levels);
-  settled = settled_more clauses (record { lit = l; level = level_of trail; reason = Some id })
-      trail holds.settled;
-}
-  where
-    by : (o : Option Clause) → Reads (made_false trail) o (Unit l) → IsOpen (lits_of trail) l
-    by None is = absurd is
-    by (Some c) is = let parts = unit_is_open (made_false trail) l c is in is_open (lits_of trail) l
-        parts.0.free parts.1
-
--- a decision begins a level where the clauses are settled
-pub settled_with_decision : (clauses : Live) (vars : ℕ) (trail : List Assigned) (l : Lit) →
-    IsSettledTrail clauses vars trail →
-    AreSettled clauses (made_false trail) → IsWithin vars l → IsOpen (lits_of trail) l →
-    IsSettledTrail clauses vars (record { lit = l; level = suc (level_of trail); reason = None } ∷
-    trail)
-settled_with_decision clauses vars trail l holds here within free = record {
-  once = (free, holds.once);
-  within = All-cons (λ (f : Assigned). IsWithin vars f.lit)
-      (record { lit = l; level = suc (level_of trail); reason = None }) trail within holds.within;
-  caused = (tt, holds.caused);
-  levels = (refl, holds.levels);
-  settled = settled_decided clauses
-      (record { lit = l; level = suc (level_of trail); reason = None }) trail (level_of trail) refl
-      holds.settled
-      (subst (λ (t : List Assigned). AreSettled clauses (made_false t))
-      (sym (up_to_current (level_of trail) trail holds.levels (omega arith))) here);
-}
-
--- at level 0 one more clause is all right
-pub settled_with_clause : (clauses : Live) (vars id : ℕ) (c : Clause) (trail : List Assigned) →
-    IsSettledTrail clauses vars trail →
-    level_of trail ≡ 0 → clause_at clauses id ≡ None → IsSettledTrail (put clauses id c) vars trail
-settled_with_clause clauses vars id c trail holds low new = record {
-  once = holds.once;
-  within = holds.within;
-  caused = caused_put clauses id c trail new holds.caused;
-  levels = holds.levels;
-  settled = λ i below n d at. absurd (omega (arith, below, low));
-}

@@ -1,5 +1,5 @@
 -- Clauses with their ids: their number, the one at a position, and one more.
-use Rattle.std.proofs.Common.{inl, inr, ◌⊎◌, ◌≡◌, ◌==◌, ℕ, zero, suc, Bool, true, false, cond, List, [], ◌∷◌, ◌++◌, length, reverse, Option, None, Some, slice_get, Contains, refl, sym, ap, ◌∙◌, arith}
+use Rattle.std.proofs.Common.{inl, inr, ◌⊎◌, ◌≡◌, ◌==◌, ℕ, zero, suc, Bool, true, false, cond, List, [], ◌∷◌, ◌++◌, length, reverse, None, Some, slice_get, Contains, refl, sym, ap, ◌∙◌, arith}
 use Rattle.std.specs.List.{zip}
 use Rattle.std.proofs.lemmas.Bool.{eq-eqb, eqb-true}
 use Rattle.std.proofs.lemmas.List.{length-append, length-reverse, reverse-append, reverse-reverse}
@@ -7,7 +7,7 @@ use Rattle.std.proofs.lemmas.List.Sorted.{Contains-permutation, IsPermutation-re
 use Rattle.std.proofs.lemmas.Map.Views.{Contains-from_lookup}
 use Rattle.std.proofs.lemmas.Option.{slice_get-get_or, slice_get_within}
 use Rattle.std.proofs.lemmas.Slice.Zip.{length-zip}
-use Rattle.list_laws.proofs.Places.{get-cases, some_is}
+use Rattle.list_laws.proofs.Places.{get-cases}
 use Rattle.sat_clause.specs.Formula.{Cnf}
 use Rattle.sat_clause.specs.Literal.{Clause}
 use Rattle.sat_clause.specs.Live.{Live, clause_at, put}
@@ -90,9 +90,3 @@ position_of clauses id c at =
     let there : Contains (reverse clauses) (id, c) = Contains-permutation clauses (reverse clauses)
     (id, c) (IsPermutation-reverse clauses) has in
     (there.0, slice_get-get_or (reverse clauses) there.0 (id, c) there.1 ∙ ap Some there.2)
-
--- entries that are the same have the same clause
-pub same_clause : (i j : ℕ) (c d : Clause) → ◌≡◌ {A = Option (ℕ × Clause)} (Some (i, c))
-    (Some (j, d)) → c ≡ d
-same_clause i j c d same =
-    ap (λ (entry : ℕ × Clause). entry.1) (some_is same)
