@@ -4,7 +4,7 @@ ghost use Rattle.fpga_text.specs.FirstFault.{IsFaultOf};
 ghost use Rattle.fpga_arch.specs.ChannelLines.{IsChannel, channel_fault, differs_from};
 
 use crate::cause::Cause;
-use fpga_text::{Line, TextFault};
+use fpga_text::{Coded, Line, TextFault};
 
 /// The width that the words behind the keyword say, in millionths, or what is wrong with them where
 /// an earlier line says this width.

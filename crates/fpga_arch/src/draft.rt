@@ -9,7 +9,7 @@ use crate::keyword::{KEYWORDS, Keyword, keyword_named};
 use crate::pin_line::read_pin;
 use crate::segment_line::read_segment;
 use crate::words::{next_fraction, next_pattern, next_share};
-use fpga_text::{Line, TextFault};
+use fpga_text::{Coded, Line, TextFault};
 use fpga_types::{Arch, FcSpec, Items, PAD_LIMIT, Pattern, PinSpec};
 use std::alloc::Global;
 use std::marker::Model;

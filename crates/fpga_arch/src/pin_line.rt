@@ -15,7 +15,7 @@ ghost use Rattle.fpga_arch.specs.Pins.{
 
 use crate::cause::Cause;
 use crate::words::side_named;
-use fpga_text::{Line, TextFault};
+use fpga_text::{Coded, Line, TextFault};
 use fpga_types::{CLASS_LIMIT, PIN_LIMIT, PinSpec, SideSet};
 
 /// What stands behind the class of a pin.

@@ -10,7 +10,7 @@ ghost use Rattle.fpga_arch.specs.Value.{ReadsArch};
 
 use crate::cause::Cause;
 use crate::draft::Draft;
-use fpga_text::{Lines, Style, TextFault};
+use fpga_text::{Coded, Lines, Style, TextFault};
 use fpga_types::Arch;
 use std::alloc::Global;
 

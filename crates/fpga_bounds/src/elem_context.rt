@@ -7,7 +7,7 @@ ghost use Rattle.fpga_types.specs.Fit as fit;
 ghost use Rattle.fpga_types.specs.Fit.{fit_codes, leaps, comes_again, starts_loose, is_out_of_order, slots_past};
 
 use fpga_fabric::meet;
-use fpga_text::TextFault;
+use fpga_text::{Coded, TextFault};
 use fpga_types::{Cell, Elem, ElemKind, FitCause, Grid, SLOT_LIMIT};
 
 /// What the codes of an element line look at.

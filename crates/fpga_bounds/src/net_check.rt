@@ -10,7 +10,7 @@ ghost use Rattle.fpga_types.specs.declared.route.Elem.{Elem};
 use crate::elem_context::{ElemContext, elem_fault};
 use crate::keys::{ElemKey, is_seen, is_taken, see};
 use crate::slot_table::SlotTable;
-use fpga_text::TextFault;
+use fpga_text::{Coded, TextFault};
 use fpga_types::{Elem, FitCause, Grid, NET_LIMIT, RouteNet};
 use std::alloc::{AllocError, Global};
 use std::collections::BTreeSet;

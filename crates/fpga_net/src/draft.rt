@@ -12,7 +12,7 @@ use crate::listed::{ListedBlock, finish_all, misses_pins, rest_words};
 use crate::names::NameTable;
 use crate::net_table::NetTable;
 use crate::net_use::block_pins;
-use fpga_text::{Line, TextFault};
+use fpga_text::{Coded, Line, TextFault};
 use fpga_types::{Arch, BlockKind, Items, Netlist};
 use std::alloc::{AllocError, Global};
 use std::marker::Model;

@@ -22,7 +22,7 @@ use crate::cause::Cause;
 use crate::names::NameTable;
 use crate::net_draft::NetDraft;
 use crate::net_use::{NetUse, shares_class, takes_ordinary};
-use fpga_text::TextFault;
+use fpga_text::{Coded, TextFault};
 use fpga_types::{NET_LIMIT, Net};
 use std::alloc::{AllocError, Global};
 use std::marker::Model;

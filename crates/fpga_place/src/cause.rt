@@ -1,9 +1,6 @@
 //! What can be wrong with a placement text.
-ghost use Rattle.std.specs.Prelude.{◌≡◌};
-ghost use Rattle.fpga_text.specs.declared.fault.TextFault.TheVariants.{Bad, Limit};
-ghost use Rattle.fpga_place.specs.Causes.{code_of};
 
-use fpga_text::TextFault;
+use fpga_text::Coded;
 
 /// What is wrong with a line of a placement text.
 #[derive(Clone, Copy, Debug, PartialEq, Eq)]
@@ -26,11 +23,12 @@ pub enum Cause {
     PastLimit,
 }
 
-impl Cause {
-    /// The number that a report gives.
-    pub fn code(self) -> u32
-        ensures { result ≡ code_of self }
-    {
+impl Coded for Cause {
+    ghost use Rattle.fpga_place.specs.Causes.{code_of};
+
+    ghost code_of = { code_of };
+
+    fn code(self) -> u32 {
         match self {
             Cause::HeadForm => 301,
             Cause::NoNumber => 302,
@@ -40,26 +38,6 @@ impl Cause {
             Cause::UnlawfulPlace => 306,
             Cause::SharedSpot => 307,
             Cause::PastLimit => 308,
-        }
-    }
-
-    /// The fault of the line with this number.
-    pub fn at(self, line: u64) -> TextFault
-        ensures { result ≡ Bad line (code_of self) }
-    {
-        TextFault::Bad {
-            line,
-            code: self.code(),
-        }
-    }
-
-    /// The fault of a text with so many of something.
-    pub fn past(self, count: u64) -> TextFault
-        ensures { result ≡ Limit (code_of self) count }
-    {
-        TextFault::Limit {
-            code: self.code(),
-            count,
         }
     }
 }

@@ -10,7 +10,7 @@ ghost use Rattle.fpga_place.specs.Value.{place_of};
 use crate::block_table::BlockTable;
 use crate::cause::Cause;
 use crate::words::block_line;
-use fpga_text::{Line, TextFault};
+use fpga_text::{Coded, Line, TextFault};
 use fpga_types::{Grid, Place, Spot};
 use std::alloc::{AllocError, Global};
 use std::collections::BTreeSet;

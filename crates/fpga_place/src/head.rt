@@ -10,7 +10,7 @@ ghost use Rattle.fpga_place.specs.Lines as spec;
 ghost use Rattle.fpga_place.specs.declared.cause.Cause.TheVariants.{HeadForm};
 
 use crate::cause::Cause;
-use fpga_text::{FirstWords, Line, Lines, TextFault, is_text, size_line};
+use fpga_text::{Coded, FirstWords, Line, Lines, TextFault, is_text, size_line};
 use fpga_types::{Grid, SizeFault};
 
 /// Takes the two head lines, and gives the array that they say.

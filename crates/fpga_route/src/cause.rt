@@ -1,9 +1,6 @@
 //! What can be wrong with a route text.
-ghost use Rattle.std.specs.Prelude.{◌≡◌};
-ghost use Rattle.fpga_text.specs.declared.fault.TextFault.TheVariants.{Bad, Limit};
-ghost use Rattle.fpga_route.specs.Causes.{code_of};
 
-use fpga_text::TextFault;
+use fpga_text::Coded;
 
 /// What is wrong with a line of a route text.
 #[derive(Clone, Copy, Debug, PartialEq, Eq)]
@@ -24,11 +21,12 @@ pub enum Cause {
     PastLimit,
 }
 
-impl Cause {
-    /// The number that a report gives.
-    pub fn code(self) -> u32
-        ensures { result ≡ code_of self }
-    {
+impl Coded for Cause {
+    ghost use Rattle.fpga_route.specs.Causes.{code_of};
+
+    ghost code_of = { code_of };
+
+    fn code(self) -> u32 {
         match self {
             Cause::HeadForm => 401,
             Cause::LineForm => 402,
@@ -37,26 +35,6 @@ impl Cause {
             Cause::StrayElement => 405,
             Cause::NoPlace => 406,
             Cause::PastLimit => 407,
-        }
-    }
-
-    /// The fault of the line with this number.
-    pub fn at(self, line: u64) -> TextFault
-        ensures { result ≡ Bad line (code_of self) }
-    {
-        TextFault::Bad {
-            line,
-            code: self.code(),
-        }
-    }
-
-    /// The fault of a text with so many of something.
-    pub fn past(self, count: u64) -> TextFault
-        ensures { result ≡ Limit (code_of self) count }
-    {
-        TextFault::Limit {
-            code: self.code(),
-            count,
         }
     }
 }

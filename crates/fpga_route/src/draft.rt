@@ -9,7 +9,7 @@ use crate::cause::Cause;
 use crate::forms::{ElemLine, LineForm, NetLine, form_of};
 use crate::open_net::OpenNet;
 use crate::standing::{Standing, net_number, read_elem};
-use fpga_text::{Line, TextFault};
+use fpga_text::{Coded, Line, TextFault};
 use fpga_types::{Grid, Items, Name, RouteNet};
 use std::alloc::{AllocError, Global};
 use std::marker::Model;

@@ -10,7 +10,7 @@ ghost use Rattle.fpga_route.specs.declared.cause.Cause.TheVariants.{HeadForm};
 
 use crate::cause::Cause;
 use crate::forms::is_routing;
-use fpga_text::{FirstWords, Line, Lines, TextFault, size_line};
+use fpga_text::{Coded, FirstWords, Line, Lines, TextFault, size_line};
 use fpga_types::{Grid, SizeFault};
 
 /// What the head says: the array, and the number of the line that says it.

@@ -11,7 +11,7 @@ ghost use Rattle.fpga_route.specs.Value.{elem_of};
 
 use crate::cause::Cause;
 use crate::forms::{ElemLine, NetLine};
-use fpga_text::{TextFault, whole_number};
+use fpga_text::{Coded, TextFault, whole_number};
 use fpga_types::{Elem, Grid, NET_LIMIT};
 
 /// Where a line after the head stands: the array, the Net lines before it, and whether the net

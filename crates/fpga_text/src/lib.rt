@@ -2,6 +2,7 @@
 #![tactic(auto)]
 
 mod array_line;
+mod coded;
 mod cut;
 mod fault;
 mod first_words;
@@ -16,6 +17,7 @@ mod style;
 mod tests;
 
 pub use array_line::{SizeLine, size_line};
+pub use coded::Coded;
 pub use fault::TextFault;
 pub use first_words::FirstWords;
 pub use line::{Line, Word};

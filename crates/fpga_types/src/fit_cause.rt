@@ -1,9 +1,6 @@
 //! What can be wrong with a route that was read.
-ghost use Rattle.std.specs.Prelude.{◌≡◌};
-ghost use Rattle.fpga_text.specs.declared.fault.TextFault.TheVariants.{Bad, Limit};
-ghost use Rattle.fpga_types.specs.FitCauses.{code_of};
 
-use fpga_text::TextFault;
+use fpga_text::Coded;
 
 /// What keeps a route from being a routing problem.
 #[derive(Clone, Copy, Debug, PartialEq, Eq)]
@@ -22,11 +19,12 @@ pub enum FitCause {
     PastLimit,
 }
 
-impl FitCause {
-    /// The number that a report gives.
-    pub fn code(self) -> u32
-        ensures { result ≡ code_of self }
-    {
+impl Coded for FitCause {
+    ghost use Rattle.fpga_types.specs.FitCauses.{code_of};
+
+    ghost code_of = { code_of };
+
+    fn code(self) -> u32 {
         match self {
             FitCause::CellsApart => 510,
             FitCause::RepeatedElement => 511,
@@ -34,26 +32,6 @@ impl FitCause {
             FitCause::SharedPin => 513,
             FitCause::OutOfOrder => 514,
             FitCause::PastLimit => 515,
-        }
-    }
-
-    /// The fault of the line with this number.
-    pub fn at(self, line: u64) -> TextFault
-        ensures { result ≡ Bad line (code_of self) }
-    {
-        TextFault::Bad {
-            line,
-            code: self.code(),
-        }
-    }
-
-    /// The fault of a route with so many of something.
-    pub fn past(self, count: u64) -> TextFault
-        ensures { result ≡ Limit (code_of self) count }
-    {
-        TextFault::Limit {
-            code: self.code(),
-            count,
         }
     }
 }

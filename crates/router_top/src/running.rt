@@ -12,6 +12,7 @@ use crate::outcome::{Outcome, report};
 use crate::routing::route;
 use crate::words::read_words;
 use desk_io::{Desk, Shelf};
+use fpga_text::Coded;
 use std::alloc::Global;
 
 // The slot of the bytes said.

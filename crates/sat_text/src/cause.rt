@@ -1,9 +1,6 @@
 //! What can be wrong with a line of a CNF or an LRAT text.
-ghost use Rattle.std.specs.Prelude.{◌≡◌};
-ghost use Rattle.fpga_text.specs.declared.fault.TextFault.TheVariants.{Bad, Limit};
-ghost use Rattle.sat_text.specs.Causes.{code_of};
 
-use fpga_text::TextFault;
+use fpga_text::Coded;
 
 /// What is wrong with a line of a CNF or an LRAT text.
 #[derive(Clone, Copy, Debug, PartialEq, Eq)]
@@ -30,11 +27,12 @@ pub enum Cause {
     NumberLimit,
 }
 
-impl Cause {
-    /// The number that a report gives.
-    pub fn code(self) -> u32
-        ensures { result ≡ code_of self }
-    {
+impl Coded for Cause {
+    ghost use Rattle.sat_text.specs.Causes.{code_of};
+
+    ghost code_of = { code_of };
+
+    fn code(self) -> u32 {
         match self {
             Cause::HeadForm => 601,
             Cause::CnfNumber => 602,
@@ -46,26 +44,6 @@ impl Cause {
             Cause::IdOrder => 703,
             Cause::HintSign => 704,
             Cause::NumberLimit => 705,
-        }
-    }
-
-    /// The fault of the line with this number.
-    pub fn at(self, line: u64) -> TextFault
-        ensures { result ≡ Bad line (code_of self) }
-    {
-        TextFault::Bad {
-            line,
-            code: self.code(),
-        }
-    }
-
-    /// The fault of a line that has so many, past a limit.
-    pub fn past(self, count: u64) -> TextFault
-        ensures { result ≡ Limit (code_of self) count }
-    {
-        TextFault::Limit {
-            code: self.code(),
-            count,
         }
     }
 }

@@ -9,7 +9,7 @@ ghost use Rattle.sat_text.specs.CnfText.{begins_as_head};
 
 use crate::cause::Cause;
 use crate::head::Head;
-use fpga_text::{Line, TextFault};
+use fpga_text::{Coded, Line, TextFault};
 use sat_clause::{Formula, ID_LIMIT, Lit, VARIABLE_LIMIT};
 use std::alloc::{AllocError, Global};
 

@@ -6,7 +6,7 @@ ghost use Rattle.sat_text.specs.CnfText.{head_words, head_of};
 
 use crate::cause::Cause;
 use crate::number::natural;
-use fpga_text::{Line, TextFault};
+use fpga_text::{Coded, Line, TextFault};
 use sat_clause::{CLAUSE_LIMIT, VARIABLE_LIMIT};
 
 /// How many variables a CNF text may have.

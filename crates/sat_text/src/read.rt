@@ -12,7 +12,7 @@ use crate::draft::Draft;
 use crate::head::read_head;
 use crate::log_draft::LogDraft;
 use crate::told::next_told;
-use fpga_text::{Lines, Style, TextFault};
+use fpga_text::{Coded, Lines, Style, TextFault};
 use sat_clause::{Formula, Log};
 use std::alloc::Global;
 

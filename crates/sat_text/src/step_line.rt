@@ -12,7 +12,7 @@ ghost use Rattle.sat_text.specs.Numbers.{is_zero as is_zero_of, lacks_number, nu
 
 use crate::cause::Cause;
 use crate::number::is_zero;
-use fpga_text::{Line, TextFault};
+use fpga_text::{Coded, Line, TextFault};
 use sat_clause::{ID_LIMIT, VARIABLE_LIMIT};
 use std::alloc::AllocError;
 
