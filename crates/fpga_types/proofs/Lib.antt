@@ -7,3 +7,7 @@ mod MeetingRows
 mod RowValues
 pub mod SlotLemmas
 pub mod TrackLemmas
+mod FitsRows
+pub mod FitsLemmas
+pub mod SpotLemmas
+mod GivenRows

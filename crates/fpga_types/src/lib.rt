@@ -1,7 +1,7 @@
 //! The values that the texts of an island-style FPGA stand for: the array, its cells and wires, an
 //! architecture, a netlist, a placement, and a global or detailed route; and where blocks may
-//! stand, what a route's slots and steps are, which routes fit their array, and which routings are
-//! legal.
+//! stand, what a route's slots and steps are, which routes fit their array, netlist and placement,
+//! and which routings are legal.
 #![tactic(auto)]
 
 mod arch;
@@ -28,5 +28,5 @@ pub use limits::{
 };
 pub use netlist::{Block, BlockKind, Net, Netlist, PinRef};
 pub use placement::{Place, Placement, Spot};
-pub use problem::{PinStep, RouteStep, Slot};
+pub use problem::{PinStep, RouteStep, Slot, Terminal};
 pub use route::{Elem, ElemKind, Label, Name, RouteNet, RouteText};

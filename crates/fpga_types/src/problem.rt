@@ -1,5 +1,6 @@
 //! The parts of a routing problem.
 use crate::grid::{Cell, PinAt};
+use crate::route::Label;
 
 /// A cell that a net takes. The net is named by its position in the route text.
 #[derive(Clone, Copy, Debug, PartialEq, Eq, PartialOrd, Ord)]
@@ -20,4 +21,14 @@ pub struct RouteStep {
 pub struct PinStep {
     pub pin: PinAt,
     pub slot: u32,
+}
+
+/// Where a net begins or ends, as SOURCE and SINK lines name it: a class of pins of a place, or a
+/// pad by its place and subblock number.
+#[derive(Clone, Copy, Debug, PartialEq, Eq)]
+pub struct Terminal {
+    pub x: u32,
+    pub y: u32,
+    pub label: Label,
+    pub number: u32,
 }

@@ -1,7 +1,7 @@
 //! The value of a route text.
 ghost use Rattle.std.specs.Prelude.{◌≡◌};
 
-use crate::grid::{Axis, Cell, Grid};
+use crate::grid::{Axis, Cell, Grid, PinAt};
 use crate::items::Items;
 use crate::problem::Slot;
 use std::marker::Model;
@@ -126,13 +126,28 @@ pub struct Elem {
 }
 
 impl Elem {
-    ghost use Rattle.fpga_types.specs.Slots.{elem_cell, elem_slot};
+    ghost use Rattle.fpga_types.specs.Slots.{elem_cell, elem_pin, elem_slot};
 
     /// The cell of a channel line, or None of another.
     pub fn cell(self) -> Option<Cell>
         ensures { result ≡ elem_cell self }
     {
         self.kind.cell_at(self.x, self.y)
+    }
+
+    /// The pin of a pin line, or None of another line.
+    pub fn pin(self) -> Option<PinAt>
+        ensures { result ≡ elem_pin self }
+    {
+        if !self.kind.is_pin() {
+            return None;
+        }
+        let Elem { x, y, number, .. } = self;
+        match self.label {
+            Label::Pad => Some(PinAt::Pad { x, y, sub: number }),
+            Label::Pin => Some(PinAt::Pin { x, y, pin: number }),
+            Label::Class | Label::Track => None,
+        }
     }
 
     /// The slot of a channel line of the net at this position, or None of another line.
