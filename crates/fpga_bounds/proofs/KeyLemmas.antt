@@ -1,14 +1,12 @@
 -- Keys are tied exactly where elements are equal, and where pins are one.
-use Rattle.std.proofs.Common.{◌≡◌, ℕ, ◌+◌, Bool, true, false, cond, Some, List, [], ◌∷◌, take, refl, sym, ◌∙◌, eq-eqb, add-one}
+use Rattle.std.proofs.Common.{◌≡◌, ℕ, ◌+◌, Bool, true, false, cond, Some, List, [], ◌∷◌, take, refl, ◌∙◌, add-one}
 use Rattle.std.specs.Prelude.{◌&&◌, ◌||◌, ◌==◌, slice_get, if◌then◌else◌}
 use Rattle.std.specs.List.{list_any}
 use Rattle.std.proofs.Math.Bool.{or-false}
 use Rattle.std.proofs.lemmas.List.Folds.{list_any-append}
 use Rattle.list_laws.proofs.Places.{take-get}
-use Rattle.std.specs.Cmp.{unsigned_ties, both_ways}
+use Rattle.list_laws.proofs.Ties.{nat_ties, then_ties}
 use Rattle.std.specs.Ordering.{is_eq, nat_cmp, ordering_then}
-use Rattle.std.specs.declared.cmp.Ordering.{Ordering}
-use Rattle.std.specs.declared.cmp.Ordering.TheVariants.{Less, Equal, Greater}
 use Rattle.fpga_types.specs.Fit.{is_pin_of, same_elem, same_pin}
 use Rattle.fpga_types.specs.Kinds.{is_channel, is_pin, same_kind, same_label}
 use Rattle.fpga_types.specs.contracts.route.ElemKindOrd.TheImpl as kind_ord
@@ -21,20 +19,6 @@ use Rattle.fpga_types.specs.declared.route.Label.{Label}
 use Rattle.fpga_types.specs.declared.route.Label.TheVariants.{Class, Pin, Pad, Track}
 use Rattle.fpga_bounds.specs.Keys.{key_cmp, elem_key, pin_key}
 use Rattle.fpga_bounds.specs.declared.keys.ElemKey.{ElemKey}
-use borrow.Author.Tests.{eqb-true}
-
--- two comparisons in turn tie where both do
-pub then_ties : (p q : Ordering) (r s : Bool) → is_eq p ≡ r → is_eq q ≡ s
-    → is_eq (ordering_then p q) ≡ (r && s)
-then_ties Less q r s e f = rw (← e) refl
-then_ties Equal q r s e f = rw (← e) f
-then_ties Greater q r s e f = rw (← e) refl
-
--- numbers tie where they are equal
-pub nat_ties : (a b : ℕ) → is_eq (nat_cmp a b) ≡ (b == a)
-nat_ties a b =
-    sym (unsigned_ties a b) ∙ both_ways (a == b) (b == a) (λ h. eq-eqb b a (sym (eqb-true a b h)))
-    (λ h. eq-eqb a b (sym (eqb-true b a h)))
 
 abbrev number_at : ElemKind → ℕ → ℕ
 number_at kind number = if is_channel kind then 0 else number

@@ -1,12 +1,15 @@
 -- How a slot is found in a table, and one slot more.
-use Rattle.std.proofs.Common.{◌≡◌, ℕ, ◌+◌, ◌<◌, ◌≤◌, Bool, true, false, cond, Option, Some, None, List, [], ◌∷◌, ◌++◌, length, refl, sym, subst, ◌∙◌, arith, add-zero, zero-add, length-append}
-use Rattle.std.specs.Prelude.{◌&&◌, ◌||◌, ◌==◌, is_some, not, nat_lt}
+use Rattle.std.proofs.Common.{◌≡◌, ℕ, ◌+◌, ◌<◌, ◌≤◌, Bool, true, false, cond, Option, Some, None, List, [], ◌∷◌, ◌++◌, length, refl, sym, subst, ◌∙◌, arith, zero-add, length-append}
+use Rattle.std.specs.Prelude.{◌&&◌, ◌==◌, is_some, not, nat_lt}
 use Rattle.std.specs.BTreeMap.{BTreeMap, get, Updates}
 use Rattle.std.specs.List.{list_any, position_from}
+use Rattle.std.specs.Option.{option_or}
 use Rattle.std.specs.Ordering.{is_eq}
 use Rattle.std.proofs.lemmas.Bool.Decides.{nat_tests, Decides-eqb}
 use Rattle.std.proofs.lemmas.Iterator.Adapters.{position_from-zero}
 use Rattle.std.proofs.lemmas.List.Sums.{prefix_len-le-length}
+use Rattle.list_laws.proofs.Searches.{position-any, position-push}
+use Rattle.list_laws.proofs.Ties.{nat_ties, then_ties}
 use Rattle.fpga_types.specs.Fabric.{same_axis, same_cell}
 use Rattle.fpga_types.specs.Slots.{same_slot, slot_number}
 use Rattle.fpga_types.specs.contracts.grid.AxisOrd.TheImpl as axis_ord
@@ -15,7 +18,6 @@ use Rattle.fpga_types.specs.declared.grid.Axis.TheVariants.{X, Y}
 use Rattle.fpga_types.specs.declared.problem.Slot.{Slot}
 use Rattle.fpga_types.proofs.MeetingLemmas.{both_true, same_cell-is, same_cell-itself}
 use Rattle.fpga_bounds.specs.SlotTable.{slot_cmp, IsNumbered}
-use Rattle.fpga_bounds.proofs.KeyLemmas.{then_ties, nat_ties}
 
 axis_ties : (a b : Axis) → is_eq ((axis_ord.ghosts).cmp a b) ≡ same_axis b a
 axis_ties X X = refl
@@ -47,35 +49,6 @@ same_slot-is a b h =
 pub same_slot-itself : (a : Slot) → same_slot a a ≡ true
 same_slot-itself a = rw ((Decides-eqb a.net a.net).1 refl, same_cell-itself a.cell) refl
 
--- a place is found where an element passes
-pub found-any : {T : Type 0} (p : T → Bool) (i : ℕ) (xs : List T) → is_some (position_from p i xs)
-    ≡ list_any p xs
-found-any p i [] = refl
-found-any {T} p i (x ∷ xs) = rw (← found-any p (i + 1) xs) (go (p x))
-  where
-    go : (b : Bool) → is_some (cond b (Some i) (position_from p (i + 1) xs))
-        ≡ (b || is_some (position_from p (i + 1) xs))
-    go true = refl
-    go false = refl
-
-abbrev or_else : Option ℕ → Option ℕ → Option ℕ
-or_else (Some n) o = Some n
-or_else None o = o
-
--- one element more is found where no earlier one was
-found-push : {T : Type 0} (p : T → Bool) (i : ℕ) (xs : List T) (x : T)
-    → position_from p i (xs ++ x ∷ [])
-    ≡ or_else (position_from p i xs) (cond (p x) (Some (i + length xs)) None)
-found-push p i [] x = rw add-zero refl
-found-push {T} p i (y ∷ ys) x = rw (found-push p (i + 1) ys x) (go (p y))
-  where
-    go : (b : Bool) → cond b (Some i)
-        (or_else (position_from p (i + 1) ys) (cond (p x) (Some (i + 1 + length ys)) None))
-        ≡ or_else (cond b (Some i) (position_from p (i + 1) ys))
-        (cond (p x) (Some (i + length (y ∷ ys))) None)
-    go true = refl
-    go false = let e : i + 1 + length ys ≡ i + length (y ∷ ys) = omega arith in rw e refl
-
 -- a number that is found is the slot's
 pub number-found : (all : List Slot) (s : Slot) (n : ℕ) → position_from (same_slot s) 0 all ≡ Some n
     → slot_number all s ≡ n
@@ -102,7 +75,7 @@ pub numbered-push : (all : List Slot) (slot q : Slot) → list_any (same_slot sl
     → cond (is_eq (slot_cmp slot q)) (Some (length all)) (position_from (same_slot q) 0 all)
     ≡ position_from (same_slot q) 0 (all ++ slot ∷ [])
 numbered-push all slot q h =
-    rw (slot_ties slot q, found-push (same_slot q) 0 all slot) (go (same_slot q slot) refl)
+    rw (slot_ties slot q, position-push (same_slot q) 0 all slot) (go (same_slot q slot) refl)
   where
     none : (o : Option ℕ) → is_some o ≡ false → o ≡ None
     none None e = refl
@@ -110,25 +83,25 @@ numbered-push all slot q h =
 
     go : (b : Bool) → same_slot q slot ≡ b
         → cond b (Some (length all)) (position_from (same_slot q) 0 all)
-        ≡ or_else (position_from (same_slot q) 0 all) (cond b (Some (0 + length all)) None)
+        ≡ option_or (position_from (same_slot q) 0 all) (cond b (Some (0 + length all)) None)
     go true e =
         let one : q ≡ slot = same_slot-is q slot e in
         let none_here : list_any (same_slot q) all ≡ false =
         subst (λ (w : Slot). list_any (same_slot w) all ≡ false) (sym one) h in
         rw (
-          none (position_from (same_slot q) 0 all) (found-any (same_slot q) 0 all ∙ none_here),
+          none (position_from (same_slot q) 0 all) (position-any (same_slot q) 0 all ∙ none_here),
           zero-add,
         ) refl
     go false e = keep (position_from (same_slot q) 0 all)
       where
-        keep : (o : Option ℕ) → o ≡ or_else o None
+        keep : (o : Option ℕ) → o ≡ option_or o None
         keep None = refl
         keep (Some n) = refl
 
 -- whether a table has a slot, by its numbers
 pub has-numbered : (all : List Slot) (numbers : BTreeMap Slot ℕ) (s : Slot) → IsNumbered all numbers
     → is_some (get slot_cmp numbers s) ≡ list_any (same_slot s) all
-has-numbered all numbers s h = rw h.found (found-any (same_slot s) 0 all)
+has-numbered all numbers s h = rw h.found (position-any (same_slot s) 0 all)
 
 -- a table with one slot more
 pub numbered-more : (all : List Slot) (m n : BTreeMap Slot ℕ) (slot : Slot) (k : ℕ)

@@ -13,25 +13,12 @@ use Rattle.std.proofs.lemmas.List.Sums.{passes_at_first, position_or_len_is}
 use Rattle.std.proofs.lemmas.Option.{get_or_from_slice_get, slice_get_past, slice_get_within}
 use Rattle.std.proofs.lemmas.Slice.Eq.{bytes_eq-Decides}
 use Rattle.list_laws.proofs.Places.{take-get}
+use Rattle.list_laws.proofs.Searches.{position-push}
 use Rattle.fpga_types.specs.Placements.{HaveOwnNames}
 use Rattle.fpga_types.specs.declared.netlist.Block.{Block}
 use Rattle.fpga_text.specs.Bytes.{Bytes}
 use Rattle.fpga_place.specs.BlockTables.{AreNumbered, GainsName}
 use Rattle.fpga_place.specs.Blocks.{block_named, has_name, number_named}
-
--- one element more is found where no earlier one was
-pub position-push : {T : Type 0} (p : T → Bool) (i : ℕ) (xs : List T) (x : T)
-    → position_from p i (xs ++ x ∷ [])
-    ≡ option_or (position_from p i xs) (cond (p x) (Some (i + length xs)) None)
-position-push p i [] x = let e : i ≡ i + 0 = omega arith in ap (λ n. cond (p x) (Some n) None) e
-position-push {T} p i (y ∷ ys) x = rw (position-push p (i + 1) ys x) (go (p y))
-  where
-    go : (b : Bool) → cond b (Some i)
-        (option_or (position_from p (i + 1) ys) (cond (p x) (Some (i + 1 + length ys)) None))
-        ≡ option_or (cond b (Some i) (position_from p (i + 1) ys))
-        (cond (p x) (Some (i + length (y ∷ ys))) None)
-    go true = refl
-    go false = let e : i + 1 + length ys ≡ i + length (y ∷ ys) = omega arith in rw e refl
 
 -- two names that pass as one are one
 pub same_name : (a b : Bytes) → bytes_eq a b ≡ true → a ≡ b

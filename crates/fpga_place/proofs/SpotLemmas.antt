@@ -2,22 +2,15 @@
 use Rattle.std.proofs.Common.{◌≡◌, ℕ, zero, suc, Bool, true, false, cond, Option, Some, None, List, [], ◌∷◌, length, replicate, refl, sym, ap, ◌∙◌, eq-eqb}
 use Rattle.std.specs.Prelude.{◌==◌, ◌&&◌, ◌||◌, slice_get, slice_set}
 use Rattle.std.specs.BTreeSet.{BTreeSet, IsEmpty, Updates, contains}
-use Rattle.std.specs.Cmp.{both_ways, tied_then, unsigned_ties}
-use Rattle.std.specs.Ordering.{is_eq, nat_cmp, ordering_then}
+use Rattle.std.specs.Ordering.{is_eq}
 use Rattle.std.proofs.Math.Bool.{or_assoc, or_comm}
+use Rattle.list_laws.proofs.Ties.{nat_ties, then_ties}
 use Rattle.fpga_types.specs.Places.{same_spot, spot_of}
 use Rattle.fpga_types.specs.declared.netlist.Block.{Block}
 use Rattle.fpga_types.specs.declared.placement.Place.{Place}
 use Rattle.fpga_types.specs.declared.placement.Spot.{Spot}
 use Rattle.fpga_types.specs.declared.placement.Spot.TheVariants.{Block as BlockAt, Pad as PadAt}
 use Rattle.fpga_place.specs.Spots.{HasSpots, has_spot, spot_cmp, spots}
-use borrow.Author.Tests.{eqb-true}
-
--- numbers tie where they are equal
-number_ties : (a b : ℕ) → is_eq (nat_cmp a b) ≡ (b == a)
-number_ties a b =
-    sym (unsigned_ties a b) ∙ both_ways (a == b) (b == a) (λ h. eq-eqb b a (sym (eqb-true a b h)))
-    (λ h. eq-eqb a b (sym (eqb-true b a h)))
 
 and_last : (a b c : Bool) → (a && (b && c)) ≡ (a && b && c)
 and_last true b c = refl
@@ -25,12 +18,9 @@ and_last false b c = refl
 
 -- spots tie where they are one
 pub spot_ties : (a b : Spot) → is_eq (spot_cmp a b) ≡ same_spot b a
-spot_ties (BlockAt x y) (BlockAt u v) =
-    sym (tied_then (nat_cmp x u) (nat_cmp y v)) ∙ (λ i. number_ties x u i && number_ties y v i)
+spot_ties (BlockAt x y) (BlockAt u v) = then_ties _ _ _ _ (nat_ties x u) (nat_ties y v)
 spot_ties (PadAt x y sub) (PadAt u v number) =
-    sym (tied_then (nat_cmp x u) (ordering_then (nat_cmp y v) (nat_cmp sub number)))
-    ∙ (λ i. number_ties x u i && sym (tied_then (nat_cmp y v) (nat_cmp sub number)) i)
-    ∙ (λ i. (u == x) && (number_ties y v i && number_ties sub number i))
+    then_ties _ _ _ _ (nat_ties x u) (then_ties _ _ _ _ (nat_ties y v) (nat_ties sub number))
     ∙ and_last (u == x) (v == y) (number == sub)
 spot_ties (BlockAt x y) (PadAt u v number) = refl
 spot_ties (PadAt x y sub) (BlockAt u v) = refl

@@ -4,3 +4,4 @@ pub mod Numbered
 pub mod Places
 pub mod Rows
 pub mod Searches
+pub mod Ties

@@ -1,7 +1,8 @@
 -- The first place where a test passes.
-use Rattle.std.proofs.Common.{◌≡◌, ℕ, suc, ◌+◌, ◌<◌, Bool, true, false, cond, Some, None, List, [], ◌∷◌, length, refl, arith, one-add}
+use Rattle.std.proofs.Common.{◌≡◌, ℕ, suc, ◌+◌, ◌<◌, Bool, true, false, cond, Some, None, List, [], ◌∷◌, ◌++◌, length, refl, arith, add-zero, one-add}
 use Rattle.std.specs.Prelude.{◌||◌, not, filter, find, is_some}
 use Rattle.std.specs.List.{list_any, position_from, position_or_len}
+use Rattle.std.specs.Option.{option_or}
 use Rattle.std.proofs.lemmas.Bool.{false≢true}
 
 -- a place is found exactly where the test passes somewhere
@@ -14,6 +15,21 @@ position-any {T} p i (x ∷ xs) = rw (← position-any p (i + 1) xs) (go (p x))
         ≡ (b || is_some (position_from p (i + 1) xs))
     go true = refl
     go false = refl
+
+-- an element more is found where no earlier one was
+pub position-push : {T : Type 0} (p : T → Bool) (i : ℕ) (xs : List T) (x : T) →
+    position_from p i (xs ++ x ∷ [])
+    ≡ option_or (position_from p i xs) (cond (p x) (Some (i + length xs)) None)
+position-push p i [] x = rw add-zero refl
+position-push {T} p i (y ∷ ys) x = rw (position-push p (i + 1) ys x) (go (p y))
+  where
+    go : (b : Bool) →
+        cond b (Some i)
+        (option_or (position_from p (i + 1) ys) (cond (p x) (Some (i + 1 + length ys)) None))
+        ≡ option_or (cond b (Some i) (position_from p (i + 1) ys))
+        (cond (p x) (Some (i + length (y ∷ ys))) None)
+    go true = refl
+    go false = let e : i + 1 + length ys ≡ i + length (y ∷ ys) = omega arith in rw e refl
 
 -- behind an element where it fails
 pub position-failed : {T : Type 0} (p : T → Bool) (x : T) (xs : List T) → p x ≡ false →

@@ -1,2 +1,3 @@
-//! Laws of lists over any element, which the proofs of the other crates stand on: there is no code.
+//! Laws of lists over any element, and of where comparisons tie, which the proofs of the other
+//! crates stand on: there is no code.
 #![tactic(auto)]
