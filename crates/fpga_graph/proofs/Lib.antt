@@ -1,0 +1,5 @@
+pub mod Apart
+pub mod JointLemmas
+pub mod Ranges
+pub mod ReachedLemmas
+mod WireRows
