@@ -12,6 +12,7 @@ use Rattle.list_laws.proofs.Places.{none_is_not_some, some_is}
 use Rattle.list_laws.proofs.Rows.{rows-alike, rows-map, rows-rows}
 use Rattle.fpga_types.specs.Fabric.{Meeting, all_meetings, cell_on, is_cell, is_channel_place, is_meeting_of, meeting, other_sides, same_cell, switch_blocks}
 use Rattle.fpga_types.specs.Size.{Size}
+use Rattle.fpga_types.specs.Touching.{all_sides}
 use Rattle.fpga_types.specs.Tracks.{AreJoined, TrackMap, mapped_track, track_across}
 use Rattle.fpga_types.specs.declared.grid.Axis.{Axis}
 use Rattle.fpga_types.specs.declared.grid.Axis.TheVariants.{X, Y}
@@ -36,9 +37,6 @@ block_at i j = record { i = i; j = j }
 
 abbrev meeting_at : SwitchAt → Side → Side → Meeting
 meeting_at at from to = record { at = at; from = from; to = to }
-
-abbrev four_sides : List Side
-four_sides = Left ∷ Right ∷ Bottom ∷ Top ∷ []
 
 shut : {A : Type 0} (b c : Bool) (xs : List A) → b ≡ false → cond (b && c) xs [] ≡ []
 shut false c xs h = refl
@@ -67,7 +65,7 @@ module _ (g : GraphOf) (w : Wire) where
   made_from at from = flat_map made (map (meeting_at at from) (other_sides from))
 
   abbrev made_at : ℕ → ℕ → List Wire
-  made_at i j = flat_map (made_from (block_at i j)) four_sides
+  made_at i j = flat_map (made_from (block_at i j)) all_sides
 
   -- what is made of a cell round the wire's own
   abbrev made_in : Cell → List Wire
@@ -84,13 +82,13 @@ module _ (g : GraphOf) (w : Wire) where
       let rows = range_with_len 0 (g.grid.ny + 1) in
       let meetings_from = λ (at : SwitchAt) (from : Side). map (meeting_at at from)
       (other_sides from) in
-      let meetings_at = λ (at : SwitchAt). flat_map (meetings_from at) four_sides in
-      let block = λ (at : SwitchAt). flat_map (made_from at) four_sides in
+      let meetings_at = λ (at : SwitchAt). flat_map (meetings_from at) all_sides in
+      let block = λ (at : SwitchAt). flat_map (made_from at) all_sides in
       sym (flat_map_single across (filter test (all_meetings g.grid)))
       ∙ rows-filter test (λ m. across m ∷ []) (all_meetings g.grid)
       ∙ rows-rows made meetings_at (switch_blocks g.grid)
       ∙ rows-alike (λ at. flat_map made (meetings_at at)) block (switch_blocks g.grid)
-      (λ at i. rows-rows made (meetings_from at) four_sides)
+      (λ at i. rows-rows made (meetings_from at) all_sides)
       ∙ rows-rows block (λ i. map (block_at i) rows) columns
       ∙ rows-alike (λ i. flat_map block (map (block_at i) rows))
       (λ i. flat_map (made_at i) rows) columns (λ i h. rows-map block (block_at i) rows)

@@ -40,7 +40,7 @@ rows-none {A} {B} f (x ∷ xs) h =
     ap (λ (t : List B). t ++ flat_map f xs) (h x (inl refl))
     ∙ rows-none f xs (λ y i. h y (inr i))
 
--- no number is one of a range of none
+-- a number is before or behind a range of none
 beyond : (a k : ℕ) → (k < a) ⊎ (a + 0 ≤ k)
 beyond a k = elim (cases_lt k a) [
   | inl below ↦ inl below

@@ -1,5 +1,5 @@
 //! Worked rows: joined wires at the border and amid the array, and the wires of pins.
-ghost use Rattle.std.specs.Prelude.{◌≡◌, length, IfOk};
+ghost use Rattle.std.specs.Prelude.{◌≡◌, ◌≤◌, ◌^◌, length, IfOk};
 ghost use Rattle.fpga_graph.specs.Cells.{column_cell, row_cell};
 ghost use Rattle.fpga_graph.specs.Wires.{wire_in};
 
@@ -10,31 +10,39 @@ use std::alloc::{AllocError, Global};
 use std::process::Abort;
 use std::test::Fail;
 
-// Two inputs, on the left and on all sides, that open half of the tracks.
-fn arch_with(alloc: Global, pattern: Pattern) -> Result<Arch, AllocError>
-    ensures { IfOk result (λ arch. length arch.pins ≡ 2) }
+// Inputs on all sides, on the left and on the top, that have this share of the tracks.
+fn arch_with(
+    alloc: Global,
+    pattern: Pattern,
+    fractional: bool,
+    input: u64,
+) -> Result<Arch, AllocError>
+    requires { input ≤ 10 ^ 15 }
+    ensures { IfOk result (λ arch. length arch.pins ≡ 3) }
 {
-    let left = SideSet {
-        left: true,
+    let none = SideSet {
+        left: false,
         right: false,
         bottom: false,
         top: false,
     };
+    let left = SideSet { left: true, ..none };
+    let top = SideSet { top: true, ..none };
     let round = SideSet {
         left: true,
         right: true,
         bottom: true,
         top: true,
     };
-    let pins = [input_on(left), input_on(round)];
+    let pins = [input_on(round), input_on(left), input_on(top)];
     Ok(Arch {
         io_rat: 2,
         pins: Items::of(Vec::from_slice(alloc, &pins)?),
         pattern,
         fc: FcSpec {
-            fractional: true,
+            fractional,
             output: 0,
-            input: 500000,
+            input,
             pad: 1000000,
         },
     })
@@ -81,7 +89,7 @@ fn are_joints(found: &[Joint], wanted: &[Wire]) -> bool {
 
 #[test]
 fn joined_wires(rt: HostRuntime) -> Result<(), Fail> {
-    let arch = arch_with(rt.alloc(), Pattern::Wilton)?;
+    let arch = arch_with(rt.alloc(), Pattern::Wilton, true, 1000000)?;
     let graph = Graph::new(&arch, Grid { nx: 2, ny: 1 }, 3);
     let at_border = graph.joints(in_row(1, 0, 1));
     let of_border = [in_column(0, 1, 0), in_row(2, 0, 1), in_column(1, 1, 2)];
@@ -99,7 +107,7 @@ fn joined_wires(rt: HostRuntime) -> Result<(), Fail> {
 
 #[test]
 fn six_joints_amid_the_array(rt: HostRuntime) -> Result<(), Fail> {
-    let arch = arch_with(rt.alloc(), Pattern::Subset)?;
+    let arch = arch_with(rt.alloc(), Pattern::Subset, true, 1000000)?;
     let graph = Graph::new(&arch, Grid { nx: 3, ny: 3 }, 2);
     let joints = graph.joints(in_row(2, 1, 1));
     let wanted = [
@@ -117,19 +125,25 @@ fn six_joints_amid_the_array(rt: HostRuntime) -> Result<(), Fail> {
 #[test]
 fn wires_of_pins(rt: HostRuntime) -> Result<(), Fail> {
     let alloc = rt.alloc();
-    let arch = arch_with(alloc, Pattern::Subset)?;
-    let graph = Graph::new(&arch, Grid { nx: 2, ny: 1 }, 5);
-    let left = graph.pin_wires(alloc, PinAt::Pin { x: 1, y: 1, pin: 0 })?;
-    let of_left = [in_column(0, 1, 0), in_column(0, 1, 1), in_column(0, 1, 3)];
-    assert_eq!(rt; left.as_slice(), of_left.as_slice());
-    let narrow = Graph::new(&arch, Grid { nx: 2, ny: 1 }, 1);
-    let round = narrow.pin_wires(alloc, PinAt::Pin { x: 2, y: 1, pin: 1 })?;
+    let two = arch_with(alloc, Pattern::Subset, false, 2000000)?;
+    let half = arch_with(alloc, Pattern::Subset, true, 500000)?;
+    let grid = Grid { nx: 2, ny: 1 };
+    let left = PinAt::Pin { x: 1, y: 1, pin: 1 };
+    let of_left = [in_column(0, 1, 1), in_column(0, 1, 3)];
+    let found = Graph::new(&two, grid, 5).pin_wires(alloc, left)?;
+    assert_eq!(rt; found.as_slice(), of_left.as_slice());
+    let top = PinAt::Pin { x: 1, y: 1, pin: 2 };
+    let of_top = [in_row(1, 1, 0), in_row(1, 1, 2), in_row(1, 1, 3)];
+    let found = Graph::new(&half, grid, 5).pin_wires(alloc, top)?;
+    assert_eq!(rt; found.as_slice(), of_top.as_slice());
+    let round = PinAt::Pin { x: 2, y: 1, pin: 0 };
     let of_round = [
         in_row(2, 0, 0),
         in_row(2, 1, 0),
         in_column(1, 1, 0),
         in_column(2, 1, 0),
     ];
-    assert_eq!(rt; round.as_slice(), of_round.as_slice());
+    let found = Graph::new(&half, grid, 1).pin_wires(alloc, round)?;
+    assert_eq!(rt; found.as_slice(), of_round.as_slice());
     Ok(())
 }
