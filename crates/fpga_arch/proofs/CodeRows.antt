@@ -195,6 +195,53 @@ no_share_of_switches_row = refl
 pub key_as_value_row : found (changed 18 (codes "segment wire_switch: Frac_cb: length: 1")) ≡ None
 key_as_value_row = refl
 
+pub two_keywords_row : found (changed 1 (codes "io_rat 2 io_rat 17 chan_width_io 5")) ≡ None
+two_keywords_row = refl
+
+pub no_pad_row : found (changed 1 (codes "io_rat 0")) ≡ Some (Bad 1 102)
+no_pad_row = refl
+
+pub fc_past_limit_row : found (changed 15 (codes "Fc_output 1000000001")) ≡ Some (Bad 15 102)
+fc_past_limit_row = refl
+
+pub fc_begins_with_point_row : found (changed 15 (codes "Fc_output .5")) ≡ None
+fc_begins_with_point_row = refl
+
+pub fc_ends_with_point_row : found (changed 16 (codes "Fc_input 5.")) ≡ None
+fc_ends_with_point_row = refl
+
+pub fc_two_points_row : found (changed 16 (codes "Fc_input 1.5.")) ≡ Some (Bad 16 102)
+fc_two_points_row = refl
+
+pub sixteen_decimals_row : found (changed 17 (codes "Fc_pad 0.1234567890123456")) ≡ None
+sixteen_decimals_row = refl
+
+pub sixteen_decimals_and_a_word_row : found (changed 17 (codes "Fc_pad 0.123456789012345x"))
+    ≡ Some (Bad 17 102)
+sixteen_decimals_and_a_word_row = refl
+
+pub no_share_of_boxes_row : found (changed 18 (codes "segment length: 1 Frac_cb:"))
+    ≡ Some (Bad 18 111)
+no_share_of_boxes_row = refl
+
+pub bad_segment_again_row : found (added (codes "segment length: 2")) ≡ Some (Bad 21 104)
+bad_segment_again_row = refl
+
+pub comment_hides_side_row : found (changed 6 (codes "inpin class: 0 # left")) ≡ Some (Bad 6 103)
+comment_hides_side_row = refl
+
+pub pin_goes_on_row : found (changed 6 (codes "inpin class:\\\n 0 \\ # and\n left")) ≡ None
+pin_goes_on_row = refl
+
+pub backslash_before_comment_row : found (changed 6 (codes "inpin class: 0 \\ # left\n top")) ≡ None
+backslash_before_comment_row = refl
+
+pub backslash_alone_row : found (added (codes "\\\nio_rat 2")) ≡ Some (Bad 21 110)
+backslash_alone_row = refl
+
+pub last_part_is_counted_row : found (without 13 ++ codes "T \\\n 1") ≡ Some (Bad 22 101)
+last_part_is_counted_row = refl
+
 pub pads_again_row : found (added (codes "io_rat 2")) ≡ Some (Bad 21 110)
 pads_again_row = refl
 

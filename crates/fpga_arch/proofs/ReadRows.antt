@@ -51,3 +51,11 @@ pub universal_reads : arch_value (text_of (slice_set
       fc = record { fractional = true; output = 250000; input = 1000000; pad = 1000000 };
     }
 universal_reads = refl
+
+-- digits behind the sixth after the point are cut off
+pub sixteen_decimals_read : arch_value (text_of (slice_set
+    (slice_set arch_lines 15 (codes "Fc_input 5.")) 16 (codes "Fc_pad 0.1234567890123456")))
+    ≡ record arch {
+      fc = record { fractional = true; output = 1000000; input = 5000000; pad = 123456 };
+    }
+sixteen_decimals_read = refl

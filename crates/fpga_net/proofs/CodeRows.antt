@@ -151,6 +151,9 @@ global_on_two_of_class_row = refl
 pub global_without_names_row : fault_of (added (codes ".global")) ≡ None
 global_without_names_row = refl
 
+pub unused_global_row : fault_of (added (codes ".global unused")) ≡ None
+unused_global_row = refl
+
 pub late_global_row : fault_of (changed 13 (codes "pinlist: b b open open d b\n.global b d")) ≡ None
 late_global_row = refl
 
