@@ -1,7 +1,7 @@
 -- The steps of a route that fits: their slots are slots of the route, and the cells of those meet.
-use Rattle.std.proofs.Common.{◌≡◌, ℕ, zero, suc, ◌+◌, ◌<◌, Bool, true, false, cond, Option, Some, None, List, [], ◌∷◌, ◌++◌, length, take, drop, get_or, inl, inr, refl, sym, ap, subst, ◌∙◌, arith, All}
-use Rattle.std.specs.Prelude.{◌||◌, not, is_some, is_none, filter_map, flat_map, slice_get, option_map, option_and_then}
-use Rattle.std.specs.List.{AllByRecursion, cons_option, enumerate_from, last_or, list_any, position_or_len}
+use Rattle.std.proofs.Common.{◌≡◌, ℕ, zero, suc, ◌+◌, ◌<◌, Bool, true, false, Option, Some, None, List, [], ◌∷◌, ◌++◌, length, take, drop, get_or, inl, inr, refl, sym, ap, subst, ◌∙◌, arith, All}
+use Rattle.std.specs.Prelude.{is_none, filter_map, flat_map, slice_get, option_map, option_and_then}
+use Rattle.std.specs.List.{AllByRecursion, cons_option, enumerate_from, last_or, list_any}
 use Rattle.std.proofs.Math.Bool.{or-true}
 use Rattle.std.proofs.lemmas.Bool.{false≢true}
 use Rattle.std.proofs.lemmas.List.Folds.{list_any-append}
@@ -15,7 +15,6 @@ use Rattle.fpga_text.specs.declared.fault.TextFault.{TextFault}
 use Rattle.fpga_text.proofs.FaultLemmas.{faultless-line}
 use Rattle.fpga_types.specs.Fabric.{Meeting, Meets, meeting}
 use Rattle.fpga_types.specs.Fit.{IsFit, are_apart, context_of, fit_faults, line_fault, net_lines, route_lines, splits}
-use Rattle.fpga_types.specs.Size.{Size}
 use Rattle.fpga_types.specs.Slots.{adjacent, elem_cell, elem_slot, same_slot, slot_at, slot_number, slots, slots_of, step_of, steps, NO_SLOT}
 use Rattle.fpga_types.specs.declared.grid.Cell.{Cell}
 use Rattle.fpga_types.specs.declared.problem.RouteStep.{RouteStep}
@@ -26,7 +25,8 @@ use Rattle.fpga_types.specs.declared.route.RouteText.{RouteText}
 use Rattle.fpga_types.proofs.FitLemmas.{In-splits}
 use Rattle.fpga_types.proofs.MeetingLemmas.{meeting-is}
 use Rattle.fpga_bounds.specs.Problem.{IsStepWithin, IsStepMeeting}
-use Rattle.fpga_bounds.proofs.LineLemmas.{elem_line, line_at, passes}
+use Rattle.fpga_bounds.specs.NetFit.{line_at}
+use Rattle.fpga_bounds.proofs.LineLemmas.{elem_line, passes}
 use Rattle.fpga_bounds.proofs.SlotTableLemmas.{same_slot-is, same_slot-itself}
 use Rattle.fpga_bounds.proofs.SlotsOfLemmas.{any-first_seen, channel_slots}
 

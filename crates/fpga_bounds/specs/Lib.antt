@@ -1,8 +1,13 @@
 pub mod ElemContext
+pub mod Inputs
 pub mod Keys
+pub mod LineFault
+pub mod NetEnds
 pub mod NetFit
+pub mod NetTable
 pub mod Pairs
 pub mod Problem
+pub mod ProblemContext
 pub mod Refusal
 pub mod Retrack
 pub mod SlotTable

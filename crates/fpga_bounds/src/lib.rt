@@ -2,11 +2,18 @@
 #![tactic(auto)]
 
 mod copy;
+mod design;
 mod elem_context;
+mod elems_check;
+mod inputs;
 mod keys;
+mod line_fault;
 mod net_check;
+mod net_ends;
+mod net_table;
 mod pairs;
 mod problem;
+mod problem_context;
 mod retrack;
 mod route_check;
 mod slot_table;
