@@ -1,7 +1,7 @@
 -- A pin line is at an input where the spot that it says is one at which nets end.
-use Rattle.std.proofs.Common.{◌≡◌, ℕ, zero, suc, ◌+◌, Bool, true, false, cond, Some, None, List, [], ◌∷◌, take, refl, sym, ap, ◌∙◌, add-one}
+use Rattle.std.proofs.Common.{◌≡◌, ℕ, zero, suc, ◌+◌, Bool, true, false, Some, None, List, [], ◌∷◌, take, refl, sym, ap, ◌∙◌, add-one}
 use Rattle.std.specs.Prelude.{◌==◌, ◌&&◌, ◌||◌, slice_get, zip, if◌then◌else◌}
-use Rattle.std.specs.BTreeSet.{BTreeSet, Updates, contains}
+use Rattle.std.specs.BTreeSet.{BTreeSet, contains}
 use Rattle.std.specs.List.{list_any}
 use Rattle.std.specs.Option.{option_map_or}
 use Rattle.std.proofs.Math.Bool.{or-false}
@@ -20,7 +20,7 @@ use Rattle.fpga_types.specs.declared.placement.Spot.TheVariants.{Block as BlockA
 use Rattle.fpga_types.specs.declared.route.Elem.{Elem}
 use Rattle.fpga_types.specs.declared.route.Label.{Label}
 use Rattle.fpga_types.specs.declared.route.Label.TheVariants.{Class, Pin, Pad, Track}
-use Rattle.fpga_types.proofs.SpotLemmas.{equal-swap, spot_ties}
+use Rattle.fpga_types.proofs.SpotLemmas.{equal-swap}
 use Rattle.fpga_bounds.specs.Inputs.{GainsInput, HasInputs, ends_nets, ends_nets_at, said_input}
 
 -- where a test of each element is another one of it and of the same fact, so it is of some element
@@ -119,20 +119,6 @@ pub at-input : (arch : Arch) (e : Elem) (spots : BTreeSet Spot) (placed : List (
 at-input arch e spots placed spot has said =
     has spot ∙ (λ i. option_map_or (λ at. list_any (ends_nets_at at) placed) (sym said i) false)
     ∙ input-found arch e.x e.y e.number e.label placed
-
--- the set with one spot more
-pub gains-input : (spots : BTreeSet Spot) (after : BTreeSet Spot) (block : Block) (place : Place) (at : Spot)
-    → ends_nets block.kind ≡ true → at ≡ spot_of block.kind place → Updates spot_cmp spots after at true
-    → GainsInput spots (block, place) after
-gains-input spots after block place at ends is updates spot =
-    updates.0 spot ∙ rw (is, spot_ties (spot_of block.kind place) spot, ends)
-    (go (same_spot spot (spot_of block.kind place)) (contains spot_cmp spots spot))
-  where
-    go : (b o : Bool) → cond b true o ≡ (o || b)
-    go true true = refl
-    go true false = refl
-    go false true = refl
-    go false false = refl
 
 -- what stands at a place of two rows
 zip-there : {A B : Type 0} (xs : List A) (ys : List B) (i : ℕ) (x : A) (y : B)

@@ -11,3 +11,6 @@ pub mod InputLemmas
 pub mod NameLemmas
 pub mod EndLemmas
 pub mod LineFaultLemmas
+pub mod HeadLemmas
+pub mod ProblemLemmas
+pub mod PinFacts

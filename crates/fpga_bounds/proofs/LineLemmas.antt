@@ -199,6 +199,7 @@ refused route Memory is = tt
 -- a line without a fault passes each test
 pub record Passes (grid : Size) (at : LineContext) : Type 0 where
   pub leaps : leaps grid at ≡ false
+  pub ordered : is_out_of_order at ≡ false
   pub past : slots_past at ≡ None
 
 pub passes : (grid : Size) (n : ℕ) (at : LineContext) → first_code fit_codes grid n at ≡ None
@@ -206,21 +207,21 @@ pub passes : (grid : Size) (n : ℕ) (at : LineContext) → first_code fit_codes
 passes grid n at clean =
     go (leaps grid at) (comes_again at) (starts_loose at) at.taken (is_out_of_order at)
     (slots_past at)
-    refl refl clean
+    refl refl refl clean
   where
-    go : (a b c d e : Bool) (o : Option ℕ) → leaps grid at ≡ a → slots_past at ≡ o
+    go : (a b c d e : Bool) (o : Option ℕ) → leaps grid at ≡ a → is_out_of_order at ≡ e → slots_past at ≡ o
         → (if a then Some (Bad n 510) else if b then Some (Bad n 511) else if c then Some
         (Bad n 512)
         else if d then Some (Bad n 513) else if e then Some (Bad n 514)
         else option_or (option_map (λ m. Limit 515 m) o) None) ≡ None → Passes grid at
-    go true b c d e o p q f = absurd (let clash : Some (Bad n 510) ≡ None = f in cc)
-    go false true c d e o p q f = absurd (let clash : Some (Bad n 511) ≡ None = f in cc)
-    go false false true d e o p q f = absurd (let clash : Some (Bad n 512) ≡ None = f in cc)
-    go false false false true e o p q f = absurd (let clash : Some (Bad n 513) ≡ None = f in cc)
-    go false false false false true o p q f = absurd (let clash : Some (Bad n 514) ≡ None = f in cc)
-    go false false false false false (Some m) p q f =
+    go true b c d e o p r q f = absurd (let clash : Some (Bad n 510) ≡ None = f in cc)
+    go false true c d e o p r q f = absurd (let clash : Some (Bad n 511) ≡ None = f in cc)
+    go false false true d e o p r q f = absurd (let clash : Some (Bad n 512) ≡ None = f in cc)
+    go false false false true e o p r q f = absurd (let clash : Some (Bad n 513) ≡ None = f in cc)
+    go false false false false true o p r q f = absurd (let clash : Some (Bad n 514) ≡ None = f in cc)
+    go false false false false false (Some m) p r q f =
         absurd (let clash : Some (Limit 515 m) ≡ None = f in cc)
-    go false false false false false None p q f = record { leaps = p; past = q }
+    go false false false false false None p r q f = record { leaps = p; ordered = r; past = q }
 
 slot_channel : (n : ℕ) (k : ElemKind) (x y : ℕ) (s : Slot)
     → option_map {T = Cell} {U = Slot} (λ cell. record { net = n; cell = cell }) (channel_at k x y)

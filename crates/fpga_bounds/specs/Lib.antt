@@ -1,4 +1,5 @@
 pub mod ElemContext
+pub mod Heads
 pub mod Inputs
 pub mod Keys
 pub mod LineFault
@@ -6,6 +7,8 @@ pub mod NetEnds
 pub mod NetFit
 pub mod NetTable
 pub mod Pairs
+pub mod PinList
+pub mod Posed
 pub mod Problem
 pub mod ProblemContext
 pub mod Refusal
