@@ -7,3 +7,10 @@ pub mod SlotTableLemmas
 pub mod SlotsOfLemmas
 pub mod StepFacts
 pub mod StepLemmas
+pub mod InputLemmas
+pub mod NameLemmas
+pub mod EndLemmas
+pub mod LineFaultLemmas
+pub mod HeadLemmas
+pub mod ProblemLemmas
+pub mod PinFacts

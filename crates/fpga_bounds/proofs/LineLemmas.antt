@@ -1,18 +1,19 @@
 -- The faults of a net's lines, taken line by line.
 use Rattle.std.proofs.Common.{◌≡◌, ℕ, zero, suc, ◌+◌, ◌-◌, ◌<◌, ◌≤◌, Bool, true, false, Option, Some, None, List, [], ◌∷◌, ◌++◌, length, take, drop, get_or, refl, sym, ap, subst, ◌∙◌, arith, length-drop, add-one}
 use Rattle.std.specs.Prelude.{◌&&◌, ◌||◌, ◌==◌, not, map, flat_map, slice_get, option_map, if◌then◌else◌}
+use Rattle.std.specs.BTreeSet.{BTreeSet}
 use Rattle.std.specs.List.{list_any, last_or}
-use Rattle.std.specs.Option.{option_map_or, option_or}
+use Rattle.std.specs.Option.{option_or}
 use Rattle.std.proofs.Math.Seq.{take-length}
 use Rattle.std.proofs.lemmas.Bool.{false≢true}
 use Rattle.std.proofs.lemmas.Bool.Decides.{nat_tests}
 use Rattle.std.proofs.lemmas.List.{map-append}
-use Rattle.list_laws.proofs.Places.{take-get}
-use Rattle.fpga_text.specs.Codes.{Past, first_code}
-use Rattle.fpga_text.specs.FirstFault.{Faults, IsFaultOf, IsRefusal, first_fault}
+use Rattle.list_laws.proofs.Places.{get-there, take-get}
+use Rattle.fpga_text.specs.Codes.{first_code}
+use Rattle.fpga_text.specs.FirstFault.{Faults, IsFaultOf, IsFaultless, IsRefusal, first_fault}
+use Rattle.fpga_text.proofs.FaultLemmas.{IsPast, past-line, past-part, refusal-line, refusal-part}
 use Rattle.fpga_text.specs.declared.fault.TextFault.{TextFault}
 use Rattle.fpga_text.specs.declared.fault.TextFault.TheVariants.{Bad, Limit, Memory}
-use Rattle.fpga_text.proofs.FaultLemmas.{fault-first}
 use Rattle.fpga_types.specs.Size.{Size}
 use Rattle.fpga_types.specs.Fit.{LineContext, RouteLine, comes_again, context_of, fit_codes, fit_faults, is_out_of_order, is_pin_of, leaps, line_fault, net_lines, same_elem, slots_past, splits, starts_loose}
 use Rattle.fpga_types.specs.Kinds.{is_channel}
@@ -27,115 +28,110 @@ use Rattle.fpga_types.specs.declared.route.Label.TheVariants.{Class}
 use Rattle.fpga_types.specs.declared.route.RouteNet.{RouteNet}
 use Rattle.fpga_types.specs.declared.route.RouteText.{RouteText}
 use Rattle.fpga_types.proofs.FitLemmas.{drop-splits, drop-splits_none}
-use Rattle.fpga_bounds.specs.ElemContext.{context_at}
-use Rattle.fpga_bounds.specs.NetFit.{nets_faults, slots_so_far}
+use Rattle.fpga_bounds.specs.Keys.{has_elem}
+use Rattle.fpga_bounds.specs.LineFault.{IsLineOf}
+use Rattle.fpga_bounds.specs.NetFit.{elems_faults, head_line, line_at, nets_faults, slots_so_far}
+use Rattle.fpga_bounds.specs.declared.keys.ElemKey.{ElemKey}
 use Rattle.fpga_bounds.specs.Refusal.{IsRefusalOf, untold}
 use Rattle.fpga_bounds.proofs.SlotsOfLemmas.{again-slot}
-
--- the Net line of a net
-abbrev pub head_line : List RouteNet → RouteNet → RouteLine
-head_line earlier net =
-    record { earlier = earlier; net = net; before = []; elem = None; after = net.elems }
-
--- the line of an element that stands between these
-abbrev pub line_at : List RouteNet → RouteNet → List Elem × Elem × List Elem → RouteLine
-line_at earlier net s =
-    record { earlier = earlier; net = net; before = s.0; elem = Some s.1; after = s.2 }
 
 -- the line of the element at this position
 abbrev pub elem_line : List RouteNet → RouteNet → ℕ → Elem → RouteLine
 elem_line earlier net i e = line_at earlier net (take i net.elems, e, drop (suc i) net.elems)
 
--- the faults of the lines of a net from an element on
-abbrev pub elems_faults : Size → List RouteNet → RouteNet → ℕ → Faults
-elems_faults grid earlier net i =
-    map (line_fault grid) (map (line_at earlier net) (drop i (splits net.elems)))
-
--- the first fault of the nets from this one on stands behind the first elements of the net
-abbrev pub IsPastElems : Size → List RouteNet → ℕ → RouteNet → ℕ → Type 0
-IsPastElems grid nets n net i = first_fault (nets_faults grid nets n)
-    ≡ first_fault (elems_faults grid (take n nets) net i ++ nets_faults grid nets (n + 1))
-
 -- what is read past the end of a net's elements
 abbrev pub NO_ELEM : Elem
 NO_ELEM = record { kind = Source; x = 0; y = 0; label = Class; number = 0; line = 0 }
 
-module _ (grid : Size) (nets : List RouteNet) (n : ℕ) (net : RouteNet)
-    (here : slice_get nets n ≡ Some net) where
+module _ (fault : RouteLine → Option TextFault) where
   -- the lines of a net come before those of the next
-  nets_faults-net : nets_faults grid nets n
-      ≡ line_fault grid (head_line (take n nets) net)
-      ∷ (elems_faults grid (take n nets) net 0 ++ nets_faults grid nets (n + 1))
-  nets_faults-net =
-      ap (λ ss. map (line_fault grid) (flat_map (λ s. net_lines s.0 s.1) ss))
-      (drop-splits nets n net here)
-      ∙ map-append (line_fault grid) (net_lines (take n nets) net)
+  pub nets-net : (nets : List RouteNet) (n : ℕ) (net : RouteNet) → slice_get nets n ≡ Some net
+      → nets_faults fault nets n ≡ fault (head_line (take n nets) net)
+      ∷ (elems_faults fault (take n nets) net 0 ++ nets_faults fault nets (n + 1))
+  nets-net nets n net here =
+      ap (λ ss. map fault (flat_map (λ s. net_lines s.0 s.1) ss)) (drop-splits nets n net here)
+      ∙ map-append fault (net_lines (take n nets) net)
       (flat_map (λ s. net_lines s.0 s.1) (drop (suc n) (splits nets)))
-      ∙ ap (λ m. line_fault grid (head_line (take n nets) net)
-      ∷ (elems_faults grid (take n nets) net 0
-      ++ nets_faults grid nets m)) (sym (add-one n))
+      ∙ ap (λ m. fault (head_line (take n nets) net)
+      ∷ (elems_faults fault (take n nets) net 0 ++ nets_faults fault nets m)) (sym (add-one n))
 
-  -- the Net line has no fault
-  pub past-head : line_fault grid (head_line (take n nets) net) ≡ None
-      → IsPastElems grid nets n net 0
-  past-head clean = ap first_fault nets_faults-net ∙ ap (λ o. option_or o
-      (first_fault (elems_faults grid (take n nets) net 0 ++ nets_faults grid nets (n + 1)))) clean
+  -- no net is left
+  pub nets-none : (nets : List RouteNet) (n : ℕ) → slice_get nets n ≡ None
+      → nets_faults fault nets n ≡ []
+  nets-none nets n none =
+      ap (λ ss. map fault (flat_map (λ s. net_lines s.0 s.1) ss)) (drop-splits_none nets n none)
 
-  -- it has one
-  pub refused-head : (found : TextFault)
-      → IsFaultOf (line_fault grid (head_line (take n nets) net)) found
-      → IsRefusal (nets_faults grid nets n) found
-  refused-head found is =
-      subst (λ (faults : Faults). IsRefusal faults found) (sym nets_faults-net)
-      (fault-first _ _ found is)
-
-  -- one line more has no fault
-  module _ (i : ℕ) (e : Elem) (there : slice_get net.elems i ≡ Some e) where
-    elems_faults-elem : elems_faults grid (take n nets) net i
-        ≡ line_fault grid (elem_line (take n nets) net i e) ∷ elems_faults grid (take n nets) net
-        (i + 1)
-    elems_faults-elem =
-        ap (λ ss. map (line_fault grid) (map (line_at (take n nets) net) ss))
-        (drop-splits net.elems i e there)
-        ∙ ap (λ m. line_fault grid (elem_line (take n nets) net i e)
-        ∷ elems_faults grid (take n nets) net m) (sym (add-one i))
-
-    pub past-elem : IsPastElems grid nets n net i
-        → line_fault grid (elem_line (take n nets) net i e) ≡ None
-        → IsPastElems grid nets n net (i + 1)
-    past-elem past clean = past
-        ∙ ap (λ faults. first_fault (faults ++ nets_faults grid nets (n + 1))) elems_faults-elem
-        ∙ ap (λ o. option_or o (first_fault (elems_faults grid (take n nets) net (i + 1)
-        ++ nets_faults grid nets (n + 1)))) clean
-
-    -- or it has one
-    pub refused-elem : (found : TextFault) → IsPastElems grid nets n net i
-        → IsFaultOf (line_fault grid (elem_line (take n nets) net i e)) found
-        → IsRefusal (nets_faults grid nets n) found
-    refused-elem found past is = subst (λ fault. IsFaultOf fault found)
-        (sym (past ∙ ap (λ faults. first_fault (faults ++ nets_faults grid nets (n + 1)))
-        elems_faults-elem))
-        (fault-first _ _ found is)
+  -- the line of an element comes before those of the next
+  pub elems-elem : (earlier : List RouteNet) (net : RouteNet) (i : ℕ) (e : Elem)
+      → slice_get net.elems i ≡ Some e
+      → elems_faults fault earlier net i ≡ fault (elem_line earlier net i e)
+      ∷ elems_faults fault earlier net (i + 1)
+  elems-elem earlier net i e there =
+      ap (λ ss. map fault (map (line_at earlier net) ss)) (drop-splits net.elems i e there)
+      ∙ ap (λ m. fault (elem_line earlier net i e) ∷ elems_faults fault earlier net m)
+      (sym (add-one i))
 
   -- no line is left
-  pub past-elems : (i : ℕ) → slice_get net.elems i ≡ None → IsPastElems grid nets n net i
-      → first_fault (nets_faults grid nets n) ≡ first_fault (nets_faults grid nets (n + 1))
-  past-elems i none past = past
-      ∙ ap (λ ss. first_fault (map (line_fault grid) (map (line_at (take n nets) net) ss)
-      ++ nets_faults grid nets (n + 1))) (drop-splits_none net.elems i none)
+  pub elems-none : (earlier : List RouteNet) (net : RouteNet) (i : ℕ)
+      → slice_get net.elems i ≡ None → elems_faults fault earlier net i ≡ []
+  elems-none earlier net i none =
+      ap (λ ss. map fault (map (line_at earlier net) ss)) (drop-splits_none net.elems i none)
+
+module _ (fault : RouteLine → Option TextFault) (all : Faults) (earlier : List RouteNet)
+    (net : RouteNet) (i : ℕ) where
+  module _ (e : Elem) (there : slice_get net.elems i ≡ Some e)
+      (past : IsPast all (elems_faults fault earlier net i)) where
+    at-line : IsPast all (fault (elem_line earlier net i e)
+        ∷ elems_faults fault earlier net (i + 1))
+    at-line = subst (IsPast all) (elems-elem fault earlier net i e there) past
+
+    -- one line more has no fault
+    pub past-elem : fault (elem_line earlier net i e) ≡ None
+        → IsPast all (elems_faults fault earlier net (i + 1))
+    past-elem clean = past-line at-line clean
+
+    -- or it has one
+    pub refused-elem : (found : TextFault) → IsFaultOf (fault (elem_line earlier net i e)) found
+        → IsRefusal all found
+    refused-elem found is = refusal-line found at-line is
+
+  -- no line is left
+  pub past-elems : slice_get net.elems i ≡ None → IsPast all (elems_faults fault earlier net i)
+      → IsFaultless all
+  past-elems none past = past.same ∙ ap first_fault (elems-none fault earlier net i none)
+
+module _ (fault : RouteLine → Option TextFault) (all : Faults) (nets : List RouteNet) (n : ℕ)
+    (net : RouteNet) (here : slice_get nets n ≡ Some net)
+    (past : IsPast all (nets_faults fault nets n)) where
+  at-net : IsPast all (fault (head_line (take n nets) net)
+      ∷ (elems_faults fault (take n nets) net 0 ++ nets_faults fault nets (n + 1)))
+  at-net = subst (IsPast all) (nets-net fault nets n net here) past
+
+  -- the Net line has a fault
+  pub refused-head : (found : TextFault) → IsFaultOf (fault (head_line (take n nets) net)) found
+      → IsRefusal all found
+  refused-head found is = refusal-line found at-net is
+
+  -- it has none
+  module _ (clean : fault (head_line (take n nets) net) ≡ None) where
+    -- an element line has one
+    pub refused-elems : (found : TextFault)
+        → IsRefusal (elems_faults fault (take n nets) net 0) found → IsRefusal all found
+    refused-elems found is =
+        refusal-part (elems_faults fault (take n nets) net 0) (nets_faults fault nets (n + 1)) found
+        (past-line at-net clean) is
+
+    -- no element line has one
+    pub past-net : IsFaultless (elems_faults fault (take n nets) net 0)
+        → IsPast all (nets_faults fault nets (n + 1))
+    past-net clean_elems = past-part (elems_faults fault (take n nets) net 0)
+        (nets_faults fault nets (n + 1)) (past-line at-net clean) clean_elems
 
 -- nothing stands past the end
 pub get-none : {T : Type 0} (xs : List T) (i : ℕ) → length xs ≤ i → slice_get xs i ≡ None
 get-none [] i past = refl
 get-none (x ∷ xs) zero past = absurd (omega arith)
 get-none (x ∷ xs) (suc i) past = get-none xs i (omega arith)
-
--- no net is left
-pub past-nets : (grid : Size) (nets : List RouteNet) (n : ℕ) → slice_get nets n ≡ None
-    → first_fault (nets_faults grid nets n) ≡ None
-past-nets grid nets n none =
-    ap (λ ss. first_fault (map (line_fault grid) (flat_map (λ s. net_lines s.0 s.1) ss)))
-    (drop-splits_none nets n none)
 
 -- a fault that was found is one of the line
 pub found-fault : (fault : Option TextFault) (found : TextFault) → Some found ≡ fault
@@ -144,15 +140,16 @@ found-fault fault (Bad line code) is = sym is
 found-fault fault (Limit code count) is = sym is
 found-fault fault Memory is = tt
 
--- the fault of an element that a loop reads, by what it has at hand
-pub fault-at : (grid : Size) (earlier : List RouteNet) (net : RouteNet) (elems : List Elem) (i : ℕ)
+-- the line of an element that a loop reads, by what it has at hand
+pub line-of : (earlier : List RouteNet) (net : RouteNet) (elems : List Elem) (i : ℕ)
     (slots : List Slot) (previous : Option Elem) (again taken full : Bool)
-    (fault : Option TextFault)
+    (seen : BTreeSet ElemKey)
     → elems ≡ net.elems → i < length elems → slots ≡ slots_so_far earlier net i
     → previous ≡ last_or None (take i elems)
     → again ≡ list_any (same_elem (get_or elems i NO_ELEM)) (take i elems)
     → taken ≡ is_pin_of earlier (get_or elems i NO_ELEM) → full ≡ (length slots == SLOT_LIMIT)
-    → fault ≡ first_code fit_codes grid (get_or elems i NO_ELEM).line (context_at (record {
+    → ((q : Elem) → has_elem seen q ≡ list_any (same_elem q) (take (i + 1) elems))
+    → IsLineOf (record {
       elem = get_or elems i NO_ELEM;
       previous = previous;
       again = again;
@@ -160,22 +157,29 @@ pub fault-at : (grid : Size) (earlier : List RouteNet) (net : RouteNet) (elems :
       full = full;
       last = i + 1 == length elems;
       global = net.global;
-    }))
-    → fault ≡ line_fault grid (elem_line earlier net i (get_or elems i NO_ELEM))
-fault-at grid earlier net elems i slots previous again taken full fault own within so_far p a t f
-    is =
-    is ∙ (λ k. first_code fit_codes grid e.line (record {
-      elem = Some e;
-      previous = (p ∙ ap (λ (es : List Elem). last_or None (take i es)) own) k;
-      again = (a ∙ ap (λ (es : List Elem). list_any (same_elem e) (take i es)) own) k;
-      taken = t k;
-      full = (f ∙ ap (λ (zs : List Slot). length zs == SLOT_LIMIT) so_far) k;
-      last = (last ∙ ap (λ (es : List Elem). length (drop (suc i) es) == 0) own) k;
-      global = net.global;
-    }))
+    }) seen (elem_line earlier net i (get_or elems i NO_ELEM))
+line-of earlier net elems i slots previous again taken full seen own within so_far p a t f has =
+    record {
+      elem = refl;
+      context = λ k. record {
+        elem = Some e;
+        previous = (p ∙ ap (λ (es : List Elem). last_or None (take i es)) own) k;
+        again = (a ∙ ap (λ (es : List Elem). list_any (same_elem e) (take i es)) own) k;
+        taken = t k;
+        full = (f ∙ ap (λ (zs : List Slot). length zs == SLOT_LIMIT) so_far) k;
+        last = (last ∙ ap (λ (es : List Elem). length (drop (suc i) es) == 0) own) k;
+        global = net.global;
+      };
+      seen_are = λ q. has q
+          ∙ ap (list_any (same_elem q)) (rw add-one (take-get elems i e here)
+          ∙ ap (λ (es : List Elem). take i es ++ e ∷ []) own);
+    }
   where
     e : Elem
     e = get_or elems i NO_ELEM
+
+    here : slice_get elems i ≡ Some e
+    here = get-there elems i e NO_ELEM within refl
 
     ends : (a n : ℕ) → a < n → (a + 1 == n) ≡ (n - suc a == 0)
     ends a n g = grind (arith, nat_tests)
@@ -195,6 +199,7 @@ refused route Memory is = tt
 -- a line without a fault passes each test
 pub record Passes (grid : Size) (at : LineContext) : Type 0 where
   pub leaps : leaps grid at ≡ false
+  pub ordered : is_out_of_order at ≡ false
   pub past : slots_past at ≡ None
 
 pub passes : (grid : Size) (n : ℕ) (at : LineContext) → first_code fit_codes grid n at ≡ None
@@ -202,21 +207,21 @@ pub passes : (grid : Size) (n : ℕ) (at : LineContext) → first_code fit_codes
 passes grid n at clean =
     go (leaps grid at) (comes_again at) (starts_loose at) at.taken (is_out_of_order at)
     (slots_past at)
-    refl refl clean
+    refl refl refl clean
   where
-    go : (a b c d e : Bool) (o : Option ℕ) → leaps grid at ≡ a → slots_past at ≡ o
+    go : (a b c d e : Bool) (o : Option ℕ) → leaps grid at ≡ a → is_out_of_order at ≡ e → slots_past at ≡ o
         → (if a then Some (Bad n 510) else if b then Some (Bad n 511) else if c then Some
         (Bad n 512)
         else if d then Some (Bad n 513) else if e then Some (Bad n 514)
         else option_or (option_map (λ m. Limit 515 m) o) None) ≡ None → Passes grid at
-    go true b c d e o p q f = absurd (let clash : Some (Bad n 510) ≡ None = f in cc)
-    go false true c d e o p q f = absurd (let clash : Some (Bad n 511) ≡ None = f in cc)
-    go false false true d e o p q f = absurd (let clash : Some (Bad n 512) ≡ None = f in cc)
-    go false false false true e o p q f = absurd (let clash : Some (Bad n 513) ≡ None = f in cc)
-    go false false false false true o p q f = absurd (let clash : Some (Bad n 514) ≡ None = f in cc)
-    go false false false false false (Some m) p q f =
+    go true b c d e o p r q f = absurd (let clash : Some (Bad n 510) ≡ None = f in cc)
+    go false true c d e o p r q f = absurd (let clash : Some (Bad n 511) ≡ None = f in cc)
+    go false false true d e o p r q f = absurd (let clash : Some (Bad n 512) ≡ None = f in cc)
+    go false false false true e o p r q f = absurd (let clash : Some (Bad n 513) ≡ None = f in cc)
+    go false false false false true o p r q f = absurd (let clash : Some (Bad n 514) ≡ None = f in cc)
+    go false false false false false (Some m) p r q f =
         absurd (let clash : Some (Limit 515 m) ≡ None = f in cc)
-    go false false false false false None p q f = record { leaps = p; past = q }
+    go false false false false false None p r q f = record { leaps = p; ordered = r; past = q }
 
 slot_channel : (n : ℕ) (k : ElemKind) (x y : ℕ) (s : Slot)
     → option_map {T = Cell} {U = Slot} (λ cell. record { net = n; cell = cell }) (channel_at k x y)
@@ -258,11 +263,9 @@ slot-room grid earlier net i e s clean slot new limit =
     below m p q = grind (arith, nat_tests)
 
 -- the slots once each element is read
-pub slots-all : (nets : List RouteNet) (n : ℕ) (net : RouteNet) (i : ℕ) → slice_get nets n
-    ≡ Some net
-    → i ≡ length net.elems → slots_so_far (take n nets) net i ≡ slots_of (take (n + 1) nets)
-slots-all nets n net i here e =
-    rw (e, take-length net.elems, add-one, take-get nets n net here) refl
+pub slots-all : (earlier : List RouteNet) (net : RouteNet) (i : ℕ) → i ≡ length net.elems
+    → slots_so_far earlier net i ≡ slots_of (earlier ++ net ∷ [])
+slots-all earlier net i e = rw (e, take-length net.elems) refl
 
 -- the Net line has no fault where the net is global or has elements, and else is out of order
 pub head-fault : (grid : Size) (earlier : List RouteNet) (net : RouteNet) (bare : Bool)

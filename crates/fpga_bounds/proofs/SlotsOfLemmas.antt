@@ -1,5 +1,5 @@
 -- The slots of some nets, with one element more.
-use Rattle.std.proofs.Common.{◌≡◌, ℕ, zero, suc, ◌+◌, Bool, true, false, cond, Option, Some, None, List, [], ◌∷◌, ◌++◌, length, take, refl, sym, ap, subst, ◌∙◌, arith, zero-add, append_assoc}
+use Rattle.std.proofs.Common.{◌≡◌, ℕ, suc, ◌+◌, Bool, true, false, cond, Option, Some, None, List, [], ◌∷◌, ◌++◌, length, take, refl, sym, ap, subst, ◌∙◌, zero-add, append_assoc}
 use Rattle.std.specs.Prelude.{◌&&◌, ◌||◌, ◌==◌, not, filter, filter_map, flat_map, slice_get, option_map}
 use Rattle.std.proofs.Math.Bool.{or-true}
 use Rattle.std.specs.List.{list_any, enumerate_from, cons_option}

@@ -1,7 +1,7 @@
 -- The steps of a route that fits: their slots are slots of the route, and the cells of those meet.
-use Rattle.std.proofs.Common.{◌≡◌, ℕ, zero, suc, ◌+◌, ◌<◌, Bool, true, false, cond, Option, Some, None, List, [], ◌∷◌, ◌++◌, length, take, drop, get_or, inl, inr, refl, sym, ap, subst, ◌∙◌, arith, All}
-use Rattle.std.specs.Prelude.{◌||◌, not, is_some, is_none, filter_map, flat_map, slice_get, option_map, option_and_then}
-use Rattle.std.specs.List.{AllByRecursion, cons_option, enumerate_from, last_or, list_any, position_or_len}
+use Rattle.std.proofs.Common.{◌≡◌, ℕ, zero, suc, ◌+◌, ◌<◌, Bool, true, false, Option, Some, None, List, [], ◌∷◌, ◌++◌, length, take, drop, get_or, inl, inr, refl, sym, ap, subst, ◌∙◌, arith, All}
+use Rattle.std.specs.Prelude.{is_none, filter_map, flat_map, slice_get, option_map, option_and_then}
+use Rattle.std.specs.List.{AllByRecursion, cons_option, enumerate_from, last_or, list_any}
 use Rattle.std.proofs.Math.Bool.{or-true}
 use Rattle.std.proofs.lemmas.Bool.{false≢true}
 use Rattle.std.proofs.lemmas.List.Folds.{list_any-append}
@@ -15,7 +15,6 @@ use Rattle.fpga_text.specs.declared.fault.TextFault.{TextFault}
 use Rattle.fpga_text.proofs.FaultLemmas.{faultless-line}
 use Rattle.fpga_types.specs.Fabric.{Meeting, Meets, meeting}
 use Rattle.fpga_types.specs.Fit.{IsFit, are_apart, context_of, fit_faults, line_fault, net_lines, route_lines, splits}
-use Rattle.fpga_types.specs.Size.{Size}
 use Rattle.fpga_types.specs.Slots.{adjacent, elem_cell, elem_slot, same_slot, slot_at, slot_number, slots, slots_of, step_of, steps, NO_SLOT}
 use Rattle.fpga_types.specs.declared.grid.Cell.{Cell}
 use Rattle.fpga_types.specs.declared.problem.RouteStep.{RouteStep}
@@ -26,7 +25,8 @@ use Rattle.fpga_types.specs.declared.route.RouteText.{RouteText}
 use Rattle.fpga_types.proofs.FitLemmas.{In-splits}
 use Rattle.fpga_types.proofs.MeetingLemmas.{meeting-is}
 use Rattle.fpga_bounds.specs.Problem.{IsStepWithin, IsStepMeeting}
-use Rattle.fpga_bounds.proofs.LineLemmas.{elem_line, line_at, passes}
+use Rattle.fpga_bounds.specs.NetFit.{line_at}
+use Rattle.fpga_bounds.proofs.LineLemmas.{elem_line, passes}
 use Rattle.fpga_bounds.proofs.SlotTableLemmas.{same_slot-is, same_slot-itself}
 use Rattle.fpga_bounds.proofs.SlotsOfLemmas.{any-first_seen, channel_slots}
 
@@ -37,7 +37,7 @@ module _ {B : Type 0} (P : B → Type 0) where
   each-append (x ∷ xs) ys h g = (h.0, each-append xs ys h.1 g)
 
   -- what is brought by each element of a list
-  each-brought : {C : Type 0} (g : C → List B) (zs : List C)
+  pub each-brought : {C : Type 0} (g : C → List B) (zs : List C)
       → ((k : ℕ) (z : C) → slice_get zs k ≡ Some z → AllByRecursion P (g z))
       → AllByRecursion P (flat_map g zs)
   each-brought g [] h = tt
@@ -45,7 +45,7 @@ module _ {B : Type 0} (P : B → Type 0) where
       each-append (g z) (flat_map g zs) (h 0 z refl) (each-brought g zs (λ k y e. h (suc k) y e))
 
   -- what is made of each element of a list
-  each-made : {A : Type 0} (f : A → Option B) (xs : List A)
+  pub each-made : {A : Type 0} (f : A → Option B) (xs : List A)
       → ((k : ℕ) (x : A) (y : B) → slice_get xs k ≡ Some x → f x ≡ Some y → P y)
       → AllByRecursion P (filter_map f xs)
   each-made f [] h = tt
@@ -57,7 +57,7 @@ module _ {B : Type 0} (P : B → Type 0) where
       go None g t = t
       go (Some y) g t = (g y refl, t)
 
-  each-all : (xs : List B) → AllByRecursion P xs → All P xs
+  pub each-all : (xs : List B) → AllByRecursion P xs → All P xs
   each-all [] h = λ k d below. absurd (omega (arith, below))
   each-all (x ∷ xs) h = at (each-all xs h.1)
     where
@@ -65,7 +65,7 @@ module _ {B : Type 0} (P : B → Type 0) where
       at rest zero d below = h.0
       at rest (suc k) d below = rest k d (omega (arith, below))
 
-adjacent-there : {T : Type 0} (xs : List T) (k : ℕ) (p : T × T) → slice_get (adjacent xs) k ≡ Some p
+pub adjacent-there : {T : Type 0} (xs : List T) (k : ℕ) (p : T × T) → slice_get (adjacent xs) k ≡ Some p
     → (slice_get xs k ≡ Some p.0) × (slice_get xs (suc k) ≡ Some p.1)
 adjacent-there [] k p h = cc
 adjacent-there (x ∷ []) k p h = cc
@@ -100,7 +100,7 @@ any-brought p g (y ∷ ys) (suc k) z h e =
     ) refl
 
 -- the slot of a channel line is one of the slots
-slot-in : (nets : List RouteNet) (n : ℕ) (net : RouteNet) (i : ℕ) (e : Elem) (s : Slot)
+pub slot-in : (nets : List RouteNet) (n : ℕ) (net : RouteNet) (i : ℕ) (e : Elem) (s : Slot)
     → slice_get nets n ≡ Some net → slice_get net.elems i ≡ Some e → elem_slot n e ≡ Some s
     → list_any (same_slot s) (slots_of nets) ≡ true
 slot-in nets n net i e s here there slot =
@@ -113,13 +113,13 @@ slot-in nets n net i e s here there slot =
     (any-made (same_slot s) (elem_slot n) net.elems i e s there slot (same_slot-itself s))
 
 -- what stands at the number of a slot is the slot
-slot-there : (all : List Slot) (s : Slot) → list_any (same_slot s) all ≡ true
+pub slot-there : (all : List Slot) (s : Slot) → list_any (same_slot s) all ≡ true
     → slot_at all (slot_number all s) ≡ s
 slot-there all s h =
     sym (same_slot-is s (slot_at all (slot_number all s))
     (passes_at_first (same_slot s) all NO_SLOT (position-below (same_slot s) all h)))
 
-slot-cell : (n : ℕ) (e : Elem) (s : Slot) → elem_slot n e ≡ Some s → elem_cell e ≡ Some s.cell
+pub slot-cell : (n : ℕ) (e : Elem) (s : Slot) → elem_slot n e ≡ Some s → elem_cell e ≡ Some s.cell
 slot-cell n e s h = go (elem_cell e) h
   where
     some_is : (a b : Slot) → Some a ≡ Some b → a ≡ b

@@ -10,12 +10,12 @@ use Rattle.fpga_types.specs.declared.problem.RouteStep.{RouteStep}
 use Rattle.fpga_types.specs.declared.problem.Slot.{Slot}
 use Rattle.fpga_types.specs.declared.route.Elem.{Elem}
 use Rattle.fpga_types.specs.declared.route.RouteNet.{RouteNet}
-use Rattle.fpga_bounds.specs.StepList.{elem_number, step_between, net_steps, steps_in}
+use Rattle.fpga_bounds.specs.StepList.{elem_number, step_between, net_steps}
 use Rattle.list_laws.proofs.Numbered.{enumerate-push}
 use Rattle.list_laws.proofs.Places.{take-get}
 
 -- what is made of two neighbours, with one element more
-adjacent-push : {T B : Type 0} (f : T × T → Option B) (xs : List T) (x : T)
+pub adjacent-push : {T B : Type 0} (f : T × T → Option B) (xs : List T) (x : T)
     → filter_map f (adjacent (xs ++ x ∷ [])) ≡ filter_map f (adjacent xs)
     ++ option_to_list (option_and_then (λ y. f (y, x)) (last_or None xs))
 adjacent-push f [] x = refl
@@ -80,15 +80,26 @@ steps-more all net elems i e start found new previous number here f p q n =
     (option_and_then (elem_number all net) (last_or None (take i elems)))
     (elem_number all net e)))))
 
--- the steps of the nets that a loop has read, with one net more
-pub nets-more : (all : List Slot) (nets : List RouteNet) (n : ℕ) (net : RouteNet)
-    (found : List RouteStep) → slice_get nets n ≡ Some net → n < length nets
-    → found ≡ steps_in all (take n nets) ++ net_steps all n net.elems → found
-    ≡ steps_in all (take (n + 1) nets)
-nets-more all nets n net found here below f =
-    f ∙ sym (rw (
+-- what the nets that a loop has read bring, with one net more
+pub nets-more : {B : Type 0} (f : ℕ × RouteNet → List B) (nets : List RouteNet) (n : ℕ)
+    (net : RouteNet) (found : List B) → slice_get nets n ≡ Some net → n < length nets
+    → found ≡ flat_map f (enumerate_from 0 (take n nets)) ++ f (n, net)
+    → found ≡ flat_map f (enumerate_from 0 (take (n + 1) nets))
+nets-more f nets n net found here below is =
+    is ∙ sym (rw (
       add-one,
       take-get nets n net here,
-      numbered-push (λ m. net_steps all m.0 m.1.elems) (take n nets) net,
+      numbered-push f (take n nets) net,
       length-take-le n nets (omega (arith, below)),
     ) refl)
+
+-- what a loop has found of neighbours, with one element more
+pub neighbours-more : {B : Type 0} (f : Elem × Elem → Option B) (elems : List Elem) (i : ℕ) (e : Elem)
+    (start found new : List B) (previous : Option Elem) → slice_get elems i ≡ Some e
+    → found ≡ start ++ filter_map f (adjacent (take i elems)) → previous ≡ last_or None (take i elems)
+    → new ≡ found ++ option_to_list (option_and_then (λ other. f (other, e)) previous)
+    → new ≡ start ++ filter_map f (adjacent (take (i + 1) elems))
+neighbours-more f elems i e start found new previous here so_far before is =
+    rw (add-one, take-get elems i e here, adjacent-push f (take i elems) e)
+    (is ∙ rw (so_far, before) (append_assoc start (filter_map f (adjacent (take i elems)))
+    (option_to_list (option_and_then (λ other. f (other, e)) (last_or None (take i elems))))))

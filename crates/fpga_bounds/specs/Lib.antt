@@ -1,8 +1,16 @@
 pub mod ElemContext
+pub mod Heads
+pub mod Inputs
 pub mod Keys
+pub mod LineFault
+pub mod NetEnds
 pub mod NetFit
+pub mod NetTable
 pub mod Pairs
+pub mod PinList
+pub mod Posed
 pub mod Problem
+pub mod ProblemContext
 pub mod Refusal
 pub mod Retrack
 pub mod SlotTable

@@ -51,15 +51,32 @@ pub fn fit_route(alloc: Global, route: RouteText) -> Result<Problem, TextFault>
         Ok(table) => table,
         Err(fault) => return Err(untold(fault)),
     };
-    let Ok(steps) = steps_of(alloc, route.nets.as_slice(), &table) else {
+    let Ok(problem) = posed_route(alloc, route, table) else {
         return Err(TextFault::Memory);
+    };
+    Ok(problem)
+}
+
+/// The problem of a route that fits and whose slots are these.
+pub(crate) fn posed_route(
+    alloc: Global,
+    route: RouteText,
+    table: SlotTable,
+) -> Result<Problem, AllocError>
+    requires sound { IsSound route }
+    requires fits { IsFit route }
+    requires slots { table ≡ slots route }
+    ensures { IfOk result (λ problem. problem ≡ route) }
+{
+    let Ok(steps) = steps_of(alloc, route.nets.as_slice(), &table) else {
+        return Err(AllocError);
     };
     // One more step would take more than 8 TiB.
     if steps.len() > STEP_LIMIT {
-        return Err(TextFault::Memory);
+        return Err(AllocError);
     }
     let Ok(pairs) = pair_count(alloc, table.as_slice()) else {
-        return Err(TextFault::Memory);
+        return Err(AllocError);
     };
     Ok(Problem {
         route,

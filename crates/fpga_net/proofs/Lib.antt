@@ -3,6 +3,7 @@ pub mod ConnectLemmas
 pub mod DraftLemmas
 pub mod EndLemmas
 pub mod EntryLemmas
+pub mod GivenLemmas
 mod LimitRows
 pub mod LineLemmas
 pub mod NameLemmas

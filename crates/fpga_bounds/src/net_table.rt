@@ -1,0 +1,71 @@
+//! The nets of a netlist by their names, and which of them a route has.
+ghost use Rattle.std.specs.Prelude.{◌≡◌, ◌<◌, OnOk, IfOk, IfSome, length, slice_set, true, Some, is_some};
+ghost use Rattle.fpga_bounds.specs.NetTable.{GainsName, HasNetLines, number_named};
+ghost use Rattle.fpga_types.specs.Fits.{has_net};
+
+use fpga_types::Net;
+use std::alloc::{AllocError, Global};
+use std::collections::BTreeMap;
+use std::marker::Model;
+
+/// Nets that are found by name. Of two with one name the first is found.
+#[derive(Drop)]
+pub(crate) struct NetTable<'a> {
+    nets: &'a [Net],
+    numbers: BTreeMap<&'a [u8], usize>,
+}
+
+impl<'a> Model for NetTable<'a> {
+    ghost use Rattle.std.specs.Prelude.{List};
+    ghost use Rattle.fpga_types.specs.declared.netlist.Net.{Net};
+    ghost use Rattle.fpga_bounds.specs.NetTable.{AreNumbered};
+
+    ghost Value = { List Net };
+
+    ghost view = { λ t. t.nets.now };
+
+    ghost invariant = { λ t. AreNumbered t.nets.now t.numbers };
+}
+
+impl<'a> NetTable<'a> {
+    /// The table of these nets.
+    pub(crate) fn of(alloc: Global, nets: &'a [Net]) -> Result<NetTable<'a>, AllocError>
+        ensures { IfOk result (λ table. table ≡ nets.now) }
+    {
+        let mut numbers = BTreeMap::new(alloc);
+        for (i, net) in nets.iter().enumerate() {
+            number_name(&mut numbers, net.name.bytes.as_slice(), i)?;
+        }
+        Ok(NetTable { nets, numbers })
+    }
+
+    /// The nets, by number.
+    pub(crate) fn as_slice(&self) -> &'a [Net]
+        ensures { result.now ≡ self.now }
+    {
+        self.nets
+    }
+
+    /// The number of the first net with this name.
+    pub(crate) fn number_of(&self, name: &'a [u8]) -> Option<usize>
+        ensures number { result ≡ number_named self.now name.now }
+        ensures within { IfSome result (λ number. number < length self.now) }
+    {
+        self.numbers.get(&name).copied()
+    }
+}
+
+/// Gives a name this number, unless it has one.
+fn number_name<'a>(
+    numbers: &mut BTreeMap<&'a [u8], usize>,
+    name: &'a [u8],
+    number: usize,
+) -> Result<(), AllocError>
+    ensures { OnOk result (GainsName numbers.old name.now number numbers.new) }
+{
+    if numbers.contains_key(&name) {
+        return Ok(());
+    }
+    numbers.insert(name, number)?;
+    Ok(())
+}

@@ -1,0 +1,212 @@
+//! Four values that fit, with the slots, the steps and the pin steps of the route.
+ghost use Rattle.std.specs.Prelude.{◌≡◌, ◌≤◌, ◌*◌, All, length, IfOk};
+ghost use Rattle.fpga_text.specs.FirstFault.{Answers};
+ghost use Rattle.fpga_bounds.specs.Posed.{IsPinStepTouching};
+ghost use Rattle.fpga_bounds.specs.Problem.{IsStepMeeting, IsStepWithin};
+ghost use Rattle.fpga_types.specs.Fits.{Fits, problem_faults};
+ghost use Rattle.fpga_types.specs.Given.{IsGiven};
+ghost use Rattle.fpga_types.specs.Legal.{route_of};
+ghost use Rattle.fpga_types.specs.Problem.{problem_of};
+ghost use Rattle.fpga_types.specs.Slots.{pairs, pin_steps, slots, steps};
+
+use crate::design::Design;
+use crate::pin_list::pin_steps_of;
+use crate::problem::{Problem, posed_route};
+use crate::problem_check::fitting_problem;
+use crate::slot_table::SlotTable;
+use fpga_text::TextFault;
+use fpga_types::{
+    Arch, Netlist, PinStep, Placement, RouteStep, RouteText, SLOT_LIMIT, STEP_LIMIT, Slot,
+};
+use std::alloc::{AllocError, Global};
+use std::marker::Model;
+
+/// An architecture, a netlist, its placement and a global route of it that fit, with the slots, the
+/// steps and the pin steps of the route. Contracts see the four values.
+#[derive(Debug, Drop)]
+pub struct PlacedProblem {
+    arch: Arch,
+    netlist: Netlist,
+    placement: Placement,
+    routed: Problem,
+    pin_steps: Vec<PinStep>,
+}
+
+impl Model for PlacedProblem {
+    ghost use Rattle.fpga_types.specs.Problem.{RoutingProblem, problem_of};
+    ghost use Rattle.fpga_bounds.specs.Posed.{IsPosed};
+
+    ghost Value = { RoutingProblem };
+
+    ghost view = { λ p. problem_of p.arch p.netlist p.placement p.routed };
+
+    ghost invariant = { λ p. IsPosed (problem_of p.arch p.netlist p.placement p.routed)
+        p.pin_steps.items };
+}
+
+/// Takes four values that were read for one another, if they fit. They are dropped on a refusal.
+///
+/// # Errors
+/// `Bad` has the first line of the route at which a code holds, with the least code that holds
+/// there:
+/// - 501: the array line: the placement's array has another size;
+/// - 502: the end, which counts as the line after the last: a net of the netlist that is not global
+///   has no Net line;
+/// - 503: a Net line with a name that the netlist does not have, or of a global net for one that is
+///   not, or the reverse;
+/// - 504: a Net line with the name of an earlier one;
+/// - 505: a SOURCE that is not the driver of its net;
+/// - 506: a SINK that is no sink of its net;
+/// - 507: a SINK that stands earlier in its net, or the last line of a net of which a sink has no
+///   SINK line;
+/// - 508: an OPIN that is no pin of the driver's block and class that takes ordinary nets, nor the
+///   driver's pad; an IPIN that is no input pin of a placed logic block that takes ordinary nets,
+///   nor a placed output pad; a SINK after an IPIN of another place, class or pad;
+/// - 509: a channel after an OPIN, or an IPIN after a channel, where the pin does not touch the
+///   cell;
+/// - 510: a channel after a channel where the cells do not meet;
+/// - 511: an element other than a SINK that equals an earlier one of its net, and does not stand
+///   after a SINK;
+/// - 512: an element other than an IPIN or a SINK that equals no earlier one of its net, and stands
+///   after a SINK;
+/// - 513: a pin of an earlier net;
+/// - 514: an element that may not stand after the one before it, or the last line of a net that is
+///   no SINK.
+///
+/// `Limit` has the code 515 and the count 200,001: more than 200,000 slots. `Memory` comes where
+/// memory is short.
+///
+/// Takes time that grows with the elements, blocks and pins times the logarithm of their number,
+/// and memory in proportion to them.
+pub fn fit(
+    alloc: Global,
+    arch: Arch,
+    net: Netlist,
+    place: Placement,
+    route: RouteText,
+) -> Result<PlacedProblem, TextFault>
+    requires { IsGiven (problem_of arch net place route) }
+    ensures { Answers (problem_faults (problem_of arch net place route))
+        (λ problem. problem ≡ problem_of arch net place route) result }
+{
+    let table = match fitting_table(alloc, &arch, &net, &place, &route) {
+        Ok(table) => table,
+        Err(fault) => return Err(fault),
+    };
+    let Ok(pin_steps) = pin_steps_of(alloc, route.nets.as_slice(), &table) else {
+        return Err(TextFault::Memory);
+    };
+    // One more pin step would take more than 16 TiB.
+    if pin_steps.len() > STEP_LIMIT {
+        return Err(TextFault::Memory);
+    }
+    let Ok(routed) = posed_route(alloc, route, table) else {
+        return Err(TextFault::Memory);
+    };
+    Ok(PlacedProblem {
+        arch,
+        netlist: net,
+        placement: place,
+        routed,
+        pin_steps,
+    })
+}
+
+/// The table of the slots of the route, if the values fit, or their first fault.
+fn fitting_table(
+    alloc: Global,
+    arch: &Arch,
+    netlist: &Netlist,
+    placement: &Placement,
+    route: &RouteText,
+) -> Result<SlotTable, TextFault>
+    requires { IsGiven (problem_of arch.now netlist.now placement.now route.now) }
+    ensures { Answers (problem_faults (problem_of arch.now netlist.now placement.now route.now))
+        (λ table. table ≡ slots route.now) result }
+{
+    let Ok(design) = Design::of(alloc, arch, netlist, placement, route) else {
+        return Err(TextFault::Memory);
+    };
+    fitting_problem(alloc, &design)
+}
+
+impl PlacedProblem {
+    /// The architecture.
+    pub fn arch(&self) -> &Arch
+        ensures value { result.now ≡ self.now.arch }
+        ensures given { IsGiven self.now }
+        ensures fits { Fits self.now }
+    {
+        &self.arch
+    }
+
+    /// The netlist.
+    pub fn netlist(&self) -> &Netlist
+        ensures value { result.now ≡ self.now.netlist }
+        ensures given { IsGiven self.now }
+        ensures fits { Fits self.now }
+    {
+        &self.netlist
+    }
+
+    /// The placement.
+    pub fn placement(&self) -> &Placement
+        ensures value { result.now ≡ self.now.placement }
+        ensures given { IsGiven self.now }
+        ensures fits { Fits self.now }
+    {
+        &self.placement
+    }
+
+    /// The route.
+    pub fn route(&self) -> &RouteText
+        ensures value { result.now ≡ self.now.route }
+        ensures given { IsGiven self.now }
+        ensures fits { Fits self.now }
+    {
+        self.routed.route()
+    }
+
+    /// The slots, by number.
+    pub fn slots(&self) -> &[Slot]
+        ensures value { result.now ≡ slots self.now.route }
+        ensures limit { length result.now ≤ SLOT_LIMIT }
+    {
+        self.routed.slots()
+    }
+
+    /// The steps, in line order.
+    pub fn steps(&self) -> &[RouteStep]
+        ensures value { result.now ≡ steps self.now.route }
+        ensures limit { length result.now ≤ STEP_LIMIT }
+        ensures within { All (IsStepWithin (slots self.now.route)) result.now }
+        ensures meet { All (IsStepMeeting self.now.route.grid (slots self.now.route)) result.now }
+    {
+        self.routed.steps()
+    }
+
+    /// The pin steps, in line order.
+    pub fn pin_steps(&self) -> &[PinStep]
+        ensures value { result.now ≡ pin_steps self.now.route }
+        ensures limit { length result.now ≤ STEP_LIMIT }
+        ensures touching { All (IsPinStepTouching self.now) result.now }
+    {
+        self.pin_steps.as_slice()
+    }
+
+    /// How many pairs of slots are of different nets and take one cell.
+    pub fn pairs(&self) -> u64
+        ensures value { result ≡ length (pairs (slots self.now.route)) }
+        ensures limit { result ≤ SLOT_LIMIT * SLOT_LIMIT }
+    {
+        self.routed.pairs()
+    }
+
+    /// A copy of the route in which each channel line has the track of its slot.
+    pub fn copy_with_tracks(&self, alloc: Global, tracks: &[u32]) -> Result<RouteText, AllocError>
+        requires { length tracks.now ≡ length (slots self.now.route) }
+        ensures { IfOk result (λ route. route ≡ route_of self.now.route tracks.now) }
+    {
+        self.routed.copy_with_tracks(alloc, tracks)
+    }
+}
