@@ -106,7 +106,8 @@ impl Watches {
     pub fn place(&self, l: Lit) -> u32
         requires within { IsWithin self.now.vars l }
         requires valued { value_in self.now.trail l ≢ None }
-        ensures { place_in self.now.trail l ≡ Some result }
+        ensures place { place_in self.now.trail l ≡ Some result }
+        ensures within { result < self.now.vars }
     {
         self.trail.place(l)
     }
