@@ -1,12 +1,11 @@
 -- The way back behind a lesson, and what one more clause makes of a search.
-use Rattle.std.specs.Prelude.{max, nat_le, option_map, unwrap_or}
-use Rattle.std.proofs.Common.{inl, inr, ◌≡◌, ◌≢◌, ◌<◌, ◌≤◌, ◌+◌, ◌-◌, ℕ, zero, suc, ℤ, pos, true, List, [], ◌∷◌, ◌++◌, length, Option, None, Some, slice_get, get_or, take, reverse, add-one, Contains, refl, sym, ap, ◌∙◌, subst, arith}
+use Rattle.std.specs.Prelude.{max, nat_le, unwrap_or}
+use Rattle.std.proofs.Common.{inl, inr, ◌≡◌, ◌≢◌, ◌<◌, ◌≤◌, ◌+◌, ◌-◌, ℕ, zero, suc, ℤ, true, List, [], ◌∷◌, ◌++◌, length, Option, None, Some, slice_get, get_or, Contains, refl, sym, ap, ◌∙◌, subst, arith}
 use Rattle.std.proofs.Math.Nat.{le-max_left, le-max_right}
 use Rattle.std.proofs.lemmas.Bool.{cases_eq, le-leb, lt-ltb}
-use Rattle.std.proofs.lemmas.List.{append-nil, get_or_default, length-append, reverse-append}
-use Rattle.std.proofs.lemmas.List.Sorted.{Contains-permutation, IsPermutation-reverse}
+use Rattle.std.proofs.lemmas.List.{length-append}
 use Rattle.std.proofs.lemmas.Option.{slice_get-get_or, slice_get_within}
-use Rattle.list_laws.proofs.Places.{get-cases, some_is, take-get}
+use Rattle.list_laws.proofs.Places.{get-cases, some_is}
 use Rattle.std.proofs.lemmas.List.Elements.{All-contains, All-contains_itself, All-filter}
 use Rattle.sat_clause.specs.declared.literal.Lit.{Lit}
 use Rattle.sat_clause.specs.Formula.{Cnf}
@@ -23,19 +22,17 @@ use Rattle.sat_watch.specs.declared.entry.TrailEntry.{TrailEntry}
 use Rattle.sat_watch.specs.Levels.{upto}
 use Rattle.sat_watch.specs.Trail.{lits_of as watch_lits}
 use Rattle.sat_watch.specs.Watched.{IsReason, is_false, true_at}
-use Rattle.sat_watch.specs.Watches.{Attached, Attaches, HasCause, HasLevels, HasOneOpen, HasTwoFree, MayAttach, WatchState, gone_back, highest, id_at, implied, is_attached, lits_at}
+use Rattle.sat_watch.specs.Watches.{Attached, Attaches, HasCause, HasLevels, HasOneOpen, HasTwoFree, MayAttach, WatchState, gone_back, highest, implied, is_attached, lits_at}
 use Rattle.sat_watch.proofs.LevelLemmas.{true_level}
 use Rattle.sat_core.specs.ClauseList.{ClauseListState}
 use Rattle.sat_core.specs.Kept.{AreBelow, AreKept, HasOnce, SameLive, is_always_true}
-use Rattle.sat_core.specs.Lesson.{decided, negated_decisions, reason_id, reason_ids}
 use Rattle.sat_core.specs.Levels.{AreLevels, Assigned, IsAsserting, level_of, lits_of, made_false, up_to}
-use Rattle.sat_core.specs.SearchStore.{IsLesson, IsLeveled, IsSearchStore, Learns, assigned, assigned_in, live_of, search_value}
+use Rattle.sat_core.specs.SearchStore.{EndsAsserting, IsLesson, IsLeveled, IsSearchStore, Learns, assigned, assigned_in, live_of, search_value}
 use Rattle.sat_core.specs.Stands.{SearchValue, StandsFor}
 use Rattle.sat_core.specs.Underway.{with_input}
 use Rattle.sat_core.proofs.AttachLaws.{contains_assigned, implied_due, now_attached, now_clauses, now_leveled, now_reason, now_trail, now_vars, true_entry, true_none}
 use Rattle.sat_core.proofs.AttachedLaws.{same_permuted, simple_permuted}
 use Rattle.sat_core.proofs.DecideLaws.{leveled_implied}
-use Rattle.sat_core.proofs.DecisionLaws.{IsLastDecision, decisions_assert, newest}
 use Rattle.sat_core.proofs.KeptLaws.{inputs_put, kept_alike, kept_put, kept_skip, none_next}
 use Rattle.sat_core.proofs.LessonLaws.{all_false_or, first_is_open}
 use Rattle.sat_core.proofs.LevelLaws.{in_made_false, level_back, levels_back, none_above, only_entry}
@@ -119,33 +116,27 @@ module _ (i a t : ℕ) (s : ClauseListState) (w : WatchState) (store : IsSearchS
   abbrev pub gone : WatchState
   gone = record w { trail = upto back w.trail; queued = 0; level = back; due = None }
 
-  pub last_decision : (d : Assigned) × (older : List Assigned) × IsLastDecision entries d older
-  last_decision =
-      elim (newest entries lesson.trail.levels) [
-        | inl none ↦ absurd (some (lesson.is ∙ none.lesson))
-        | inr found ↦ found
-      ]
+  pub begun : 1 ≤ level_of entries
+  begun = elim (cases_eq (level_of entries) 0) [
+    | inl none ↦ absurd (some (lesson.none none))
+    | inr other ↦ omega (arith, other)
+  ]
+
+  pub ending : EndsAsserting entries back clause
+  ending = lesson.asserts begun
 
   abbrev pub first : Lit
-  first = negation (last_decision.0).lit
-
-  back_level : back ≡ level_of last_decision.1
-  back_level = let up = last_decision.2.level in omega (arith, lesson.level, up)
-
-  back_below : back < w.level
-  back_below = let up = last_decision.2.level in
-      omega (arith, lesson.level, up, store.leveled.current)
+  first = ending.1
 
   asserts : IsAsserting entries (level_of entries) back first clause
-  asserts =
-      subst (λ (x : Clause). IsAsserting entries (level_of entries) back first x) (sym lesson.is)
-      (subst (λ (b : ℕ). IsAsserting entries (level_of entries) b first (negated_decisions entries))
-      (sym back_level)
-      (decisions_assert entries last_decision.0 last_decision.1 last_decision.2))
+  asserts = ending.3
 
-  -- the last literal is the negated last decision
-  pub ends_in_first : clause ≡ negated_decisions last_decision.1 ++ first ∷ []
-  ends_in_first = lesson.is ∙ last_decision.2.lesson
+  back_below : back < w.level
+  back_below = let below = asserts.below in omega (arith, below, store.leveled.current)
+
+  -- it is the last literal
+  pub ends_in_first : clause ≡ ending.0 ++ first ∷ []
+  ends_in_first = ending.2
 
   -- it is of the variables of the search
   pub first_inside : IsWithin w.vars first
@@ -373,63 +364,9 @@ moved_store i j a t s w more none store =
     subst (λ (n : ℕ). IsSearchStore j n t s w) (sym none) (subst (λ
     (n : ℕ). IsSearchStore n 0 t s w) (sym more) store)
 
--- THE ENTRIES ONE AFTER ANOTHER
+-- REASONS
 
-entries_more : (ks : List Attached) (items : List TrailEntry) (k : ℕ) (e : TrailEntry)
-    → slice_get items k ≡ Some e →
-    assigned_in ks (reverse (take (k + 1) items))
-    ≡ assigned ks e ∷ assigned_in ks (reverse (take k items))
-entries_more ks items k e at =
-    ap (λ (n : ℕ). assigned_in ks (reverse (take n items))) (add-one k)
-    ∙ ap (λ (l : List TrailEntry). assigned_in ks (reverse l)) (take-get items k e at)
-    ∙ ap (assigned_in ks) (reverse-append (take k items) (e ∷ []))
-
-module _ (ks : List Attached) (items : List TrailEntry) (k : ℕ) (e : TrailEntry)
-    (at : slice_get items k ≡ Some e) where
-  -- one more decision
-  pub decision_clause : e.reason ≡ None
-      → negated_decisions (assigned_in ks (reverse (take (k + 1) items)))
-      ≡ negated_decisions (assigned_in ks (reverse (take k items))) ++ negation e.lit ∷ []
-  decision_clause none =
-      ap negated_decisions (entries_more ks items k e at)
-      ∙ ap (λ (r : Option ClauseRef). negated_decisions (assigned_in ks (reverse
-      (take k items))) ++ decided e.lit (option_map (id_at ks) r)) none
-
-  pub decision_hints : e.reason ≡ None → reason_ids (assigned_in ks (reverse (take (k + 1) items)))
-      ≡ reason_ids (assigned_in ks (reverse (take k items)))
-  decision_hints none =
-      ap reason_ids (entries_more ks items k e at)
-      ∙ ap (λ (r : Option ClauseRef). reason_ids (assigned_in ks (reverse
-      (take k items))) ++ reason_id (option_map (id_at ks) r)) none
-      ∙ append-nil (reason_ids (assigned_in ks (reverse (take k items))))
-
-  -- or one more reason
-  pub reason_clause : (c : ClauseRef) → e.reason ≡ Some c
-      → negated_decisions (assigned_in ks (reverse (take (k + 1) items)))
-      ≡ negated_decisions (assigned_in ks (reverse (take k items)))
-  reason_clause c some =
-      ap negated_decisions (entries_more ks items k e at)
-      ∙ ap (λ (r : Option ClauseRef). negated_decisions (assigned_in ks (reverse
-      (take k items))) ++ decided e.lit (option_map (id_at ks) r)) some
-      ∙ append-nil (negated_decisions (assigned_in ks (reverse (take k items))))
-
-  pub reason_hints : (c : ClauseRef) → e.reason ≡ Some c
-      → reason_ids (assigned_in ks (reverse (take (k + 1) items)))
-      ≡ reason_ids (assigned_in ks (reverse (take k items))) ++ pos (id_at ks c) ∷ []
-  reason_hints c some =
-      ap reason_ids (entries_more ks items k e at)
-      ∙ ap (λ (r : Option ClauseRef). reason_ids (assigned_in ks (reverse
-      (take k items))) ++ reason_id (option_map (id_at ks) r)) some
-
--- an entry at a position is one of the trail
-pub entry_there : (items trail : List TrailEntry) (k : ℕ) (d : TrailEntry) → reverse items ≡ trail
-    → k < length items → Contains trail (get_or items k d)
-entry_there items trail k d is lt =
-    subst (λ (l : List TrailEntry). Contains l (get_or items k d)) is
-    (Contains-permutation items (reverse items) (get_or items k d) (IsPermutation-reverse items)
-    (k, lt, get_or_default items k (get_or items k d) d lt))
-
--- its reason is attached
+-- an entry's reason is attached
 pub reason_attached : (ks : List Attached) (level : ℕ) (trail : List TrailEntry) (e : TrailEntry)
     (c : ClauseRef) → HasLevels ks level trail → Contains trail e →
     e.reason ≡ Some c → is_attached ks c ≡ true

@@ -1,17 +1,17 @@
 -- How a search lies, with one more input, with a single clause attached, behind decisions, and with
 -- one more learned clause.
-use Rattle.std.proofs.Common.{inl, inr, ◌⊎◌, ◌≡◌, ◌≢◌, ◌==◌, ◌<◌, ◌≤◌, ◌+◌, ◌-◌, ℕ, suc, ℤ, pos, Bool, true, false, cond, List, [], ◌∷◌, ◌++◌, length, reverse, Option, None, Some, slice_get, All, refl, sym, ap, ◌∙◌, subst, arith}
+use Rattle.std.proofs.Common.{inl, inr, ◌⊎◌, ◌≡◌, ◌==◌, ◌<◌, ◌≤◌, ◌+◌, ℕ, suc, Bool, true, false, cond, List, [], ◌∷◌, ◌++◌, length, reverse, None, Some, slice_get, All, refl, sym, ap, ◌∙◌, subst, arith}
 use Rattle.std.proofs.lemmas.Bool.{cases_eq, eqb-true}
 use Rattle.std.proofs.lemmas.List.{length-reverse, reverse-append}
-use Rattle.std.proofs.lemmas.List.Elements.{All-cons, All-head, All-nil, All-tail, All-weaker}
+use Rattle.std.proofs.lemmas.List.Elements.{All-cons, All-head, All-nil, All-tail}
 use Rattle.std.proofs.lemmas.Option.{slice_get_within}
 use Rattle.list_laws.proofs.Places.{get-cases, some_is}
 use Rattle.sat_clause.specs.declared.literal.Lit.{Lit}
 use Rattle.sat_clause.specs.declared.reading.Reading.TheVariants.{Conflict}
-use Rattle.sat_clause.specs.Learned.{IsFresh, IsSimple, SameLiterals}
-use Rattle.sat_clause.specs.Literal.{Clause, IsLiteral, IsWithin, is_among, negation}
+use Rattle.sat_clause.specs.Learned.{IsSimple, SameLiterals}
+use Rattle.sat_clause.specs.Literal.{Clause, IsWithin, is_among}
 use Rattle.sat_clause.specs.Live.{Live, clause_at, put}
-use Rattle.sat_clause.specs.Rup.{Reads, reading_of, rup}
+use Rattle.sat_clause.specs.Rup.{Reads, reading_of}
 use Rattle.sat_clause.proofs.ReadingLaws.{all_conflict}
 use Rattle.sat_clause.specs.Trail.{IsClosed}
 use Rattle.sat_arena.specs.declared.clause_ref.ClauseRef.{ClauseRef}
@@ -22,15 +22,12 @@ use Rattle.sat_watch.specs.Watches.{Attached, Attaches, HasLevels, IsSettledAt, 
 use Rattle.sat_core.specs.ClauseList.{ClauseListState}
 use Rattle.sat_core.specs.Deciding.{AreValuesOf, GoesOn, IsFalse}
 use Rattle.sat_core.specs.Kept.{AreAmong, AreBelow, HasOnce, SameLive}
-use Rattle.sat_core.specs.Lesson.{negated_decisions, reason_ids, with_reasons}
 use Rattle.sat_core.specs.Levels.{AreSettled, Assigned, IsSettledTrail, level_of, lits_of, made_false}
-use Rattle.sat_core.specs.SearchStore.{AreTaken, AreTrue, IsKeeping, IsLesson, IsLeveled, IsSearchStore, SameKept, assigned, assigned_in, live_of, search_value}
+use Rattle.sat_core.specs.SearchStore.{AreTaken, AreTrue, IsKeeping, IsLeveled, IsSearchStore, SameKept, assigned, assigned_in, live_of, search_value}
 use Rattle.sat_core.specs.Single.{IsTaken}
 use Rattle.sat_core.specs.Stands.{SearchValue}
 use Rattle.sat_core.proofs.AttachedLaws.{added_attached, added_id, keeping_added, last_is, new_place, same_permuted, simple_permuted}
-use Rattle.sat_core.proofs.DecisionLaws.{decisions_assert, decisions_derived, decisions_simple, marked_reasons, newest}
-use Rattle.sat_core.proofs.KeptLaws.{more_below, none_next, none_zero, put_below}
-use Rattle.sat_core.proofs.LessonLaws.{asserting_is_fresh, derived_follows}
+use Rattle.sat_core.proofs.KeptLaws.{more_below, none_next, put_below}
 use Rattle.sat_core.proofs.ModelLemmas.{quiet_is_true}
 use Rattle.sat_core.proofs.SameLaws.{same_itself, same_then}
 use Rattle.sat_core.proofs.WatchLaws.{among_same, caused_here, false_in, falses_in, keeping_same, lits_in, same_among, settled_here, settled_in, single_found, value_added, value_again, value_found, value_origin}
@@ -406,55 +403,6 @@ settled_trail i a t s w store once within levels settled = record {
         All-cons (λ (e : Assigned). IsWithin w.vars e.lit) (assigned w.clauses e)
         (assigned_in w.clauses older) (All-head P e older all) (all_in older
         (All-tail P e older all))
-
-module _ (i a t : ℕ) (s : ClauseListState) (w : WatchState) (store : IsSearchStore i a t s w) where
-  abbrev entries : List Assigned
-  entries = assigned_in w.clauses w.trail
-
-  abbrev clauses : Live
-  clauses = s.clauses ++ live_of w.clauses
-
-  module _ (holds : IsSettledTrail clauses w.vars entries) where
-    decisions_follow : (id : ℕ) (o : Option Clause) → clause_at clauses id ≡ o
-        → Reads (made_false entries) o Conflict →
-        rup clauses (negated_decisions entries) (reason_ids entries ++ pos id ∷ []) ≡ None
-    decisions_follow id None at reads = absurd reads
-    decisions_follow id (Some conflict) at reads =
-        subst (λ (ids : List ℤ). rup clauses (negated_decisions entries) (ids ++ pos id ∷ [])
-        ≡ None) (marked_reasons entries)
-        (derived_follows clauses (none_zero (suc (i + a)) clauses store.below)
-        (negated_decisions entries) entries (with_reasons entries) id conflict holds.once
-        holds.caused at
-        (decisions_derived clauses entries conflict holds.once holds.caused reads))
-
-    decisions_fresh : negated_decisions entries ≢ [] → IsFresh clauses (negated_decisions entries)
-    decisions_fresh some =
-        elim (newest entries holds.levels) [
-          | inl none ↦ absurd (some none.lesson)
-          | inr found ↦
-              asserting_is_fresh clauses entries (level_of entries) (level_of found.1) (negation
-              (found.0).lit) (negated_decisions entries)
-              holds.once (decisions_assert entries found.0 found.1 found.2) holds.settled
-        ]
-
-    pub lesson_is : (id : ℕ) (clause : Clause) (hints : List ℤ) (back : ℕ)
-        → Reads (made_false entries) (clause_at clauses id) Conflict →
-        clause ≡ negated_decisions entries → hints ≡ reason_ids entries ++ pos id ∷ []
-        → back ≡ w.level - 1 → IsLesson (search_value i a s w) clause hints back
-    lesson_is id clause hints back reads is hints_are back_is =
-        let simple : IsSimple w.vars (negated_decisions entries) =
-        decisions_simple w.vars entries holds.within holds.once in
-        record {
-          is = is;
-          simple = rw is simple;
-          literals = rw is (All-weaker (IsWithin w.vars) IsLiteral
-              (λ l inside. (inside.0, omega (arith, inside.1, store.few_vars)))
-              (negated_decisions entries) simple.within);
-          follows = rw (is, hints_are) (decisions_follow id (clause_at clauses id) refl reads);
-          fresh = λ some. rw is (decisions_fresh (λ none. some (is ∙ none)));
-          trail = holds;
-          level = back_is ∙ ap (λ (n : ℕ). n - 1) store.leveled.current;
-        }
 
 -- values that make true what is not false make the clauses true where they are settled
 pub true_values : (i a : ℕ) (s : ClauseListState) (w : WatchState) (values : List Bool)

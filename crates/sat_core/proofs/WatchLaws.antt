@@ -54,7 +54,7 @@ up_to_in ks j (e ∷ older) = by (nat_le e.level j) refl (up_to_in ks j older)
     by false is rest = rw is rest
 
 -- two literals are one or not
-lit_cases : (m l : Lit) → (m ≡ l) ⊎ (m ≢ l)
+pub lit_cases : (m l : Lit) → (m ≡ l) ⊎ (m ≢ l)
 lit_cases m l = by (int_eq m.code l.code) refl
   where
     by : (b : Bool) → int_eq m.code l.code ≡ b → (m ≡ l) ⊎ (m ≢ l)

@@ -1,9 +1,11 @@
+pub mod Analysis
 pub mod Answer
 pub mod ClauseList
 pub mod Deciding
 pub mod Kept
-pub mod Lesson
 pub mod Levels
+pub mod Marks
+pub mod Reading
 pub mod SearchLog
 pub mod SearchStore
 pub mod Single

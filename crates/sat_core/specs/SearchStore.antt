@@ -1,5 +1,6 @@
 -- How a search lies, and what its steps say of it.
-use Rattle.std.specs.Prelude.{◌≡◌, ◌≢◌, ◌⊎◌, ℕ, suc, ◌+◌, ◌-◌, ◌<◌, ◌≤◌, ℤ, true, List, [], ◌++◌, length, map, reverse, slice_get, All, Bool, None, Some, option_map}
+use Rattle.std.specs.Prelude.{◌≡◌, ◌≢◌, ◌⊎◌, ℕ, suc, ◌+◌, ◌<◌, ◌≤◌, ℤ, pos, true, List, [], ◌∷◌, ◌++◌, length, map, reverse, slice_get, All, Bool, None, Some, option_map}
+use Rattle.sat_clause.specs.declared.literal.Lit.{Lit}
 use Rattle.sat_clause.specs.declared.limits.TheConstants.{ID_LIMIT, VARIABLE_LIMIT}
 use Rattle.sat_clause.specs.declared.reading.Reading.{Reading}
 use Rattle.sat_clause.specs.declared.reading.Reading.TheVariants.{Conflict}
@@ -13,8 +14,8 @@ use Rattle.sat_watch.specs.declared.entry.TrailEntry.{TrailEntry}
 use Rattle.sat_watch.specs.Watches.{Attached, AreInPlace, WatchState, id_at, is_attached, lits_at}
 use Rattle.sat_core.specs.ClauseList.{ClauseListState}
 use Rattle.sat_core.specs.Kept.{AreAmong, AreBelow, HasOnce, SameLive}
-use Rattle.sat_core.specs.Lesson.{negated_decisions}
-use Rattle.sat_core.specs.Levels.{AreLevels, AreSettled, Assigned, IsSettledTrail, level_of, made_false}
+use Rattle.sat_core.specs.Marks.{IsReady, MarkState}
+use Rattle.sat_core.specs.Levels.{AreLevels, AreSettled, Assigned, IsAsserting, IsDerived, IsSettledTrail, level_of, made_false, marked_ids}
 use Rattle.sat_core.specs.Stands.{SearchValue}
 
 -- an entry with the id of its reason
@@ -77,6 +78,13 @@ pub record IsSearchStore
   pub leveled : IsLeveled watches
   pub none_due : watches.due ≡ None
 
+-- and no mark is set
+pub record IsSearching
+    (inputs added taken : ℕ) (singles : ClauseListState) (watches : WatchState) (marks : MarkState)
+    : Type 0 where
+  pub store : IsSearchStore inputs added taken singles watches
+  pub ready : IsReady watches.vars marks
+
 -- the search has the same clauses as sets, and the same numbers
 pub record SameKept (old new : SearchValue) : Type 0 where
   pub vars : new.vars ≡ old.vars
@@ -104,17 +112,31 @@ pub record AreTrue (search : SearchValue) (values : List Bool) : Type 0 where
   pub each : (id : ℕ) (c : Clause) → clause_at search.clauses id ≡ Some c →
       All (IsWithin (length values)) c → IsTrueClause values c
 
--- the clause of the negated decisions has no variable twice, the hints justify it, and it is new;
--- the way back is to the level before the last decision
+-- the clause is asserting, and its last literal became false at the current level
+abbrev pub EndsAsserting : List Assigned → ℕ → Clause → Type 0
+EndsAsserting trail back clause = (front : Clause) × (first : Lit)
+    × (clause ≡ front ++ first ∷ []) × IsAsserting trail (level_of trail) back first clause
+
+-- the clause comes of a clause that is kept and of the reasons of marked entries, and the hints are
+-- the ids of these reasons in the order of the trail, and then that of the clause
+abbrev pub HasDerivation : SearchValue → Clause → List ℤ → Type 0
+HasDerivation search clause hints = (id : ℕ) × (conflict : Clause) × (marks : List Bool)
+    × (clause_at search.clauses id ≡ Some conflict)
+    × (hints ≡ marked_ids search.trail marks ++ pos id ∷ [])
+    × IsDerived search.clauses search.trail conflict clause marks
+
+-- at level 0 the clause is empty, and else it is asserting, with the way back to the highest level of
+-- its other literals; it is derived, the hints justify it, and it is new
 pub record IsLesson (search : SearchValue) (clause : Clause) (hints : List ℤ) (back : ℕ) : Type 0
   where
-    pub is : clause ≡ negated_decisions search.trail
+    pub none : level_of search.trail ≡ 0 → clause ≡ []
+    pub asserts : 1 ≤ level_of search.trail → EndsAsserting search.trail back clause
+    pub derived : HasDerivation search clause hints
     pub simple : IsSimple search.vars clause
     pub literals : All IsLiteral clause
     pub follows : rup search.clauses clause hints ≡ None
     pub fresh : clause ≢ [] → IsFresh search.clauses clause
     pub trail : IsSettledTrail search.clauses search.vars search.trail
-    pub level : back ≡ level_of search.trail - 1
 
 -- one more clause is kept, in some order of its literals, under the next id
 pub record Learns (old new : SearchValue) (clause : Clause) : Type 0 where

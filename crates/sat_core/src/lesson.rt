@@ -1,12 +1,158 @@
 //! What is learned where a clause is false.
 
-use sat_clause::Lit;
+ghost use Rattle.std.specs.Prelude.{◌≡◌, ◌++◌, ◌∷◌, [], ◌<◌, ◌≤◌, All, AllPairs, IfOk, flat_map, length, max, pos};
+ghost use Rattle.sat_clause.specs.Literal.{IsWithin};
+ghost use Rattle.sat_core.specs.Analysis.{AreOn, HasCurrent, IsKnown};
+ghost use Rattle.sat_core.specs.Marks.{IsReady};
+ghost use Rattle.sat_core.specs.Reading.{AreLearned, EndsIn, HasLesson, IsFound, hint_at};
 
-/// A clause that says that not all decisions hold, the ids of the clauses that it follows from, and
-/// the level to go back to.
+use crate::analysis::analyse;
+use crate::marks::Marks;
+use sat_clause::{Lit, VARIABLE_LIMIT};
+use sat_watch::Watches;
+use std::alloc::{AllocError, Global};
+
+/// A clause that follows from others, the ids of these, and the level to go back to. Its last
+/// literal is the one that became false last.
 #[derive(Debug, Drop)]
 pub(crate) struct Lesson {
     pub(crate) clause: Vec<Lit>,
     pub(crate) hints: Vec<i64>,
     pub(crate) back: u32,
+}
+
+/// Literals of lower levels than the current one, and the highest of their levels.
+#[derive(Debug, Drop)]
+struct Lower {
+    lits: Vec<Lit>,
+    back: u32,
+}
+
+/// The higher one of two levels.
+fn higher(a: u32, b: u32) -> u32
+    ensures { result ≡ max a b }
+{
+    if a < b { b } else { a }
+}
+
+/// The negations of the entries that were met, but of those whose reasons were used, and of that at
+/// the first unique implication point.
+fn lower_literals(
+    alloc: Global,
+    marks: &Marks,
+    watches: &Watches,
+    point: u32,
+) -> Result<Lower, AllocError>
+    requires on { AreOn watches.now.trail marks.now }
+    requires rising { AllPairs (λ a b. a < b) marks.now.places }
+    requires few { watches.now.vars ≤ VARIABLE_LIMIT }
+    ensures { IfOk result (λ lower. AreLearned watches.now marks.now point marks.now.places
+        lower.lits.items lower.back) }
+{
+    let mut lits = Vec::new(alloc);
+    let mut back = 0;
+    for place in marks.places() {
+        if marks.is_used(*place) {
+            continue;
+        }
+        if *place == point {
+            continue;
+        }
+        let entry = watches.trail()[*place as usize];
+        lits.push(entry.lit.negation())?;
+        back = higher(back, entry.level);
+    }
+    Ok(Lower { lits, back })
+}
+
+/// The ids of the reasons that were used, in the order of the trail, and then an id.
+fn used_hints(
+    alloc: Global,
+    marks: &Marks,
+    watches: &Watches,
+    id: u32,
+) -> Result<Vec<i64>, AllocError>
+    requires on { AreOn watches.now.trail marks.now }
+    ensures { IfOk result (λ hints. hints.items
+        ≡ flat_map (hint_at watches.now marks.now) marks.now.places ++ pos id ∷ []) }
+{
+    let mut hints = Vec::new(alloc);
+    for place in marks.places() {
+        if !marks.is_used(*place) {
+            continue;
+        }
+        let Some(reason) = watches.trail()[*place as usize].reason else {
+            continue;
+        };
+        hints.push(i64::from(watches.id(reason)))?;
+    }
+    hints.push(i64::from(id))?;
+    Ok(hints)
+}
+
+/// The literals, and then the negation of the entry at a place, where a level was begun.
+fn with_point(watches: &Watches, lits: Vec<Lit>, point: u32) -> Result<Vec<Lit>, AllocError>
+    requires few { watches.now.vars ≤ VARIABLE_LIMIT }
+    requires point { 1 ≤ watches.now.level → point < length watches.now.trail }
+    ensures zero { IfOk result (λ clause. watches.now.level ≡ 0 → clause.items ≡ lits.items) }
+    ensures more { IfOk result (λ clause. 1 ≤ watches.now.level
+        → EndsIn watches.now.trail lits.items point clause.items) }
+{
+    if watches.level() == 0 {
+        return Ok(lits);
+    }
+    let mut clause = lits;
+    clause.push(watches.trail()[point as usize].lit.negation())?;
+    Ok(clause)
+}
+
+/// What an analysis comes to.
+fn read(
+    alloc: Global,
+    marks: &Marks,
+    watches: &Watches,
+    point: u32,
+    id: u32,
+) -> Result<Lesson, AllocError>
+    requires on { AreOn watches.now.trail marks.now }
+    requires rising { AllPairs (λ a b. a < b) marks.now.places }
+    requires few { watches.now.vars ≤ VARIABLE_LIMIT }
+    requires point { 1 ≤ watches.now.level → point < length watches.now.trail }
+    ensures { IfOk result (λ lesson. HasLesson watches.now marks.now point id lesson.clause.items
+        lesson.hints.items lesson.back) }
+{
+    let lower = lower_literals(alloc, marks, watches, point)?;
+    let hints = used_hints(alloc, marks, watches, id)?;
+    let clause = with_point(watches, lower.lits, point)?;
+    Ok(Lesson {
+        clause,
+        hints,
+        back: lower.back,
+    })
+}
+
+/// What is learned where a clause with this id is false. All marks are taken back.
+///
+/// # Errors
+/// Where memory is short.
+pub(crate) fn find_lesson(
+    alloc: Global,
+    marks: &mut Marks,
+    watches: &Watches,
+    lits: &[Lit],
+    id: u32,
+) -> Result<Lesson, AllocError>
+    requires few { watches.now.vars ≤ VARIABLE_LIMIT }
+    requires ready { IsReady watches.now.vars marks.old }
+    requires within { All (IsWithin watches.now.vars) lits.now }
+    requires current { IsKnown watches.now → HasCurrent watches.now lits.now }
+    ensures ready { IsReady watches.now.vars marks.new }
+    ensures found { IfOk result (λ lesson. IsFound watches.now lits.now id lesson.clause.items
+        lesson.hints.items lesson.back) }
+{
+    let point = analyse(marks, watches, lits);
+    marks.sort();
+    let lesson = read(alloc, marks, watches, point, id);
+    marks.clear();
+    lesson
 }

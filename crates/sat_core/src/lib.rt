@@ -1,11 +1,13 @@
 //! A search for values that satisfy a formula, which logs why there are none.
 #![tactic(auto)]
 
+mod analysis;
 mod answer;
 mod clause_list;
 mod deciding;
 mod distinct;
 mod lesson;
+mod marks;
 mod search;
 mod single;
 mod solving;

@@ -5,14 +5,15 @@ ghost use Rattle.sat_clause.specs.Formula.{Cnf};
 ghost use Rattle.sat_clause.specs.Literal.{IsWithin};
 ghost use Rattle.sat_clause.specs.Trail.{IsClosed};
 ghost use Rattle.sat_core.specs.Levels.{lits_of};
-ghost use Rattle.sat_core.specs.SearchStore.{AreTrue, IsFalseAt, IsLesson, IsSettledState, Learns, SameKept};
+ghost use Rattle.sat_core.specs.SearchStore.{AreTrue, IsLesson, IsSettledState, Learns, SameKept};
 ghost use Rattle.sat_core.specs.Stands.{StandsFor};
 ghost use Rattle.sat_core.specs.Underway.{with_input};
 
 use crate::clause_list::ClauseList;
 use crate::deciding::{decide_on, values};
 use crate::distinct::distinct_literals;
-use crate::lesson::Lesson;
+use crate::lesson::{Lesson, find_lesson};
+use crate::marks::Marks;
 use crate::single::attach_single;
 use sat_arena::Arena;
 use sat_clause::{Formula, ID_LIMIT, Lit, VARIABLE_LIMIT};
@@ -33,17 +34,18 @@ pub(crate) struct Search {
     singles: ClauseList,
     taken: u32,
     watches: Watches,
+    marks: Marks,
 }
 
 impl Model for Search {
-    ghost use Rattle.sat_core.specs.SearchStore.{IsSearchStore, search_value};
+    ghost use Rattle.sat_core.specs.SearchStore.{IsSearching, search_value};
     ghost use Rattle.sat_core.specs.Stands.{SearchValue};
 
     ghost Value = { SearchValue };
 
     ghost view = { λ s. search_value s.inputs s.added s.singles s.watches };
 
-    ghost invariant = { λ s. IsSearchStore s.inputs s.added s.taken s.singles s.watches };
+    ghost invariant = { λ s. IsSearching s.inputs s.added s.taken s.singles s.watches s.marks };
 }
 
 impl Search {
@@ -64,6 +66,7 @@ impl Search {
             singles: ClauseList::new(alloc, vars)?,
             taken: 0,
             watches: Watches::new(alloc, Arena::new(alloc), vars)?,
+            marks: Marks::new(alloc, vars)?,
         })
     }
 
@@ -118,10 +121,12 @@ impl Search {
     }
 
     /// Attaches the clauses of fewer than two literals that wait for it, and then decides variable
-    /// after variable, until a clause is false, whose id it gives, or each variable has a value.
-    pub(crate) fn next_conflict(&mut self) -> Result<Option<u32>, AllocError>
+    /// after variable, until a clause is false, of which it gives a lesson, or each variable has a
+    /// value.
+    pub(crate) fn next_lesson(&mut self, alloc: Global) -> Result<Option<Lesson>, AllocError>
         ensures same { OnOk result (SameKept self.old self.new) }
-        ensures conflict { IfOk result (λ found. IfSome found (IsFalseAt self.new)) }
+        ensures lesson { IfOk result (λ found. IfSome found (λ lesson. IsLesson self.new
+            lesson.clause.items lesson.hints.items lesson.back)) }
         ensures settled { IfOk result (λ found. IfNone found (IsSettledState self.new)) }
         ensures closed { IfOk result (λ found.
             IfNone found (IsClosed self.new.vars (lits_of self.new.trail))) }
@@ -129,14 +134,24 @@ impl Search {
         while self.taken < self.singles.len() {
             let single = self.singles.get(self.taken);
             if !attach_single(&mut self.watches, single.lits, single.id)? {
-                return Ok(Some(single.id));
+                let lesson = find_lesson(
+                    alloc,
+                    &mut self.marks,
+                    &self.watches,
+                    single.lits,
+                    single.id,
+                )?;
+                return Ok(Some(lesson));
             }
             self.taken += 1;
         }
         let Some(c) = decide_on(&mut self.watches, self.singles.vars()) else {
             return Ok(None);
         };
-        Ok(Some(self.watches.id(c)))
+        let id = self.watches.id(c);
+        let lits = self.watches.lits(c);
+        let lesson = find_lesson(alloc, &mut self.marks, &self.watches, lits, id)?;
+        Ok(Some(lesson))
     }
 
     /// The value of each variable, where each has one and the clauses are settled.
@@ -148,32 +163,8 @@ impl Search {
         values(alloc, &self.watches, self.singles.vars())
     }
 
-    /// What is learned where the clause with an id is false: the negated decisions, by the reasons
-    /// in the order of the trail and then the false clause.
-    pub(crate) fn lesson(&self, alloc: Global, conflict: u32) -> Result<Lesson, AllocError>
-        requires { IsFalseAt self.now conflict }
-        ensures { IfOk result (λ lesson.
-            IsLesson self.now lesson.clause.items lesson.hints.items lesson.back) }
-    {
-        let mut clause = Vec::new(alloc);
-        let mut hints = Vec::new(alloc);
-        for entry in self.watches.trail() {
-            match entry.reason {
-                None => clause.push(entry.lit.negation())?,
-                Some(c) => hints.push(i64::from(self.watches.id(c)))?,
-            }
-        }
-        hints.push(i64::from(conflict))?;
-        let back = self.watches.level().saturating_sub(1);
-        Ok(Lesson {
-            clause,
-            hints,
-            back,
-        })
-    }
-
-    /// Learns the clause of a lesson, which is not empty, under the next id: it goes back to before
-    /// the last decision, and makes its negation true.
+    /// Learns the clause of a lesson, which is not empty, under the next id: it goes back to the
+    /// highest level of its literals but the last, which the clause makes true there.
     pub(crate) fn learn(&mut self, lesson: &Lesson) -> Result<(), AllocError>
         requires lesson { IsLesson self.old lesson.now.clause.items lesson.now.hints.items
             lesson.now.back }

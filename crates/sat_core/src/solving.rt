@@ -42,9 +42,11 @@ fn search_for_values(
 /// are numbered behind the input clauses, in order; none but the empty one has all literals of a
 /// clause that is live. With `keep` no clause is deleted; today none is deleted either way.
 ///
-/// Each clause that is learned costs passes over all clauses: at most one for each literal that
-/// becomes true, one more for each decision, of which there is at most one a variable, and the
-/// last. A clause is kept twice, for the search and in the log.
+/// Where a clause is false, the clause of the first unique implication point is learned: the search
+/// goes back to the highest level of its other literals, and it makes the last one true there. The
+/// analysis costs what it meets: the entries of the trail from the newest down to that point, and the
+/// literals of the reasons that it uses, which are sorted. A clause is kept twice, for the search and
+/// in the log.
 ///
 /// # Errors
 /// Where memory is short. What the log has by then still follows.

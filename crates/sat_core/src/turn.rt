@@ -19,8 +19,8 @@ pub(crate) enum Turn {
     Refuted,
 }
 
-/// Searches on until a clause is false, and then learns and logs that not all decisions hold; or
-/// until each variable has a value.
+/// Searches on until a clause is false, and then learns and logs a clause; or until each variable has
+/// a value.
 ///
 /// Memory is taken before anything is logged, so the log is as it was where memory is short.
 pub(crate) fn take_turn(
@@ -34,11 +34,10 @@ pub(crate) fn take_turn(
         → IsTurn search.new formula log.old.steps log.new.steps turn) }
     ensures err { OnErr result (log.new.steps ≡ log.old.steps) }
 {
-    let Some(conflict) = search.next_conflict()? else {
+    let Some(lesson) = search.next_lesson(alloc)? else {
         let values = search.model(alloc)?;
         return Ok(Turn::Model(values));
     };
-    let lesson = search.lesson(alloc, conflict)?;
     let numbers = lesson.clause.len() as u64 + lesson.hints.len() as u64;
     log.reserve(1, numbers)?;
     let id = search.next_id();

@@ -76,7 +76,7 @@ once_pairs (l ∷ older) once =
     (All-weaker (λ (m : Lit). variable m ≢ variable l) (λ (m : Lit). variable l ≢ variable m)
     (λ m ne same. ne (sym same)) older once.0) (once_pairs older once.1)
 
-few_entries : (n : ℕ) (entries : List TrailEntry) → AreWithin n entries → IsOnce entries →
+pub few_entries : (n : ℕ) (entries : List TrailEntry) → AreWithin n entries → IsOnce entries →
     length entries ≤ n
 few_entries n entries within once =
     let few = simple_few n (lits_of entries)

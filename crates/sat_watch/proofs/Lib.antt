@@ -9,6 +9,7 @@ pub mod ForgetLemmas
 pub mod GoesLemmas
 pub mod LevelLemmas
 pub mod PathLemmas
+pub mod PlaceLemmas
 pub mod ReasonLemmas
 pub mod RelinkLemmas
 pub mod SettledLemmas

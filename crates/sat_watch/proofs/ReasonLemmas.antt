@@ -14,8 +14,8 @@ use Rattle.sat_watch.specs.declared.entry.TrailEntry.{TrailEntry}
 use Rattle.sat_watch.specs.Chains.{is_in}
 use Rattle.sat_watch.specs.Forget.{IsNoReason, entry_moved, reason_moved}
 use Rattle.sat_watch.specs.Levels.{AreLeveled, IsLeveledBy, IsWatchStore, IsWatched}
-use Rattle.sat_watch.specs.Trail.{AreWithin, IsTrail, TrailState, lits_of}
-use Rattle.sat_watch.specs.TrailStore.{AreLevelsOf, AreTold, IsTrailStore, trail_state, truth_by, truth_in}
+use Rattle.sat_watch.specs.Trail.{AreWithin, IsTrail, TrailState, lits_of, place_in}
+use Rattle.sat_watch.specs.TrailStore.{ArePlacesOf, AreTold, IsTrailStore, trail_state, truth_by, truth_in}
 use Rattle.sat_watch.specs.Watched.{IsReason, is_false, true_at}
 use Rattle.sat_watch.proofs.WatchLemmas.{lit_tells}
 
@@ -38,6 +38,12 @@ module _ (to : ClauseRef → Option ClauseRef) where
     | inl same ↦ rw same.0 refl
     | inr other ↦ rw other.0 (true_moved older l)
   ]
+
+  pub place_moved : (entries : List TrailEntry) (l : Lit) →
+      place_in (moved_all entries) l ≡ place_in entries l
+  place_moved [] l = refl
+  place_moved (e ∷ older) l =
+      rw (length-map older (entry_moved to), place_moved older l) refl
 
   pub truth_moved : (entries : List TrailEntry) (l : Lit) →
       truth_in (moved_all entries) l ≡ truth_in entries l
@@ -77,10 +83,10 @@ module _ (to : ClauseRef → Option ClauseRef) where
     pub turned_moved : reverse (with_items entries ws).items ≡ moved_all (reverse entries.items)
     turned_moved = ap reverse items_moved ∙ reverse_map entries.items
 
-    pub store_moved : (vars : ℕ) (truths levels : Vec ℕ Global) →
-        IsTrailStore vars entries truths levels →
-        IsTrailStore vars (with_items entries ws) truths levels
-    store_moved vars truths levels h = record {
+    pub store_moved : (vars : ℕ) (truths places : Vec ℕ Global) →
+        IsTrailStore vars entries truths places →
+        IsTrailStore vars (with_items entries ws) truths places
+    store_moved vars truths places h = record {
       trail = trail_moved (trail_state vars entries) (trail_state vars (with_items entries ws)) refl
           turned_moved h.trail;
       within =
@@ -93,9 +99,9 @@ module _ (to : ClauseRef → Option ClauseRef) where
       told =
           subst (λ t. AreTold vars t truths.items) (sym turned_moved)
           (λ l within. h.told l within ∙ sym (truth_moved (reverse entries.items) l));
-      leveled =
-          subst (λ t. AreLevelsOf vars t levels.items) (sym turned_moved)
-          (λ l within n at. h.leveled l within n (sym (true_moved (reverse entries.items) l) ∙ at));
+      placed =
+          subst (λ t. ArePlacesOf vars t places.items) (sym turned_moved)
+          (λ l within n at. h.placed l within n (sym (place_moved (reverse entries.items) l) ∙ at));
     }
 
   -- a clause of this reference is held at the new one, with its literals

@@ -1,22 +1,24 @@
 -- How a trail lies, with one more entry and with one less.
-use Rattle.std.proofs.Common.{◌≡◌, ◌≢◌, ◌<◌, ◌≤◌, ◌+◌, ◌-◌, ◌*◌, inl, inr, ℕ, suc, ℤ, pos, negsuc, nat_abs, set, length-set, replicate, true, false, List, [], ◌∷◌, ◌++◌, length, slice_index_or, reverse, Some, Vec, refl, sym, ap, ◌∙◌, subst, arith}
+use Rattle.std.proofs.Common.{◌≡◌, ◌≢◌, ◌<◌, ◌≤◌, ◌+◌, ◌-◌, ◌*◌, ◌==◌, inl, inr, Bool, ℕ, suc, ℤ, pos, negsuc, nat_abs, set, length-set, replicate, true, false, List, [], ◌∷◌, ◌++◌, length, slice_index_or, reverse, Some, Vec, refl, sym, ap, ◌∙◌, subst, arith}
 use Rattle.std.specs.Prelude.{vec_len, vec_capacity}
 use Rattle.std.specs.Global.{Global}
 use Rattle.std.specs.Vec.{with_item}
+use Rattle.std.specs.Prelude.{if◌then◌else◌}
+use Rattle.std.proofs.lemmas.Bool.{eqb-false, eqb-true}
 use Rattle.std.proofs.lemmas.List.{get_or-replicate, get_or-set_same, get_or-set_other}
 use Rattle.std.proofs.lemmas.List.{length-reverse, reverse-append}
 use Rattle.std.proofs.lemmas.List.Elements.{All-pop, All-push, All-tail}
 use Rattle.sat_clause.specs.declared.literal.Lit.{Lit}
 use Rattle.sat_clause.specs.Literal.{IsWithin, is_among, lit, negation, variable}
 use Rattle.sat_watch.specs.declared.entry.TrailEntry.{TrailEntry}
-use Rattle.sat_watch.specs.Trail.{AreWithin, IsOpen, IsTrail, falses}
-use Rattle.sat_watch.specs.TrailStore.{AreLevelsOf, AreTold, IsTrailStore, place_by, place_of, trail_state, truth_by, truth_in}
-use Rattle.sat_watch.specs.Watched.{true_at}
-use Rattle.sat_watch.proofs.LevelLemmas.{not_own_negation, true_is_false}
+use Rattle.sat_watch.specs.Trail.{AreWithin, IsOpen, IsTrail, falses, place_in}
+use Rattle.sat_watch.specs.TrailStore.{ArePlacesOf, AreTold, IsTrailStore, place_by, place_of, trail_state, truth_by, truth_in}
+use Rattle.sat_watch.proofs.LevelLemmas.{not_own_negation}
 use Rattle.sat_watch.proofs.WatchLemmas.{lit_tells}
 use Rattle.sat_watch.proofs.FewLemmas.{longer_trail}
+use Rattle.sat_watch.proofs.PlaceLemmas.{none_placed}
 use Rattle.sat_clause.proofs.LiteralLaws.{among_here, among_other, negation-negation, variable_negation}
-use Rattle.sat_watch.proofs.TrailLemmas.{false_is_other, open_negation, open_not_false, open_not_true}
+use Rattle.sat_watch.proofs.TrailLemmas.{open_negation, open_not_false, open_not_true}
 
 reverse-push : {X : Type 0} (xs : List X) (x : X) → reverse (xs ++ x ∷ []) ≡ x ∷ reverse xs
 reverse-push xs x = reverse-append xs (x ∷ [])
@@ -144,41 +146,42 @@ module _ (vars : ℕ) (older : List TrailEntry) (e : TrailEntry) (truths : List 
     ]
   ]
 
-  true_is_other : (l : Lit) (n : ℕ) → true_at older l ≡ Some n → variable l ≢ variable e.lit
-  true_is_other l n is same =
-      false_is_other older e.lit (negation l) free (true_is_false older l n is)
-      (variable_negation l ∙ same)
+  push_places : (places : List ℕ) → length places ≡ vars → ArePlacesOf vars older places →
+      ArePlacesOf vars (e ∷ older) (set places (variable e.lit - 1) (length older))
+  push_places places many are l l_within n is = by (variable e.lit == variable l) refl is
+    where
+      by : (b : Bool) → (variable e.lit == variable l) ≡ b →
+          (if b then Some (length older) else place_in older l) ≡ Some n →
+          slice_index_or (set places (variable e.lit - 1) (length older)) (variable l - 1) 0 ≡ n
+      by true same at =
+          let one = eqb-true (variable e.lit) (variable l) same in
+          let place : length older ≡ n = cc in
+          subst (λ (v : ℕ). slice_index_or (set places (variable e.lit - 1) (length older))
+          (v - 1) 0 ≡ n) one
+          (get_or-set_same places (variable e.lit - 1) (length older) 0
+          (omega (arith, within.0, within.1, many)) ∙ place)
+      by false other at =
+          let ne = eqb-false (variable e.lit) (variable l) other in
+          get_or-set_other places (variable e.lit - 1) (variable l - 1) (length older) 0
+          (λ same. ne (omega (arith, same, within.0, l_within.0))) ∙ are l l_within n at
 
-  push_levels : (levels : List ℕ) → length levels ≡ vars → AreLevelsOf vars older levels →
-      AreLevelsOf vars (e ∷ older) (set levels (variable e.lit - 1) e.level)
-  push_levels levels many are l l_within n is = elim (lit_tells e.lit l) [
-    | inl same ↦
-        let at : e.level ≡ n = (let x : Some e.level ≡ Some n = rw same.0 at is in cc) in
-        subst (λ (m : Lit). slice_index_or (set levels (variable e.lit - 1) e.level)
-        (variable m - 1) 0 ≡ n) same.1
-        (get_or-set_same levels (variable e.lit - 1) e.level 0
-        (omega (arith, within.0, within.1, many)) ∙ at)
-    | inr other ↦
-        let before : true_at older l ≡ Some n = rw other.0 at is in
-        let ne = true_is_other l n before in
-        get_or-set_other levels (variable e.lit - 1) (variable l - 1) e.level 0
-        (λ same. ne (omega (arith, same, within.0, l_within.0))) ∙ are l l_within n before
-  ]
+  pop_places : (places : List ℕ) → ArePlacesOf vars (e ∷ older) places →
+      ArePlacesOf vars older places
+  pop_places places are l l_within n is = are l l_within n (by (variable e.lit == variable l) refl)
+    where
+      by : (b : Bool) → (variable e.lit == variable l) ≡ b →
+          (if b then Some (length older) else place_in older l) ≡ Some n
+      by true same = absurd (none_placed older e.lit l n free
+          (sym (eqb-true (variable e.lit) (variable l) same)) is)
+      by false other = is
 
-  pop_levels : (levels : List ℕ) → AreLevelsOf vars (e ∷ older) levels →
-      AreLevelsOf vars older levels
-  pop_levels levels are l l_within n is = elim (lit_tells e.lit l) [
-    | inl same ↦ absurd (true_is_other l n is (ap variable (sym same.1)))
-    | inr other ↦ are l l_within n (rw other.0 is)
-  ]
-
-module _ (vars : ℕ) (entries next : Vec TrailEntry Global) (truths levels : Vec ℕ Global)
-    (e : TrailEntry) (store : IsTrailStore vars entries truths levels) where
+module _ (vars : ℕ) (entries next : Vec TrailEntry Global) (truths places : Vec ℕ Global)
+    (e : TrailEntry) (store : IsTrailStore vars entries truths places) where
   wide_is : length truths.items ≡ suc (vars * 2)
   wide_is = omega (arith, store.wide, truths.ok.0)
 
-  many_is : length levels.items ≡ vars
-  many_is = omega (arith, store.many, levels.ok.0)
+  many_is : length places.items ≡ vars
+  many_is = omega (arith, store.many, places.ok.0)
 
   -- with one more entry there are no more than variables, so there is room for it
   pub has_room : IsWithin vars e.lit → IsOpen (reverse entries.items) e.lit →
@@ -195,7 +198,7 @@ module _ (vars : ℕ) (entries next : Vec TrailEntry Global) (truths levels : Ve
       next.items ≡ entries.items ++ e ∷ [] → vec_capacity next ≡ vec_capacity entries →
       IsTrailStore vars next
       (with_item (with_item truths (place_of vars e.lit) 1) (place_of vars (negation e.lit)) 2)
-      (with_item levels (variable e.lit - 1) e.level)
+      (with_item places (variable e.lit - 1) (length (reverse entries.items)))
   push_store within free items capacity =
       let turned : reverse next.items ≡ e ∷ reverse entries.items =
       ap reverse items ∙ reverse-push entries.items e in
@@ -213,9 +216,9 @@ module _ (vars : ℕ) (entries next : Vec TrailEntry Global) (truths levels : Ve
         told =
             rw turned (push_told vars (reverse entries.items) e truths.items within free wide_is
             store.told);
-        leveled =
-            rw turned (push_levels vars (reverse entries.items) e truths.items within free wide_is
-            levels.items many_is store.leveled);
+        placed =
+            rw turned (push_places vars (reverse entries.items) e truths.items within free wide_is
+            places.items many_is store.placed);
       }
 
   -- one less
@@ -223,7 +226,7 @@ module _ (vars : ℕ) (entries next : Vec TrailEntry Global) (truths levels : Ve
       vec_capacity next ≡ vec_capacity entries →
       IsTrailStore vars next
       (with_item (with_item truths (place_of vars e.lit) 0) (place_of vars (negation e.lit)) 0)
-      levels
+      places
   pop_store items capacity =
       let turned : reverse entries.items ≡ e ∷ reverse next.items =
       ap reverse items ∙ reverse-push next.items e in
@@ -250,7 +253,7 @@ module _ (vars : ℕ) (entries next : Vec TrailEntry Global) (truths levels : Ve
         told =
             pop_told vars (reverse next.items) e truths.items within once.0 wide_is
             (subst (λ t. AreTold vars t truths.items) turned store.told);
-        leveled =
-            pop_levels vars (reverse next.items) e truths.items within once.0 wide_is levels.items
-            (subst (λ t. AreLevelsOf vars t levels.items) turned store.leveled);
+        placed =
+            pop_places vars (reverse next.items) e truths.items within once.0 wide_is places.items
+            (subst (λ t. ArePlacesOf vars t places.items) turned store.placed);
       }

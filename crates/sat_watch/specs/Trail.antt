@@ -1,8 +1,8 @@
 -- The literals that a search has made true, the newest first, each with its level and its reason.
-use Rattle.std.specs.Prelude.{ℕ, ◌≤◌, Bool, true, false, if◌then◌else◌, nat_le, List, [], ◌∷◌, length, Option, None, Some, map, All}
+use Rattle.std.specs.Prelude.{ℕ, ◌≤◌, Bool, true, false, if◌then◌else◌, nat_le, ◌==◌, List, [], ◌∷◌, length, Option, None, Some, map, All}
 use Rattle.sat_clause.specs.declared.limits.TheConstants.{VARIABLE_LIMIT}
 use Rattle.sat_clause.specs.declared.literal.Lit.{Lit}
-use Rattle.sat_clause.specs.Literal.{IsWithin, is_among, negation}
+use Rattle.sat_clause.specs.Literal.{IsWithin, is_among, negation, variable}
 use Rattle.sat_clause.specs.Trail.{falses as falses_of, IsOpen as IsOpenOn, IsOnce as IsOnceOn}
 use Rattle.sat_watch.specs.declared.entry.TrailEntry.{TrailEntry}
 
@@ -43,6 +43,12 @@ abbrev pub value_in : List TrailEntry → Lit → Option Bool
 value_in entries l =
     if is_among (falses entries) l then Some false
     else if is_among (falses entries) (negation l) then Some true else None
+
+-- how many entries are older than the one of the literal's variable; none where it is open
+abbrev pub place_in : List TrailEntry → Lit → Option ℕ
+place_in [] l = None
+place_in (e ∷ older) l =
+    if variable e.lit == variable l then Some (length older) else place_in older l
 
 -- what is left once the newest entries of a level above j are dropped
 abbrev pub fallen : ℕ → List TrailEntry → List TrailEntry

@@ -1,12 +1,11 @@
 -- How a trail lies: its entries, a table of the truths of all literals, and one of the variables'
--- levels.
+-- places.
 use Rattle.std.specs.Prelude.{◌≡◌, ℕ, suc, ◌+◌, ◌-◌, ◌*◌, ◌≤◌, ℤ, pos, negsuc, Bool, true, false, List, reverse, slice_index_or, Some, Vec, vec_len, vec_capacity}
 use Rattle.std.specs.Global.{Global}
 use Rattle.sat_clause.specs.declared.literal.Lit.{Lit}
 use Rattle.sat_clause.specs.Literal.{IsWithin, is_among, negation, variable}
 use Rattle.sat_watch.specs.declared.entry.TrailEntry.{TrailEntry}
-use Rattle.sat_watch.specs.Trail.{AreWithin, IsTrail, TrailState, falses}
-use Rattle.sat_watch.specs.Watched.{true_at}
+use Rattle.sat_watch.specs.Trail.{AreWithin, IsTrail, TrailState, falses, place_in}
 
 -- what contracts see of a trail with these entries, the oldest first
 abbrev pub trail_state : ℕ → Vec TrailEntry Global → TrailState
@@ -35,20 +34,20 @@ abbrev pub AreTold : ℕ → List TrailEntry → List ℕ → Type 0
 AreTold vars entries table = (l : Lit) → IsWithin vars l →
     slice_index_or table (place_of vars l) 0 ≡ truth_in entries l
 
--- the levels are those at which the variables' literals were made true
-abbrev pub AreLevelsOf : ℕ → List TrailEntry → List ℕ → Type 0
-AreLevelsOf vars entries levels =
-    (l : Lit) → IsWithin vars l → (n : ℕ) → true_at entries l ≡ Some n →
-    slice_index_or levels (variable l - 1) 0 ≡ n
+-- the places are those of the variables on the trail
+abbrev pub ArePlacesOf : ℕ → List TrailEntry → List ℕ → Type 0
+ArePlacesOf vars entries places =
+    (l : Lit) → IsWithin vars l → (n : ℕ) → place_in entries l ≡ Some n →
+    slice_index_or places (variable l - 1) 0 ≡ n
 
--- the tables tell truths and levels, and there is room for an entry of each variable
+-- the tables tell truths and places, and there is room for an entry of each variable
 pub record IsTrailStore
-    (vars : ℕ) (entries : Vec TrailEntry Global) (truths : Vec ℕ Global) (levels : Vec ℕ Global) :
+    (vars : ℕ) (entries : Vec TrailEntry Global) (truths : Vec ℕ Global) (places : Vec ℕ Global) :
     Type 0 where
   pub trail : IsTrail (trail_state vars entries)
   pub within : AreWithin vars entries.items
   pub room : vars ≤ vec_capacity entries
   pub wide : vec_len truths ≡ suc (vars * 2)
-  pub many : vec_len levels ≡ vars
+  pub many : vec_len places ≡ vars
   pub told : AreTold vars (reverse entries.items) truths.items
-  pub leveled : AreLevelsOf vars (reverse entries.items) levels.items
+  pub placed : ArePlacesOf vars (reverse entries.items) places.items

@@ -1,10 +1,10 @@
 //! The literals that a search has made true, in order.
 
-ghost use Rattle.std.specs.Prelude.{◌≡◌, ◌≤◌, ◌∷◌, [], ℕ, length, drop, map, reverse, slice_index_or, true, false, ◌<◌, IfNone, IfOk, IfSome, Some};
+ghost use Rattle.std.specs.Prelude.{◌≡◌, ◌≢◌, ◌≤◌, ◌∷◌, [], ℕ, length, drop, map, reverse, slice_index_or, true, false, ◌<◌, IfNone, IfOk, IfSome, None, Some};
 ghost use Rattle.sat_clause.specs.Literal.{IsLiteral, IsWithin, is_among, negation};
 ghost use Rattle.sat_arena.specs.Compact.{AreRising, moved_by};
 ghost use Rattle.sat_watch.specs.Forget.{entry_moved};
-ghost use Rattle.sat_watch.specs.Trail.{IsOpen, fallen, falses, value_in};
+ghost use Rattle.sat_watch.specs.Trail.{IsOpen, fallen, falses, place_in, value_in};
 ghost use Rattle.sat_watch.specs.TrailStore.{place_of};
 ghost use Rattle.sat_watch.specs.Watched.{true_at};
 
@@ -15,14 +15,14 @@ use std::alloc::{AllocError, Global};
 use std::marker::Model;
 
 /// The true literals with their levels and reasons, oldest first, each of another variable. Beside
-/// them stand the truth of each literal and the level of each variable, each one load away. Nothing
+/// them stand the truth of each literal and the place of each variable, each one load away. Nothing
 /// but [`Trail::new`] takes memory.
 #[derive(Drop)]
 pub(crate) struct Trail {
     vars: u32,
     entries: Vec<TrailEntry>,
     truths: Vec<u8>,
-    levels: Vec<u32>,
+    places: Vec<u32>,
 }
 
 impl Model for Trail {
@@ -33,7 +33,7 @@ impl Model for Trail {
 
     ghost view = { λ t. trail_state t.vars t.entries };
 
-    ghost invariant = { λ t. IsTrailStore t.vars t.entries t.truths t.levels };
+    ghost invariant = { λ t. IsTrailStore t.vars t.entries t.truths t.places };
 }
 
 /// The place of a literal in the table of truths, whose middle belongs to no literal.
@@ -79,7 +79,7 @@ impl Trail {
             vars,
             entries: Vec::with_capacity(alloc, vars as usize)?,
             truths: vec![in alloc; 0; vars as usize * 2 + 1]?,
-            levels: vec![in alloc; 0; vars as usize]?,
+            places: vec![in alloc; 0; vars as usize]?,
         })
     }
 
@@ -112,10 +112,11 @@ impl Trail {
         ensures vars { self.new.vars ≡ self.old.vars }
         ensures entries { self.new.entries ≡ entry ∷ self.old.entries }
     {
+        let older = self.len();
         self.entries.push_reserved(entry);
         self.truths[place(self.vars, entry.lit)] = 1;
         self.truths[place(self.vars, entry.lit.negation())] = 2;
-        self.levels[entry.lit.variable() as usize - 1] = entry.level;
+        self.places[entry.lit.variable() as usize - 1] = older;
     }
 
     /// Takes the newest entry off, if there is one.
@@ -153,7 +154,20 @@ impl Trail {
         ensures is_true { (n : ℕ) → true_at self.now.entries l ≡ Some n → result ≡ n }
         ensures is_false { (n : ℕ) → true_at self.now.entries (negation l) ≡ Some n → result ≡ n }
     {
-        self.levels[l.variable() as usize - 1]
+        let older = self.places[l.variable() as usize - 1];
+        let Some(entry) = self.entries.get(older as usize) else {
+            return 0;
+        };
+        entry.level
+    }
+
+    /// How many entries are older than the one of a literal's variable, which has a value.
+    pub(crate) fn place(&self, l: Lit) -> u32
+        requires within { IsWithin self.now.vars l }
+        requires valued { value_in self.now.entries l ≢ None }
+        ensures { place_in self.now.entries l ≡ Some result }
+    {
+        self.places[l.variable() as usize - 1]
     }
 
     /// The entry that so many newer ones stand before.

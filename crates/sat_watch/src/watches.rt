@@ -8,7 +8,7 @@ ghost use Rattle.sat_watch.specs.Chains.{lit_at};
 ghost use Rattle.sat_watch.specs.Choice.{IsAttachedAs, IsTrueAt};
 ghost use Rattle.sat_watch.specs.Forget.{IsNoReason, OthersMove, OthersStay, forgotten};
 ghost use Rattle.sat_watch.specs.Levels.{due_without as due_without_of};
-ghost use Rattle.sat_watch.specs.Trail.{AreWithin, IsOpen, IsOnce, value_in};
+ghost use Rattle.sat_watch.specs.Trail.{AreWithin, IsOpen, IsOnce, place_in, value_in};
 ghost use Rattle.sat_watch.specs.Watched.{IsReason, is_false, true_at, AreFalse};
 ghost use Rattle.sat_watch.specs.Watches.{AreInPlace, Attaches, HasLevels, IsOnlyOne, MayAttach, highest, IsSettledAt, IsSettledState, IsWithinLooks, Propagates, assumed, gone_back, id_at, implied, is_attached, left_queued, lits_at};
 
@@ -99,6 +99,17 @@ impl Watches {
         ensures open { IfNone result (IsOpen self.now.trail l) }
     {
         self.trail.value(l)
+    }
+
+    /// The place on the trail of a literal's variable, which has a value: the oldest entry is at 0.
+    /// It costs one load.
+    pub fn place(&self, l: Lit) -> u32
+        requires within { IsWithin self.now.vars l }
+        requires valued { value_in self.now.trail l ≢ None }
+        ensures place { place_in self.now.trail l ≡ Some result }
+        ensures within { result < self.now.vars }
+    {
+        self.trail.place(l)
     }
 
     /// The current level: how many decisions stand on the trail.

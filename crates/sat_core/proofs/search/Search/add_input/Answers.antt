@@ -5,6 +5,7 @@ use Rattle.sat_clause.specs.Literal.{Clause, IsWithin}
 use Rattle.sat_clause.specs.Live.{Live, clause_at, put}
 use Rattle.sat_watch.specs.Watches.{Attached, HasTwoFree}
 use Rattle.sat_core.specs.Kept.{AreBelow, IsDistinct, SameLive}
+use Rattle.sat_core.specs.Marks.{IsReady}
 use Rattle.sat_core.specs.SearchStore.{live_of}
 use Rattle.sat_core.specs.Stands.{SearchValue}
 use Rattle.sat_core.proofs.AttachLaws.{now_clauses, now_level, now_leveled, now_trail, now_vars}
@@ -23,7 +24,7 @@ returns-in_default-clause-stands c =
     let up : suc (p.inputs + p.added) ≡ suc p.inputs = omega (arith, none) in
     let live : Live = p.singles.clauses ++ live_of p.watches.clauses in
     let below : AreBelow (suc p.inputs) live =
-    subst (λ (n : ℕ). AreBelow n live) up c.self.invariant.below in
+    subst (λ (n : ℕ). AreBelow n live) up c.self.invariant.store.below in
     rw (← c.self.view_is)
     (λ front stands. stands_without _ _ front c.args.lits.now stands below refl
     (add-one p.inputs) refl refl always)
@@ -33,7 +34,7 @@ add-requires-clause-new c =
     let p = c.self.inside in
     let none = subst (λ (s : SearchValue). s.added
     ≡ 0) (sym c.self.view_is) c.requires.none_added in
-    no_single_next p.inputs p.added p.taken p.singles p.watches (p.inputs + 1) c.self.invariant
+    no_single_next p.inputs p.added p.taken p.singles p.watches (p.inputs + 1) c.self.invariant.store
     (omega (arith, none))
 
 pub invariant_of-self-then-len-lt2 : goal.invariant_of-self-then-len-lt2
@@ -52,12 +53,15 @@ invariant_of-self-then-len-lt2 c =
     c.in_ok-add.ensures.ok ∙ ap (λ (lits : Clause). put p.singles.clauses
     (p.inputs + 1) lits) c.deref.ensures.value
     ∙ ap (λ (id : ℕ). put p.singles.clauses id kept.items) (add-one p.inputs) in
-    moved_store p.inputs (p.inputs + 1) p.added p.taken c.add.new.self p.watches
-    (add-one p.inputs) none
-    (store_single p.inputs p.taken p.singles c.add.new.self p.watches kept.items
-    (at_zero p.inputs p.added p.taken p.singles p.watches none c.self.invariant) (omega
-    (arith, few)) none_true short
-    c.in_ok-add.ensures.vars clauses)
+    record {
+      store = moved_store p.inputs (p.inputs + 1) p.added p.taken c.add.new.self p.watches
+          (add-one p.inputs) none
+          (store_single p.inputs p.taken p.singles c.add.new.self p.watches kept.items
+          (at_zero p.inputs p.added p.taken p.singles p.watches none c.self.invariant.store) (omega
+          (arith, few)) none_true short
+          c.in_ok-add.ensures.vars clauses);
+      ready = c.self.invariant.ready;
+    }
 
 pub returns-then-len-lt2-clause-stands : goal.returns-then-len-lt2-clause-stands
 returns-then-len-lt2-clause-stands c =
@@ -69,7 +73,7 @@ returns-then-len-lt2-clause-stands c =
     let up : suc (p.inputs + p.added) ≡ suc p.inputs = omega (arith, none) in
     let live : Live = p.singles.clauses ++ live_of p.watches.clauses in
     let below : AreBelow (suc p.inputs) live =
-    subst (λ (n : ℕ). AreBelow n live) up c.self.invariant.below in
+    subst (λ (n : ℕ). AreBelow n live) up c.self.invariant.store.below in
     let clauses : c.add.new.self.clauses ≡ put p.singles.clauses (suc p.inputs) kept.items =
     c.in_ok-add.ensures.ok ∙ ap (λ (lits : Clause). put p.singles.clauses
     (p.inputs + 1) lits) c.deref.ensures.value
@@ -131,16 +135,20 @@ invariant_of-self-2 c =
     let two : HasTwoFree p.watches.trail lits = rw c.deref-2.ensures.value
     (two_free p.watches kept.items none_true is.1 (omega
     (arith, c.if-len-lt2.false, c.len.ensures, kept.ok.0))) in
-    let stand = c.self.invariant.keeps.stand in
-    store_attached p.inputs p.added p.taken p.singles p.watches now
-    (p.inputs + 1) lits ref does c.self.invariant (omega (arith, none)) simple
-    (p.inputs + 1) p.added now (omega arith) (omega arith) (omega (arith, few, none))
-    (now_clauses p.watches now lits (p.inputs + 1) ref does stand) (now_vars p.watches now lits
-    (p.inputs + 1) ref does stand)
-    (inr (now_level p.watches now lits (p.inputs + 1) ref does stand
-    ∙ level_zero p.watches c.self.invariant.leveled none_true))
-    (now_leveled p.watches now lits (p.inputs + 1) ref does stand c.self.invariant.leveled)
-    (does.not_due (inl two))
+    let stand = c.self.invariant.store.keeps.stand in
+    record {
+      store = store_attached p.inputs p.added p.taken p.singles p.watches now
+          (p.inputs + 1) lits ref does c.self.invariant.store (omega (arith, none)) simple
+          (p.inputs + 1) p.added now (omega arith) (omega arith) (omega (arith, few, none))
+          (now_clauses p.watches now lits (p.inputs + 1) ref does stand) (now_vars p.watches now lits
+          (p.inputs + 1) ref does stand)
+          (inr (now_level p.watches now lits (p.inputs + 1) ref does stand
+          ∙ level_zero p.watches c.self.invariant.store.leveled none_true))
+          (now_leveled p.watches now lits (p.inputs + 1) ref does stand c.self.invariant.store.leveled)
+          (does.not_due (inl two));
+      ready = subst (λ n. IsReady n p.marks) (sym (now_vars p.watches now lits
+          (p.inputs + 1) ref does stand)) c.self.invariant.ready;
+    }
 
 pub returns-clause-none_true : goal.returns-clause-none_true
 returns-clause-none_true c =
@@ -150,7 +158,7 @@ returns-clause-none_true c =
     ≡ []) (sym c.self.view_is) c.requires.none_true in
     none_true_now p.watches now
     (now_trail p.watches now c.deref-2.result.now
-    (p.inputs + 1) c.in_ok-attach.field-0 c.in_ok-attach.ensures.ok c.self.invariant.keeps.stand)
+    (p.inputs + 1) c.in_ok-attach.field-0 c.in_ok-attach.ensures.ok c.self.invariant.store.keeps.stand)
     none_true
 
 pub returns-clause-stands : goal.returns-clause-stands
@@ -175,13 +183,13 @@ returns-clause-stands c =
     let up : suc (p.inputs + p.added) ≡ suc p.inputs = omega (arith, none) in
     let live : Live = p.singles.clauses ++ live_of p.watches.clauses in
     let below : AreBelow (suc p.inputs) live =
-    subst (λ (n : ℕ). AreBelow n live) up c.self.invariant.below in
-    let stand = c.self.invariant.keeps.stand in
+    subst (λ (n : ℕ). AreBelow n live) up c.self.invariant.store.below in
+    let stand = c.self.invariant.store.keeps.stand in
     let alike : SameLive (put live (suc p.inputs) does.order)
     (p.singles.clauses ++ live_of now.clauses) = λ n.
     ap (λ (id : ℕ). clause_at (put live id does.order) n) (sym (add-one p.inputs))
     ∙ attached_alike p.inputs p.added p.taken p.singles p.watches now
-    (p.inputs + 1) lits ref does c.self.invariant (omega (arith, none)) simple n
+    (p.inputs + 1) lits ref does c.self.invariant.store (omega (arith, none)) simple n
     ∙ ap (λ (ks : List Attached). clause_at (p.singles.clauses ++ live_of ks) n) (sym
     (now_clauses p.watches now lits (p.inputs + 1) ref does stand)) in
     let same = same_then does.order kept.items c.args.lits.now

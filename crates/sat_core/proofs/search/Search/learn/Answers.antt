@@ -4,6 +4,7 @@ use Rattle.sat_clause.specs.Trail.{IsOpen}
 use Rattle.sat_watch.specs.Trail.{lits_of}
 use Rattle.sat_watch.specs.Watched.{IsReason}
 use Rattle.sat_watch.specs.Watches.{Attaches, WatchState, implied, lits_at}
+use Rattle.sat_core.specs.Marks.{IsReady}
 use Rattle.sat_core.specs.SearchStore.{IsLesson, IsSearchStore, Learns, search_value}
 use Rattle.sat_core.specs.Stands.{SearchValue}
 use Rattle.sat_core.proofs.LearnLaws.{ends_in_first, first, first_inside, gone, gone_is, has_last, last_literal, learn_attached, learn_may, learn_open, learn_reason, learns, store_gone, store_learned}
@@ -21,7 +22,7 @@ attach-requires-clause-simple c =
     let lesson = subst (λ (s : SearchValue). IsLesson s clause c.args.lesson.now.hints.items
     c.args.lesson.now.back) (sym c.self.view_is) c.requires.lesson in
     let is = c.back_to.ensures ∙ gone_is p.inputs p.added p.taken p.singles p.watches
-    c.self.invariant clause c.args.lesson.now.hints.items c.args.lesson.now.back lesson
+    c.self.invariant.store clause c.args.lesson.now.hints.items c.args.lesson.now.back lesson
     c.requires.some in
     rw (is, c.deref-2.ensures.value) lesson.simple
 
@@ -32,7 +33,7 @@ attach-requires-clause-quiet c =
     let lesson = subst (λ (s : SearchValue). IsLesson s clause c.args.lesson.now.hints.items
     c.args.lesson.now.back) (sym c.self.view_is) c.requires.lesson in
     let is = c.back_to.ensures ∙ gone_is p.inputs p.added p.taken p.singles p.watches
-    c.self.invariant clause c.args.lesson.now.hints.items c.args.lesson.now.back lesson
+    c.self.invariant.store clause c.args.lesson.now.hints.items c.args.lesson.now.back lesson
     c.requires.some in
     ap (λ (s : WatchState). s.due) is
 
@@ -45,9 +46,9 @@ attach-requires-clause-may c =
     let lesson = subst (λ (s : SearchValue). IsLesson s clause hints back)
     (sym c.self.view_is) c.requires.lesson in
     let is = c.back_to.ensures ∙ gone_is p.inputs p.added p.taken p.singles p.watches
-    c.self.invariant clause hints back lesson c.requires.some in
+    c.self.invariant.store clause hints back lesson c.requires.some in
     rw (is, c.deref-2.ensures.value) (learn_may p.inputs p.added p.taken p.singles p.watches
-    c.self.invariant clause hints back lesson c.requires.some)
+    c.self.invariant.store clause hints back lesson c.requires.some)
 
 pub invariant_of-self : goal.invariant_of-self
 invariant_of-self c =
@@ -58,11 +59,14 @@ invariant_of-self c =
     let lesson = subst (λ (s : SearchValue). IsLesson s clause hints back)
     (sym c.self.view_is) c.requires.lesson in
     let is = c.in_err-c.ensures.err ∙ c.back_to.ensures
-    ∙ gone_is p.inputs p.added p.taken p.singles p.watches c.self.invariant clause hints back
+    ∙ gone_is p.inputs p.added p.taken p.singles p.watches c.self.invariant.store clause hints back
     lesson c.requires.some in
-    subst (IsSearchStore p.inputs p.added p.taken p.singles) (sym is)
-    (store_gone p.inputs p.added p.taken p.singles p.watches c.self.invariant clause hints back
-    lesson c.requires.some)
+    record {
+      store = subst (IsSearchStore p.inputs p.added p.taken p.singles) (sym is)
+          (store_gone p.inputs p.added p.taken p.singles p.watches c.self.invariant.store clause
+          hints back lesson c.requires.some);
+      ready = subst (λ (s : WatchState). IsReady s.vars p.marks) (sym is) c.self.invariant.ready;
+    }
 
 pub imply-requires-clause-within : goal.imply-requires-clause-within
 imply-requires-clause-within c =
@@ -70,7 +74,7 @@ imply-requires-clause-within c =
     let clause = c.args.lesson.now.clause.items in
     let hints = c.args.lesson.now.hints.items in
     let back = c.args.lesson.now.back in
-    let store = c.self.invariant in
+    let store = c.self.invariant.store in
     let lesson = subst (λ (s : SearchValue). IsLesson s clause hints back)
     (sym c.self.view_is) c.requires.lesson in
     let is = c.back_to.ensures ∙ gone_is p.inputs p.added p.taken p.singles p.watches store clause
@@ -100,7 +104,7 @@ imply-requires-clause-open c =
     let clause = c.args.lesson.now.clause.items in
     let hints = c.args.lesson.now.hints.items in
     let back = c.args.lesson.now.back in
-    let store = c.self.invariant in
+    let store = c.self.invariant.store in
     let lesson = subst (λ (s : SearchValue). IsLesson s clause hints back)
     (sym c.self.view_is) c.requires.lesson in
     let is = c.back_to.ensures ∙ gone_is p.inputs p.added p.taken p.singles p.watches store clause
@@ -130,7 +134,7 @@ imply-requires-clause-attached c =
     let clause = c.args.lesson.now.clause.items in
     let hints = c.args.lesson.now.hints.items in
     let back = c.args.lesson.now.back in
-    let store = c.self.invariant in
+    let store = c.self.invariant.store in
     let lesson = subst (λ (s : SearchValue). IsLesson s clause hints back)
     (sym c.self.view_is) c.requires.lesson in
     let is = c.back_to.ensures ∙ gone_is p.inputs p.added p.taken p.singles p.watches store clause
@@ -159,7 +163,7 @@ imply-requires-clause-unit c =
     let clause = c.args.lesson.now.clause.items in
     let hints = c.args.lesson.now.hints.items in
     let back = c.args.lesson.now.back in
-    let store = c.self.invariant in
+    let store = c.self.invariant.store in
     let lesson = subst (λ (s : SearchValue). IsLesson s clause hints back)
     (sym c.self.view_is) c.requires.lesson in
     let is = c.back_to.ensures ∙ gone_is p.inputs p.added p.taken p.singles p.watches store clause
@@ -189,7 +193,7 @@ invariant_of-self-2 c =
     let clause = c.args.lesson.now.clause.items in
     let hints = c.args.lesson.now.hints.items in
     let back = c.args.lesson.now.back in
-    let store = c.self.invariant in
+    let store = c.self.invariant.store in
     let lesson = subst (λ (s : SearchValue). IsLesson s clause hints back)
     (sym c.self.view_is) c.requires.lesson in
     let is = c.back_to.ensures ∙ gone_is p.inputs p.added p.taken p.singles p.watches store clause
@@ -215,11 +219,16 @@ invariant_of-self-2 c =
     ≡ implied (first p.inputs p.added p.taken p.singles p.watches store clause hints back lesson
     c.requires.some) ref c.attach.new.self =
     c.imply.ensures ∙ ap (λ (x : Lit). implied x ref c.attach.new.self) first_is in
-    subst (λ (n : ℕ). IsSearchStore p.inputs n p.taken p.singles c.imply.new.self) (sym
-    (add-one p.added))
-    (subst (IsSearchStore p.inputs (suc p.added) p.taken p.singles) (sym after)
-    (store_learned p.inputs p.added p.taken p.singles p.watches store clause hints back lesson
-    c.requires.some c.attach.new.self id ref does next (omega (arith, few))))
+    let vars : c.attach.new.self.vars ≡ p.watches.vars = ap (λ (s : WatchState). s.vars) does.is in
+    record {
+      store = subst (λ (n : ℕ). IsSearchStore p.inputs n p.taken p.singles c.imply.new.self) (sym
+          (add-one p.added))
+          (subst (IsSearchStore p.inputs (suc p.added) p.taken p.singles) (sym after)
+          (store_learned p.inputs p.added p.taken p.singles p.watches store clause hints back
+          lesson c.requires.some c.attach.new.self id ref does next (omega (arith, few))));
+      ready = subst (λ (n : ℕ). IsReady n p.marks)
+          (sym (ap (λ (s : WatchState). s.vars) after ∙ vars)) c.self.invariant.ready;
+    }
 
 pub returns : goal.returns
 returns c =
@@ -227,7 +236,7 @@ returns c =
     let clause = c.args.lesson.now.clause.items in
     let hints = c.args.lesson.now.hints.items in
     let back = c.args.lesson.now.back in
-    let store = c.self.invariant in
+    let store = c.self.invariant.store in
     let lesson = subst (λ (s : SearchValue). IsLesson s clause hints back)
     (sym c.self.view_is) c.requires.lesson in
     let is = c.back_to.ensures ∙ gone_is p.inputs p.added p.taken p.singles p.watches store clause

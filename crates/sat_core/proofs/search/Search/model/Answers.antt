@@ -14,7 +14,7 @@ returns c =
     let settled = subst IsSettledState (sym c.self.view_is) c.requires.settled in
     let closed = subst (λ (s : SearchValue). IsClosed s.vars (lits_of s.trail))
     (sym c.self.view_is) c.requires.closed in
-    let vars = c.vars.ensures.value ∙ c.self.invariant.same_vars in
+    let vars = c.vars.ensures.value ∙ c.self.invariant.store.same_vars in
     rw (← c.self.view_is)
     (if_ok_both c.values.result (λ values. length values.items ≡ p.watches.vars)
     (λ values. AreValuesOf p.watches.trail p.watches.vars values.items)

@@ -10,7 +10,7 @@ invariant_of-self c =
     let i = c.self.inside in let to = moved_by c.args.moves.now in
     store_moved to i.entries c.move_all.new.entries
     (c.move_all.ensures ∙ ap (map (entry_moved to)) c.deref_mut.ensures.value) i.vars i.truths
-    i.levels c.self.invariant
+    i.places c.self.invariant
 
 pub returns : goal.returns
 returns c =

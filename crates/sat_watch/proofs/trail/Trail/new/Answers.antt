@@ -18,5 +18,5 @@ invariant_of-result c =
       wide = omega (arith, c.in_ok-vec.ensures.len);
       many = c.in_ok-vec-2.ensures.len;
       told = rw (nothing, none) (none_told vars);
-      leveled = rw nothing (λ l within n is. let clash : None ≡ Some n = is in cc);
+      placed = rw nothing (λ l within n is. let clash : None ≡ Some n = is in cc);
     }

@@ -1,4 +1,4 @@
-use Rattle.std.proofs.Common.{◌∙◌, ap, subst, sym}
+use Rattle.std.proofs.Common.{◌∙◌, ap, length, subst, sym}
 use Rattle.sat_clause.specs.Literal.{IsWithin}
 use Rattle.sat_watch.specs.Trail.{IsOpen, TrailState}
 use Rattle.sat_watch.specs.TrailStore.{place_of}
@@ -12,7 +12,7 @@ push_reserved-requires c =
     c.requires.open in
     let within = subst (λ (t : TrailState). IsWithin t.vars c.args.entry.lit) (sym c.self.view_is)
     c.requires.within in
-    has_room p.vars p.entries p.entries p.truths p.levels c.args.entry c.self.invariant within free
+    has_room p.vars p.entries p.entries p.truths p.places c.args.entry c.self.invariant within free
 
 pub invariant_of-self : goal.invariant_of-self
 invariant_of-self c =
@@ -25,6 +25,7 @@ invariant_of-self c =
       c.place.ensures,
       c.place-2.ensures ∙ ap (place_of p.vars) c.negation.ensures.value,
       c.variable.ensures,
+      c.len-older.ensures ∙ ap (λ (t : TrailState). length t.entries) (sym c.self.view_is),
     )
-    (push_store p.vars p.entries c.push_reserved.new.self p.truths p.levels c.args.entry
+    (push_store p.vars p.entries c.push_reserved.new.self p.truths p.places c.args.entry
     c.self.invariant within free c.push_reserved.ensures.items c.push_reserved.ensures.capacity)

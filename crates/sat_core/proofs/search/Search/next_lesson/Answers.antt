@@ -1,19 +1,24 @@
-use Rattle.std.proofs.Common.{◌≡◌, ◌∙◌, ℕ, Ok, length, add-one, ap, subst, sym, inl, inr, arith}
+use Rattle.std.proofs.Common.{◌≡◌, ◌∙◌, ℕ, Ok, All, length, add-one, ap, subst, sym, inl, inr, arith}
 use Rattle.sat_clause.specs.Trail.{IsClosed}
 use Rattle.sat_watch.specs.Trail.{lits_of as watch_lits}
 use Rattle.sat_watch.specs.Watches.{WatchState}
-use Rattle.sat_core.specs.SearchStore.{IsFalseAt, IsSearchStore, SameKept, search_value}
+use Rattle.sat_clause.specs.Literal.{IsWithin}
+use Rattle.sat_watch.specs.Watched.{AreFalse}
+use Rattle.sat_core.specs.Marks.{IsReady}
+use Rattle.sat_core.specs.SearchStore.{IsSearchStore, SameKept, search_value}
+use Rattle.sat_core.proofs.FoundLaws.{attached_lesson, current_literal, single_lesson}
 use Rattle.sat_core.specs.Single.{IsTaken}
-use Rattle.sat_core.proofs.SearchLaws.{false_now, kept_decided, kept_refl, kept_taken, kept_then, settled_now, single_false, single_simple, store_decided, store_taken}
+use Rattle.sat_core.proofs.SearchLaws.{kept_decided, kept_refl, kept_taken, kept_then, settled_now, single_simple, store_decided, store_taken}
 use Rattle.sat_core.proofs.WatchLaws.{lits_in}
-use Rattle.sat_core.proofs.search.Search.next_conflict.Goals as goal
+use Rattle.sat_core.proofs.search.Search.next_lesson.Goals as goal
 
 pub loop-self-init : goal.loop-self-init
 loop-self-init c =
     let p = c.self.inside in
     record {
-      store = c.self.invariant;
-      same = kept_refl p.inputs p.added p.taken p.singles p.watches c.self.invariant;
+      store = c.self.invariant.store;
+      ready = c.self.invariant.ready;
+      same = kept_refl p.inputs p.added p.taken p.singles p.watches c.self.invariant.store;
     }
 
 pub attach_single-requires-clause-simple : goal.attach_single-requires-clause-simple
@@ -44,12 +49,70 @@ attach_single-requires-clause-stand c = c.loop-self.invariant.store.keeps.stand
 pub attach_single-requires-clause-quiet : goal.attach_single-requires-clause-quiet
 attach_single-requires-clause-quiet c = c.loop-self.invariant.store.none_due
 
+pub invariant_of-self : goal.invariant_of-self
+invariant_of-self c =
+    let q = c.loop-self.self-inside in
+    record {
+      store = subst (IsSearchStore q.inputs q.added q.taken q.singles)
+          (sym c.in_err-attach_single.ensures.err) c.loop-self.invariant.store;
+      ready = subst (λ (w : WatchState). IsReady w.vars q.marks)
+          (sym c.in_err-attach_single.ensures.err) c.loop-self.invariant.ready;
+    }
+
+pub find_lesson-requires-clause-few : goal.find_lesson-requires-clause-few
+find_lesson-requires-clause-few c =
+    let same : c.attach_single.new.watches ≡ (c.loop-self.self-inside).watches =
+    c.in_ok-attach_single.ensures.same (ap Ok c.if-not-branch.true) in
+    rw same c.loop-self.invariant.store.few_vars
+
+pub find_lesson-requires-clause-ready : goal.find_lesson-requires-clause-ready
+find_lesson-requires-clause-ready c =
+    let q = c.loop-self.self-inside in
+    let same : c.attach_single.new.watches ≡ q.watches =
+    c.in_ok-attach_single.ensures.same (ap Ok c.if-not-branch.true) in
+    subst (λ (w : WatchState). IsReady w.vars q.marks) (sym same) c.loop-self.invariant.ready
+
+pub find_lesson-requires-clause-within : goal.find_lesson-requires-clause-within
+find_lesson-requires-clause-within c =
+    let q = c.loop-self.self-inside in
+    let same : c.attach_single.new.watches ≡ q.watches =
+    c.in_ok-attach_single.ensures.same (ap Ok c.if-not-branch.true) in
+    subst (λ (w : WatchState). All (IsWithin w.vars) c.get-single.result.lits.now) (sym same)
+    (single_simple q.inputs q.added q.taken q.singles q.watches c.get-single.result.id
+    c.get-single.result.lits.now c.loop-self.invariant.store c.get-single.ensures.found
+    c.get-single.ensures.within).within
+
+pub find_lesson-requires-clause-current : goal.find_lesson-requires-clause-current
+find_lesson-requires-clause-current c known some =
+    let same : c.attach_single.new.watches ≡ (c.loop-self.self-inside).watches =
+    c.in_ok-attach_single.ensures.same (ap Ok c.if-not-branch.true) in
+    elim c.loop-self.invariant.store.waiting [
+      | inl all ↦ absurd (omega (arith, all, c.loop-self-test.true, c.len.ensures))
+      | inr low ↦ (let here = ap (λ (w : WatchState). w.level) same in
+          absurd (omega (arith, low, here, some)))
+    ]
+
+pub invariant_of-self-in_err-lesson : goal.invariant_of-self-in_err-lesson
+invariant_of-self-in_err-lesson c =
+    let q = c.loop-self.self-inside in
+    let same : c.attach_single.new.watches ≡ q.watches =
+    c.in_ok-attach_single.ensures.same (ap Ok c.if-not-branch.true) in
+    record {
+      store = subst (IsSearchStore q.inputs q.added q.taken q.singles) (sym same)
+          c.loop-self.invariant.store;
+      ready = c.in_err-lesson.ensures.ready;
+    }
+
 pub invariant_of-self-then-not-branch : goal.invariant_of-self-then-not-branch
 invariant_of-self-then-not-branch c =
     let q = c.loop-self.self-inside in
     let same : c.attach_single.new.watches ≡ q.watches =
     c.in_ok-attach_single.ensures.same (ap Ok c.if-not-branch.true) in
-    subst (IsSearchStore q.inputs q.added q.taken q.singles) (sym same) c.loop-self.invariant.store
+    record {
+      store = subst (IsSearchStore q.inputs q.added q.taken q.singles) (sym same)
+          c.loop-self.invariant.store;
+      ready = c.in_ok-lesson.ensures.ready;
+    }
 
 pub returns-then-not-branch-clause-same : goal.returns-then-not-branch-clause-same
 returns-then-not-branch-clause-same c =
@@ -61,17 +124,21 @@ returns-then-not-branch-clause-same c =
     c.self.inside.singles c.self.inside.watches) (search_value q.inputs q.added q.singles w))
     (sym same) c.loop-self.invariant.same)
 
-pub returns-then-not-branch-clause-conflict : goal.returns-then-not-branch-clause-conflict
-returns-then-not-branch-clause-conflict c =
+pub returns-then-not-branch-clause-lesson : goal.returns-then-not-branch-clause-lesson
+returns-then-not-branch-clause-lesson c =
     let q = c.loop-self.self-inside in
-    let same : c.attach_single.new.watches ≡ q.watches =
-    c.in_ok-attach_single.ensures.same (ap Ok c.if-not-branch.true) in
+    let w = c.attach_single.new.watches in
     let id : ℕ = c.get-single.result.id in
-    let is : IsFalseAt (search_value q.inputs q.added q.singles q.watches) id =
-    single_false q.singles q.watches id c.get-single.result.lits.now c.get-single.ensures.found
+    let lits = c.get-single.result.lits.now in
+    let lesson = c.in_ok-lesson.lesson in
+    let same : w ≡ q.watches =
+    c.in_ok-attach_single.ensures.same (ap Ok c.if-not-branch.true) in
+    let store = subst (IsSearchStore q.inputs q.added q.taken q.singles) (sym same)
+    c.loop-self.invariant.store in
+    let false_all = subst (λ (v : WatchState). AreFalse v.trail lits) (sym same)
     (c.in_ok-attach_single.ensures.is_false (ap Ok c.if-not-branch.true)) in
-    subst (λ (w : WatchState). IsFalseAt (search_value q.inputs q.added q.singles w) id)
-    (sym same) is
+    single_lesson q.inputs q.added q.taken q.singles w store lits id lesson.clause.items
+    lesson.hints.items lesson.back c.in_ok-lesson.ensures.found c.get-single.ensures.found false_all
 
 pub loop-self-preserved : goal.loop-self-preserved
 loop-self-preserved c =
@@ -89,6 +156,7 @@ loop-self-preserved c =
           (add-one q.taken))
           (store_taken q.inputs q.added q.taken q.singles q.watches now id lits taken store
           c.get-single.ensures.at c.get-single.ensures.found simple);
+      ready = subst (λ (n : ℕ). IsReady n q.marks) (sym taken.vars) c.loop-self.invariant.ready;
       same = kept_then (search_value c.self.inside.inputs c.self.inside.added c.self.inside.singles
           c.self.inside.watches) (search_value q.inputs q.added q.singles q.watches)
           (search_value q.inputs q.added q.singles now)
@@ -107,8 +175,12 @@ invariant_of-self-in_default c =
     let store = c.loop-self.invariant.store in
     let all : q.taken ≡ length q.singles.clauses =
     omega (arith, c.loop-self-test.false, c.len.ensures, store.few_taken) in
-    store_decided q.inputs q.added q.taken q.singles q.watches c.decide_on.new.watches store
-    c.in_default.ensures.goes all
+    record {
+      store = store_decided q.inputs q.added q.taken q.singles q.watches c.decide_on.new.watches
+          store c.in_default.ensures.goes all;
+      ready = subst (λ (n : ℕ). IsReady n q.marks) (sym c.in_default.ensures.goes.vars)
+          c.loop-self.invariant.ready;
+    }
 
 pub returns-in_default-clause-same : goal.returns-in_default-clause-same
 returns-in_default-clause-same c =
@@ -142,14 +214,44 @@ returns-in_default-clause-closed c =
     subst (IsClosed now.vars) (sym (lits_in now.clauses now.trail))
     (subst (λ (n : ℕ). IsClosed n (watch_lits now.trail)) vars c.in_default.ensures.closed)
 
+pub find_lesson-requires-2-clause-few : goal.find_lesson-requires-2-clause-few
+find_lesson-requires-2-clause-few c =
+    rw c.in-Some.ensures.goes.vars c.loop-self.invariant.store.few_vars
+
+pub find_lesson-requires-2-clause-ready : goal.find_lesson-requires-2-clause-ready
+find_lesson-requires-2-clause-ready c =
+    subst (λ (n : ℕ). IsReady n (c.loop-self.self-inside).marks)
+    (sym c.in-Some.ensures.goes.vars) c.loop-self.invariant.ready
+
+pub find_lesson-requires-2-clause-current : goal.find_lesson-requires-2-clause-current
+find_lesson-requires-2-clause-current c =
+    let now = c.decide_on.new.watches in
+    let is = c.in-Some.ensures.conflict in
+    rw c.lits-lits.ensures.value (current_literal now c.in-Some.c is.0 is.1)
+
+pub invariant_of-self-in_err-lesson-2 : goal.invariant_of-self-in_err-lesson-2
+invariant_of-self-in_err-lesson-2 c =
+    let q = c.loop-self.self-inside in
+    let store = c.loop-self.invariant.store in
+    let all : q.taken ≡ length q.singles.clauses =
+    omega (arith, c.loop-self-test.false, c.len.ensures, store.few_taken) in
+    record {
+      store = store_decided q.inputs q.added q.taken q.singles q.watches c.decide_on.new.watches
+          store c.in-Some.ensures.goes all;
+      ready = c.in_err-lesson-2.ensures.ready;
+    }
+
 pub invariant_of-self-2 : goal.invariant_of-self-2
 invariant_of-self-2 c =
     let q = c.loop-self.self-inside in
     let store = c.loop-self.invariant.store in
     let all : q.taken ≡ length q.singles.clauses =
     omega (arith, c.loop-self-test.false, c.len.ensures, store.few_taken) in
-    store_decided q.inputs q.added q.taken q.singles q.watches c.decide_on.new.watches store
-    c.in-Some.ensures.goes all
+    record {
+      store = store_decided q.inputs q.added q.taken q.singles q.watches c.decide_on.new.watches
+          store c.in-Some.ensures.goes all;
+      ready = c.in_ok-lesson-2.ensures.ready;
+    }
 
 pub returns-clause-same : goal.returns-clause-same
 returns-clause-same c =
@@ -165,13 +267,16 @@ returns-clause-same c =
     c.loop-self.invariant.same (kept_decided q.inputs q.added q.taken q.singles q.watches now store
     c.in-Some.ensures.goes all))
 
-pub returns-clause-conflict : goal.returns-clause-conflict
-returns-clause-conflict c =
+pub returns-clause-lesson : goal.returns-clause-lesson
+returns-clause-lesson c =
     let q = c.loop-self.self-inside in
     let now = c.decide_on.new.watches in
     let store = c.loop-self.invariant.store in
     let all : q.taken ≡ length q.singles.clauses =
     omega (arith, c.loop-self-test.false, c.len.ensures, store.few_taken) in
-    subst (IsFalseAt (search_value q.inputs q.added q.singles now)) (sym c.id.ensures.value)
-    (false_now q.inputs q.added q.taken q.singles q.watches now store c.in-Some.ensures.goes all
-    c.in-Some.c c.in-Some.ensures.conflict)
+    let is = c.in-Some.ensures.conflict in
+    let lesson = c.in_ok-lesson-2.lesson in
+    attached_lesson q.inputs q.added q.taken q.singles now
+    (store_decided q.inputs q.added q.taken q.singles q.watches now store c.in-Some.ensures.goes
+    all) c.in-Some.c is.0 is.1 lesson.clause.items lesson.hints.items lesson.back
+    (rw (c.lits-lits.ensures.value, c.id-id.ensures.value) at c.in_ok-lesson-2.ensures.found)

@@ -1,6 +1,7 @@
 use Rattle.std.proofs.Common.{◌-◌, length}
+use Rattle.sat_core.specs.Marks.{IsReady}
 use Rattle.sat_core.specs.SearchStore.{IsSearchStore, SameKept, search_value}
-use Rattle.sat_core.proofs.search.Search.next_conflict.Given as goal
+use Rattle.sat_core.proofs.search.Search.next_lesson.Given as goal
 
 -- each turn attaches one of the clauses that wait
 abbrev pub decreases-loop-self : goal.decreases-loop-self
@@ -10,6 +11,7 @@ abbrev pub invariant-loop-self : goal.invariant-loop-self
 invariant-loop-self l = record {
   store : IsSearchStore l.self-inside.inputs l.self-inside.added l.self-inside.taken
       l.self-inside.singles l.self-inside.watches;
+  ready : IsReady l.self-inside.watches.vars l.self-inside.marks;
   same : SameKept (search_value l.initial.self-inside.inputs l.initial.self-inside.added
       l.initial.self-inside.singles l.initial.self-inside.watches)
       (search_value l.self-inside.inputs l.self-inside.added l.self-inside.singles

@@ -1,0 +1,43 @@
+use Rattle.std.proofs.Common.{sym, subst}
+use Rattle.std.proofs.lemmas.Result.{IfOk-weaker}
+use Rattle.sat_core.specs.Analysis.{AreOn, IsAnalysed}
+use Rattle.sat_core.specs.Marks.{MarkState}
+use Rattle.sat_core.specs.Reading.{HasLesson, IsFound}
+use Rattle.sat_core.proofs.TrailPlaces.{at_within}
+use Rattle.sat_core.proofs.UseLaws.{analysed_sorted, analysis_on}
+use Rattle.sat_core.proofs.lesson.find_lesson.Goals as goal
+
+pub read-lesson-requires-clause-on : goal.read-lesson-requires-clause-on
+read-lesson-requires-clause-on c =
+    let w = c.args.watches.now in
+    subst (λ (s : MarkState). AreOn w.trail s) (sym c.sort.ensures.same)
+    (analysis_on w c.args.lits.now c.analyse-point.new.marks
+    c.analyse-point.ensures.analysed.analysis)
+
+pub read-lesson-requires-clause-point : goal.read-lesson-requires-clause-point
+read-lesson-requires-clause-point c some =
+    let w = c.args.watches.now in
+    let at = (c.analyse-point.ensures.analysed.current some).current in
+    at_within w.trail c.analyse-point.result at.0 at.1
+
+pub returns-clause-found : goal.returns-clause-found
+returns-clause-found c =
+    let w = c.args.watches.now in
+    let s = c.sort.new.self in
+    let point = c.analyse-point.result in
+    let analysed : IsAnalysed w c.args.lits.now s point =
+    subst (λ (t : MarkState). IsAnalysed w c.args.lits.now t point) (sym c.sort.ensures.same)
+    (analysed_sorted w c.args.lits.now c.analyse-point.new.marks point s.places
+    c.analyse-point.ensures.analysed) in
+    IfOk-weaker c.read-lesson.result
+    (λ lesson. HasLesson w s point c.args.id lesson.clause.items lesson.hints.items lesson.back)
+    (λ lesson. IsFound w c.args.lits.now c.args.id lesson.clause.items lesson.hints.items
+    lesson.back)
+    (λ lesson is. record {
+      s = s;
+      point = point;
+      marks = c.sort.ensures.marks;
+      rising = c.sort.ensures.rising;
+      analysed = analysed;
+      lesson = is;
+    }) c.read-lesson.ensures
