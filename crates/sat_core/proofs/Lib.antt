@@ -4,6 +4,7 @@ pub mod DecideLaws
 pub mod DecisionLaws
 pub mod DistinctLaws
 pub mod EarlierLaw
+pub mod InputLaws
 pub mod KeptLaws
 pub mod LearnLaws
 pub mod LessonLaws

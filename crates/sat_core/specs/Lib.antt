@@ -1,6 +1,7 @@
 pub mod Answer
 pub mod ClauseList
 pub mod Deciding
+pub mod Inputs
 pub mod Kept
 pub mod Lesson
 pub mod Levels

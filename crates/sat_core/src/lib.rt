@@ -5,6 +5,7 @@ mod answer;
 mod clause_list;
 mod deciding;
 mod distinct;
+mod inputs;
 mod lesson;
 mod search;
 mod single;
