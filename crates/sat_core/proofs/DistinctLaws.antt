@@ -1,7 +1,6 @@
 -- The different literals of a clause whose literals stand by their variables.
-use Rattle.std.proofs.Common.{inl, inr, ◌⊎◌, ◌≡◌, ◌≢◌, ◌<◌, ◌≤◌, ◌-◌, ℕ, suc, Bool, true, false, not, List, [], ◌∷◌, ◌++◌, length, get_or, Option, None, Some, Vec, slice_get, Contains, All, AllPairs, refl, sym, ap, ◌∙◌, subst, arith}
+use Rattle.std.proofs.Common.{inl, inr, ◌⊎◌, ◌≡◌, ◌≢◌, ◌<◌, ◌≤◌, ◌-◌, ℕ, suc, Bool, true, false, not, List, [], ◌∷◌, ◌++◌, length, get_or, Some, slice_get, Contains, All, AllPairs, refl, sym, ap, ◌∙◌, subst, arith}
 use Rattle.std.specs.Ordering.{int_eq}
-use Rattle.std.specs.Global.{Global}
 use Rattle.std.proofs.lemmas.Bool.{both_ways, cases_eq}
 use Rattle.std.proofs.lemmas.Bool.Decides.{Decides-int_eq}
 use Rattle.std.proofs.lemmas.List.Elements.{All-contains, All-head, All-nil, All-push, All-tail, All-weaker, Contains-append_left, Contains-get_or, Contains-push}
@@ -179,15 +178,51 @@ always_true-same c d same is =
     list_any-from_Any (λ (x : Lit). is_among d (negation x)) d
     (here.0, l, here.1, here.2, contains_among d (negation l) opposite)
 
-pub distinct-same : (c d : Clause) → SameLiterals c d → (o : Option (Vec Lit Global)) → IsDistinct c
-    o → IsDistinct d o
-distinct-same c d same None is = always_true-same c d same is
-distinct-same c d same (Some kept) is = (
+pub distinct-same : (c d kept : Clause) → SameLiterals c d → (b : Bool) → IsDistinct c kept b →
+    IsDistinct d kept b
+distinct-same c d kept same false is = always_true-same c d same is
+distinct-same c d kept same true is = (
   (
     All-weaker (Contains c) (Contains d) (λ x has. All-contains (Contains d) c x same.0 has)
-        kept.items is.0.0,
-    All-weaker (Contains c) (Contains kept.items)
-        (λ x has. All-contains (Contains kept.items) c x is.0.1 has) d same.1,
+        kept is.0.0,
+    All-weaker (Contains c) (Contains kept) (λ x has. All-contains (Contains kept) c x is.0.1 has)
+        d same.1,
   ),
   is.1,
 )
+
+-- the variables of the first n literals rise, up to this one
+pub record IsRising (lits : Clause) (n last : ℕ) : Type 0 where
+  pub rising : (i j : ℕ) (d : Lit) → i < j → j < n →
+      variable (get_or lits i d) < variable (get_or lits j d)
+  pub below : (i : ℕ) (d : Lit) → i < n → variable (get_or lits i d) ≤ last
+
+pub rising_start : (lits : Clause) → IsRising lits 0 0
+rising_start lits = record {
+  rising = λ i j d below within. absurd (omega (arith, within));
+  below = λ i d within. absurd (omega (arith, within));
+}
+
+pub rising_next : (lits : Clause) (n last : ℕ) (l : Lit) → IsRising lits n last →
+    slice_get lits n ≡ Some l → last < variable l → IsRising lits (suc n) (variable l)
+rising_next lits n last l is at above = record {
+  rising = λ i j d below within. elim (cases_eq j n) [
+    | inl same ↦
+        let low = is.below i d (omega (arith, below, same)) in
+        omega (arith, low, above, ap variable (here j d same))
+    | inr other ↦ is.rising i j d below (omega (arith, within, other))
+  ];
+  below = λ i d within. elim (cases_eq i n) [
+    | inl same ↦ omega (arith, ap variable (here i d same))
+    | inr other ↦ let low = is.below i d (omega (arith, within, other)) in omega (arith, low, above)
+  ];
+}
+  where
+    here : (j : ℕ) (d : Lit) → j ≡ n → get_or lits j d ≡ l
+    here j d same = ap (λ (k : ℕ). get_or lits k d) same ∙ get_or_from_slice_get lits n l d at
+
+pub rising_once : (lits : Clause) (n last : ℕ) → IsRising lits n last → length lits ≤ n →
+    HasOnce lits
+rising_once lits n last is most i j d below within same =
+    let up = is.rising i j d below (omega (arith, within, most)) in
+    omega (arith, up, same)

@@ -1,24 +1,20 @@
 -- What the kept clauses say holds of the live ones; and the kept clauses with one more.
 use Rattle.std.proofs.Common.{inl, inr, ◌⊎◌, ◌≡◌, ◌==◌, ◌<◌, ◌≤◌, ℕ, zero, suc, ℤ, pos, negsuc, neg_ℤ, nat_abs, Bool, true, false, cond, not, List, [], ◌∷◌, length, Option, None, Some, slice_get, slice_index_or, get_or, Contains, All, refl, sym, ap, ◌∙◌, subst, arith}
-use Rattle.std.proofs.lemmas.Bool.{both_ways, cases_order, eq-eqb, eqb-true, ne_eqb}
+use Rattle.std.proofs.lemmas.Bool.{both_ways, cases_order, eqb-true}
 use Rattle.std.proofs.lemmas.List.{get_or_default}
 use Rattle.std.proofs.lemmas.List.Elements.{All-contains, All-weaker}
 use Rattle.std.proofs.lemmas.List.Folds.{Any-from_list_any}
 use Rattle.std.proofs.lemmas.Option.{slice_get-get_or}
-use Rattle.list_laws.proofs.Places.{get-front, get-last}
 use Rattle.sat_clause.specs.declared.literal.Lit.{Lit}
 use Rattle.sat_clause.specs.declared.reading.Reading.{Reading}
 use Rattle.sat_clause.specs.declared.reading.Reading.TheVariants.{Conflict, Unit, Satisfied, Unresolved}
 use Rattle.sat_clause.specs.Formula.{Cnf, IsTrueClause, Satisfies, makes_number_true, makes_true}
-use Rattle.sat_clause.specs.Judge.{inputs}
 use Rattle.sat_clause.specs.Literal.{Clause, IsWithin, is_among, negation, variable}
 use Rattle.sat_clause.specs.Learned.{IsFresh, IsSimple, SameLiterals}
 use Rattle.sat_clause.specs.Live.{Live, clause_at, named, put}
 use Rattle.sat_clause.specs.Rup.{follow, lead_on, reading_of, rup}
 use Rattle.sat_clause.proofs.LiteralLaws.{among_contains, negation_differs, variable_negation}
-use Rattle.sat_clause.proofs.LiveLaws.{inputs_at, inputs_none}
 use Rattle.sat_core.specs.Kept.{AreAmong, AreBelow, AreKept, HasOnce, SameLive, is_always_true}
-use Rattle.sat_core.specs.Underway.{with_input}
 use Rattle.sat_core.proofs.SameLaws.{same_back, same_conflict, same_then, same_unit}
 
 -- of a variable one literal stands in a clause that has none twice
@@ -294,24 +290,3 @@ kept_skip kept live id d are new always = record {
     all_at n y not_always true at = let is : d ≡ y = cc in absurd
         (both_ways _ not_always (ap is_always_true (sym is) ∙ always))
     all_at n y not_always false at = are.are_all n y at not_always
-
--- the inputs of a formula with one more clause
-pub inputs_put : (formula : Cnf) (d : Clause) →
-    SameLive (put (inputs formula) (suc (length formula.clauses)) d) (inputs (with_input formula d))
-inputs_put formula d zero =
-    let other : (0 == suc (length formula.clauses)) ≡ false = ne_eqb 0
-    (suc (length formula.clauses)) (omega arith) in
-    rw other (inputs_none formula ∙ sym (inputs_none (with_input formula d)))
-inputs_put formula d (suc i) =
-    elim (suc i == suc (length formula.clauses)) as
-    (λ b. (suc i == suc (length formula.clauses)) ≡ b → cond b (Some d)
-    (clause_at (inputs formula) (suc i)) ≡ clause_at (inputs (with_input formula d)) (suc i)) [
-      | true ↦ λ same.
-          let last = eqb-true (suc i) (suc (length formula.clauses)) same in
-          sym (inputs_at (with_input formula d) i ∙ get-last formula.clauses d i (omega arith))
-      | false ↦ λ differ.
-          inputs_at formula i
-          ∙ sym (inputs_at (with_input formula d) i ∙ get-front formula.clauses d i
-          (λ same. both_ways _ differ (eq-eqb (suc i) (suc (length formula.clauses))
-          (omega arith))))
-    ] refl

@@ -8,11 +8,8 @@ use Rattle.std.proofs.lemmas.Option.{slice_get-get_or, slice_get_within}
 use Rattle.list_laws.proofs.Places.{get-cases, some_is}
 use Rattle.std.proofs.lemmas.List.Elements.{All-contains, All-contains_itself, All-filter}
 use Rattle.sat_clause.specs.declared.literal.Lit.{Lit}
-use Rattle.sat_clause.specs.Formula.{Cnf}
-use Rattle.sat_clause.specs.Judge.{inputs}
-use Rattle.sat_clause.specs.Learned.{SameLiterals}
 use Rattle.sat_clause.specs.Literal.{Clause, IsWithin, is_among, negation, variable}
-use Rattle.sat_clause.specs.Live.{Live, clause_at, put}
+use Rattle.sat_clause.specs.Live.{clause_at, put}
 use Rattle.sat_clause.specs.Trail.{IsOpen as IsOpenOn}
 use Rattle.sat_clause.proofs.LiteralLaws.{negation-negation}
 use Rattle.sat_clause.proofs.ReadingLaws.{IsFalseOr}
@@ -22,61 +19,19 @@ use Rattle.sat_watch.specs.declared.entry.TrailEntry.{TrailEntry}
 use Rattle.sat_watch.specs.Levels.{upto}
 use Rattle.sat_watch.specs.Trail.{lits_of as watch_lits}
 use Rattle.sat_watch.specs.Watched.{IsReason, is_false, true_at}
-use Rattle.sat_watch.specs.Watches.{Attached, Attaches, HasCause, HasLevels, HasOneOpen, HasTwoFree, MayAttach, WatchState, gone_back, highest, implied, is_attached, lits_at}
+use Rattle.sat_watch.specs.Watches.{Attached, Attaches, HasCause, HasLevels, HasOneOpen, MayAttach, WatchState, gone_back, highest, implied, is_attached, lits_at}
 use Rattle.sat_watch.proofs.LevelLemmas.{true_level}
 use Rattle.sat_core.specs.ClauseList.{ClauseListState}
-use Rattle.sat_core.specs.Kept.{AreBelow, AreKept, HasOnce, SameLive, is_always_true}
 use Rattle.sat_core.specs.Levels.{AreLevels, Assigned, IsAsserting, level_of, lits_of, made_false, up_to}
 use Rattle.sat_core.specs.SearchStore.{EndsAsserting, IsLesson, IsLeveled, IsSearchStore, Learns, assigned, assigned_in, live_of, search_value}
-use Rattle.sat_core.specs.Stands.{SearchValue, StandsFor}
-use Rattle.sat_core.specs.Underway.{with_input}
 use Rattle.sat_core.proofs.AttachLaws.{contains_assigned, implied_due, now_attached, now_clauses, now_leveled, now_reason, now_trail, now_vars, true_entry, true_none}
 use Rattle.sat_core.proofs.AttachedLaws.{same_permuted, simple_permuted}
 use Rattle.sat_core.proofs.DecideLaws.{leveled_implied}
-use Rattle.sat_core.proofs.KeptLaws.{inputs_put, kept_alike, kept_put, kept_skip, none_next}
 use Rattle.sat_core.proofs.LessonLaws.{all_false_or, first_is_open}
 use Rattle.sat_core.proofs.LevelLaws.{in_made_false, level_back, levels_back, none_above, only_entry}
 use Rattle.sat_core.proofs.SameLaws.{same_back}
 use Rattle.sat_core.proofs.SearchLaws.{attached_alike, store_attached}
-use Rattle.sat_core.proofs.WatchLaws.{falses_in, lits_in, single_found, up_to_in}
-
--- ONE MORE INPUT
-
-module _ (old new : SearchValue) (front : Cnf) (lits : Clause) (stands : StandsFor old front [])
-    (below : AreBelow (suc old.inputs) old.clauses) (vars : new.vars ≡ old.vars)
-    (more : new.inputs ≡ suc old.inputs) (same : new.added ≡ old.added) where
-  now_stands : AreKept new.clauses (put (inputs front) (suc (length front.clauses)) lits) →
-      StandsFor new (with_input front lits) []
-  now_stands are = record {
-    vars = vars ∙ stands.vars;
-    inputs = omega (arith, more, stands.inputs, length-append front.clauses (lits ∷ []));
-    added = same ∙ stands.added;
-    clauses = kept_alike new.clauses new.clauses (put (inputs front) (suc
-        (length front.clauses)) lits)
-        (inputs (with_input front lits)) (λ n. refl) (inputs_put front lits) are;
-  }
-
-  next_input : suc old.inputs ≡ suc (length front.clauses)
-  next_input = ap suc stands.inputs
-
-  pub stands_without : new.clauses ≡ old.clauses → is_always_true lits ≡ true
-      → StandsFor new (with_input front lits) []
-  stands_without unchanged always =
-      let none : clause_at old.clauses (suc (length front.clauses)) ≡ None =
-      subst (λ (n : ℕ). clause_at old.clauses n ≡ None) next_input
-      (none_next (suc old.inputs) old.clauses below) in
-      now_stands (rw unchanged (kept_skip old.clauses (inputs front) (suc (length front.clauses))
-      lits stands.clauses none always))
-
-  pub stands_with : (kept : Clause) → SameLive (put old.clauses (suc old.inputs) kept) new.clauses →
-      SameLiterals kept lits → HasOnce kept → StandsFor new (with_input front lits) []
-  stands_with kept alike same_lits once =
-      let live : Live = put (inputs front) (suc (length front.clauses)) lits in
-      let are : AreKept (put old.clauses (suc old.inputs) kept) live =
-      rw next_input (kept_put old.clauses (inputs front) (suc
-      (length front.clauses)) kept lits stands.clauses same_lits once) in
-      now_stands (kept_alike (put old.clauses (suc old.inputs) kept) new.clauses live live alike
-      (λ n. refl) are)
+use Rattle.sat_core.proofs.WatchLaws.{falses_in, lits_in, up_to_in}
 
 -- THE HIGHEST LEVEL
 
@@ -315,54 +270,6 @@ module _ (i a t : ℕ) (s : ClauseListState) (w : WatchState) (store : IsSearchS
           ∙ ap (λ (ks : List Attached). clause_at (s.clauses ++ live_of ks) n) (sym
           (now_clauses gone now clause id c does store.keeps.stand));
     }
-
--- INPUTS THAT ARE ATTACHED
-
-nil_in : (ks : List Attached) (trail : List TrailEntry) → assigned_in ks trail ≡ [] → trail ≡ []
-nil_in ks [] none = refl
-nil_in ks (e ∷ older) none = cc
-
--- where nothing is true two literals are free
-pub two_free : (w : WatchState) (kept : Clause) → assigned_in w.clauses w.trail ≡ [] → HasOnce kept
-    → 2 ≤ length kept → HasTwoFree w.trail kept
-two_free w [] none once long = absurd (omega (arith, long))
-two_free w (a ∷ []) none once long = absurd (omega (arith, long))
-two_free w (a ∷ b ∷ ls) none once long =
-    let empty : w.trail ≡ [] = nil_in w.clauses w.trail none in (
-      a,
-      b,
-      (zero, omega arith, refl),
-      (suc zero, omega arith, refl),
-      (λ same. once 0 1 a (omega arith) (omega arith) (ap variable same)),
-      ap (λ (trail : List TrailEntry). is_false trail a) empty,
-      ap (λ (trail : List TrailEntry). is_false trail b) empty,
-    )
-
-pub none_true_now : (w now : WatchState) → now.trail ≡ w.trail → assigned_in w.clauses w.trail ≡ []
-    → assigned_in now.clauses now.trail ≡ []
-none_true_now w now same none = rw (same, nil_in w.clauses w.trail none) refl
-
--- the next id is that of no single clause
-pub no_single_next : (i a t : ℕ) (s : ClauseListState) (w : WatchState) (id : ℕ)
-    → IsSearchStore i a t s w → id ≡ suc (i + a) → clause_at s.clauses id ≡ None
-no_single_next i a t s w id store next = by (clause_at s.clauses id) refl
-  where
-    by : (o : Option Clause) → clause_at s.clauses id ≡ o → clause_at s.clauses id ≡ None
-    by None is = is
-    by (Some x) is =
-        let none : clause_at (s.clauses ++ live_of w.clauses) id ≡ None =
-        rw next (none_next (suc (i + a)) (s.clauses ++ live_of w.clauses) store.below) in
-        let bad : None ≡ Some x = sym none ∙ single_found s.clauses w.clauses id x is in cc
-
-pub at_zero : (i a t : ℕ) (s : ClauseListState) (w : WatchState) → a ≡ 0 → IsSearchStore i a t s w
-    → IsSearchStore i 0 t s w
-at_zero i a t s w none store = subst (λ (n : ℕ). IsSearchStore i n t s w) none store
-
-pub moved_store : (i j a t : ℕ) (s : ClauseListState) (w : WatchState) → j ≡ suc i → a ≡ 0
-    → IsSearchStore (suc i) 0 t s w → IsSearchStore j a t s w
-moved_store i j a t s w more none store =
-    subst (λ (n : ℕ). IsSearchStore j n t s w) (sym none) (subst (λ
-    (n : ℕ). IsSearchStore n 0 t s w) (sym more) store)
 
 -- REASONS
 

@@ -5,6 +5,7 @@ pub mod DecideLaws
 pub mod DistinctLaws
 pub mod EarlierLaw
 pub mod FoundLaws
+pub mod InputLaws
 pub mod KeptLaws
 pub mod LearnLaws
 pub mod LessonLaws

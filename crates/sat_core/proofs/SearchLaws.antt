@@ -1,11 +1,11 @@
 -- How a search lies, with one more input, with a single clause attached, behind decisions, and with
 -- one more learned clause.
-use Rattle.std.proofs.Common.{inl, inr, ◌⊎◌, ◌≡◌, ◌==◌, ◌<◌, ◌≤◌, ◌+◌, ℕ, suc, Bool, true, false, cond, List, [], ◌∷◌, ◌++◌, length, reverse, None, Some, slice_get, All, refl, sym, ap, ◌∙◌, subst, arith}
+use Rattle.std.proofs.Common.{inl, inr, ◌⊎◌, ◌≡◌, ◌≢◌, ◌==◌, ◌<◌, ◌≤◌, ◌+◌, ◌-◌, ℕ, suc, ℤ, pos, Bool, true, false, cond, List, [], ◌∷◌, ◌++◌, length, reverse, Option, None, Some, slice_get, All, refl, sym, ap, ◌∙◌, subst, arith}
 use Rattle.std.proofs.lemmas.Bool.{cases_eq, eqb-true}
 use Rattle.std.proofs.lemmas.List.{length-reverse, reverse-append}
-use Rattle.std.proofs.lemmas.List.Elements.{All-cons, All-head, All-nil, All-tail}
+use Rattle.std.proofs.lemmas.List.Elements.{All-cons, All-head, All-nil, All-tail, All-weaker}
 use Rattle.std.proofs.lemmas.Option.{slice_get_within}
-use Rattle.list_laws.proofs.Places.{get-cases, some_is}
+use Rattle.list_laws.proofs.Places.{some_is}
 use Rattle.sat_clause.specs.declared.literal.Lit.{Lit}
 use Rattle.sat_clause.specs.declared.reading.Reading.TheVariants.{Conflict}
 use Rattle.sat_clause.specs.Learned.{IsSimple, SameLiterals}
@@ -27,7 +27,7 @@ use Rattle.sat_core.specs.SearchStore.{AreTaken, AreTrue, IsKeeping, IsLeveled, 
 use Rattle.sat_core.specs.Single.{IsTaken}
 use Rattle.sat_core.specs.Stands.{SearchValue}
 use Rattle.sat_core.proofs.AttachedLaws.{added_attached, added_id, keeping_added, last_is, new_place, same_permuted, simple_permuted}
-use Rattle.sat_core.proofs.KeptLaws.{more_below, none_next, put_below}
+use Rattle.sat_core.proofs.KeptLaws.{none_next, none_zero, put_below}
 use Rattle.sat_core.proofs.ModelLemmas.{quiet_is_true}
 use Rattle.sat_core.proofs.SameLaws.{same_itself, same_then}
 use Rattle.sat_core.proofs.WatchLaws.{among_same, caused_here, false_in, falses_in, keeping_same, lits_in, same_among, settled_here, settled_in, single_found, value_added, value_again, value_found, value_origin}
@@ -60,104 +60,9 @@ store_once i a t s w store id x at =
       | inr from ↦ subst HasOnce from.3 (store.keeps.simple from.0 from.1).once
     ]
 
--- ONE MORE INPUT
-
--- one that is always true
-pub store_skipped : (i t : ℕ) (s : ClauseListState) (w : WatchState) → IsSearchStore i 0 t s w
-    → suc i ≤ 4294967295 → IsSearchStore (suc i) 0 t s w
-store_skipped i t s w store few = record {
-  few_ids = omega (arith, few);
-  few = omega (arith, store.few);
-  few_vars = store.few_vars;
-  same_vars = store.same_vars;
-  below = subst (λ (n : ℕ). AreBelow n (s.clauses ++ live_of w.clauses)) (let up : suc (suc (i + 0))
-      ≡ suc (suc i + 0) = omega arith in
-      up) (more_below (suc (i + 0)) (s.clauses ++ live_of w.clauses) store.below);
-  few_taken = store.few_taken;
-  short = store.short;
-  keeps = store.keeps;
-  taken_are = store.taken_are;
-  waiting = store.waiting;
-  leveled = store.leveled;
-  none_due = store.none_due;
-}
-
 -- at the start of a trail the level is 0
 pub level_zero : (w : WatchState) → IsLeveled w → assigned_in w.clauses w.trail ≡ [] → w.level ≡ 0
 level_zero w leveled none = leveled.current ∙ ap level_of none
-
--- a single clause
-pub store_single : (i t : ℕ) (s more : ClauseListState) (w : WatchState) (kept : Clause)
-    → IsSearchStore i 0 t s w → suc i ≤ 4294967295 →
-    assigned_in w.clauses w.trail ≡ [] → length kept ≤ 1 → more.vars ≡ s.vars
-    → more.clauses ≡ put s.clauses (suc i) kept → IsSearchStore (suc i) 0 t more w
-store_single i t s more w kept store few none short vars is =
-    let id : ℕ = suc i in
-    let next : suc (i + 0) ≡ id = omega arith in
-    let below : AreBelow id (s.clauses ++ live_of w.clauses) =
-    subst (λ (n : ℕ). AreBelow n (s.clauses ++ live_of w.clauses)) next store.below in
-    record {
-      few_ids = omega (arith, few);
-      few = rw is (omega (arith, store.few));
-      few_vars = store.few_vars;
-      same_vars = vars ∙ store.same_vars;
-      below = rw is (subst (λ (n : ℕ). AreBelow n (put (s.clauses ++ live_of w.clauses) id kept))
-          (let up : suc id ≡ suc (suc i + 0) = omega arith in
-          up) (put_below id (s.clauses ++ live_of w.clauses) kept (omega arith) below));
-      few_taken = rw is (omega (arith, store.few_taken));
-      short = rw is (λ n x at. by_short n x (n == id) at);
-      keeps = rw is (record {
-        stand = store.keeps.stand;
-        ids = λ c d c_is d_is alone one. store.keeps.ids c d c_is d_is
-            (later c c_is below alone) one;
-        agree = λ c x c_is at. store.keeps.agree c x c_is (sym (other c c_is below) ∙ at);
-        simple = store.keeps.simple;
-      });
-      taken_are = rw is (λ k n x lt at. store.taken_are k n x lt (front k n x (omega
-          (arith, lt, store.few_taken)) at));
-      waiting = inr (level_zero w store.leveled none);
-      leveled = store.leveled;
-      none_due = store.none_due;
-    }
-  where
-    by_short : (n : ℕ) (x : Clause) (b : Bool) → cond b (Some kept) (clause_at s.clauses n) ≡ Some x
-        → length x ≤ 1
-    by_short n x true at = let same : kept ≡ x = cc in
-        subst (λ (y : Clause). length y ≤ 1) same short
-    by_short n x false at = store.short n x at
-
-    other : (c : ClauseRef) → is_attached w.clauses c ≡ true
-        → AreBelow (suc i) (s.clauses ++ live_of w.clauses) →
-        clause_at (put s.clauses (suc i) kept) (id_at w.clauses c)
-        ≡ clause_at s.clauses (id_at w.clauses c)
-    other c is below = by (id_at w.clauses c == suc i) refl
-      where
-        by : (b : Bool) → (id_at w.clauses c == suc i) ≡ b
-            → cond b (Some kept) (clause_at s.clauses (id_at w.clauses c))
-            ≡ clause_at s.clauses (id_at w.clauses c)
-        by true same =
-            let one = eqb-true (id_at w.clauses c) (suc i) same in
-            let low = attached_below w.vars (suc i) s.clauses w.clauses c store.keeps below is in
-            absurd (omega (arith, one, low))
-        by false differ = refl
-
-    later : (c : ClauseRef) → is_attached w.clauses c ≡ true
-        → AreBelow (suc i) (s.clauses ++ live_of w.clauses) →
-        clause_at (put s.clauses (suc i) kept) (id_at w.clauses c) ≡ None
-        → clause_at s.clauses (id_at w.clauses c) ≡ None
-    later c is below none = sym (other c is below) ∙ none
-
-    front : (k n : ℕ) (x : Clause) → k < length s.clauses
-        → slice_get (reverse (put s.clauses (suc i) kept)) k ≡ Some (n, x) →
-        slice_get (reverse s.clauses) k ≡ Some (n, x)
-    front k n x lt at =
-        let pushed : slice_get (reverse s.clauses ++ (suc i, kept) ∷ []) k ≡ Some (n, x) =
-        ap (λ (l : Live). slice_get l k) (sym (reverse-append ((suc i, kept) ∷ []) s.clauses))
-        ∙ at in
-        elim (get-cases (reverse s.clauses) (suc i, kept) (n, x) k pushed) [
-          | inl last ↦ absurd (omega (arith, last.0, lt, length-reverse s.clauses))
-          | inr earlier ↦ earlier
-        ]
 
 -- a clause that is attached, under the next id
 module _ (i a t : ℕ) (s : ClauseListState) (w now : WatchState) (id : ℕ) (lits : Clause)

@@ -1,8 +1,6 @@
 -- The clauses that a search keeps of the live ones, by their ids and as sets of literals.
-use Rattle.std.specs.Prelude.{◌≡◌, ◌≢◌, ℕ, ◌<◌, ◌≤◌, Bool, true, false, AllPairs, Option, None, Some, Vec}
-use Rattle.std.specs.Global.{Global}
+use Rattle.std.specs.Prelude.{◌≡◌, ◌≢◌, ℕ, ◌<◌, ◌≤◌, Bool, true, false, AllPairs, Some}
 use Rattle.std.specs.List.{list_any}
-use Rattle.sat_clause.specs.declared.literal.Lit.{Lit}
 use Rattle.sat_clause.specs.Literal.{Clause, is_among, negation, variable}
 use Rattle.sat_clause.specs.Learned.{SameLiterals}
 use Rattle.sat_clause.specs.Live.{Live, clause_at}
@@ -35,7 +33,7 @@ SameLive live now = (id : ℕ) → clause_at live id ≡ clause_at now id
 abbrev pub AreBelow : ℕ → Live → Type 0
 AreBelow id live = (n : ℕ) (c : Clause) → clause_at live n ≡ Some c → (1 ≤ n) × (n < id)
 
--- the different literals of a clause, where it is not always true
-abbrev pub IsDistinct : Clause → Option (Vec Lit Global) → Type 0
-IsDistinct clause None = is_always_true clause ≡ true
-IsDistinct clause (Some kept) = SameLiterals kept.items clause × HasOnce kept.items
+-- these are the different literals of a clause, where the answer is true; else it is always true
+abbrev pub IsDistinct : Clause → Clause → Bool → Type 0
+IsDistinct clause kept false = is_always_true clause ≡ true
+IsDistinct clause kept true = SameLiterals kept clause × HasOnce kept

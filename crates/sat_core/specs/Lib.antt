@@ -2,6 +2,7 @@ pub mod Analysis
 pub mod Answer
 pub mod ClauseList
 pub mod Deciding
+pub mod Inputs
 pub mod Kept
 pub mod Levels
 pub mod Marks

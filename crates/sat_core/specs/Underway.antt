@@ -4,7 +4,7 @@ use Rattle.std.specs.declared.alloc.AllocError.{AllocError}
 use Rattle.sat_clause.specs.Formula.{Cnf, Satisfies}
 use Rattle.sat_clause.specs.Judge.{fault}
 use Rattle.sat_clause.specs.Learned.{deletions}
-use Rattle.sat_clause.specs.Literal.{Clause, IsWithin}
+use Rattle.sat_clause.specs.Literal.{IsWithin}
 use Rattle.sat_clause.specs.Step.{Step, Added}
 use Rattle.sat_core.specs.Answer.{IsAnswer}
 use Rattle.sat_core.specs.SearchLog.{IsSearchLog, added_count}
@@ -20,10 +20,6 @@ pub record IsUnderway (search : SearchValue) (formula : Cnf) (log : List Step) :
   pub stands : StandsFor search formula log
   pub open_log : IsOpenLog formula log
   pub none_deleted : deletions log ≡ 0
-
--- one more input clause
-abbrev pub with_input : Cnf → Clause → Cnf
-with_input formula clause = record formula { clauses = formula.clauses ++ clause ∷ [] }
 
 -- a good step more that adds the empty clause
 pub record IsDone (formula : Cnf) (before log : List Step) : Type 0 where

@@ -6,6 +6,7 @@ mod answer;
 mod clause_list;
 mod deciding;
 mod distinct;
+mod inputs;
 mod lesson;
 mod marks;
 mod search;

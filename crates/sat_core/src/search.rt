@@ -7,15 +7,13 @@ ghost use Rattle.sat_clause.specs.Trail.{IsClosed};
 ghost use Rattle.sat_core.specs.Levels.{lits_of};
 ghost use Rattle.sat_core.specs.SearchStore.{AreTrue, IsLesson, IsSettledState, Learns, SameKept};
 ghost use Rattle.sat_core.specs.Stands.{StandsFor};
-ghost use Rattle.sat_core.specs.Underway.{with_input};
 
 use crate::clause_list::ClauseList;
 use crate::deciding::{decide_on, values};
-use crate::distinct::distinct_literals;
+use crate::inputs::{Inputs, take_inputs};
 use crate::lesson::{Lesson, find_lesson};
 use crate::marks::Marks;
 use crate::single::attach_single;
-use sat_arena::Arena;
 use sat_clause::{Formula, ID_LIMIT, Lit, VARIABLE_LIMIT};
 use sat_watch::Watches;
 use std::alloc::{AllocError, Global};
@@ -49,55 +47,6 @@ impl Model for Search {
 }
 
 impl Search {
-    /// The search of so many variables that has no clause.
-    fn without_clauses(alloc: Global, vars: u32) -> Result<Search, AllocError>
-        requires { vars ≤ VARIABLE_LIMIT }
-        ensures { IfOk result (λ s. s ≡ record {
-          vars = vars;
-          inputs = 0;
-          added = 0;
-          clauses = [];
-          trail = [];
-        }) }
-    {
-        Ok(Search {
-            inputs: 0,
-            added: 0,
-            singles: ClauseList::new(alloc, vars)?,
-            taken: 0,
-            watches: Watches::new(alloc, Arena::new(alloc), vars)?,
-            marks: Marks::new(alloc, vars)?,
-        })
-    }
-
-    /// Keeps one more input clause, behind those before it.
-    fn add_input(&mut self, alloc: Global, lits: &[Lit]) -> Result<(), AllocError>
-        requires few { self.old.inputs < ID_LIMIT }
-        requires none_added { self.old.added ≡ 0 }
-        requires none_true { self.old.trail ≡ [] }
-        requires within { All (IsWithin self.old.vars) lits.now }
-        ensures inputs { OnOk result (self.new.inputs ≡ suc self.old.inputs) }
-        ensures none_added { OnOk result (self.new.added ≡ 0) }
-        ensures none_true { OnOk result (self.new.trail ≡ []) }
-        ensures vars { OnOk result (self.new.vars ≡ self.old.vars) }
-        ensures stands { OnOk result ((front : Cnf) → StandsFor self.old front []
-            → StandsFor self.new (with_input front lits.now) []) }
-    {
-        let id = self.inputs + 1;
-        let Some(kept) = distinct_literals(alloc, lits)? else {
-            self.inputs = id;
-            return Ok(());
-        };
-        if kept.len() < 2 {
-            self.singles.add(id, &kept)?;
-            self.inputs = id;
-            return Ok(());
-        }
-        self.watches.attach(&kept, id)?;
-        self.inputs = id;
-        Ok(())
-    }
-
     /// The search that has the clauses of a formula, and has decided nothing.
     pub(crate) fn new(alloc: Global, formula: &Formula) -> Result<Search, AllocError>
         requires { length formula.now.cnf.clauses ≤ ID_LIMIT }
@@ -105,11 +54,15 @@ impl Search {
         ensures within { IfOk result (λ _.
             All (All (IsWithin formula.now.cnf.vars)) formula.now.cnf.clauses) }
     {
-        let mut search = Search::without_clauses(alloc, formula.vars())?;
-        for i in 0..formula.len() {
-            search.add_input(alloc, formula.clause(i))?;
-        }
-        Ok(search)
+        let Inputs { watches, singles } = take_inputs(alloc, formula)?;
+        Ok(Search {
+            inputs: formula.len(),
+            added: 0,
+            singles,
+            taken: 0,
+            watches,
+            marks: Marks::new(alloc, formula.vars())?,
+        })
     }
 
     /// The id of the next clause that is added.

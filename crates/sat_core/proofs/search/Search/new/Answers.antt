@@ -1,20 +1,24 @@
-use Rattle.std.proofs.Common.{◌≡◌, ◌+◌, ◌++◌, ◌∷◌, [], take, add-one, ◌∙◌, arith}
-use Rattle.list_laws.proofs.Places.{take-get}
+use Rattle.std.proofs.Common.{◌≡◌, length, arith}
+use Rattle.sat_core.specs.Inputs.{pairs_and_below}
+use Rattle.sat_core.proofs.InputLaws.{all_picked, taken_all}
 use Rattle.sat_core.proofs.search.Search.new.Goals as goal
 
-pub loop-i-preserved : goal.loop-i-preserved
-loop-i-preserved c =
-    let cnf = c.args.formula.now.cnf in
-    let lits = c.clause.result.now in
-    let longer : take (c.loop-i.i + 1) cnf.clauses ≡ take c.loop-i.i cnf.clauses ++ lits ∷ [] =
-    rw add-one (take-get cnf.clauses c.loop-i.i lits c.clause.ensures.value) in
-    let stands = c.in_ok-add_input.ensures.stands
-    (record { vars = cnf.vars; clauses = take c.loop-i.i cnf.clauses })
-    c.loop-i.invariant.stands in
+pub invariant_of-result : goal.invariant_of-result
+invariant_of-result c =
+    let inputs = c.in_ok-watches.ensures.taken in
+    let vars : c.in_ok-watches.field-0.watches.vars ≡ c.args.formula.now.cnf.vars = inputs.vars in
     record {
-      vars = c.in_ok-add_input.ensures.vars ∙ c.loop-i.invariant.vars;
-      inputs = omega (arith, c.in_ok-add_input.ensures.inputs, c.loop-i.invariant.inputs);
-      none_added = c.in_ok-add_input.ensures.none_added;
-      none_true = c.in_ok-add_input.ensures.none_true;
-      stands = rw longer stands;
+      store = rw c.len.ensures inputs.store;
+      ready = record {
+        clean = c.in_ok-new.ensures.clean;
+        size = omega (arith, c.in_ok-new.ensures.size, vars);
+      };
     }
+
+pub returns-clause-stands : goal.returns-clause-stands
+returns-clause-stands c =
+    let cnf = c.args.formula.now.cnf in
+    let inputs = c.in_ok-watches.field-0 in
+    rw c.len.ensures
+    (taken_all cnf (pairs_and_below (length cnf.clauses)) inputs.singles inputs.watches
+    (all_picked cnf) c.in_ok-watches.ensures.taken)

@@ -3,14 +3,14 @@ use Rattle.std.proofs.lemmas.Option.{get_or_from_slice_get, slice_get-get_or, sl
 use Rattle.sat_clause.specs.declared.literal.Lit.{Lit}
 use Rattle.sat_clause.specs.Literal.{lit, variable}
 use Rattle.sat_core.proofs.DistinctLaws.{other_lit, same_lit, seen_all, seen_opposite, seen_push, seen_skip, seen_start}
-use Rattle.sat_core.proofs.distinct.distinct_sorted.Goals as goal
+use Rattle.sat_core.proofs.distinct.take_sorted.Goals as goal
 
 pub loop-l-init : goal.loop-l-init
-loop-l-init c = rw c.in_ok-kept.ensures.items (seen_start c.args.sorted.now)
+loop-l-init c = rw c.clear.ensures.items (seen_start c.args.sorted.now)
 
 pub loop-l-preserved-in_default : goal.loop-l-preserved-in_default
 loop-l-preserved-in_default c =
-    let kept = c.loop-l.kept.items in
+    let kept = c.loop-l.distinct.items in
     let none : None ≡ slice_get kept (length kept - 1) = rw c.deref.ensures.value at
     c.in_default.ensures.value in
     rw add-one
@@ -21,7 +21,7 @@ loop-l-preserved-in_default c =
 
 pub loop-l-preserved-then-variable : goal.loop-l-preserved-then-variable
 loop-l-preserved-then-variable c =
-    let kept = c.loop-l.kept.items in
+    let kept = c.loop-l.distinct.items in
     let last : Some c.in-Some.last.now ≡ slice_get kept (length kept - 1) = rw c.deref.ensures.value
     at c.in-Some.ensures.value in
     rw add-one
@@ -42,7 +42,7 @@ loop-l-preserved-then-variable c =
 
 pub loop-l-preserved : goal.loop-l-preserved
 loop-l-preserved c =
-    let kept = c.loop-l.kept.items in
+    let kept = c.loop-l.distinct.items in
     let m : Lit = c.in-Some.last.now in
     let l : Lit = get_or c.args.sorted.now c.loop-l.l-index (lit (pos 0)) in
     let last : Some m ≡ slice_get kept (length kept - 1) = rw c.deref.ensures.value at
@@ -61,7 +61,7 @@ loop-l-preserved c =
 
 pub returns-then-ne : goal.returns-then-ne
 returns-then-ne c =
-    let kept = c.loop-l.kept.items in
+    let kept = c.loop-l.distinct.items in
     let m : Lit = c.in-Some.last.now in
     let l : Lit = get_or c.args.sorted.now c.loop-l.l-index (lit (pos 0)) in
     let last : Some m ≡ slice_get kept (length kept - 1) = rw c.deref.ensures.value at
@@ -83,5 +83,5 @@ returns-then-ne c =
     )) (other_lit m l c.if-ne.ensures)
 
 pub returns : goal.returns
-returns c = seen_all c.args.sorted.now c.loop-l.kept.items c.loop-l.l-index c.loop-l.invariant
+returns c = seen_all c.args.sorted.now c.loop-l.distinct.items c.loop-l.l-index c.loop-l.invariant
     c.loop-l-test.false

@@ -6,10 +6,10 @@ use Rattle.sat_clause.specs.Learned.{SameLiterals}
 use Rattle.sat_clause.specs.Literal.{Clause, variable}
 use Rattle.sat_core.specs.Kept.{IsDistinct}
 use Rattle.sat_core.proofs.DistinctLaws.{distinct-same}
-use Rattle.sat_core.proofs.distinct.distinct_literals.Goals as goal
+use Rattle.sat_core.proofs.distinct.take_distinct.Goals as goal
 
-pub distinct_sorted-requires : goal.distinct_sorted-requires
-distinct_sorted-requires c =
+pub take_sorted-requires : goal.take_sorted-requires
+take_sorted-requires c =
     rw c.deref.ensures.value
     (IsNonDecreasingBy-from_sort_by_key variable _ c.sort_unstable_by_key.ensures.sorted
     (λ a r q k. search rules))
@@ -20,7 +20,7 @@ returns c =
     let sorted = c.sort_unstable_by_key.new.self.items in
     let copied : c.extend_from_slice.new.self.items ≡ lits =
     c.in_ok-extend_from_slice.ensures.items ∙ ap (λ (xs : Clause). xs ++ lits)
-    c.new-sorted.ensures.items in
+    c.clear.ensures.items in
     let moved = c.sort_unstable_by_key.ensures.permutation in
     let same : SameLiterals sorted lits = subst (SameLiterals sorted) copied (
       All-weaker (Contains sorted) (Contains c.extend_from_slice.new.self.items)
@@ -32,6 +32,8 @@ returns c =
           c.extend_from_slice.new.self.items
           (All-contains_itself c.extend_from_slice.new.self.items),
     ) in
-    IfOk-weaker c.distinct_sorted.result (IsDistinct c.deref.result.now) (IsDistinct lits)
-    (λ kept is. distinct-same sorted lits same kept (rw c.deref.ensures.value at is))
-    c.distinct_sorted.ensures
+    IfOk-weaker c.take_sorted.result
+    (IsDistinct c.deref.result.now c.take_sorted.new.distinct.items)
+    (IsDistinct lits c.take_sorted.new.distinct.items)
+    (λ b is. distinct-same sorted lits c.take_sorted.new.distinct.items same b
+    (rw c.deref.ensures.value at is)) c.take_sorted.ensures

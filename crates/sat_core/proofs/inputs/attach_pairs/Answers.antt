@@ -1,0 +1,42 @@
+use Rattle.std.proofs.Common.{◌∙◌, suc, add-one, inl, sym, arith}
+use Rattle.sat_core.specs.Inputs.{no_singles, pairs_below}
+use Rattle.sat_core.proofs.InputLaws.{keeps_attached, pair_long, pair_not_yet, pair_now, pair_once, pairs_next, pairs_pass, simple_of, taken_more, two_free}
+use Rattle.sat_core.proofs.SameLaws.{same_itself}
+use Rattle.sat_core.proofs.inputs.attach_pairs.Goals as goal
+
+pub loop-i-preserved-then-not-is_pair : goal.loop-i-preserved-then-not-is_pair
+loop-i-preserved-then-not-is_pair c =
+    rw add-one (pairs_pass c.args.formula.now.cnf c.loop-i.i c.clause-lits.result.now
+    c.clause-lits.ensures.value (sym c.is_pair.ensures ∙ c.if-not-is_pair.true)
+    (no_singles c.args.formula.now.cnf) c.loop-i.watches c.loop-i.invariant)
+
+pub attach-requires-clause-simple : goal.attach-requires-clause-simple
+attach-requires-clause-simple c =
+    let lits = c.clause-lits.result.now in
+    simple_of c.args.formula.now.cnf (pairs_below c.loop-i.i) (no_singles c.args.formula.now.cnf)
+    c.loop-i.watches lits lits c.loop-i.invariant c.clause-lits.ensures.within (same_itself lits)
+    (pair_once lits (sym c.is_pair.ensures ∙ c.if-not-is_pair.false))
+
+pub attach-requires-clause-may : goal.attach-requires-clause-may
+attach-requires-clause-may c =
+    let lits = c.clause-lits.result.now in
+    let is = sym c.is_pair.ensures ∙ c.if-not-is_pair.false in
+    inl (two_free c.loop-i.watches lits c.loop-i.invariant.none_true (pair_once lits is)
+    (pair_long lits is))
+
+pub loop-i-preserved : goal.loop-i-preserved
+loop-i-preserved c =
+    let cnf = c.args.formula.now.cnf in
+    let n = c.loop-i.i in
+    let lits = c.clause-lits.result.now in
+    let is = sym c.is_pair.ensures ∙ c.if-not-is_pair.false in
+    let long = pair_long lits is in
+    let none = no_singles cnf in
+    let simple = simple_of cnf (pairs_below n) none c.loop-i.watches lits lits c.loop-i.invariant
+    c.clause-lits.ensures.within (same_itself lits) (pair_once lits is) in
+    rw add-one (taken_more cnf (pairs_below n) (pairs_below (suc n)) n lits
+    c.clause-lits.ensures.value (pair_not_yet n lits) (pairs_next n) (pair_now n lits is) none
+    c.loop-i.watches c.loop-i.invariant none c.attach.new.self lits
+    (omega (arith, c.loop-i-test.true, c.len-i-end.ensures)) (same_itself lits) simple
+    (keeps_attached none c.loop-i.watches c.attach.new.self lits (suc n) c.in_ok-attach.field-0 long
+    (rw add-one at c.in_ok-attach.ensures.ok)))

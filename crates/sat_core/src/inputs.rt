@@ -1,0 +1,144 @@
+//! The clauses of a formula, as a search takes them in: those of two literals first, so that they
+//! stand one beside another in the arena, and then the others.
+
+ghost use Rattle.std.specs.Prelude.{All, ◌≡◌, ◌≤◌, ◌<◌, ◌+◌, [], length, slice_get, OnOk, IfOk, false, None, Some, suc};
+ghost use Rattle.sat_clause.specs.Literal.{IsWithin};
+ghost use Rattle.sat_core.specs.Inputs.{HasTaken, Keeps, MayKeep, is_pair as is_pair_of, no_singles, pairs_and_below, pairs_below};
+
+use crate::clause_list::ClauseList;
+use crate::distinct::{is_rising, take_distinct};
+use sat_arena::Arena;
+use sat_clause::{Formula, ID_LIMIT, Lit};
+use sat_watch::Watches;
+use std::alloc::{AllocError, Global};
+
+/// How many words of the arena are for learned clauses at first.
+const SPARE_WORDS: u64 = 1048576;
+
+/// How many words the clauses of a formula take in an arena, with some for learned ones.
+fn words_for(formula: &Formula) -> u64 {
+    let mut words = SPARE_WORDS;
+    for i in 0..formula.len() {
+        words = words.saturating_add(formula.clause(i).len() as u64 + 6);
+    }
+    words
+}
+
+/// Whether these are two literals of different variables.
+fn is_pair(lits: &[Lit]) -> bool
+    ensures { result ≡ is_pair_of lits.now }
+{
+    lits.len() == 2 && lits[0].variable() != lits[1].variable()
+}
+
+/// Keeps a clause without a variable twice under an id that is new: it is attached where it has two
+/// literals, else it waits among the single ones.
+fn keep(
+    watches: &mut Watches,
+    singles: &mut ClauseList,
+    lits: &[Lit],
+    id: u32,
+) -> Result<(), AllocError>
+    requires { MayKeep singles.old watches.old lits.now id }
+    ensures { OnOk result (Keeps singles.old singles.new watches.old watches.new lits.now id) }
+{
+    if lits.len() < 2 {
+        return singles.add(id, lits);
+    }
+    watches.attach(lits, id)?;
+    Ok(())
+}
+
+/// Attaches the clauses of a formula that are two literals of different variables.
+fn attach_pairs(watches: &mut Watches, formula: &Formula) -> Result<(), AllocError>
+    requires ids { length formula.now.cnf.clauses ≤ ID_LIMIT }
+    requires none { HasTaken formula.now.cnf (pairs_below 0) (no_singles formula.now.cnf)
+        watches.old }
+    ensures { OnOk result (HasTaken formula.now.cnf (pairs_below (length formula.now.cnf.clauses))
+        (no_singles formula.now.cnf) watches.new) }
+{
+    for i in 0..formula.len() {
+        let lits = formula.clause(i);
+        if !is_pair(lits) {
+            continue;
+        }
+        watches.attach(lits, i + 1)?;
+    }
+    Ok(())
+}
+
+/// Keeps the different literals of a clause of a formula, which is no pair, unless it is always
+/// true. Two vectors are lent, whatever they hold.
+fn keep_distinct(
+    watches: &mut Watches,
+    singles: &mut ClauseList,
+    sorted: &mut Vec<Lit>,
+    distinct: &mut Vec<Lit>,
+    formula: &Formula,
+    i: u32,
+) -> Result<(), AllocError>
+    requires ids { length formula.now.cnf.clauses ≤ ID_LIMIT }
+    requires within { i < length formula.now.cnf.clauses }
+    requires taken { HasTaken formula.now.cnf (pairs_and_below i) singles.old watches.old }
+    requires few { length singles.old.clauses ≤ i }
+    ensures taken { OnOk result
+        (HasTaken formula.now.cnf (pairs_and_below (suc i)) singles.new watches.new) }
+    ensures few { OnOk result (length singles.new.clauses ≤ suc i) }
+{
+    let lits = formula.clause(i);
+    if is_pair(lits) {
+        return Ok(());
+    }
+    if is_rising(lits) {
+        return keep(watches, singles, lits, i + 1);
+    }
+    if !take_distinct(lits, sorted, distinct)? {
+        return Ok(());
+    }
+    keep(watches, singles, distinct, i + 1)
+}
+
+/// Keeps the clauses of a formula that are no pairs.
+fn keep_others(
+    alloc: Global,
+    watches: &mut Watches,
+    singles: &mut ClauseList,
+    formula: &Formula,
+) -> Result<(), AllocError>
+    requires ids { length formula.now.cnf.clauses ≤ ID_LIMIT }
+    requires pairs { HasTaken formula.now.cnf (pairs_and_below 0) singles.old watches.old }
+    requires none { singles.old.clauses ≡ [] }
+    ensures { OnOk result (HasTaken formula.now.cnf
+        (pairs_and_below (length formula.now.cnf.clauses)) singles.new watches.new) }
+{
+    let mut sorted = Vec::new(alloc);
+    let mut distinct = Vec::new(alloc);
+    for i in 0..formula.len() {
+        keep_distinct(watches, singles, &mut sorted, &mut distinct, formula, i)?;
+    }
+    Ok(())
+}
+
+/// Watches and single clauses that are those of a formula.
+#[derive(Drop)]
+pub(crate) struct Inputs {
+    pub(crate) watches: Watches,
+    pub(crate) singles: ClauseList,
+}
+
+/// Takes the clauses of a formula in. The arena gets room for them once.
+pub(crate) fn take_inputs(alloc: Global, formula: &Formula) -> Result<Inputs, AllocError>
+    requires { length formula.now.cnf.clauses ≤ ID_LIMIT }
+    ensures taken { IfOk result (λ inputs. HasTaken formula.now.cnf
+        (pairs_and_below (length formula.now.cnf.clauses)) inputs.singles inputs.watches) }
+    ensures within { IfOk result (λ _.
+        All (All (IsWithin formula.now.cnf.vars)) formula.now.cnf.clauses) }
+{
+    let mut arena = Arena::new(alloc);
+    arena.reserve(words_for(formula))?;
+    let mut watches = Watches::new(alloc, arena, formula.vars())?;
+    let mut singles = ClauseList::new(alloc, formula.vars())?;
+    attach_pairs(&mut watches, formula)?;
+    keep_others(alloc, &mut watches, &mut singles, formula)?;
+    Ok(Inputs { watches, singles })
+}
