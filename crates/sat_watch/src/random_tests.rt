@@ -372,12 +372,15 @@ fn step(
 fn random_calls_meet_the_definitions(rt: HostRuntime) -> Result<(), Fail> {
     let alloc = rt.alloc();
     let mut state = 1;
+    let mut clauses = 0usize;
     for _ in 0..25 {
         let mut watches = Watches::new(alloc, Arena::new(alloc), VARS)?;
         let mut rows = Vec::new(alloc);
         for _ in 0..400 {
             step(&rt, alloc, &mut watches, &mut rows, &mut state)?;
         }
+        clauses = clauses.saturating_add(rows.len());
     }
+    assert!(rt; clauses > 3000);
     Ok(())
 }
