@@ -15,6 +15,12 @@ pub record IsAtStart (n : ℕ) (s : WatchState) : Type 0 where
   pub level : s.level ≡ 0
   pub due : s.due ≡ None
 
+-- nothing is queued, and no clause is due
+pub record IsIdle (n : ℕ) (s : WatchState) : Type 0 where
+  pub vars : s.vars ≡ n
+  pub queued : s.queued ≡ 0
+  pub due : s.due ≡ None
+
 -- of two variables the first is decided, without a clause
 abbrev pub first_decided : WatchState
 first_decided = record {

@@ -19,6 +19,8 @@ mod choice;
 mod entry;
 mod links;
 mod place;
+#[cfg(test)]
+mod random_tests;
 mod sight;
 #[cfg(test)]
 mod tests;
