@@ -1,10 +1,7 @@
 -- Blocks by their names.
-use Rattle.std.proofs.Common.{◌≡◌, ℕ, ◌+◌, ◌<◌, Bool, true, false, cond, Option, Some, None, List, [], ◌∷◌, ◌++◌, length, take, get_or, refl, sym, ap, ◌∙◌, arith, add-one, length-take-le}
-use Rattle.std.specs.Prelude.{IfSome, bytes_eq, find, is_some, nat_lt, option_and_then, slice_get, if◌then◌else◌}
-use Rattle.std.specs.BTreeMap.{BTreeMap}
-use Rattle.std.specs.Borrow.{Bor}
+use Rattle.std.proofs.Common.{◌≡◌, ℕ, ◌<◌, Bool, true, false, cond, Option, Some, None, List, length, get_or, refl, sym, ap, ◌∙◌, arith}
+use Rattle.std.specs.Prelude.{IfSome, bytes_eq, find, nat_lt, option_and_then, slice_get}
 use Rattle.std.specs.List.{position_from, position_or_len}
-use Rattle.std.specs.Option.{option_or}
 use Rattle.std.proofs.lemmas.Bool.{false_from_ne_true}
 use Rattle.std.proofs.lemmas.Bool.Decides.{nat_tests}
 use Rattle.std.proofs.lemmas.Iterator.Adapters.{position_from-zero}
@@ -12,12 +9,9 @@ use Rattle.std.proofs.lemmas.List.Folds.{find_at}
 use Rattle.std.proofs.lemmas.List.Sums.{passes_at_first, position_or_len_is}
 use Rattle.std.proofs.lemmas.Option.{get_or_from_slice_get, slice_get_past, slice_get_within}
 use Rattle.std.proofs.lemmas.Slice.Eq.{bytes_eq-Decides}
-use Rattle.list_laws.proofs.Places.{take-get}
-use Rattle.list_laws.proofs.Searches.{position-push}
 use Rattle.fpga_types.specs.Placements.{HaveOwnNames}
 use Rattle.fpga_types.specs.declared.netlist.Block.{Block}
 use Rattle.fpga_text.specs.Bytes.{Bytes}
-use Rattle.fpga_place.specs.BlockTables.{AreNumbered, GainsName}
 use Rattle.fpga_place.specs.Blocks.{block_named, has_name, number_named}
 
 -- two names that pass as one are one
@@ -26,26 +20,6 @@ same_name a b is = (bytes_eq-Decides a b).0 is
 
 pub name_itself : (a : Bytes) → bytes_eq a a ≡ true
 name_itself a = (bytes_eq-Decides a a).1 refl
-
--- a name that has no number yet is given one
-pub gains-name : (number_in : Bytes → Option ℕ) (name other : Bytes) (number : ℕ)
-    → is_some (number_in name) ≡ false
-    → cond (bytes_eq name other) (Some number) (number_in other)
-    ≡ option_or (number_in other) (if bytes_eq name other then Some number else None)
-gains-name number_in name other number absent = go (bytes_eq name other) refl
-  where
-    none : (o : Option ℕ) → is_some o ≡ false → o ≡ None
-    none None e = refl
-    none (Some n) e = absurd (let clash : true ≡ false = e in cc)
-
-    last : (o : Option ℕ) → o ≡ option_or o None
-    last None = refl
-    last (Some n) = refl
-
-    go : (b : Bool) → bytes_eq name other ≡ b → cond b (Some number) (number_in other)
-        ≡ option_or (number_in other) (if b then Some number else None)
-    go true is = rw (← same_name name other is, none (number_in name) absent) refl
-    go false is = last (number_in other)
 
 -- the first place where a test passes, as a number
 module _ {T : Type 0} (p : T → Bool) (xs : List T) where
@@ -133,29 +107,6 @@ own_number blocks i block own here =
 
     at : has_name block.name (get_or blocks i block) ≡ true
     at = ap (has_name block.name) is ∙ name_itself block.name
-
--- one block more is numbered
-pub numbered-more : (blocks : List Block) (i : ℕ) (block : Block) (name : Bytes)
-    (old new : BTreeMap (Bor Bytes) ℕ) → slice_get blocks i ≡ Some block → name ≡ block.name
-    → GainsName old name i new → AreNumbered (take i blocks) old
-    → AreNumbered (take (i + 1) blocks) new
-numbered-more blocks i block name old new here is gains numbered = record {
-  found = λ other. gains other
-      ∙ (λ k. option_or (numbered.found other k)
-      (if bytes_eq (is k) other then Some (sym count k) else None))
-      ∙ sym (position-push (has_name other) 0 (take i blocks) block)
-      ∙ (λ k. number_named (sym more k) other);
-}
-  where
-    within : i < length blocks
-    within = slice_get_within blocks i block here
-
-    count : 0 + length (take i blocks) ≡ i
-    count = let l : length (take i blocks) ≡ i = length-take-le i blocks
-        (let w = within in omega (arith, w)) in omega (arith, l)
-
-    more : take (i + 1) blocks ≡ take i blocks ++ block ∷ []
-    more = rw add-one (take-get blocks i block here)
 
 -- a number that is found is one of a block
 pub numbers-within : (blocks : List Block) (name : Bytes) (found : Option ℕ)

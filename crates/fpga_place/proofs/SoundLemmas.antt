@@ -1,9 +1,9 @@
 -- The places of a placement that was read are lawful.
-use Rattle.std.proofs.Common.{◌≡◌, ℕ, ◌≤◌, Bool, true, false, Option, Some, None, List, length, take, refl, sym, ap, ◌∙◌}
-use Rattle.std.specs.Prelude.{is_some, map, not, option_and_then, option_map, slice_get, unwrap_or}
+use Rattle.std.proofs.Common.{◌≡◌, ℕ, Bool, true, false, Option, Some, None, List, refl, sym, ap, ◌∙◌}
+use Rattle.std.specs.Prelude.{IfOk, Err, Ok, Result, Vec, if◌then◌else◌, is_some, map, not, option_and_then, option_map, slice_get, unwrap_or}
 use Rattle.std.specs.BTreeSet.{BTreeSet}
+use Rattle.std.specs.Global.{Global}
 use Rattle.std.specs.List.{list_any}
-use Rattle.std.proofs.lemmas.List.{take_all}
 use Rattle.std.proofs.lemmas.List.Folds.{list_any_at}
 use Rattle.std.proofs.lemmas.Option.{get_or_from_slice_get, slice_get-map, slice_get_within}
 use Rattle.list_laws.proofs.Places.{some_is}
@@ -12,7 +12,9 @@ use Rattle.fpga_types.specs.Size.{Size}
 use Rattle.fpga_types.specs.declared.netlist.Block.{Block}
 use Rattle.fpga_types.specs.declared.placement.Place.{Place}
 use Rattle.fpga_types.specs.declared.placement.Spot.{Spot}
-use Rattle.fpga_place.specs.Drafts.{IsInOrder, Progress, Stands, placed}
+use Rattle.fpga_text.specs.FirstFault.{AnswersFault}
+use Rattle.fpga_text.specs.declared.fault.TextFault.{TextFault}
+use Rattle.fpga_place.specs.Drafts.{IsInOrder, Progress, Stands, last_fault, placed, places_alone}
 use Rattle.fpga_place.specs.Value.{place_of}
 use Rattle.fpga_place.proofs.BlockLemmas.{own_number}
 use Rattle.fpga_place.proofs.DraftLemmas.{so_far}
@@ -82,15 +84,19 @@ module _ (io_rat : ℕ) (grid : Size) (blocks : List Block) (places : List (Opti
         order.apart i j a b p q below (stood i a p first) (stood j b q second);
   }
 
--- the same of what a loop over the blocks has made
-pub lawful_places : (io_rat : ℕ) (grid : Size) (blocks : List Block) (places : List (Option Place))
-    (taken : BTreeSet Spot) → IsInOrder io_rat grid blocks places taken → (row : List Block)
-    → row ≡ blocks → (n : ℕ) → length row ≤ n → (final : List Place)
-    → final ≡ map (place_of (placed (so_far io_rat grid blocks places))) (take n row)
-    → list_any (lacks (so_far io_rat grid blocks places)) (take n row) ≡ false
-    → HaveOwnNames blocks → AreLawful grid io_rat blocks final
-lawful_places io_rat grid blocks places taken order row same n past final final_is all own =
-    let whole : take n row ≡ blocks = take_all n row past ∙ same in
-    are_lawful io_rat grid blocks places taken order own final
-    (final_is ∙ ap (map (place_of (placed (so_far io_rat grid blocks places)))) whole)
-    (ap (list_any (lacks (so_far io_rat grid blocks places))) (sym whole) ∙ all)
+-- where no block lacks a line, none does
+no_lack : (b : Bool) (fault : TextFault) → (if b then Some fault else None) ≡ None → b ≡ false
+no_lack true fault none = cc
+no_lack false fault none = refl
+
+-- the places that a reader of the rows answers are lawful
+pub lawful_answer : (io_rat : ℕ) (grid : Size) (blocks : List Block) (places : List (Option Place))
+    (taken : BTreeSet Spot) → IsInOrder io_rat grid blocks places taken → (end : ℕ)
+    → (result : Result (Vec Place Global) TextFault)
+    → AnswersFault (last_fault (places_alone blocks places) end)
+    (λ all. all.items ≡ map (place_of (placed (places_alone blocks places))) blocks) result
+    → IfOk result (λ all. HaveOwnNames blocks → AreLawful grid io_rat blocks all.items)
+lawful_answer io_rat grid blocks places taken order end (Ok all) answers =
+    λ own. are_lawful io_rat grid blocks places taken order own all.items answers.1
+    (no_lack (list_any (lacks (places_alone blocks places)) blocks) _ answers.0)
+lawful_answer io_rat grid blocks places taken order end (Err fault) answers = tt

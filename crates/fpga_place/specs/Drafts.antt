@@ -29,6 +29,14 @@ placed draft name =
     option_and_then (λ number. unwrap_or (slice_get draft.places number) None)
     (number_named draft.setting.blocks name)
 
+-- what a draft has of these blocks and places: it has no array, and was read for no pads
+abbrev pub places_alone : List Block → List (Option Place) → Progress
+places_alone blocks places = record {
+  setting = record { io_rat = 0; blocks = blocks };
+  grid = record { nx = 0; ny = 0 };
+  places = places;
+}
+
 -- what stands before the next line
 abbrev pub context_at : Progress → Context
 context_at draft = record {

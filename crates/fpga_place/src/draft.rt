@@ -4,6 +4,7 @@ ghost use Rattle.fpga_text.specs.FirstFault.{AnswersFault, IsFaultOf};
 ghost use Rattle.fpga_text.specs.declared.fault.TextFault.TheVariants.{Bad};
 ghost use Rattle.fpga_types.specs.Placements.{AreLawful, HaveOwnNames};
 ghost use Rattle.fpga_place.specs.Causes.{code_of};
+ghost use Rattle.fpga_place.specs.Drafts.{last_fault, placed, places_alone};
 ghost use Rattle.fpga_place.specs.Lines.{Block, block_form};
 ghost use Rattle.fpga_place.specs.Value.{place_of};
 
@@ -25,6 +26,9 @@ pub struct Draft<'a> {
     blocks: BlockTable<'a>,
     places: Vec<Option<Place>>,
     taken: BTreeSet<Spot>,
+    /// The number behind that of the block of the last line: most texts have the order of the
+    /// netlist.
+    next: usize,
 }
 
 impl<'a> Model for Draft<'a> {
@@ -46,9 +50,7 @@ impl<'a> Draft<'a> {
       FitsBlock,
       FitsNamed,
       TakesLine,
-      last_fault,
       next_fault,
-      placed,
       with_place,
     };
 
@@ -72,6 +74,7 @@ impl<'a> Draft<'a> {
             blocks,
             places,
             taken: BTreeSet::new(alloc),
+            next: 0,
         })
     }
 
@@ -103,7 +106,7 @@ impl<'a> Draft<'a> {
             → next_fault self.now line (Block name.now (Some place))
             ≡ Some (Bad line (code_of cause))) }
     {
-        let Some(number) = self.blocks.number_of(name) else {
+        let Some(number) = self.blocks.number_of(name, self.next) else {
             return Err(Cause::UnknownBlock);
         };
         if self.places[number].is_some() {
@@ -129,40 +132,71 @@ impl<'a> Draft<'a> {
             return Err(AllocError);
         };
         self.places[number] = Some(place);
+        self.next = number.saturating_add(1);
         Ok(())
     }
 
-    /// The places of the blocks, or why the text is refused that ends here, with this number.
-    pub fn places(&self, alloc: Global, end: u64) -> Result<Vec<Place>, TextFault>
-        ensures answers { AnswersFault (last_fault self.now end)
-            (λ places. places.items ≡ map (place_of (placed self.now)) self.now.setting.blocks)
+    /// The places of the blocks, or why the text is refused that ends here, with this number. The
+    /// spots are let go first, so that the places need no room beside them.
+    pub fn places(self, alloc: Global, end: u64) -> Result<Vec<Place>, TextFault>
+        ensures answers { AnswersFault (last_fault self.entry end)
+            (λ places. places.items ≡ map (place_of (placed self.entry)) self.entry.setting.blocks)
             result }
-        ensures sound { IfOk result (λ places. HaveOwnNames self.now.setting.blocks
-            → AreLawful self.now.grid self.now.setting.io_rat self.now.setting.blocks
+        ensures sound { IfOk result (λ places. HaveOwnNames self.entry.setting.blocks
+            → AreLawful self.entry.grid self.entry.setting.io_rat self.entry.setting.blocks
             places.items) }
     {
-        let blocks = self.blocks.as_slice();
-        let Ok(mut places) = Vec::with_capacity(alloc, blocks.len()) else {
+        let Draft {
+            blocks,
+            places,
+            taken,
+            ..
+        } = self;
+        drop(taken);
+        all_places(alloc, &blocks, &places, end)
+    }
+}
+
+/// The places of these blocks, or why a text is refused that ends here, with this number.
+fn all_places(
+    alloc: Global,
+    blocks: &BlockTable<'_>,
+    places: &[Option<Place>],
+    end: u64,
+) -> Result<Vec<Place>, TextFault>
+    requires { length places.now ≡ length blocks.now }
+    ensures { AnswersFault (last_fault (places_alone blocks.now places.now) end)
+        (λ all. all.items ≡ map (place_of (placed (places_alone blocks.now places.now))) blocks.now)
+        result }
+{
+    let named = blocks.as_slice();
+    let Ok(mut all) = Vec::with_capacity(alloc, named.len()) else {
+        return Err(TextFault::Memory);
+    };
+    for (i, block) in named.iter().enumerate() {
+        let Some(place) = place_named(blocks, places, block.name.bytes.as_slice(), i) else {
+            return Err(Cause::MissingBlock.at(end));
+        };
+        let Ok(()) = all.push(place) else {
             return Err(TextFault::Memory);
         };
-        for block in blocks {
-            let Some(place) = self.place_named(block.name.bytes.as_slice()) else {
-                return Err(Cause::MissingBlock.at(end));
-            };
-            let Ok(()) = places.push(place) else {
-                return Err(TextFault::Memory);
-            };
-        }
-        Ok(places)
     }
+    Ok(all)
+}
 
-    /// The place of the block with this name, if it had a line.
-    fn place_named(&self, name: &'a [u8]) -> Option<Place>
-        ensures { result ≡ placed self.now name.now }
-    {
-        let Some(number) = self.blocks.number_of(name) else {
-            return None;
-        };
-        self.places[number]
-    }
+/// The place of the block with this name, if it had a line. It is found at once if its number is
+/// the guess.
+fn place_named(
+    blocks: &BlockTable<'_>,
+    places: &[Option<Place>],
+    name: &[u8],
+    guess: usize,
+) -> Option<Place>
+    requires { length places.now ≡ length blocks.now }
+    ensures { result ≡ placed (places_alone blocks.now places.now) name.now }
+{
+    let Some(number) = blocks.number_of(name, guess) else {
+        return None;
+    };
+    places[number]
 }

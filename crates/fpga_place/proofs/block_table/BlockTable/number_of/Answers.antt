@@ -1,8 +1,11 @@
-use Rattle.std.proofs.Common.{◌∙◌}
-use Rattle.fpga_place.proofs.BlockLemmas.{numbers-within}
+use Rattle.std.proofs.Common.{sym, ◌∙◌}
+use Rattle.fpga_place.proofs.BlockLemmas.{same_name}
+use Rattle.fpga_place.proofs.RowLemmas.{found-guess}
 use Rattle.fpga_place.proofs.block_table.BlockTable.number_of.Goals as goal
 
-pub returns-clause-within : goal.returns-clause-within
-returns-clause-within c = rw (← c.self.view_is)
-    (numbers-within c.self.inside.blocks.now c.args.name.now c.copied.result
-    (c.copied.ensures ∙ c.get.ensures.value ∙ c.self.invariant.found c.args.name.now))
+pub returns-then-eq-clause-number : goal.returns-then-eq-clause-number
+returns-then-eq-clause-number c = rw (← c.self.view_is)
+    (found-guess c.self.inside.blocks.now c.args.name.now c.args.guess
+    (c.self.invariant.own c.if-self.true) c.if-guess-self.true
+    (sym c.name_of.ensures
+    ∙ same_name c.name_of.result.now c.args.name.now (sym c.eq.ensures ∙ c.if-eq.true)))

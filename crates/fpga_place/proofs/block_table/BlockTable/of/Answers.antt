@@ -1,14 +1,21 @@
-use Rattle.std.proofs.Common.{ap, ◌∙◌}
-use Rattle.list_laws.proofs.Places.{get-there}
-use Rattle.fpga_types.specs.declared.netlist.Block.{Block}
-use Rattle.fpga_place.proofs.BlockLemmas.{numbered-more}
+use Rattle.std.proofs.Common.{rules, ℕ, refl}
+use Rattle.std.specs.Ordering.{is_lt}
+use Rattle.std.proofs.Math.Seq.{take-length}
+use Rattle.fpga_place.specs.BlockTables.{StandByName, number_cmp}
+use Rattle.fpga_place.proofs.RowLemmas.{always-same, numbers_ranked, own-names, row-stands}
 use Rattle.fpga_place.proofs.block_table.BlockTable.of.Goals as goal
 
-pub loop-i-preserved : goal.loop-i-preserved
-loop-i-preserved c =
-    numbered-more c.args.blocks.now c.loop-i.i c.index-blocks-i.result c.as_slice.result.now
-    c.loop-i.numbers c.number_name.new.numbers
-    (get-there c.args.blocks.now c.loop-i.i c.index-blocks-i.result _ c.loop-i-test.true
-    c.index-blocks-i.is)
-    (c.as_slice.ensures ∙ ap (λ (b : Block). b.name) c.block.view_is)
-    c.in_ok-number_name.ensures c.loop-i.invariant
+pub invariant_of-result : goal.invariant_of-result
+invariant_of-result c =
+    let blocks = c.args.blocks.now in
+    let stand : StandByName blocks c.sort_unstable_by.new.self.items =
+    row-stands blocks _ c.in-Ok.by_name.items c.sort_unstable_by.new.self.items refl
+    c.in-Ok.ensures c.sort_unstable_by.ensures.permutation
+    (c.sort_unstable_by.ensures.sorted (λ (a b : ℕ). is_lt (number_cmp blocks a b))
+    (numbers_ranked blocks)
+    (always-same _ _ _ (λ a r q k. search (rules, take-length)))) in
+    record {
+      stand = stand;
+      own = λ apart. own-names blocks c.sort_unstable_by.new.self.items stand
+          (rw c.deref.ensures.value at (c.names_differ-are_apart.ensures apart));
+    }
