@@ -17,7 +17,8 @@ use Rattle.fpga_place.specs.Blocks.{block_named, number_named}
 use Rattle.fpga_place.specs.Codes.{takes_spot}
 use Rattle.fpga_place.specs.Drafts.{FitsNamed, IsInOrder, Progress, TakesLine, next_fault, placed, with_place}
 use Rattle.fpga_place.specs.Lines.{Form, Block as BlockLine, block_form, form_place}
-use Rattle.fpga_place.specs.Spots.{has_spot, spot_cmp}
+use Rattle.fpga_types.specs.SpotOrder.{spot_cmp}
+use Rattle.fpga_place.specs.Spots.{has_spot}
 use Rattle.fpga_place.proofs.BlockLemmas.{name-at, name_itself, named-at, same_name, unnamed}
 use Rattle.fpga_place.proofs.PlaceLemmas.{get-set_other, get-set_same, get-some}
 use Rattle.fpga_place.proofs.SpotLemmas.{has_spot-put}

@@ -11,7 +11,8 @@ use Rattle.fpga_types.specs.declared.netlist.Block.{Block}
 use Rattle.fpga_types.specs.declared.placement.Place.{Place}
 use Rattle.fpga_types.specs.declared.placement.Spot.{Spot}
 use Rattle.fpga_place.specs.Drafts.{FitsBlock, IsInOrder, Stands}
-use Rattle.fpga_place.specs.Spots.{has_spot, spot_cmp}
+use Rattle.fpga_types.specs.SpotOrder.{spot_cmp}
+use Rattle.fpga_place.specs.Spots.{has_spot}
 use Rattle.fpga_place.proofs.SpotLemmas.{has_spot-there, has_spots-none, has_spots-put}
 
 -- something stands at each place

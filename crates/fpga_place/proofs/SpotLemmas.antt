@@ -4,26 +4,14 @@ use Rattle.std.specs.Prelude.{◌==◌, ◌&&◌, ◌||◌, slice_get, slice_set
 use Rattle.std.specs.BTreeSet.{BTreeSet, IsEmpty, Updates, contains}
 use Rattle.std.specs.Ordering.{is_eq}
 use Rattle.std.proofs.Math.Bool.{or_assoc, or_comm}
-use Rattle.list_laws.proofs.Ties.{nat_ties, then_ties}
 use Rattle.fpga_types.specs.Places.{same_spot, spot_of}
+use Rattle.fpga_types.specs.SpotOrder.{spot_cmp}
 use Rattle.fpga_types.specs.declared.netlist.Block.{Block}
 use Rattle.fpga_types.specs.declared.placement.Place.{Place}
 use Rattle.fpga_types.specs.declared.placement.Spot.{Spot}
 use Rattle.fpga_types.specs.declared.placement.Spot.TheVariants.{Block as BlockAt, Pad as PadAt}
-use Rattle.fpga_place.specs.Spots.{HasSpots, has_spot, spot_cmp, spots}
-
-and_last : (a b c : Bool) → (a && (b && c)) ≡ (a && b && c)
-and_last true b c = refl
-and_last false b c = refl
-
--- spots tie where they are one
-pub spot_ties : (a b : Spot) → is_eq (spot_cmp a b) ≡ same_spot b a
-spot_ties (BlockAt x y) (BlockAt u v) = then_ties _ _ _ _ (nat_ties x u) (nat_ties y v)
-spot_ties (PadAt x y sub) (PadAt u v number) =
-    then_ties _ _ _ _ (nat_ties x u) (then_ties _ _ _ _ (nat_ties y v) (nat_ties sub number))
-    ∙ and_last (u == x) (v == y) (number == sub)
-spot_ties (BlockAt x y) (PadAt u v number) = refl
-spot_ties (PadAt x y sub) (BlockAt u v) = refl
+use Rattle.fpga_types.proofs.SpotLemmas.{spot_ties}
+use Rattle.fpga_place.specs.Spots.{HasSpots, has_spot, spots}
 
 -- a spot is itself
 pub same_spot-itself : (spot : Spot) → same_spot spot spot ≡ true

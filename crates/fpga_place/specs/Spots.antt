@@ -1,10 +1,9 @@
 -- The spots that blocks have, and a set of spots.
 use Rattle.std.specs.Prelude.{◌≡◌, Bool, List, [], ◌∷◌, Option, Some, None}
 use Rattle.std.specs.List.{list_any}
-use Rattle.std.specs.declared.cmp.Ordering.{Ordering}
 use Rattle.std.specs.BTreeSet.{BTreeSet, contains}
 use Rattle.fpga_types.specs.Places.{same_spot, spot_of}
-use Rattle.fpga_types.specs.contracts.placement.SpotOrd.TheImpl as spot_ord
+use Rattle.fpga_types.specs.SpotOrder.{spot_cmp}
 use Rattle.fpga_types.specs.declared.netlist.Block.{Block}
 use Rattle.fpga_types.specs.declared.placement.Place.{Place}
 use Rattle.fpga_types.specs.declared.placement.Spot.{Spot}
@@ -18,10 +17,6 @@ spots _ _ = []
 -- a block has this spot
 abbrev pub has_spot : List Block → List (Option Place) → Spot → Bool
 has_spot blocks places spot = list_any (same_spot spot) (spots blocks places)
-
--- the order of spots
-abbrev pub spot_cmp : Spot → Spot → Ordering
-spot_cmp = (spot_ord.ghosts).cmp
 
 -- the set has exactly the spots of the blocks
 abbrev pub HasSpots : List Block → List (Option Place) → BTreeSet Spot → Type 0
