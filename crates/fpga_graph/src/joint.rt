@@ -1,6 +1,4 @@
 //! A wire that another one is joined to.
-ghost use Rattle.std.specs.Prelude.{◌≡◌};
-
 use fpga_types::{Axis, Cell, Wire};
 use std::marker::Model;
 
