@@ -1,5 +1,5 @@
 //! What is wrong with an element line, from what the codes look at.
-ghost use Rattle.std.specs.Prelude.{◌≡◌, is_none, is_some, option_and_then};
+ghost use Rattle.std.specs.Prelude.{◌≡◌, is_none, is_some};
 ghost use Rattle.fpga_text.specs.Codes.{first_code};
 ghost use Rattle.fpga_bounds.specs.ElemContext.{context_at};
 ghost use Rattle.fpga_types.specs.Fabric.{meeting};

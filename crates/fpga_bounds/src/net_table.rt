@@ -1,7 +1,6 @@
-//! The nets of a netlist by their names, and which of them a route has.
-ghost use Rattle.std.specs.Prelude.{◌≡◌, ◌<◌, OnOk, IfOk, IfSome, length, slice_set, true, Some, is_some};
-ghost use Rattle.fpga_bounds.specs.NetTable.{GainsName, HasNetLines, number_named};
-ghost use Rattle.fpga_types.specs.Fits.{has_net};
+//! The nets of a netlist by their names.
+ghost use Rattle.std.specs.Prelude.{◌≡◌, ◌<◌, OnOk, IfOk, IfSome, length};
+ghost use Rattle.fpga_bounds.specs.NetTable.{GainsName, number_named};
 
 use fpga_types::Net;
 use std::alloc::{AllocError, Global};

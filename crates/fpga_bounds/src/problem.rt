@@ -1,5 +1,5 @@
 //! A route that fits its array, with its slots and steps.
-ghost use Rattle.std.specs.Prelude.{◌≡◌, ◌≤◌, ◌*◌, ◌^◌, All, length, IfOk, IfErr, OnOk};
+ghost use Rattle.std.specs.Prelude.{◌≡◌, ◌≤◌, ◌*◌, All, length, IfOk, IfErr, OnOk};
 ghost use Rattle.fpga_bounds.specs.Problem.{IsStepMeeting, IsStepWithin};
 ghost use Rattle.fpga_bounds.specs.Refusal.{IsRefusalOf, untold as untold_fault};
 ghost use Rattle.fpga_types.specs.Fit.{IsFit};
