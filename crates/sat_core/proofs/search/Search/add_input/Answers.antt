@@ -34,8 +34,8 @@ add-requires-clause-new c =
     let p = c.self.inside in
     let none = subst (λ (s : SearchValue). s.added
     ≡ 0) (sym c.self.view_is) c.requires.none_added in
-    no_single_next p.inputs p.added p.taken p.singles p.watches (p.inputs + 1) c.self.invariant.store
-    (omega (arith, none))
+    no_single_next p.inputs p.added p.taken p.singles p.watches (p.inputs + 1)
+    c.self.invariant.store (omega (arith, none))
 
 pub invariant_of-self-then-len-lt2 : goal.invariant_of-self-then-len-lt2
 invariant_of-self-then-len-lt2 c =
@@ -140,11 +140,13 @@ invariant_of-self-2 c =
       store = store_attached p.inputs p.added p.taken p.singles p.watches now
           (p.inputs + 1) lits ref does c.self.invariant.store (omega (arith, none)) simple
           (p.inputs + 1) p.added now (omega arith) (omega arith) (omega (arith, few, none))
-          (now_clauses p.watches now lits (p.inputs + 1) ref does stand) (now_vars p.watches now lits
+          (now_clauses p.watches now lits (p.inputs + 1) ref does stand)
+          (now_vars p.watches now lits
           (p.inputs + 1) ref does stand)
           (inr (now_level p.watches now lits (p.inputs + 1) ref does stand
           ∙ level_zero p.watches c.self.invariant.store.leveled none_true))
-          (now_leveled p.watches now lits (p.inputs + 1) ref does stand c.self.invariant.store.leveled)
+          (now_leveled p.watches now lits (p.inputs + 1) ref does stand
+          c.self.invariant.store.leveled)
           (does.not_due (inl two));
       ready = subst (λ n. IsReady n p.marks) (sym (now_vars p.watches now lits
           (p.inputs + 1) ref does stand)) c.self.invariant.ready;
@@ -158,7 +160,8 @@ returns-clause-none_true c =
     ≡ []) (sym c.self.view_is) c.requires.none_true in
     none_true_now p.watches now
     (now_trail p.watches now c.deref-2.result.now
-    (p.inputs + 1) c.in_ok-attach.field-0 c.in_ok-attach.ensures.ok c.self.invariant.store.keeps.stand)
+    (p.inputs + 1) c.in_ok-attach.field-0 c.in_ok-attach.ensures.ok
+    c.self.invariant.store.keeps.stand)
     none_true
 
 pub returns-clause-stands : goal.returns-clause-stands
