@@ -1,9 +1,8 @@
-use Rattle.std.proofs.Common.{◌≡◌, ◌+◌, ◌++◌, ◌∷◌, [], ◌∙◌, inl, inr, pos, true, take, get_or, add-one, ap, subst, sym}
+use Rattle.std.proofs.Common.{◌≡◌, ◌+◌, ◌++◌, ◌∷◌, [], ◌∙◌, inl, inr, pos, take, get_or, add-one, ap}
 use Rattle.std.proofs.lemmas.Option.{slice_get-get_or}
 use Rattle.list_laws.proofs.Places.{take-get}
 use Rattle.sat_clause.specs.declared.literal.Lit.{Lit}
 use Rattle.sat_clause.specs.Literal.{Clause, lit}
-use Rattle.sat_core.specs.Analysis.{IsCovered}
 use Rattle.sat_core.proofs.AnalysisLaws.{either_place, none_front}
 use Rattle.sat_core.proofs.analysis.are_covered.Goals as goal
 

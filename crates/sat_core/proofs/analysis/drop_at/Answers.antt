@@ -1,4 +1,4 @@
-use Rattle.std.proofs.Common.{◌≡◌, inl, inr, refl, subst, sym, arith}
+use Rattle.std.proofs.Common.{inl, inr, refl, subst, arith}
 use Rattle.sat_clause.specs.Literal.{Clause}
 use Rattle.sat_core.specs.Analysis.{HasReason, IsCovered}
 use Rattle.sat_core.proofs.AnalysisLaws.{reason_from}
