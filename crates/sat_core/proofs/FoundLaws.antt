@@ -316,7 +316,8 @@ module _ (i a t : ℕ) (s : ClauseListState) (w : WatchState) (store : IsSearchS
           IsAt w.trail p e → (1 ≤ e.level) × (e.level < w.level)
       lower_level p e met unused other there =
           let most = level_most w.clauses w.level w.trail p e levels there in
-          let not_zero : e.level ≢ 0 = λ none. unused (found.analysed.zero p met (e, there, none)) in
+          let not_zero : e.level ≢ 0 =
+          λ none. unused (found.analysed.zero p met (e, there, none)) in
           let not_here : e.level ≢ w.level =
           λ is. unused ((found.analysed.current some).others p met (e, there, is) other) in
           (omega (arith, not_zero), omega (arith, most, not_here))
@@ -468,7 +469,8 @@ find_open set (l ∷ ls) = by (is_among set l) refl (find_open set ls)
         ⊎ ((k : Lit) × Contains (l ∷ ls) k × (is_among set k ≡ false))
     by false is rest = inr (l, (zero, omega arith, refl), is)
     by true is (inl all) = inl (All-cons (λ (n : Lit). is_among set n ≡ true) l ls is all)
-    by true is (inr (k, (n, inside, same), out)) = inr (k, (suc n, omega (arith, inside), same), out)
+    by true is (inr (k, (n, inside, same), out)) =
+        inr (k, (suc n, omega (arith, inside), same), out)
 
 -- what is read at a level
 in_upto : (j : ℕ) (trail : List TrailEntry) (p : ℕ) (e : TrailEntry) → IsAt trail p e →

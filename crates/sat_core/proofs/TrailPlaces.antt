@@ -321,7 +321,8 @@ module _ (w : WatchState) (items : List TrailEntry) (told : reverse items ≡ w.
   pub read_reason : (r : ClauseRef) → (read_entry).reason ≡ Some r → IsReasonAt w.trail p r
   read_reason r some = (read_entry, read_at items w.trail p told lt, some)
 
-  pub read_attached : (r : ClauseRef) → (read_entry).reason ≡ Some r → is_attached w.clauses r ≡ true
+  pub read_attached : (r : ClauseRef) → (read_entry).reason ≡ Some r →
+      is_attached w.clauses r ≡ true
   read_attached r some =
       reason_attached w.clauses w.level w.trail read_entry r levels
       (at_contains w.trail p read_entry (read_at items w.trail p told lt)) some
@@ -329,5 +330,6 @@ module _ (w : WatchState) (items : List TrailEntry) (told : reverse items ≡ w.
   -- there is one where the entry at the place has one
   pub read_some : HasReason w.trail p → (read_entry).reason ≢ None
   read_some (r, (e, at, some)) none =
-      let one : e ≡ read_entry = at_one w.trail p e read_entry at (read_at items w.trail p told lt) in
+      let one : e ≡ read_entry =
+      at_one w.trail p e read_entry at (read_at items w.trail p told lt) in
       let bad : Some r ≡ None = sym some ∙ ap (λ (x : TrailEntry). x.reason) one ∙ none in cc

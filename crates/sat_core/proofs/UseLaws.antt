@@ -13,7 +13,7 @@ use Rattle.sat_core.specs.Analysis.{AreOn, AreUsedAtZero, HasLevel, HasReason, H
 use Rattle.sat_core.specs.Marks.{IsClean, IsMet, IsUsed, MarkState, Meets, with_places}
 use Rattle.sat_core.proofs.MarksLaws.{mark_cases, mark_stays}
 use Rattle.sat_watch.proofs.PlaceLemmas.{place_entry}
-use Rattle.sat_core.proofs.TrailPlaces.{at_within, later_current, later_reason, level_one, level_rises, reason_below, zero_reason}
+use Rattle.sat_core.proofs.TrailPlaces.{at_within, later_current, later_reason, level_one, level_rises, reason_below}
 
 module _ (w : WatchState) (p : ℕ) (old new : MarkState) (uses : Uses w p old new) where
   between : MarkState
@@ -174,7 +174,8 @@ walk_ends w s least walk = record {
 -- where it begins
 pub walk_starts : (w : WatchState) (s : MarkState) (least : ℕ) → IsMet s least →
     HasLevel w.trail w.level least →
-    ((p : ℕ) → IsMet s p → HasLevel w.trail w.level p → least ≤ p) → AreOn w.trail s → ((p : ℕ) → IsUsed s p → ⊥) →
+    ((p : ℕ) → IsMet s p → HasLevel w.trail w.level p → least ≤ p) → AreOn w.trail s →
+    ((p : ℕ) → IsUsed s p → ⊥) →
     IsWalk w s (length w.trail - 1) least
 walk_starts w s least met current lowest inside none = record {
   met = met;
@@ -184,44 +185,47 @@ walk_starts w s least met current lowest inside none = record {
   passed = λ p up is current. let lt = inside p is in absurd (omega (arith, up, lt));
 }
 
--- AT LEVEL 0
+-- AT A LOWER LEVEL
 
 module _ (w : WatchState) (levels : HasLevels w.clauses w.level w.trail) (once : IsOnce w.trail)
-    (within : AreWithin w.vars w.trail) (p : ℕ) (zero : HasLevel w.trail 0 p)
+    (within : AreWithin w.vars w.trail) (p n : ℕ) (lower : HasLevel w.trail n p)
+    (reason : HasReason w.trail p) (low : 1 ≤ w.level → n < w.level)
     (old new : MarkState) (met : IsMet old p) (uses : Uses w p old new) where
-  pub zero_kept : (conflict : Clause) → IsAnalysis w conflict old → IsAnalysis w conflict new
-  zero_kept conflict a =
-      analysis_uses w p old new uses conflict met (zero_reason w levels once p zero)
-      (λ some current. let same = level_one w.trail 0 w.level p zero current in
-      absurd (omega (arith, some, same))) a
+  pub lower_kept : (conflict : Clause) → IsAnalysis w conflict old → IsAnalysis w conflict new
+  lower_kept conflict a =
+      analysis_uses w p old new uses conflict met reason
+      (λ some current. let same = level_one w.trail n w.level p lower current in
+      let under = low some in absurd (omega (arith, under, same))) a
 
-  pub zero_on : AreOn w.trail old → AreOn w.trail new
-  zero_on on q is = elim (uses_only w p old new uses q is) [
+  pub lower_on : AreOn w.trail old → AreOn w.trail new
+  lower_on on q is = elim (uses_only w p old new uses q is) [
     | inl before ↦ on q before
     | inr from ↦ (let below = reason_below w levels once within p q from in
         let lt = on p met in omega (arith, below, lt))
   ]
 
-  -- what it meets is of level 0
-  zero_below : (q : ℕ) → IsReasonPlace w p q → 1 ≤ w.level → HasLevel w.trail w.level q → ⊥
-  zero_below q from some (f, at, is) =
+  -- what it meets is of no higher level
+  lower_below : (q : ℕ) → IsReasonPlace w p q → 1 ≤ w.level → HasLevel w.trail w.level q → ⊥
+  lower_below q from some (f, at, is) =
       let below = reason_below w levels once within p q from in
-      let rise = level_rises w.clauses w.level w.trail q p f zero.0 levels
-      (omega (arith, below)) at zero.1 in
-      omega (arith, rise, some, is, zero.2)
+      let rise = level_rises w.clauses w.level w.trail q p f lower.0 levels
+      (omega (arith, below)) at lower.1 in
+      let under = low some in
+      omega (arith, rise, under, is, lower.2)
 
-  pub zero_point : (point : ℕ) → 1 ≤ w.level → IsPoint w old point → IsPoint w new point
-  zero_point point some is = record {
+  pub lower_point : (point : ℕ) → 1 ≤ w.level → IsPoint w old point → IsPoint w new point
+  lower_point point some is = record {
     met = uses_met w p old new uses point is.met;
     current = is.current;
     kept = λ used. elim (uses_cases w p old new uses point used) [
       | inl before ↦ is.kept before
-      | inr here ↦ (let same = level_one w.trail 0 w.level p zero
-          (subst (HasLevel w.trail w.level) here is.current) in omega (arith, some, same))
+      | inr here ↦ (let same = level_one w.trail n w.level p lower
+          (subst (HasLevel w.trail w.level) here is.current) in
+          let under = low some in omega (arith, under, same))
     ];
     others = λ q q_met current other. elim (uses_only w p old new uses q q_met) [
       | inl before ↦ uses_used w p old new uses q (is.others q before current other)
-      | inr from ↦ absurd (zero_below q from some current)
+      | inr from ↦ absurd (lower_below q from some current)
     ];
   }
 

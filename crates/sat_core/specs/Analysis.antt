@@ -23,6 +23,11 @@ abbrev pub IsFalsePlace : List TrailEntry → Clause → ℕ → Type 0
 IsFalsePlace trail lits place = (l : Lit) × Contains lits l × (is_false trail l ≡ true)
     × (place_in trail l ≡ Some place)
 
+-- the place of each false literal of the clause was met, or is of level 0
+abbrev pub IsCovered : List TrailEntry → MarkState → Clause → Type 0
+IsCovered trail s lits = (place : ℕ) → IsFalsePlace trail lits place →
+    IsMet s place ⊎ HasLevel trail 0 place
+
 -- where a level was begun, a false literal of the clause is of the current one
 abbrev pub HasCurrent : WatchState → Clause → Type 0
 HasCurrent w lits = 1 ≤ w.level → (place : ℕ) × IsFalsePlace w.trail lits place

@@ -125,8 +125,8 @@ HasDerivation search clause hints = (id : ℕ) × (conflict : Clause) × (marks 
     × (hints ≡ marked_ids search.trail marks ++ pos id ∷ [])
     × IsDerived search.clauses search.trail conflict clause marks
 
--- at level 0 the clause is empty, and else it is asserting, with the way back to the highest level of
--- its other literals; it is derived, the hints justify it, and it is new
+-- at level 0 the clause is empty, and else it is asserting, with the way back to the highest level
+-- of its other literals; it is derived, the hints justify it, and it is new
 pub record IsLesson (search : SearchValue) (clause : Clause) (hints : List ℤ) (back : ℕ) : Type 0
   where
     pub none : level_of search.trail ≡ 0 → clause ≡ []

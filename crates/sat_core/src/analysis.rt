@@ -1,8 +1,8 @@
 //! The analysis of a false clause: which entries of the trail made it false.
 
-ghost use Rattle.std.specs.Prelude.{◌≡◌, ◌≢◌, ◌-◌, ◌<◌, ◌≤◌, ℕ, [], ◌∷◌, All, IfNone, IfSome, Some, false, length, suc, true};
+ghost use Rattle.std.specs.Prelude.{◌≡◌, ◌≢◌, ◌⊎◌, ◌-◌, ◌<◌, ◌≤◌, ℕ, [], ◌∷◌, All, IfNone, IfSome, Some, false, length, suc, true};
 ghost use Rattle.sat_clause.specs.Literal.{Clause, IsWithin};
-ghost use Rattle.sat_core.specs.Analysis.{AreOn, AreUsedAtZero, HasCurrent, HasLevel, IsAnalysed, IsAnalysis, IsFalsePlace, IsKnown, IsLeast, IsPoint, IsReasonAt, IsReasonPlace, IsWalk, Uses};
+ghost use Rattle.sat_core.specs.Analysis.{AreOn, AreUsedAtZero, HasCurrent, HasLevel, IsAnalysed, IsAnalysis, IsCovered, IsFalsePlace, IsKnown, IsLeast, IsPoint, IsReasonAt, IsReasonPlace, IsWalk, Uses};
 ghost use Rattle.sat_core.specs.Marks.{IsClean, IsMet, IsUsed, Meets};
 ghost use Rattle.sat_watch.specs.Trail.{place_in};
 ghost use Rattle.sat_watch.specs.Watched.{is_false};
@@ -91,8 +91,8 @@ fn use_entry(marks: &mut Marks, watches: &Watches, place: u32, reason: ClauseRef
     lowest
 }
 
-/// Passes a place on the way down to the first unique implication point, which stands below it. Uses
-/// its reason, if it was met. Gives the least place of the current level.
+/// Passes a place on the way down to the first unique implication point, which stands below it.
+/// Uses its reason, if it was met. Gives the least place of the current level.
 fn pass(marks: &mut Marks, watches: &Watches, place: u32, least: u32) -> u32
     requires size { watches.now.vars ≤ length marks.old.met }
     requires walk { IsWalk watches.now marks.old place least }
@@ -163,6 +163,87 @@ fn point(marks: &mut Marks, watches: &Watches, level: u32, least: u32) -> u32
     first_point(marks, watches, least)
 }
 
+/// Whether a literal is not false, or its place was met, or is of level 0.
+fn is_covered(marks: &Marks, watches: &Watches, l: Lit) -> bool
+    requires within { IsWithin watches.now.vars l }
+    requires size { watches.now.vars ≤ length marks.now.met }
+    ensures { result ≡ true → IsCovered watches.now.trail marks.now (l ∷ []) }
+{
+    let Some(place) = false_place(watches, l) else {
+        return true;
+    };
+    if marks.is_met(place) {
+        return true;
+    }
+    watches.trail()[place as usize].level == 0
+}
+
+/// Whether the place of each false literal of a clause was met, or is of level 0.
+fn are_covered(marks: &Marks, watches: &Watches, lits: &[Lit]) -> bool
+    requires within { All (IsWithin watches.now.vars) lits.now }
+    requires size { watches.now.vars ≤ length marks.now.met }
+    ensures { result ≡ true → IsCovered watches.now.trail marks.now lits.now }
+{
+    for l in lits {
+        if !is_covered(marks, watches, *l) {
+            return false;
+        }
+    }
+    true
+}
+
+/// Uses the reason of the place that was met as the i-th one, if it is of a lower level than the
+/// current one, and nothing is met by it but places of level 0. So a literal of the clause is
+/// dropped.
+fn drop_at(marks: &mut Marks, watches: &Watches, level: u32, i: u32)
+    requires level { level ≡ watches.now.level }
+    requires size { watches.now.vars ≤ length marks.old.met }
+    requires within { AreOn watches.now.trail marks.old }
+    requires i { i < length marks.old.places }
+    ensures kept { (conflict : Clause) → IsAnalysis watches.now conflict marks.old
+        → IsAnalysis watches.now conflict marks.new }
+    ensures size { length marks.new.met ≡ length marks.old.met }
+    ensures within { AreOn watches.now.trail marks.new }
+    ensures point { (point : ℕ) → 1 ≤ watches.now.level → IsPoint watches.now marks.old point
+        → IsPoint watches.now marks.new point }
+    ensures no_more { (p : ℕ) → IsMet marks.new p
+        → IsMet marks.old p ⊎ HasLevel watches.now.trail 0 p }
+{
+    let place = marks.place(i);
+    let entry = watches.trail()[place as usize];
+    if entry.level == level {
+        return;
+    }
+    let Some(reason) = entry.reason else {
+        return;
+    };
+    if !are_covered(marks, watches, watches.lits(reason)) {
+        return;
+    }
+    use_entry(marks, watches, place, reason, 0);
+}
+
+/// Drops the literals of lower levels whose reasons say no more than the others.
+fn drop_covered(marks: &mut Marks, watches: &Watches, level: u32)
+    requires level { level ≡ watches.now.level }
+    requires size { watches.now.vars ≤ length marks.old.met }
+    requires within { AreOn watches.now.trail marks.old }
+    ensures kept { (conflict : Clause) → IsAnalysis watches.now conflict marks.old
+        → IsAnalysis watches.now conflict marks.new }
+    ensures size { length marks.new.met ≡ length marks.old.met }
+    ensures within { AreOn watches.now.trail marks.new }
+    ensures point { (point : ℕ) → 1 ≤ watches.now.level → IsPoint watches.now marks.old point
+        → IsPoint watches.now marks.new point }
+    ensures no_more { (p : ℕ) → IsMet marks.new p
+        → IsMet marks.old p ⊎ HasLevel watches.now.trail 0 p }
+{
+    let mut k = 0;
+    while k < marks.len() {
+        drop_at(marks, watches, level, k);
+        k += 1;
+    }
+}
+
 /// Uses the reason of the place that was met as the i-th one, if it is of level 0.
 fn use_at_zero(marks: &mut Marks, watches: &Watches, i: u32)
     requires size { watches.now.vars ≤ length marks.old.met }
@@ -208,8 +289,8 @@ fn use_level_zero(marks: &mut Marks, watches: &Watches)
 }
 
 /// Uses the reasons of what made a clause false, from the newest entry on down to the first unique
-/// implication point of the current level, which it gives, and all those of level 0 that are met. It
-/// costs what it meets: the entries from the newest down to that point, and the literals of the
+/// implication point of the current level, which it gives, and all those of level 0 that are met.
+/// It costs what it meets: the entries from the newest down to that point, and the literals of the
 /// reasons that it uses.
 pub(crate) fn analyse(marks: &mut Marks, watches: &Watches, lits: &[Lit]) -> u32
     requires few { watches.now.vars ≤ VARIABLE_LIMIT }
@@ -224,6 +305,7 @@ pub(crate) fn analyse(marks: &mut Marks, watches: &Watches, lits: &[Lit]) -> u32
     let level = watches.level();
     let least = meet_clause(marks, watches, lits, top);
     let point = point(marks, watches, level, least);
+    drop_covered(marks, watches, level);
     use_level_zero(marks, watches);
     point
 }

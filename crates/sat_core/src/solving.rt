@@ -43,10 +43,10 @@ fn search_for_values(
 /// clause that is live. With `keep` no clause is deleted; today none is deleted either way.
 ///
 /// Where a clause is false, the clause of the first unique implication point is learned: the search
-/// goes back to the highest level of its other literals, and it makes the last one true there. The
-/// analysis costs what it meets: the entries of the trail from the newest down to that point, and the
-/// literals of the reasons that it uses, which are sorted. A clause is kept twice, for the search and
-/// in the log.
+/// goes back to the highest level of its other literals, and it makes the last one true there.
+/// The analysis costs what it meets: the entries of the trail from the newest down to that point,
+/// and the literals of the reasons that it uses, whose places are sorted. A clause is kept twice,
+/// for the search and in the log.
 ///
 /// # Errors
 /// Where memory is short. What the log has by then still follows.

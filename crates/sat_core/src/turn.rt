@@ -19,8 +19,8 @@ pub(crate) enum Turn {
     Refuted,
 }
 
-/// Searches on until a clause is false, and then learns and logs a clause; or until each variable has
-/// a value.
+/// Searches on until a clause is false, and then learns and logs a clause; or until each variable
+/// has a value.
 ///
 /// Memory is taken before anything is logged, so the log is as it was where memory is short.
 pub(crate) fn take_turn(

@@ -66,8 +66,8 @@ point-point-requires-clause-none_used c =
     none_used c.args.watches.now c.args.lits.now c.args.marks.now c.meet_clause-least.new.marks
     c.requires.clean c.meet_clause-least.ensures.meets
 
-pub use_level_zero-requires-clause-within : goal.use_level_zero-requires-clause-within
-use_level_zero-requires-clause-within c =
+pub drop_covered-requires-clause-within : goal.drop_covered-requires-clause-within
+drop_covered-requires-clause-within c =
     let w = c.args.watches.now in
     let new = c.meet_clause-least.new.marks in
     analysis_on w c.args.lits.now c.point-point.new.marks
@@ -87,10 +87,12 @@ returns-clause-analysed c =
         settled = c.level-level.ensures.settled;
       };
       analysis = c.use_level_zero.ensures.kept c.args.lits.now
+          (c.drop_covered.ensures.kept c.args.lits.now
           (c.point-point.ensures.kept c.args.lits.now
           (analysis_starts w c.args.lits.now c.args.marks.now new c.requires.clean
-          c.meet_clause-least.ensures.meets c.requires.size));
+          c.meet_clause-least.ensures.meets c.requires.size)));
       zero = c.use_level_zero.ensures.zero;
       current = λ some. c.use_level_zero.ensures.point c.point-point.result some
-          (c.point-point.ensures.point some);
+          (c.drop_covered.ensures.point c.point-point.result some
+          (c.point-point.ensures.point some));
     }

@@ -1,7 +1,7 @@
 use Rattle.std.proofs.Common.{◌∙◌, [], refl, sym, ap, arith}
 use Rattle.std.proofs.lemmas.List.{append-nil}
 use Rattle.sat_core.proofs.TrailPlaces.{level_one, read_at, read_attached, read_entry, read_reason, read_some, zero_reason}
-use Rattle.sat_core.proofs.UseLaws.{used_front, uses_used, zero_kept, zero_on, zero_point}
+use Rattle.sat_core.proofs.UseLaws.{lower_kept, lower_on, lower_point, used_front, uses_used}
 use Rattle.sat_core.specs.Analysis.{HasLevel}
 use Rattle.sat_core.specs.Marks.{MarkState}
 use Rattle.sat_core.proofs.analysis.use_at_zero.Goals as goal
@@ -45,7 +45,8 @@ returns-then-entry-gt0-clause-used c =
     let old = c.args.marks.now in
     used_front w c.args.i p old c.place-place.ensures.value old [] (sym (append-nil old.places))
     (λ q is. is)
-    (λ zero. let same = level_one w.trail 0 (read_entry w items told.value told.levels p lt).level p zero
+    (λ zero.
+    let same = level_one w.trail 0 (read_entry w items told.value told.levels p lt).level p zero
     (read_entry w items told.value told.levels p lt, read_at items w.trail p told.value lt, refl) in
     absurd (omega (arith, same, c.if-entry-gt0.true)))
 
@@ -61,7 +62,8 @@ returns-clause-kept c =
       read_at items w.trail p told.value lt,
       omega (arith, c.if-entry-gt0.false),
     ) in
-    zero_kept w told.levels told.once told.within p zero c.args.marks.now c.use_entry.new.marks
+    lower_kept w told.levels told.once told.within p 0 zero (zero_reason w told.levels told.once p zero)
+    (λ some. omega (arith, some)) c.args.marks.now c.use_entry.new.marks
     c.place-place.ensures.met c.use_entry.ensures.uses
 
 pub returns-clause-within : goal.returns-clause-within
@@ -76,7 +78,8 @@ returns-clause-within c =
       read_at items w.trail p told.value lt,
       omega (arith, c.if-entry-gt0.false),
     ) in
-    zero_on w told.levels told.once told.within p zero c.args.marks.now c.use_entry.new.marks
+    lower_on w told.levels told.once told.within p 0 zero (zero_reason w told.levels told.once p zero)
+    (λ some. omega (arith, some)) c.args.marks.now c.use_entry.new.marks
     c.place-place.ensures.met c.use_entry.ensures.uses c.requires.within
 
 pub returns-clause-point : goal.returns-clause-point
@@ -91,7 +94,8 @@ returns-clause-point c =
       read_at items w.trail p told.value lt,
       omega (arith, c.if-entry-gt0.false),
     ) in
-    zero_point w told.levels told.once told.within p zero c.args.marks.now c.use_entry.new.marks
+    lower_point w told.levels told.once told.within p 0 zero (zero_reason w told.levels told.once p zero)
+    (λ some. omega (arith, some)) c.args.marks.now c.use_entry.new.marks
     c.place-place.ensures.met c.use_entry.ensures.uses
 
 pub returns-clause-used : goal.returns-clause-used

@@ -74,7 +74,8 @@ loop-place-preserved c =
     let rise = subst (λ (ps : List ℕ). AllPairs (λ a b. a < b) ps)
     (sym c.places-place-items.ensures.value) c.requires.rising in
     let more : AreLearned w s c.args.point (take i items ++ p ∷ [])
-    (c.loop-place.lits.items ++ negation e.lit ∷ []) c.higher-back.result = learned_push w s c.args.point (take i items) p c.loop-place.lits.items
+    (c.loop-place.lits.items ++ negation e.lit ∷ []) c.higher-back.result =
+    learned_push w s c.args.point (take i items) p c.loop-place.lits.items
     c.loop-place.back c.loop-place.invariant e c.higher-back.result c.trail.ensures.once at (
       (λ used. both_ways _ (sym c.is_used.ensures ∙ c.if-is_used.false) used),
       c.if-place-point.false,
