@@ -14,6 +14,7 @@ pub mod LogLemmas
 pub mod MarksLaws
 pub mod ModelLemmas
 pub mod ReadingLemmas
+pub mod RelevantLaws
 pub mod SameLaws
 pub mod SearchLaws
 pub mod TrailPlaces
