@@ -1,12 +1,12 @@
 -- What an analysis comes to, by ids: its clause is asserting, and follows from the reasons that are
 -- used and the false clause.
 use Rattle.std.specs.Prelude.{nat_le, option_map}
-use Rattle.std.proofs.Common.{inl, inr, ◌⊎◌, ◌≡◌, ◌≢◌, ◌<◌, ◌≤◌, ◌+◌, ◌-◌, ℕ, zero, suc, ℤ, pos, Bool, true, false, List, [], ◌∷◌, ◌++◌, length, get_or, Option, None, Some, Contains, All, refl, sym, ap, ◌∙◌, subst, arith}
+use Rattle.std.proofs.Common.{inl, inr, ◌⊎◌, ◌≡◌, ◌≢◌, ◌<◌, ◌≤◌, ◌+◌, ◌-◌, ℕ, zero, suc, ℤ, pos, Bool, true, false, List, [], ◌∷◌, ◌++◌, length, get_or, Option, None, Some, slice_get, take, Contains, All, refl, sym, ap, ◌∙◌, subst, arith}
 use Rattle.std.proofs.lemmas.Bool.{both_ways, cases_eq, cases_lt, le-leb}
 use Rattle.std.proofs.lemmas.List.Elements.{All-cons, All-contains, All-contains_itself, All-nil, All-weaker, Contains-push, Contains-push_cases, Contains-append_left}
 use Rattle.list_laws.proofs.Places.{some_is}
 use Rattle.sat_clause.specs.declared.literal.Lit.{Lit}
-use Rattle.sat_clause.specs.Learned.{IsFresh, IsSimple, SameLiterals}
+use Rattle.sat_clause.specs.Learned.{IsFresh, IsRelevant, IsSimple, SameLiterals}
 use Rattle.sat_clause.specs.Literal.{Clause, IsLiteral, IsWithin, is_among, negation, variable}
 use Rattle.sat_clause.specs.Live.{Live, clause_at}
 use Rattle.sat_clause.specs.Rup.{rup}
@@ -20,10 +20,10 @@ use Rattle.sat_watch.specs.Trail.{AreWithin, IsOnce, falses, place_in}
 use Rattle.sat_watch.specs.Watched.{AreFalse, is_false}
 use Rattle.sat_watch.specs.Watches.{Attached, HasLevels, WatchState, id_at, is_attached, lits_at}
 use Rattle.sat_watch.proofs.PlaceLemmas.{place_entry}
-use Rattle.sat_core.specs.Analysis.{HasCurrent, IsAt, IsKnown, IsReasonPlace, reason_lits}
+use Rattle.sat_core.specs.Analysis.{HasCurrent, IsAt, IsFalsePlace, IsKnown, IsReasonPlace, reason_lits}
 use Rattle.sat_core.specs.Kept.{HasOnce}
 use Rattle.sat_core.specs.ClauseList.{ClauseListState}
-use Rattle.sat_core.specs.Levels.{AreAccounted, Assigned, IsAccounted, IsAsserting, IsDerived, IsFalseFrom, IsMarked, IsSettledTrail, level_of, marked_ids}
+use Rattle.sat_core.specs.Levels.{AreAccounted, AreNeeded, Assigned, IsAccounted, IsAsserting, IsDerived, IsFalseFrom, IsMarked, IsSettledTrail, StandsInReason, level_of, marked_ids}
 use Rattle.sat_core.specs.Marks.{IsMet, IsUsed, MarkState}
 use Rattle.sat_core.specs.Reading.{IsFound}
 use Rattle.sat_core.specs.SearchStore.{EndsAsserting, IsLesson, IsSearchStore, assigned, assigned_in, live_of, search_value}
@@ -32,9 +32,10 @@ use Rattle.sat_core.proofs.DistinctLaws.{pairs_push}
 use Rattle.sat_core.proofs.KeptLaws.{none_zero}
 use Rattle.sat_core.proofs.LessonLaws.{asserting_is_fresh, derived_follows}
 use Rattle.sat_core.proofs.ReadingLemmas.{hints_in_order, marks_of, other_place}
+use Rattle.sat_core.proofs.RelevantLaws.{derived_relevant}
 use Rattle.sat_core.proofs.SameLaws.{same_itself}
 use Rattle.sat_core.proofs.SearchLaws.{settled_trail}
-use Rattle.sat_core.proofs.TrailPlaces.{IsCaused, at_cases, at_contains, at_newest, at_older, at_one, at_within, caused_at, false_placed, level_most, place_negates}
+use Rattle.sat_core.proofs.TrailPlaces.{IsCaused, at_cases, at_contains, at_newest, at_older, at_one, at_within, caused_at, false_placed, level_most, place_negates, reason_below}
 use Rattle.sat_core.proofs.UseLaws.{analysis_on}
 use Rattle.sat_core.proofs.WatchLaws.{lit_cases, single_found, value_found}
 
@@ -71,6 +72,50 @@ module _ (ks : List Attached) (used : List Bool) where
   at_marked (e ∷ older) x (suc k, at, mark) =
       let rest = at_marked older x (k, at, mark) in
       (rest.0, rest.1, at_older e older rest.0 rest.1 rest.2, rest.3, rest.4)
+
+-- AND WHERE THEY STAND
+
+module _ (ks : List Attached) (used : List Bool) where
+  marked_index : (trail : List TrailEntry) (p : ℕ) (e : TrailEntry) → IsAt trail p e →
+      get_or used p false ≡ true → (k : ℕ) × (slice_get (assigned_in ks trail) k
+      ≡ Some (assigned ks e)) × (slice_get (marks_of used trail) k ≡ Some true)
+      × (p + suc k ≡ length trail)
+  marked_index [] p e at is = absurd (omega (arith, at_within [] p e at))
+  marked_index (x ∷ older) p e at is = elim (at_cases x older p e at) [
+    | inl last ↦ (
+      zero,
+      ap (λ (y : TrailEntry). Some (assigned ks y)) last.1,
+      ap Some (subst (λ (n : ℕ). get_or used n false ≡ true) last.0 is),
+      omega (arith, last.0),
+    )
+    | inr later ↦ (let rest = marked_index older p e later is in
+        (suc rest.0, rest.1, rest.2, omega (arith, rest.3)))
+  ]
+
+  index_marked : (trail : List TrailEntry) (x : Assigned) (k : ℕ) →
+      slice_get (assigned_in ks trail) k ≡ Some x →
+      slice_get (marks_of used trail) k ≡ Some true → (p : ℕ) × (e : TrailEntry)
+      × IsAt trail p e × (get_or used p false ≡ true) × (assigned ks e ≡ x)
+      × (p + suc k ≡ length trail)
+  index_marked [] x k at mark = cc
+  index_marked (e ∷ older) x zero at mark =
+      (length older, e, at_newest e older, some_is mark, some_is at, omega arith)
+  index_marked (e ∷ older) x (suc k) at mark =
+      let rest = index_marked older x k at mark in (
+        rest.0,
+        rest.1,
+        at_older e older rest.0 rest.1 rest.2,
+        rest.3,
+        rest.4,
+        omega (arith, rest.5),
+      )
+
+take_front : {X : Type 0} (xs : List X) (k n : ℕ) (x : X) → n < k → slice_get xs n ≡ Some x →
+    slice_get (take k xs) n ≡ Some x
+take_front [] k n x lt at = cc
+take_front (y ∷ ys) zero n x lt at = absurd (omega (arith, lt))
+take_front (y ∷ ys) (suc k) zero x lt at = at
+take_front (y ∷ ys) (suc k) (suc n) x lt at = take_front ys k n x (omega (arith, lt)) at
 
 -- WHAT IS FOUND
 
@@ -276,6 +321,101 @@ module _ (i a t : ℕ) (s : ClauseListState) (w : WatchState) (store : IsSearchS
       apart = apart;
     }
 
+    -- what was met stands in the false clause, or in the reason of a newer used entry
+    IsNewer : ℕ → Lit → Type 0
+    IsNewer q l = (p : ℕ) × (f : TrailEntry) × (n : ℕ) × (c : Clause) × (q < p)
+        × IsAt w.trail p f × IsUsed m p × (option_map (id_at w.clauses) f.reason ≡ Some n)
+        × (clause_at clauses n ≡ Some c) × Contains c l
+
+    source_of : (q : ℕ) (e : TrailEntry) → IsAt w.trail q e → IsMet m q →
+        Contains x (negation e.lit) ⊎ IsNewer q (negation e.lit)
+    unfolding IsNewer
+    source_of q e there met = elim (found.analysed.analysis.sources q met) [
+      | inl (l, has, is, place) ↦
+          inl (subst (Contains x) (sym (place_negates w.trail l q e once is place there))
+          (All-contains (Contains x) lits l same.1 has))
+      | inr (p, used, (f, at_p, from)) ↦ inr (newer p used f at_p from)
+    ]
+      where
+        newer : (p : ℕ) → IsUsed m p → (f : TrailEntry) → IsAt w.trail p f →
+            IsFalsePlace w.trail (reason_lits w.clauses f.reason) q →
+            IsNewer q (negation e.lit)
+        newer p used f at_p from =
+            let reason = found.analysed.analysis.reasons p used in
+            let r : ClauseRef = reason.0 in
+            let one : reason.1.0 ≡ f = at_one w.trail p reason.1.0 f reason.1.1 at_p in
+            let some : f.reason ≡ Some r =
+            ap (λ (y : TrailEntry). y.reason) (sym one) ∙ reason.1.2 in
+            let cause : IsCaused w.clauses w.trail p f (Some r) =
+            subst (IsCaused w.clauses w.trail p f) some
+            (caused_at w.clauses w.level w.trail p f levels once at_p) in
+            let c = value_found w.vars s.clauses w.clauses store.keeps r cause.0 in
+            let here : IsFalsePlace w.trail (lits_at w.clauses r) q =
+            subst (λ (o : Option ClauseRef). IsFalsePlace w.trail (reason_lits w.clauses o) q) some
+            from in
+            let neg = place_negates w.trail here.0 q e once here.2 here.3 there in (
+              p,
+              f,
+              id_at w.clauses r,
+              c.0,
+              reason_below w levels once within p q (f, at_p, from),
+              at_p,
+              used,
+              ap (option_map (id_at w.clauses)) some,
+              c.1,
+              subst (Contains c.0) (sym neg) (All-contains (Contains c.0) (lits_at w.clauses r)
+                  here.0 c.2.1 here.1),
+            )
+
+    needed : AreNeeded clauses x entries marks
+    unfolding IsNewer
+    needed k y y_at mark =
+        let q = index_marked w.clauses (found.s).used w.trail y k y_at mark in
+        let met = found.analysed.analysis.used_met q.0 q.3 in
+        subst (λ (z : Assigned). Contains x (negation z.lit) ⊎ StandsInReason clauses
+        (take k entries) (take k marks) (negation z.lit)) q.4
+        (elim (source_of q.0 q.1 q.2 met) [
+          | inl here ↦ inl here
+          | inr (p, f, n, c, below, at_p, used, why, c_at, has) ↦
+              (let j = marked_index w.clauses (found.s).used w.trail p f at_p used in
+              let lt : j.0 < k = omega (arith, j.3, q.5, below) in
+              inr (
+                assigned w.clauses f,
+                n,
+                c,
+                (
+                  j.0,
+                  take_front entries k j.0
+                      (assigned w.clauses f) lt j.1,
+                  take_front marks k j.0 true lt j.2,
+                ),
+                why,
+                c_at,
+                has,
+              ))
+        ])
+
+    shown : All (λ l. Contains x l ⊎ StandsInReason clauses entries marks l) clause
+    unfolding IsNewer
+    shown = All-weaker (Contains clause)
+        (λ l. Contains x l ⊎ StandsInReason clauses entries marks l)
+        (λ l has.
+        let q = literal_from l has in
+        subst (λ (k : Lit). Contains x k ⊎ StandsInReason clauses entries marks k) q.3
+        (elim (source_of q.0 q.1 q.2 q.4) [
+          | inl here ↦ inl here
+          | inr (p, f, n, c, below, at_p, used, why, c_at, in_c) ↦
+              inr (
+                assigned w.clauses f,
+                n,
+                c,
+                marked_at w.clauses (found.s).used w.trail p f at_p used,
+                why,
+                c_at,
+                in_c,
+              )
+        ])) clause (All-contains_itself clause)
+
     hints_are : hints ≡ marked_ids entries marks ++ pos id ∷ []
     hints_are =
         found.lesson.hints_are ∙ ap (λ (ids : List ℤ). ids ++ pos id ∷ [])
@@ -288,6 +428,12 @@ module _ (i a t : ℕ) (s : ClauseListState) (w : WatchState) (store : IsSearchS
         ap (rup clauses clause) hints_are
         ∙ derived_follows clauses (none_zero (suc (i + a)) clauses store.below) clause entries
         marks id x holds.once holds.caused at derived
+
+    relevant : IsRelevant clauses clause hints
+    relevant =
+        subst (IsRelevant clauses clause) (sym hints_are)
+        (derived_relevant clauses (none_zero (suc (i + a)) clauses store.below) clause entries
+        marks id x holds.once holds.caused at derived needed shown)
 
     -- AT THE CURRENT LEVEL
 
@@ -424,6 +570,7 @@ module _ (i a t : ℕ) (s : ClauseListState) (w : WatchState) (store : IsSearchS
       literals = All-weaker (IsWithin w.vars) IsLiteral
           (λ l inside. (inside.0, omega (arith, inside.1, store.few_vars))) clause simple.within;
       follows = follows;
+      relevant = relevant;
       fresh = λ some. elim (zero_or w.level) [
         | inl none ↦ absurd (some (none_left none))
         | inr one ↦ fresh one

@@ -1,6 +1,6 @@
 -- What the kept clauses say holds of the live ones; and the kept clauses with one more.
-use Rattle.std.proofs.Common.{inl, inr, ◌⊎◌, ◌≡◌, ◌==◌, ◌<◌, ◌≤◌, ℕ, zero, suc, ℤ, pos, negsuc, neg_ℤ, nat_abs, Bool, true, false, cond, not, List, [], ◌∷◌, length, Option, None, Some, slice_get, slice_index_or, get_or, Contains, All, refl, sym, ap, ◌∙◌, subst, arith}
-use Rattle.std.proofs.lemmas.Bool.{both_ways, cases_order, eqb-true}
+use Rattle.std.proofs.Common.{inl, inr, ◌⊎◌, ◌≡◌, ◌==◌, ◌<◌, ◌≤◌, ℕ, zero, suc, ℤ, pos, negsuc, neg_ℤ, nat_abs, Bool, true, false, cond, not, List, [], ◌∷◌, length, Option, None, Some, slice_get, slice_index_or, get_or, Contains, All, Any, refl, sym, ap, ◌∙◌, subst, arith}
+use Rattle.std.proofs.lemmas.Bool.{both_ways, cases_order, eq-eqb, eqb-true, ne_eqb}
 use Rattle.std.proofs.lemmas.List.{get_or_default}
 use Rattle.std.proofs.lemmas.List.Elements.{All-contains, All-weaker}
 use Rattle.std.proofs.lemmas.List.Folds.{Any-from_list_any}
@@ -10,9 +10,9 @@ use Rattle.sat_clause.specs.declared.reading.Reading.{Reading}
 use Rattle.sat_clause.specs.declared.reading.Reading.TheVariants.{Conflict, Unit, Satisfied, Unresolved}
 use Rattle.sat_clause.specs.Formula.{Cnf, IsTrueClause, Satisfies, makes_number_true, makes_true}
 use Rattle.sat_clause.specs.Literal.{Clause, IsWithin, is_among, negation, variable}
-use Rattle.sat_clause.specs.Learned.{IsFresh, IsSimple, SameLiterals}
+use Rattle.sat_clause.specs.Learned.{EachIsUsed, HintHas, IsFresh, IsRelevant, IsSimple, SameLiterals}
 use Rattle.sat_clause.specs.Live.{Live, clause_at, named, put}
-use Rattle.sat_clause.specs.Rup.{follow, lead_on, reading_of, rup}
+use Rattle.sat_clause.specs.Rup.{Reads, follow, lead_on, reading_of, rup}
 use Rattle.sat_clause.proofs.LiteralLaws.{among_contains, negation_differs, variable_negation}
 use Rattle.sat_core.specs.Kept.{AreAmong, AreBelow, AreKept, HasOnce, SameLive, is_always_true}
 use Rattle.sat_core.proofs.SameLaws.{same_back, same_conflict, same_then, same_unit}
@@ -122,6 +122,45 @@ module _ (kept live : Live) (are : AreAmong kept live) where
       by None is e more = cc
       by (Some c) is e more =
           let d = named_kept h c is in rw d.1 (said c d.0 d.2 (reading_of set c) refl e more)
+
+module _ (kept live : Live) (among : AreAmong kept live) where
+  unit_kept : (set : List Lit) (h : ℤ) (l : Lit) → Reads set (named kept h) (Unit l) →
+      Reads set (named live h) (Unit l)
+  unit_kept set h l reads = by (named kept h) refl reads
+    where
+      by : (o : Option Clause) → named kept h ≡ o → Reads set o (Unit l) →
+          Reads set (named live h) (Unit l)
+      by None is reads = absurd reads
+      by (Some c) is reads =
+          let d = named_kept kept live among h c is in rw d.1 (same_unit set l c d.0 d.2 reads)
+
+  has_kept : (l : Lit) (h : ℤ) → HintHas kept l h → HintHas live l h
+  has_kept l h has =
+      let d = named_kept kept live among h has.0 has.1 in
+      (d.0, d.1, All-contains (Contains d.0) has.0 l d.2.0 has.2)
+
+  some_kept : (l : Lit) (hints : List ℤ) → Any (HintHas kept l) hints → Any (HintHas live l) hints
+  some_kept l hints some = (some.0, some.1, some.2, some.3, has_kept l some.1 some.4)
+
+  used_kept : (set : List Lit) (hints : List ℤ) → EachIsUsed kept set hints →
+      EachIsUsed live set hints
+  used_kept set [] used = tt
+  used_kept set (h ∷ []) used = tt
+  used_kept set (h ∷ next ∷ hints) used = (
+    used.0,
+    unit_kept set h used.0 used.1,
+    some_kept (negation used.0) (next ∷ hints) used.2,
+    used_kept (negation used.0 ∷ set) (next ∷ hints) used.3,
+  )
+
+  -- and they are needed as much
+  pub relevant_kept : (clause : Clause) (hints : List ℤ) → IsRelevant kept clause hints →
+      IsRelevant live clause hints
+  relevant_kept clause hints relevant = record {
+    each_literal = All-weaker (λ l. Any (HintHas kept l) hints) (λ l. Any (HintHas live l) hints)
+        (λ l some. some_kept l hints some) clause relevant.each_literal;
+    each_hint = used_kept clause hints relevant.each_hint;
+  }
 
 module _ (kept live : Live) (are : AreKept kept live) where
   -- a clause into which no kept clause fits is new

@@ -20,7 +20,7 @@ use Rattle.sat_core.proofs.LevelLaws.{in_made_false, not_in_made_false, only_ent
 -- HINTS
 
 -- what is false behind the marked reasons
-abbrev known_by : Clause → List Assigned → List Bool → List Lit
+abbrev pub known_by : Clause → List Assigned → List Bool → List Lit
 known_by clause [] marks = clause
 known_by clause (e ∷ older) [] = clause
 known_by clause (e ∷ older) (true ∷ marks) = negation e.lit ∷ known_by clause older marks
@@ -96,12 +96,12 @@ pub marked_later : (x e : Assigned) (older : List Assigned) (mark : Bool) (marks
 marked_later x e older mark marks (k, at, is) = (suc k, at, is)
 
 module _ (live : Live) (none : clause_at live 0 ≡ None) (clause : Clause) where
-  named_is : (id : ℕ) (c : Clause) → clause_at live id ≡ Some c → named live (pos id) ≡ Some c
+  pub named_is : (id : ℕ) (c : Clause) → clause_at live id ≡ Some c → named live (pos id) ≡ Some c
   named_is zero c is = let bad : None ≡ Some c = sym none ∙ is in cc
   named_is (suc n) c is = is
 
   -- a marked reason makes its entry true behind the marked older ones
-  reason_reads : (older : List Assigned) (marks : List Bool) (e : Assigned) (id : ℕ) (c : Clause) →
+  pub reason_reads : (older : List Assigned) (marks : List Bool) (e : Assigned) (id : ℕ) (c : Clause) →
       IsOpen (lits_of older) e.lit → IsOpen clause e.lit → clause_at live id ≡ Some c →
       reading_of (made_false older) c ≡ Unit e.lit →
       All (λ m. (m ≡ e.lit) ⊎ IsAccounted clause older marks m) c →

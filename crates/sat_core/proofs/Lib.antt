@@ -15,6 +15,7 @@ pub mod LogLemmas
 pub mod MarksLaws
 pub mod ModelLemmas
 pub mod ReadingLemmas
+pub mod RelevantLaws
 pub mod SameLaws
 pub mod SearchLaws
 pub mod TrailPlaces

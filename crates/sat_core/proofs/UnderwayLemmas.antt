@@ -6,7 +6,7 @@ use Rattle.std.proofs.lemmas.List.{append-nil}
 use Rattle.std.proofs.lemmas.List.Elements.{All-nil, All-push}
 use Rattle.sat_clause.specs.Formula.{Cnf, Satisfies}
 use Rattle.sat_clause.specs.Judge.{Accepted, inputs, is_empty_clause, judge}
-use Rattle.sat_clause.specs.Learned.{IsFresh, IsSimple, LearnedNew, deletions}
+use Rattle.sat_clause.specs.Learned.{IsFresh, IsRelevant, IsSimple, LearnedNew, Relevant, deletions}
 use Rattle.sat_clause.specs.Literal.{Clause, IsWithin}
 use Rattle.sat_clause.specs.Live.{Live, put}
 use Rattle.sat_clause.specs.Rup.{rup}
@@ -20,7 +20,7 @@ use Rattle.sat_core.specs.SearchStore.{AreTrue, IsLesson, Learns, SameKept}
 use Rattle.sat_core.specs.Stands.{AreGood, IsOpenLog, SearchValue, StandsFor, live_after, next_id}
 use Rattle.sat_core.specs.Underway.{HasSearched, IsDone, IsUnderway}
 use Rattle.sat_core.proofs.EarlierLaw.{hints_are_earlier}
-use Rattle.sat_core.proofs.KeptLaws.{fresh_kept, kept_alike, kept_put, kept_same, model_kept, rup_kept}
+use Rattle.sat_core.proofs.KeptLaws.{fresh_kept, kept_alike, kept_put, kept_same, model_kept, relevant_kept, rup_kept}
 use Rattle.sat_core.proofs.LogLemmas.{added_count-push, deletions-push, each_added_push, ends_behind, good_accepted, good_behind, good_so_far, inputs_live, live_after-push, not_empty_step, numbered_push, spares_push, sparse_without}
 
 open_start : (formula : Cnf) → IsOpenLog formula []
@@ -29,6 +29,7 @@ open_start formula = record {
   none_empty = All-nil (λ (step : Step). is_empty_clause step ≡ false);
   numbered = tt;
   new = λ k id clause hints is. cc;
+  relevant = λ k id clause hints is. cc;
   spares = λ k id ids is. cc;
 }
 
@@ -70,6 +71,12 @@ module _ (search : SearchValue) (formula : Cnf) (log : List Step)
       rup_kept search.clauses (live_after formula log) on.stands.clauses.are_live clause hints
       lesson.follows
 
+  needed_hints : (clause : Clause) (hints : List ℤ) (back : ℕ) → IsLesson search clause hints back →
+      IsRelevant (live_after formula log) clause hints
+  needed_hints clause hints back lesson =
+      relevant_kept search.clauses (live_after formula log) on.stands.clauses.are_live clause hints
+      lesson.relevant
+
   open_next : (id : ℕ) (clause : Clause) (hints : List ℤ) (back : ℕ) → id ≡ next_id formula log →
       IsLesson search clause hints back →
       clause ≢ [] → IsOpenLog formula (log ++ Added id clause hints ∷ [])
@@ -88,6 +95,8 @@ module _ (search : SearchValue) (formula : Cnf) (log : List Step)
             on.open_log.numbered (omega (arith, is));
         new = each_added_push (λ live c h. c ≢ [] → IsSimple formula.vars c × IsFresh live c)
             formula log id clause hints on.open_log.new (λ _. (simple, fresh));
+        relevant = each_added_push IsRelevant formula log id clause hints on.open_log.relevant
+            (needed_hints clause hints back lesson);
         spares = spares_push (length formula.clauses) log id clause hints on.open_log.spares;
       }
 
@@ -134,6 +143,8 @@ module _ (search : SearchValue) (formula : Cnf) (log : List Step)
     last = rw (is ∙ next_is, none) refl;
     good = subst (λ (c : Clause). rup (live_after formula log) c hints ≡ None) none
         (good_hints clause hints back lesson);
+    relevant = subst (λ (c : Clause). IsRelevant (live_after formula log) c hints) none
+        (needed_hints clause hints back lesson);
   }
 
   -- values that make the kept clauses true satisfy the formula
@@ -148,9 +159,10 @@ module _ (search : SearchValue) (formula : Cnf) (log : List Step)
       AreGood (inputs formula) (log ++ more) → AreNumbered (suc (length formula.clauses))
       (log ++ more) →
       EndsAtEmpty more → deletions (log ++ more) ≡ 0 → LearnedNew formula (log ++ more) →
+      Relevant formula (log ++ more) →
       added_count (log ++ more) ≤ budget → IfOk result (IsAnswer formula budget (log ++ more)) →
       HasSearched formula budget (log ++ more) result
-  searched_behind more budget result good numbered ends none new few answer = record {
+  searched_behind more budget result good numbered ends none new relevant few answer = record {
     answer = answer;
     logged = record {
       good = good_so_far 1 (inputs formula) (log ++ more) good;
@@ -158,6 +170,7 @@ module _ (search : SearchValue) (formula : Cnf) (log : List Step)
       numbered = numbered;
       earlier = hints_are_earlier formula (log ++ more) good numbered;
       new = new;
+      relevant = relevant;
       sparse = sparse_without (log ++ more) none;
     };
     within = few;
@@ -171,6 +184,7 @@ module _ (search : SearchValue) (formula : Cnf) (log : List Step)
       subst (λ (l : List Step). HasSearched formula budget l result) same
       (searched_behind [] budget result (rw same on.open_log.good) (rw same on.open_log.numbered) tt
       (rw same on.none_deleted) (subst (LearnedNew formula) (sym same) on.open_log.new)
+      (subst (Relevant formula) (sym same) on.open_log.relevant)
       (rw same few)
       (subst (λ (l : List Step). IfOk result (IsAnswer formula budget l)) (sym same) answer))
 
@@ -195,6 +209,7 @@ module _ (search : SearchValue) (formula : Cnf) (log : List Step)
       (λ _. refl, tt) (deletions-push log id [] done.hints ∙ on.none_deleted)
       (each_added_push (λ live c h. c ≢ [] → IsSimple formula.vars c × IsFresh live c) formula log
       id [] done.hints on.open_log.new (λ some. absurd (some refl)))
+      (each_added_push IsRelevant formula log id [] done.hints on.open_log.relevant done.relevant)
       within
       (record {
         accepts = accepts;

@@ -1,6 +1,6 @@
 -- A trail by levels: what is false at a level, where clauses are settled there, why each entry
 -- stands, and what follows where a clause is false.
-use Rattle.std.specs.Prelude.{◌≡◌, ◌⊎◌, ℕ, suc, ◌<◌, ◌≤◌, nat_le, ℤ, pos, ⊤, Bool, true, false, List, [], ◌∷◌, ◌++◌, filter, map, slice_get, Option, None, Some, All, Contains}
+use Rattle.std.specs.Prelude.{◌≡◌, ◌⊎◌, ℕ, suc, ◌<◌, ◌≤◌, nat_le, ℤ, pos, ⊤, Bool, true, false, List, [], ◌∷◌, ◌++◌, filter, map, slice_get, take, Option, None, Some, All, Contains}
 use Rattle.sat_clause.specs.declared.literal.Lit.{Lit}
 use Rattle.sat_clause.specs.declared.reading.Reading.TheVariants.{Unit}
 use Rattle.sat_clause.specs.Literal.{Clause, IsWithin, negation}
@@ -137,3 +137,17 @@ pub record IsDerived
   pub ends : All (IsAccounted clause trail marks) conflict
   pub accounted : AreAccounted clauses clause trail marks
   pub apart : (e : Assigned) → IsMarked trail marks e → IsOpen clause e.lit
+
+-- the reason of a marked one of these entries has the literal
+abbrev pub StandsInReason : Live → List Assigned → List Bool → Lit → Type 0
+StandsInReason clauses newer marks l =
+    (e : Assigned) × (id : ℕ) × (c : Clause) × IsMarked newer marks e × (e.reason ≡ Some id)
+    × (clause_at clauses id ≡ Some c) × Contains c l
+
+-- the negation of each marked entry stands in the false clause, or in the reason of a newer marked
+-- entry
+abbrev pub AreNeeded : Live → Clause → List Assigned → List Bool → Type 0
+AreNeeded clauses conflict trail marks = (k : ℕ) (e : Assigned) → slice_get trail k ≡ Some e →
+    slice_get marks k ≡ Some true →
+    Contains conflict (negation e.lit)
+    ⊎ StandsInReason clauses (take k trail) (take k marks) (negation e.lit)

@@ -2,7 +2,7 @@
 use Rattle.std.specs.Prelude.{◌≡◌, ℕ, suc, ◌<◌, ◌≤◌, ℤ, pos, true, ⊤, List, [], ◌∷◌, length, slice_get, All, Some}
 use Rattle.sat_clause.specs.Formula.{Cnf}
 use Rattle.sat_clause.specs.Judge.{IsGoodSoFar, is_empty_clause}
-use Rattle.sat_clause.specs.Learned.{LearnedNew, Sparse}
+use Rattle.sat_clause.specs.Learned.{LearnedNew, Relevant, Sparse}
 use Rattle.sat_clause.specs.Literal.{Clause}
 use Rattle.sat_clause.specs.Step.{Step, Added, Erased}
 
@@ -36,11 +36,13 @@ HintsAreEarlier log = (k id : ℕ) (clause : Clause) (hints : List ℤ) →
     slice_get log k ≡ Some (Added id clause hints) → All (IsEarlier id) hints
 
 -- no step is refused, and an empty clause ends the log; the added clauses are numbered behind the
--- inputs and follow from earlier ones, each of them is new, and few steps delete clauses
+-- inputs and follow from earlier ones by hints that they need, each of them is new, and few steps
+-- delete clauses
 pub record IsSearchLog (formula : Cnf) (log : List Step) : Type 0 where
   pub good : IsGoodSoFar formula log
   pub ends : EndsAtEmpty log
   pub numbered : AreNumbered (suc (length formula.clauses)) log
   pub earlier : HintsAreEarlier log
   pub new : LearnedNew formula log
+  pub relevant : Relevant formula log
   pub sparse : Sparse log

@@ -5,7 +5,7 @@ use Rattle.sat_clause.specs.declared.limits.TheConstants.{ID_LIMIT, VARIABLE_LIM
 use Rattle.sat_clause.specs.declared.reading.Reading.{Reading}
 use Rattle.sat_clause.specs.declared.reading.Reading.TheVariants.{Conflict}
 use Rattle.sat_clause.specs.Formula.{IsTrueClause}
-use Rattle.sat_clause.specs.Learned.{IsFresh, IsSimple, SameLiterals}
+use Rattle.sat_clause.specs.Learned.{IsFresh, IsRelevant, IsSimple, SameLiterals}
 use Rattle.sat_clause.specs.Literal.{Clause, IsLiteral, IsWithin}
 use Rattle.sat_clause.specs.Live.{Live, clause_at, put}
 use Rattle.sat_clause.specs.Rup.{Reads, rup}
@@ -126,7 +126,7 @@ HasDerivation search clause hints = (id : ℕ) × (conflict : Clause) × (marks 
     × IsDerived search.clauses search.trail conflict clause marks
 
 -- at level 0 the clause is empty, and else it is asserting, with the way back to the highest level
--- of its other literals; it is derived, the hints justify it, and it is new
+-- of its other literals; it is derived, the hints justify it and are needed, and it is new
 pub record IsLesson (search : SearchValue) (clause : Clause) (hints : List ℤ) (back : ℕ) : Type 0
   where
     pub none : level_of search.trail ≡ 0 → clause ≡ []
@@ -135,6 +135,7 @@ pub record IsLesson (search : SearchValue) (clause : Clause) (hints : List ℤ) 
     pub simple : IsSimple search.vars clause
     pub literals : All IsLiteral clause
     pub follows : rup search.clauses clause hints ≡ None
+    pub relevant : IsRelevant search.clauses clause hints
     pub fresh : clause ≢ [] → IsFresh search.clauses clause
     pub trail : IsSettledTrail search.clauses search.vars search.trail
 

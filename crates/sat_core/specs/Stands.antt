@@ -2,7 +2,7 @@
 use Rattle.std.specs.Prelude.{◌≡◌, ℕ, suc, ◌+◌, ◌<◌, ℤ, pos, false, ⊤, List, [], ◌∷◌, length, fold, All, None}
 use Rattle.sat_clause.specs.Formula.{Cnf}
 use Rattle.sat_clause.specs.Judge.{after, fault, inputs, is_empty_clause}
-use Rattle.sat_clause.specs.Learned.{EachErased, LearnedNew}
+use Rattle.sat_clause.specs.Learned.{EachErased, LearnedNew, Relevant}
 use Rattle.sat_clause.specs.Live.{Live}
 use Rattle.sat_clause.specs.Step.{Step}
 use Rattle.sat_core.specs.Kept.{AreKept}
@@ -53,4 +53,5 @@ pub record IsOpenLog (formula : Cnf) (log : List Step) : Type 0 where
   pub none_empty : All (λ step. is_empty_clause step ≡ false) log
   pub numbered : AreNumbered (suc (length formula.clauses)) log
   pub new : LearnedNew formula log
+  pub relevant : Relevant formula log
   pub spares : SparesInputs (length formula.clauses) log

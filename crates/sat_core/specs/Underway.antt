@@ -3,7 +3,7 @@ use Rattle.std.specs.Prelude.{◌≡◌, ℕ, suc, ◌≤◌, ℤ, List, [], ◌
 use Rattle.std.specs.declared.alloc.AllocError.{AllocError}
 use Rattle.sat_clause.specs.Formula.{Cnf, Satisfies}
 use Rattle.sat_clause.specs.Judge.{fault}
-use Rattle.sat_clause.specs.Learned.{deletions}
+use Rattle.sat_clause.specs.Learned.{IsRelevant, deletions}
 use Rattle.sat_clause.specs.Literal.{IsWithin}
 use Rattle.sat_clause.specs.Step.{Step, Added}
 use Rattle.sat_core.specs.Answer.{IsAnswer}
@@ -21,11 +21,12 @@ pub record IsUnderway (search : SearchValue) (formula : Cnf) (log : List Step) :
   pub open_log : IsOpenLog formula log
   pub none_deleted : deletions log ≡ 0
 
--- a good step more that adds the empty clause
+-- a good step more that adds the empty clause, by hints that it needs
 pub record IsDone (formula : Cnf) (before log : List Step) : Type 0 where
   pub hints : List ℤ
   pub last : log ≡ before ++ Added (next_id formula before) [] hints ∷ []
   pub good : fault (live_after formula before) (Added (next_id formula before) [] hints) ≡ None
+  pub relevant : IsRelevant (live_after formula before) [] hints
 
 -- what a turn says: one more clause is learned, or values satisfy the formula, or it is refuted
 abbrev pub IsTurn : SearchValue → Cnf → (before now : List Step) → Turn → Type 0

@@ -35,7 +35,7 @@ fn search_for_values(
 }
 
 /// Searches for values that satisfy a formula, and logs each clause that it learns with the clauses
-/// that it follows from.
+/// that it follows from, each of which is needed.
 ///
 /// It ends at the latest where it has learned as many clauses as the budget allows, the empty
 /// clause among them. The log starts without steps, and an empty clause ends it. Its added clauses
