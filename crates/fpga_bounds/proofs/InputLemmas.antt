@@ -31,7 +31,8 @@ any-both p q fact [] each = sym (and_false fact)
     and_false : (b : Bool) → (b && false) ≡ false
     and_false true = refl
     and_false false = refl
-any-both p q fact (x ∷ xs) each = rw (each x, any-both p q fact xs each) (go fact (q x) (list_any q xs))
+any-both p q fact (x ∷ xs) each =
+    rw (each x, any-both p q fact xs each) (go fact (q x) (list_any q xs))
   where
     go : (f a b : Bool) → (f && a || f && b) ≡ (f && (a || b))
     go true a b = refl
@@ -46,8 +47,10 @@ module _ (arch : Arch) (x y number : ℕ) where
   tested label placed = x == placed.1.x && y == placed.1.y
       && takes_in arch placed.0.kind placed.1.sub label number
 
-  at_block : (kind : BlockKind) (at : Place) → (x == at.x && y == at.y && takes_in arch kind at.sub Pin number)
-      ≡ (is_ordinary_input arch number && (ends_nets kind && same_spot (BlockAt x y) (spot_of kind at)))
+  at_block : (kind : BlockKind) (at : Place)
+      → (x == at.x && y == at.y && takes_in arch kind at.sub Pin number)
+      ≡ (is_ordinary_input arch number && (ends_nets kind
+      && same_spot (BlockAt x y) (spot_of kind at)))
   at_block Logic at = and_swap (x == at.x && y == at.y) (is_ordinary_input arch number)
     where
       and_swap : (a b : Bool) → (a && b) ≡ (b && a)
@@ -74,13 +77,15 @@ module _ (arch : Arch) (x y number : ℕ) where
   false_and true = refl
   false_and false = refl
 
-  at_pad : (kind : BlockKind) (at : Place) → (x == at.x && y == at.y && takes_in arch kind at.sub Pad number)
+  at_pad : (kind : BlockKind) (at : Place)
+      → (x == at.x && y == at.y && takes_in arch kind at.sub Pad number)
       ≡ (ends_nets kind && same_spot (PadAt x y number) (spot_of kind at))
   at_pad Logic at = false_and (x == at.x && y == at.y)
   at_pad Input at = false_and (x == at.x && y == at.y)
   at_pad Output at = ap (λ b. x == at.x && y == at.y && b) (equal-swap at.sub number)
 
-  at_other : (kind : BlockKind) (at : Place) → ((x == at.x && y == at.y && takes_in arch kind at.sub Class number) ≡ false)
+  at_other : (kind : BlockKind) (at : Place)
+      → ((x == at.x && y == at.y && takes_in arch kind at.sub Class number) ≡ false)
       × ((x == at.x && y == at.y && takes_in arch kind at.sub Track number) ≡ false)
   at_other Logic at = (false_and (x == at.x && y == at.y), false_and (x == at.x && y == at.y))
   at_other Input at = (false_and (x == at.x && y == at.y), false_and (x == at.x && y == at.y))
@@ -88,20 +93,24 @@ module _ (arch : Arch) (x y number : ℕ) where
 
   -- the pin line is at an input of one of the blocks
   input-found : (label : Label) (placed : List (Block × Place))
-      → option_map_or (λ spot. list_any (ends_nets_at spot) placed) (said_input arch x y label number) false
+      → option_map_or (λ spot. list_any (ends_nets_at spot) placed) (said_input arch x y label
+      number) false
       ≡ list_any (tested label) placed
   input-found Pin placed =
       pick (is_ordinary_input arch number)
-      ∙ sym (any-both (tested Pin) (ends_nets_at (BlockAt x y)) (is_ordinary_input arch number) placed
+      ∙ sym (any-both (tested Pin) (ends_nets_at (BlockAt x y)) (is_ordinary_input arch number)
+      placed
       (λ b. at_block b.0.kind b.1))
     where
       pick : (b : Bool)
-          → option_map_or (λ spot. list_any (ends_nets_at spot) placed) (if b then Some (BlockAt x y) else None) false
+          → option_map_or (λ spot. list_any (ends_nets_at spot) placed) (if b then Some (BlockAt x
+          y) else None) false
           ≡ (b && list_any (ends_nets_at (BlockAt x y)) placed)
       pick true = refl
       pick false = refl
   input-found Pad placed =
-      sym (any-both (tested Pad) (ends_nets_at (PadAt x y number)) true placed (λ b. at_pad b.0.kind b.1))
+      sym (any-both (tested Pad) (ends_nets_at (PadAt x y number)) true placed (λ b. at_pad
+      b.0.kind b.1))
   input-found Class placed = sym (none (tested Class) placed (λ b. (at_other b.0.kind b.1).0))
   input-found Track placed = sym (none (tested Track) placed (λ b. (at_other b.0.kind b.1).1))
 
@@ -113,7 +122,8 @@ no-input arch e placed unsaid =
     ∙ input-found arch e.x e.y e.number e.label placed
 
 -- a line that says one is at it where nets end there
-pub at-input : (arch : Arch) (e : Elem) (spots : BTreeSet Spot) (placed : List (Block × Place)) (spot : Spot)
+pub at-input : (arch : Arch) (e : Elem) (spots : BTreeSet Spot) (placed : List (Block × Place))
+    (spot : Spot)
     → HasInputs spots placed → said_input arch e.x e.y e.label e.number ≡ Some spot
     → contains spot_cmp spots spot ≡ list_any (is_input_of arch e) placed
 at-input arch e spots placed spot has said =
@@ -130,15 +140,18 @@ zip-there (a ∷ xs) (b ∷ ys) zero x y h g =
 zip-there (a ∷ xs) (b ∷ ys) (suc i) x y h g = zip-there xs ys i x y h g
 
 -- one block more
-pub inputs-more : (blocks : List Block) (places : List Place) (i : ℕ) (block : Block) (place : Place)
-    (before after : BTreeSet Spot) → slice_get blocks i ≡ Some block → slice_get places i ≡ Some place
+pub inputs-more : (blocks : List Block) (places : List Place) (i : ℕ) (block : Block) (place :
+    Place)
+    (before after : BTreeSet Spot) → slice_get blocks i ≡ Some block
+    → slice_get places i ≡ Some place
     → GainsInput before (block, place) after → HasInputs before (take i (zip blocks places))
     → HasInputs after (take (i + 1) (zip blocks places))
 inputs-more blocks places i block place before after here there gains has spot =
     gains spot ∙ ap (λ b. b || ends_nets_at spot (block, place)) (has spot)
     ∙ rw (
       add-one,
-      take-get (zip blocks places) i (block, place) (zip-there blocks places i block place here there),
+      take-get (zip blocks places) i (block, place) (zip-there blocks places i block place here
+          there),
       list_any-append (ends_nets_at spot) (take i (zip blocks places)) ((block, place) ∷ []),
       or-false (ends_nets_at spot (block, place)),
     ) refl

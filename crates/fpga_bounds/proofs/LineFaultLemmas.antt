@@ -24,7 +24,8 @@ use Rattle.fpga_bounds.specs.declared.elem_context.ElemContext.{ElemContext}
 use Rattle.fpga_bounds.specs.declared.keys.ElemKey.{ElemKey}
 use Rattle.fpga_bounds.proofs.EndLemmas.{lacks-lines}
 
-module _ (at : ElemContext) (seen : BTreeSet ElemKey) (line : RouteLine) (is : IsLineOf at seen line) where
+module _ (at : ElemContext) (seen : BTreeSet ElemKey) (line : RouteLine) (is : IsLineOf at seen
+    line) where
   number : at.elem.line ≡ line_number line
   number = λ i. option_map_or (λ (e : Elem). e.line) (sym is.elem i) line.net.line
 

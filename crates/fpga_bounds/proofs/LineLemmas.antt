@@ -209,7 +209,8 @@ passes grid n at clean =
     (slots_past at)
     refl refl refl clean
   where
-    go : (a b c d e : Bool) (o : Option ℕ) → leaps grid at ≡ a → is_out_of_order at ≡ e → slots_past at ≡ o
+    go : (a b c d e : Bool) (o : Option ℕ) → leaps grid at ≡ a → is_out_of_order at ≡ e
+        → slots_past at ≡ o
         → (if a then Some (Bad n 510) else if b then Some (Bad n 511) else if c then Some
         (Bad n 512)
         else if d then Some (Bad n 513) else if e then Some (Bad n 514)
@@ -218,7 +219,8 @@ passes grid n at clean =
     go false true c d e o p r q f = absurd (let clash : Some (Bad n 511) ≡ None = f in cc)
     go false false true d e o p r q f = absurd (let clash : Some (Bad n 512) ≡ None = f in cc)
     go false false false true e o p r q f = absurd (let clash : Some (Bad n 513) ≡ None = f in cc)
-    go false false false false true o p r q f = absurd (let clash : Some (Bad n 514) ≡ None = f in cc)
+    go false false false false true o p r q f = absurd (let clash : Some (Bad n 514)
+        ≡ None = f in cc)
     go false false false false false (Some m) p r q f =
         absurd (let clash : Some (Limit 515 m) ≡ None = f in cc)
     go false false false false false None p r q f = record { leaps = p; ordered = r; past = q }

@@ -1,4 +1,5 @@
--- The pin steps of a problem that fits: their slots are slots of the route, and their pins touch the
+-- The pin steps of a problem that fits: their slots are slots of the route, and their pins touch
+-- the
 -- cells of these.
 use Rattle.std.proofs.Common.{◌≡◌, ◌⊎◌, ℕ, suc, ◌<◌, Bool, true, false, Option, Some, None, List, length, take, drop, inl, inr, refl, sym, subst, arith}
 use Rattle.std.specs.Prelude.{◌&&◌, ◌||◌, All, not, filter_map, slice_get, if◌then◌else◌}
@@ -85,7 +86,8 @@ module _ (device : Device) (a b : Elem) (pin : PinAt) (cell : Cell) where
   not_false false e = absurd (false≢true (sym e))
 
   -- a pin and then a channel
-  forward : (first second : ElemKind) → tested device a b first second ≡ false → may_follow first second ≡ true
+  forward : (first second : ElemKind) → tested device a b first second ≡ false
+      → may_follow first second ≡ true
       → pin_at first a ≡ Some pin → channel_at second b.x b.y ≡ Some cell
       → touches device.arch device.grid pin cell ≡ true
   forward Source second t f p q = cc
@@ -187,7 +189,8 @@ module _ (p : RoutingProblem) (fits : Fits p) (given : IsGiven p) where
       go true is sound =
           absurd (let clash : None ≡ Some e = rw (sound.global_elems is) at there in cc)
 
-  module _ (n : ℕ) (net : RouteNet) (i : ℕ) (a b : Elem) (here : slice_get p.route.nets n ≡ Some net)
+  module _ (n : ℕ) (net : RouteNet) (i : ℕ) (a b : Elem) (here : slice_get p.route.nets n
+      ≡ Some net)
       (at_a : slice_get net.elems i ≡ Some a) (at_b : slice_get net.elems (suc i) ≡ Some b) where
     parts : (problem_fault p (elem_line (take n p.route.nets) net (suc i) b) ≡ None)
         × (line_fault p.route.grid (elem_line (take n p.route.nets) net (suc i) b) ≡ None)

@@ -65,7 +65,8 @@ module _ {B : Type 0} (P : B → Type 0) where
       at rest zero d below = h.0
       at rest (suc k) d below = rest k d (omega (arith, below))
 
-pub adjacent-there : {T : Type 0} (xs : List T) (k : ℕ) (p : T × T) → slice_get (adjacent xs) k ≡ Some p
+pub adjacent-there : {T : Type 0} (xs : List T) (k : ℕ) (p : T × T)
+    → slice_get (adjacent xs) k ≡ Some p
     → (slice_get xs k ≡ Some p.0) × (slice_get xs (suc k) ≡ Some p.1)
 adjacent-there [] k p h = cc
 adjacent-there (x ∷ []) k p h = cc

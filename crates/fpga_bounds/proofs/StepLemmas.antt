@@ -94,9 +94,11 @@ nets-more f nets n net found here below is =
     ) refl)
 
 -- what a loop has found of neighbours, with one element more
-pub neighbours-more : {B : Type 0} (f : Elem × Elem → Option B) (elems : List Elem) (i : ℕ) (e : Elem)
+pub neighbours-more : {B : Type 0} (f : Elem × Elem
+    → Option B) (elems : List Elem) (i : ℕ) (e : Elem)
     (start found new : List B) (previous : Option Elem) → slice_get elems i ≡ Some e
-    → found ≡ start ++ filter_map f (adjacent (take i elems)) → previous ≡ last_or None (take i elems)
+    → found ≡ start ++ filter_map f (adjacent (take i elems))
+    → previous ≡ last_or None (take i elems)
     → new ≡ found ++ option_to_list (option_and_then (λ other. f (other, e)) previous)
     → new ≡ start ++ filter_map f (adjacent (take (i + 1) elems))
 neighbours-more f elems i e start found new previous here so_far before is =

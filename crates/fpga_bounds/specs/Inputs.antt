@@ -29,7 +29,8 @@ ends_nets Input = false
 
 -- nets may end at the block, and it stands on this spot
 abbrev pub ends_nets_at : Spot → Block × Place → Bool
-ends_nets_at spot placed = ends_nets placed.0.kind && same_spot spot (spot_of placed.0.kind placed.1)
+ends_nets_at spot placed = ends_nets placed.0.kind
+    && same_spot spot (spot_of placed.0.kind placed.1)
 
 -- the set has exactly the spots of the blocks at which nets may end
 abbrev pub HasInputs : BTreeSet Spot → List (Block × Place) → Type 0

@@ -1,4 +1,5 @@
--- A routing problem that is set up to be solved: its four values fit, and its pin steps are at hand.
+-- A routing problem that is set up to be solved: its four values fit, and its pin steps are at
+-- hand.
 use Rattle.std.specs.Prelude.{◌≡◌, ◌<◌, ◌≤◌, List, length}
 use Rattle.fpga_types.specs.Fits.{Fits}
 use Rattle.fpga_types.specs.Given.{IsGiven}

@@ -1,5 +1,5 @@
-//! Whether a global route fits its array, and with it an architecture, a netlist and a placement; and
-//! the slots, steps and pin steps of one that does.
+//! Whether a global route fits its array, and with it an architecture, a netlist and a placement;
+//! and the slots, steps and pin steps of one that does.
 #![tactic(auto)]
 
 mod copy;

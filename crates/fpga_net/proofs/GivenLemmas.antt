@@ -35,7 +35,10 @@ module _ (arch : Arch) (netlist : Netlist) (sound : IsSound arch netlist) where
   netlist-given = record {
     blocks = λ k d below.
         let block = sound.blocks k d below in
-        record { pins = block.pins ∙ count arch (get_or netlist.blocks k d).kind; nets = block.nets };
+        record {
+          pins = block.pins ∙ count arch (get_or netlist.blocks k d).kind;
+          nets = block.nets;
+        };
     nets = λ k d below.
         let net : Net = get_or netlist.nets k d in
         let at = sound.nets k net (get-there netlist.nets k net d below refl) in
@@ -48,7 +51,8 @@ module _ (arch : Arch) (netlist : Netlist) (sound : IsSound arch netlist) where
   own-names : HaveOwnNames netlist.blocks
   own-names i j d below within same =
       sound.block_names i j d.name below (rw length-map within)
-      (get_or-map (λ (b : Block). b.name) netlist.blocks i d ∙ same ∙ sym (get_or-map (λ (b : Block). b.name) netlist.blocks j d))
+      (get_or-map (λ (b : Block). b.name) netlist.blocks i d ∙ same
+      ∙ sym (get_or-map (λ (b : Block). b.name) netlist.blocks j d))
 
   -- with a placement and a route that were read
   pub readers-give : (placement : Placement) (route : RouteText)

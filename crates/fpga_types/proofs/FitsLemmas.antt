@@ -1,4 +1,5 @@
--- A problem that fits has no fault at any line, so its route fits by itself; and each value that the
+-- A problem that fits has no fault at any line, so its route fits by itself; and each value that
+-- the
 -- readers give is one that may be fitted.
 use Rattle.std.proofs.Common.{◌≡◌, List, [], ◌∷◌, ◌++◌, Option, None, inl, inr, refl, sym, ap, ◌∙◌}
 use Rattle.std.specs.Prelude.{map}

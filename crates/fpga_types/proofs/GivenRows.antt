@@ -127,7 +127,8 @@ sound_elem e h =
     let parts = both_true (takes e.kind e.label) (has_place two_by_one e.kind e.x e.y) h in
     record { label = parts.0; place = parts.1 }
 
-sound_net : (net : RouteNet) → net.global ≡ false → net.kept ≡ [] → list_all is_sound_elem net.elems ≡ true
+sound_net : (net : RouteNet) → net.global ≡ false → net.kept ≡ []
+    → list_all is_sound_elem net.elems ≡ true
     → IsSoundNet two_by_one net
 sound_net net ordinary kept sound = record {
   elems = by_test (IsSoundElem two_by_one) is_sound_elem sound_elem net.elems sound;

@@ -47,7 +47,8 @@ add_slot-requires c = record {
       let e : Elem = get_or elems i NO_ELEM in
       let lt : i < length elems = omega arith in
       let here : slice_get elems i ≡ Some e = get-there elems i e NO_ELEM lt refl in
-      let there : slice_get c.args.net.now.elems i ≡ Some e = rw (← c.as_slice-elems.ensures) here in
+      let there : slice_get c.args.net.now.elems i
+      ≡ Some e = rw (← c.as_slice-elems.ensures) here in
       let fault = c.line_fault.ensures
       (elem_line c.args.earlier.now c.args.net.now i e) c.requires.ends
       (line-of c.args.earlier.now c.args.net.now elems i c.loop-i.slots c.loop-i.previous

@@ -14,7 +14,10 @@ returns-then-is_missing c = λ lines has.
     let net : Net = c.net-item.result in
     let is : net ≡ get_or names i net = c.net-item.is
     ∙ ap (λ (nets : List Net). get_or nets i net) c.loop-net.invariant.items in
-    let within : i < length names = omega (arith, ap (length {A = Net}) c.loop-net.invariant.items) in
+    let within : i < length names = omega (
+      arith,
+      ap (length {A = Net}) c.loop-net.invariant.items,
+    ) in
     let named : is_some (number_named names net.name) ≡ true =
     ap (λ (n : Net). is_some (number_named names n.name)) is ∙ has-number names i net within in
     sym (c.loop-net.invariant.ahead lines has ∙ any-next (lacks_line lines) names i net within is
@@ -30,7 +33,10 @@ loop-net-preserved c = record {
       let net : Net = c.net-item.result in
       let is : net ≡ get_or names i net = c.net-item.is
       ∙ ap (λ (nets : List Net). get_or nets i net) c.loop-net.invariant.items in
-      let within : i < length names = omega (arith, ap (length {A = Net}) c.loop-net.invariant.items) in
+      let within : i < length names = omega (
+        arith,
+        ap (length {A = Net}) c.loop-net.invariant.items,
+      ) in
       let named : is_some (number_named names net.name) ≡ true =
       ap (λ (n : Net). is_some (number_named names n.name)) is ∙ has-number names i net within in
       c.loop-net.invariant.ahead lines has ∙ any-next (lacks_line lines) names i net within is

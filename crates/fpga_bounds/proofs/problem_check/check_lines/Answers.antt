@@ -14,7 +14,8 @@ returns-in-Err c = refused-nets c.args.design.now c.in-Err.fault c.in-Err.ensure
 pub returns-then-lacks_net : goal.returns-then-lacks_net
 returns-then-lacks_net c =
     subst (λ (fault : TextFault). IsRefusal (line_faults c.args.design.now) fault)
-    (ap (λ (p : RoutingProblem). Bad (p.route.lines + 1) 502) (sym c.design.view_is) ∙ sym c.at.ensures)
+    (ap (λ (p : RoutingProblem). Bad (p.route.lines + 1) 502) (sym c.design.view_is)
+    ∙ sym c.at.ensures)
     (refused-end c.args.design.now c.in-Ok.ensures.answers.0
     (ap (list_any (lacks_line c.args.design.now.route.nets)) (sym c.requires.names)
     ∙ sym (c.lacks_net.ensures c.args.design.now.route.nets c.in-Ok.ensures.marked)

@@ -41,7 +41,8 @@ pub returns : goal.returns
 returns c =
     let nets : List RouteNet = c.as_slice-nets.result.now in
     let end : c.loop-n.n ≡ length nets = omega arith in (
-      subst (λ (all : List RouteNet). IsFaultless (nets_faults (line_fault c.args.route.now.grid) all 0))
+      subst (λ (all : List RouteNet). IsFaultless (nets_faults (line_fault c.args.route.now.grid)
+          all 0))
           c.as_slice-nets.ensures
           (c.loop-n.invariant.past ∙ ap first_fault
           (nets-none (line_fault c.args.route.now.grid) nets c.loop-n.n

@@ -13,7 +13,8 @@ loop-n-preserved c =
     let here : slice_get nets c.loop-n.n ≡ Some c.index-nets-n.result =
     slice_get_read nets (length nets) c.loop-n.n c.index-nets-n.result refl below
     c.index-nets-n.is in
-    nets-more (λ m. net_steps c.args.table.now m.0 m.1.elems) nets c.loop-n.n c.index-nets-n.result _ here below
+    nets-more (λ m. net_steps c.args.table.now m.0 m.1.elems) nets c.loop-n.n
+    c.index-nets-n.result _ here below
     (c.in_ok-add_steps.ensures ∙ rw (
       c.loop-n.invariant,
       c.as_slice.ensures,
