@@ -6,7 +6,7 @@ use fpga_text::TextFault;
 use std::alloc::{AllocError, Global};
 
 /// The line that the four texts are answered by, where the route is this one.
-pub fn answer(alloc: Global, texts: &Texts, route: &[u8]) -> Result<String, AllocError> {
+pub(crate) fn answer(alloc: Global, texts: &Texts, route: &[u8]) -> Result<String, AllocError> {
     let arch = texts.arch.as_bytes();
     let net = texts.net.as_bytes();
     let place = texts.place.as_bytes();

@@ -5,7 +5,7 @@ use std::alloc::Global;
 
 /// The route as a row has it: the number of a line, counted from 1, and what stands there in its
 /// place. At `end` the route ends before that line.
-pub fn changed_route(alloc: Global, route: &str, row: &str) -> Result<String, RowsError> {
+pub(crate) fn changed_route(alloc: Global, route: &str, row: &str) -> Result<String, RowsError> {
     let (word, text) = row.split_once(' ').unwrap_or((row, ""));
     let number = whole_number(word.as_bytes()).unwrap_or(0);
     let mut changed = String::new(alloc);

@@ -5,8 +5,9 @@ use std::io;
 use std::str::Utf8Error;
 use thiserror::Error;
 
+/// Why the rows are not gone through to the end.
 #[derive(Debug, Drop, Error)]
-pub enum RowsError {
+pub(crate) enum RowsError {
     #[error(transparent)]
     File(#[from] ReadStop),
     #[error(transparent)]

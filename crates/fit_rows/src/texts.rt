@@ -7,18 +7,18 @@ use std::str;
 
 /// The text of each file.
 #[derive(Drop)]
-pub struct Texts {
-    pub arch: String,
-    pub net: String,
-    pub place: String,
-    pub route: String,
+pub(crate) struct Texts {
+    pub(crate) arch: String,
+    pub(crate) net: String,
+    pub(crate) place: String,
+    pub(crate) route: String,
 }
 
 // No file is longer.
 const LIMIT: u64 = 1 << 26;
 
 /// The text of the file with this name.
-pub fn text<R: Files>(rt: &R, alloc: Global, name: &str) -> Result<String, RowsError> {
+pub(crate) fn text<R: Files>(rt: &R, alloc: Global, name: &str) -> Result<String, RowsError> {
     let bytes = read_file(alloc, &mut FileDesk::new(rt), name, LIMIT)?;
     let text = str::from_utf8(&bytes)?;
     Ok(String::from_str(alloc, text)?)
