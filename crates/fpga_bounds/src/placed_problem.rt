@@ -171,6 +171,7 @@ impl PlacedProblem {
     pub fn slots(&self) -> &[Slot]
         ensures value { result.now ≡ slots self.now.route }
         ensures limit { length result.now ≤ SLOT_LIMIT }
+        ensures fits { Fits self.now }
     {
         self.routed.slots()
     }

@@ -117,7 +117,7 @@ rows-two {B} f a (suc n) k others first second = elim (cases_eq a k) [
 ]
 
 -- one number more at the end of a range
-range-push : (a n : ℕ) → range_with_len a (suc n) ≡ range_with_len a n ++ (a + n) ∷ []
+pub range-push : (a n : ℕ) → range_with_len a (suc n) ≡ range_with_len a n ++ (a + n) ∷ []
 range-push a zero = let e : a ≡ a + 0 = omega arith in λ i. e i ∷ []
 range-push a (suc n) =
     let e : a + 1 + n ≡ a + suc n = omega arith in

@@ -1,15 +1,19 @@
 //! The graph of the wires of an array at a width.
-ghost use Rattle.std.specs.Prelude.{◌≡◌, ◌≤◌, ◌++◌, IfOk, OnOk, filter_map};
+ghost use Rattle.std.specs.Prelude.{◌≡◌, ◌≤◌, ◌++◌, ℕ, false, IfOk, IfSome, OnOk, filter_map, slice_index_or};
 ghost use Rattle.fpga_graph.specs.Around.{cells_around, joint_in};
 ghost use Rattle.fpga_graph.specs.Beside.{opened_along};
+ghost use Rattle.fpga_graph.specs.Crossing.{GoesAcross};
 ghost use Rattle.fpga_graph.specs.Wires.{AreJoints, AreReached, IsWire, joined_wires, opened_wires};
+ghost use Rattle.fpga_types.specs.Boxes.{opens};
 ghost use Rattle.fpga_types.specs.Pins.{HasPin};
 
 use crate::around::cells_around;
 use crate::beside::{add_opened, cell_beside};
+use crate::crossing::Crossing;
 use crate::joint::Joint;
+use crate::opened::{MOST_TRACKS, opened_row};
 use arrayvec::ArrayVec;
-use fpga_fabric::{joined_track, meet, touches};
+use fpga_fabric::{meet, touches};
 use fpga_types::{Arch, Cell, Grid, PinAt, Side, WIDTH_LIMIT, Wire};
 use std::alloc::{AllocError, Global};
 use std::marker::Model;
@@ -75,16 +79,47 @@ impl<'a> Graph<'a> {
         requires { IsWire self.now wire }
         ensures { result ≡ joint_in self.now wire cell }
     {
-        if !self.grid.has_cell(cell) {
-            return None;
-        }
-        let Some((_, from, to)) = meet(self.grid, wire.cell, cell) else {
+        let Some(crossing) = self.crossing(wire.cell, cell) else {
             return None;
         };
-        let track = joined_track(self.arch.pattern, self.width, from, to, wire.track);
+        let track = crossing.track(wire.track);
         Some(Joint {
             wire: Wire { cell, track },
         })
+    }
+
+    /// How tracks go from the first cell to the second, if both are cells of the array and they
+    /// meet.
+    ///
+    /// Takes constant time and no memory.
+    pub fn crossing(&self, from: Cell, to: Cell) -> Option<Crossing>
+        ensures tracks { GoesAcross self.now from to result }
+        ensures width { IfSome result (λ c. c.width ≡ self.now.width) }
+    {
+        if !self.grid.has_cell(from) || !self.grid.has_cell(to) {
+            return None;
+        }
+        let Some((_, from, to)) = meet(self.grid, from, to) else {
+            return None;
+        };
+        Some(Crossing {
+            pattern: self.arch.pattern,
+            width: self.width,
+            from,
+            to,
+        })
+    }
+
+    /// For each track, rising, whether the pin opens it in the cells that it touches. A pin of a
+    /// logic block is to be one of the architecture.
+    ///
+    /// Takes constant time and no memory.
+    pub fn opened(&self, pin: PinAt) -> [bool; MOST_TRACKS]
+        requires { HasPin self.now.arch pin }
+        ensures { (track : ℕ) → slice_index_or result track false
+            ≡ opens self.now.arch self.now.width pin track }
+    {
+        opened_row(self.arch, self.width, pin)
     }
 
     /// The wires whose cell the pin touches and whose track it opens, by cell number and then

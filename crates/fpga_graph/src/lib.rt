@@ -1,12 +1,18 @@
-//! The wires of a fabric: which wires a wire is joined to, and which wires a pin opens.
+//! The wires of a fabric: which wires a wire is joined to, how tracks go from cell to cell, and
+//! which wires a pin opens.
 #![tactic(auto)]
 
+mod across;
 mod around;
 mod beside;
+mod crossing;
 mod graph;
 mod joint;
+mod opened;
 #[cfg(test)]
 mod tests;
 
+pub use crossing::Crossing;
 pub use graph::Graph;
 pub use joint::Joint;
+pub use opened::MOST_TRACKS;

@@ -123,6 +123,33 @@ fn six_joints_amid_the_array(rt: HostRuntime) -> Result<(), Fail> {
 }
 
 #[test]
+fn tracks_across(rt: HostRuntime) -> Result<(), Fail> {
+    let arch = arch_with(rt.alloc(), Pattern::Wilton, true, 1000000)?;
+    let graph = Graph::new(&arch, Grid { nx: 2, ny: 1 }, 3);
+    let row = in_row(1, 0, 0).cell;
+    let Some(upwards) = graph.crossing(row, in_column(0, 1, 0).cell) else {
+        return Err(Fail::from("a crossing"));
+    };
+    for (track, wanted) in [2, 0, 1].iter().enumerate() {
+        assert_eq!(rt; upwards.track(track as u32), *wanted);
+    }
+    assert!(rt; graph.crossing(row, in_row(1, 1, 0).cell).is_none());
+    assert!(rt; graph.crossing(row, in_column(0, 2, 0).cell).is_none());
+    Ok(())
+}
+
+#[test]
+fn opened_tracks(rt: HostRuntime) -> Result<(), Fail> {
+    let arch = arch_with(rt.alloc(), Pattern::Subset, false, 2000000)?;
+    let graph = Graph::new(&arch, Grid { nx: 2, ny: 1 }, 5);
+    let marks = graph.opened(PinAt::Pin { x: 1, y: 1, pin: 1 });
+    for (track, open) in marks.iter().enumerate() {
+        assert_eq!(rt; *open, track == 1 || track == 3);
+    }
+    Ok(())
+}
+
+#[test]
 fn wires_of_pins(rt: HostRuntime) -> Result<(), Fail> {
     let alloc = rt.alloc();
     let two = arch_with(alloc, Pattern::Subset, false, 2000000)?;
