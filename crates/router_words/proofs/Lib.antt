@@ -1,0 +1,2 @@
+pub mod RequiredWords
+pub mod Rows

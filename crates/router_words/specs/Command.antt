@@ -1,0 +1,155 @@
+-- The commands, and the job that the words of one ask for.
+use Rattle.std.specs.Prelude.{◌≡◌, ℕ, nat_le, ◌&&◌, Bool, false, List, [], ◌∷◌, codes, find, Result, Ok, Err, Option, None, Some, option_and_then, unwrap_or, IfSome, ⊤, if◌then◌else◌}
+use Rattle.std.specs.Option.{option_map_or}
+use Rattle.std.specs.Str.{bytes_eq}
+use Rattle.clap.specs.Words.{App, Row, first_of, matches_of}
+use Rattle.fpga_text.specs.Numbers.{whole_number_of}
+use Rattle.fpga_types.specs.declared.limits.TheConstants.{WIDTH_LIMIT}
+use Rattle.router_words.specs.Form.{check_form, encode_form, route_form}
+use Rattle.router_words.specs.Job.{Checks, Encodes, FilesAsked, JobAsked, Routes, job_said}
+use Rattle.router_words.specs.Taken.{HasRequired, is_taken}
+use Rattle.router_words.specs.Word.{Word}
+use Rattle.router_words.specs.declared.command_name.CommandName.{CommandName}
+use Rattle.router_words.specs.declared.command_name.CommandName.TheVariants.{Check, Encode, Route}
+use Rattle.router_words.specs.declared.fault.Refusal.{Refusal}
+use Rattle.router_words.specs.declared.fault.Refusal.TheVariants.{Command, Form, Number}
+use Rattle.router_words.specs.declared.fault.WordsFault.{WordsFault}
+use Rattle.router_words.specs.declared.fault.WordsFault.TheVariants.{Memory, Refused}
+use Rattle.router_words.specs.declared.job.Job.{Job}
+use Rattle.router_words.specs.declared.limits.TheConstants.{BUDGET_DEFAULT, BUDGET_LIMIT}
+
+-- ---- what stands in the matches of a form
+
+-- the word for a name that the form requires
+abbrev pub word_in : Word → List Row → Word
+word_in name rows = unwrap_or (first_of name rows) []
+
+-- the option without a value was given
+abbrev pub has_flag : Word → List Row → Bool
+has_flag name rows = option_map_or (λ text. bytes_eq text (codes "true")) (first_of name rows) false
+
+-- the whole number that a word says, where it is from 1 to the greatest
+abbrev pub number_up_to : ℕ → Word → Option ℕ
+number_up_to greatest word =
+    option_and_then (λ n. if nat_le 1 n && nat_le n greatest then Some n else None)
+    (whole_number_of word)
+
+-- ARCH NET PLACE ROUTE
+abbrev pub files_asked : List Row → FilesAsked
+files_asked rows = record {
+  architecture = word_in (codes "architecture") rows;
+  netlist = word_in (codes "netlist") rows;
+  placement = word_in (codes "placement") rows;
+  route = word_in (codes "route") rows;
+}
+
+-- WIDTH
+abbrev pub width_asked : List Row → Option ℕ
+width_asked rows = number_up_to WIDTH_LIMIT (word_in (codes "width") rows)
+
+-- N of `--conflicts N`, or the default
+abbrev pub conflicts_asked : List Row → Option ℕ
+conflicts_asked rows =
+    option_map_or (number_up_to BUDGET_LIMIT) (first_of (codes "conflicts") rows)
+    (Some BUDGET_DEFAULT)
+
+-- ---- the commands
+
+-- a command: its name, its form, and the job that the matches of the form say; none where a number
+-- is none in its range
+pub record CommandRow : Type 0 where
+  pub name : Word
+  pub form : App
+  pub job : List Row → Option JobAsked
+
+-- what `route` is asked for: with these numbers, where both are there
+abbrev pub route_with : List Row → Option ℕ → Option ℕ → Option JobAsked
+route_with rows (Some width) (Some conflicts) = Some (Routes (record {
+  files = files_asked rows;
+  width = width;
+  prefix = word_in (codes "prefix") rows;
+  conflicts = conflicts;
+  keep = has_flag (codes "keep") rows;
+}))
+route_with rows _ _ = None
+
+abbrev pub route_asked : List Row → Option JobAsked
+route_asked rows = route_with rows (width_asked rows) (conflicts_asked rows)
+
+-- what `encode` is asked for: with this width, where it is there
+abbrev pub encode_with : List Row → Option ℕ → Option JobAsked
+encode_with rows (Some width) = Some (Encodes (record {
+  files = files_asked rows;
+  width = width;
+  prefix = word_in (codes "prefix") rows;
+}))
+encode_with rows None = None
+
+abbrev pub encode_asked : List Row → Option JobAsked
+encode_asked rows = encode_with rows (width_asked rows)
+
+-- what `check` is asked for
+abbrev pub check_asked : List Row → Option JobAsked
+check_asked rows =
+    Some (Checks (record { cnf = word_in (codes "cnf") rows; lrat = word_in (codes "lrat") rows }))
+
+abbrev pub route_row : CommandRow
+route_row = record { name = codes "route"; form = route_form; job = route_asked }
+
+abbrev pub encode_row : CommandRow
+encode_row = record { name = codes "encode"; form = encode_form; job = encode_asked }
+
+abbrev pub check_row : CommandRow
+check_row = record { name = codes "check"; form = check_form; job = check_asked }
+
+-- the row of each command
+abbrev pub row_of : CommandName → CommandRow
+row_of Route = route_row
+row_of Encode = encode_row
+row_of Check = check_row
+
+abbrev pub commands : List CommandRow
+commands = route_row ∷ encode_row ∷ check_row ∷ []
+
+-- ---- the job of words
+
+-- the job, or that a number is none in its range
+abbrev pub or_no_number : Option JobAsked → Result JobAsked Refusal
+or_no_number (Some job) = Ok job
+or_no_number None = Err Number
+
+-- the job that the command makes of the words behind its name, or why it makes none
+abbrev pub command_job : CommandRow → List Word → Result JobAsked Refusal
+command_job command words =
+    if is_taken command.form words
+    then or_no_number (command.job (matches_of command.form words))
+    else Err Form
+
+-- the command that a word names
+abbrev pub command_named : Word → Option CommandRow
+command_named name = find (λ command. bytes_eq name command.name) commands
+
+-- the job that the words behind this name ask for, or why they ask for none
+abbrev pub job_behind : Word → List Word → Result JobAsked Refusal
+job_behind name words =
+    option_map_or (λ command. command_job command words) (command_named name) (Err Command)
+
+-- the job that the words ask for, or why they ask for none
+abbrev pub job_of : List Word → Result JobAsked Refusal
+job_of [] = Err Command
+job_of (name ∷ words) = job_behind name words
+
+-- what is answered where this is asked for: that, or memory ran out
+abbrev pub Answers : Result JobAsked Refusal → Result Job WordsFault → Type 0
+Answers asked (Ok job) = asked ≡ Ok (job_said job)
+Answers asked (Err (Refused refusal)) = asked ≡ Err refusal
+Answers asked (Err Memory) = ⊤
+
+-- each name that the command's form requires has a word
+abbrev pub HasItsWords : CommandRow → List Word → Type 0
+HasItsWords command words = HasRequired command.form (matches_of command.form words)
+
+-- and so it is of the command that the first word names
+abbrev pub AreThere : List Word → Type 0
+AreThere [] = ⊤
+AreThere (name ∷ words) = IfSome (command_named name) (λ command. HasItsWords command words)

@@ -1,0 +1,98 @@
+-- The forms of the commands, which say what clap takes behind the name of a command.
+use Rattle.std.specs.Prelude.{Bool, false, not, ◌&&◌, List, [], ◌∷◌, Option, Some, true, nat_le, codes, if◌then◌else◌}
+use Rattle.std.specs.List.{list_any}
+use Rattle.std.specs.Str.{bytes_eq}
+use Rattle.clap.specs.Facts.{unwrap_or_range}
+use Rattle.clap.specs.Faults.{has_free_rules}
+use Rattle.clap.specs.Walk.{is_empty}
+use Rattle.clap.specs.Words.{App, Rule, is_simple_and_free, new_app, new_rule, with_rule}
+use Rattle.clap.specs.declared.builder.action.ArgAction.{ArgAction}
+use Rattle.clap.specs.declared.builder.action.ArgAction.TheVariants.{Set, SetTrue}
+use Rattle.router_words.specs.Word.{Word}
+
+-- ---- what forms are made of
+
+-- no arguments yet; the words begin behind the command's name
+abbrev pub empty_form : Word → App
+empty_form name =
+    let form = new_app name in record form { top = record form.top { no_binary_name = true } }
+
+-- a word that has to be there
+abbrev pub required_rule : Word → Rule
+required_rule name = record (new_rule name) { required = true; action = Some Set }
+
+-- an option `--name VALUE`
+abbrev pub option_rule : Word → Rule
+option_rule name = record (new_rule name) { long = Some name }
+
+-- an option `--name`
+abbrev pub flag_rule : Word → Rule
+flag_rule name = record (new_rule name) { long = Some name; action = Some SetTrue }
+
+abbrev pub with_word : Word → App → App
+with_word name form = with_rule form (required_rule name)
+
+abbrev pub with_option : Word → App → App
+with_option name form = with_rule form (option_rule name)
+
+abbrev pub with_flag : Word → App → App
+with_flag name form = with_rule form (flag_rule name)
+
+-- ARCH NET PLACE ROUTE
+abbrev pub with_files : App → App
+with_files form =
+    with_word (codes "route") (with_word (codes "placement")
+    (with_word (codes "netlist") (with_word (codes "architecture") form)))
+
+-- WIDTH PREFIX
+abbrev pub with_width_and_prefix : App → App
+with_width_and_prefix form = with_word (codes "prefix") (with_word (codes "width") form)
+
+-- ---- the forms
+
+-- ARCH NET PLACE ROUTE WIDTH PREFIX [--conflicts N] [--keep]
+abbrev pub route_form : App
+route_form =
+    with_flag (codes "keep") (with_option (codes "conflicts")
+    (with_width_and_prefix (with_files (empty_form (codes "route")))))
+
+-- ARCH NET PLACE ROUTE WIDTH PREFIX
+abbrev pub encode_form : App
+encode_form = with_width_and_prefix (with_files (empty_form (codes "encode")))
+
+-- CNF LRAT
+abbrev pub check_form : App
+check_form = with_word (codes "lrat") (with_word (codes "cnf") (empty_form (codes "check")))
+
+-- ---- what holds of a form
+
+-- clap's definitions say what the form takes, and what it finds there
+abbrev pub is_form : App → Bool
+is_form form =
+    is_simple_and_free form && (has_free_rules form.top && not form.top.subcommand_negates_reqs)
+
+abbrev pub is_set : Option ArgAction → Bool
+is_set (Some Set) = true
+is_set _ = false
+
+-- what the rule speaks of has to be given, with a value
+abbrev pub wants_value : Rule → Bool
+wants_value rule =
+    rule.required && (is_set rule.action && nat_le 1 (unwrap_or_range rule.range).start_inclusive)
+
+-- one rule alone has this name, and it wants a value
+abbrev pub wants : Word → List Rule → Bool
+wants name [] = false
+wants name (rule ∷ rules) =
+    if bytes_eq rule.id name
+    then wants_value rule && not (list_any (λ other. bytes_eq other.id name) rules)
+    else wants name rules
+
+-- a name that clap gives to no argument of its own
+abbrev pub is_own_name : Word → Bool
+is_own_name name = not (is_empty name)
+    && (not (bytes_eq name (codes "help")) && not (bytes_eq name (codes "version")))
+
+-- the form requires a word of this name
+abbrev pub requires_word : App → Word → Bool
+requires_word form name = is_own_name name && wants name form.top.rules

@@ -1,0 +1,76 @@
+-- What the words of a command ask for.
+use Rattle.std.specs.Prelude.{ℕ, Bool}
+use Rattle.router_words.specs.Word.{Word}
+use Rattle.router_words.specs.declared.job.CheckJob.{CheckJob}
+use Rattle.router_words.specs.declared.job.EncodeJob.{EncodeJob}
+use Rattle.router_words.specs.declared.job.FourNames.{FourNames}
+use Rattle.router_words.specs.declared.job.Job.{Job}
+use Rattle.router_words.specs.declared.job.Job.TheVariants.{Check, Encode, Route}
+use Rattle.router_words.specs.declared.job.RouteJob.{RouteJob}
+
+-- the names of the files of a problem
+pub record FilesAsked : Type 0 where
+  pub architecture : Word
+  pub netlist : Word
+  pub placement : Word
+  pub route : Word
+
+-- to look for a routing: the files, the width, what the names of written files begin with, how many
+-- clauses may be learned, and whether none is forgotten
+pub record RouteAsked : Type 0 where
+  pub files : FilesAsked
+  pub width : ℕ
+  pub prefix : Word
+  pub conflicts : ℕ
+  pub keep : Bool
+
+-- to write the clauses: the files, the width, and what the name of the written file begins with
+pub record EncodeAsked : Type 0 where
+  pub files : FilesAsked
+  pub width : ℕ
+  pub prefix : Word
+
+-- to check a refutation: the names of the CNF file and of the LRAT file
+pub record CheckAsked : Type 0 where
+  pub cnf : Word
+  pub lrat : Word
+
+-- what is asked for
+pub data JobAsked : Type 0 where
+  Routes : RouteAsked → JobAsked
+  Encodes : EncodeAsked → JobAsked
+  Checks : CheckAsked → JobAsked
+
+-- ---- what a job says, by the bytes of its words
+
+abbrev pub files_said : FourNames → FilesAsked
+files_said files = record {
+  architecture = files.architecture.now;
+  netlist = files.netlist.now;
+  placement = files.placement.now;
+  route = files.route.now;
+}
+
+abbrev pub route_said : RouteJob → RouteAsked
+route_said job = record {
+  files = files_said job.files;
+  width = job.width;
+  prefix = job.prefix.now;
+  conflicts = job.conflicts;
+  keep = job.keep;
+}
+
+abbrev pub encode_said : EncodeJob → EncodeAsked
+encode_said job = record {
+  files = files_said job.files;
+  width = job.width;
+  prefix = job.prefix.now;
+}
+
+abbrev pub check_said : CheckJob → CheckAsked
+check_said job = record { cnf = job.cnf.now; lrat = job.lrat.now }
+
+abbrev pub job_said : Job → JobAsked
+job_said (Route job) = Routes (route_said job)
+job_said (Encode job) = Encodes (encode_said job)
+job_said (Check job) = Checks (check_said job)

@@ -1,0 +1,6 @@
+pub mod Word
+pub mod Refusal
+pub mod Job
+pub mod Form
+pub mod Taken
+pub mod Command

@@ -1,0 +1,61 @@
+//! The commands: how each is named, its form, and the job that its words say.
+ghost use Rattle.std.specs.Prelude.{◌≡◌, IfOk, option_map};
+ghost use Rattle.clap.specs.Words.{app_of, found_of, rows_of};
+ghost use Rattle.router_words.specs.Command.{command_named, row_of};
+ghost use Rattle.router_words.specs.Job.{job_said};
+ghost use Rattle.router_words.specs.Taken.{HasRequired};
+
+use crate::form::{check_command, encode_command, route_command};
+use crate::from_matches::{check_job, encode_job, route_job};
+use crate::job::Job;
+use clap::{ArgMatches, Command};
+use std::alloc::{AllocError, Global};
+
+/// A command.
+#[derive(Clone, Copy, Debug)]
+pub enum CommandName {
+    Route,
+    Encode,
+    Check,
+}
+
+impl CommandName {
+    /// The command that a word names.
+    pub fn of_word(word: &str) -> Option<CommandName>
+        ensures { option_map row_of result ≡ command_named word.now }
+    {
+        if word == "route" {
+            return Some(CommandName::Route);
+        }
+        if word == "encode" {
+            return Some(CommandName::Encode);
+        }
+        if word == "check" {
+            return Some(CommandName::Check);
+        }
+        None
+    }
+
+    /// Its form.
+    pub fn form<'a>(self, alloc: Global) -> Result<Command<'a>, AllocError>
+        ensures { IfOk result (λ c. app_of c ≡ (row_of self).form) }
+    {
+        match self {
+            CommandName::Route => route_command(alloc),
+            CommandName::Encode => encode_command(alloc),
+            CommandName::Check => check_command(alloc),
+        }
+    }
+
+    /// The job that the matches of its form say, where the numbers are in range.
+    pub fn job<'a>(self, matches: &ArgMatches<'a>) -> Option<Job<'a>>
+        requires { HasRequired (row_of self).form (rows_of (found_of matches.now)) }
+        ensures { option_map job_said result ≡ (row_of self).job (rows_of (found_of matches.now)) }
+    {
+        match self {
+            CommandName::Route => route_job(matches),
+            CommandName::Encode => encode_job(matches),
+            CommandName::Check => check_job(matches),
+        }
+    }
+}

@@ -1,0 +1,93 @@
+//! The forms of the commands, as `clap` has them.
+ghost use Rattle.std.specs.Prelude.{◌≡◌, IfOk, codes};
+ghost use Rattle.clap.specs.Words.{app_of, rule_of};
+ghost use Rattle.router_words.specs.Form.{check_form, empty_form, encode_form, flag_rule, option_rule, required_rule, route_form, with_files, with_flag, with_option, with_width_and_prefix, with_word};
+
+use clap::{Arg, ArgAction, Command};
+use std::alloc::{AllocError, Global};
+
+// A command with no arguments yet. Its words begin behind its name.
+fn named<'a>(alloc: Global, name: &'a str) -> Command<'a>
+    ensures { app_of result ≡ empty_form name.entry.now }
+{
+    Command::new(alloc, name).no_binary_name(true)
+}
+
+// With one more word that has to be there.
+fn add_word<'a>(
+    alloc: Global,
+    command: Command<'a>,
+    name: &'a str,
+) -> Result<Command<'a>, AllocError>
+    ensures { IfOk result (λ c. app_of c ≡ with_word name.entry.now (app_of command.entry)) }
+{
+    let word = Arg::new(alloc, name).required(true).action(ArgAction::Set);
+    command.arg(word)
+}
+
+// With one more option that has a value.
+fn add_option<'a>(
+    alloc: Global,
+    command: Command<'a>,
+    name: &'a str,
+) -> Result<Command<'a>, AllocError>
+    ensures { IfOk result (λ c. app_of c ≡ with_option name.entry.now (app_of command.entry)) }
+{
+    command.arg(Arg::new(alloc, name).long(name))
+}
+
+// With one more option that has none.
+fn add_flag<'a>(
+    alloc: Global,
+    command: Command<'a>,
+    name: &'a str,
+) -> Result<Command<'a>, AllocError>
+    ensures { IfOk result (λ c. app_of c ≡ with_flag name.entry.now (app_of command.entry)) }
+{
+    let flag = Arg::new(alloc, name).long(name).action(ArgAction::SetTrue);
+    command.arg(flag)
+}
+
+// With the names of the files of a problem.
+fn add_files<'a>(alloc: Global, command: Command<'a>) -> Result<Command<'a>, AllocError>
+    ensures { IfOk result (λ c. app_of c ≡ with_files (app_of command.entry)) }
+{
+    let command = add_word(alloc, command, "architecture")?;
+    let command = add_word(alloc, command, "netlist")?;
+    let command = add_word(alloc, command, "placement")?;
+    add_word(alloc, command, "route")
+}
+
+// With the width, and what the names of written files begin with.
+fn add_width_and_prefix<'a>(alloc: Global, command: Command<'a>) -> Result<Command<'a>, AllocError>
+    ensures { IfOk result (λ c. app_of c ≡ with_width_and_prefix (app_of command.entry)) }
+{
+    let command = add_word(alloc, command, "width")?;
+    add_word(alloc, command, "prefix")
+}
+
+/// ARCH NET PLACE ROUTE WIDTH PREFIX [--conflicts N] [--keep]
+pub fn route_command<'a>(alloc: Global) -> Result<Command<'a>, AllocError>
+    ensures { IfOk result (λ c. app_of c ≡ route_form) }
+{
+    let command = add_files(alloc, named(alloc, "route"))?;
+    let command = add_width_and_prefix(alloc, command)?;
+    let command = add_option(alloc, command, "conflicts")?;
+    add_flag(alloc, command, "keep")
+}
+
+/// ARCH NET PLACE ROUTE WIDTH PREFIX
+pub fn encode_command<'a>(alloc: Global) -> Result<Command<'a>, AllocError>
+    ensures { IfOk result (λ c. app_of c ≡ encode_form) }
+{
+    let command = add_files(alloc, named(alloc, "encode"))?;
+    add_width_and_prefix(alloc, command)
+}
+
+/// CNF LRAT
+pub fn check_command<'a>(alloc: Global) -> Result<Command<'a>, AllocError>
+    ensures { IfOk result (λ c. app_of c ≡ check_form) }
+{
+    let command = add_word(alloc, named(alloc, "check"), "cnf")?;
+    add_word(alloc, command, "lrat")
+}

@@ -1,0 +1,98 @@
+//! The job that the matches of a command's form say.
+ghost use Rattle.std.specs.Prelude.{◌≡◌, ◌≤◌, IfSome, codes, is_some, option_map, true};
+ghost use Rattle.clap.specs.Words.{first_of, found_of, rows_of};
+ghost use Rattle.fpga_types.specs.declared.limits.TheConstants.{WIDTH_LIMIT};
+ghost use Rattle.router_words.specs.Command.{check_asked, conflicts_asked, encode_asked, files_asked, route_asked, width_asked};
+ghost use Rattle.router_words.specs.Form.{check_form, encode_form, route_form};
+ghost use Rattle.router_words.specs.Job.{Checks, Encodes, Routes, check_said, encode_said, files_said, job_said, route_said};
+ghost use Rattle.router_words.specs.Taken.{HasFiles, HasRequired};
+ghost use Rattle.router_words.specs.declared.limits.TheConstants.{BUDGET_LIMIT};
+
+use crate::job::{CheckJob, EncodeJob, FourNames, Job, RouteJob};
+use crate::limits::{BUDGET_DEFAULT, BUDGET_LIMIT};
+use crate::matched::{first_word, is_given, number_from_one, required_word};
+use clap::ArgMatches;
+use fpga_types::WIDTH_LIMIT;
+
+// The names of the files of a problem.
+fn file_names<'a>(matches: &ArgMatches<'a>) -> FourNames<'a>
+    requires { HasFiles (rows_of (found_of matches.now)) }
+    ensures { files_said result ≡ files_asked (rows_of (found_of matches.now)) }
+{
+    FourNames {
+        architecture: required_word(matches, "architecture"),
+        netlist: required_word(matches, "netlist"),
+        placement: required_word(matches, "placement"),
+        route: required_word(matches, "route"),
+    }
+}
+
+// How many tracks each channel has, where what the words say is in range.
+fn width(matches: &ArgMatches) -> Option<u32>
+    requires { is_some (first_of (codes "width") (rows_of (found_of matches.now))) ≡ true }
+    ensures number { result ≡ width_asked (rows_of (found_of matches.now)) }
+    ensures within { IfSome result (λ number. (1 ≤ number) × (number ≤ WIDTH_LIMIT)) }
+{
+    let word = required_word(matches, "width");
+    let Some(width) = number_from_one(word, u64::from(WIDTH_LIMIT)) else {
+        return None;
+    };
+    Some(width as u32)
+}
+
+// How many clauses the search may learn, where what the words say is in range.
+fn conflicts(matches: &ArgMatches) -> Option<u64>
+    ensures number { result ≡ conflicts_asked (rows_of (found_of matches.now)) }
+    ensures within { IfSome result (λ number. (1 ≤ number) × (number ≤ BUDGET_LIMIT)) }
+{
+    let Some(word) = first_word(matches, "conflicts") else {
+        return Some(BUDGET_DEFAULT);
+    };
+    number_from_one(word, BUDGET_LIMIT)
+}
+
+/// What `route` is asked for, where its numbers are in range.
+pub fn route_job<'a>(matches: &ArgMatches<'a>) -> Option<Job<'a>>
+    requires { HasRequired route_form (rows_of (found_of matches.now)) }
+    ensures { option_map job_said result ≡ route_asked (rows_of (found_of matches.now)) }
+{
+    let Some(width) = width(matches) else {
+        return None;
+    };
+    let Some(conflicts) = conflicts(matches) else {
+        return None;
+    };
+    Some(Job::Route(RouteJob {
+        files: file_names(matches),
+        width,
+        prefix: required_word(matches, "prefix"),
+        conflicts,
+        keep: is_given(matches, "keep"),
+    }))
+}
+
+/// What `encode` is asked for, where its number is in range.
+pub fn encode_job<'a>(matches: &ArgMatches<'a>) -> Option<Job<'a>>
+    requires { HasRequired encode_form (rows_of (found_of matches.now)) }
+    ensures { option_map job_said result ≡ encode_asked (rows_of (found_of matches.now)) }
+{
+    let Some(width) = width(matches) else {
+        return None;
+    };
+    Some(Job::Encode(EncodeJob {
+        files: file_names(matches),
+        width,
+        prefix: required_word(matches, "prefix"),
+    }))
+}
+
+/// What `check` is asked for.
+pub fn check_job<'a>(matches: &ArgMatches<'a>) -> Option<Job<'a>>
+    requires { HasRequired check_form (rows_of (found_of matches.now)) }
+    ensures { option_map job_said result ≡ check_asked (rows_of (found_of matches.now)) }
+{
+    Some(Job::Check(CheckJob {
+        cnf: required_word(matches, "cnf"),
+        lrat: required_word(matches, "lrat"),
+    }))
+}

@@ -1,0 +1,40 @@
+//! The words of a command.
+//!
+//! | command | words behind it | options |
+//! |---|---|---|
+//! | `route` | ARCH NET PLACE ROUTE WIDTH PREFIX | `--conflicts N`, `--keep` |
+//! | `encode` | ARCH NET PLACE ROUTE WIDTH PREFIX | |
+//! | `check` | CNF LRAT | |
+//!
+//! WIDTH is a whole number from 1 to 64, and N one from 1 to 100,000,000, or 1,000,000 where it is
+//! not given. Leading zeros are taken, signs are not.
+//!
+//! What stands behind the command is taken as `clap` takes it: options may stand anywhere,
+//! `--conflicts=5` is `--conflicts 5`, behind `--` no word is an option, and a word may be empty or
+//! `-`. An option is given once at the most and written out, `--keep` has no value, and no word asks
+//! for help.
+//!
+//! | code | cause |
+//! |---|---|
+//! | 1 | there is no first word, or it names no command |
+//! | 2 | the form of the command does not take the words behind it |
+//! | 3 | WIDTH or N is no whole number in its range |
+//!
+//! The least code that holds is answered.
+#![tactic(auto)]
+
+mod command_name;
+mod fault;
+mod form;
+mod from_matches;
+mod job;
+mod limits;
+mod matched;
+mod read;
+#[cfg(test)]
+mod tests;
+
+pub use fault::{Refusal, WordsFault};
+pub use job::{CheckJob, EncodeJob, FourNames, Job, RouteJob};
+pub use limits::{BUDGET_DEFAULT, BUDGET_LIMIT};
+pub use read::read_words;

@@ -1,0 +1,7 @@
+//! The limits of the numbers among the words.
+
+/// How many clauses a search may learn at the most.
+pub const BUDGET_LIMIT: u64 = 100_000_000;
+
+/// How many clauses a search may learn where the words do not say it.
+pub const BUDGET_DEFAULT: u64 = 1_000_000;

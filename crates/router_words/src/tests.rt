@@ -1,0 +1,118 @@
+//! The words that the commands take, and those that they do not, by hand.
+use crate::fault::WordsFault;
+use crate::job::{Job, RouteJob};
+use crate::limits::BUDGET_DEFAULT;
+use crate::read::read_words;
+use std::alloc::Global;
+use std::process::Abort;
+use std::test::Fail;
+
+// The words of a line, which stand between bars.
+fn parted(alloc: Global, line: &str) -> Result<Vec<String>, Fail> {
+    let mut words = Vec::new(alloc);
+    if line.is_empty() {
+        return Ok(words);
+    }
+    for word in line.split('|') {
+        words.push(String::from_str(alloc, word)?)?;
+    }
+    Ok(words)
+}
+
+// The code of the refusal of a line, and 0 where it gives a job.
+fn code_of(alloc: Global, line: &str) -> Result<u32, Fail> {
+    let words = parted(alloc, line)?;
+    match read_words(alloc, &words) {
+        Ok(_) => Ok(0),
+        Err(WordsFault::Refused(refusal)) => Ok(refusal.code()),
+        Err(WordsFault::Memory) => Err("out of memory".into()),
+    }
+}
+
+#[test]
+fn lines_have_their_codes(rt: HostRuntime) -> Result<(), Fail> {
+    let rows = [
+        ("", 1),
+        ("drive", 1),
+        ("|route", 1),
+        ("Route|a|n|p|r|5|out", 1),
+        ("route|a", 2),
+        ("route|a|n|p|r|5", 2),
+        ("route|a|n|p|r|5|out|more", 2),
+        ("encode|a|n|p|r|5|out|--keep", 2),
+        ("check|c", 2),
+        ("check|c|l|--conflicts|5", 2),
+        ("route|a|n|p|r|5|out|--keep|--keep", 2),
+        ("route|a|n|p|r|5|out|--keep=x", 2),
+        ("route|a|n|p|r|5|out|--conflicts|5|--conflicts|6", 2),
+        ("route|a|n|p|r|5|out|--conflicts", 2),
+        ("route|a|n|p|r|5|out|--conf|5", 2),
+        ("route|a|n|p|r|-5|out", 2),
+        ("route|a|n|p|r|5|out|-h", 2),
+        ("route|--help", 2),
+        ("route|--version", 2),
+        ("route|a|n|p|r|65|out", 3),
+        ("route|a|n|p|r|0|out", 3),
+        ("route|a|n|p|r|+5|out", 3),
+        ("route|a|n|p|r||out", 3),
+        ("route|a|n|p|r|5|out|--conflicts|0", 3),
+        ("route|a|n|p|r|5|out|--conflicts|100000001", 3),
+        ("route|a|n|p|r|5|out|--conflicts=", 3),
+        ("encode|a|n|p|r|65|out", 3),
+        ("route|a|n|p|r|64|out", 0),
+        ("route|a|n|p|r|005|out|--conflicts|100000000", 0),
+        ("route|--conflicts=5|a|n|--keep|p|r|5|out", 0),
+        ("route|--|a|--keep|p|r|5|out", 0),
+        ("route||-|p|r|5|", 0),
+        ("encode|a|n|p|r|1|out", 0),
+        ("check|c|l", 0),
+    ];
+    for (line, code) in rows {
+        assert_eq!(rt; code_of(rt.alloc(), line)?, code, "at {line}");
+    }
+    Ok(())
+}
+
+// The job of routing that a line gives.
+fn has_route(rt: &impl Abort, job: &RouteJob, conflicts: u64, keep: bool) {
+    assert_eq!(rt; job.files.architecture, "a");
+    assert_eq!(rt; job.files.netlist, "n");
+    assert_eq!(rt; job.files.placement, "p");
+    assert_eq!(rt; job.files.route, "r");
+    assert_eq!(rt; job.width, 5u32);
+    assert_eq!(rt; job.prefix, "out");
+    assert_eq!(rt; job.conflicts, conflicts);
+    assert_eq!(rt; job.keep, keep);
+}
+
+#[test]
+fn route_has_its_words(rt: HostRuntime) -> Result<(), Fail> {
+    let rows = [
+        ("route|a|n|p|r|5|out", BUDGET_DEFAULT, false),
+        ("route|--conflicts|7|a|n|p|r|5|out|--keep", 7, true),
+    ];
+    for (line, conflicts, keep) in rows {
+        let words = parted(rt.alloc(), line)?;
+        let Ok(Job::Route(job)) = read_words(rt.alloc(), &words) else {
+            return Err("no job of routing".into());
+        };
+        has_route(&rt, &job, conflicts, keep);
+    }
+    Ok(())
+}
+
+#[test]
+fn encode_and_check_have_their_words(rt: HostRuntime) -> Result<(), Fail> {
+    let words = parted(rt.alloc(), "encode|a|n|p|r|5|out")?;
+    let Ok(Job::Encode(job)) = read_words(rt.alloc(), &words) else {
+        return Err("no job of encoding".into());
+    };
+    assert_eq!(rt; job.files.netlist, "n");
+    assert_eq!(rt; (job.width, job.prefix), (5u32, "out"));
+    let words = parted(rt.alloc(), "check|c|l")?;
+    let Ok(Job::Check(job)) = read_words(rt.alloc(), &words) else {
+        return Err("no job of checking".into());
+    };
+    assert_eq!(rt; (job.cnf, job.lrat), ("c", "l"));
+    Ok(())
+}
