@@ -41,15 +41,18 @@ def shown(name, size, seconds, memory):
     print(f"{name}: {size / MEGABYTE:.0f} MB in {seconds:.2f} s, {size / MEGABYTE / seconds:.0f} MB/s, at most {memory / MEGABYTE:.0f} MB of memory")
 
 
-def encode(program, nets, width):
-    with open("rows.route", "wb") as out:
-        script("make_route.py", "rows", str(nets), out=out)
-    seconds, memory = run([program, "encode", "rows.route", str(width), "rows"])
-    with open("rows.cnf", "rb") as text:
+def files(name):
+    return [f"{name}.{ending}" for ending in ("arch", "net", "place", "route")]
+
+
+def encode(program, size, width):
+    script("make_design.py", "wide", str(size), "wilton", "0.9", "0.9", "1")
+    seconds, memory = run([program, "encode", *files("wide"), str(width), "wide"])
+    with open("wide.cnf", "rb") as text:
         clauses = int(text.readline().split()[3])
-    shown(f"encode, {clauses} clauses", os.path.getsize("rows.cnf"), seconds, memory)
+    shown(f"encode, {clauses} clauses", os.path.getsize("wide.cnf"), seconds, memory)
     with open("copy", "wb") as out:
-        seconds, _ = run(["cat", "rows.cnf"], out=out)
+        seconds, _ = run(["cat", "wide.cnf"], out=out)
     print(f"  cat copies them in {seconds:.2f} s")
 
 
@@ -69,21 +72,20 @@ def minisat(cnf):
     print(f"  minisat: {answer}, {conflicts.group(1) if conflicts else 0} conflicts in {seconds:.3f} s")
 
 
-def route(program, width, budget, *kind):
-    with open("search.route", "wb") as out:
-        script("make_route.py", *kind, out=out)
+def route(program, width, maker, *kind):
+    script(maker, "search", *kind)
     for name in ("found.route", "found.cnf", "found.lrat"):
         if os.path.exists(name):
             os.remove(name)
-    seconds, _ = run([program, "route", "search.route", str(width), str(budget), "found"], statuses=(0, 1, 2))
-    name = f"route, {' '.join(kind)} at width {width}"
+    seconds, _ = run([program, "route", *files("search"), str(width), "found"], statuses=(0, 1, 2))
+    name = f"route, {maker} {' '.join(kind)} at width {width}"
     if os.path.exists("found.lrat"):
         with open("found.lrat", "rb") as log:
             learned = sum(1 for _ in log)
         print(f"{name}: {seconds:.3f} s, {learned} clauses learned, a log of {os.path.getsize('found.lrat')} bytes")
     else:
         print(f"{name}: routed in {seconds:.3f} s")
-    run([program, "encode", "search.route", str(width), "search"])
+    run([program, "encode", *files("search"), str(width), "search"])
     if shutil.which("minisat"):
         minisat("search.cnf")
 
@@ -92,14 +94,16 @@ def main():
     program = os.path.abspath(sys.argv[1] if len(sys.argv) > 1 else BUILT)
     with tempfile.TemporaryDirectory() as folder:
         os.chdir(folder)
-        encode(program, 32, 64)
+        encode(program, 50, 40)
         check(program, "tree", "300", "10")
         check(program, "chain", "40000", "50")
-        for nets in (5, 6, 7, 8):
-            route(program, nets - 1, 1_000_000, "crowd", "0", str(nets))
-        for width in (2, 3, 4, 5, 6):
-            route(program, width, 1_000_000, "mesh", "6", "30", "1")
-        route(program, 64, 1_000_000, "crowd", "0", "64")
+        for nets in (5, 7, 9, 11):
+            route(program, nets - 1, "make_crowd.py", str(nets))
+        for width in (7, 8, 9, 10, 12):
+            route(program, width, "make_design.py", "10", "wilton", "0.9", "0.9", "7")
+        for pattern in ("subset", "wilton", "universal"):
+            for width in (8, 12, 16):
+                route(program, width, "make_design.py", "30", pattern, "1", "0.9", "1")
         os.chdir("/")
 
 

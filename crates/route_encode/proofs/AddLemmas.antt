@@ -63,19 +63,21 @@ module _ {X : Type 0} (g : X → List Clause) (xs : List X) (k : ℕ) (d : X)
       room-first b (g x) later (room-second a b (flat_map g (take k xs)) (g x ++ later)
       (subst (HasRoom a) whole h) f)
 
+  -- what one part more makes
+  pub rows-more : flat_map g (take (k + 1) xs) ≡ flat_map g (take k xs) ++ g (get_or xs k d)
+  rows-more = rw (
+    add-one,
+    take-suc xs k d inside,
+    flat_map-append g (take k xs)
+        (get_or xs k d ∷ []),
+    append-nil (g (get_or xs k d)),
+  ) refl
+
   -- one part more was added
   pub adds-more : (a b c : FormulaState) → Adds a (flat_map g (take k xs)) b
       → Adds b (g (get_or xs k d)) c → Adds a (flat_map g (take (k + 1) xs)) c
   adds-more a b c f h =
-      let more : flat_map g (take (k + 1) xs) ≡ flat_map g (take k xs) ++ g (get_or xs k d) =
-      rw (
-        add-one,
-        take-suc xs k d inside,
-        flat_map-append g (take k xs)
-            (get_or xs k d ∷ []),
-        append-nil (g (get_or xs k d)),
-      ) refl in
-      subst (λ (ys : List Clause). Adds a ys c) (sym more)
+      subst (λ (ys : List Clause). Adds a ys c) (sym rows-more)
       (adds-both a b c (flat_map g (take k xs)) (g (get_or xs k d)) f h)
 
 -- the first numbers from a on

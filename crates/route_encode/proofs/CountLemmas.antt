@@ -1,39 +1,33 @@
--- How many clauses and literals the encoding has, and the encoding as the code makes it.
-use Rattle.std.proofs.Common.{◌≡◌, ℕ, zero, suc, ◌+◌, ◌-◌, ◌*◌, ◌/◌, true, not, List, [], ◌∷◌, ◌++◌, length, Option, refl, ap, ◌∙◌, arith, length-append}
-use Rattle.std.specs.Prelude.{map, filter, flat_map, option_map, option_to_list}
+-- How many clauses and literals an encoding has.
+use Rattle.std.proofs.Common.{◌≡◌, ℕ, zero, suc, ◌+◌, ◌-◌, ◌*◌, ◌/◌, Bool, List, [], ◌∷◌, ◌++◌, length, Option, Some, refl, ap, ◌∙◌, inl, inr, arith, length-append}
+use Rattle.std.specs.Prelude.{map, filter, flat_map, not, option_map, option_to_list}
 use Rattle.std.specs.List.{range_with_len}
-use Rattle.std.proofs.lemmas.List.{append-nil, length-map}
+use Rattle.std.proofs.lemmas.List.{length-map}
 use Rattle.std.proofs.lemmas.List.FromFn.{length-map-range_with_len, length-range_with_len}
 use Rattle.std.proofs.lemmas.List.Sums.{sum_by-append, sum_by-cons}
-use Rattle.list_laws.proofs.Members.{In-all}
-use Rattle.list_laws.proofs.Rows.{length-rows, map-alike, rows-alike}
-use Rattle.fpga_types.specs.Fit.{IsFit}
-use Rattle.fpga_types.specs.Slots.{pairs, pin_steps, slot_at, slots, steps}
-use Rattle.fpga_types.specs.Tracks.{subset_track, track_across}
-use Rattle.fpga_types.specs.declared.problem.PinStep.{PinStep}
-use Rattle.fpga_types.specs.declared.problem.Slot.{Slot}
+use Rattle.list_laws.proofs.Members.{In}
+use Rattle.list_laws.proofs.Rows.{length-rows}
+use Rattle.fpga_types.specs.Slots.{pairs, pin_steps, slots, steps}
+use Rattle.fpga_types.specs.declared.grid.Cell.{Cell}
+use Rattle.fpga_types.specs.declared.grid.PinAt.{PinAt}
+use Rattle.fpga_types.specs.declared.problem.RouteStep.{RouteStep}
 use Rattle.fpga_types.specs.declared.route.RouteText.{RouteText}
-use Rattle.fpga_bounds.proofs.PairLemmas.{slots-distinct}
-use Rattle.fpga_bounds.proofs.StepFacts.{IsGoodStep, good-steps}
 use Rattle.sat_clause.specs.Literal.{Clause}
 use Rattle.route_encode.specs.Adding.{lit_count}
-use Rattle.route_encode.specs.Encoding.{above, apart_track, below, encoding_subset, has, joined_track, lacks, no_higher_track, not_both, one_track, open_track, some_track, track_after}
-use Rattle.route_encode.specs.Rivals.{apart_from_rivals, rivals_after}
-use Rattle.route_encode.specs.Subset.{clauses_subset, same_tracks}
-use Rattle.route_encode.proofs.Exactness.{subset-across}
-use Rattle.route_encode.proofs.RivalLemmas.{pairs-regroup}
+use Rattle.route_encode.specs.Encoding.{above, apart_track, below, encoding, has, joined_track, lacks, no_higher_track, not_both, one_track, open_track, some_track, track_after}
 
--- each clause has two literals
-abbrev AreTwos : List Clause → Type 0
-AreTwos clauses = lit_count clauses ≡ 2 * length clauses
+-- each clause has so many literals
+abbrev HaveEach : ℕ → List Clause → Type 0
+HaveEach k clauses = lit_count clauses ≡ k * length clauses
 
-twos-append : (xs ys : List Clause) → AreTwos xs → AreTwos ys → AreTwos (xs ++ ys)
-twos-append xs ys f g = rw (sum_by-append length xs ys, length-append xs ys, f, g) (omega arith)
+each-append : (k : ℕ) (xs ys : List Clause) → HaveEach k xs → HaveEach k ys → HaveEach k (xs ++ ys)
+each-append k xs ys f g = rw (sum_by-append length xs ys, length-append xs ys, f, g) (omega arith)
 
-twos-flat_map : {A : Type 0} (g : A → List Clause) (xs : List A) → ((x : A) → AreTwos (g x))
-    → AreTwos (flat_map g xs)
-twos-flat_map g [] h = refl
-twos-flat_map g (x ∷ xs) h = twos-append (g x) (flat_map g xs) (h x) (twos-flat_map g xs h)
+each-rows : {A : Type 0} (k : ℕ) (g : A → List Clause) (xs : List A)
+    → ((x : A) → In xs x → HaveEach k (g x)) → HaveEach k (flat_map g xs)
+each-rows k g [] h = omega arith
+each-rows k g (x ∷ xs) h =
+    each-append k (g x) (flat_map g xs) (h x (inl refl)) (each-rows k g xs (λ y i. h y (inr i)))
 
 lits-each : {A : Type 0} (f : A → Clause) (m : ℕ) (xs : List A) → ((x : A) → length (f x) ≡ m)
     → lit_count (map f xs) ≡ length xs * m
@@ -41,9 +35,9 @@ lits-each f m [] h = omega arith
 lits-each f m (x ∷ xs) h = rw (sum_by-cons length (f x) (map f xs), h x, lits-each f m xs h)
     (omega arith)
 
-twos-map : {A : Type 0} (f : A → Clause) (xs : List A) → ((x : A) → length (f x) ≡ 2)
-    → AreTwos (map f xs)
-twos-map f xs h = rw (lits-each f 2 xs h, length-map xs f) (omega arith)
+each-map : {A : Type 0} (k : ℕ) (f : A → Clause) (xs : List A) → ((x : A) → length (f x) ≡ k)
+    → HaveEach k (map f xs)
+each-map k f xs h = rw (lits-each f k xs h, length-map xs f) (omega arith)
 
 -- the clauses that forbid two tracks of a slot, from track a on
 no-two : (width s a n : ℕ) → a + n ≡ width
@@ -70,125 +64,102 @@ length-one_track width s =
     halves (suc w) l h = let less : suc w - 1 ≡ w = omega arith in let e : suc w * w ≡ 2 * l =
         omega (arith, h) in rw (less, e) (omega arith)
 
--- pins that open each track forbid none
-none-closed : (width : ℕ) (pins : List PinStep) → flat_map (open_track (λ _ _. true) width) pins
-    ≡ []
-none-closed width [] = refl
-none-closed width (p ∷ pins) = rw (nothing (below width), none-closed width pins) refl
-  where
-    nothing : (ts : List ℕ) → filter (λ t. not true) ts ≡ []
-    nothing [] = refl
-    nothing (t ∷ ts) = nothing ts
+module _ (across : Cell → Cell → ℕ → Option ℕ) (open_at : PinAt → ℕ → Bool) (width : ℕ)
+    (route : RouteText) where
+  abbrev count : ℕ
+  count = length (slots route)
 
--- of a route that fits the encoding is what the code makes
-pub strict-encoding : (width : ℕ) (route : RouteText) → IsFit route → encoding_subset width route
-    ≡ clauses_subset width (slots route) (steps route)
-strict-encoding width route fit =
-    let all : List Slot = slots route in
-    let first : List Clause =
-    map (some_track width) (below (length all)) ++ flat_map (one_track width)
-    (below (length all)) in
-    let joined : flat_map (joined_track (track_across subset_track route.grid) width all)
-    (steps route) ≡ flat_map (same_tracks width) (steps route) =
-    rows-alike (joined_track (track_across subset_track route.grid) width all) (same_tracks width)
-    (steps route) (λ step i.
-    let good = In-all (IsGoodStep route) (steps route) step (good-steps route fit) i in
-    map-alike
-    (λ t. lacks width step.from t ∷ option_to_list
-    (option_map (has width step.to)
-    (track_after (track_across subset_track route.grid) all step t)))
-    (λ t. lacks width step.from t ∷ has width step.to t ∷ []) (below width) (λ t.
-    ap (λ (o : Option ℕ). lacks width step.from t ∷ option_to_list
-    (option_map (has width step.to) o)) (subset-across route.grid (slot_at all step.from).cell
-    (slot_at all step.to).cell t good.1))) in
-    rw (
-      none-closed width (pin_steps route),
-      append-nil first,
-      joined,
-      pairs-regroup all
-          (slots-distinct route) (apart_track width),
-    ) refl
+  abbrev first : List Clause
+  first = map (some_track width) (below count)
 
--- how many clauses there are
-pub length-encoding : (width : ℕ) (route : RouteText) → IsFit route
-    → length (encoding_subset width route) ≡ length (slots route) + length (slots route) *
-    (width * (width - 1) / 2) + length (steps route) * width + length
-    (pairs (slots route)) * width
-length-encoding width route fit =
-    let all : List Slot = slots route in
-    let a : List Clause = map (some_track width) (below (length all)) in
-    let b : List Clause = flat_map (one_track width) (below (length all)) in
-    let d : List Clause = flat_map (joined_track (track_across subset_track route.grid) width all)
-    (steps route) in
-    let e : List Clause = flat_map (apart_track width) (pairs all) in
-    let slot_count = length-range_with_len 0 (length all) in
-    let len_a : length a ≡ length all =
-    length-map-range_with_len (some_track width) 0 (length all) in
-    let len_b : length b ≡ length all * (width * (width - 1) / 2) =
-    length-rows (one_track width) (width * (width - 1) / 2) (below (length all))
-    (length-one_track width) ∙ ap (λ (n : ℕ). n * (width * (width - 1) / 2)) slot_count in
-    let len_d : length d ≡ length (steps route) * width =
-    length-rows (joined_track (track_across subset_track route.grid) width all) width (steps route)
-    (λ step. length-map-range_with_len
-    (λ t. lacks width step.from t ∷ option_to_list
-    (option_map (has width step.to)
-    (track_after (track_across subset_track route.grid) all step t))) 0 width) in
-    let len_e : length e ≡ length (pairs all) * width =
-    length-rows (apart_track width) width (pairs all)
-    (λ p. length-map-range_with_len (λ t. not_both width p.0 t p.1 t) 0 width) in
-    rw (
-      none-closed width (pin_steps route),
-      append-nil (a ++ b),
-      length-append
-          (a ++ b ++ d) e,
-      length-append
-          (a ++ b) d,
-      length-append a b,
-      len_a,
-      len_b,
-      len_d,
-      len_e,
-    ) refl
+  abbrev second : List Clause
+  second = flat_map (one_track width) (below count)
 
--- how many literals they have
-pub lits-encoding : (width : ℕ) (route : RouteText) → IsFit route
-    → lit_count (encoding_subset width route) ≡ length (slots route) * width + 2 *
-    (length (encoding_subset width route) - length (slots route))
-lits-encoding width route fit =
-    let all : List Slot = slots route in
-    let a : List Clause = map (some_track width) (below (length all)) in
-    let b : List Clause = flat_map (one_track width) (below (length all)) in
-    let d : List Clause = flat_map (same_tracks width) (steps route) in
-    let e : List Clause = flat_map (apart_from_rivals width all) (below (length all)) in
-    let len_a : length a ≡ length all =
-    length-map-range_with_len (some_track width) 0 (length all) in
-    let lits_a : lit_count a ≡ length all * width =
-    lits-each (some_track width) width (below (length all))
-    (λ s. length-map-range_with_len (has width s) 0 width)
-    ∙ ap (λ (n : ℕ). n * width) (length-range_with_len 0 (length all)) in
-    let two_b : AreTwos b =
-    twos-flat_map (one_track width) (below (length all))
-    (λ s. twos-flat_map (no_higher_track width s) (below width)
-    (λ t. twos-map (λ u. not_both width s t s u) (above t width) (λ u. refl))) in
-    let two_d : AreTwos d =
-    twos-flat_map (same_tracks width) (steps route)
-    (λ step. twos-map (λ t. lacks width step.from t ∷ has width step.to t ∷ []) (below width)
-    (λ t. refl)) in
-    let two_e : AreTwos e = twos-flat_map (apart_from_rivals width all) (below (length all))
-    (λ x. twos-flat_map (λ y. apart_track width (x, y)) (rivals_after all x)
-    (λ y. twos-map (λ t. not_both width x t y t) (below width) (λ t. refl))) in
-    rw (
-      strict-encoding width route fit,
-      sum_by-append length (a ++ b ++ d) e,
-      sum_by-append length (a ++ b) d,
-      sum_by-append length a b,
-      length-append (a ++ b ++ d) e,
-      length-append (a ++ b) d,
-      length-append a b,
-      len_a,
-      lits_a,
-      two_b,
-      two_d,
-      two_e,
-    )
-    (omega arith)
+  abbrev third : List Clause
+  third = flat_map (open_track open_at width) (pin_steps route)
+
+  abbrev fourth : List Clause
+  fourth = flat_map (joined_track across width (slots route)) (steps route)
+
+  abbrev fifth : List Clause
+  fifth = flat_map (apart_track width) (pairs (slots route))
+
+  -- how many clauses have two literals
+  abbrev pub of_two : ℕ
+  of_two = count * (width * (width - 1) / 2) + length (steps route) * width
+      + length (pairs (slots route)) * width
+
+  length-first : length first ≡ count
+  length-first = length-map-range_with_len (some_track width) 0 count
+
+  length-second : length second ≡ count * (width * (width - 1) / 2)
+  length-second = length-rows (one_track width) (width * (width - 1) / 2) (below count)
+      (length-one_track width)
+      ∙ ap (λ (n : ℕ). n * (width * (width - 1) / 2)) (length-range_with_len 0 count)
+
+  length-fourth : length fourth ≡ length (steps route) * width
+  length-fourth = length-rows (joined_track across width (slots route)) width (steps route)
+      (λ step. length-map-range_with_len
+      (λ t. lacks width step.from t ∷ option_to_list
+      (option_map (has width step.to) (track_after across (slots route) step t))) 0 width)
+
+  length-fifth : length fifth ≡ length (pairs (slots route)) * width
+  length-fifth = length-rows (apart_track width) width (pairs (slots route))
+      (λ p. length-map-range_with_len (λ t. not_both width p.0 t p.1 t) 0 width)
+
+  -- how many clauses there are
+  pub length-encoding_by : length (encoding across open_at width route)
+      ≡ count + length third + of_two
+  length-encoding_by = rw (
+    length-append (first ++ second ++ third ++ fourth) fifth,
+    length-append (first ++ second ++ third) fourth,
+    length-append (first ++ second) third,
+    length-append first second,
+    length-first,
+    length-second,
+    length-fourth,
+    length-fifth,
+  ) (omega arith)
+
+  -- how many literals they have, where the tracks of each step are joined to some
+  pub lits-encoding_by : ((step : RouteStep) → In (steps route) step
+      → (t : ℕ) → (u : ℕ) × (track_after across (slots route) step t ≡ Some u))
+      → lit_count (encoding across open_at width route)
+      ≡ count * width + length third + 2 * of_two
+  lits-encoding_by joins =
+      let lits_a : lit_count first ≡ count * width =
+      lits-each (some_track width) width (below count)
+      (λ s. length-map-range_with_len (has width s) 0 width)
+      ∙ ap (λ (n : ℕ). n * width) (length-range_with_len 0 count) in
+      let two_b : HaveEach 2 second =
+      each-rows 2 (one_track width) (below count) (λ s i.
+      each-rows 2 (no_higher_track width s) (below width) (λ t j.
+      each-map 2 (λ u. not_both width s t s u) (above t width) (λ u. refl))) in
+      let one_c : HaveEach 1 third =
+      each-rows 1 (open_track open_at width) (pin_steps route) (λ p i.
+      each-map 1 (λ t. lacks width p.slot t ∷ [])
+      (filter (λ t. not (open_at p.pin t)) (below width)) (λ t. refl)) in
+      let two_d : HaveEach 2 fourth =
+      each-rows 2 (joined_track across width (slots route)) (steps route) (λ step i.
+      each-map 2 (λ t. lacks width step.from t ∷ option_to_list
+      (option_map (has width step.to) (track_after across (slots route) step t))) (below width)
+      (λ t. ap (λ (o : Option ℕ). length (lacks width step.from t ∷ option_to_list
+      (option_map (has width step.to) o))) (joins step i t).1)) in
+      let two_e : HaveEach 2 fifth =
+      each-rows 2 (apart_track width) (pairs (slots route)) (λ p i.
+      each-map 2 (λ t. not_both width p.0 t p.1 t) (below width) (λ t. refl)) in
+      rw (
+        sum_by-append length (first ++ second ++ third ++ fourth) fifth,
+        sum_by-append length (first ++ second ++ third) fourth,
+        sum_by-append length (first ++ second) third,
+        sum_by-append length first second,
+        lits_a,
+        two_b,
+        one_c,
+        two_d,
+        two_e,
+        length-second,
+        length-fourth,
+        length-fifth,
+      )
+      (omega arith)

@@ -1,8 +1,14 @@
 pub mod AddLemmas
 pub mod BitLemmas
+pub mod CompeteLemmas
 pub mod CountLemmas
-pub mod Decoded
-pub mod Exactness
+pub mod FabricLemmas
+pub mod LegalLemmas
 pub mod LiteralLemmas
 pub mod Models
+pub mod PinSlots
+pub mod ProblemCounts
+pub mod ProblemDecoded
+pub mod ProblemExactness
 pub mod RivalLemmas
+pub mod ShownLemmas

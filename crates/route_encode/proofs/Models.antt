@@ -167,8 +167,8 @@ module _ (across : Cell → Cell → ℕ → Option ℕ) (opens : PinAt → ℕ 
   count = length (slots route)
 
   -- the formula of the clauses
-  abbrev pub cnf_of : Cnf
-  cnf_of = record { vars = count * width; clauses = encoding across opens width route }
+  abbrev pub cnf_by : Cnf
+  cnf_by = record { vars = count * width; clauses = encoding across opens width route }
 
   abbrev first : List Clause
   first = map (some_track width) (below count)
@@ -194,7 +194,7 @@ module _ (across : Cell → Cell → ℕ → Option ℕ) (opens : PinAt → ℕ 
       option_to_list (option_map (has width step.to) (track_after across (slots route) step t))
 
   -- the clauses that values satisfy are obeyed
-  pub satisfies-obeys : (values : List Bool) → Satisfies values cnf_of →
+  pub satisfies-obeys : (values : List Bool) → Satisfies values cnf_by →
       Obeys across opens width route values
   satisfies-obeys values h =
       let P : Clause → Type 0 = IsTrueClause values in
@@ -243,7 +243,7 @@ module _ (across : Cell → Cell → ℕ → Option ℕ) (opens : PinAt → ℕ 
       → p.slot < count)
       (pairs_in : (p : ℕ × ℕ) → In (pairs (slots route)) p → (p.0 < count) × (p.1 < count)) where
     pub obeys-satisfies : (values : List Bool) → Obeys across opens width route values →
-        Satisfies values cnf_of
+        Satisfies values cnf_by
     obeys-satisfies values h = record {
       one_each = h.many;
       each_clause =

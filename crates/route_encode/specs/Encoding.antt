@@ -4,7 +4,8 @@ use Rattle.std.specs.Prelude.{ℕ, suc, ◌+◌, ◌-◌, ◌*◌, Bool, true, n
 use Rattle.std.specs.List.{range_with_len}
 use Rattle.fpga_types.specs.Slots.{pairs, pin_steps, slot_at, slots, steps}
 use Rattle.fpga_types.specs.Boxes.{opens}
-use Rattle.fpga_types.specs.Tracks.{mapped_track, subset_track, track_across}
+use Rattle.fpga_types.specs.Problem.{RoutingProblem}
+use Rattle.fpga_types.specs.Tracks.{mapped_track, track_across}
 use Rattle.fpga_types.specs.declared.arch.Arch.{Arch}
 use Rattle.fpga_types.specs.declared.grid.Cell.{Cell}
 use Rattle.fpga_types.specs.declared.grid.PinAt.{PinAt}
@@ -89,14 +90,9 @@ encoding_for arch width route =
     encoding (track_across (mapped_track arch.pattern width) route.grid) (opens arch width) width
     route
 
--- the clauses with subset switch blocks and connection boxes that open each track
-abbrev pub encoding_subset : ℕ → RouteText → List Clause
-encoding_subset width route =
-    encoding (track_across subset_track route.grid) (λ _ _. true) width route
-
--- these clauses as a formula, with a variable for each track of each slot
-abbrev pub cnf_subset : ℕ → RouteText → Cnf
-cnf_subset width route = record {
-  vars = length (slots route) * width;
-  clauses = encoding_subset width route;
+-- these clauses of a problem as a formula, with a variable for each track of each slot
+abbrev pub cnf_of : ℕ → RoutingProblem → Cnf
+cnf_of width p = record {
+  vars = length (slots p.route) * width;
+  clauses = encoding_for p.arch width p.route;
 }

@@ -1,3 +1,4 @@
+pub mod Added
 pub mod Adding
 pub mod Bits
 pub mod Encoding
@@ -5,4 +6,3 @@ pub mod Exact
 pub mod Good
 pub mod Rivals
 pub mod Said
-pub mod Subset

@@ -1,19 +1,15 @@
-//! The clauses of a problem, item by item.
+//! The clauses of slots, item by item.
 ghost use Rattle.std.specs.Prelude.{◌≡◌, ◌≤◌, ◌<◌, ◌*◌, [], ◌∷◌, All, length, map, flat_map};
 ghost use Rattle.route_encode.specs.Adding.{Adds, HasRoom, HasVariables};
 ghost use Rattle.route_encode.specs.Encoding.{apart_track, below, no_higher_track, one_track, some_track};
-ghost use Rattle.route_encode.specs.Subset.{same_tracks};
 ghost use Rattle.sat_clause.specs.Literal.{IsWithin};
 
 use crate::variables::Variables;
-use fpga_types::RouteStep;
+use fpga_graph::MOST_TRACKS;
 use sat_clause::{Formula, Lit};
 
-/// The greatest width.
-const MOST_TRACKS: usize = 64;
-
 /// Adds a clause.
-fn add_clause(formula: &mut Formula, clause: &[Lit])
+pub(crate) fn add_clause(formula: &mut Formula, clause: &[Lit])
     requires within { All (IsWithin formula.old.cnf.vars) clause.now }
     requires room { HasRoom formula.old (clause.now ∷ []) }
     ensures { Adds formula.old (clause.now ∷ []) formula.new }
@@ -71,31 +67,6 @@ fn add_no_higher_track(formula: &mut Formula, variables: Variables, slot: u32, t
     let lower = variables.lacks(slot, track);
     for higher in track + 1..variables.width {
         add_clause(formula, &[lower, variables.lacks(slot, higher)]);
-    }
-}
-
-/// Adds for each step that its second slot has the track of the first, where that has it.
-pub(crate) fn add_joined_tracks(formula: &mut Formula, variables: Variables, steps: &[RouteStep])
-    requires within { All (λ s. (s.from < variables.slots) × (s.to < variables.slots)) steps.now }
-    requires vars { HasVariables variables formula.old }
-    requires room { HasRoom formula.old (flat_map (same_tracks variables.width) steps.now) }
-    ensures { Adds formula.old (flat_map (same_tracks variables.width) steps.now) formula.new }
-{
-    for step in steps {
-        add_same_tracks(formula, variables, *step);
-    }
-}
-
-/// Adds that the second slot of a step has the track of the first, where that has it.
-fn add_same_tracks(formula: &mut Formula, variables: Variables, step: RouteStep)
-    requires within { (step.from < variables.slots) × (step.to < variables.slots) }
-    requires vars { HasVariables variables formula.old }
-    requires room { HasRoom formula.old (same_tracks variables.width step) }
-    ensures { Adds formula.old (same_tracks variables.width step) formula.new }
-{
-    for track in 0..variables.width {
-        let first = variables.lacks(step.from, track);
-        add_clause(formula, &[first, variables.has(step.to, track)]);
     }
 }
 

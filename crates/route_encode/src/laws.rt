@@ -1,16 +1,22 @@
 //! Laws over the definitions, as functions that do nothing.
 ghost use Rattle.std.specs.Prelude.{ℕ};
-ghost use Rattle.fpga_types.specs.Fit.{IsFit};
-ghost use Rattle.fpga_types.specs.declared.route.RouteText.{RouteText};
-ghost use Rattle.route_encode.specs.Exact.{BitsAreExact, ModelsAreBits};
+ghost use Rattle.fpga_types.specs.Fits.{Fits};
+ghost use Rattle.fpga_types.specs.Problem.{RoutingProblem};
+ghost use Rattle.route_encode.specs.Exact.{BitsSayLegal, ModelsSayLegal, UnsatSaysUnroutable};
 
-/// Of a route that fits, one number for each slot is a legal routing exactly where its bits satisfy
-/// the clauses.
-pub fn bits_satisfy_exactly_where_legal()
-    ensures { (width : ℕ) (route : RouteText) → IsFit route → BitsAreExact width route }
+/// Of a problem that fits, one number for each slot is a legal routing exactly where its bits
+/// satisfy the clauses.
+pub fn bits_say_legal()
+    ensures { (width : ℕ) (problem : RoutingProblem) → Fits problem → BitsSayLegal width problem }
 {}
 
-/// Of a route that fits, values that satisfy the clauses are the bits of a legal routing.
-pub fn models_are_bits_of_legal()
-    ensures { (width : ℕ) (route : RouteText) → IsFit route → ModelsAreBits width route }
+/// Of a problem that fits, values that satisfy the clauses are the bits of a legal routing.
+pub fn models_say_legal()
+    ensures { (width : ℕ) (problem : RoutingProblem) → Fits problem → ModelsSayLegal width problem }
+{}
+
+/// A problem that fits has no legal routing exactly where no values satisfy the clauses.
+pub fn unsat_says_unroutable()
+    ensures { (width : ℕ) (problem : RoutingProblem) → Fits problem
+        → UnsatSaysUnroutable width problem }
 {}

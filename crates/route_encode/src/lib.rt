@@ -3,15 +3,15 @@
 
 mod clauses;
 mod encoder;
+mod fabric;
 mod laws;
 mod rivals;
+mod size;
 mod strict;
-#[cfg(test)]
-mod tests;
 mod tracks;
 mod variables;
 mod walk;
 
 pub use encoder::Encoder;
-pub use laws::{bits_satisfy_exactly_where_legal, models_are_bits_of_legal};
+pub use laws::{bits_say_legal, models_say_legal, unsat_says_unroutable};
 pub use strict::Strict;

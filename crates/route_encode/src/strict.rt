@@ -1,28 +1,30 @@
 //! The encoding in which each slot has one track.
-ghost use Rattle.std.specs.Prelude.{◌≡◌, ◌≤◌, ◌+◌, ◌-◌, ◌*◌, All, length, IfOk};
+ghost use Rattle.std.specs.Prelude.{◌≡◌, ◌≤◌, ◌*◌, length, IfOk, map, flat_map};
 ghost use Rattle.fpga_types.specs.Legal.{tracks_of};
 ghost use Rattle.fpga_types.specs.Slots.{slots};
-ghost use Rattle.fpga_bounds.specs.Problem.{IsStepWithin};
-ghost use Rattle.route_encode.specs.Adding.{Adds, HasRoom, HasVariables, lit_count};
+ghost use Rattle.route_encode.specs.Added.{added_clauses, slot_clauses};
+ghost use Rattle.route_encode.specs.Adding.{Adds, HasRoom, HasVariables};
 ghost use Rattle.route_encode.specs.Bits.{bits};
-ghost use Rattle.route_encode.specs.Encoding.{cnf_subset, encoding_subset};
-ghost use Rattle.route_encode.specs.Good.{IsRouting};
-ghost use Rattle.route_encode.specs.Subset.{clauses_subset};
+ghost use Rattle.route_encode.specs.Encoding.{cnf_of};
+ghost use Rattle.route_encode.specs.Good.{IsRoutingOf};
 ghost use Rattle.sat_clause.specs.Formula.{Satisfies};
 
-use crate::clauses::{add_joined_tracks, add_one_tracks, add_some_tracks};
+use crate::clauses::{add_one_tracks, add_some_tracks};
 use crate::encoder::Encoder;
+use crate::fabric::{add_joined_tracks, add_open_tracks};
 use crate::rivals::RivalChains;
+use crate::size::formula_size;
 use crate::tracks::tracks_said;
 use crate::variables::Variables;
 use crate::walk::add_apart_tracks;
-use fpga_bounds::Problem;
-use fpga_types::{RouteStep, RouteText, WIDTH_LIMIT};
+use fpga_bounds::PlacedProblem;
+use fpga_graph::Graph;
+use fpga_types::{RouteText, WIDTH_LIMIT};
 use sat_clause::Formula;
 use std::alloc::{AllocError, Global};
 
-/// Each slot has exactly one track, the slots of a step have one track, and nets that share a cell
-/// have different tracks there: subset switch blocks, and pins that reach every track.
+/// Each slot has exactly one track, which the pins next to it open, the tracks of the slots of a
+/// step are joined, and nets that share a cell have different tracks there.
 ///
 /// The clauses are the connectivity and exclusivity constraints of Nam, Sakallah and Rutenbar (IEEE
 /// Transactions on CAD, 2002), with a variable for each track of each slot.
@@ -30,42 +32,45 @@ use std::alloc::{AllocError, Global};
 pub struct Strict;
 
 impl Encoder for Strict {
-    ghost formula_of = { λ _ route width. cnf_subset width route };
+    ghost formula_of = { λ _ p width. cnf_of width p };
 
-    ghost is_good = { λ _ route width found. IsRouting width route found };
+    ghost is_good = { λ _ p width found. IsRoutingOf width p found };
 
-    fn count(&self, problem: &Problem, width: u32) -> u64 {
-        clause_count(problem, width)
+    fn count(&self, problem: &PlacedProblem, width: u32) -> u64 {
+        formula_size(problem, width).clauses
     }
 
-    fn build(&self, alloc: Global, problem: &Problem, width: u32) -> Result<Formula, AllocError> {
+    fn build(
+        &self,
+        alloc: Global,
+        problem: &PlacedProblem,
+        width: u32,
+    ) -> Result<Formula, AllocError> {
         let slots = problem.slots();
         let variables = Variables {
             slots: slots.len() as u32,
             width,
         };
-        let vars = variables.count();
-        let clauses = clause_count(problem, width);
-        let lits = vars as u64 + 2 * (clauses - variables.slots as u64);
+        let size = formula_size(problem, width);
         let chains = RivalChains::new(alloc, slots)?;
         let mut formula = Formula::new(alloc);
-        formula.reserve(vars, clauses as u32, lits)?;
-        add_clauses(&mut formula, variables, &chains, problem.steps());
+        formula.reserve(variables.count(), size.clauses as u32, size.lits)?;
+        add_clauses(&mut formula, variables, problem, &chains);
         Ok(formula)
     }
 
     fn decode(
         &self,
         alloc: Global,
-        problem: &Problem,
+        problem: &PlacedProblem,
         width: u32,
         values: &[bool],
     ) -> Result<RouteText, AllocError>
         requires width { (1 ≤ width) × (width ≤ WIDTH_LIMIT) }
-        requires model { Satisfies values.now (cnf_subset width problem.now) }
-        ensures good { IfOk result (IsRouting width problem.now) }
+        requires model { Satisfies values.now (cnf_of width problem.now) }
+        ensures good { IfOk result (IsRoutingOf width problem.now) }
         ensures chosen { IfOk result
-            (λ found. values.now ≡ bits width (tracks_of problem.now found)) }
+            (λ found. values.now ≡ bits width (tracks_of problem.now.route found)) }
     {
         let variables = Variables {
             slots: problem.slots().len() as u32,
@@ -77,35 +82,33 @@ impl Encoder for Strict {
     }
 }
 
-/// The number of clauses.
-fn clause_count(problem: &Problem, width: u32) -> u64
-    requires width { (1 ≤ width) × (width ≤ WIDTH_LIMIT) }
-    ensures count { result ≡ length (encoding_subset width problem.now) }
-    ensures lits { length (slots problem.now) * width + 2 * (result - length (slots problem.now))
-        ≡ lit_count (encoding_subset width problem.now) }
-    ensures most { length (slots problem.now) ≤ result }
-{
-    let tracks = width as u64;
-    let slots = problem.slots().len() as u64;
-    let steps = problem.steps().len() as u64;
-    slots + slots * (tracks * (tracks - 1) / 2) + steps * tracks + problem.pairs() * tracks
-}
-
-/// Adds the clauses of these slots and steps.
+/// Adds the clauses of a problem, whose slots are in these chains.
 fn add_clauses(
     formula: &mut Formula,
     variables: Variables,
+    problem: &PlacedProblem,
     chains: &RivalChains<'_>,
-    steps: &[RouteStep],
 )
-    requires each { variables.slots ≡ length chains.now }
-    requires within { All (IsStepWithin chains.now) steps.now }
+    requires width { 1 ≤ variables.width }
+    requires slots { chains.now ≡ slots problem.now.route }
+    requires each { variables.slots ≡ length (slots problem.now.route) }
     requires vars { HasVariables variables formula.old }
-    requires room { HasRoom formula.old (clauses_subset variables.width chains.now steps.now) }
-    ensures { Adds formula.old (clauses_subset variables.width chains.now steps.now) formula.new }
+    requires room { HasRoom formula.old (added_clauses variables.width problem.now) }
+    ensures { Adds formula.old (added_clauses variables.width problem.now) formula.new }
+{
+    let graph = Graph::new(problem.arch(), problem.route().grid, variables.width);
+    add_slot_clauses(formula, variables);
+    add_open_tracks(formula, variables, &graph, problem.pin_steps());
+    add_joined_tracks(formula, variables, &graph, problem.slots(), problem.steps());
+    add_apart_tracks(formula, variables, chains);
+}
+
+/// Adds that each slot has one track.
+fn add_slot_clauses(formula: &mut Formula, variables: Variables)
+    requires vars { HasVariables variables formula.old }
+    requires room { HasRoom formula.old (slot_clauses variables.width variables.slots) }
+    ensures { Adds formula.old (slot_clauses variables.width variables.slots) formula.new }
 {
     add_some_tracks(formula, variables);
     add_one_tracks(formula, variables);
-    add_joined_tracks(formula, variables, steps);
-    add_apart_tracks(formula, variables, chains);
 }

@@ -1,7 +1,6 @@
 //! What must come of a run, and whether it came.
 ghost use Rattle.std.specs.Prelude.{◌≡◌, All, IsErr, IsTrue, OnOk};
 ghost use Rattle.router_rows.specs.Wanted.{AreMet, IsMetBy, said_of};
-ghost use Rattle.router_top.specs.Report.{NamesKnownFile};
 
 use crate::stop::RowStop;
 use desk_io::MemShelf;
@@ -54,7 +53,6 @@ impl Wants {
 
     /// Whether all came that must.
     pub fn compare(&self, alloc: Global, outcome: &Outcome, shelf: &MemShelf) -> Result<(), RowStop>
-        requires { NamesKnownFile outcome.now }
         ensures { OnOk result (AreMet self.now outcome.now shelf.now) }
     {
         let Some(expected) = &self.outcome else {

@@ -16,10 +16,11 @@ use desk_io::{FileDesk, read_file};
 use std::str;
 
 // The files of cases. The first says how they are written.
-const FILES: [&str; 4] = [
+const FILES: [&str; 5] = [
     "worked.rows",
     "failing_calls.rows",
     "route_texts.rows",
+    "limits.rows",
     "proof_texts.rows",
 ];
 

@@ -55,6 +55,7 @@ impl Row {
         match word {
             "words" => self.take_words(rest),
             "file" => self.take_file(rest),
+            "design" => self.take_design(texts, rest),
             "desk" => Ok(self.desk_fails = numbers(self.alloc, rest)?),
             "shelf" => Ok(self.shelf_fails = numbers(self.alloc, rest)?),
             "comes" => Ok(self.wants.outcome = Some(String::from_str(self.alloc, rest)?)),
@@ -96,6 +97,16 @@ impl Row {
         let name = String::from_str(self.alloc, name)?;
         self.files.push((name, Vec::new(self.alloc)))?;
         self.target = Target::File;
+        Ok(())
+    }
+
+    // Takes the files of the design of this name, which are parts.
+    fn take_design(&mut self, texts: &Texts, name: &str) -> Result<(), LineFault> {
+        for file in ["arch", "net", "place"] {
+            let part = format!(in self.alloc; "&{name}.{file}")?;
+            self.take_file(file)?;
+            self.take_text(texts, part.as_str())?;
+        }
         Ok(())
     }
 

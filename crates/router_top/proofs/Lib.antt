@@ -1,7 +1,6 @@
-pub mod AgreeLaws
-pub mod CommandLemmas
-pub mod FileLaws
-pub mod FileSteps
-pub mod LogLemmas
-pub mod RunLaws
-pub mod SearchSteps
+mod AgreeLaws
+mod CompleteLaws
+mod FourLaws
+mod MeansLaws
+mod SourceLaws
+mod UnroutableLaws

@@ -1,6 +1,9 @@
 -- The exit status and the report line of each outcome.
-use Rattle.std.specs.Prelude.{ℕ, ◌-◌, ◌≤◌, ◌++◌, List, [], ◌∷◌, slice_index_or, codes, decimal, Result, Ok, Err}
+use Rattle.std.specs.Prelude.{ℕ, ◌++◌, List, codes, decimal, Result, Ok, Err}
+use Rattle.router_top.specs.Slots.{number_of}
+use Rattle.router_top.specs.TextFiles.{file_word}
 use Rattle.router_top.specs.declared.outcome.Outcome.{Outcome}
+use Rattle.router_top.specs.declared.slot.Slot.TheVariants.{Said}
 use Rattle.router_top.specs.declared.outcome.Outcome.TheVariants.{Routed, Unroutable, Undecided, Done, Accepted, NotAccepted, InputFault, Limit, Usage, ReadFault, WriteFault, OutOfMemory}
 
 -- the exit status
@@ -17,23 +20,6 @@ status_of (Usage code) = 4
 status_of (ReadFault file) = 5
 status_of (WriteFault slot) = 6
 status_of OutOfMemory = 7
-
--- the words for the files, from number 1 on
-abbrev pub FILE_WORDS : List (List ℕ)
-FILE_WORDS =
-    codes "architecture" ∷ codes "netlist" ∷ codes "placement" ∷ codes "route" ∷ codes "cnf"
-    ∷ codes "lrat"
-    ∷ codes "routed" ∷ []
-
--- the word for a file, by its number
-abbrev pub file_word : ℕ → List ℕ
-file_word file = slice_index_or FILE_WORDS (file - 1) []
-
--- a file number, where there is one, is one of the seven
-abbrev pub NamesKnownFile : Outcome → Type 0
-NamesKnownFile (InputFault file line code) = (1 ≤ file) × (file ≤ 7)
-NamesKnownFile (ReadFault file) = (1 ≤ file) × (file ≤ 7)
-NamesKnownFile outcome = Unit {0}
 
 -- the report line
 abbrev pub report_of : Outcome → List ℕ
@@ -53,7 +39,7 @@ report_of (Limit code count) = codes "limit: code " ++ decimal code ++ codes " c
     ++ decimal count
 report_of (Usage code) = codes "usage: code " ++ decimal code
 report_of (ReadFault file) = codes "read fault: " ++ file_word file
-report_of (WriteFault slot) = codes "write fault: slot " ++ decimal slot
+report_of (WriteFault slot) = codes "write fault: slot " ++ decimal (number_of slot)
 report_of OutOfMemory = codes "out of memory"
 
 -- the report line with its newline
@@ -63,7 +49,7 @@ line_of outcome = report_of outcome ++ codes "\n"
 -- what a run comes to whose report line was not said: it has failed to write, unless it had already
 abbrev pub unsaid : Outcome → Outcome
 unsaid (WriteFault slot) = WriteFault slot
-unsaid outcome = WriteFault 0
+unsaid outcome = WriteFault Said
 
 -- the desk has failed
 abbrev pub IsReadFault : Outcome → Type 0

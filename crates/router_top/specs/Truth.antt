@@ -1,34 +1,60 @@
 -- What each outcome but those of faults says of the words and of the files.
-use Rattle.std.specs.Prelude.{◌≡◌, ◌⊎◌, ℕ, List, MatchResult, Option}
-use Rattle.desk_io.specs.Files.{FileMap}
-use Rattle.fpga_types.specs.declared.route.RouteText.{RouteText}
-use Rattle.router_top.specs.Asked.{IsRoutable, IsTrueOfClauses, IsUnroutable}
-use Rattle.router_top.specs.Command.{Checks, Encodes, Job, RouteJob, Routes, Word, job_of}
-use Rattle.router_top.specs.Finding.{ChecksFiles}
-use Rattle.router_top.specs.Inputs.{IsHalted}
+use Rattle.std.specs.Prelude.{◌≡◌, ◌⊎◌, ℕ, ◌<◌, List, length, MatchResult, Option, Some}
+use Rattle.std.specs.Option.{ForSome}
+use Rattle.desk_io.specs.DeskState.{DeskState}
+use Rattle.desk_io.specs.Files.{FileMap, HasRisen}
+use Rattle.desk_io.specs.ShelfState.{ShelfState}
+use Rattle.fpga_types.specs.Problem.{RoutingProblem}
+use Rattle.route_encode.specs.Encoding.{cnf_of}
+use Rattle.route_encode.specs.Exact.{IsRoutableAt, IsUnroutableAt}
+use Rattle.route_sweep.specs.Found.{HasFew}
+use Rattle.sat_clause.specs.declared.limits.TheConstants.{CLAUSE_LIMIT}
+use Rattle.router_words.specs.Command.{job_of}
+use Rattle.router_words.specs.Refusal.{code_of}
+use Rattle.router_words.specs.Job.{Checks, Encodes, FilesAsked, JobAsked, RouteAsked, Routes}
+use Rattle.router_words.specs.Word.{Word}
+use Rattle.router_top.specs.Check.{ChecksTo}
+use Rattle.router_top.specs.FourFiles.{GivesNone, Poses}
+use Rattle.router_top.specs.Sources.{IsHalted}
 use Rattle.router_top.specs.declared.outcome.Outcome.{Outcome}
-use Rattle.router_top.specs.declared.outcome.Outcome.TheVariants.{Routed, Unroutable, Undecided, Done, Usage}
+use Rattle.router_top.specs.declared.outcome.Outcome.TheVariants.{Routed, Unroutable, Undecided, Done, Limit, Usage, OutOfMemory}
 
--- some tracks make a legal routing of the route, or none do, and the outcome says which; or it says
--- that the budget was spent
-abbrev pub IsTrueOfSearch : RouteJob → RouteText → Outcome → Type 0
-IsTrueOfSearch job route outcome =
-    (IsRoutable job.width route × (outcome ≡ Routed job.width))
-    ⊎ (IsUnroutable job.width route × (outcome ≡ Unroutable job.width))
-    ⊎ (outcome ≡ Undecided job.width job.budget)
+-- some tracks make a legal routing, or none do, and the outcome says which; or it says that the
+-- budget was spent
+abbrev pub IsTrueOfSearch : RouteAsked → RoutingProblem → Outcome → Type 0
+IsTrueOfSearch job p outcome =
+    (IsRoutableAt job.width p × (outcome ≡ Routed job.width))
+    ⊎ (IsUnroutableAt job.width p × (outcome ≡ Unroutable job.width))
+    ⊎ (outcome ≡ Undecided job.width job.conflicts)
 
--- what an outcome says of the files of whatever is asked for
-abbrev pub IsTrueOfJob : Job → Option FileMap → Outcome → Type 0
-IsTrueOfJob (Routes job) files outcome =
-    IsTrueOfClauses job.file job.width (IsTrueOfSearch job) files outcome
-IsTrueOfJob (Encodes job) files outcome =
-    IsTrueOfClauses job.file job.width (λ route said. said ≡ Done) files outcome
-IsTrueOfJob (Checks job) files outcome = ChecksFiles (IsHalted files) job files outcome
+-- there are more clauses at this width than may be built, and the outcome has their number; or
+-- there are not, and this is true
+abbrev pub IsTrueOfClauses : (width : ℕ) → RoutingProblem → (says : Type 0) → Outcome → Type 0
+IsTrueOfClauses width p says outcome =
+    ((CLAUSE_LIMIT < length (cnf_of width p).clauses)
+    × (outcome ≡ Limit 901 (length (cnf_of width p).clauses)))
+    ⊎ (HasFew (cnf_of width p) × says)
+
+-- the four files give no problem, and the outcome says why; or they pose one, of which it is true
+abbrev pub IsTrueOfWork : FilesAsked → (RoutingProblem → Outcome → Type 0) → Option FileMap
+    → Outcome → Type 0
+IsTrueOfWork names says files outcome =
+    GivesNone (IsHalted files) files names outcome
+    ⊎ ((p : RoutingProblem) × Poses files names p × says p outcome)
+
+-- what an outcome says of the files of each job
+abbrev pub IsTrueOfJob : JobAsked → Option FileMap → Outcome → Type 0
+IsTrueOfJob (Routes job) files outcome = IsTrueOfWork job.files
+    (λ p said. IsTrueOfClauses job.width p (IsTrueOfSearch job p said) said) files outcome
+IsTrueOfJob (Encodes job) files outcome = IsTrueOfWork job.files
+    (λ p said. IsTrueOfClauses job.width p (said ≡ Done) said) files outcome
+IsTrueOfJob (Checks job) files outcome = ChecksTo (IsHalted files) files job outcome
 
 -- by what the words ask for, or by the code of what keeps them from being taken
 abbrev pub IsTrueOf : List Word → Option FileMap → Outcome → Type 0
 IsTrueOf words files outcome =
-    MatchResult (job_of words) (λ job. IsTrueOfJob job files outcome) (λ code. outcome ≡ Usage code)
+    MatchResult (job_of words) (λ job. IsTrueOfJob job files outcome)
+    (λ cause. outcome ≡ Usage (code_of cause))
 
 -- the answer of a search at this width
 abbrev pub IsOfSearch : ℕ → Outcome → Type 0
@@ -42,3 +68,12 @@ IsOfSearch width outcome = ⊥
 abbrev pub Agrees : Outcome → Outcome → Type 0
 Agrees answer outcome =
     (answer ≡ outcome) ⊎ ((width : ℕ) × IsOfSearch width answer × IsOfSearch width outcome)
+
+-- where the files are told, no fault has risen, memory sufficed and some outcome is true, the
+-- answer is true and agrees with that outcome
+abbrev pub IsComplete : List Word → (desk desk_now : DeskState) → (shelf shelf_now : ShelfState)
+    → Outcome → Type 0
+IsComplete words desk desk_now shelf shelf_now answer =
+    (outcome : Outcome) → ForSome desk.files (λ files. IsTrueOf words (Some files) outcome
+    → ¬ HasRisen desk.faults desk_now.faults → ¬ HasRisen shelf.faults shelf_now.faults
+    → (IsTrueOf words (Some files) answer × Agrees answer outcome) ⊎ (answer ≡ OutOfMemory))

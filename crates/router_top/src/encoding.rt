@@ -1,61 +1,91 @@
-//! The command `encode`: the clauses of a routing problem.
-ghost use Rattle.std.specs.Prelude.{◌≡◌};
-ghost use Rattle.router_top.specs.Answer.{LeavesClauses};
-ghost use Rattle.router_top.specs.Asked.{HasFew};
-ghost use Rattle.router_top.specs.JobSaid.{encode_said};
-ghost use Rattle.router_top.specs.Report.{IsReadFault, NamesKnownFile};
-ghost use Rattle.router_top.specs.Written.{WritesCnf};
+//! The command `encode`: the clauses of a problem.
+ghost use Rattle.std.specs.Prelude.{◌≡◌, ◌++◌, codes, string_bytes, IfOk};
+ghost use Rattle.route_encode.specs.Encoding.{cnf_of};
+ghost use Rattle.router_words.specs.Job.{encode_said};
+ghost use Rattle.router_top.specs.Outcomes.{written_outcome};
+ghost use Rattle.router_top.specs.Report.{IsReadFault};
+ghost use Rattle.router_top.specs.Run.{LeavesWork};
+ghost use Rattle.router_top.specs.Work.{Encodes, WritesClauses};
 
-use crate::job_words::EncodeWords;
+use crate::four_files::pose_problem;
 use crate::outcome::Outcome;
-use crate::output::{CNF_SLOT, file_name};
-use crate::problem_file::pose_problem;
+use crate::stopping::stopped;
 use desk_io::{Desk, Shelf, write_file};
-use fpga_bounds::Problem;
+use fpga_bounds::PlacedProblem;
 use route_encode::{Encoder, Strict};
+use route_sweep::{FileSlot, Stop};
+use router_words::EncodeJob;
+use sat_clause::CLAUSE_LIMIT;
 use sat_text::CnfText;
-use std::alloc::Global;
+use std::alloc::{AllocError, Global};
 
-// Builds the clauses of a problem and writes them.
-fn write_clauses<S: Shelf>(
-    alloc: Global,
-    shelf: &mut S,
-    job: &EncodeWords<'_>,
-    problem: &Problem,
-) -> Outcome
-    requires { HasFew job.now.width problem.now }
-    ensures known { NamesKnownFile result }
-    ensures writes { WritesCnf (encode_said job.now) problem.now (S.state shelf.old)
-        (S.state shelf.new) result }
+// The name of the file that the clauses are written to.
+fn clauses_name(alloc: Global, prefix: &str) -> Result<String, AllocError>
+    ensures { IfOk result (λ name. string_bytes name ≡ prefix.now ++ codes ".cnf") }
 {
-    let Ok(formula) = Strict.build(alloc, problem, job.width) else {
-        return Outcome::OutOfMemory;
-    };
-    let Ok(name) = file_name(alloc, job.prefix, ".cnf") else {
-        return Outcome::OutOfMemory;
-    };
-    let Ok(()) = write_file(&CnfText, shelf, name.as_str(), &formula) else {
-        return Outcome::WriteFault { slot: CNF_SLOT };
-    };
-    Outcome::Done
+    let mut name = String::from_str(alloc, prefix)?;
+    name.push_str(".cnf")?;
+    Ok(name)
 }
 
-/// Reads the route file, builds its clauses and writes them.
+// Builds the clauses of a problem and writes them, where there are not too many.
+fn write_clauses<S: Shelf>(
+    alloc: Global,
+    job: &EncodeJob<'_>,
+    problem: &PlacedProblem,
+    shelf: &mut S,
+) -> Result<(), Stop>
+    ensures { WritesClauses (encode_said job.now) (cnf_of job.now.width problem.now)
+        (S.state shelf.old) (S.state shelf.new) result }
+{
+    let count = Strict.count(problem, job.width);
+    if count > CLAUSE_LIMIT {
+        return Err(Stop::TooManyClauses { count });
+    }
+    let Ok(formula) = Strict.build(alloc, problem, job.width) else {
+        return Err(Stop::Memory);
+    };
+    let Ok(name) = clauses_name(alloc, job.prefix) else {
+        return Err(Stop::Memory);
+    };
+    let Ok(()) = write_file(&CnfText, shelf, name.as_str(), &formula) else {
+        return Err(Stop::Fault {
+            slot: FileSlot::Clauses,
+        });
+    };
+    Ok(())
+}
+
+// What the run comes to by the writing.
+fn written(came: Result<(), Stop>) -> Outcome
+    ensures { result ≡ written_outcome came }
+{
+    match came {
+        Ok(()) => Outcome::Done,
+        Err(stop) => stopped(stop),
+    }
+}
+
+/// Reads the four files, builds the clauses and writes them.
 pub fn encode<D: Desk, S: Shelf>(
     alloc: Global,
-    job: &EncodeWords<'_>,
+    job: &EncodeJob<'_>,
     desk: &mut D,
     shelf: &mut S,
 ) -> Outcome
-    ensures known { NamesKnownFile result }
-    ensures leaves { LeavesClauses job.now.file.now job.now.width (WritesCnf (encode_said job.now))
-        (D.state desk.old) (D.state desk.new) (S.state shelf.old) (S.state shelf.new) result }
+    ensures leaves { LeavesWork (encode_said job.now).files (Encodes (encode_said job.now))
+        (record {
+          desk = D.state desk.old;
+          desk_now = D.state desk.new;
+          shelf = S.state shelf.old;
+          shelf_now = S.state shelf.new;
+        }) result }
     ensures files { (D.state desk.new).files ≡ (D.state desk.old).files }
     ensures quiet { ¬ IsReadFault result → (D.state desk.new).faults ≡ (D.state desk.old).faults }
 {
-    let problem = match pose_problem(alloc, desk, job.file, job.width) {
+    let problem = match pose_problem(alloc, desk, &job.files) {
         Ok(problem) => problem,
         Err(outcome) => return outcome,
     };
-    write_clauses(alloc, shelf, job, &problem)
+    written(write_clauses(alloc, job, &problem, shelf))
 }

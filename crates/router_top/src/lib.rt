@@ -1,22 +1,24 @@
-//! Routes a global route: reads it, searches for a track for each cell of each net, and writes the
-//! detailed route, or a refutation; writes the clauses that say what a routing is; or checks a
-//! refutation of such clauses.
+//! Routes a placed and globally routed design: reads its architecture, its netlist, its placement
+//! and its global route, searches for a track for each cell of each net, and writes the detailed
+//! route, or a refutation; writes the clauses that say what a routing is; or checks a refutation of
+//! such clauses.
 #![tactic(auto)]
 
 mod checking;
 mod encoding;
-mod input;
-mod job_words;
+mod four_files;
 mod limits;
 mod outcome;
-mod output;
-mod problem_file;
-mod proof_file;
 mod routing;
 mod running;
+mod slot;
+mod source;
+mod stopping;
 #[cfg(test)]
 mod tests;
-mod words;
+mod text_file;
 
 pub use outcome::{Outcome, report, status};
 pub use running::run;
+pub use slot::Slot;
+pub use text_file::TextFile;

@@ -1,10 +1,7 @@
-//! The limits of the words of a command and of its files.
+//! How many bytes files may have.
 
-/// How many clauses a search may learn at the most.
-pub const BUDGET_LIMIT: u64 = 100_000_000;
-
-/// How many bytes a route file may have.
-pub const ROUTE_BYTES: u64 = 67_108_864;
+/// How many bytes an architecture, a netlist, a placement or a route may have.
+pub const TEXT_BYTES: u64 = 67_108_864;
 
 /// How many bytes a CNF or an LRAT file may have.
 pub const PROOF_BYTES: u64 = 2_147_483_648;

@@ -1,40 +1,62 @@
 //! What a run comes to: its exit status and its report line.
 ghost use Rattle.std.specs.Prelude.{◌≡◌, ◌≤◌, ◌+◌, ◌++◌, length, decimal};
 ghost use Rattle.arrayvec.specs.ArrayString.{array_string_len};
-ghost use Rattle.router_top.specs.Report.{NamesKnownFile, file_word, report_of, status_of};
+ghost use Rattle.router_top.specs.Report.{report_of, status_of};
 
+use crate::slot::Slot;
+use crate::text_file::TextFile;
 use arrayvec::ArrayString;
 use itoa::Buffer;
 
-/// What a run comes to. A file is named by its number: 1 the architecture, 2 the netlist, 3 the
-/// placement, 4 the route, 5 the clauses, 6 the refutation, 7 the detailed route.
+/// What a run comes to.
 #[derive(Clone, Copy, Debug, PartialEq, Eq)]
 pub enum Outcome {
     /// A legal routing of this width was written.
-    Routed { width: u32 },
+    Routed {
+        width: u32,
+    },
     /// No routing of this width is legal.
-    Unroutable { width: u32 },
+    Unroutable {
+        width: u32,
+    },
     /// As many clauses were learned as the budget allows, and the search is still open.
-    Undecided { width: u32, learned: u64 },
+    Undecided {
+        width: u32,
+        learned: u64,
+    },
     /// What was asked for was written.
     Done,
     /// The log refutes the formula.
     Accepted,
     /// The log does not refute the formula: its step with this number, counted from 1, is refused
     /// with this cause, from 1 to 7.
-    NotAccepted { step: u64, cause: u32 },
-    /// A file is bad: this is the first bad line, and the least code that holds there. Today the
-    /// faults of a route that does not fit are not told apart: the line is 0 and the code is 500.
-    InputFault { file: u32, line: u64, code: u32 },
+    NotAccepted {
+        step: u64,
+        cause: u32,
+    },
+    /// A file is bad: this is the first bad line, and the least code that holds there.
+    InputFault {
+        file: TextFile,
+        line: u64,
+        code: u32,
+    },
     /// A count passes its limit.
-    Limit { code: u32, count: u64 },
+    Limit {
+        code: u32,
+        count: u64,
+    },
     /// The words are not taken.
-    Usage { code: u32 },
+    Usage {
+        code: u32,
+    },
     /// The desk failed on a file.
-    ReadFault { file: u32 },
-    /// The shelf failed: 0 in a `say`, 1 on the route that is written, 2 on the clauses, 3 on the
-    /// refutation.
-    WriteFault { slot: u32 },
+    ReadFault {
+        file: TextFile,
+    },
+    /// The shelf failed on what is written here.
+    WriteFault {
+        slot: Slot,
+    },
     /// Memory ran out.
     OutOfMemory,
 }
@@ -58,27 +80,8 @@ pub fn status(outcome: &Outcome) -> u8
     }
 }
 
-// The word for a file.
-fn file_name(file: u32) -> &'static str
-    requires { (1 ≤ file) × (file ≤ 7) }
-    ensures value { result.now ≡ file_word file }
-    ensures short { length result.now ≤ 12 }
-{
-    match file {
-        1 => "architecture",
-        2 => "netlist",
-        3 => "placement",
-        4 => "route",
-        5 => "cnf",
-        6 => "lrat",
-        7 => "routed",
-        _ => unreachable!(),
-    }
-}
-
 /// The report line, without its newline.
 pub fn report(outcome: &Outcome) -> ArrayString<REPORT_ROOM>
-    requires { NamesKnownFile outcome.now }
     ensures line { result.bytes ≡ report_of outcome.now }
     ensures room { array_string_len result ≤ 80 }
 {
@@ -103,7 +106,7 @@ pub fn report(outcome: &Outcome) -> ArrayString<REPORT_ROOM>
             code,
         } => {
             line.push_str("fault: ");
-            line.push_str(file_name(file));
+            line.push_str(file.word());
             push_count(&mut line, " line ", at);
             push_count(&mut line, " code ", code as u64);
         }
@@ -114,9 +117,13 @@ pub fn report(outcome: &Outcome) -> ArrayString<REPORT_ROOM>
         Outcome::Usage { code } => push_count(&mut line, "usage: code ", code as u64),
         Outcome::ReadFault { file } => {
             line.push_str("read fault: ");
-            line.push_str(file_name(file));
+            line.push_str(file.word());
         }
-        Outcome::WriteFault { slot } => push_count(&mut line, "write fault: slot ", slot as u64),
+        Outcome::WriteFault { slot } => push_count(
+            &mut line,
+            "write fault: slot ",
+            slot.number() as u64,
+        ),
         Outcome::OutOfMemory => line.push_str("out of memory"),
     }
     line

@@ -1,28 +1,53 @@
 //! Each command once over the tables in memory, with what it writes byte for byte.
 use crate::outcome::{Outcome, report, status};
 use crate::running::run;
-use crate::words::WordsFault;
+use crate::slot::Slot;
+use crate::text_file::TextFile;
 use desk_io::{MemDesk, MemShelf};
+use route_sweep::FileSlot;
 use std::alloc::Global;
 use std::process::Abort;
 use std::test::Fail;
 
-// One net from a pad to a pad, in the printed form.
+// An architecture whose pins reach every track.
+const ARCH: &str = "io_rat 16\nchan_width_io 1\nchan_width_x uniform 1\nchan_width_y uniform 1\n\
+     inpin class: 0 bottom\ninpin class: 0 left\ninpin class: 0 top\ninpin class: 0 right\n\
+     outpin class: 1 bottom\ninpin class: 2 global top\nswitch_block_type subset\n\
+     Fc_type fractional\nFc_output 1\nFc_input 1\nFc_pad 1\n\
+     segment frequency: 1 length: 1 Frac_cb: 1 Frac_sb: 1\n";
+
+// One net from a pad to a pad.
+const ONE_NET: &str = ".input p0\npinlist: n0\n.output q0\npinlist: n0\n";
+
+const ONE_PLACE: &str =
+    "Netlist file: one.net   Architecture file: one.arch\nArray size: 1 x 1 logic blocks\n\n\
+     p0 1 0 0\nq0 1 0 1\n";
+
+// Its route in the printed form.
 const ONE: &str =
     "Array size: 1 x 1 logic blocks.\n\nRouting:\n\nNet 0 (n0)\n\nSOURCE (1,0)  Pad: 0  \n  \
       OPIN (1,0)  Pad: 0  \n CHANX (1,0)  Track: 0  \n  IPIN (1,0)  Pad: 1  \n  \
       SINK (1,0)  Pad: 1  \n\n";
 
 // Two nets through one cell.
+const TWO_NET: &str =
+    ".input p0\npinlist: n0\n.output q0\npinlist: n0\n.input p1\npinlist: n1\n.output q1\n\
+     pinlist: n1\n";
+
+const TWO_PLACE: &str =
+    "Netlist file: one.net   Architecture file: one.arch\nArray size: 1 x 1 logic blocks\n\n\
+     p0 1 0 0\nq0 1 0 1\np1 1 0 2\nq1 1 0 3\n";
+
 const TWO: &str = "Array size: 1 x 1 logic blocks\nRouting:\nNet 0 (n0)\nSOURCE (1,0) Pad: 0\n\
      OPIN (1,0) Pad: 0\nCHANX (1,0) Track: 0\nIPIN (1,0) Pad: 1\nSINK (1,0) Pad: 1\n\
      Net 1 (n1)\nSOURCE (1,0) Pad: 2\nOPIN (1,0) Pad: 2\nCHANX (1,0) Track: 0\n\
      IPIN (1,0) Pad: 3\nSINK (1,0) Pad: 3\n";
 
-// Its clauses at width 1.
+// The clauses of the two at width 1.
 const TWO_CNF: &str = "p cnf 2 3\n1 0\n2 0\n-1 -2 0\n";
 
-// What these words come to over these files, and the shelf then.
+// The words of a command over the four files of a problem, and what they come to; with the shelf
+// then.
 fn came_to(
     alloc: Global,
     given: &[&str],
@@ -43,10 +68,32 @@ fn came_to(
     Ok((outcome, shelf))
 }
 
+// What a command over the files of one net comes to.
+fn of_one(alloc: Global, words: &[&str]) -> Result<(Outcome, MemShelf), Fail> {
+    let named = [
+        ("arch", ARCH.as_bytes()),
+        ("net", ONE_NET.as_bytes()),
+        ("place", ONE_PLACE.as_bytes()),
+        ("route", ONE.as_bytes()),
+    ];
+    came_to(alloc, words, &named)
+}
+
+// What a command over the files of two nets comes to.
+fn of_two(alloc: Global, words: &[&str]) -> Result<(Outcome, MemShelf), Fail> {
+    let named = [
+        ("arch", ARCH.as_bytes()),
+        ("net", TWO_NET.as_bytes()),
+        ("place", TWO_PLACE.as_bytes()),
+        ("route", TWO.as_bytes()),
+    ];
+    came_to(alloc, words, &named)
+}
+
 #[test]
 fn a_routing_is_written(rt: HostRuntime) -> Result<(), Fail> {
-    let words = ["route", "one.route", "1", "100", "out"];
-    let (outcome, shelf) = came_to(rt.alloc(), &words, &[("one.route", ONE.as_bytes())])?;
+    let words = ["route", "arch", "net", "place", "route", "1", "out"];
+    let (outcome, shelf) = of_one(rt.alloc(), &words)?;
     assert_eq!(rt; outcome, Outcome::Routed { width: 1 });
     assert_eq!(rt; shelf.said(), b"routed 1\n".as_slice());
     assert_eq!(rt; shelf.file("out.route"), Some(ONE.as_bytes()));
@@ -64,8 +111,8 @@ fn checked(alloc: Global, cnf: &[u8], lrat: &[u8]) -> Result<Outcome, Fail> {
 #[test]
 fn a_refutation_is_written_and_accepted(rt: HostRuntime) -> Result<(), Fail> {
     let alloc = rt.alloc();
-    let words = ["route", "two.route", "1", "10", "out"];
-    let (outcome, shelf) = came_to(alloc, &words, &[("two.route", TWO.as_bytes())])?;
+    let words = ["route", "arch", "net", "place", "route", "1", "out"];
+    let (outcome, shelf) = of_two(alloc, &words)?;
     assert_eq!(rt; outcome, Outcome::Unroutable { width: 1 });
     let cnf = shelf.file("out.cnf").ok_or("no clauses")?;
     assert_eq!(rt; cnf, TWO_CNF.as_bytes());
@@ -76,8 +123,8 @@ fn a_refutation_is_written_and_accepted(rt: HostRuntime) -> Result<(), Fail> {
 
 #[test]
 fn clauses_are_written(rt: HostRuntime) -> Result<(), Fail> {
-    let words = ["encode", "two.route", "1", "out"];
-    let (outcome, shelf) = came_to(rt.alloc(), &words, &[("two.route", TWO.as_bytes())])?;
+    let words = ["encode", "arch", "net", "place", "route", "1", "out"];
+    let (outcome, shelf) = of_two(rt.alloc(), &words)?;
     assert_eq!(rt; outcome, Outcome::Done);
     assert_eq!(rt; shelf.file("out.cnf"), Some(TWO_CNF.as_bytes()));
     Ok(())
@@ -85,49 +132,50 @@ fn clauses_are_written(rt: HostRuntime) -> Result<(), Fail> {
 
 #[test]
 fn statuses_and_reports(rt: HostRuntime) {
-    let statuses = [
-        (Outcome::Routed { width: 3 }, 0),
-        (Outcome::Unroutable { width: 64 }, 1),
+    let cases = [
+        (Outcome::Routed { width: 3 }, 0, "routed 3"),
+        (Outcome::Unroutable { width: 64 }, 1, "unroutable 64"),
         (
             Outcome::Limit {
                 code: 914,
                 count: 67_108_865,
             },
             3,
+            "limit: code 914 count 67108865",
         ),
-        (Outcome::Usage { code: 2 }, 4),
-        (Outcome::WriteFault { slot: 0 }, 6),
-        (Outcome::OutOfMemory, 7),
+        (Outcome::Usage { code: 2 }, 4, "usage: code 2"),
+        (
+            Outcome::WriteFault { slot: Slot::Said },
+            6,
+            "write fault: slot 0",
+        ),
+        (
+            Outcome::WriteFault {
+                slot: Slot::File(FileSlot::Log),
+            },
+            6,
+            "write fault: slot 3",
+        ),
+        (Outcome::OutOfMemory, 7, "out of memory"),
+        (
+            Outcome::InputFault {
+                file: TextFile::Architecture,
+                line: 9,
+                code: 101,
+            },
+            3,
+            "fault: architecture line 9 code 101",
+        ),
+        (
+            Outcome::ReadFault {
+                file: TextFile::Lrat,
+            },
+            5,
+            "read fault: lrat",
+        ),
     ];
-    for (outcome, number) in statuses {
+    for (outcome, number, line) in cases {
         assert_eq!(rt; status(&outcome), number, "at {outcome:?}");
+        assert_eq!(rt; report(&outcome).as_str(), line);
     }
-    let bad = Outcome::InputFault {
-        file: 1,
-        line: 9,
-        code: 101,
-    };
-    assert_eq!(rt;
-        report(&bad).as_str(),
-        "fault: architecture line 9 code 101"
-    );
-    let lost = Outcome::ReadFault { file: 7 };
-    assert_eq!(rt; report(&lost).as_str(), "read fault: routed");
-}
-
-#[test]
-fn words_that_are_not_taken_say_why(rt: HostRuntime) -> Result<(), Fail> {
-    let texts = format!(in rt.alloc();
-        "{}|{}|{}",
-        WordsFault::Command,
-        WordsFault::Count,
-        WordsFault::Number
-    )?;
-    assert_eq!(rt;
-        texts.as_str(),
-        "the first word names no command\
-        |the command takes another number of words\
-        |the width or the budget is no whole number in its range"
-    );
-    Ok(())
 }

@@ -1,6 +1,12 @@
+use Rattle.std.proofs.Common.{inr}
 use Rattle.router_top.proofs.running.work.Goals as goal
 
 pub returns-in-Ok-Route-clause-leaves : goal.returns-in-Ok-Route-clause-leaves
 returns-in-Ok-Route-clause-leaves g c =
-    let asked = rw c.in-Ok-Route.field-0-is at c.in-Ok-Route.ensures.ok in
-    rw asked c.route.ensures.leaves
+    let asked = rw c.in-Ok-Route.field-0-is at c.in-Ok-Route.ensures.answers in
+    inr (rw asked c.route.ensures.leaves)
+
+pub returns-in-Ok-Encode-clause-leaves : goal.returns-in-Ok-Encode-clause-leaves
+returns-in-Ok-Encode-clause-leaves g c =
+    let asked = rw c.in-Ok-Encode.field-0-is at c.in-Ok-Encode.ensures.answers in
+    inr (rw asked c.encode.ensures.leaves)

@@ -1,0 +1,59 @@
+-- How far a climb has come, and what the next width makes of it.
+use Rattle.std.proofs.Common.{◌≡◌, ℕ, suc, ◌+◌, ◌≤◌, refl, subst, arith}
+use Rattle.std.specs.Prelude.{Result, Ok}
+use Rattle.desk_io.specs.ShelfState.{ShelfState}
+use Rattle.fpga_types.specs.declared.route.RouteText.{RouteText}
+use Rattle.sat_clause.specs.Formula.{Cnf}
+use Rattle.route_sweep.specs.Asked.{Asked}
+use Rattle.route_sweep.specs.Climb.{AreRefuted, ComesTo}
+use Rattle.route_sweep.specs.Found.{FindsAt}
+use Rattle.route_sweep.specs.declared.found.Found.{Found}
+use Rattle.route_sweep.specs.declared.found.Found.TheVariants.{Refuted}
+use Rattle.route_sweep.specs.declared.found.Stop.{Stop}
+
+module _ (ask : Asked) (formula : ℕ → Cnf) (good : ℕ → RouteText → Type 0) where
+  -- the widths below this one were refuted one after the other
+  pub record HasClimbed (before now : ShelfState) (width : ℕ) : Type 0 where
+    pub below : ℕ
+    pub next : width ≡ suc below
+    pub refuted : AreRefuted ask formula good below before now
+
+  -- at width 1 none is below
+  pub climb-starts : (before : ShelfState) → HasClimbed before before 1
+  climb-starts before = record { below = 0; next = refl; refuted = refl }
+
+  module _ (before now new : ShelfState) (width : ℕ) (result : Result Found Stop)
+      (h : HasClimbed before now width)
+      (found : FindsAt ask width (formula width) (good width) now new result) where
+    -- one more width is refuted
+    pub climb-goes-on : result ≡ Ok Refuted → HasClimbed before new (width + 1)
+    climb-goes-on is = record {
+      below = suc h.below;
+      next = omega (arith, h.next);
+      refuted = (
+        now,
+        h.refuted,
+        subst (λ (n : ℕ). FindsAt ask n (formula n) (good n) now new (Ok Refuted)) h.next
+            (subst (FindsAt ask width (formula width) (good width) now new) is found),
+      );
+    }
+
+    -- the climb ends here
+    pub climb-ends : (most : ℕ) (came : Result Found Stop) → width ≤ most → result ≡ came
+        → ComesTo ask most formula good before new width came
+    climb-ends most came low is = record {
+      below = h.below;
+      next = h.next;
+      within = omega (arith, low, h.next);
+      between = now;
+      refuted = h.refuted;
+      then = subst (FindsAt ask width (formula width) (good width) now new) is found;
+    }
+
+  -- all widths are refuted
+  pub climb-is-over : (most : ℕ) (before now : ShelfState) (width : ℕ)
+      → HasClimbed before now width → width ≡ most + 1
+      → AreRefuted ask formula good most before now
+  climb-is-over most before now width h all =
+      let same : h.below ≡ most = omega (arith, h.next, all) in
+      subst (λ (n : ℕ). AreRefuted ask formula good n before now) same h.refuted

@@ -1,0 +1,3 @@
+pub mod ClimbLemmas
+pub mod FoundLemmas
+pub mod LogLemmas

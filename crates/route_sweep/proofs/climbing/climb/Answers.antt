@@ -1,0 +1,40 @@
+use Rattle.std.proofs.Common.{refl, arith, Ok, ap, ◌∙◌}
+use Rattle.route_sweep.proofs.ClimbLemmas.{climb-ends, climb-goes-on, climb-is-over, climb-starts}
+use Rattle.route_sweep.proofs.climbing.climb.Goals as goal
+
+pub loop-width-init : goal.loop-width-init
+loop-width-init g c = (omega arith, omega (arith, c.requires), climb-starts _ _ _ _)
+
+pub loop-width-preserved : goal.loop-width-preserved
+loop-width-preserved g c = (
+  omega arith,
+  omega (arith, c.loop-width-test.true),
+  climb-goes-on _ _ _ _ _ _ _ _ c.loop-width.invariant.2 c.one_width.ensures
+      (c.in-Ok-Refuted.is ∙ ap Ok c.in-Ok-Refuted.field-0-is),
+)
+
+pub returns-in-Ok-Routed : goal.returns-in-Ok-Routed
+returns-in-Ok-Routed g c =
+    climb-ends _ _ _ _ _ _ _ _ c.loop-width.invariant.2 c.one_width.ensures _ _
+    (omega (arith, c.loop-width-test.true))
+    (c.in-Ok-Routed.is ∙ ap Ok c.in-Ok-Routed.field-0-is)
+
+pub returns-in-Ok-Spent : goal.returns-in-Ok-Spent
+returns-in-Ok-Spent g c =
+    climb-ends _ _ _ _ _ _ _ _ c.loop-width.invariant.2 c.one_width.ensures _ _
+    (omega (arith, c.loop-width-test.true))
+    (c.in-Ok-Spent.is ∙ ap Ok c.in-Ok-Spent.field-0-is)
+
+pub returns-in-Err : goal.returns-in-Err
+returns-in-Err g c = (
+  c.loop-width.width,
+  climb-ends _ _ _ _ _ _ _ _ c.loop-width.invariant.2 c.one_width.ensures _ _
+      (omega (arith, c.loop-width-test.true)) c.in-Err.is,
+)
+
+pub returns : goal.returns
+returns g c = (
+  refl,
+  climb-is-over _ _ _ _ _ _ _ c.loop-width.invariant.2
+      (omega (arith, c.loop-width.invariant.1, c.loop-width-test.false)),
+)

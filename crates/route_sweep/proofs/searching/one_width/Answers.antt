@@ -1,0 +1,64 @@
+use Rattle.std.proofs.Common.{◌≤◌, arith, subst}
+use Rattle.sat_clause.specs.declared.limits.TheConstants.{VARIABLE_LIMIT}
+use Rattle.sat_core.specs.Answer.{IsAnswer}
+use Rattle.sat_core.specs.declared.answer.Answer.TheVariants.{Refuted, Spent}
+use Rattle.route_sweep.specs.Asked.{asked}
+use Rattle.route_sweep.specs.Found.{HasFew}
+use Rattle.route_sweep.proofs.FoundLemmas.{HasEnded, finds-refuted, finds-spent}
+use Rattle.route_sweep.proofs.searching.one_width.Goals as goal
+
+pub returns-in-Ok-Refuted : goal.returns-in-Ok-Refuted
+returns-in-Ok-Refuted g c =
+    let ask = asked c.args.ask.now in
+    let formula = g.E.Encoder.formula_of c.args.encoder.now c.args.problem.now c.args.width in
+    let before = g.S.Shelf.state c.args.shelf.now in
+    let now = g.S.Shelf.state c.write_proof.new.shelf in
+    let log = c.solve.new.log.steps in
+    let cnf = c.in-Ok.formula.cnf in
+    let few : HasFew formula = omega (arith, c.count-count.ensures) in
+    let ended : HasEnded ask c.args.width Refuted log before now c.write_proof.result cnf =
+    record {
+      few_vars = subst (λ s. s.cnf.vars ≤ VARIABLE_LIMIT) c.formula.view_is
+          c.formula.invariant.few_vars;
+      affordable = c.args.ask.now.affordable.1;
+      of = record {
+        search = c.in-Ok-Refuted.ensures.logged;
+        kept = c.in-Ok-Refuted.ensures.kept;
+      };
+      within = c.in-Ok-Refuted.ensures.within;
+      end = subst (IsAnswer cnf ask.budget log) c.in-Ok-Refuted.field-0-is
+          c.in-Ok-Refuted.ensures.answer;
+      writes = c.write_proof.ensures;
+    } in
+    finds-refuted ask c.args.width formula
+    (g.E.Encoder.is_good c.args.encoder.now c.args.problem.now c.args.width) before now log few
+    c.in-Ok.ensures.none_without_model c.write_proof.result cnf c.in-Ok.ensures.formula ended c.and-in-Ok-Refuted.result
+    c.and-in-Ok-Refuted.ensures
+
+pub returns-in-Ok-Spent : goal.returns-in-Ok-Spent
+returns-in-Ok-Spent g c =
+    let ask = asked c.args.ask.now in
+    let formula = g.E.Encoder.formula_of c.args.encoder.now c.args.problem.now c.args.width in
+    let before = g.S.Shelf.state c.args.shelf.now in
+    let now = g.S.Shelf.state c.write_proof-in-Ok-Spent.new.shelf in
+    let log = c.solve.new.log.steps in
+    let cnf = c.in-Ok.formula.cnf in
+    let few : HasFew formula = omega (arith, c.count-count.ensures) in
+    let ended : HasEnded ask c.args.width Spent log before now c.write_proof-in-Ok-Spent.result cnf =
+    record {
+      few_vars = subst (λ s. s.cnf.vars ≤ VARIABLE_LIMIT) c.formula.view_is
+          c.formula.invariant.few_vars;
+      affordable = c.args.ask.now.affordable.1;
+      of = record {
+        search = c.in-Ok-Spent.ensures.logged;
+        kept = c.in-Ok-Spent.ensures.kept;
+      };
+      within = c.in-Ok-Spent.ensures.within;
+      end = subst (IsAnswer cnf ask.budget log) c.in-Ok-Spent.field-0-is
+          c.in-Ok-Spent.ensures.answer;
+      writes = c.write_proof-in-Ok-Spent.ensures;
+    } in
+    finds-spent ask c.args.width formula
+    (g.E.Encoder.is_good c.args.encoder.now c.args.problem.now c.args.width) before now log few
+    c.write_proof-in-Ok-Spent.result cnf c.in-Ok.ensures.formula ended c.and-in-Ok-Spent.result
+    c.and-in-Ok-Spent.ensures

@@ -1,0 +1,48 @@
+-- What a climb through the widths comes to: each width below is refuted, and this came of the next.
+use Rattle.std.specs.Prelude.{◌≡◌, ℕ, zero, suc, ◌<◌, true, Result, Ok, Err}
+use Rattle.desk_io.specs.ShelfState.{ShelfState}
+use Rattle.fpga_types.specs.declared.route.RouteText.{RouteText}
+use Rattle.sat_clause.specs.Formula.{Cnf}
+use Rattle.route_sweep.specs.Asked.{Asked}
+use Rattle.route_sweep.specs.Found.{FindsAt}
+use Rattle.route_sweep.specs.declared.found.Climbed.{Climbed}
+use Rattle.route_sweep.specs.declared.found.Climbed.TheVariants.{Routed, Unroutable, Undecided}
+use Rattle.route_sweep.specs.declared.found.Found.{Found}
+use Rattle.route_sweep.specs.declared.found.Found.TheVariants.{Routed as IsRouted, Refuted, Spent}
+use Rattle.route_sweep.specs.declared.found.Stop.{Stop}
+
+-- the same, with names that have the width in them
+abbrev pub numbered : Asked → Asked
+numbered ask = record ask { numbered = true }
+
+-- the widths from 1 to this one were refuted one after the other, each with its files
+abbrev pub AreRefuted : Asked → (formula : ℕ → Cnf) → (good : ℕ → RouteText → Type 0)
+    → (width : ℕ) → (before now : ShelfState) → Type 0
+AreRefuted ask formula good zero before now = now ≡ before
+AreRefuted ask formula good (suc width) before now =
+    (between : ShelfState) × AreRefuted ask formula good width before between
+    × FindsAt ask (suc width) (formula (suc width)) (good (suc width)) between now (Ok Refuted)
+
+-- the widths below this one were refuted, and then this came of it
+pub record ComesTo
+    (ask : Asked) (most : ℕ) (formula : ℕ → Cnf) (good : ℕ → RouteText → Type 0)
+    (before now : ShelfState) (width : ℕ) (came : Result Found Stop) : Type 0 where
+  pub below : ℕ
+  pub next : width ≡ suc below
+  pub within : below < most
+  pub between : ShelfState
+  pub refuted : AreRefuted ask formula good below before between
+  pub then : FindsAt ask width (formula width) (good width) between now came
+
+-- a routing at the least width that has one; a refutation at each width; a width that is left open
+-- above refuted ones; or a stop at a width above refuted ones
+abbrev pub ClimbsTo : Asked → (most : ℕ) → (formula : ℕ → Cnf) → (good : ℕ → RouteText → Type 0)
+    → (before now : ShelfState) → Result Climbed Stop → Type 0
+ClimbsTo ask most formula good before now (Ok (Routed width)) =
+    ComesTo ask most formula good before now width (Ok IsRouted)
+ClimbsTo ask most formula good before now (Ok (Unroutable width)) =
+    (width ≡ most) × AreRefuted ask formula good most before now
+ClimbsTo ask most formula good before now (Ok (Undecided width learned)) =
+    ComesTo ask most formula good before now width (Ok (Spent learned))
+ClimbsTo ask most formula good before now (Err stop) =
+    (width : ℕ) × ComesTo ask most formula good before now width (Err stop)

@@ -1,0 +1,7 @@
+pub mod Asked
+pub mod Climb
+pub mod Found
+pub mod Names
+pub mod Slots
+pub mod Stairs
+pub mod Written

@@ -1,0 +1,60 @@
+//! What searches come to.
+ghost use Rattle.std.specs.Prelude.{◌≡◌};
+ghost use Rattle.route_sweep.specs.Slots.{slot_number};
+
+/// A file that a search writes.
+#[derive(Clone, Copy, Debug, PartialEq, Eq)]
+pub enum FileSlot {
+    /// The routing.
+    Route,
+    /// The clauses.
+    Clauses,
+    /// The log.
+    Log,
+}
+
+impl FileSlot {
+    /// The number by which reports name the file.
+    pub fn number(self) -> u32
+        ensures { result ≡ slot_number self }
+    {
+        match self {
+            FileSlot::Route => 1,
+            FileSlot::Clauses => 2,
+            FileSlot::Log => 3,
+        }
+    }
+}
+
+/// What is found at one width.
+#[derive(Clone, Copy, Debug, PartialEq, Eq)]
+pub enum Found {
+    /// A routing, which was written.
+    Routed,
+    /// A refutation, which was written behind the clauses: there is no routing.
+    Refuted,
+    /// Neither, within the budget. The clauses were written, and a log of so many learned clauses.
+    Spent { learned: u64 },
+}
+
+/// What a climb through the widths comes to.
+#[derive(Clone, Copy, Debug, PartialEq, Eq)]
+pub enum Climbed {
+    /// This is the least width that has a routing, which was written.
+    Routed { width: u32 },
+    /// No width up to this one, the last, has a routing.
+    Unroutable { width: u32 },
+    /// No lower width has a routing, and this one was left open after so many learned clauses.
+    Undecided { width: u32, learned: u64 },
+}
+
+/// What ends a search before it has found anything, or before all of it is written.
+#[derive(Clone, Copy, Debug, PartialEq, Eq)]
+pub enum Stop {
+    /// The shelf failed on this file.
+    Fault { slot: FileSlot },
+    /// There are so many clauses, more than 40,000,000. None was built.
+    TooManyClauses { count: u64 },
+    /// Memory ran out.
+    Memory,
+}

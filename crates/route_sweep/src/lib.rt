@@ -1,0 +1,16 @@
+//! Searches for routings: at one width, and at the least width that has one.
+#![tactic(auto)]
+
+mod asking;
+mod climbing;
+mod found;
+mod names;
+mod searching;
+#[cfg(test)]
+mod tests;
+mod writing;
+
+pub use asking::{Ask, BUDGET_LIMIT};
+pub use climbing::climb;
+pub use found::{Climbed, FileSlot, Found, Stop};
+pub use searching::one_width;

@@ -1,0 +1,63 @@
+//! The search at one width.
+ghost use Rattle.std.specs.Prelude.{◌≤◌};
+ghost use Rattle.route_sweep.specs.Asked.{asked};
+ghost use Rattle.route_sweep.specs.Found.{FindsAt};
+
+use crate::asking::Ask;
+use crate::found::{Found, Stop};
+use crate::writing::{write_proof, write_routing};
+use desk_io::Shelf;
+use fpga_bounds::PlacedProblem;
+use fpga_types::WIDTH_LIMIT;
+use route_encode::Encoder;
+use sat_clause::{CLAUSE_LIMIT, Log};
+use sat_core::{Answer, solve};
+use std::alloc::Global;
+
+/// Searches for a routing of a problem at a width from 1 to 64, and writes the routing; or else the
+/// clauses, and then the log of the search.
+///
+/// The clauses are counted first, and none is built where there are more than 40,000,000. Files of
+/// other names stay as they are.
+///
+/// # Errors
+/// `Fault` names the file on which the shelf failed; it and those that were written before it stand
+/// as far as they were written. `TooManyClauses` has their number, and `Memory` comes where memory
+/// is short: nothing was written then.
+pub fn one_width<E: Encoder, S: Shelf>(
+    alloc: Global,
+    encoder: &E,
+    problem: &PlacedProblem,
+    width: u32,
+    ask: &Ask<'_>,
+    shelf: &mut S,
+) -> Result<Found, Stop>
+    requires { (1 ≤ width) × (width ≤ WIDTH_LIMIT) }
+    ensures { FindsAt (asked ask.now) width (E.formula_of encoder.now problem.now width)
+        (E.is_good encoder.now problem.now width) (S.state shelf.old) (S.state shelf.new) result }
+{
+    let count = encoder.count(problem, width);
+    if count > CLAUSE_LIMIT {
+        return Err(Stop::TooManyClauses { count });
+    }
+    let Ok(formula) = encoder.build(alloc, problem, width) else {
+        return Err(Stop::Memory);
+    };
+    let mut log = Log::new(alloc);
+    match solve(alloc, &formula, ask.budget, ask.keep, &mut log) {
+        Ok(Answer::Model(values)) => {
+            let Ok(found) = encoder.decode(alloc, problem, width, &values) else {
+                return Err(Stop::Memory);
+            };
+            write_routing(alloc, &found, ask, shelf).and(Ok(Found::Routed))
+        }
+        Ok(Answer::Refuted) => {
+            write_proof(alloc, &formula, &log, width, ask, shelf).and(Ok(Found::Refuted))
+        }
+        Ok(Answer::Spent) => {
+            let learned = ask.budget;
+            write_proof(alloc, &formula, &log, width, ask, shelf).and(Ok(Found::Spent { learned }))
+        }
+        Err(_) => Err(Stop::Memory),
+    }
+}

@@ -1,0 +1,249 @@
+-- Where no fault has risen, what a run leaves is true, or memory ran out.
+use Rattle.std.proofs.Common.{◌≡◌, ◌∙◌, ◌⊎◌, ℕ, ◌<◌, ◌≤◌, List, length, Option, Ok, Err, Result, refl, sym, ap, subst, inl, inr, arith}
+use Rattle.std.specs.Prelude.{MatchResult, Some}
+use Rattle.desk_io.specs.DeskState.{DeskState}
+use Rattle.desk_io.specs.Files.{Bytes, FileMap, HasRisen}
+use Rattle.desk_io.specs.ShelfState.{ShelfState, after_say}
+use Rattle.desk_io.specs.WholeFile.{FailsToWrite}
+use Rattle.desk_io.proofs.FileLemmas.{has_risen}
+use Rattle.fpga_types.specs.Fits.{Fits}
+use Rattle.fpga_types.specs.Legal.{tracks_of}
+use Rattle.fpga_types.specs.Problem.{RoutingProblem}
+use Rattle.fpga_types.specs.declared.route.RouteText.{RouteText}
+use Rattle.sat_clause.specs.Formula.{Cnf}
+use Rattle.sat_clause.specs.Judge.{judge}
+use Rattle.sat_clause.specs.declared.limits.TheConstants.{CLAUSE_LIMIT}
+use Rattle.sat_text.specs.CnfText.{cnf_said}
+use Rattle.sat_text.specs.LratText.{lrat_said}
+use Rattle.route_encode.specs.Encoding.{cnf_of}
+use Rattle.route_encode.specs.Good.{IsRoutingOf}
+use Rattle.route_sweep.specs.Asked.{Asked}
+use Rattle.route_sweep.specs.Found.{FailsOn, FindsAt}
+use Rattle.route_sweep.specs.declared.found.FileSlot.{FileSlot}
+use Rattle.route_sweep.specs.declared.found.FileSlot.TheVariants.{Route as RouteSlot, Clauses, Log}
+use Rattle.route_sweep.specs.declared.found.Found.{Found}
+use Rattle.route_sweep.specs.declared.found.Found.TheVariants.{Routed as IsRouted, Refuted, Spent}
+use Rattle.route_sweep.specs.declared.found.Stop.{Stop}
+use Rattle.route_sweep.specs.declared.found.Stop.TheVariants.{Fault, TooManyClauses, Memory}
+use Rattle.router_words.specs.Command.{job_of}
+use Rattle.router_words.specs.Refusal.{code_of}
+use Rattle.router_words.specs.Job.{CheckAsked, Checks, EncodeAsked, Encodes as EncodesJob, FilesAsked, JobAsked, RouteAsked, Routes}
+use Rattle.router_words.specs.Word.{Word}
+use Rattle.router_words.specs.declared.fault.Refusal.{Refusal}
+use Rattle.router_top.specs.Check.{ChecksTo, cnf_source, judgement_outcome, lrat_source}
+use Rattle.router_top.specs.Outcomes.{found_outcome, written_outcome}
+use Rattle.router_top.specs.Report.{line_of}
+use Rattle.router_top.specs.Run.{Leaves, LeavesJob, LeavesWork, Runs, Scene}
+use Rattle.router_top.specs.Sources.{IsHalted, IsStopped, ReadsThen}
+use Rattle.router_top.specs.Truth.{Agrees, IsComplete, IsTrueOf, IsTrueOfClauses, IsTrueOfJob, IsTrueOfSearch, IsTrueOfWork}
+use Rattle.router_top.specs.Work.{Encodes, Searches, WritesClauses, search_of}
+use Rattle.router_top.specs.declared.outcome.Outcome.{Outcome}
+use Rattle.router_top.specs.declared.outcome.Outcome.TheVariants.{Routed, Unroutable, Undecided, Done, Limit, Usage, WriteFault, OutOfMemory}
+use Rattle.router_top.specs.declared.slot.Slot.TheVariants.{File}
+use Rattle.router_top.proofs.AgreeLaws.{outcomes-agree}
+use Rattle.router_top.proofs.FourLaws.{calm-lack}
+use Rattle.router_top.proofs.SourceLaws.{calm-reads}
+use Rattle.router_top.proofs.UnroutableLaws.{none-legal}
+
+-- ---- the shelf's count of faults
+
+-- a count that has risen twice has risen
+risen-then : (a b c : ℕ) → a ≤ b → HasRisen b c → HasRisen a c
+risen-then a b c h g = record {
+  later = omega (arith, h, g.later);
+  more = elim g.more [ inl below ↦ inl (omega (arith, h, below)) | inr end ↦ inr end ];
+}
+
+write-risen : (before : ShelfState) (name text : Bytes) (now : ShelfState) →
+    FailsToWrite before name text now → HasRisen before.faults now.faults
+write-risen before name text now (inl h) = has_risen _ _ h.risen
+write-risen before name text now (inr h) = has_risen _ _ h.risen
+
+faults-same : (before now : ShelfState) → now ≡ before → before.faults ≤ now.faults
+faults-same before now e = omega (arith, ap (λ (s : ShelfState). s.faults) e)
+
+-- the shelf's count of faults has not fallen, and where it has not risen, the outcome has the
+-- property, or memory ran out
+record Settles (before now : ShelfState) (says : Outcome → Type 0) (o : Outcome) : Type 0 where
+  kept : before.faults ≤ now.faults
+  settled : ¬ HasRisen before.faults now.faults → says o ⊎ (o ≡ OutOfMemory)
+
+module _ (before now : ShelfState) (says : Outcome → Type 0) (o : Outcome) where
+  by-fault : HasRisen before.faults now.faults → Settles before now says o
+  by-fault h = record { kept = h.later; settled = λ quiet. absurd (quiet h) }
+
+  by-word : before.faults ≤ now.faults → says o → Settles before now says o
+  by-word kept h = record { kept = kept; settled = λ quiet. inl h }
+
+  by-memory : now ≡ before → o ≡ OutOfMemory → Settles before now says o
+  by-memory same e = record { kept = faults-same before now same; settled = λ quiet. inr e }
+
+-- ---- the work on a problem
+
+module _ (ask : Asked) (width : ℕ) (formula : Cnf) (good : RouteText → Type 0)
+    (before now : ShelfState) where
+  fails-risen : (slot : FileSlot) → FailsOn ask width formula good before now slot →
+      HasRisen before.faults now.faults
+  fails-risen RouteSlot h = write-risen before _ _ now h.fails
+  fails-risen Clauses h = write-risen before _ _ now h.fails
+  fails-risen Log h = write-risen _ _ _ now h.fails
+
+module _ (job : RouteAsked) (p : RoutingProblem) (fits : Fits p) (before now : ShelfState) where
+  -- what is true of an outcome of a search
+  abbrev SaysSearch : Outcome → Type 0
+  SaysSearch said = IsTrueOfClauses job.width p (IsTrueOfSearch job p said) said
+
+  found-settles : (came : Result Found Stop)
+      → FindsAt (search_of job) job.width (cnf_of job.width p) (IsRoutingOf job.width p) before now
+      came → Settles before now SaysSearch (found_outcome job.width came)
+  found-settles (Ok IsRouted) h =
+      by-word before now SaysSearch (Routed job.width)
+      (omega (arith, ap (λ (s : ShelfState). s.faults) h.1.written))
+      (inr (h.0, inl ((tracks_of p.route h.1.found, h.1.routing.legal), refl)))
+  found-settles (Ok Refuted) h =
+      by-word before now SaysSearch (Unroutable job.width)
+      (omega (arith, ap (λ (s : ShelfState). s.faults) h.1.written))
+      (inr (h.0, inr (inl (none-legal job.width p h.1.log fits h.1.ends.refutes.accepts, refl))))
+  found-settles (Ok (Spent learned)) h =
+      by-word before now SaysSearch (Undecided job.width learned)
+      (omega (arith, ap (λ (s : ShelfState). s.faults) h.2.written))
+      (inr (h.0, inr (inr (ap (Undecided job.width) h.1))))
+  found-settles (Err (Fault slot)) h =
+      by-fault before now SaysSearch (found_outcome job.width (Err (Fault slot)))
+      (fails-risen (search_of job) job.width (cnf_of job.width p) (IsRoutingOf job.width p) before
+      now slot h.1)
+  found-settles (Err (TooManyClauses count)) h =
+      by-word before now SaysSearch (Limit 901 count) (faults-same before now h.2)
+      (inl (subst (λ (n : ℕ). CLAUSE_LIMIT < n) h.0 h.1, ap (Limit 901) h.0))
+  found-settles (Err Memory) h = by-memory before now SaysSearch OutOfMemory h.1 refl
+
+  search-settles : (o : Outcome) → Searches job p before now o → Settles before now SaysSearch o
+  search-settles o h =
+      subst (Settles before now SaysSearch) (sym h.is) (found-settles h.came h.finds)
+
+module _ (job : EncodeAsked) (p : RoutingProblem) (before now : ShelfState) where
+  abbrev SaysClauses : Outcome → Type 0
+  SaysClauses said = IsTrueOfClauses job.width p (said ≡ Done) said
+
+  written-settles : (came : Result (Unit {0}) Stop)
+      → WritesClauses job (cnf_of job.width p) before now came
+      → Settles before now SaysClauses (written_outcome came)
+  written-settles (Ok written) h =
+      by-word before now SaysClauses Done (omega (arith, ap (λ (s : ShelfState). s.faults) h.2))
+      (inr (h.0, refl))
+  written-settles (Err (Fault slot)) h =
+      by-fault before now SaysClauses (WriteFault (File slot))
+      (write-risen before _ _ now h.2)
+  written-settles (Err (TooManyClauses count)) h =
+      by-word before now SaysClauses (Limit 901 count) (faults-same before now h.2)
+      (inl (subst (λ (n : ℕ). CLAUSE_LIMIT < n) h.0 h.1, ap (Limit 901) h.0))
+  written-settles (Err Memory) h = by-memory before now SaysClauses OutOfMemory h.1 refl
+
+  encode-settles : (o : Outcome) → Encodes job p before now o → Settles before now SaysClauses o
+  encode-settles o h =
+      subst (Settles before now SaysClauses) (sym h.is) (written-settles h.came h.writes)
+
+-- ---- a whole job
+
+module _ (at : Scene) (calm : ¬ HasRisen at.desk.faults at.desk_now.faults) where
+  work-settles : (names : FilesAsked)
+      (works : RoutingProblem → ShelfState → ShelfState → Outcome → Type 0)
+      (says : RoutingProblem → Outcome → Type 0) (o : Outcome)
+      → ((p : RoutingProblem) → Fits p → works p at.shelf at.shelf_now o
+      → Settles at.shelf at.shelf_now (says p) o)
+      → LeavesWork names works at o
+      → Settles at.shelf at.shelf_now (IsTrueOfWork names says at.desk.files) o
+  work-settles names works says o settles (inl h) = record {
+    kept = faults-same at.shelf at.shelf_now h.1;
+    settled = λ quiet. elim (calm-lack at.desk at.desk_now names o calm h.0) [
+      | inl lack ↦ inl (inl lack)
+      | inr spent ↦ inr spent
+    ];
+  }
+  work-settles names works says o settles (inr h) =
+      let of_problem = settles h.0 h.1.fits h.2 in
+      record {
+        kept = of_problem.kept;
+        settled = λ quiet. elim (of_problem.settled quiet) [
+          | inl said ↦ inl (inr (h.0, h.1, said))
+          | inr spent ↦ inr spent
+        ];
+      }
+
+  job-settles : (job : JobAsked) (o : Outcome) → LeavesJob job at o →
+      Settles at.shelf at.shelf_now (IsTrueOfJob job at.desk.files) o
+  job-settles (Routes job) o h = work-settles job.files (Searches job)
+      (λ p said. IsTrueOfClauses job.width p (IsTrueOfSearch job p said) said) o
+      (λ p fits. search-settles job p fits at.shelf at.shelf_now o) h
+  job-settles (EncodesJob job) o h = work-settles job.files (Encodes job)
+      (λ p said. IsTrueOfClauses job.width p (said ≡ Done) said) o
+      (λ p fits. encode-settles job p at.shelf at.shelf_now o) h
+  job-settles (Checks job) o h = record {
+    kept = faults-same at.shelf at.shelf_now h.1;
+    settled = λ quiet. calm-check job o h.0;
+  }
+    where
+      calm-check : (job : CheckAsked) (o : Outcome)
+          → ChecksTo (IsStopped at.desk at.desk_now) at.desk.files job o
+          → ChecksTo (IsHalted at.desk.files) at.desk.files job o ⊎ (o ≡ OutOfMemory)
+      calm-check job o =
+          calm-reads at.desk at.desk_now (cnf_source job.cnf) cnf_said
+          (λ cnf. ReadsThen (IsStopped at.desk at.desk_now) at.desk.files
+          (lrat_source job.lrat (length cnf.clauses)) lrat_said
+          (λ log outcome. outcome ≡ judgement_outcome (judge cnf log)))
+          (λ cnf. ReadsThen (IsHalted at.desk.files) at.desk.files
+          (lrat_source job.lrat (length cnf.clauses)) lrat_said
+          (λ log outcome. outcome ≡ judgement_outcome (judge cnf log))) o calm
+          (λ cnf. calm-reads at.desk at.desk_now (lrat_source job.lrat (length cnf.clauses))
+          lrat_said (λ log outcome. outcome ≡ judgement_outcome (judge cnf log))
+          (λ log outcome. outcome ≡ judgement_outcome (judge cnf log)) o calm (λ log. inl))
+
+  words-settle : (words : List Word) (o : Outcome) → Leaves words at o →
+      Settles at.shelf at.shelf_now (IsTrueOf words at.desk.files) o
+  words-settle words o (inl h) =
+      by-memory at.shelf at.shelf_now (IsTrueOf words at.desk.files) o h.1 h.0
+  words-settle words o (inr h) = go (job_of words) h
+    where
+      go : (asked : Result JobAsked Refusal)
+          → MatchResult asked (λ job. LeavesJob job at o)
+          (λ cause. (o ≡ Usage (code_of cause)) × (at.shelf_now ≡ at.shelf))
+          → Settles at.shelf at.shelf_now (λ said. MatchResult asked
+          (λ job. IsTrueOfJob job at.desk.files said) (λ cause. said ≡ Usage (code_of cause))) o
+      go (Ok job) h = job-settles job o h
+      go (Err cause) h = by-word at.shelf at.shelf_now (λ said. said ≡ Usage (code_of cause)) o
+          (faults-same at.shelf at.shelf_now h.1) h.0
+
+-- ---- a run
+
+-- where neither count of faults has risen, a run has said its report
+said : (words : List Word) (desk desk_now : DeskState) (shelf now : ShelfState) (answer : Outcome)
+    (r : Runs words desk desk_now shelf now answer) → shelf.faults ≤ r.between.faults
+    → ¬ HasRisen shelf.faults now.faults
+    → (answer ≡ r.outcome) × (now ≡ after_say r.between (line_of r.outcome))
+said words desk desk_now shelf now answer r kept quiet = elim r.reports [
+  | inl h ↦ h
+  | inr h ↦ absurd (quiet (risen-then shelf.faults r.between.faults now.faults kept
+      (has_risen _ _ h.1.failed.risen)))
+]
+
+pub runs-complete : (words : List Word) (desk desk_now : DeskState) (shelf now : ShelfState)
+    (answer : Outcome) → Runs words desk desk_now shelf now answer
+    → IsComplete words desk desk_now shelf now answer
+runs-complete words desk desk_now shelf now answer r = λ o files told true_of calm quiet.
+    let at : Scene = record {
+      desk = desk;
+      desk_now = desk_now;
+      shelf = shelf;
+      shelf_now = r.between;
+    } in
+    let settles = words-settle at calm words r.outcome r.leaves in
+    let done = said words desk desk_now shelf now answer r settles.kept quiet in
+    let faults = ap (λ (s : ShelfState). s.faults) done.1 in
+    elim (settles.settled
+    (λ risen. quiet (subst (λ (n : ℕ). HasRisen shelf.faults n) (sym faults) risen))) [
+      | inl h ↦ (let true_too =
+          subst (λ (f : Option FileMap). IsTrueOf words f r.outcome) told h in
+          inl (subst (λ (a : Outcome). IsTrueOf words (Some files) a × Agrees a o) (sym done.0)
+          (true_too, outcomes-agree words files r.outcome o true_too true_of)))
+      | inr spent ↦ inr (done.0 ∙ spent)
+    ]

@@ -1,0 +1,247 @@
+-- What the answer of a run means.
+use Rattle.std.proofs.Common.{◌≡◌, ℕ, ◌≤◌, List, length, Option, Ok, Err, Result, refl, sym, ap, subst, inl, inr, arith}
+use Rattle.std.specs.Prelude.{MatchResult}
+use Rattle.desk_io.specs.DeskState.{DeskState}
+use Rattle.desk_io.specs.Files.{Bytes, FileMap}
+use Rattle.desk_io.specs.ShelfState.{ShelfState}
+use Rattle.fpga_route.specs.ReadBack.{ReadsBack, ReadsBackWithTracks}
+use Rattle.fpga_arch.specs.Value.{arch_value}
+use Rattle.fpga_net.specs.Value.{net_value}
+use Rattle.fpga_place.specs.Value.{place_value}
+use Rattle.fpga_route.specs.Value.{Reads, route_value}
+use Rattle.fpga_text.specs.declared.fault.TextFault.{TextFault}
+use Rattle.fpga_text.specs.declared.fault.TextFault.TheVariants.{Bad, Limit as PastLimit, Memory as NoMemory}
+use Rattle.fpga_types.specs.Legal.{tracks_of}
+use Rattle.fpga_types.specs.Problem.{RoutingProblem, problem_of}
+use Rattle.fpga_types.specs.declared.limits.TheConstants.{WIDTH_LIMIT}
+use Rattle.fpga_types.specs.declared.route.RouteText.{RouteText}
+use Rattle.route_encode.specs.Encoding.{cnf_of}
+use Rattle.route_encode.specs.Good.{IsRoutingOf}
+use Rattle.route_sweep.specs.Found.{FindsAt}
+use Rattle.route_sweep.specs.declared.found.Found.{Found}
+use Rattle.route_sweep.specs.declared.found.Found.TheVariants.{Routed as IsRoutedThere, Refuted, Spent}
+use Rattle.route_sweep.specs.declared.found.Stop.{Stop}
+use Rattle.route_sweep.specs.declared.found.Stop.TheVariants.{Fault, TooManyClauses, Memory}
+use Rattle.sat_clause.specs.Formula.{Cnf}
+use Rattle.sat_clause.specs.Judge.{Judgement, Accepted as IsAccepted, Refused as IsRefused, judge}
+use Rattle.sat_clause.specs.Step.{Step}
+use Rattle.sat_clause.proofs.Refutes.{refutes}
+use Rattle.sat_text.specs.CnfText.{cnf_said}
+use Rattle.sat_text.specs.LratText.{lrat_said}
+use Rattle.router_words.specs.Command.{job_of}
+use Rattle.router_words.specs.Refusal.{code_of}
+use Rattle.router_words.specs.Job.{CheckAsked, Checks, EncodeAsked, Encodes as EncodesJob, FilesAsked, JobAsked, RouteAsked, Routes}
+use Rattle.router_words.specs.Word.{Word}
+use Rattle.router_words.specs.declared.fault.Refusal.{Refusal}
+use Rattle.router_top.specs.Check.{cnf_source, judgement_outcome, lrat_source}
+use Rattle.router_top.specs.FourFiles.{GivesNone, IsUnfit, Poses, arch_source, net_source, place_source, route_source}
+use Rattle.router_top.specs.Headline.{Means}
+use Rattle.router_top.specs.Outcomes.{found_outcome, stop_outcome, written_outcome}
+use Rattle.router_top.specs.Report.{unsaid}
+use Rattle.router_top.specs.Run.{Leaves, LeavesJob, LeavesWork, Runs, Scene}
+use Rattle.router_top.specs.Sources.{IsStopped, ReadsThen, Says, Source, fault_outcome}
+use Rattle.router_top.specs.Work.{Encodes, Searches, WritesClauses, search_of}
+use Rattle.router_top.specs.declared.outcome.Outcome.{Outcome}
+use Rattle.router_top.specs.declared.outcome.Outcome.TheVariants.{Usage, WriteFault}
+use Rattle.router_top.specs.declared.text_file.TextFile.{TextFile}
+use Rattle.router_top.specs.declared.text_file.TextFile.TheVariants.{Route}
+use Rattle.router_top.proofs.FourLaws.{AfterArch, AfterNetlist, AfterPlacement}
+use Rattle.router_top.proofs.UnroutableLaws.{none-legal}
+
+-- the routing of a problem whose route was read reads back as it is printed
+routing-reads : (width : ℕ) (p : RoutingProblem) (found : RouteText) (text : Bytes)
+    → width ≤ WIDTH_LIMIT → Reads text p.route → IsRoutingOf width p found
+    → ReadsBackWithTracks found → ReadsBack found
+routing-reads width p found text narrow read routing reads =
+    reads text p.route (tracks_of p.route found) read (λ k d inside.
+    let t = routing.legal.within k d inside in omega (arith, t, narrow)) routing.is
+
+module _ (words : List Word) (desk before : Option FileMap) where
+  -- what keeps a run from its work says nothing more
+  fault-means : (now : Option FileMap) (file : TextFile) (fault : TextFault)
+      → Means words desk before now (fault_outcome file fault)
+  fault-means now file (Bad line code) = tt
+  fault-means now file (PastLimit code count) = tt
+  fault-means now file NoMemory = tt
+
+  stop-means : (now : Option FileMap) (stop : Stop) → Means words desk before now (stop_outcome stop)
+  stop-means now (Fault slot) = tt
+  stop-means now (TooManyClauses count) = tt
+  stop-means now Memory = tt
+
+  unsaid-means : (now : Option FileMap) (o : Outcome) → Means words desk before now (unsaid o)
+  unsaid-means now (WriteFault slot) = tt
+  unsaid-means now o = tt
+
+  halt-means : (state state_now : DeskState) (now : Option FileMap) (source : Source)
+      (o : Outcome) → IsStopped state state_now source o → Means words desk before now o
+  halt-means state state_now now source o (inl h) = subst (Means words desk before now) (sym h) tt
+  halt-means state state_now now source o (inr (inl h)) =
+      subst (Means words desk before now) (sym h.1) tt
+  halt-means state state_now now source o (inr (inr (inl h))) =
+      subst (Means words desk before now) (sym h.1) tt
+  halt-means state state_now now source o (inr (inr (inr h))) =
+      subst (Means words desk before now) (sym h.2) (fault-means now source.file h.0)
+
+  reads-mean : {T : Type 0} (state state_now : DeskState) (now files : Option FileMap)
+      (source : Source) (value : Bytes → T) (rest : T → Outcome → Type 0) (o : Outcome)
+      → ((said : T) → Says files source value said → rest said o → Means words desk before now o)
+      → ReadsThen (IsStopped state state_now) files source value rest o
+      → Means words desk before now o
+  reads-mean state state_now now files source value rest o on (inl h) =
+      halt-means state state_now now source o h
+  reads-mean state state_now now files source value rest o on (inr h) = on h.0 h.1 h.2
+
+  none-means : (state state_now : DeskState) (now files : Option FileMap) (names : FilesAsked)
+      (o : Outcome) → GivesNone (IsStopped state state_now) files names o
+      → Means words desk before now o
+  none-means state state_now now files names o =
+      reads-mean state state_now now files (arch_source names) arch_value
+      (AfterArch (IsStopped state state_now) files names) o
+      (λ arch says. reads-mean state state_now now files (net_source names arch)
+      (net_value arch) (AfterNetlist (IsStopped state state_now) files names arch) o
+      (λ netlist says. reads-mean state state_now now files (place_source names arch netlist)
+      (place_value netlist) (AfterPlacement (IsStopped state state_now) files names arch netlist) o
+      (λ placement says. reads-mean state state_now now files (route_source names) route_value
+      (λ route. IsUnfit (problem_of arch netlist placement route)) o
+      (λ route says unfit.
+      subst (Means words desk before now) (sym unfit.2) (fault-means now Route unfit.0)))))
+
+-- ---- the work that was done
+
+module _ (words : List Word) (at : Scene) where
+  -- what an outcome means behind this work
+  abbrev MeansHere : Outcome → Type 0
+  MeansHere = Means words at.desk.files at.shelf.files at.shelf_now.files
+
+  files-are : (shelf : ShelfState) → at.shelf_now ≡ shelf → at.shelf_now.files ≡ shelf.files
+  files-are shelf e = ap (λ (s : ShelfState). s.files) e
+
+  module _ (job : RouteAsked) (p : RoutingProblem) (asked : job_of words ≡ Ok (Routes job))
+      (poses : Poses at.desk.files job.files p) (narrow : job.width ≤ WIDTH_LIMIT) where
+    found-means : (came : Result Found Stop)
+        → FindsAt (search_of job) job.width (cnf_of job.width p) (IsRoutingOf job.width p) at.shelf
+        at.shelf_now came → MeansHere (found_outcome job.width came)
+    found-means (Ok IsRoutedThere) h = record {
+      job = job;
+      p = p;
+      of = record { asked = asked; wide = refl; poses = poses; few = h.0 };
+      found = h.1.found;
+      routing = h.1.routing;
+      reads_back = routing-reads job.width p h.1.found poses.route.text narrow
+          (poses.route.faultless, poses.route.says) h.1.routing h.1.reads_back;
+      written = files-are _ h.1.written;
+    }
+    found-means (Ok Refuted) h = record {
+      job = job;
+      p = p;
+      of = record { asked = asked; wide = refl; poses = poses; few = h.0 };
+      log = h.1.log;
+      refuted = h.1.ends;
+      none_legal = none-legal job.width p h.1.log poses.fits h.1.ends.refutes.accepts;
+      reads_back = record { clauses = h.1.clauses_back; steps = h.1.log_back };
+      written = files-are _ h.1.written;
+    }
+    found-means (Ok (Spent learned)) h = record {
+      job = job;
+      p = p;
+      of = record { asked = asked; wide = refl; poses = poses; few = h.0 };
+      budget = h.1;
+      log = h.2.log;
+      open_by = h.2.ends;
+      reads_back = record { clauses = h.2.clauses_back; steps = h.2.log_back };
+      written = files-are _ h.2.written;
+    }
+    found-means (Err stop) h =
+        stop-means words at.desk.files at.shelf.files at.shelf_now.files stop
+
+  module _ (job : EncodeAsked) (p : RoutingProblem) (asked : job_of words ≡ Ok (EncodesJob job))
+      (poses : Poses at.desk.files job.files p) where
+    written-means : (came : Result (Unit {0}) Stop)
+        → WritesClauses job (cnf_of job.width p) at.shelf at.shelf_now came
+        → MeansHere (written_outcome came)
+    written-means (Ok written) h = record {
+      job = job;
+      p = p;
+      asked = asked;
+      poses = poses;
+      few = h.0;
+      reads_back = h.1;
+      written = files-are _ h.2;
+    }
+    written-means (Err stop) h =
+        stop-means words at.desk.files at.shelf.files at.shelf_now.files stop
+
+  module _ (job : CheckAsked) (asked : job_of words ≡ Ok (Checks job)) (cnf : Cnf)
+      (log : List Step) (reads_cnf : Says at.desk.files (cnf_source job.cnf) cnf_said cnf)
+      (reads_lrat : Says at.desk.files (lrat_source job.lrat (length cnf.clauses)) lrat_said log)
+    where
+      judged-means : (judgement : Judgement) → judge cnf log ≡ judgement
+          → MeansHere (judgement_outcome judgement)
+      judged-means IsAccepted accepts = record {
+        job = job;
+        cnf = cnf;
+        log = log;
+        asked = asked;
+        reads_cnf = reads_cnf;
+        reads_lrat = reads_lrat;
+        accepts = accepts;
+        unsat = refutes cnf log accepts;
+      }
+      judged-means (IsRefused step cause) refused = tt
+
+  work-means : (names : FilesAsked)
+      (works : RoutingProblem → ShelfState → ShelfState → Outcome → Type 0) (o : Outcome)
+      → ((p : RoutingProblem) → Poses at.desk.files names p → works p at.shelf at.shelf_now o
+      → MeansHere o) → LeavesWork names works at o → MeansHere o
+  work-means names works o means (inl h) = none-means words at.desk.files at.shelf.files at.desk
+      at.desk_now at.shelf_now.files at.desk.files names o h.0
+  work-means names works o means (inr h) = means h.0 h.1 h.2
+
+  job-means : (job : JobAsked) (o : Outcome) → job_of words ≡ Ok job → LeavesJob job at o → MeansHere o
+  job-means (Routes job) o asked h = work-means job.files (Searches job) o
+      (λ p poses did. subst MeansHere (sym did.is)
+      (found-means job p asked poses did.narrow did.came did.finds)) h
+  job-means (EncodesJob job) o asked h = work-means job.files (Encodes job) o
+      (λ p poses did. subst MeansHere (sym did.is)
+      (written-means job p asked poses did.came did.writes)) h
+  job-means (Checks job) o asked h =
+      reads-mean words at.desk.files at.shelf.files at.desk at.desk_now at.shelf_now.files
+      at.desk.files (cnf_source job.cnf) cnf_said
+      (λ cnf. ReadsThen (IsStopped at.desk at.desk_now) at.desk.files
+      (lrat_source job.lrat (length cnf.clauses)) lrat_said
+      (λ log outcome. outcome ≡ judgement_outcome (judge cnf log))) o
+      (λ cnf reads_cnf.
+      reads-mean words at.desk.files at.shelf.files at.desk at.desk_now at.shelf_now.files
+      at.desk.files (lrat_source job.lrat (length cnf.clauses)) lrat_said
+      (λ log outcome. outcome ≡ judgement_outcome (judge cnf log)) o
+      (λ log reads_lrat is. subst MeansHere (sym is)
+      (judged-means job asked cnf log reads_cnf reads_lrat (judge cnf log) refl))) h.0
+
+  left-means : (o : Outcome) → Leaves words at o → MeansHere o
+  left-means o (inl h) = subst MeansHere (sym h.0) tt
+  left-means o (inr h) = go (job_of words) refl h
+    where
+      go : (asked : Result JobAsked Refusal) → job_of words ≡ asked
+          → MatchResult asked (λ job. LeavesJob job at o)
+          (λ cause. (o ≡ Usage (code_of cause)) × (at.shelf_now ≡ at.shelf)) → MeansHere o
+      go (Ok job) asked h = job-means job o asked h
+      go (Err cause) asked h = subst MeansHere (sym h.0) tt
+
+pub runs-mean : (words : List Word) (desk desk_now : DeskState) (shelf now : ShelfState)
+    (answer : Outcome) → Runs words desk desk_now shelf now answer
+    → Means words desk.files shelf.files now.files answer
+runs-mean words desk desk_now shelf now answer r =
+    let at : Scene = record {
+      desk = desk;
+      desk_now = desk_now;
+      shelf = shelf;
+      shelf_now = r.between;
+    } in
+    elim r.reports [
+      | inl h ↦ subst (Means words desk.files shelf.files now.files) (sym h.0)
+          (subst (λ (f : Option FileMap). Means words desk.files shelf.files f r.outcome)
+          (sym (ap (λ (s : ShelfState). s.files) h.1)) (left-means words at r.outcome r.leaves))
+      | inr h ↦ subst (Means words desk.files shelf.files now.files) (sym h.0)
+          (unsaid-means words desk.files shelf.files now.files r.outcome)
+    ]

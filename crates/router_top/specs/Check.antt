@@ -1,0 +1,43 @@
+-- What the check of a refutation comes to, by its two files.
+use Rattle.std.specs.Prelude.{◌≡◌, ℕ, length, Option}
+use Rattle.desk_io.specs.Files.{Bytes, FileMap}
+use Rattle.sat_clause.specs.Cause.{cause_number}
+use Rattle.sat_clause.specs.Judge.{Judgement, Accepted as IsAccepted, Refused as IsRefused, judge}
+use Rattle.sat_text.specs.CnfText.{cnf_faults, cnf_said}
+use Rattle.sat_text.specs.LratText.{lrat_faults, lrat_said}
+use Rattle.router_words.specs.Job.{CheckAsked}
+use Rattle.router_top.specs.Sources.{ReadsThen, Source}
+use Rattle.router_top.specs.declared.limits.TheConstants.{PROOF_BYTES}
+use Rattle.router_top.specs.declared.outcome.Outcome.{Outcome}
+use Rattle.router_top.specs.declared.outcome.Outcome.TheVariants.{Accepted, NotAccepted}
+use Rattle.router_top.specs.declared.text_file.TextFile.TheVariants.{Cnf, Lrat}
+
+-- the clauses
+abbrev pub cnf_source : Bytes → Source
+cnf_source name = record {
+  file = Cnf;
+  name = name;
+  limit = PROOF_BYTES;
+  faults = cnf_faults;
+}
+
+-- the log, behind so many input clauses
+abbrev pub lrat_source : Bytes → (inputs : ℕ) → Source
+lrat_source name inputs = record {
+  file = Lrat;
+  name = name;
+  limit = PROOF_BYTES;
+  faults = lrat_faults inputs;
+}
+
+-- what a run comes to by the judgement of a log
+abbrev pub judgement_outcome : Judgement → Outcome
+judgement_outcome IsAccepted = Accepted
+judgement_outcome (IsRefused step cause) = NotAccepted step (cause_number cause)
+
+-- the check stops at a file, those before it read; or the outcome is the judgement
+abbrev pub ChecksTo : (Source → Outcome → Type 0) → Option FileMap → CheckAsked → Outcome → Type 0
+ChecksTo stops files job =
+    ReadsThen stops files (cnf_source job.cnf) cnf_said
+    (λ cnf. ReadsThen stops files (lrat_source job.lrat (length cnf.clauses)) lrat_said
+    (λ log outcome. outcome ≡ judgement_outcome (judge cnf log)))

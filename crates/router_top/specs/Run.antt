@@ -1,0 +1,72 @@
+-- A run: the words, then the files in their order, then the work, and last the report.
+use Rattle.std.specs.Prelude.{◌≡◌, ◌⊎◌, List, MatchResult}
+use Rattle.desk_io.specs.DeskState.{DeskState}
+use Rattle.desk_io.specs.ShelfState.{FailsToSay, ShelfState, after_say}
+use Rattle.fpga_types.specs.Problem.{RoutingProblem}
+use Rattle.router_words.specs.Command.{job_of}
+use Rattle.router_words.specs.Refusal.{code_of}
+use Rattle.router_words.specs.Job.{Checks, Encodes as EncodesJob, FilesAsked, JobAsked, Routes}
+use Rattle.router_words.specs.Word.{Word}
+use Rattle.router_top.specs.Check.{ChecksTo}
+use Rattle.router_top.specs.FourFiles.{GivesNone, Poses}
+use Rattle.router_top.specs.Report.{IsReadFault, line_of, unsaid}
+use Rattle.router_top.specs.Sources.{IsStopped}
+use Rattle.router_top.specs.Work.{Encodes, Searches}
+use Rattle.router_top.specs.declared.outcome.Outcome.{Outcome}
+use Rattle.router_top.specs.declared.outcome.Outcome.TheVariants.{Usage, OutOfMemory}
+
+-- the desk and the shelf before the work and after it
+pub record Scene : Type 0 where
+  pub desk : DeskState
+  pub desk_now : DeskState
+  pub shelf : ShelfState
+  pub shelf_now : ShelfState
+
+-- nothing was written, since the four files give no problem; or they pose one, and this is what the
+-- work on it leaves
+abbrev pub LeavesWork : FilesAsked
+    → (RoutingProblem → (before now : ShelfState) → Outcome → Type 0) → Scene → Outcome → Type 0
+LeavesWork names works at outcome =
+    (GivesNone (IsStopped at.desk at.desk_now) at.desk.files names outcome
+    × (at.shelf_now ≡ at.shelf))
+    ⊎ ((p : RoutingProblem) × Poses at.desk.files names p
+    × works p at.shelf at.shelf_now outcome)
+
+-- what each job leaves before its outcome is reported; a check writes nothing
+abbrev pub LeavesJob : JobAsked → Scene → Outcome → Type 0
+LeavesJob (Routes job) at outcome = LeavesWork job.files (Searches job) at outcome
+LeavesJob (EncodesJob job) at outcome = LeavesWork job.files (Encodes job) at outcome
+LeavesJob (Checks job) at outcome =
+    ChecksTo (IsStopped at.desk at.desk_now) at.desk.files job outcome
+    × (at.shelf_now ≡ at.shelf)
+
+-- by what the words ask for; where they are not taken, or memory is too short for them, nothing is
+-- written
+abbrev pub Leaves : List Word → Scene → Outcome → Type 0
+Leaves words at outcome =
+    ((outcome ≡ OutOfMemory) × (at.shelf_now ≡ at.shelf))
+    ⊎ MatchResult (job_of words) (λ job. LeavesJob job at outcome)
+    (λ cause. (outcome ≡ Usage (code_of cause)) × (at.shelf_now ≡ at.shelf))
+
+-- the report line was said; or a front part of it was, and then the run has failed to write
+abbrev pub Reports : (before : ShelfState) → Outcome → (now : ShelfState) → Outcome → Type 0
+Reports before outcome now answer =
+    ((answer ≡ outcome) × (now ≡ after_say before (line_of outcome)))
+    ⊎ ((answer ≡ unsaid outcome) × FailsToSay before (line_of outcome) now)
+
+-- a run: the work leaves a shelf with an outcome, which is reported; the files of the desk stay,
+-- and where the desk has not failed, its count of faults is as it was
+pub record Runs
+    (words : List Word) (desk desk_now : DeskState) (shelf shelf_now : ShelfState)
+    (answer : Outcome) : Type 0 where
+  pub outcome : Outcome
+  pub between : ShelfState
+  pub leaves : Leaves words (record {
+    desk = desk;
+    desk_now = desk_now;
+    shelf = shelf;
+    shelf_now = between;
+  }) outcome
+  pub files_stay : desk_now.files ≡ desk.files
+  pub quiet : ¬ IsReadFault outcome → desk_now.faults ≡ desk.faults
+  pub reports : Reports between outcome shelf_now answer

@@ -1,0 +1,67 @@
+-- What the work on a problem leaves on the shelf, by its outcome.
+use Rattle.std.specs.Prelude.{◌≡◌, ◌++◌, ◌<◌, ◌≤◌, false, codes, length, Result, Ok, Err}
+use Rattle.desk_io.specs.Files.{Bytes}
+use Rattle.desk_io.specs.ShelfState.{ShelfState}
+use Rattle.desk_io.specs.WholeFile.{FailsToWrite, after_writing}
+use Rattle.fpga_types.specs.Problem.{RoutingProblem}
+use Rattle.fpga_types.specs.declared.limits.TheConstants.{WIDTH_LIMIT}
+use Rattle.route_encode.specs.Encoding.{cnf_of}
+use Rattle.route_encode.specs.Good.{IsRoutingOf}
+use Rattle.route_sweep.specs.Asked.{Asked}
+use Rattle.route_sweep.specs.Found.{FindsAt, HasFew}
+use Rattle.route_sweep.specs.declared.found.FileSlot.TheVariants.{Clauses}
+use Rattle.route_sweep.specs.declared.found.Found.{Found}
+use Rattle.route_sweep.specs.declared.found.Stop.{Stop}
+use Rattle.route_sweep.specs.declared.found.Stop.TheVariants.{Fault, TooManyClauses, Memory}
+use Rattle.sat_clause.specs.Formula.{Cnf}
+use Rattle.sat_clause.specs.declared.limits.TheConstants.{CLAUSE_LIMIT}
+use Rattle.sat_text.specs.CnfText.{ReadsCnf}
+use Rattle.sat_text.specs.Printed.{cnf_text}
+use Rattle.router_words.specs.Job.{EncodeAsked, RouteAsked}
+use Rattle.router_top.specs.Outcomes.{found_outcome, written_outcome}
+use Rattle.router_top.specs.declared.outcome.Outcome.{Outcome}
+
+-- what a job of routing asks of a search
+abbrev pub search_of : RouteAsked → Asked
+search_of job = record {
+  budget = job.conflicts;
+  keep = job.keep;
+  prefix = job.prefix;
+  numbered = false;
+}
+
+-- a search of the problem at the width of the job, which is at most 64
+pub record Searches
+    (job : RouteAsked) (p : RoutingProblem) (before now : ShelfState) (outcome : Outcome)
+    : Type 0 where
+  pub narrow : job.width ≤ WIDTH_LIMIT
+  pub came : Result Found Stop
+  pub finds : FindsAt (search_of job) job.width (cnf_of job.width p) (IsRoutingOf job.width p)
+      before now came
+  pub is : outcome ≡ found_outcome job.width came
+
+-- the name of the file that clauses are written to
+abbrev pub clauses_name : EncodeAsked → Bytes
+clauses_name job = job.prefix ++ codes ".cnf"
+
+-- the clauses were written, and read back; or they were not written whole; or nothing was written,
+-- since there are too many or memory is short
+abbrev pub WritesClauses : {Written : Type 0} → EncodeAsked → Cnf → (before now : ShelfState)
+    → Result Written Stop → Type 0
+WritesClauses job formula before now (Ok written) =
+    HasFew formula × ReadsCnf (cnf_text formula) formula
+    × (now ≡ after_writing before (clauses_name job) (cnf_text formula))
+WritesClauses job formula before now (Err (Fault slot)) =
+    (slot ≡ Clauses) × HasFew formula
+    × FailsToWrite before (clauses_name job) (cnf_text formula) now
+WritesClauses job formula before now (Err (TooManyClauses count)) =
+    (count ≡ length formula.clauses) × (CLAUSE_LIMIT < count) × (now ≡ before)
+WritesClauses job formula before now (Err Memory) = HasFew formula × (now ≡ before)
+
+-- the writing of the clauses of the problem at the width of the job
+pub record Encodes
+    (job : EncodeAsked) (p : RoutingProblem) (before now : ShelfState) (outcome : Outcome)
+    : Type 0 where
+  pub came : Result (Unit {0}) Stop
+  pub writes : WritesClauses job (cnf_of job.width p) before now came
+  pub is : outcome ≡ written_outcome came
