@@ -1,5 +1,5 @@
-//! Prints for each row the clauses of a problem at a width, as DIMACS CNF, and the tracks that truth
-//! values are decoded to.
+//! Prints for each row the clauses of a problem at a width, as DIMACS CNF, and the tracks that
+//! truth values are decoded to.
 #![tactic(auto)]
 
 mod clauses;

@@ -46,7 +46,7 @@ pub record IsLeftOpenBy (ask : Asked) (formula : Cnf) (log : List Step) : Type 0
   pub of : IsLogOf ask formula log
   pub spends : SpendsAll ask.budget log
 
--- a routing was written, and no other file; it reads back
+-- a routing was written, and no other file; it reads back where its problem's route was read
 pub record WritesRouting
     (ask : Asked) (good : RouteText → Type 0) (before now : ShelfState) : Type 0 where
   pub found : RouteText

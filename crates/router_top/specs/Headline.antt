@@ -1,7 +1,8 @@
 -- The headline. For every architecture, netlist, placement and global route that read and fit, and
 -- every width up to 64: a written route gives each net one wire for each cell of its global route,
--- joined by switches and shared with no other net; or the written clauses are refuted by the written
--- log, and there is no such routing; or it is left open, with the given number of learned clauses.
+-- joined by switches and shared with no other net; or the written clauses are refuted by the
+-- written log, and there is no such routing; or it is left open, with the given number of learned
+-- clauses.
 use Rattle.std.specs.Prelude.{◌≡◌, ℕ, List, ⊤, length, Ok, Option, option_map}
 use Rattle.std.specs.FinMap.{insert}
 use Rattle.desk_io.specs.Files.{Bytes, FileMap}

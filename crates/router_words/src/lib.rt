@@ -11,8 +11,8 @@
 //!
 //! What stands behind the command is taken as `clap` takes it: options may stand anywhere,
 //! `--conflicts=5` is `--conflicts 5`, behind `--` no word is an option, and a word may be empty or
-//! `-`. An option is given once at the most and written out, `--keep` has no value, and no word asks
-//! for help.
+//! `-`. An option is given once at the most and written out, `--keep` has no value, and no word
+//! asks for help.
 //!
 //! | code | cause |
 //! |---|---|

@@ -11,8 +11,8 @@ use clap::error::ErrorKind;
 use clap::{ArgMatches, Command};
 use fpga_text::whole_number;
 
-/// What the form finds in the words that it takes. `Refused` has the cause `Form`, and comes exactly
-/// where it does not take them; `Memory` comes where memory is short.
+/// What the form finds in the words that it takes. `Refused` has the cause `Form`, and comes
+/// exactly where it does not take them; `Memory` comes where memory is short.
 pub fn take<'a>(command: Command<'a>, words: &'a [String]) -> Result<ArgMatches<'a>, WordsFault>
     requires { is_form (app_of command) ≡ true }
     ensures { Takes (app_of command.entry) (words_of words.entry.now) result }
@@ -46,8 +46,8 @@ pub fn required_word<'a>(matches: &ArgMatches<'a>, name: &str) -> &'a str
     word
 }
 
-/// Whether the option with this name, which has no value, was given. `clap` notes `true` for it, and
-/// `false` where it was not.
+/// Whether the option with this name, which has no value, was given. `clap` notes `true` for it,
+/// and `false` where it was not.
 pub fn is_given(matches: &ArgMatches, name: &str) -> bool
     ensures { result ≡ has_flag name.now (rows_of (found_of matches.now)) }
 {
