@@ -19,7 +19,7 @@ use Rattle.sat_core.specs.Levels.{Assigned, level_of}
 use Rattle.sat_core.specs.SearchStore.{IsLeveled, assigned, assigned_in}
 use Rattle.sat_core.specs.Single.{IsTaken}
 use Rattle.sat_core.proofs.AttachedLaws.{last_is, new_place}
-use Rattle.sat_core.proofs.DecideLaws.{leveled_any, leveled_implied}
+use Rattle.sat_core.proofs.DecideLaws.{leveled_any, leveled_implied, value_stays}
 use Rattle.sat_core.proofs.LevelLaws.{none_above}
 
 -- LITERALS
@@ -192,6 +192,7 @@ module _ (old new : WatchState) (lits : Clause) (id : ℕ) (c : ClauseRef)
     level = now_level old new lits id c does stand ∙ level;
     leveled = now_leveled old new lits id c does stand leveled;
     due = does.not_due (inr case);
+    values = λ m some. rw (now_trail old new lits id c does stand) some;
   }
 
   pub taken_open : (l : Lit) → IsLeveled old → old.level ≡ 0 → HasOneOpen old.trail old.level lits
@@ -206,4 +207,7 @@ module _ (old new : WatchState) (lits : Clause) (id : ℕ) (c : ClauseRef)
     level = now_level old new lits id c does stand ∙ level;
     leveled = leveled_implied new l c (now_leveled old new lits id c does stand leveled);
     due = implied_due new l c (does.due case);
+    values = λ m some.
+        let e : TrailEntry = record { lit = l; level = new.level; reason = Some c } in
+        value_stays (e ∷ []) new.trail m (rw (now_trail old new lits id c does stand) some);
   }

@@ -1,7 +1,7 @@
 -- Variables with values over a trail, and levels where it grows.
 use Rattle.std.specs.Prelude.{if◌then◌else◌, is_some, option_map, unwrap_or}
 use Rattle.std.proofs.Common.{inl, inr, ◌⊎◌, ◌≡◌, ◌≢◌, ◌<◌, ℕ, zero, suc, ℤ, pos, negsuc, neg_ℤ, nat_abs, Bool, true, false, not, List, [], ◌∷◌, ◌++◌, Option, None, Some, slice_index_or, All, refl, sym, ap, ◌∙◌, subst, arith}
-use Rattle.std.proofs.lemmas.Bool.{both_ways, cases_eq}
+use Rattle.std.proofs.lemmas.Bool.{both_ways}
 use Rattle.std.proofs.lemmas.List.Elements.{All-head, All-tail}
 use Rattle.sat_clause.specs.declared.literal.Lit.{Lit}
 use Rattle.sat_clause.specs.Formula.{makes_number_true}
@@ -53,26 +53,15 @@ some_value trail l some none =
     elim some [ inl is ↦ both_ways _ both.0 is | inr is ↦ both_ways _ both.1 is ]
 
 -- values stay where the trail grows
-pub more_values : (added trail : List TrailEntry) (n : ℕ) → HaveValues trail n
-    → HaveValues (added ++ trail) n
-more_values [] trail n have = have
-more_values (e ∷ added) trail n have = λ k some below.
-    let l : Lit = positive k in
-    let rest = more_values added trail n have k some below in
+pub value_stays : (added trail : List TrailEntry) (l : Lit) → value_in trail l ≢ None →
+    value_in (added ++ trail) l ≢ None
+value_stays [] trail l some = some
+value_stays (e ∷ added) trail l some =
+    let rest = value_stays added trail l some in
     some_value (e ∷ (added ++ trail)) l (elim (value_some (added ++ trail) l rest) [
       | inl is ↦ inl (among_more (falses (added ++ trail)) (negation e.lit) l is)
       | inr is ↦ inr (among_more (falses (added ++ trail)) (negation e.lit) (negation l) is)
     ])
-
--- one more variable with a value
-pub value_more : (trail : List TrailEntry) (n m : ℕ) → HaveValues trail n
-    → value_in trail (positive n) ≢ None → m ≡ suc n →
-    HaveValues trail m
-value_more trail n m have here is k some below =
-    elim (cases_eq k n) [
-      | inl same ↦ subst (λ (j : ℕ). value_in trail (positive j) ≢ None) (sym same) here
-      | inr other ↦ have k some (omega (arith, below, is, other))
-    ]
 
 -- where all variables have values each literal is false or its negation is
 pub closed_values : (vars n : ℕ) (trail : List TrailEntry) → HaveValues trail n → vars < n

@@ -15,6 +15,7 @@ use Rattle.sat_clause.proofs.LiteralLaws.{negation-negation}
 use Rattle.sat_clause.proofs.ReadingLaws.{IsFalseOr}
 use Rattle.sat_clause.proofs.TrailLaws.{open_not_false, open_not_true}
 use Rattle.sat_arena.specs.declared.clause_ref.ClauseRef.{ClauseRef}
+use Rattle.sat_order.specs.Order.{OrderState}
 use Rattle.sat_watch.specs.declared.entry.TrailEntry.{TrailEntry}
 use Rattle.sat_watch.specs.Levels.{upto}
 use Rattle.sat_watch.specs.Trail.{lits_of as watch_lits}
@@ -23,12 +24,14 @@ use Rattle.sat_watch.specs.Watches.{Attached, Attaches, HasCause, HasLevels, Has
 use Rattle.sat_watch.proofs.LevelLemmas.{true_level}
 use Rattle.sat_core.specs.ClauseList.{ClauseListState}
 use Rattle.sat_core.specs.Levels.{AreLevels, Assigned, IsAsserting, level_of, lits_of, made_false, up_to}
+use Rattle.sat_core.specs.Ranking.{IsRanked}
 use Rattle.sat_core.specs.SearchStore.{EndsAsserting, IsLesson, IsLeveled, IsSearchStore, Learns, assigned, assigned_in, live_of, search_value}
 use Rattle.sat_core.proofs.AttachLaws.{contains_assigned, implied_due, now_attached, now_clauses, now_leveled, now_reason, now_trail, now_vars, true_entry, true_none}
 use Rattle.sat_core.proofs.AttachedLaws.{same_permuted, simple_permuted}
-use Rattle.sat_core.proofs.DecideLaws.{leveled_implied}
+use Rattle.sat_core.proofs.DecideLaws.{leveled_implied, value_stays}
 use Rattle.sat_core.proofs.LessonLaws.{all_false_or, first_is_open}
 use Rattle.sat_core.proofs.LevelLaws.{in_made_false, level_back, levels_back, none_above, only_entry}
+use Rattle.sat_core.proofs.RankingLaws.{ranked_more}
 use Rattle.sat_core.proofs.SameLaws.{same_back}
 use Rattle.sat_core.proofs.SearchLaws.{attached_alike, store_attached}
 use Rattle.sat_core.proofs.WatchLaws.{falses_in, lits_in, up_to_in}
@@ -254,6 +257,15 @@ module _ (i a t : ℕ) (s : ClauseListState) (w : WatchState) (store : IsSearchS
         (leveled_implied now first c (now_leveled gone now clause id c does store.keeps.stand
         gone_leveled))
         (implied_due now first c (does.due one_open))
+
+    pub ranked_learned : (order : OrderState) → IsRanked w.vars gone.trail order →
+        IsRanked now.vars (record { lit = first; level = now.level; reason = Some c } ∷ now.trail)
+        order
+    ranked_learned order ranked =
+        let e : TrailEntry = record { lit = first; level = now.level; reason = Some c } in
+        rw (now_vars gone now clause id c does store.keeps.stand)
+        (ranked_more w.vars gone.trail (e ∷ now.trail) order (λ l some. value_stays (e ∷ [])
+        now.trail l (rw (now_trail gone now clause id c does store.keeps.stand) some)) ranked)
 
     pub learns : Learns (search_value i a s w) (search_value i (suc a) s
         (implied first c now)) clause

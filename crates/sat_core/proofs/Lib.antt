@@ -14,6 +14,7 @@ pub mod ListLaws
 pub mod LogLemmas
 pub mod MarksLaws
 pub mod ModelLemmas
+pub mod RankingLaws
 pub mod ReadingLemmas
 pub mod RelevantLaws
 pub mod SameLaws
@@ -22,3 +23,4 @@ pub mod TrailPlaces
 pub mod UnderwayLemmas
 pub mod UseLaws
 pub mod WatchLaws
+pub mod WayBackLaws

@@ -1,9 +1,10 @@
 -- How a search lies, with one more input, with a single clause attached, behind decisions, and with
 -- one more learned clause.
-use Rattle.std.proofs.Common.{inl, inr, ◌⊎◌, ◌≡◌, ◌≢◌, ◌==◌, ◌<◌, ◌≤◌, ◌+◌, ◌-◌, ℕ, suc, ℤ, pos, Bool, true, false, cond, List, [], ◌∷◌, ◌++◌, length, reverse, Option, None, Some, slice_get, All, refl, sym, ap, ◌∙◌, subst, arith}
-use Rattle.std.proofs.lemmas.Bool.{cases_eq, eqb-true}
-use Rattle.std.proofs.lemmas.List.{length-reverse, reverse-append}
-use Rattle.std.proofs.lemmas.List.Elements.{All-cons, All-head, All-nil, All-tail, All-weaker}
+use Rattle.std.specs.Prelude.{if◌then◌else◌, nat_lt}
+use Rattle.std.proofs.Common.{inl, inr, ◌⊎◌, ◌≡◌, ◌<◌, ◌≤◌, ◌+◌, ℕ, suc, Bool, true, false, List, [], ◌∷◌, ◌++◌, length, reverse, None, Some, slice_get, All, refl, sym, ap, ◌∙◌, subst, arith}
+use Rattle.std.proofs.lemmas.Bool.{cases_eq}
+use Rattle.std.proofs.lemmas.List.{length-reverse}
+use Rattle.std.proofs.lemmas.List.Elements.{All-cons, All-head, All-nil, All-tail}
 use Rattle.std.proofs.lemmas.Option.{slice_get_within}
 use Rattle.list_laws.proofs.Places.{some_is}
 use Rattle.sat_clause.specs.declared.literal.Lit.{Lit}
@@ -16,21 +17,23 @@ use Rattle.sat_clause.proofs.ReadingLaws.{all_conflict}
 use Rattle.sat_clause.specs.Trail.{IsClosed}
 use Rattle.sat_arena.specs.declared.clause_ref.ClauseRef.{ClauseRef}
 use Rattle.sat_watch.specs.declared.entry.TrailEntry.{TrailEntry}
+use Rattle.sat_watch.specs.Levels.{upto}
 use Rattle.sat_watch.specs.Trail.{AreWithin, IsOnce, falses}
 use Rattle.sat_watch.specs.Watched.{AreFalse}
-use Rattle.sat_watch.specs.Watches.{Attached, Attaches, HasLevels, IsSettledAt, IsSettledState, WatchState, id_at, is_attached}
+use Rattle.sat_watch.specs.Watches.{Attached, Attaches, HasLevels, IsSettledAt, IsSettledState, WatchState, gone_back, id_at, is_attached}
 use Rattle.sat_core.specs.ClauseList.{ClauseListState}
 use Rattle.sat_core.specs.Deciding.{AreValuesOf, GoesOn, IsFalse}
 use Rattle.sat_core.specs.Kept.{AreAmong, AreBelow, HasOnce, SameLive}
-use Rattle.sat_core.specs.Levels.{AreSettled, Assigned, IsSettledTrail, level_of, lits_of, made_false}
+use Rattle.sat_core.specs.Levels.{AreLevels, AreSettled, Assigned, IsSettledTrail, level_of, lits_of, made_false, up_to}
 use Rattle.sat_core.specs.SearchStore.{AreTaken, AreTrue, IsKeeping, IsLeveled, IsSearchStore, SameKept, assigned, assigned_in, live_of, search_value}
 use Rattle.sat_core.specs.Single.{IsTaken}
 use Rattle.sat_core.specs.Stands.{SearchValue}
 use Rattle.sat_core.proofs.AttachedLaws.{added_attached, added_id, keeping_added, last_is, new_place, same_permuted, simple_permuted}
-use Rattle.sat_core.proofs.KeptLaws.{none_next, none_zero, put_below}
+use Rattle.sat_core.proofs.KeptLaws.{none_next, put_below}
+use Rattle.sat_core.proofs.LevelLaws.{level_back, levels_back}
 use Rattle.sat_core.proofs.ModelLemmas.{quiet_is_true}
 use Rattle.sat_core.proofs.SameLaws.{same_itself, same_then}
-use Rattle.sat_core.proofs.WatchLaws.{among_same, caused_here, false_in, falses_in, keeping_same, lits_in, same_among, settled_here, settled_in, single_found, value_added, value_again, value_found, value_origin}
+use Rattle.sat_core.proofs.WatchLaws.{among_same, caused_here, false_in, falses_in, keeping_same, lits_in, same_among, settled_here, settled_in, single_found, up_to_in, value_added, value_again, value_found, value_origin}
 
 -- IDS
 
@@ -280,6 +283,58 @@ module _ (i a t : ℕ) (s : ClauseListState) (w now : WatchState) (store : IsSea
       → Reads (made_false (assigned_in now.clauses now.trail)) (clause_at
       (s.clauses ++ live_of now.clauses) (id_at now.clauses c)) Conflict
   false_now c is = false_in now.vars s.clauses now.clauses now.trail c store_decided.keeps is.0 is.1
+
+-- AT LEVEL 0 AGAIN
+
+module _ (i a t : ℕ) (s : ClauseListState) (w : WatchState) (store : IsSearchStore i a t s w) where
+  abbrev dropped : WatchState
+  dropped = record w { trail = upto 0 w.trail; queued = 0; level = 0; due = None }
+
+  dropped_trail : up_to 0 (assigned_in w.clauses w.trail) ≡ assigned_in w.clauses dropped.trail
+  dropped_trail = up_to_in w.clauses 0 w.trail
+
+  dropped_leveled : IsLeveled dropped
+  dropped_leveled = record {
+    levels = subst AreLevels dropped_trail (levels_back 0 (assigned_in w.clauses w.trail)
+        store.leveled.levels);
+    current = sym (level_back 0 (assigned_in w.clauses w.trail) store.leveled.levels (omega arith))
+        ∙ ap level_of dropped_trail;
+  }
+
+  pub store_begun : IsSearchStore i a t s (gone_back 0 w)
+  store_begun = by (nat_lt 0 w.level)
+    where
+      by : (b : Bool) → IsSearchStore i a t s (if b then dropped else w)
+      by true = record {
+        few_ids = store.few_ids;
+        few = store.few;
+        few_vars = store.few_vars;
+        same_vars = store.same_vars;
+        below = store.below;
+        few_taken = store.few_taken;
+        short = store.short;
+        keeps = store.keeps;
+        taken_are = store.taken_are;
+        waiting = inr refl;
+        leveled = dropped_leveled;
+        none_due = refl;
+      }
+      by false = store
+
+  pub kept_begun : SameKept (search_value i a s w) (search_value i a s (gone_back 0 w))
+  kept_begun = by (nat_lt 0 w.level)
+    where
+      by : (b : Bool) → SameKept (search_value i a s w)
+          (search_value i a s (if b then dropped else w))
+      by true = record {
+        vars = refl;
+        inputs = refl;
+        added = refl;
+        among = λ n x at. (x, at, same_itself x);
+        back = λ n x at. (x, at, same_itself x);
+        once = λ n x at. store_once i a t s w store n x at;
+      }
+      by false = kept_refl i a t s w store
 
 -- WHAT IS LEARNED
 

@@ -8,7 +8,7 @@ use Rattle.sat_arena.specs.declared.clause_ref.ClauseRef.{ClauseRef}
 use Rattle.sat_watch.specs.declared.entry.TrailEntry.{TrailEntry}
 use Rattle.sat_watch.specs.Trail.{falses, lits_of, value_in}
 use Rattle.sat_watch.specs.Watched.{AreFalse}
-use Rattle.sat_watch.specs.Watches.{SameClauses, WatchState, is_attached, lits_at}
+use Rattle.sat_watch.specs.Watches.{SameClauses, WatchState, assumed, is_attached, lits_at}
 use Rattle.sat_core.specs.SearchStore.{IsLeveled}
 
 -- the variables below this number have values
@@ -21,6 +21,10 @@ pub record GoesOn (old new : WatchState) : Type 0 where
   pub due : new.due ≡ None
   pub clauses : SameClauses old.clauses new.clauses
   pub leveled : IsLeveled old → IsLeveled new
+
+-- an open literal was decided
+abbrev pub IsDecided : WatchState → WatchState → Type 0
+IsDecided old new = (l : Lit) × (new ≡ assumed l old)
 
 -- the clause with this reference is false
 abbrev pub IsFalse : WatchState → ClauseRef → Type 0

@@ -6,7 +6,9 @@ pub mod Inputs
 pub mod Kept
 pub mod Levels
 pub mod Marks
+pub mod Ranking
 pub mod Reading
+pub mod Restarts
 pub mod SearchLog
 pub mod SearchStore
 pub mod Single

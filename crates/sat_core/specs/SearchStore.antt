@@ -16,7 +16,9 @@ use Rattle.sat_core.specs.ClauseList.{ClauseListState}
 use Rattle.sat_core.specs.Kept.{AreAmong, AreBelow, HasOnce, SameLive}
 use Rattle.sat_core.specs.Marks.{IsReady, MarkState}
 use Rattle.sat_core.specs.Levels.{AreLevels, AreSettled, Assigned, IsAsserting, IsDerived, IsSettledTrail, level_of, made_false, marked_ids}
+use Rattle.sat_core.specs.Ranking.{IsRanked}
 use Rattle.sat_core.specs.Stands.{SearchValue}
+use Rattle.sat_order.specs.Order.{OrderState}
 
 -- an entry with the id of its reason
 abbrev pub assigned : List Attached → TrailEntry → Assigned
@@ -78,12 +80,14 @@ pub record IsSearchStore
   pub leveled : IsLeveled watches
   pub none_due : watches.due ≡ None
 
--- and no mark is set
+-- and no mark is set, and each variable that is not held has a value
 pub record IsSearching
     (inputs added taken : ℕ) (singles : ClauseListState) (watches : WatchState) (marks : MarkState)
+    (order : OrderState)
     : Type 0 where
   pub store : IsSearchStore inputs added taken singles watches
   pub ready : IsReady watches.vars marks
+  pub ranked : IsRanked watches.vars watches.trail order
 
 -- the search has the same clauses as sets, and the same numbers
 pub record SameKept (old new : SearchValue) : Type 0 where

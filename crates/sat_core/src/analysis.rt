@@ -14,7 +14,7 @@ use sat_clause::{Lit, VARIABLE_LIMIT};
 use sat_watch::Watches;
 
 /// The place of a literal that is false.
-fn false_place(watches: &Watches, l: Lit) -> Option<u32>
+pub(crate) fn false_place(watches: &Watches, l: Lit) -> Option<u32>
     requires { IsWithin watches.now.vars l }
     ensures is_false { IfSome result (λ _. is_false watches.now.trail l ≡ true) }
     ensures place { IfSome result (λ p. place_in watches.now.trail l ≡ Some p) }

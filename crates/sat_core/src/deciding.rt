@@ -1,61 +1,62 @@
 //! Decisions over watches, one after another.
 
-ghost use Rattle.std.specs.Prelude.{◌≡◌, ◌+◌, ◌<◌, ◌≤◌, IfNone, IfOk, IfSome, None, false, length};
-ghost use Rattle.sat_clause.specs.Literal.{IsWithin, variable};
+ghost use Rattle.std.specs.Prelude.{◌≡◌, ◌<◌, ◌≤◌, IfNone, IfOk, IfSome, None, false, length, true};
 ghost use Rattle.sat_clause.specs.Trail.{IsClosed};
-ghost use Rattle.sat_core.specs.Deciding.{AreValuesOf, GoesOn, HaveValues, IsFalse};
-ghost use Rattle.sat_watch.specs.Trail.{IsOpen, lits_of};
+ghost use Rattle.sat_core.specs.Deciding.{AreValuesOf, GoesOn, IsDecided, IsFalse};
+ghost use Rattle.sat_core.specs.Ranking.{IsRanked, held_count};
+ghost use Rattle.sat_watch.specs.Trail.{lits_of};
 ghost use Rattle.sat_watch.specs.Watches.{IsSettledAt};
 
+use crate::ranking::Ranking;
 use sat_arena::ClauseRef;
 use sat_clause::{Lit, VARIABLE_LIMIT};
 use sat_watch::Watches;
 use std::alloc::{AllocError, Global};
 
-/// The least open variable from a number on, as a literal that is no negation. Those below have
-/// values.
-fn open_literal(watches: &Watches, vars: u32, from: u32) -> Option<Lit>
-    requires vars { vars ≡ watches.now.vars }
-    requires few { vars ≤ VARIABLE_LIMIT }
-    requires below { HaveValues watches.now.trail from }
-    requires some { 1 ≤ from }
-    ensures within { IfSome result (IsWithin vars) }
-    ensures open { IfSome result (IsOpen watches.now.trail) }
-    ensures from { IfSome result (λ l. from ≤ variable l) }
-    ensures below { IfSome result (λ l. HaveValues watches.now.trail (variable l)) }
-    ensures closed { IfNone result (IsClosed vars (lits_of watches.now.trail)) }
+/// Decides the open variable that stands first in the ranking as true. False where each variable
+/// has a value.
+fn decide(ranking: &mut Ranking, watches: &mut Watches) -> bool
+    requires ranked { IsRanked watches.old.vars watches.old.trail ranking.old }
+    requires few { watches.old.vars ≤ VARIABLE_LIMIT }
+    requires empty { watches.old.queued ≡ 0 }
+    requires quiet { watches.old.due ≡ None }
+    ensures decided { result ≡ true → IsDecided watches.old watches.new }
+    ensures fewer { result ≡ true
+        → held_count ranking.new.held < held_count ranking.old.held }
+    ensures ranked { IsRanked watches.new.vars watches.new.trail ranking.new }
+    ensures closed { result ≡ false → IsClosed watches.old.vars (lits_of watches.old.trail) }
+    ensures same { result ≡ false → watches.new ≡ watches.old }
 {
-    for v in from..vars + 1 {
+    while let Some(v) = ranking.take_best() {
         let l = Lit::positive(v);
         if watches.value(l).is_none() {
-            return Some(l);
+            watches.assume(l);
+            return true;
         }
     }
-    None
+    false
 }
 
-/// Decides variable after variable, the least open one as true, until a clause is false, whose
-/// reference it gives, or each variable has a value.
-pub(crate) fn decide_on(watches: &mut Watches, vars: u32) -> Option<ClauseRef>
-    requires vars { vars ≡ watches.old.vars }
-    requires few { vars ≤ VARIABLE_LIMIT }
+/// Decides variable after variable, in the order of the ranking and each as true, until a clause is
+/// false, whose reference it gives, or each variable has a value.
+pub(crate) fn decide_on(ranking: &mut Ranking, watches: &mut Watches) -> Option<ClauseRef>
+    requires ranked { IsRanked watches.old.vars watches.old.trail ranking.old }
+    requires few { watches.old.vars ≤ VARIABLE_LIMIT }
     requires quiet { watches.old.due ≡ None }
+    ensures ranked { IsRanked watches.new.vars watches.new.trail ranking.new }
     ensures goes { GoesOn watches.old watches.new }
     ensures conflict { IfSome result (IsFalse watches.new) }
     ensures settled { IfNone result (IsSettledAt watches.new watches.new.level) }
-    ensures closed { IfNone result (IsClosed vars (lits_of watches.new.trail)) }
+    ensures closed { IfNone result (IsClosed watches.new.vars (lits_of watches.new.trail)) }
 {
     let mut looks = 0;
-    let mut from = 1;
     loop {
         if let Some(c) = watches.propagate(&mut looks) {
             return Some(c);
         }
-        let Some(l) = open_literal(watches, vars, from) else {
+        if !decide(ranking, watches) {
             return None;
-        };
-        watches.assume(l);
-        from = l.variable() + 1;
+        }
     }
 }
 

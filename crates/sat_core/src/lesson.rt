@@ -4,10 +4,13 @@ ghost use Rattle.std.specs.Prelude.{◌≡◌, ◌++◌, ◌∷◌, [], ◌<◌,
 ghost use Rattle.sat_clause.specs.Literal.{IsWithin};
 ghost use Rattle.sat_core.specs.Analysis.{AreOn, HasCurrent, IsKnown};
 ghost use Rattle.sat_core.specs.Marks.{IsReady};
+ghost use Rattle.sat_core.specs.Ranking.{SameHeld};
 ghost use Rattle.sat_core.specs.Reading.{AreLearned, EndsIn, HasLesson, IsFound, hint_at};
 
 use crate::analysis::analyse;
+use crate::bumping::bump_conflict;
 use crate::marks::Marks;
+use crate::ranking::Ranking;
 use sat_clause::{Lit, VARIABLE_LIMIT};
 use sat_watch::Watches;
 use std::alloc::{AllocError, Global};
@@ -131,21 +134,25 @@ fn read(
     })
 }
 
-/// What is learned where a clause with this id is false. All marks are taken back.
+/// What is learned where a clause with this id is false. All marks are taken back. What the analysis
+/// meets is bumped.
 ///
 /// # Errors
 /// Where memory is short.
 pub(crate) fn find_lesson(
     alloc: Global,
+    ranking: &mut Ranking,
     marks: &mut Marks,
     watches: &Watches,
     lits: &[Lit],
     id: u32,
 ) -> Result<Lesson, AllocError>
     requires few { watches.now.vars ≤ VARIABLE_LIMIT }
+    requires vars { ranking.old.vars ≡ watches.now.vars }
     requires ready { IsReady watches.now.vars marks.old }
     requires within { All (IsWithin watches.now.vars) lits.now }
     requires current { IsKnown watches.now → HasCurrent watches.now lits.now }
+    ensures held { SameHeld ranking.old ranking.new }
     ensures ready { IsReady watches.now.vars marks.new }
     ensures found { IfOk result (λ lesson. IsFound watches.now lits.now id lesson.clause.items
         lesson.hints.items lesson.back) }
@@ -153,6 +160,7 @@ pub(crate) fn find_lesson(
     let point = analyse(marks, watches, lits);
     marks.sort();
     let lesson = read(alloc, marks, watches, point, id);
+    bump_conflict(ranking, marks, watches, point);
     marks.clear();
     lesson
 }

@@ -13,7 +13,10 @@ use crate::deciding::{decide_on, values};
 use crate::inputs::{Inputs, take_inputs};
 use crate::lesson::{Lesson, find_lesson};
 use crate::marks::Marks;
+use crate::ranking::Ranking;
+use crate::restarts::Restarts;
 use crate::single::attach_single;
+use crate::way_back::go_back;
 use sat_clause::{Formula, ID_LIMIT, Lit, VARIABLE_LIMIT};
 use sat_watch::Watches;
 use std::alloc::{AllocError, Global};
@@ -33,6 +36,8 @@ pub(crate) struct Search {
     taken: u32,
     watches: Watches,
     marks: Marks,
+    ranking: Ranking,
+    restarts: Restarts,
 }
 
 impl Model for Search {
@@ -43,7 +48,8 @@ impl Model for Search {
 
     ghost view = { λ s. search_value s.inputs s.added s.singles s.watches };
 
-    ghost invariant = { λ s. IsSearching s.inputs s.added s.taken s.singles s.watches s.marks };
+    ghost invariant = { λ s. IsSearching s.inputs s.added s.taken s.singles s.watches s.marks
+        s.ranking };
 }
 
 impl Search {
@@ -62,6 +68,8 @@ impl Search {
             taken: 0,
             watches,
             marks: Marks::new(alloc, formula.vars())?,
+            ranking: Ranking::new(alloc, formula.vars())?,
+            restarts: Restarts::new(),
         })
     }
 
@@ -71,6 +79,16 @@ impl Search {
         ensures { result ≡ suc (self.now.inputs + self.now.added) }
     {
         self.inputs + self.added + 1
+    }
+
+    /// Goes back to level 0 where a restart is due.
+    pub(crate) fn restart_where_due(&mut self)
+        ensures { SameKept self.old self.new }
+    {
+        if !self.restarts.is_due(self.added) {
+            return;
+        }
+        go_back(&mut self.ranking, &mut self.watches, 0);
     }
 
     /// Attaches the clauses of fewer than two literals that wait for it, and then decides variable
@@ -89,6 +107,7 @@ impl Search {
             if !attach_single(&mut self.watches, single.lits, single.id)? {
                 let lesson = find_lesson(
                     alloc,
+                    &mut self.ranking,
                     &mut self.marks,
                     &self.watches,
                     single.lits,
@@ -98,12 +117,19 @@ impl Search {
             }
             self.taken += 1;
         }
-        let Some(c) = decide_on(&mut self.watches, self.singles.vars()) else {
+        let Some(c) = decide_on(&mut self.ranking, &mut self.watches) else {
             return Ok(None);
         };
         let id = self.watches.id(c);
         let lits = self.watches.lits(c);
-        let lesson = find_lesson(alloc, &mut self.marks, &self.watches, lits, id)?;
+        let lesson = find_lesson(
+            alloc,
+            &mut self.ranking,
+            &mut self.marks,
+            &self.watches,
+            lits,
+            id,
+        )?;
         Ok(Some(lesson))
     }
 
@@ -129,7 +155,7 @@ impl Search {
         let Some(last) = lesson.clause.last() else {
             unreachable!();
         };
-        self.watches.back_to(lesson.back);
+        go_back(&mut self.ranking, &mut self.watches, lesson.back);
         let c = self.watches.attach(&lesson.clause, id)?;
         self.watches.imply(*last, c);
         self.added += 1;

@@ -42,7 +42,9 @@ fn search_for_values(
 /// are numbered behind the input clauses, in order; none but the empty one has all literals of a
 /// clause that is live. With `keep` no clause is deleted; today none is deleted either way.
 ///
-/// Where a clause is false, the clause of the first unique implication point is learned: the search
+/// Of the open variables the one that conflicts met most and latest is decided, as true; after 64
+/// times the next term of Luby's sequence more conflicts the search goes back to level 0. Where a
+/// clause is false, the clause of the first unique implication point is learned: the search
 /// goes back to the highest level of its other literals, and it makes the last one true there.
 /// The analysis costs what it meets: the entries of the trail from the newest down to that point,
 /// and the literals of the reasons that it uses, whose places are sorted. A clause is kept twice,

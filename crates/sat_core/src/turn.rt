@@ -19,8 +19,8 @@ pub(crate) enum Turn {
     Refuted,
 }
 
-/// Searches on until a clause is false, and then learns and logs a clause; or until each variable
-/// has a value.
+/// Goes back to level 0 where a restart is due. Searches on until a clause is false, and then learns
+/// and logs a clause; or until each variable has a value.
 ///
 /// Memory is taken before anything is logged, so the log is as it was where memory is short.
 pub(crate) fn take_turn(
@@ -34,6 +34,7 @@ pub(crate) fn take_turn(
         → IsTurn search.new formula log.old.steps log.new.steps turn) }
     ensures err { OnErr result (log.new.steps ≡ log.old.steps) }
 {
+    search.restart_where_due();
     let Some(lesson) = search.next_lesson(alloc)? else {
         let values = search.model(alloc)?;
         return Ok(Turn::Model(values));

@@ -1,6 +1,6 @@
 -- Terms with other numbers.
-use Rattle.std.proofs.Common.{◌≡◌, ◌+◌, ◌-◌, ◌*◌, ◌^◌, ◌/◌, ◌<◌, ◌≤◌, ℕ, zero, suc, arith, subst, ap, ◌∙◌}
-use Rattle.std.proofs.lemmas.Nat.{pow-add}
+use Rattle.std.proofs.Common.{◌≡◌, ◌+◌, ◌-◌, ◌*◌, ◌^◌, ◌/◌, ◌<◌, ◌≤◌, ℕ, zero, suc, arith, subst, sym, ap, ◌∙◌}
+use Rattle.std.proofs.lemmas.Nat.{pow-add, pow_pos}
 use Rattle.sat_order.specs.Luby.{IsLuby, whole, rest}
 
 pub twice : (k : ℕ) → 2 ^ (k + 1) ≡ 2 * 2 ^ k
@@ -29,3 +29,18 @@ half-power (suc k) n power big =
     twice k in
     let f : n / 2 ≡ 2 ^ k = omega (arith, e) in
     (k, f, omega (arith, e, f))
+
+-- a term is at least 1, and at most its number
+pub term_some : (n term : ℕ) → IsLuby n term → 1 ≤ term
+term_some _ _ (whole k n term some power is) = omega (arith, pow_pos (k - 1), is)
+term_some _ _ (rest k n term some low high shorter) =
+    term_some (n - 2 ^ (k - 1) + 1) term shorter
+
+pub term_most : (n term : ℕ) → IsLuby n term → term ≤ n
+term_most _ _ (whole k n term some power is) =
+    let same : k - 1 + 1 ≡ k = omega (arith, some) in
+    let double : 2 ^ k ≡ 2 * 2 ^ (k - 1) = ap (λ m. 2 ^ m) (sym same) ∙ twice (k - 1) in
+    omega (arith, power, is, double, pow_pos (k - 1))
+term_most _ _ (rest k n term some low high shorter) =
+    let most = term_most (n - 2 ^ (k - 1) + 1) term shorter in
+    omega (arith, most, low, pow_pos (k - 1))

@@ -1,7 +1,7 @@
 //! Variables by their activity.
 
 ghost use Rattle.std.specs.Prelude.{◌≡◌, ◌+◌, ◌-◌, ◌^◌, ◌≤◌, IfNone, IfOk, IfSome, false, replicate, slice_set, true};
-ghost use Rattle.sat_order.specs.Order.{IsBest, IsEmpty, IsVariable, IsWhole, activity_of, is_held, scaled};
+ghost use Rattle.sat_order.specs.Order.{IsBest, IsEmpty, IsVariable, IsWhole, activity_of, scaled};
 
 use crate::seating::Seating;
 use crate::sift::{heapify, sift_down, sift_up};
@@ -82,14 +82,16 @@ impl Order {
         Some(best + 1)
     }
 
-    /// Puts in a variable that is not held.
+    /// Puts a variable in, which changes nothing where it is held.
     pub fn put_back(&mut self, v: u32)
-        requires variable { IsVariable self.old v }
-        requires out { is_held self.old v ≡ false }
+        requires { IsVariable self.old v }
         ensures { self.new ≡ record self.old { held = slice_set self.old.held (v - 1) true } }
     {
         let last = self.count;
         let place = self.seats.place(v - 1);
+        if place < last {
+            return;
+        }
         self.seats.swap(place, last);
         self.count = last + 1;
         sift_up(&mut self.seats, &self.activities, last + 1, last);

@@ -1,44 +1,66 @@
-use Rattle.std.proofs.Common.{◌∷◌, ◌∙◌, ◌+◌, [], suc, None, add-one, ap, subst, sym, arith}
-use Rattle.sat_clause.specs.Literal.{variable}
-use Rattle.sat_watch.specs.declared.entry.TrailEntry.{TrailEntry}
-use Rattle.sat_core.specs.Deciding.{GoesOn, HaveValues}
-use Rattle.sat_core.proofs.DecideLaws.{goes_assumed, goes_propagated, goes_then, more_values, value_assumed, value_more}
+use Rattle.std.proofs.Common.{subst, sym}
+use Rattle.sat_clause.specs.Trail.{IsClosed}
+use Rattle.sat_watch.specs.Trail.{lits_of}
+use Rattle.sat_watch.specs.Watches.{IsSettledAt, WatchState}
+use Rattle.sat_core.specs.Deciding.{GoesOn}
+use Rattle.sat_core.proofs.DecideLaws.{goes_assumed, goes_propagated, goes_refl, goes_then}
+use Rattle.sat_core.proofs.RankingLaws.{ranked_propagated}
 use Rattle.sat_core.proofs.deciding.decide_on.Goals as goal
+
+pub loop-c-init : goal.loop-c-init
+loop-c-init c = record {
+  goes = goes_refl c.args.watches.now c.requires.quiet;
+  ranked = c.requires.ranked;
+}
 
 pub returns-in-Some-clause-goes : goal.returns-in-Some-clause-goes
 returns-in-Some-clause-goes c =
     goes_then c.args.watches.now c.loop-c.watches c.propagate.new.self c.loop-c.invariant.goes
     (goes_propagated c.loop-c.watches c.propagate.new.self c.in-Some.ensures.propagates)
 
-pub open_literal-requires-clause-below : goal.open_literal-requires-clause-below
-open_literal-requires-clause-below c =
-    let step = c.in_default.ensures.propagates in
-    rw step.trail (more_values step.added c.loop-c.watches.trail c.loop-c.from
-    c.loop-c.invariant.have)
+pub returns-in-Some-clause-ranked : goal.returns-in-Some-clause-ranked
+returns-in-Some-clause-ranked c =
+    ranked_propagated c.loop-c.watches c.propagate.new.self c.loop-c.ranking
+    c.in-Some.ensures.propagates c.loop-c.invariant.ranked
 
-pub returns-in_default-open_literal-clause-goes : goal.returns-in_default-open_literal-clause-goes
-returns-in_default-open_literal-clause-goes c =
-    goes_then c.args.watches.now c.loop-c.watches c.propagate.new.self c.loop-c.invariant.goes
-    (goes_propagated c.loop-c.watches c.propagate.new.self c.in_default.ensures.propagates)
+pub decide-requires-clause-ranked : goal.decide-requires-clause-ranked
+decide-requires-clause-ranked c =
+    ranked_propagated c.loop-c.watches c.propagate.new.self c.loop-c.ranking
+    c.in_default.ensures.propagates c.loop-c.invariant.ranked
+
+pub decide-requires-clause-few : goal.decide-requires-clause-few
+decide-requires-clause-few c =
+    rw (c.in_default.ensures.propagates.vars, c.loop-c.invariant.goes.vars) c.requires.few
+
+pub returns-then-not-decide-clause-goes : goal.returns-then-not-decide-clause-goes
+returns-then-not-decide-clause-goes c =
+    subst (GoesOn c.args.watches.now) (sym (c.decide.ensures.same c.if-not-decide.true))
+    (goes_then c.args.watches.now c.loop-c.watches c.propagate.new.self c.loop-c.invariant.goes
+    (goes_propagated c.loop-c.watches c.propagate.new.self c.in_default.ensures.propagates))
+
+pub returns-then-not-decide-clause-settled : goal.returns-then-not-decide-clause-settled
+returns-then-not-decide-clause-settled c =
+    subst (λ (s : WatchState). IsSettledAt s s.level)
+    (sym (c.decide.ensures.same c.if-not-decide.true)) c.in_default.ensures.settled
+
+pub returns-then-not-decide-clause-closed : goal.returns-then-not-decide-clause-closed
+returns-then-not-decide-clause-closed c =
+    subst (λ (s : WatchState). IsClosed s.vars (lits_of s.trail))
+    (sym (c.decide.ensures.same c.if-not-decide.true))
+    (c.decide.ensures.closed c.if-not-decide.true)
 
 pub loop-c-preserved : goal.loop-c-preserved
 loop-c-preserved c =
     let s = c.propagate.new.self in
-    let l = c.in-Some-open_literal.l in
+    let decided = c.decide.ensures.decided c.if-not-decide.false in
     let goes : GoesOn c.args.watches.now s =
     goes_then c.args.watches.now c.loop-c.watches s c.loop-c.invariant.goes
     (goes_propagated c.loop-c.watches s c.in_default.ensures.propagates) in
-    let e : TrailEntry = record { lit = l; level = suc s.level; reason = None } in
-    let have : HaveValues (e ∷ s.trail) (variable l) =
-    more_values (e ∷ []) s.trail (variable l) c.in-Some-open_literal.ensures.below in
-    let all : HaveValues (e ∷ s.trail) (c.variable-from.result + 1) =
-    value_more (e ∷ s.trail) (variable l) (c.variable-from.result + 1) have
-    (value_assumed s.trail e)
-    (add-one c.variable-from.result ∙ ap suc c.variable-from.ensures) in
     record {
-      goes = subst (GoesOn c.args.watches.now) (sym c.assume.ensures)
-          (goes_assumed c.args.watches.now s l goes);
-      have = rw c.assume.ensures all;
-      some = omega arith;
-      few = omega (arith, c.variable-from.ensures, c.in-Some-open_literal.ensures.within);
+      goes = subst (GoesOn c.args.watches.now) (sym decided.1)
+          (goes_assumed c.args.watches.now s decided.0 goes);
+      ranked = c.decide.ensures.ranked;
     }
+
+pub loop-c-smaller : goal.loop-c-smaller
+loop-c-smaller c = c.decide.ensures.fewer c.if-not-decide.false

@@ -1,15 +1,13 @@
-use Rattle.std.proofs.Common.{◌+◌, ◌-◌, ◌≤◌}
-use Rattle.sat_core.specs.Deciding.{GoesOn, HaveValues}
+use Rattle.sat_core.specs.Deciding.{GoesOn}
+use Rattle.sat_core.specs.Ranking.{IsRanked, held_count}
 use Rattle.sat_core.proofs.deciding.decide_on.Given as goal
 
--- each turn gives a variable a value, and none below is open again
+-- each turn takes out a variable
 abbrev pub decreases-loop-c : goal.decreases-loop-c
-decreases-loop-c l = l.vars + 1 - l.from
+decreases-loop-c l = held_count l.ranking.held
 
 abbrev pub invariant-loop-c : goal.invariant-loop-c
 invariant-loop-c l = record {
   goes : GoesOn l.initial.watches l.watches;
-  have : HaveValues l.watches.trail l.from;
-  some : 1 ≤ l.from;
-  few : l.from ≤ l.vars + 1;
+  ranked : IsRanked l.watches.vars l.watches.trail l.ranking;
 }

@@ -18,8 +18,9 @@ returns-then-is_empty-clause-ok c formula underway =
     let lesson = c.in-Some.lesson in
     let is_lesson = subst (λ o. IfSome o (λ l. IsLesson state l.clause.items l.hints.items l.back))
     c.in-Some.is c.in_ok-lesson.ensures.lesson in
-    let on = underway_along c.args.search.now state formula steps c.in_ok-lesson.ensures.same
-    underway in
+    let begun = c.restart_where_due.new.self in
+    let on = underway_along begun state formula steps c.in_ok-lesson.ensures.same
+    (underway_along c.args.search.now begun formula steps c.restart_where_due.ensures underway) in
     let none : lesson.clause.items ≡ [] =
     nil_from_length lesson.clause.items
     (sym lesson.clause.ok.0 ∙ eqb-true lesson.clause.len 0
@@ -44,8 +45,9 @@ returns-clause-ok c formula underway =
     let is_lesson = subst (λ o. IfSome o (λ l. IsLesson state l.clause.items l.hints.items l.back))
     c.in-Some.is c.in_ok-lesson.ensures.lesson in
     let clause = lesson.clause.items in
-    let on = underway_along c.args.search.now state formula steps c.in_ok-lesson.ensures.same
-    underway in
+    let begun = c.restart_where_due.new.self in
+    let on = underway_along begun state formula steps c.in_ok-lesson.ensures.same
+    (underway_along c.args.search.now begun formula steps c.restart_where_due.ensures underway) in
     let some : clause ≢ [] = λ none. both_ways _ (sym c.is_empty.ensures ∙ c.if-is_empty.false)
     (eq-eqb lesson.clause.len 0 (lesson.clause.ok.0 ∙ ap length none)) in
     let is : c.add-2.new.self.steps ≡ steps ++ Added id clause lesson.hints.items ∷ [] =
@@ -61,7 +63,7 @@ pub returns-in_default-clause-ok : goal.returns-in_default-clause-ok
 returns-in_default-clause-ok c formula underway =
     let state = c.next_lesson.new.self in
     let steps = c.args.log.now.steps in
-    let on = underway_along c.args.search.now state formula steps c.in_ok-lesson.ensures.same
-    underway
-    in
+    let begun = c.restart_where_due.new.self in
+    let on = underway_along begun state formula steps c.in_ok-lesson.ensures.same
+    (underway_along c.args.search.now begun formula steps c.restart_where_due.ensures underway) in
     (underway_model state formula steps on c.in_ok-values.values.items c.in_ok-values.ensures, refl)

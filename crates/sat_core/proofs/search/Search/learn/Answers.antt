@@ -5,9 +5,10 @@ use Rattle.sat_watch.specs.Trail.{lits_of}
 use Rattle.sat_watch.specs.Watched.{IsReason}
 use Rattle.sat_watch.specs.Watches.{Attaches, WatchState, implied, lits_at}
 use Rattle.sat_core.specs.Marks.{IsReady}
+use Rattle.sat_core.specs.Ranking.{IsRanked}
 use Rattle.sat_core.specs.SearchStore.{IsLesson, IsSearchStore, Learns, search_value}
 use Rattle.sat_core.specs.Stands.{SearchValue}
-use Rattle.sat_core.proofs.LearnLaws.{ends_in_first, first, first_inside, gone, gone_is, has_last, last_literal, learn_attached, learn_may, learn_open, learn_reason, learns, store_gone, store_learned}
+use Rattle.sat_core.proofs.LearnLaws.{ends_in_first, first, first_inside, gone, gone_is, has_last, last_literal, learn_attached, learn_may, learn_open, learn_reason, learns, ranked_learned, store_gone, store_learned}
 use Rattle.sat_core.proofs.search.Search.learn.Goals as goal
 
 pub unreachable-requires : goal.unreachable-requires
@@ -21,7 +22,7 @@ attach-requires-clause-simple c =
     let clause = c.args.lesson.now.clause.items in
     let lesson = subst (λ (s : SearchValue). IsLesson s clause c.args.lesson.now.hints.items
     c.args.lesson.now.back) (sym c.self.view_is) c.requires.lesson in
-    let is = c.back_to.ensures ∙ gone_is p.inputs p.added p.taken p.singles p.watches
+    let is = c.go_back.ensures.back ∙ gone_is p.inputs p.added p.taken p.singles p.watches
     c.self.invariant.store clause c.args.lesson.now.hints.items c.args.lesson.now.back lesson
     c.requires.some in
     rw (is, c.deref-2.ensures.value) lesson.simple
@@ -32,7 +33,7 @@ attach-requires-clause-quiet c =
     let clause = c.args.lesson.now.clause.items in
     let lesson = subst (λ (s : SearchValue). IsLesson s clause c.args.lesson.now.hints.items
     c.args.lesson.now.back) (sym c.self.view_is) c.requires.lesson in
-    let is = c.back_to.ensures ∙ gone_is p.inputs p.added p.taken p.singles p.watches
+    let is = c.go_back.ensures.back ∙ gone_is p.inputs p.added p.taken p.singles p.watches
     c.self.invariant.store clause c.args.lesson.now.hints.items c.args.lesson.now.back lesson
     c.requires.some in
     ap (λ (s : WatchState). s.due) is
@@ -45,7 +46,7 @@ attach-requires-clause-may c =
     let back = c.args.lesson.now.back in
     let lesson = subst (λ (s : SearchValue). IsLesson s clause hints back)
     (sym c.self.view_is) c.requires.lesson in
-    let is = c.back_to.ensures ∙ gone_is p.inputs p.added p.taken p.singles p.watches
+    let is = c.go_back.ensures.back ∙ gone_is p.inputs p.added p.taken p.singles p.watches
     c.self.invariant.store clause hints back lesson c.requires.some in
     rw (is, c.deref-2.ensures.value) (learn_may p.inputs p.added p.taken p.singles p.watches
     c.self.invariant.store clause hints back lesson c.requires.some)
@@ -58,7 +59,7 @@ invariant_of-self c =
     let back = c.args.lesson.now.back in
     let lesson = subst (λ (s : SearchValue). IsLesson s clause hints back)
     (sym c.self.view_is) c.requires.lesson in
-    let is = c.in_err-c.ensures.err ∙ c.back_to.ensures
+    let is = c.in_err-c.ensures.err ∙ c.go_back.ensures.back
     ∙ gone_is p.inputs p.added p.taken p.singles p.watches c.self.invariant.store clause hints back
     lesson c.requires.some in
     record {
@@ -66,6 +67,8 @@ invariant_of-self c =
           (store_gone p.inputs p.added p.taken p.singles p.watches c.self.invariant.store clause
           hints back lesson c.requires.some);
       ready = subst (λ (s : WatchState). IsReady s.vars p.marks) (sym is) c.self.invariant.ready;
+      ranked = subst (λ (s : WatchState). IsRanked s.vars s.trail c.go_back.new.ranking)
+          (sym c.in_err-c.ensures.err) c.go_back.ensures.ranked;
     }
 
 pub imply-requires-clause-within : goal.imply-requires-clause-within
@@ -77,7 +80,7 @@ imply-requires-clause-within c =
     let store = c.self.invariant.store in
     let lesson = subst (λ (s : SearchValue). IsLesson s clause hints back)
     (sym c.self.view_is) c.requires.lesson in
-    let is = c.back_to.ensures ∙ gone_is p.inputs p.added p.taken p.singles p.watches store clause
+    let is = c.go_back.ensures.back ∙ gone_is p.inputs p.added p.taken p.singles p.watches store clause
     hints back lesson c.requires.some in
     let w = gone p.inputs p.added p.taken p.singles p.watches store clause hints back lesson
     c.requires.some in
@@ -107,7 +110,7 @@ imply-requires-clause-open c =
     let store = c.self.invariant.store in
     let lesson = subst (λ (s : SearchValue). IsLesson s clause hints back)
     (sym c.self.view_is) c.requires.lesson in
-    let is = c.back_to.ensures ∙ gone_is p.inputs p.added p.taken p.singles p.watches store clause
+    let is = c.go_back.ensures.back ∙ gone_is p.inputs p.added p.taken p.singles p.watches store clause
     hints back lesson c.requires.some in
     let w = gone p.inputs p.added p.taken p.singles p.watches store clause hints back lesson
     c.requires.some in
@@ -137,7 +140,7 @@ imply-requires-clause-attached c =
     let store = c.self.invariant.store in
     let lesson = subst (λ (s : SearchValue). IsLesson s clause hints back)
     (sym c.self.view_is) c.requires.lesson in
-    let is = c.back_to.ensures ∙ gone_is p.inputs p.added p.taken p.singles p.watches store clause
+    let is = c.go_back.ensures.back ∙ gone_is p.inputs p.added p.taken p.singles p.watches store clause
     hints back lesson c.requires.some in
     let w = gone p.inputs p.added p.taken p.singles p.watches store clause hints back lesson
     c.requires.some in
@@ -166,7 +169,7 @@ imply-requires-clause-unit c =
     let store = c.self.invariant.store in
     let lesson = subst (λ (s : SearchValue). IsLesson s clause hints back)
     (sym c.self.view_is) c.requires.lesson in
-    let is = c.back_to.ensures ∙ gone_is p.inputs p.added p.taken p.singles p.watches store clause
+    let is = c.go_back.ensures.back ∙ gone_is p.inputs p.added p.taken p.singles p.watches store clause
     hints back lesson c.requires.some in
     let w = gone p.inputs p.added p.taken p.singles p.watches store clause hints back lesson
     c.requires.some in
@@ -196,7 +199,7 @@ invariant_of-self-2 c =
     let store = c.self.invariant.store in
     let lesson = subst (λ (s : SearchValue). IsLesson s clause hints back)
     (sym c.self.view_is) c.requires.lesson in
-    let is = c.back_to.ensures ∙ gone_is p.inputs p.added p.taken p.singles p.watches store clause
+    let is = c.go_back.ensures.back ∙ gone_is p.inputs p.added p.taken p.singles p.watches store clause
     hints back lesson c.requires.some in
     let w = gone p.inputs p.added p.taken p.singles p.watches store clause hints back lesson
     c.requires.some in
@@ -228,6 +231,11 @@ invariant_of-self-2 c =
           lesson c.requires.some c.attach.new.self id ref does next (omega (arith, few))));
       ready = subst (λ (n : ℕ). IsReady n p.marks)
           (sym (ap (λ (s : WatchState). s.vars) after ∙ vars)) c.self.invariant.ready;
+      ranked = subst (λ (s : WatchState). IsRanked s.vars s.trail c.go_back.new.ranking) (sym after)
+          (ranked_learned p.inputs p.added p.taken p.singles p.watches store clause hints back
+          lesson c.requires.some c.attach.new.self id ref does next c.go_back.new.ranking
+          (subst (λ (s : WatchState). IsRanked s.vars s.trail c.go_back.new.ranking) is
+          c.go_back.ensures.ranked));
     }
 
 pub returns : goal.returns
@@ -239,7 +247,7 @@ returns c =
     let store = c.self.invariant.store in
     let lesson = subst (λ (s : SearchValue). IsLesson s clause hints back)
     (sym c.self.view_is) c.requires.lesson in
-    let is = c.back_to.ensures ∙ gone_is p.inputs p.added p.taken p.singles p.watches store clause
+    let is = c.go_back.ensures.back ∙ gone_is p.inputs p.added p.taken p.singles p.watches store clause
     hints back lesson c.requires.some in
     let w = gone p.inputs p.added p.taken p.singles p.watches store clause hints back lesson
     c.requires.some in

@@ -1,6 +1,7 @@
 use Rattle.std.proofs.Common.{◌≡◌, length, arith}
 use Rattle.sat_core.specs.Inputs.{pairs_and_below}
 use Rattle.sat_core.proofs.InputLaws.{all_picked, taken_all}
+use Rattle.sat_core.proofs.RankingLaws.{ranked_start}
 use Rattle.sat_core.proofs.search.Search.new.Goals as goal
 
 pub invariant_of-result : goal.invariant_of-result
@@ -13,6 +14,9 @@ invariant_of-result c =
         clean = c.in_ok-new.ensures.clean;
         size = omega (arith, c.in_ok-new.ensures.size, vars);
       };
+      ranked = ranked_start _ c.in_ok-watches.field-0.watches.vars
+          c.in_ok-watches.field-0.watches.trail _ (omega (arith, vars)) inputs.none_true
+          c.in_ok-new-2.ensures;
     }
 
 pub returns-clause-stands : goal.returns-clause-stands

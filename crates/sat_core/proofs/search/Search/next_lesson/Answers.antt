@@ -1,13 +1,14 @@
-use Rattle.std.proofs.Common.{◌≡◌, ◌∙◌, ℕ, Ok, All, length, add-one, ap, subst, sym, inl, inr, arith}
+use Rattle.std.proofs.Common.{◌≡◌, ℕ, Ok, All, length, add-one, ap, subst, sym, inl, inr, arith}
 use Rattle.sat_clause.specs.Trail.{IsClosed}
-use Rattle.sat_watch.specs.Trail.{lits_of as watch_lits}
 use Rattle.sat_watch.specs.Watches.{WatchState}
 use Rattle.sat_clause.specs.Literal.{IsWithin}
 use Rattle.sat_watch.specs.Watched.{AreFalse}
 use Rattle.sat_core.specs.Marks.{IsReady}
+use Rattle.sat_core.specs.Ranking.{IsRanked}
 use Rattle.sat_core.specs.SearchStore.{IsSearchStore, SameKept, search_value}
 use Rattle.sat_core.proofs.FoundLaws.{attached_lesson, current_literal, single_lesson}
 use Rattle.sat_core.specs.Single.{IsTaken}
+use Rattle.sat_core.proofs.RankingLaws.{ranked_held, ranked_more}
 use Rattle.sat_core.proofs.SearchLaws.{kept_decided, kept_refl, kept_taken, kept_then, settled_now, single_simple, store_decided, store_taken}
 use Rattle.sat_core.proofs.WatchLaws.{lits_in}
 use Rattle.sat_core.proofs.search.Search.next_lesson.Goals as goal
@@ -18,6 +19,7 @@ loop-self-init c =
     record {
       store = c.self.invariant.store;
       ready = c.self.invariant.ready;
+      ranked = c.self.invariant.ranked;
       same = kept_refl p.inputs p.added p.taken p.singles p.watches c.self.invariant.store;
     }
 
@@ -57,6 +59,8 @@ invariant_of-self c =
           (sym c.in_err-attach_single.ensures.err) c.loop-self.invariant.store;
       ready = subst (λ (w : WatchState). IsReady w.vars q.marks)
           (sym c.in_err-attach_single.ensures.err) c.loop-self.invariant.ready;
+      ranked = subst (λ (w : WatchState). IsRanked w.vars w.trail q.ranking)
+          (sym c.in_err-attach_single.ensures.err) c.loop-self.invariant.ranked;
     }
 
 pub find_lesson-requires-clause-few : goal.find_lesson-requires-clause-few
@@ -64,6 +68,14 @@ find_lesson-requires-clause-few c =
     let same : c.attach_single.new.watches ≡ (c.loop-self.self-inside).watches =
     c.in_ok-attach_single.ensures.same (ap Ok c.if-not-branch.true) in
     rw same c.loop-self.invariant.store.few_vars
+
+pub find_lesson-requires-clause-vars : goal.find_lesson-requires-clause-vars
+find_lesson-requires-clause-vars c =
+    let q = c.loop-self.self-inside in
+    let same : c.attach_single.new.watches ≡ q.watches =
+    c.in_ok-attach_single.ensures.same (ap Ok c.if-not-branch.true) in
+    subst (λ (w : WatchState). q.ranking.vars ≡ w.vars) (sym same)
+    c.loop-self.invariant.ranked.vars
 
 pub find_lesson-requires-clause-ready : goal.find_lesson-requires-clause-ready
 find_lesson-requires-clause-ready c =
@@ -101,6 +113,10 @@ invariant_of-self-in_err-lesson c =
       store = subst (IsSearchStore q.inputs q.added q.taken q.singles) (sym same)
           c.loop-self.invariant.store;
       ready = c.in_err-lesson.ensures.ready;
+      ranked = ranked_held c.attach_single.new.watches.vars c.attach_single.new.watches.trail
+          q.ranking c.find_lesson.new.ranking c.in_err-lesson.ensures.held
+          (subst (λ (w : WatchState). IsRanked w.vars w.trail q.ranking) (sym same)
+          c.loop-self.invariant.ranked);
     }
 
 pub invariant_of-self-then-not-branch : goal.invariant_of-self-then-not-branch
@@ -112,6 +128,10 @@ invariant_of-self-then-not-branch c =
       store = subst (IsSearchStore q.inputs q.added q.taken q.singles) (sym same)
           c.loop-self.invariant.store;
       ready = c.in_ok-lesson.ensures.ready;
+      ranked = ranked_held c.attach_single.new.watches.vars c.attach_single.new.watches.trail
+          q.ranking c.find_lesson.new.ranking c.in_ok-lesson.ensures.held
+          (subst (λ (w : WatchState). IsRanked w.vars w.trail q.ranking) (sym same)
+          c.loop-self.invariant.ranked);
     }
 
 pub returns-then-not-branch-clause-same : goal.returns-then-not-branch-clause-same
@@ -157,6 +177,8 @@ loop-self-preserved c =
           (store_taken q.inputs q.added q.taken q.singles q.watches now id lits taken store
           c.get-single.ensures.at c.get-single.ensures.found simple);
       ready = subst (λ (n : ℕ). IsReady n q.marks) (sym taken.vars) c.loop-self.invariant.ready;
+      ranked = rw taken.vars (ranked_more q.watches.vars q.watches.trail now.trail q.ranking
+          taken.values c.loop-self.invariant.ranked);
       same = kept_then (search_value c.self.inside.inputs c.self.inside.added c.self.inside.singles
           c.self.inside.watches) (search_value q.inputs q.added q.singles q.watches)
           (search_value q.inputs q.added q.singles now)
@@ -180,6 +202,7 @@ invariant_of-self-in_default c =
           store c.in_default.ensures.goes all;
       ready = subst (λ (n : ℕ). IsReady n q.marks) (sym c.in_default.ensures.goes.vars)
           c.loop-self.invariant.ready;
+      ranked = c.in_default.ensures.ranked;
     }
 
 pub returns-in_default-clause-same : goal.returns-in_default-clause-same
@@ -207,16 +230,15 @@ returns-in_default-clause-settled c =
 
 pub returns-in_default-clause-closed : goal.returns-in_default-clause-closed
 returns-in_default-clause-closed c =
-    let q = c.loop-self.self-inside in
     let now = c.decide_on.new.watches in
-    let vars = c.vars.ensures.value ∙ c.loop-self.invariant.store.same_vars
-    ∙ sym c.in_default.ensures.goes.vars in
-    subst (IsClosed now.vars) (sym (lits_in now.clauses now.trail))
-    (subst (λ (n : ℕ). IsClosed n (watch_lits now.trail)) vars c.in_default.ensures.closed)
+    subst (IsClosed now.vars) (sym (lits_in now.clauses now.trail)) c.in_default.ensures.closed
 
 pub find_lesson-requires-2-clause-few : goal.find_lesson-requires-2-clause-few
 find_lesson-requires-2-clause-few c =
     rw c.in-Some.ensures.goes.vars c.loop-self.invariant.store.few_vars
+
+pub find_lesson-requires-2-clause-vars : goal.find_lesson-requires-2-clause-vars
+find_lesson-requires-2-clause-vars c = c.in-Some.ensures.ranked.vars
 
 pub find_lesson-requires-2-clause-ready : goal.find_lesson-requires-2-clause-ready
 find_lesson-requires-2-clause-ready c =
@@ -239,6 +261,9 @@ invariant_of-self-in_err-lesson-2 c =
       store = store_decided q.inputs q.added q.taken q.singles q.watches c.decide_on.new.watches
           store c.in-Some.ensures.goes all;
       ready = c.in_err-lesson-2.ensures.ready;
+      ranked = ranked_held c.decide_on.new.watches.vars c.decide_on.new.watches.trail
+          c.decide_on.new.ranking c.find_lesson-2.new.ranking c.in_err-lesson-2.ensures.held
+          c.in-Some.ensures.ranked;
     }
 
 pub invariant_of-self-2 : goal.invariant_of-self-2
@@ -251,6 +276,9 @@ invariant_of-self-2 c =
       store = store_decided q.inputs q.added q.taken q.singles q.watches c.decide_on.new.watches
           store c.in-Some.ensures.goes all;
       ready = c.in_ok-lesson-2.ensures.ready;
+      ranked = ranked_held c.decide_on.new.watches.vars c.decide_on.new.watches.trail
+          c.decide_on.new.ranking c.find_lesson-2.new.ranking c.in_ok-lesson-2.ensures.held
+          c.in-Some.ensures.ranked;
     }
 
 pub returns-clause-same : goal.returns-clause-same
@@ -280,3 +308,6 @@ returns-clause-lesson c =
     (store_decided q.inputs q.added q.taken q.singles q.watches now store c.in-Some.ensures.goes
     all) c.in-Some.c is.0 is.1 lesson.clause.items lesson.hints.items lesson.back
     (rw (c.lits-lits.ensures.value, c.id-id.ensures.value) at c.in_ok-lesson-2.ensures.found)
+
+pub decide_on-requires-clause-few : goal.decide_on-requires-clause-few
+decide_on-requires-clause-few c = c.loop-self.invariant.store.few_vars

@@ -1,5 +1,6 @@
 use Rattle.std.proofs.Common.{◌-◌, length}
 use Rattle.sat_core.specs.Marks.{IsReady}
+use Rattle.sat_core.specs.Ranking.{IsRanked}
 use Rattle.sat_core.specs.SearchStore.{IsSearchStore, SameKept, search_value}
 use Rattle.sat_core.proofs.search.Search.next_lesson.Given as goal
 
@@ -12,6 +13,7 @@ invariant-loop-self l = record {
   store : IsSearchStore l.self-inside.inputs l.self-inside.added l.self-inside.taken
       l.self-inside.singles l.self-inside.watches;
   ready : IsReady l.self-inside.watches.vars l.self-inside.marks;
+  ranked : IsRanked l.self-inside.watches.vars l.self-inside.watches.trail l.self-inside.ranking;
   same : SameKept (search_value l.initial.self-inside.inputs l.initial.self-inside.added
       l.initial.self-inside.singles l.initial.self-inside.watches)
       (search_value l.self-inside.inputs l.self-inside.added l.self-inside.singles

@@ -1,0 +1,121 @@
+-- Which variables are held as the trail changes.
+use Rattle.std.proofs.Common.{inl, inr, ◌≡◌, ◌≢◌, ◌-◌, ◌/◌, ◌^◌, ◌<◌, ◌≤◌, ℕ, zero, suc, Bool, true, false, List, [], ◌∷◌, ◌++◌, length, set, get_or, replicate, None, refl, sym, ap, ◌∙◌, subst, arith}
+use Rattle.std.proofs.lemmas.Bool.{both_ways, cases_eq}
+use Rattle.std.proofs.lemmas.List.{get_or-map, get_or-replicate, get_or-set_other, length-replicate, length-set}
+use Rattle.sat_clause.specs.declared.literal.Lit.{Lit}
+use Rattle.sat_clause.specs.Literal.{positive}
+use Rattle.sat_clause.specs.Trail.{IsClosed}
+use Rattle.sat_order.specs.Order.{IsEmpty, IsVariable, IsWhole, OrderState, activity_of, scaled}
+use Rattle.sat_watch.specs.declared.entry.TrailEntry.{TrailEntry}
+use Rattle.sat_watch.specs.Trail.{lits_of, value_in}
+use Rattle.sat_watch.specs.Watches.{Propagates, WatchState, assumed}
+use Rattle.sat_core.specs.Ranking.{IsRanked, SameHeld, held_count}
+use Rattle.sat_core.proofs.DecideLaws.{closed_values, value_assumed, value_stays}
+
+-- values stay where the trail changes
+pub ranked_more : (vars : ℕ) (trail now : List TrailEntry) (order : OrderState) →
+    ((l : Lit) → value_in trail l ≢ None → value_in now l ≢ None) →
+    IsRanked vars trail order → IsRanked vars now order
+ranked_more vars trail now order more ranked = record {
+  vars = ranked.vars;
+  many = ranked.many;
+  valued = λ v known out. more (positive v) (ranked.valued v known out);
+}
+
+-- the same variables are held
+pub ranked_held : (vars : ℕ) (trail : List TrailEntry) (old new : OrderState) → SameHeld old new →
+    IsRanked vars trail old → IsRanked vars trail new
+ranked_held vars trail old new same ranked = record {
+  vars = same.vars ∙ ranked.vars;
+  many = ap length same.held ∙ ranked.many;
+  valued = λ v known out. ranked.valued v (record {
+    first = known.first;
+    last = omega (arith, known.last, same.vars);
+  })
+      (subst (λ (held : List Bool). get_or held (v - 1) false ≡ false) same.held out);
+}
+
+pub held_then : (a b c : OrderState) → SameHeld a b → SameHeld b c → SameHeld a c
+held_then a b c first second = record {
+  vars = second.vars ∙ first.vars;
+  held = second.held ∙ first.held;
+}
+
+pub held_refl : (a : OrderState) → SameHeld a a
+held_refl a = record { vars = refl; held = refl }
+
+-- at first all are held
+pub ranked_new : (vars : ℕ) (activities : List ℕ) →
+    IsRanked vars [] (record { vars = vars; activities = activities; held = replicate vars true })
+ranked_new vars activities = record {
+  vars = refl;
+  many = length-replicate vars true;
+  valued = λ v known out. absurd (both_ways (get_or (replicate vars true) (v - 1) false) out
+      (get_or-replicate vars (v - 1) true false (omega (arith, known.first, known.last))));
+}
+
+pub ranked_start : (n vars : ℕ) (trail : List TrailEntry) (order : OrderState) → n ≡ vars →
+    trail ≡ [] → IsRanked n [] order → IsRanked vars trail order
+ranked_start n vars trail order same none ranked =
+    rw none (subst (λ (m : ℕ). IsRanked m [] order) same ranked)
+
+-- a variable with a value is taken out
+pub ranked_taken : (vars : ℕ) (trail : List TrailEntry) (order : OrderState) (v : ℕ) → 1 ≤ v →
+    value_in trail (positive v) ≢ None → IsRanked vars trail order →
+    IsRanked vars trail (record order { held = set order.held (v - 1) false })
+ranked_taken vars trail order v some value ranked = record {
+  vars = ranked.vars;
+  many = length-set order.held (v - 1) false ∙ ranked.many;
+  valued = λ w known out. elim (cases_eq w v) [
+    | inl same ↦ subst (λ (n : ℕ). value_in trail (positive n) ≢ None) (sym same) value
+    | inr other ↦ ranked.valued w (record { first = known.first; last = known.last })
+        (sym (get_or-set_other order.held (v - 1) (w - 1) false false
+        (omega (arith, other, some, known.first))) ∙ out)
+  ];
+}
+
+-- the trail grows
+pub ranked_propagated : (old new : WatchState) (order : OrderState) → Propagates old new →
+    IsRanked old.vars old.trail order → IsRanked new.vars new.trail order
+ranked_propagated old new order step ranked =
+    rw (step.vars, step.trail)
+    (ranked_more old.vars old.trail (step.added ++ old.trail) order
+    (value_stays step.added old.trail) ranked)
+
+pub ranked_decided : (w : WatchState) (order : OrderState) (v : ℕ) → 1 ≤ v →
+    IsRanked w.vars w.trail order →
+    IsRanked (assumed (positive v) w).vars (assumed (positive v) w).trail
+    (record order { held = set order.held (v - 1) false })
+ranked_decided w order v some ranked =
+    let e : TrailEntry = record { lit = positive v; level = suc w.level; reason = None } in
+    ranked_taken w.vars (e ∷ w.trail) order v some (value_assumed w.trail e)
+    (ranked_more w.vars w.trail (e ∷ w.trail) order (value_stays (e ∷ []) w.trail) ranked)
+
+-- one is held fewer
+pub held_fewer : (held : List Bool) (i : ℕ) → get_or held i false ≡ true →
+    held_count (set held i false) < held_count held
+held_fewer [] i is = absurd (both_ways false refl is)
+held_fewer (true ∷ rest) zero is = omega arith
+held_fewer (false ∷ rest) zero is = absurd (both_ways false refl is)
+held_fewer (true ∷ rest) (suc i) is = let fewer = held_fewer rest i is in omega (arith, fewer)
+held_fewer (false ∷ rest) (suc i) is = held_fewer rest i is
+
+-- where none is held all have values
+pub none_held_closed : (vars : ℕ) (trail : List TrailEntry) (order : OrderState) →
+    IsRanked vars trail order → IsEmpty order → IsClosed vars (lits_of trail)
+none_held_closed vars trail order ranked none =
+    closed_values vars (suc vars) trail
+    (λ k some below. (let known : IsVariable order k = record {
+      first = some;
+      last = omega (arith, below, ranked.vars);
+    } in ranked.valued k known (none k known)))
+    (omega arith)
+
+-- behind a division an activity is small
+pub scaled_small : (order : OrderState) (v : ℕ) → IsVariable order v → IsWhole order →
+    activity_of order v < 2 ^ 64 →
+    activity_of (record order { activities = scaled order.activities }) v < 2 ^ 24
+scaled_small order v known whole small =
+    let inside : v - 1 < length order.activities =
+    omega (arith, known.first, known.last, whole.activities) in
+    omega (arith, small, get_or-map (λ (a : ℕ). a / 2 ^ 40) order.activities (v - 1) 0 0 inside)

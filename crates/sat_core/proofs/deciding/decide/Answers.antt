@@ -1,0 +1,117 @@
+use Rattle.std.proofs.Common.{◌≡◌, ◌≢◌, ◌-◌, ◌∙◌, None, refl, ap, subst, sym, arith}
+use Rattle.sat_clause.specs.Literal.{positive}
+use Rattle.sat_clause.specs.Trail.{IsClosed}
+use Rattle.sat_order.specs.Order.{OrderState}
+use Rattle.sat_watch.specs.Trail.{lits_of, value_in}
+use Rattle.sat_watch.specs.Watches.{WatchState, assumed}
+use Rattle.sat_core.specs.Ranking.{held_count}
+use Rattle.sat_core.proofs.DecideLaws.{is_none_none, is_some_some, none_is_open}
+use Rattle.sat_core.proofs.RankingLaws.{held_fewer, none_held_closed, ranked_decided, ranked_taken}
+use Rattle.sat_core.proofs.deciding.decide.Goals as goal
+
+pub loop-v-init : goal.loop-v-init
+loop-v-init c = record { ranked = c.requires.ranked; same = refl; few = omega arith }
+
+pub positive-l-requires : goal.positive-l-requires
+positive-l-requires c =
+    omega (
+      arith,
+      c.in-Some.ensures.best.variable.last,
+      c.loop-v.invariant.ranked.vars,
+      ap (λ (w : WatchState). w.vars) c.loop-v.invariant.same,
+      c.requires.few,
+    )
+
+pub value-requires : goal.value-requires
+value-requires c =
+    let best = c.in-Some.ensures.best in
+    record {
+      within = rw c.positive-l.ensures (
+        best.variable.first,
+        omega (arith, best.variable.last, c.loop-v.invariant.ranked.vars),
+      );
+    }
+
+pub assume-requires-clause-within : goal.assume-requires-clause-within
+assume-requires-clause-within c =
+    let best = c.in-Some.ensures.best in
+    rw c.positive-l.ensures (
+      best.variable.first,
+      omega (arith, best.variable.last, c.loop-v.invariant.ranked.vars),
+    )
+
+pub assume-requires-clause-open : goal.assume-requires-clause-open
+assume-requires-clause-open c =
+    let none : c.value.result ≡ None = is_none_none c.value.result c.if-is_none.ensures in
+    none_is_open c.loop-v.watches.trail c.positive-l.result (sym c.value.ensures.value ∙ none)
+
+pub assume-requires-clause-empty : goal.assume-requires-clause-empty
+assume-requires-clause-empty c =
+    ap (λ (w : WatchState). w.queued) c.loop-v.invariant.same ∙ c.requires.empty
+
+pub assume-requires-clause-quiet : goal.assume-requires-clause-quiet
+assume-requires-clause-quiet c =
+    ap (λ (w : WatchState). w.due) c.loop-v.invariant.same ∙ c.requires.quiet
+
+pub returns-then-is_none-clause-decided : goal.returns-then-is_none-clause-decided
+returns-then-is_none-clause-decided c = λ _. (
+  c.positive-l.result,
+  c.assume.ensures ∙ ap (assumed c.positive-l.result) c.loop-v.invariant.same,
+)
+
+pub returns-then-is_none-clause-fewer : goal.returns-then-is_none-clause-fewer
+returns-then-is_none-clause-fewer c = λ _.
+    let o = c.loop-v.ranking in
+    let fewer = held_fewer o.held (c.in-Some.v - 1) c.in-Some.ensures.best.held in
+    omega (
+      arith,
+      fewer,
+      ap (λ (x : OrderState). held_count x.held) c.in-Some.ensures.taken,
+      c.loop-v.invariant.few,
+    )
+
+pub returns-then-is_none-clause-ranked : goal.returns-then-is_none-clause-ranked
+returns-then-is_none-clause-ranked c =
+    rw (c.assume.ensures, c.in-Some.ensures.taken, c.positive-l.ensures)
+    (ranked_decided c.loop-v.watches c.loop-v.ranking c.in-Some.v
+    c.in-Some.ensures.best.variable.first c.loop-v.invariant.ranked)
+
+pub loop-v-preserved : goal.loop-v-preserved
+loop-v-preserved c =
+    let trail = c.loop-v.watches.trail in
+    let v = c.in-Some.v in
+    let fewer = held_fewer (c.loop-v.ranking).held (v - 1) c.in-Some.ensures.best.held in
+    let value : value_in trail (positive v) ≢ None =
+    λ none. is_some_some c.value.result c.if-is_none.ensures (c.value.ensures.value
+    ∙ ap (value_in trail) c.positive-l.ensures ∙ none) in
+    record {
+      ranked = rw c.in-Some.ensures.taken
+          (ranked_taken c.loop-v.watches.vars trail c.loop-v.ranking v
+          c.in-Some.ensures.best.variable.first value c.loop-v.invariant.ranked);
+      same = c.loop-v.invariant.same;
+      few = omega (
+        arith,
+        fewer,
+        ap (λ (x : OrderState). held_count x.held) c.in-Some.ensures.taken,
+        c.loop-v.invariant.few,
+      );
+    }
+
+pub loop-v-smaller : goal.loop-v-smaller
+loop-v-smaller c =
+    let fewer = held_fewer (c.loop-v.ranking).held (c.in-Some.v - 1)
+    c.in-Some.ensures.best.held in
+    omega (arith, fewer, ap (λ (x : OrderState). held_count x.held) c.in-Some.ensures.taken)
+
+pub returns-clause-ranked : goal.returns-clause-ranked
+returns-clause-ranked c = rw c.in_default.ensures.kept c.loop-v.invariant.ranked
+
+pub returns-clause-closed : goal.returns-clause-closed
+returns-clause-closed c = λ _.
+    let w = c.loop-v.watches in
+    subst (λ (s : WatchState). IsClosed s.vars (lits_of s.trail)) c.loop-v.invariant.same
+    (none_held_closed w.vars w.trail c.loop-v.ranking c.loop-v.invariant.ranked
+    c.in_default.ensures.none)
+
+pub returns-clause-same : goal.returns-clause-same
+returns-clause-same c = λ _. c.loop-v.invariant.same

@@ -1,0 +1,29 @@
+-- Which variables a search may decide: those that are held, among which are all without a value.
+use Rattle.std.specs.Prelude.{◌≡◌, ◌≢◌, ℕ, suc, ◌^◌, ◌≤◌, Bool, true, false, List, [], ◌∷◌, length, None}
+use Rattle.sat_clause.specs.Literal.{positive}
+use Rattle.sat_order.specs.Order.{IsVariable, OrderState, is_held}
+use Rattle.sat_watch.specs.declared.entry.TrailEntry.{TrailEntry}
+use Rattle.sat_watch.specs.Trail.{value_in}
+
+-- a step is no greater than an activity may be, and the mean of lengths stays small
+pub record IsRankingStore (by average : ℕ) : Type 0 where
+  pub step : by ≤ 2 ^ 62
+  pub mean : average ≤ 2 ^ 50
+
+-- the same variables are held
+pub record SameHeld (old new : OrderState) : Type 0 where
+  pub vars : new.vars ≡ old.vars
+  pub held : new.held ≡ old.held
+
+-- of the variables 1 to n each that is not held has a value
+pub record IsRanked (n : ℕ) (trail : List TrailEntry) (order : OrderState) : Type 0 where
+  pub vars : order.vars ≡ n
+  pub many : length order.held ≡ n
+  pub valued : (v : ℕ) → IsVariable order v → is_held order v ≡ false →
+      value_in trail (positive v) ≢ None
+
+-- how many variables are held
+abbrev pub held_count : List Bool → ℕ
+held_count [] = 0
+held_count (true ∷ rest) = suc (held_count rest)
+held_count (false ∷ rest) = held_count rest

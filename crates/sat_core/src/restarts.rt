@@ -1,0 +1,68 @@
+//! When a search goes back to level 0.
+
+ghost use Rattle.std.specs.Prelude.{◌≡◌, ◌+◌, ◌^◌, ◌<◌, ◌≤◌, false, true};
+ghost use Rattle.sat_core.specs.Restarts.{IsNextRestart, IsWait};
+
+use sat_order::Luby;
+use std::marker::Model;
+
+/// A term of Luby's sequence stands for so many conflicts.
+const UNIT: u64 = 64;
+
+/// The restarts of a search: the k-th comes where so many conflicts more as 64 times the k-th term
+/// of Luby's sequence are behind the one before.
+#[derive(Drop)]
+pub(crate) struct Restarts {
+    terms: Luby,
+    next: u64,
+}
+
+impl Model for Restarts {
+    ghost use Rattle.std.specs.Prelude.{◌≤◌};
+    ghost use Rattle.sat_core.specs.Restarts.{RestartState};
+
+    ghost Value = { RestartState };
+
+    ghost view = { λ r. record { given = r.terms; next = r.next } };
+
+    ghost invariant = { λ r. r.terms ≤ r.next };
+}
+
+/// The conflicts that the next term of the sequence stands for.
+fn next_wait(terms: &mut Luby) -> u64
+    requires { terms.old < 2 ^ 32 }
+    ensures given { terms.new ≡ terms.old + 1 }
+    ensures wait { IsWait terms.old result }
+    ensures some { 64 ≤ result }
+    ensures few { result ≤ 2 ^ 38 }
+{
+    let term = terms.next();
+    UNIT * term
+}
+
+impl Restarts {
+    /// No conflict has come, nor a restart.
+    pub(crate) fn new() -> Restarts
+        ensures { IsNextRestart 0 0 result }
+    {
+        let mut terms = Luby::new();
+        let next = next_wait(&mut terms);
+        Restarts { terms, next }
+    }
+
+    /// Whether a restart is due after so many conflicts. Then the next one is looked ahead to.
+    pub(crate) fn is_due(&mut self, conflicts: u32) -> bool
+        ensures early { result ≡ false → conflicts < self.old.next }
+        ensures same { result ≡ false → self.new ≡ self.old }
+        ensures due { result ≡ true → self.old.next ≤ conflicts }
+        ensures next { result ≡ true → IsNextRestart conflicts self.old.given self.new }
+    {
+        let behind = u64::from(conflicts);
+        if behind < self.next {
+            return false;
+        }
+        let wait = next_wait(&mut self.terms);
+        self.next = behind + wait;
+        true
+    }
+}
