@@ -1,21 +1,26 @@
--- Outcomes that are true of the same words and files agree: they are one, or answers of a search.
-use Rattle.std.proofs.Common.{◌≡◌, ◌∙◌, ℕ, List, length, Some, Ok, Err, Result, refl, sym, subst, inl, inr, arith}
+-- Outcomes that are true of the same words and files agree: they are one, or one of them says that a
+-- search was left open.
+use Rattle.std.proofs.Common.{◌≡◌, ◌∙◌, ◌⊎◌, ℕ, zero, suc, ◌<◌, ◌≤◌, List, length, Some, Ok, Err, Result, refl, sym, ap, subst, inl, inr, arith}
 use Rattle.std.specs.Prelude.{MatchResult}
 use Rattle.desk_io.specs.Files.{FileMap}
 use Rattle.fpga_types.specs.Problem.{RoutingProblem}
+use Rattle.route_encode.specs.Encoding.{cnf_of}
+use Rattle.route_encode.specs.Exact.{IsUnroutableAt}
+use Rattle.route_sweep.specs.Found.{HasFew}
 use Rattle.sat_clause.specs.Judge.{judge}
 use Rattle.sat_text.specs.CnfText.{cnf_said}
 use Rattle.sat_text.specs.LratText.{lrat_said}
 use Rattle.router_words.specs.Command.{job_of}
 use Rattle.router_words.specs.Refusal.{code_of}
-use Rattle.router_words.specs.Job.{CheckAsked, Checks, Encodes, FilesAsked, JobAsked, RouteAsked, Routes}
+use Rattle.router_words.specs.Job.{CheckAsked, Checks, Encodes, FilesAsked, JobAsked, Routes, Sweeps}
 use Rattle.router_words.specs.Word.{Word}
 use Rattle.router_words.specs.declared.fault.Refusal.{Refusal}
 use Rattle.router_top.specs.Check.{ChecksTo, cnf_source, judgement_outcome, lrat_source}
+use Rattle.router_top.specs.Search.{Search, route_search, sweep_search}
 use Rattle.router_top.specs.Sources.{IsHalted, ReadsThen}
-use Rattle.router_top.specs.Truth.{Agrees, IsOfSearch, IsTrueOf, IsTrueOfClauses, IsTrueOfJob, IsTrueOfSearch, IsTrueOfWork}
+use Rattle.router_top.specs.Truth.{Agrees, IsOpenBelow, IsReached, IsTrueAt, IsTrueOf, IsTrueOfClauses, IsTrueOfJob, IsTrueOfSearch, IsTrueOfWork}
 use Rattle.router_top.specs.declared.outcome.Outcome.{Outcome}
-use Rattle.router_top.specs.declared.outcome.Outcome.TheVariants.{Done, Usage}
+use Rattle.router_top.specs.declared.outcome.Outcome.TheVariants.{Done, Undecided, Usage}
 use Rattle.router_top.proofs.FourLaws.{lack-poses, one-lack, one-problem}
 use Rattle.router_top.proofs.SourceLaws.{reads-alike}
 
@@ -43,11 +48,79 @@ clauses-agree width p says a b (inl h) (inr g) agree = absurd (omega (arith, h.0
 clauses-agree width p says a b (inr h) (inl g) agree = absurd (omega (arith, g.0, h.0))
 clauses-agree width p says a b (inr h) (inr g) agree = agree h.1 g.1
 
-searched : (job : RouteAsked) (p : RoutingProblem) (o : Outcome) → IsTrueOfSearch job p o →
-    IsOfSearch job.width o
-searched job p o (inl h) = subst (IsOfSearch job.width) (sym h.1) refl
-searched job p o (inr (inl h)) = subst (IsOfSearch job.width) (sym h.1) refl
-searched job p o (inr (inr h)) = subst (IsOfSearch job.width) (sym h) refl
+-- ---- a search
+
+-- two numbers in their order
+order : (k n : ℕ) → (k < n) ⊎ (k ≡ n) ⊎ (n < k)
+order zero zero = inr (inl refl)
+order zero (suc n) = inl (omega arith)
+order (suc k) zero = inr (inr (omega arith))
+order (suc k) (suc n) = next (order k n)
+  where
+    next : (k < n) ⊎ (k ≡ n) ⊎ (n < k) → (suc k < suc n) ⊎ (suc k ≡ suc n) ⊎ (suc n < suc k)
+    next (inl less) = inl (omega (arith, less))
+    next (inr (inl same)) = inr (inl (ap suc same))
+    next (inr (inr more)) = inr (inr (omega (arith, more)))
+
+module _ (search : Search) (p : RoutingProblem) where
+  -- what is true of the clauses at a width
+  abbrev IsTrueThere : (width : ℕ) → Outcome → Type 0
+  IsTrueThere width outcome = IsTrueOfClauses width p (IsTrueAt search p width outcome) outcome
+
+  -- the search was left open, and came to another outcome at the same width or at a higher one
+  open-below : (width higher : ℕ) (a b : Outcome) → width ≤ higher
+      → a ≡ Undecided width search.ask.budget → IsTrueThere higher b → IsOpenBelow a b
+  open-below width higher a b low is_open there =
+      subst (λ (o : Outcome). IsOpenBelow o b) (sym is_open) (go there)
+    where
+      left : Outcome → Type 0
+      left o = IsOpenBelow (Undecided width search.ask.budget) o
+
+      go : IsTrueThere higher b → IsOpenBelow (Undecided width search.ask.budget) b
+      go (inl h) = subst left (sym h.1) refl
+      go (inr (few, inl h)) = subst left (sym h.1) low
+      go (inr (few, inr (inl h))) = subst left (sym h.2) low
+      go (inr (few, inr (inr h))) = subst left (sym h) (low, refl)
+
+  -- a search that went on behind a width with another outcome was left open there with this one
+  was-open : (width higher : ℕ) (a : Outcome) → IsReached search p width
+      → IsReached search p higher → width < higher → IsTrueThere width a
+      → a ≡ Undecided width search.ask.budget
+  was-open width higher a at on low there =
+      let shown = on.lower width at.from low in go shown.0 shown.1 there
+    where
+      go : HasFew (cnf_of width p) → IsUnroutableAt width p → IsTrueThere width a
+          → a ≡ Undecided width search.ask.budget
+      go few none (inl h) = absurd (omega (arith, few, h.0))
+      go few none (inr (so, inl h)) = absurd (none h.0.0 h.0.1)
+      go few none (inr (so, inr (inl h))) = absurd (omega (arith, h.1, low, on.to))
+      go few none (inr (so, inr (inr h))) = h
+
+  -- two outcomes at one width
+  one-width : (width : ℕ) (a b : Outcome) → IsTrueThere width a → IsTrueThere width b → Agrees a b
+  one-width width a b (inl h) (inl g) = inl (h.1 ∙ sym g.1)
+  one-width width a b (inl h) (inr g) = absurd (omega (arith, h.0, g.0))
+  one-width width a b (inr h) (inl g) = absurd (omega (arith, g.0, h.0))
+  one-width width a b (inr (few, inl h)) (inr (so, inl g)) = inl (h.1 ∙ sym g.1)
+  one-width width a b (inr (few, inl h)) (inr (so, inr (inl g))) = absurd (g.0 h.0.0 h.0.1)
+  one-width width a b (inr (few, inr (inl h))) (inr (so, inl g)) = absurd (h.0 g.0.0 g.0.1)
+  one-width width a b (inr (few, inr (inl h))) (inr (so, inr (inl g))) = inl (h.2 ∙ sym g.2)
+  one-width width a b (inr (few, inr (inr h))) (inr g) =
+      inr (inl (open-below width width a b (omega arith) h (inr g)))
+  one-width width a b (inr h) (inr (so, inr (inr g))) =
+      inr (inr (open-below width width b a (omega arith) g (inr h)))
+
+  search-agrees : (a b : Outcome) → IsTrueOfSearch search p a → IsTrueOfSearch search p b
+      → Agrees a b
+  search-agrees a b (width, at, h) (other, on, g) = go (order width other)
+    where
+      go : (width < other) ⊎ (width ≡ other) ⊎ (other < width) → Agrees a b
+      go (inl less) = inr (inl (open-below width other a b (omega (arith, less))
+          (was-open width other a at on less h) g))
+      go (inr (inl same)) =
+          one-width width a b h (subst (λ (n : ℕ). IsTrueThere n b) (sym same) g)
+      go (inr (inr more)) = inr (inr (open-below other width b a (omega (arith, more))
+          (was-open other width b on at more g) h))
 
 check-agrees : (job : CheckAsked) (files : FileMap) (a b : Outcome)
     → ChecksTo (IsHalted (Some files)) (Some files) job a
@@ -64,10 +137,11 @@ check-agrees job files a b h g =
 job-agrees : (job : JobAsked) (files : FileMap) (a b : Outcome) → IsTrueOfJob job (Some files) a →
     IsTrueOfJob job (Some files) b → Agrees a b
 job-agrees (Routes job) files a b h g =
-    work-agrees files job.files
-    (λ p said. IsTrueOfClauses job.width p (IsTrueOfSearch job p said) said) a b h g
-    (λ p u v. clauses-agree job.width p (IsTrueOfSearch job p) a b u v
-    (λ s t. inr (job.width, searched job p a s, searched job p b t)))
+    work-agrees files job.files (IsTrueOfSearch (route_search job)) a b h g
+    (λ p u v. search-agrees (route_search job) p a b u v)
+job-agrees (Sweeps job) files a b h g =
+    work-agrees files job.files (IsTrueOfSearch (sweep_search job)) a b h g
+    (λ p u v. search-agrees (sweep_search job) p a b u v)
 job-agrees (Encodes job) files a b h g =
     work-agrees files job.files (λ p said. IsTrueOfClauses job.width p (said ≡ Done) said) a b h g
     (λ p u v. clauses-agree job.width p (λ said. said ≡ Done) a b u v (λ s t. inl (s ∙ sym t)))

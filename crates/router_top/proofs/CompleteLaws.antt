@@ -19,6 +19,7 @@ use Rattle.route_encode.specs.Encoding.{cnf_of}
 use Rattle.route_encode.specs.Good.{IsRoutingOf}
 use Rattle.route_sweep.specs.Asked.{Asked}
 use Rattle.route_sweep.specs.Found.{FailsOn, FindsAt}
+use Rattle.route_sweep.specs.declared.found.Climbed.{Climbed}
 use Rattle.route_sweep.specs.declared.found.FileSlot.{FileSlot}
 use Rattle.route_sweep.specs.declared.found.FileSlot.TheVariants.{Route as RouteSlot, Clauses, Log}
 use Rattle.route_sweep.specs.declared.found.Found.{Found}
@@ -27,20 +28,22 @@ use Rattle.route_sweep.specs.declared.found.Stop.{Stop}
 use Rattle.route_sweep.specs.declared.found.Stop.TheVariants.{Fault, TooManyClauses, Memory}
 use Rattle.router_words.specs.Command.{job_of}
 use Rattle.router_words.specs.Refusal.{code_of}
-use Rattle.router_words.specs.Job.{CheckAsked, Checks, EncodeAsked, Encodes as EncodesJob, FilesAsked, JobAsked, RouteAsked, Routes}
+use Rattle.router_words.specs.Job.{CheckAsked, Checks, EncodeAsked, Encodes as EncodesJob, FilesAsked, JobAsked, RouteAsked, Routes, SweepAsked, Sweeps as SweepsJob}
 use Rattle.router_words.specs.Word.{Word}
 use Rattle.router_words.specs.declared.fault.Refusal.{Refusal}
 use Rattle.router_top.specs.Check.{ChecksTo, cnf_source, judgement_outcome, lrat_source}
-use Rattle.router_top.specs.Outcomes.{found_outcome, written_outcome}
+use Rattle.router_top.specs.Outcomes.{climbed_outcome, found_outcome, written_outcome}
 use Rattle.router_top.specs.Report.{line_of}
 use Rattle.router_top.specs.Run.{Leaves, LeavesJob, LeavesWork, Runs, Scene}
+use Rattle.router_top.specs.Search.{Search, route_search, sweep_search}
 use Rattle.router_top.specs.Sources.{IsHalted, IsStopped, ReadsThen}
-use Rattle.router_top.specs.Truth.{Agrees, IsComplete, IsTrueOf, IsTrueOfClauses, IsTrueOfJob, IsTrueOfSearch, IsTrueOfWork}
-use Rattle.router_top.specs.Work.{Encodes, Searches, WritesClauses, search_of}
+use Rattle.router_top.specs.Truth.{Agrees, IsComplete, IsReached, IsTrueOf, IsTrueOfClauses, IsTrueOfJob, IsTrueOfSearch, IsTrueOfWork}
+use Rattle.router_top.specs.Work.{Encodes, Searches, Sweeps, WritesClauses}
 use Rattle.router_top.specs.declared.outcome.Outcome.{Outcome}
 use Rattle.router_top.specs.declared.outcome.Outcome.TheVariants.{Routed, Unroutable, Undecided, Done, Limit, Usage, WriteFault, OutOfMemory}
 use Rattle.router_top.specs.declared.slot.Slot.TheVariants.{File}
 use Rattle.router_top.proofs.AgreeLaws.{outcomes-agree}
+use Rattle.router_top.proofs.ClimbLaws.{EndsAt, climb-ends, climbed-calm, climbed-unroutable}
 use Rattle.router_top.proofs.FourLaws.{calm-lack}
 use Rattle.router_top.proofs.SourceLaws.{calm-reads}
 use Rattle.router_top.proofs.UnroutableLaws.{none-legal}
@@ -88,38 +91,96 @@ module _ (ask : Asked) (width : ℕ) (formula : Cnf) (good : RouteText → Type 
   fails-risen Clauses h = write-risen before _ _ now h.fails
   fails-risen Log h = write-risen _ _ _ now h.fails
 
-module _ (job : RouteAsked) (p : RoutingProblem) (fits : Fits p) (before now : ShelfState) where
-  -- what is true of an outcome of a search
-  abbrev SaysSearch : Outcome → Type 0
-  SaysSearch said = IsTrueOfClauses job.width p (IsTrueOfSearch job p said) said
-
+-- a search that has come to a width
+module _ (search : Search) (p : RoutingProblem) (fits : Fits p) (width : ℕ)
+    (reached : IsReached search p width) (before now : ShelfState) where
   found-settles : (came : Result Found Stop)
-      → FindsAt (search_of job) job.width (cnf_of job.width p) (IsRoutingOf job.width p) before now
-      came → Settles before now SaysSearch (found_outcome job.width came)
-  found-settles (Ok IsRouted) h =
-      by-word before now SaysSearch (Routed job.width)
+      → FindsAt search.ask width (cnf_of width p) (IsRoutingOf width p) before now came
+      → (came ≡ Ok Refuted → width ≡ search.last)
+      → Settles before now (IsTrueOfSearch search p) (found_outcome width came)
+  found-settles (Ok IsRouted) h last =
+      by-word before now (IsTrueOfSearch search p) (Routed width)
       (omega (arith, ap (λ (s : ShelfState). s.faults) h.1.written))
-      (inr (h.0, inl ((tracks_of p.route h.1.found, h.1.routing.legal), refl)))
-  found-settles (Ok Refuted) h =
-      by-word before now SaysSearch (Unroutable job.width)
-      (omega (arith, ap (λ (s : ShelfState). s.faults) h.1.written))
-      (inr (h.0, inr (inl (none-legal job.width p h.1.log fits h.1.ends.refutes.accepts, refl))))
-  found-settles (Ok (Spent learned)) h =
-      by-word before now SaysSearch (Undecided job.width learned)
+      (width, reached, inr (h.0, inl ((tracks_of p.route h.1.found, h.1.routing.legal), refl)))
+  found-settles (Ok Refuted) h last =
+      by-word before now (IsTrueOfSearch search p) (Unroutable width)
+      (omega (arith, ap (λ (s : ShelfState). s.faults) h.1.written)) (
+        width,
+        reached,
+        inr (
+          h.0,
+          inr (inl (
+            none-legal width p h.1.log fits h.1.ends.refutes.accepts,
+            last refl,
+            refl,
+          )),
+        ),
+      )
+  found-settles (Ok (Spent learned)) h last =
+      by-word before now (IsTrueOfSearch search p) (Undecided width learned)
       (omega (arith, ap (λ (s : ShelfState). s.faults) h.2.written))
-      (inr (h.0, inr (inr (ap (Undecided job.width) h.1))))
-  found-settles (Err (Fault slot)) h =
-      by-fault before now SaysSearch (found_outcome job.width (Err (Fault slot)))
-      (fails-risen (search_of job) job.width (cnf_of job.width p) (IsRoutingOf job.width p) before
-      now slot h.1)
-  found-settles (Err (TooManyClauses count)) h =
-      by-word before now SaysSearch (Limit 901 count) (faults-same before now h.2)
-      (inl (subst (λ (n : ℕ). CLAUSE_LIMIT < n) h.0 h.1, ap (Limit 901) h.0))
-  found-settles (Err Memory) h = by-memory before now SaysSearch OutOfMemory h.1 refl
+      (width, reached, inr (h.0, inr (inr (ap (Undecided width) h.1))))
+  found-settles (Err (Fault slot)) h last =
+      by-fault before now (IsTrueOfSearch search p) (found_outcome width (Err (Fault slot)))
+      (fails-risen search.ask width (cnf_of width p) (IsRoutingOf width p) before now slot h.1)
+  found-settles (Err (TooManyClauses count)) h last =
+      by-word before now (IsTrueOfSearch search p) (Limit 901 count) (faults-same before now h.2)
+      (width, reached, inl (subst (λ (n : ℕ). CLAUSE_LIMIT < n) h.0 h.1, ap (Limit 901) h.0))
+  found-settles (Err Memory) h last =
+      by-memory before now (IsTrueOfSearch search p) OutOfMemory h.1 refl
 
-  search-settles : (o : Outcome) → Searches job p before now o → Settles before now SaysSearch o
+-- from an earlier shelf that had failed as often
+settles-before : (first before now : ShelfState) (says : Outcome → Type 0) (o : Outcome)
+    → before.faults ≡ first.faults → Settles before now says o → Settles first now says o
+settles-before first before now says o same h = record {
+  kept = omega (arith, same, h.kept);
+  settled = λ quiet. h.settled
+      (λ risen. quiet (subst (λ (n : ℕ). HasRisen n now.faults) same risen));
+}
+
+-- a search at one width
+module _ (job : RouteAsked) (p : RoutingProblem) (fits : Fits p) (before now : ShelfState) where
+  reached-alone : IsReached (route_search job) p job.width
+  reached-alone = record {
+    from = omega arith;
+    to = omega arith;
+    lower = λ k low high. absurd (omega (arith, low, high));
+  }
+
+  search-settles : (o : Outcome) → Searches job p before now o
+      → Settles before now (IsTrueOfSearch (route_search job) p) o
   search-settles o h =
-      subst (Settles before now SaysSearch) (sym h.is) (found-settles h.came h.finds)
+      subst (Settles before now (IsTrueOfSearch (route_search job) p)) (sym h.is)
+      (found-settles (route_search job) p fits job.width reached-alone before now h.came h.finds
+      (λ same. refl))
+
+-- a climb through the widths
+module _ (job : SweepAsked) (p : RoutingProblem) (fits : Fits p) (before now : ShelfState) where
+  ends-settle : (came : Result Climbed Stop)
+      → EndsAt (sweep_search job).ask job.most (λ width. cnf_of width p)
+      (λ width. IsRoutingOf width p) before now came
+      → Settles before now (IsTrueOfSearch (sweep_search job) p) (climbed_outcome came)
+  ends-settle came end =
+      let search = sweep_search job in
+      let reached : IsReached search p end.width = record {
+        from = omega (arith, end.comes.next);
+        to = omega (arith, end.comes.next, end.comes.within);
+        lower = λ k low high. climbed-unroutable search p fits end.comes.below before
+            end.comes.between end.comes.refuted k low (omega (arith, high, end.comes.next));
+      } in
+      subst (Settles before now (IsTrueOfSearch search p)) (sym end.is)
+      (settles-before before end.comes.between now (IsTrueOfSearch search p)
+      (found_outcome end.width end.found)
+      (climbed-calm search p fits end.comes.below before end.comes.between end.comes.refuted)
+      (found-settles search p fits end.width reached end.comes.between now end.found end.comes.then
+      end.last))
+
+  sweep-settles : (o : Outcome) → Sweeps job p before now o
+      → Settles before now (IsTrueOfSearch (sweep_search job) p) o
+  sweep-settles o h =
+      subst (Settles before now (IsTrueOfSearch (sweep_search job) p)) (sym h.is)
+      (ends-settle h.came (climb-ends (sweep_search job).ask job.most (λ width. cnf_of width p)
+      (λ width. IsRoutingOf width p) before now h.some h.came h.climbs))
 
 module _ (job : EncodeAsked) (p : RoutingProblem) (before now : ShelfState) where
   abbrev SaysClauses : Outcome → Type 0
@@ -172,9 +233,12 @@ module _ (at : Scene) (calm : ¬ HasRisen at.desk.faults at.desk_now.faults) whe
 
   job-settles : (job : JobAsked) (o : Outcome) → LeavesJob job at o →
       Settles at.shelf at.shelf_now (IsTrueOfJob job at.desk.files) o
-  job-settles (Routes job) o h = work-settles job.files (Searches job)
-      (λ p said. IsTrueOfClauses job.width p (IsTrueOfSearch job p said) said) o
+  job-settles (Routes job) o h =
+      work-settles job.files (Searches job) (IsTrueOfSearch (route_search job)) o
       (λ p fits. search-settles job p fits at.shelf at.shelf_now o) h
+  job-settles (SweepsJob job) o h =
+      work-settles job.files (Sweeps job) (IsTrueOfSearch (sweep_search job)) o
+      (λ p fits. sweep-settles job p fits at.shelf at.shelf_now o) h
   job-settles (EncodesJob job) o h = work-settles job.files (Encodes job)
       (λ p said. IsTrueOfClauses job.width p (said ≡ Done) said) o
       (λ p fits. encode-settles job p at.shelf at.shelf_now o) h

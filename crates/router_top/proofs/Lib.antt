@@ -1,6 +1,9 @@
 mod AgreeLaws
+mod ClimbLaws
 mod CompleteLaws
 mod FourLaws
 mod MeansLaws
+mod NameLaws
 mod SourceLaws
 mod UnroutableLaws
+mod WrittenLaws

@@ -1,6 +1,7 @@
 -- What the answer of a run means.
-use Rattle.std.proofs.Common.{◌≡◌, ℕ, ◌≤◌, List, length, Option, Ok, Err, Result, refl, sym, ap, subst, inl, inr, arith}
-use Rattle.std.specs.Prelude.{MatchResult}
+use Rattle.std.proofs.Common.{◌≡◌, ◌∙◌, ℕ, ◌+◌, ◌-◌, ◌≤◌, List, [], ◌∷◌, ◌++◌, length, Option, Ok, Err, Result, refl, sym, ap, subst, inl, inr, arith}
+use Rattle.std.specs.Prelude.{MatchResult, flat_map}
+use Rattle.std.specs.List.{range_with_len}
 use Rattle.desk_io.specs.DeskState.{DeskState}
 use Rattle.desk_io.specs.Files.{Bytes, FileMap}
 use Rattle.desk_io.specs.ShelfState.{ShelfState}
@@ -18,6 +19,7 @@ use Rattle.fpga_types.specs.declared.route.RouteText.{RouteText}
 use Rattle.route_encode.specs.Encoding.{cnf_of}
 use Rattle.route_encode.specs.Good.{IsRoutingOf}
 use Rattle.route_sweep.specs.Found.{FindsAt}
+use Rattle.route_sweep.specs.declared.found.Climbed.{Climbed}
 use Rattle.route_sweep.specs.declared.found.Found.{Found}
 use Rattle.route_sweep.specs.declared.found.Found.TheVariants.{Routed as IsRoutedThere, Refuted, Spent}
 use Rattle.route_sweep.specs.declared.found.Stop.{Stop}
@@ -30,23 +32,28 @@ use Rattle.sat_text.specs.CnfText.{cnf_said}
 use Rattle.sat_text.specs.LratText.{lrat_said}
 use Rattle.router_words.specs.Command.{job_of}
 use Rattle.router_words.specs.Refusal.{code_of}
-use Rattle.router_words.specs.Job.{CheckAsked, Checks, EncodeAsked, Encodes as EncodesJob, FilesAsked, JobAsked, RouteAsked, Routes}
+use Rattle.router_words.specs.Job.{CheckAsked, Checks, EncodeAsked, Encodes as EncodesJob, FilesAsked, JobAsked, RouteAsked, Routes, SweepAsked, Sweeps as SweepsJob}
 use Rattle.router_words.specs.Word.{Word}
 use Rattle.router_words.specs.declared.fault.Refusal.{Refusal}
 use Rattle.router_top.specs.Check.{cnf_source, judgement_outcome, lrat_source}
 use Rattle.router_top.specs.FourFiles.{GivesNone, IsUnfit, Poses, arch_source, net_source, place_source, route_source}
-use Rattle.router_top.specs.Headline.{Means}
-use Rattle.router_top.specs.Outcomes.{found_outcome, stop_outcome, written_outcome}
+use Rattle.router_top.specs.Headline.{ComesTo, Means, lower_files, proof_files, route_file}
+use Rattle.router_top.specs.Outcomes.{climbed_outcome, found_outcome, stop_outcome, written_outcome}
 use Rattle.router_top.specs.Report.{unsaid}
 use Rattle.router_top.specs.Run.{Leaves, LeavesJob, LeavesWork, Runs, Scene}
+use Rattle.router_top.specs.Search.{route_search, sweep_search}
 use Rattle.router_top.specs.Sources.{IsStopped, ReadsThen, Says, Source, fault_outcome}
-use Rattle.router_top.specs.Work.{Encodes, Searches, WritesClauses, search_of}
+use Rattle.router_top.specs.Work.{Encodes, Searches, Sweeps, WritesClauses}
+use Rattle.router_top.specs.Written.{AreWritten, NamedText, with_files}
 use Rattle.router_top.specs.declared.outcome.Outcome.{Outcome}
 use Rattle.router_top.specs.declared.outcome.Outcome.TheVariants.{Usage, WriteFault}
 use Rattle.router_top.specs.declared.text_file.TextFile.{TextFile}
 use Rattle.router_top.specs.declared.text_file.TextFile.TheVariants.{Route}
+use Rattle.router_top.proofs.ClimbLaws.{EndsAt, climb-ends, climbed-logs}
 use Rattle.router_top.proofs.FourLaws.{AfterArch, AfterNetlist, AfterPlacement}
+use Rattle.router_top.proofs.NameLaws.{proof-apart, proofs-then-proof, proofs-then-route, route-apart}
 use Rattle.router_top.proofs.UnroutableLaws.{none-legal}
+use Rattle.router_top.proofs.WrittenLaws.{AreApart, are-written, with_files-append}
 
 -- the routing of a problem whose route was read reads back as it is printed
 routing-reads : (width : ℕ) (p : RoutingProblem) (found : RouteText) (text : Bytes)
@@ -55,6 +62,9 @@ routing-reads : (width : ℕ) (p : RoutingProblem) (found : RouteText) (text : B
 routing-reads width p found text narrow read routing reads =
     reads text p.route (tracks_of p.route found) read (λ k d inside.
     let t = routing.legal.within k d inside in omega (arith, t, narrow)) routing.is
+
+less-itself : (n : ℕ) → n - n ≡ 0
+less-itself n = omega arith
 
 module _ (words : List Word) (desk before : Option FileMap) where
   -- what keeps a run from its work says nothing more
@@ -117,43 +127,136 @@ module _ (words : List Word) (at : Scene) where
   files-are : (shelf : ShelfState) → at.shelf_now ≡ shelf → at.shelf_now.files ≡ shelf.files
   files-are shelf e = ap (λ (s : ShelfState). s.files) e
 
-  module _ (job : RouteAsked) (p : RoutingProblem) (asked : job_of words ≡ Ok (Routes job))
-      (poses : Poses at.desk.files job.files p) (narrow : job.width ≤ WIDTH_LIMIT) where
+  -- a search that has come to a width: the files of lower widths, and the search there
+  module _ (width : ℕ) (comes : ComesTo words at.desk.files width) (narrow : width ≤ WIDTH_LIMIT)
+      (between : ShelfState)
+      (lower : between.files ≡ with_files (lower_files comes) at.shelf.files)
+      (route_apart : (found : RouteText)
+      → AreApart (lower_files comes ++ route_file comes.search found ∷ []))
+      (proof_apart : (log : List Step)
+      → AreApart (lower_files comes ++ proof_files comes.search comes.p width log)) where
+    -- more files behind those of lower widths
+    behind : (more : List NamedText) → AreApart (lower_files comes ++ more)
+        → at.shelf_now.files ≡ with_files more between.files
+        → AreWritten (lower_files comes ++ more) at.shelf.files at.shelf_now.files
+    behind more apart written =
+        are-written (lower_files comes ++ more) at.shelf.files at.shelf_now.files
+        (written ∙ ap (with_files more) lower
+        ∙ sym (with_files-append (lower_files comes) more at.shelf.files)) apart
+
     found-means : (came : Result Found Stop)
-        → FindsAt (search_of job) job.width (cnf_of job.width p) (IsRoutingOf job.width p) at.shelf
-        at.shelf_now came → MeansHere (found_outcome job.width came)
-    found-means (Ok IsRoutedThere) h = record {
-      job = job;
-      p = p;
-      of = record { asked = asked; wide = refl; poses = poses; few = h.0 };
+        → FindsAt comes.search.ask width (cnf_of width comes.p) (IsRoutingOf width comes.p) between
+        at.shelf_now came → (came ≡ Ok Refuted → width ≡ comes.search.last)
+        → MeansHere (found_outcome width came)
+    found-means (Ok IsRoutedThere) h last = record {
+      comes = comes;
+      few = h.0;
       found = h.1.found;
       routing = h.1.routing;
-      reads_back = routing-reads job.width p h.1.found poses.route.text narrow
-          (poses.route.faultless, poses.route.says) h.1.routing h.1.reads_back;
-      written = files-are _ h.1.written;
+      reads_back = routing-reads width comes.p h.1.found comes.poses.route.text narrow
+          (comes.poses.route.faultless, comes.poses.route.says) h.1.routing h.1.reads_back;
+      written = behind (route_file comes.search h.1.found ∷ []) (route_apart h.1.found)
+          (files-are _ h.1.written);
     }
-    found-means (Ok Refuted) h = record {
-      job = job;
-      p = p;
-      of = record { asked = asked; wide = refl; poses = poses; few = h.0 };
+    found-means (Ok Refuted) h last = record {
+      comes = comes;
+      last = last refl;
       log = h.1.log;
-      refuted = h.1.ends;
-      none_legal = none-legal job.width p h.1.log poses.fits h.1.ends.refutes.accepts;
-      reads_back = record { clauses = h.1.clauses_back; steps = h.1.log_back };
-      written = files-are _ h.1.written;
+      refuted = record {
+        few = h.0;
+        refuted = h.1.ends;
+        none_legal = none-legal width comes.p h.1.log comes.poses.fits h.1.ends.refutes.accepts;
+        reads_back = record { clauses = h.1.clauses_back; steps = h.1.log_back };
+      };
+      written = behind (proof_files comes.search comes.p width h.1.log) (proof_apart h.1.log)
+          (files-are _ h.1.written);
     }
-    found-means (Ok (Spent learned)) h = record {
-      job = job;
-      p = p;
-      of = record { asked = asked; wide = refl; poses = poses; few = h.0 };
+    found-means (Ok (Spent learned)) h last = record {
+      comes = comes;
+      few = h.0;
       budget = h.1;
       log = h.2.log;
       open_by = h.2.ends;
       reads_back = record { clauses = h.2.clauses_back; steps = h.2.log_back };
-      written = files-are _ h.2.written;
+      written = behind (proof_files comes.search comes.p width h.2.log) (proof_apart h.2.log)
+          (files-are _ h.2.written);
     }
-    found-means (Err stop) h =
+    found-means (Err stop) h last =
         stop-means words at.desk.files at.shelf.files at.shelf_now.files stop
+
+  -- a search at one width
+  module _ (job : RouteAsked) (p : RoutingProblem) (asked : job_of words ≡ Ok (Routes job))
+      (poses : Poses at.desk.files job.files p) (narrow : job.width ≤ WIDTH_LIMIT) where
+    abbrev comes-alone : ComesTo words at.desk.files job.width
+    comes-alone = record {
+      job = Routes job;
+      asked = asked;
+      search = route_search job;
+      searches = refl;
+      p = p;
+      poses = poses;
+      from = omega arith;
+      to = omega arith;
+      logs = λ k. [];
+      lower = λ k low high. absurd (omega (arith, low, high));
+    }
+
+    none-lower : lower_files comes-alone ≡ []
+    none-lower = ap (λ (count : ℕ). flat_map (λ k. proof_files (route_search job) p k [])
+        (range_with_len job.width count)) (less-itself job.width)
+
+    alone : (more : List NamedText) → AreApart more → AreApart (lower_files comes-alone ++ more)
+    alone more = subst (λ (fs : List NamedText). AreApart (fs ++ more)) (sym none-lower)
+
+    route-means : (o : Outcome) → Searches job p at.shelf at.shelf_now o → MeansHere o
+    route-means o did = subst MeansHere (sym did.is) (found-means job.width comes-alone narrow at.shelf
+        (sym (ap (λ (fs : List NamedText). with_files fs at.shelf.files) none-lower))
+        (λ found. alone (route_file (route_search job) found ∷ [])
+        (route-apart (route_search job) p found))
+        (λ log. alone (proof_files (route_search job) p job.width log)
+        (proof-apart (route_search job) p job.width log))
+        did.came did.finds (λ same. refl))
+
+  -- a climb through the widths
+  module _ (job : SweepAsked) (p : RoutingProblem) (asked : job_of words ≡ Ok (SweepsJob job))
+      (poses : Poses at.desk.files job.files p) (narrow : job.most ≤ WIDTH_LIMIT) where
+    ends-mean : (came : Result Climbed Stop)
+        → EndsAt (sweep_search job).ask job.most (λ width. cnf_of width p)
+        (λ width. IsRoutingOf width p) at.shelf at.shelf_now came
+        → MeansHere (climbed_outcome came)
+    ends-mean came end =
+        let search = sweep_search job in
+        let below = end.comes.below in
+        let lower = climbed-logs search p poses.fits below at.shelf end.comes.between
+        end.comes.refuted in
+        let low : end.width ≤ 64 = omega (arith, end.comes.next, end.comes.within, narrow) in
+        let count : below ≡ end.width - 1 = omega (arith, end.comes.next) in
+        let few : 1 + (end.width - 1) ≤ end.width = omega (arith, end.comes.next) in
+        let comes : ComesTo words at.desk.files end.width = record {
+          job = SweepsJob job;
+          asked = asked;
+          search = search;
+          searches = refl;
+          p = p;
+          poses = poses;
+          from = omega (arith, end.comes.next);
+          to = omega (arith, end.comes.next, end.comes.within);
+          logs = lower.logs;
+          lower = λ k from high. lower.refuted k from (omega (arith, high, end.comes.next));
+        } in
+        subst MeansHere (sym end.is) (found-means end.width comes low end.comes.between
+        (lower.files ∙ ap (λ (n : ℕ). with_files
+        (flat_map (λ k. proof_files search p k (lower.logs k)) (range_with_len 1 n))
+        at.shelf.files) count)
+        (λ found. proofs-then-route search p refl lower.logs 1 (end.width - 1) found
+        (omega (arith, few, low)))
+        (λ log. proofs-then-proof search p refl lower.logs 1 (end.width - 1) end.width log few low)
+        end.found end.comes.then end.last)
+
+    sweep-means : (o : Outcome) → Sweeps job p at.shelf at.shelf_now o → MeansHere o
+    sweep-means o did = subst MeansHere (sym did.is) (ends-mean did.came
+        (climb-ends (sweep_search job).ask job.most (λ width. cnf_of width p)
+        (λ width. IsRoutingOf width p) at.shelf at.shelf_now did.some did.came did.climbs))
 
   module _ (job : EncodeAsked) (p : RoutingProblem) (asked : job_of words ≡ Ok (EncodesJob job))
       (poses : Poses at.desk.files job.files p) where
@@ -167,7 +270,7 @@ module _ (words : List Word) (at : Scene) where
       poses = poses;
       few = h.0;
       reads_back = h.1;
-      written = files-are _ h.2;
+      written = are-written _ at.shelf.files at.shelf_now.files (files-are _ h.2) (tt, tt);
     }
     written-means (Err stop) h =
         stop-means words at.desk.files at.shelf.files at.shelf_now.files stop
@@ -200,8 +303,9 @@ module _ (words : List Word) (at : Scene) where
 
   job-means : (job : JobAsked) (o : Outcome) → job_of words ≡ Ok job → LeavesJob job at o → MeansHere o
   job-means (Routes job) o asked h = work-means job.files (Searches job) o
-      (λ p poses did. subst MeansHere (sym did.is)
-      (found-means job p asked poses did.narrow did.came did.finds)) h
+      (λ p poses did. route-means job p asked poses did.narrow o did) h
+  job-means (SweepsJob job) o asked h = work-means job.files (Sweeps job) o
+      (λ p poses did. sweep-means job p asked poses did.narrow o did) h
   job-means (EncodesJob job) o asked h = work-means job.files (Encodes job) o
       (λ p poses did. subst MeansHere (sym did.is)
       (written-means job p asked poses did.came did.writes)) h

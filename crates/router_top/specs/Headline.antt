@@ -2,10 +2,9 @@
 -- every width up to 64: a written route gives each net one wire for each cell of its global route,
 -- joined by switches and shared with no other net; or the written clauses are refuted by the
 -- written log, and there is no such routing; or it is left open, with the given number of learned
--- clauses.
-use Rattle.std.specs.Prelude.{◌≡◌, ℕ, List, ⊤, length, Ok, Option, option_map}
-use Rattle.std.specs.FinMap.{insert}
-use Rattle.desk_io.specs.Files.{Bytes, FileMap}
+-- clauses. A sweep says this of the widths from 1 on, so that a routed width is the least.
+use Rattle.std.specs.Prelude.{◌≡◌, ℕ, ◌<◌, ◌≤◌, List, [], ◌∷◌, ◌++◌, flat_map, ⊤, length, Ok, Option, Some}
+use Rattle.desk_io.specs.Files.{FileMap}
 use Rattle.fpga_types.specs.Problem.{RoutingProblem}
 use Rattle.fpga_types.specs.declared.route.RouteText.{RouteText}
 use Rattle.fpga_route.specs.Printed.{printed}
@@ -22,76 +21,102 @@ use Rattle.sat_text.specs.CnfText.{ReadsCnf, cnf_said}
 use Rattle.sat_text.specs.LratText.{ReadsLrat, lrat_said}
 use Rattle.sat_text.specs.Printed.{cnf_text, log_text}
 use Rattle.router_words.specs.Command.{job_of}
-use Rattle.router_words.specs.Job.{CheckAsked, Checks, EncodeAsked, Encodes, RouteAsked, Routes}
+use Rattle.router_words.specs.Job.{CheckAsked, Checks, EncodeAsked, Encodes, JobAsked}
 use Rattle.router_words.specs.Word.{Word}
 use Rattle.router_top.specs.Check.{cnf_source, lrat_source}
 use Rattle.router_top.specs.FourFiles.{Poses}
+use Rattle.router_top.specs.Search.{Search, lower_widths, search_asked}
 use Rattle.router_top.specs.Sources.{Says}
-use Rattle.router_top.specs.Work.{clauses_name, search_of}
+use Rattle.router_top.specs.Work.{clauses_name}
+use Rattle.router_top.specs.Written.{AreWritten, NamedText}
 use Rattle.router_top.specs.declared.outcome.Outcome.{Outcome}
 use Rattle.router_top.specs.declared.outcome.Outcome.TheVariants.{Accepted, Done, Routed, Undecided, Unroutable}
 
--- these files with one more, which has this text
-abbrev pub with_file : Bytes → Bytes → Option FileMap → Option FileMap
-with_file name text files = option_map (λ fs. insert fs name text) files
+-- ---- what is written
 
--- the clauses and the log of a search that was asked for so
-abbrev pub with_proof : RouteAsked → Cnf → List Step → Option FileMap → Option FileMap
-with_proof job cnf log files =
-    with_file (lrat_name (search_of job) job.width) (log_text log)
-    (with_file (cnf_name (search_of job) job.width) (cnf_text cnf) files)
+-- the global route with the tracks that were found
+abbrev pub route_file : Search → RouteText → NamedText
+route_file search found = record { name = route_name search.ask; text = printed found }
+
+-- the clauses at a width, and then a log
+abbrev pub proof_files : Search → RoutingProblem → (width : ℕ) → List Step → List NamedText
+proof_files search p width log =
+    record { name = cnf_name search.ask width; text = cnf_text (cnf_of width p) }
+    ∷ record { name = lrat_name search.ask width; text = log_text log } ∷ []
 
 -- both texts of a refutation or of a search read back
 pub record ReadBack (cnf : Cnf) (log : List Step) : Type 0 where
   pub clauses : ReadsCnf (cnf_text cnf) cnf
   pub steps : ReadsLrat (length cnf.clauses) (log_text log) log
 
--- the words ask for a routing of this width; the four files read as the values of the problem and
--- fit; and it has few enough clauses
-pub record IsAskedOf
-    (words : List Word) (desk : Option FileMap) (width : ℕ) (job : RouteAsked) (p : RoutingProblem)
+-- ---- what a search has shown
+
+-- few enough clauses stand for the problem at this width, the log refutes them, and no tracks make
+-- a legal routing
+pub record IsRefutedAt (search : Search) (p : RoutingProblem) (width : ℕ) (log : List Step)
     : Type 0 where
-  pub asked : job_of words ≡ Ok (Routes job)
-  pub wide : width ≡ job.width
-  pub poses : Poses desk job.files p
   pub few : HasFew (cnf_of width p)
-
--- one file alone was written: the global route with the tracks of a legal routing, as it reads back
-pub record IsRouted (words : List Word) (desk before now : Option FileMap) (width : ℕ)
-    : Type 0 where
-  pub job : RouteAsked
-  pub p : RoutingProblem
-  pub of : IsAskedOf words desk width job p
-  pub found : RouteText
-  pub routing : IsRoutingOf width p found
-  pub reads_back : ReadsBack found
-  pub written : now ≡ with_file (route_name (search_of job)) (printed found) before
-
--- two files alone were written: the clauses of the problem and a log that refutes them; and no
--- tracks make a legal routing
-pub record IsRefuted (words : List Word) (desk before now : Option FileMap) (width : ℕ)
-    : Type 0 where
-  pub job : RouteAsked
-  pub p : RoutingProblem
-  pub of : IsAskedOf words desk width job p
-  pub log : List Step
-  pub refuted : IsRefutedBy (search_of job) (cnf_of width p) (IsRoutingOf width p) log
+  pub refuted : IsRefutedBy search.ask (cnf_of width p) (IsRoutingOf width p) log
   pub none_legal : IsUnroutableAt width p
   pub reads_back : ReadBack (cnf_of width p) log
-  pub written : now ≡ with_proof job (cnf_of width p) log before
 
--- two files alone were written: the clauses of the problem, and a log of a search through them that
--- has as many learned clauses as the budget allows
+-- the words ask for a search; the four files read as the values of the problem and fit; and it comes
+-- to this width, since each lower one that it tries is refuted by a log
+pub record ComesTo (words : List Word) (desk : Option FileMap) (width : ℕ) : Type 0 where
+  pub job : JobAsked
+  pub asked : job_of words ≡ Ok job
+  pub search : Search
+  pub searches : search_asked job ≡ Some search
+  pub p : RoutingProblem
+  pub poses : Poses desk search.files p
+  pub from : search.first ≤ width
+  pub to : width ≤ search.last
+  pub logs : (width : ℕ) → List Step
+  pub lower : (k : ℕ) → search.first ≤ k → k < width → IsRefutedAt search p k (logs k)
+
+-- the clauses and the log of each lower width that was tried
+abbrev pub lower_files : {words : List Word} {desk : Option FileMap} {width : ℕ}
+    → ComesTo words desk width → List NamedText
+lower_files {words} {desk} {width} comes =
+    flat_map (λ k. proof_files comes.search comes.p k (comes.logs k))
+    (lower_widths comes.search width)
+
+-- ---- what answers mean
+
+-- at this width a routing was found. Beside the files of lower widths one alone was written: the
+-- global route with the tracks of a legal routing, as it reads back
+pub record IsRouted (words : List Word) (desk before now : Option FileMap) (width : ℕ)
+    : Type 0 where
+  pub comes : ComesTo words desk width
+  pub few : HasFew (cnf_of width comes.p)
+  pub found : RouteText
+  pub routing : IsRoutingOf width comes.p found
+  pub reads_back : ReadsBack found
+  pub written : AreWritten (lower_files comes ++ route_file comes.search found ∷ []) before now
+
+-- this width is the last, and it is refuted too. Beside the files of lower widths two alone were
+-- written: the clauses and a log that refutes them
+pub record IsRefuted (words : List Word) (desk before now : Option FileMap) (width : ℕ)
+    : Type 0 where
+  pub comes : ComesTo words desk width
+  pub last : width ≡ comes.search.last
+  pub log : List Step
+  pub refuted : IsRefutedAt comes.search comes.p width log
+  pub written : AreWritten (lower_files comes ++ proof_files comes.search comes.p width log)
+      before now
+
+-- this width is left open. Beside the files of lower widths two alone were written: the clauses, and
+-- a log of a search through them that has as many learned clauses as the budget allows
 pub record IsLeftOpen
     (words : List Word) (desk before now : Option FileMap) (width learned : ℕ) : Type 0 where
-  pub job : RouteAsked
-  pub p : RoutingProblem
-  pub of : IsAskedOf words desk width job p
-  pub budget : learned ≡ job.conflicts
+  pub comes : ComesTo words desk width
+  pub few : HasFew (cnf_of width comes.p)
+  pub budget : learned ≡ comes.search.ask.budget
   pub log : List Step
-  pub open_by : IsLeftOpenBy (search_of job) (cnf_of width p) log
-  pub reads_back : ReadBack (cnf_of width p) log
-  pub written : now ≡ with_proof job (cnf_of width p) log before
+  pub open_by : IsLeftOpenBy comes.search.ask (cnf_of width comes.p) log
+  pub reads_back : ReadBack (cnf_of width comes.p) log
+  pub written : AreWritten (lower_files comes ++ proof_files comes.search comes.p width log)
+      before now
 
 -- the words ask for the clauses, and one file alone was written: those of the problem
 pub record IsEncoded (words : List Word) (desk before now : Option FileMap) : Type 0 where
@@ -101,7 +126,8 @@ pub record IsEncoded (words : List Word) (desk before now : Option FileMap) : Ty
   pub poses : Poses desk job.files p
   pub few : HasFew (cnf_of job.width p)
   pub reads_back : ReadsCnf (cnf_text (cnf_of job.width p)) (cnf_of job.width p)
-  pub written : now ≡ with_file (clauses_name job) (cnf_text (cnf_of job.width p)) before
+  pub written : AreWritten
+      (record { name = clauses_name job; text = cnf_text (cnf_of job.width p) } ∷ []) before now
 
 -- the words ask for a check, both files read, and the log refutes the formula; so no truth values
 -- satisfy it

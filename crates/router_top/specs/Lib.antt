@@ -4,8 +4,10 @@ pub mod Headline
 pub mod Outcomes
 pub mod Report
 pub mod Run
+pub mod Search
 pub mod Slots
 pub mod Sources
 pub mod TextFiles
 pub mod Truth
 pub mod Work
+pub mod Written

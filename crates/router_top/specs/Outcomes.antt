@@ -1,5 +1,7 @@
 -- What a run comes to by what its work comes to.
 use Rattle.std.specs.Prelude.{ℕ, Result, Ok, Err}
+use Rattle.route_sweep.specs.declared.found.Climbed.{Climbed}
+use Rattle.route_sweep.specs.declared.found.Climbed.TheVariants.{Routed as IsLeast, Unroutable as HasNone, Undecided as IsOpen}
 use Rattle.route_sweep.specs.declared.found.Found.{Found}
 use Rattle.route_sweep.specs.declared.found.Found.TheVariants.{Routed as IsRouted, Refuted, Spent}
 use Rattle.route_sweep.specs.declared.found.Stop.{Stop}
@@ -20,6 +22,13 @@ found_outcome width (Ok IsRouted) = Routed width
 found_outcome width (Ok Refuted) = Unroutable width
 found_outcome width (Ok (Spent learned)) = Undecided width learned
 found_outcome width (Err stop) = stop_outcome stop
+
+-- where a climb through the widths ended, or stopped
+abbrev pub climbed_outcome : Result Climbed Stop → Outcome
+climbed_outcome (Ok (IsLeast width)) = Routed width
+climbed_outcome (Ok (HasNone width)) = Unroutable width
+climbed_outcome (Ok (IsOpen width learned)) = Undecided width learned
+climbed_outcome (Err stop) = stop_outcome stop
 
 -- where what was asked for was written, or not
 abbrev pub written_outcome : {Written : Type 0} → Result Written Stop → Outcome

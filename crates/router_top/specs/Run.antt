@@ -5,13 +5,13 @@ use Rattle.desk_io.specs.ShelfState.{FailsToSay, ShelfState, after_say}
 use Rattle.fpga_types.specs.Problem.{RoutingProblem}
 use Rattle.router_words.specs.Command.{job_of}
 use Rattle.router_words.specs.Refusal.{code_of}
-use Rattle.router_words.specs.Job.{Checks, Encodes as EncodesJob, FilesAsked, JobAsked, Routes}
+use Rattle.router_words.specs.Job.{Checks, Encodes as EncodesJob, FilesAsked, JobAsked, Routes, Sweeps as SweepsJob}
 use Rattle.router_words.specs.Word.{Word}
 use Rattle.router_top.specs.Check.{ChecksTo}
 use Rattle.router_top.specs.FourFiles.{GivesNone, Poses}
 use Rattle.router_top.specs.Report.{IsReadFault, line_of, unsaid}
 use Rattle.router_top.specs.Sources.{IsStopped}
-use Rattle.router_top.specs.Work.{Encodes, Searches}
+use Rattle.router_top.specs.Work.{Encodes, Searches, Sweeps}
 use Rattle.router_top.specs.declared.outcome.Outcome.{Outcome}
 use Rattle.router_top.specs.declared.outcome.Outcome.TheVariants.{Usage, OutOfMemory}
 
@@ -35,6 +35,7 @@ LeavesWork names works at outcome =
 -- what each job leaves before its outcome is reported; a check writes nothing
 abbrev pub LeavesJob : JobAsked → Scene → Outcome → Type 0
 LeavesJob (Routes job) at outcome = LeavesWork job.files (Searches job) at outcome
+LeavesJob (SweepsJob job) at outcome = LeavesWork job.files (Sweeps job) at outcome
 LeavesJob (EncodesJob job) at outcome = LeavesWork job.files (Encodes job) at outcome
 LeavesJob (Checks job) at outcome =
     ChecksTo (IsStopped at.desk at.desk_now) at.desk.files job outcome

@@ -1,5 +1,5 @@
 -- What each outcome but those of faults says of the words and of the files.
-use Rattle.std.specs.Prelude.{◌≡◌, ◌⊎◌, ℕ, ◌<◌, List, length, MatchResult, Option, Some}
+use Rattle.std.specs.Prelude.{◌≡◌, ◌⊎◌, ℕ, ◌<◌, ◌≤◌, List, length, MatchResult, Option, Some}
 use Rattle.std.specs.Option.{ForSome}
 use Rattle.desk_io.specs.DeskState.{DeskState}
 use Rattle.desk_io.specs.Files.{FileMap, HasRisen}
@@ -11,21 +11,14 @@ use Rattle.route_sweep.specs.Found.{HasFew}
 use Rattle.sat_clause.specs.declared.limits.TheConstants.{CLAUSE_LIMIT}
 use Rattle.router_words.specs.Command.{job_of}
 use Rattle.router_words.specs.Refusal.{code_of}
-use Rattle.router_words.specs.Job.{Checks, Encodes, FilesAsked, JobAsked, RouteAsked, Routes}
+use Rattle.router_words.specs.Job.{Checks, Encodes, FilesAsked, JobAsked, Routes, Sweeps}
 use Rattle.router_words.specs.Word.{Word}
 use Rattle.router_top.specs.Check.{ChecksTo}
 use Rattle.router_top.specs.FourFiles.{GivesNone, Poses}
+use Rattle.router_top.specs.Search.{Search, route_search, sweep_search}
 use Rattle.router_top.specs.Sources.{IsHalted}
 use Rattle.router_top.specs.declared.outcome.Outcome.{Outcome}
 use Rattle.router_top.specs.declared.outcome.Outcome.TheVariants.{Routed, Unroutable, Undecided, Done, Limit, Usage, OutOfMemory}
-
--- some tracks make a legal routing, or none do, and the outcome says which; or it says that the
--- budget was spent
-abbrev pub IsTrueOfSearch : RouteAsked → RoutingProblem → Outcome → Type 0
-IsTrueOfSearch job p outcome =
-    (IsRoutableAt job.width p × (outcome ≡ Routed job.width))
-    ⊎ (IsUnroutableAt job.width p × (outcome ≡ Unroutable job.width))
-    ⊎ (outcome ≡ Undecided job.width job.conflicts)
 
 -- there are more clauses at this width than may be built, and the outcome has their number; or
 -- there are not, and this is true
@@ -34,6 +27,27 @@ IsTrueOfClauses width p says outcome =
     ((CLAUSE_LIMIT < length (cnf_of width p).clauses)
     × (outcome ≡ Limit 901 (length (cnf_of width p).clauses)))
     ⊎ (HasFew (cnf_of width p) × says)
+
+-- the search comes to this width: each lower one that it tries has few enough clauses, and no tracks
+-- make a legal routing there
+pub record IsReached (search : Search) (p : RoutingProblem) (width : ℕ) : Type 0 where
+  pub from : search.first ≤ width
+  pub to : width ≤ search.last
+  pub lower : (k : ℕ) → search.first ≤ k → k < width → HasFew (cnf_of k p) × IsUnroutableAt k p
+
+-- some tracks make a legal routing at this width, or it is the last one and none do, and the outcome
+-- says which; or it says that the budget was spent
+abbrev pub IsTrueAt : Search → RoutingProblem → (width : ℕ) → Outcome → Type 0
+IsTrueAt search p width outcome =
+    (IsRoutableAt width p × (outcome ≡ Routed width))
+    ⊎ (IsUnroutableAt width p × (width ≡ search.last) × (outcome ≡ Unroutable width))
+    ⊎ (outcome ≡ Undecided width search.ask.budget)
+
+-- the search comes to a width, of whose clauses or routings the outcome is true
+abbrev pub IsTrueOfSearch : Search → RoutingProblem → Outcome → Type 0
+IsTrueOfSearch search p outcome =
+    (width : ℕ) × IsReached search p width
+    × IsTrueOfClauses width p (IsTrueAt search p width outcome) outcome
 
 -- the four files give no problem, and the outcome says why; or they pose one, of which it is true
 abbrev pub IsTrueOfWork : FilesAsked → (RoutingProblem → Outcome → Type 0) → Option FileMap
@@ -44,8 +58,10 @@ IsTrueOfWork names says files outcome =
 
 -- what an outcome says of the files of each job
 abbrev pub IsTrueOfJob : JobAsked → Option FileMap → Outcome → Type 0
-IsTrueOfJob (Routes job) files outcome = IsTrueOfWork job.files
-    (λ p said. IsTrueOfClauses job.width p (IsTrueOfSearch job p said) said) files outcome
+IsTrueOfJob (Routes job) files outcome =
+    IsTrueOfWork job.files (IsTrueOfSearch (route_search job)) files outcome
+IsTrueOfJob (Sweeps job) files outcome =
+    IsTrueOfWork job.files (IsTrueOfSearch (sweep_search job)) files outcome
 IsTrueOfJob (Encodes job) files outcome = IsTrueOfWork job.files
     (λ p said. IsTrueOfClauses job.width p (said ≡ Done) said) files outcome
 IsTrueOfJob (Checks job) files outcome = ChecksTo (IsHalted files) files job outcome
@@ -56,18 +72,19 @@ IsTrueOf words files outcome =
     MatchResult (job_of words) (λ job. IsTrueOfJob job files outcome)
     (λ cause. outcome ≡ Usage (code_of cause))
 
--- the answer of a search at this width
-abbrev pub IsOfSearch : ℕ → Outcome → Type 0
-IsOfSearch width (Routed of) = of ≡ width
-IsOfSearch width (Unroutable of) = of ≡ width
-IsOfSearch width (Undecided of learned) = of ≡ width
-IsOfSearch width outcome = ⊥
+-- a search is left open, at a width that is not above the one of the other outcome
+abbrev pub IsOpenBelow : Outcome → Outcome → Type 0
+IsOpenBelow (Undecided width learned) (Routed of) = width ≤ of
+IsOpenBelow (Undecided width learned) (Unroutable of) = width ≤ of
+IsOpenBelow (Undecided width learned) (Undecided of others) = (width ≤ of) × (learned ≡ others)
+IsOpenBelow (Undecided width learned) (Limit code count) = code ≡ 901
+IsOpenBelow outcome other = ⊥
 
--- the answer is this outcome; or both are answers of a search at one width, of which the search
--- gives the one that it comes to
+-- the answer is this outcome; or a search is left open by one of the two, for which width its budget
+-- is spent is the search's own
 abbrev pub Agrees : Outcome → Outcome → Type 0
 Agrees answer outcome =
-    (answer ≡ outcome) ⊎ ((width : ℕ) × IsOfSearch width answer × IsOfSearch width outcome)
+    (answer ≡ outcome) ⊎ IsOpenBelow answer outcome ⊎ IsOpenBelow outcome answer
 
 -- where the files are told, no fault has risen, memory sufficed and some outcome is true, the
 -- answer is true and agrees with that outcome

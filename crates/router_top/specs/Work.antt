@@ -1,5 +1,5 @@
 -- What the work on a problem leaves on the shelf, by its outcome.
-use Rattle.std.specs.Prelude.{◌≡◌, ◌++◌, ◌<◌, ◌≤◌, false, codes, length, Result, Ok, Err}
+use Rattle.std.specs.Prelude.{◌≡◌, ◌++◌, ◌<◌, ◌≤◌, codes, length, Result, Ok, Err}
 use Rattle.desk_io.specs.Files.{Bytes}
 use Rattle.desk_io.specs.ShelfState.{ShelfState}
 use Rattle.desk_io.specs.WholeFile.{FailsToWrite, after_writing}
@@ -7,8 +7,9 @@ use Rattle.fpga_types.specs.Problem.{RoutingProblem}
 use Rattle.fpga_types.specs.declared.limits.TheConstants.{WIDTH_LIMIT}
 use Rattle.route_encode.specs.Encoding.{cnf_of}
 use Rattle.route_encode.specs.Good.{IsRoutingOf}
-use Rattle.route_sweep.specs.Asked.{Asked}
+use Rattle.route_sweep.specs.Climb.{ClimbsTo}
 use Rattle.route_sweep.specs.Found.{FindsAt, HasFew}
+use Rattle.route_sweep.specs.declared.found.Climbed.{Climbed}
 use Rattle.route_sweep.specs.declared.found.FileSlot.TheVariants.{Clauses}
 use Rattle.route_sweep.specs.declared.found.Found.{Found}
 use Rattle.route_sweep.specs.declared.found.Stop.{Stop}
@@ -17,18 +18,10 @@ use Rattle.sat_clause.specs.Formula.{Cnf}
 use Rattle.sat_clause.specs.declared.limits.TheConstants.{CLAUSE_LIMIT}
 use Rattle.sat_text.specs.CnfText.{ReadsCnf}
 use Rattle.sat_text.specs.Printed.{cnf_text}
-use Rattle.router_words.specs.Job.{EncodeAsked, RouteAsked}
-use Rattle.router_top.specs.Outcomes.{found_outcome, written_outcome}
+use Rattle.router_words.specs.Job.{EncodeAsked, RouteAsked, SweepAsked}
+use Rattle.router_top.specs.Outcomes.{climbed_outcome, found_outcome, written_outcome}
+use Rattle.router_top.specs.Search.{route_search, sweep_search}
 use Rattle.router_top.specs.declared.outcome.Outcome.{Outcome}
-
--- what a job of routing asks of a search
-abbrev pub search_of : RouteAsked → Asked
-search_of job = record {
-  budget = job.conflicts;
-  keep = job.keep;
-  prefix = job.prefix;
-  numbered = false;
-}
 
 -- a search of the problem at the width of the job, which is at most 64
 pub record Searches
@@ -36,9 +29,20 @@ pub record Searches
     : Type 0 where
   pub narrow : job.width ≤ WIDTH_LIMIT
   pub came : Result Found Stop
-  pub finds : FindsAt (search_of job) job.width (cnf_of job.width p) (IsRoutingOf job.width p)
-      before now came
+  pub finds : FindsAt (route_search job).ask job.width (cnf_of job.width p)
+      (IsRoutingOf job.width p) before now came
   pub is : outcome ≡ found_outcome job.width came
+
+-- a climb through the widths of the problem up to the greatest of the job, which is at most 64
+pub record Sweeps
+    (job : SweepAsked) (p : RoutingProblem) (before now : ShelfState) (outcome : Outcome)
+    : Type 0 where
+  pub some : 1 ≤ job.most
+  pub narrow : job.most ≤ WIDTH_LIMIT
+  pub came : Result Climbed Stop
+  pub climbs : ClimbsTo (sweep_search job).ask job.most (λ width. cnf_of width p)
+      (λ width. IsRoutingOf width p) before now came
+  pub is : outcome ≡ climbed_outcome came
 
 -- the name of the file that clauses are written to
 abbrev pub clauses_name : EncodeAsked → Bytes

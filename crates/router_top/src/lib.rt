@@ -1,7 +1,7 @@
 //! Routes a placed and globally routed design: reads its architecture, its netlist, its placement
-//! and its global route, searches for a track for each cell of each net, and writes the detailed
-//! route, or a refutation; writes the clauses that say what a routing is; or checks a refutation of
-//! such clauses.
+//! and its global route, searches for a track for each cell of each net, at one width or at the
+//! least that has a routing, and writes the detailed route, or a refutation; writes the clauses that
+//! say what a routing is; or checks a refutation of such clauses.
 #![tactic(auto)]
 
 mod checking;
@@ -14,6 +14,7 @@ mod running;
 mod slot;
 mod source;
 mod stopping;
+mod sweeping;
 #[cfg(test)]
 mod tests;
 mod text_file;

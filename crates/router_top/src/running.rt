@@ -11,6 +11,7 @@ use crate::encoding::encode;
 use crate::outcome::{Outcome, report};
 use crate::routing::route;
 use crate::slot::Slot;
+use crate::sweeping::sweep;
 use desk_io::{Desk, Shelf};
 use router_words::{Job, WordsFault, read_words};
 use std::alloc::Global;
@@ -29,6 +30,7 @@ fn work<D: Desk, S: Shelf>(alloc: Global, words: &[String], desk: &mut D, shelf:
 {
     match read_words(alloc, words) {
         Ok(Job::Route(job)) => route(alloc, &job, desk, shelf),
+        Ok(Job::Sweep(job)) => sweep(alloc, &job, desk, shelf),
         Ok(Job::Encode(job)) => encode(alloc, &job, desk, shelf),
         Ok(Job::Check(job)) => check_files(alloc, &job, desk),
         Err(WordsFault::Refused(cause)) => Outcome::Usage { code: cause.code() },
@@ -61,9 +63,11 @@ fn say_report<S: Shelf>(shelf: &mut S, outcome: Outcome) -> Outcome
 /// Runs a command: reads the words and the files, does what they ask for, and last says the report
 /// line of the outcome. The words are those of `router_words::read_words`.
 ///
-/// `route` writes PREFIX.route, or else PREFIX.cnf and PREFIX.lrat; `encode` writes PREFIX.cnf
-/// alone, and `check` writes nothing. Each file is read and taken apart before the next is opened,
-/// and the first refusal ends the work. After want of memory no file has changed, and the files of
+/// `route` writes PREFIX.route, or else PREFIX.cnf and PREFIX.lrat. `sweep` writes PREFIX.wK.cnf
+/// and PREFIX.wK.lrat for each width K that it does not route, and PREFIX.route where it routes
+/// one. `encode` writes PREFIX.cnf alone, and `check` writes nothing. Each file is read and taken
+/// apart before the next is opened, and the first refusal ends the work. After want of memory each
+/// file that was written is whole: of a `sweep` the files of lower widths, else none. The files of
 /// the desk stay in any case.
 pub fn run<D: Desk, S: Shelf>(
     alloc: Global,

@@ -3,7 +3,7 @@ use Rattle.std.proofs.Common.{◌≡◌, ℕ, Bool, true, false, List, [], ◌�
 use Rattle.std.specs.Prelude.{Result, Ok, Err}
 use Rattle.clap.proofs.OnLiterals.{clap_on_literals}
 use Rattle.router_words.specs.Command.{job_of}
-use Rattle.router_words.specs.Job.{Checks, JobAsked, Routes}
+use Rattle.router_words.specs.Job.{Checks, JobAsked, Routes, Sweeps}
 use Rattle.router_words.specs.Word.{Word}
 use Rattle.router_words.specs.declared.fault.Refusal.{Refusal}
 use Rattle.router_words.specs.declared.fault.Refusal.TheVariants.{Command, Form, Number}
@@ -85,6 +85,29 @@ cut_name = refl
 pub help : route (codes "5" ∷ codes "out" ∷ codes "--help" ∷ []) ≡ Err Form
 unfolding clap_on_literals
 help = refl
+
+-- `sweep a n p r` and more words
+abbrev sweep : List Word → Asked
+sweep more = job_of (codes "sweep" ∷ codes "a" ∷ codes "n" ∷ codes "p" ∷ codes "r" ∷ more)
+
+pub sweeps : sweep (codes "8" ∷ codes "out" ∷ codes "--conflicts" ∷ codes "7" ∷ [])
+    ≡ Ok (Sweeps (record {
+      files = record { architecture = codes "a"; netlist = codes "n"; placement = codes "p"; route = codes "r" };
+      most = 8;
+      prefix = codes "out";
+      conflicts = 7;
+      keep = false;
+    }))
+unfolding clap_on_literals
+sweeps = refl
+
+pub too_many_widths : sweep (codes "65" ∷ codes "out" ∷ []) ≡ Err Number
+unfolding clap_on_literals
+too_many_widths = refl
+
+pub no_prefix : sweep (codes "8" ∷ []) ≡ Err Form
+unfolding clap_on_literals
+no_prefix = refl
 
 pub encode_keeps : job_of (codes "encode" ∷ codes "a" ∷ codes "n" ∷ codes "p" ∷ codes "r" ∷ codes "5" ∷ codes "out"
     ∷ codes "--keep" ∷ []) ≡ Err Form

@@ -5,12 +5,12 @@ use Rattle.std.specs.Str.{bytes_eq}
 use Rattle.clap.specs.Words.{App, Row, first_of, matches_of}
 use Rattle.fpga_text.specs.Numbers.{whole_number_of}
 use Rattle.fpga_types.specs.declared.limits.TheConstants.{WIDTH_LIMIT}
-use Rattle.router_words.specs.Form.{check_form, encode_form, route_form}
-use Rattle.router_words.specs.Job.{Checks, Encodes, FilesAsked, JobAsked, Routes, job_said}
+use Rattle.router_words.specs.Form.{check_form, encode_form, route_form, sweep_form}
+use Rattle.router_words.specs.Job.{Checks, Encodes, FilesAsked, JobAsked, Routes, Sweeps, job_said}
 use Rattle.router_words.specs.Taken.{HasRequired, is_taken}
 use Rattle.router_words.specs.Word.{Word}
 use Rattle.router_words.specs.declared.command_name.CommandName.{CommandName}
-use Rattle.router_words.specs.declared.command_name.CommandName.TheVariants.{Check, Encode, Route}
+use Rattle.router_words.specs.declared.command_name.CommandName.TheVariants.{Check, Encode, Route, Sweep}
 use Rattle.router_words.specs.declared.fault.Refusal.{Refusal}
 use Rattle.router_words.specs.declared.fault.Refusal.TheVariants.{Command, Form, Number}
 use Rattle.router_words.specs.declared.fault.WordsFault.{WordsFault}
@@ -43,7 +43,7 @@ files_asked rows = record {
   route = word_in (codes "route") rows;
 }
 
--- WIDTH
+-- WIDTH, or MAX of a sweep
 abbrev pub width_asked : List Row → Option ℕ
 width_asked rows = number_up_to WIDTH_LIMIT (word_in (codes "width") rows)
 
@@ -76,6 +76,20 @@ route_with rows _ _ = None
 abbrev pub route_asked : List Row → Option JobAsked
 route_asked rows = route_with rows (width_asked rows) (conflicts_asked rows)
 
+-- what `sweep` is asked for: with these numbers, where both are there
+abbrev pub sweep_with : List Row → Option ℕ → Option ℕ → Option JobAsked
+sweep_with rows (Some most) (Some conflicts) = Some (Sweeps (record {
+  files = files_asked rows;
+  most = most;
+  prefix = word_in (codes "prefix") rows;
+  conflicts = conflicts;
+  keep = has_flag (codes "keep") rows;
+}))
+sweep_with rows _ _ = None
+
+abbrev pub sweep_asked : List Row → Option JobAsked
+sweep_asked rows = sweep_with rows (width_asked rows) (conflicts_asked rows)
+
 -- what `encode` is asked for: with this width, where it is there
 abbrev pub encode_with : List Row → Option ℕ → Option JobAsked
 encode_with rows (Some width) = Some (Encodes (record {
@@ -96,6 +110,9 @@ check_asked rows =
 abbrev pub route_row : CommandRow
 route_row = record { name = codes "route"; form = route_form; job = route_asked }
 
+abbrev pub sweep_row : CommandRow
+sweep_row = record { name = codes "sweep"; form = sweep_form; job = sweep_asked }
+
 abbrev pub encode_row : CommandRow
 encode_row = record { name = codes "encode"; form = encode_form; job = encode_asked }
 
@@ -105,11 +122,12 @@ check_row = record { name = codes "check"; form = check_form; job = check_asked 
 -- the row of each command
 abbrev pub row_of : CommandName → CommandRow
 row_of Route = route_row
+row_of Sweep = sweep_row
 row_of Encode = encode_row
 row_of Check = check_row
 
 abbrev pub commands : List CommandRow
-commands = route_row ∷ encode_row ∷ check_row ∷ []
+commands = route_row ∷ sweep_row ∷ encode_row ∷ check_row ∷ []
 
 -- ---- the job of words
 

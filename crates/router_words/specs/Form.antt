@@ -44,17 +44,24 @@ with_files form =
     with_word (codes "route") (with_word (codes "placement")
     (with_word (codes "netlist") (with_word (codes "architecture") form)))
 
--- WIDTH PREFIX
+-- WIDTH PREFIX, or MAX PREFIX
 abbrev pub with_width_and_prefix : App → App
 with_width_and_prefix form = with_word (codes "prefix") (with_word (codes "width") form)
 
 -- ---- the forms
 
 -- ARCH NET PLACE ROUTE WIDTH PREFIX [--conflicts N] [--keep]
-abbrev pub route_form : App
-route_form =
+abbrev pub search_form : Word → App
+search_form name =
     with_flag (codes "keep") (with_option (codes "conflicts")
-    (with_width_and_prefix (with_files (empty_form (codes "route")))))
+    (with_width_and_prefix (with_files (empty_form name))))
+
+abbrev pub route_form : App
+route_form = search_form (codes "route")
+
+-- the same, with MAX in the place of WIDTH
+abbrev pub sweep_form : App
+sweep_form = search_form (codes "sweep")
 
 -- ARCH NET PLACE ROUTE WIDTH PREFIX
 abbrev pub encode_form : App

@@ -5,8 +5,9 @@ use Rattle.router_words.specs.declared.job.CheckJob.{CheckJob}
 use Rattle.router_words.specs.declared.job.EncodeJob.{EncodeJob}
 use Rattle.router_words.specs.declared.job.FourNames.{FourNames}
 use Rattle.router_words.specs.declared.job.Job.{Job}
-use Rattle.router_words.specs.declared.job.Job.TheVariants.{Check, Encode, Route}
+use Rattle.router_words.specs.declared.job.Job.TheVariants.{Check, Encode, Route, Sweep}
 use Rattle.router_words.specs.declared.job.RouteJob.{RouteJob}
+use Rattle.router_words.specs.declared.job.SweepJob.{SweepJob}
 
 -- the names of the files of a problem
 pub record FilesAsked : Type 0 where
@@ -20,6 +21,15 @@ pub record FilesAsked : Type 0 where
 pub record RouteAsked : Type 0 where
   pub files : FilesAsked
   pub width : ℕ
+  pub prefix : Word
+  pub conflicts : ℕ
+  pub keep : Bool
+
+-- to look for the least width that has a routing: the files, the greatest width that is tried, and
+-- what is asked of the search at each width, as above
+pub record SweepAsked : Type 0 where
+  pub files : FilesAsked
+  pub most : ℕ
   pub prefix : Word
   pub conflicts : ℕ
   pub keep : Bool
@@ -38,6 +48,7 @@ pub record CheckAsked : Type 0 where
 -- what is asked for
 pub data JobAsked : Type 0 where
   Routes : RouteAsked → JobAsked
+  Sweeps : SweepAsked → JobAsked
   Encodes : EncodeAsked → JobAsked
   Checks : CheckAsked → JobAsked
 
@@ -60,6 +71,15 @@ route_said job = record {
   keep = job.keep;
 }
 
+abbrev pub sweep_said : SweepJob → SweepAsked
+sweep_said job = record {
+  files = files_said job.files;
+  most = job.most;
+  prefix = job.prefix.now;
+  conflicts = job.conflicts;
+  keep = job.keep;
+}
+
 abbrev pub encode_said : EncodeJob → EncodeAsked
 encode_said job = record {
   files = files_said job.files;
@@ -72,5 +92,6 @@ check_said job = record { cnf = job.cnf.now; lrat = job.lrat.now }
 
 abbrev pub job_said : Job → JobAsked
 job_said (Route job) = Routes (route_said job)
+job_said (Sweep job) = Sweeps (sweep_said job)
 job_said (Encode job) = Encodes (encode_said job)
 job_said (Check job) = Checks (check_said job)

@@ -5,8 +5,8 @@ ghost use Rattle.router_words.specs.Command.{command_named, row_of};
 ghost use Rattle.router_words.specs.Job.{job_said};
 ghost use Rattle.router_words.specs.Taken.{HasRequired};
 
-use crate::form::{check_command, encode_command, route_command};
-use crate::from_matches::{check_job, encode_job, route_job};
+use crate::form::{check_command, encode_command, search_command};
+use crate::from_matches::{check_job, encode_job, route_job, sweep_job};
 use crate::job::Job;
 use clap::{ArgMatches, Command};
 use std::alloc::{AllocError, Global};
@@ -15,6 +15,7 @@ use std::alloc::{AllocError, Global};
 #[derive(Clone, Copy, Debug)]
 pub enum CommandName {
     Route,
+    Sweep,
     Encode,
     Check,
 }
@@ -26,6 +27,9 @@ impl CommandName {
     {
         if word == "route" {
             return Some(CommandName::Route);
+        }
+        if word == "sweep" {
+            return Some(CommandName::Sweep);
         }
         if word == "encode" {
             return Some(CommandName::Encode);
@@ -41,7 +45,8 @@ impl CommandName {
         ensures { IfOk result (λ c. app_of c ≡ (row_of self).form) }
     {
         match self {
-            CommandName::Route => route_command(alloc),
+            CommandName::Route => search_command(alloc, "route"),
+            CommandName::Sweep => search_command(alloc, "sweep"),
             CommandName::Encode => encode_command(alloc),
             CommandName::Check => check_command(alloc),
         }
@@ -54,6 +59,7 @@ impl CommandName {
     {
         match self {
             CommandName::Route => route_job(matches),
+            CommandName::Sweep => sweep_job(matches),
             CommandName::Encode => encode_job(matches),
             CommandName::Check => check_job(matches),
         }

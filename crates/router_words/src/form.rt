@@ -1,7 +1,7 @@
 //! The forms of the commands, as `clap` has them.
 ghost use Rattle.std.specs.Prelude.{◌≡◌, IfOk, codes};
 ghost use Rattle.clap.specs.Words.{app_of, rule_of};
-ghost use Rattle.router_words.specs.Form.{check_form, empty_form, encode_form, flag_rule, option_rule, required_rule, route_form, with_files, with_flag, with_option, with_width_and_prefix, with_word};
+ghost use Rattle.router_words.specs.Form.{check_form, empty_form, encode_form, flag_rule, option_rule, required_rule, search_form, with_files, with_flag, with_option, with_width_and_prefix, with_word};
 
 use clap::{Arg, ArgAction, Command};
 use std::alloc::{AllocError, Global};
@@ -58,7 +58,7 @@ fn add_files<'a>(alloc: Global, command: Command<'a>) -> Result<Command<'a>, All
     add_word(alloc, command, "route")
 }
 
-// With the width, and what the names of written files begin with.
+// With the width, or the greatest one, and what the names of written files begin with.
 fn add_width_and_prefix<'a>(alloc: Global, command: Command<'a>) -> Result<Command<'a>, AllocError>
     ensures { IfOk result (λ c. app_of c ≡ with_width_and_prefix (app_of command.entry)) }
 {
@@ -66,11 +66,11 @@ fn add_width_and_prefix<'a>(alloc: Global, command: Command<'a>) -> Result<Comma
     add_word(alloc, command, "prefix")
 }
 
-/// ARCH NET PLACE ROUTE WIDTH PREFIX [--conflicts N] [--keep]
-pub fn route_command<'a>(alloc: Global) -> Result<Command<'a>, AllocError>
-    ensures { IfOk result (λ c. app_of c ≡ route_form) }
+/// ARCH NET PLACE ROUTE WIDTH PREFIX [--conflicts N] [--keep], behind this name of a command.
+pub fn search_command<'a>(alloc: Global, name: &'a str) -> Result<Command<'a>, AllocError>
+    ensures { IfOk result (λ c. app_of c ≡ search_form name.entry.now) }
 {
-    let command = add_files(alloc, named(alloc, "route"))?;
+    let command = add_files(alloc, named(alloc, name))?;
     let command = add_width_and_prefix(alloc, command)?;
     let command = add_option(alloc, command, "conflicts")?;
     add_flag(alloc, command, "keep")

@@ -2,13 +2,13 @@
 ghost use Rattle.std.specs.Prelude.{◌≡◌, ◌≤◌, IfSome, codes, is_some, option_map, true};
 ghost use Rattle.clap.specs.Words.{first_of, found_of, rows_of};
 ghost use Rattle.fpga_types.specs.declared.limits.TheConstants.{WIDTH_LIMIT};
-ghost use Rattle.router_words.specs.Command.{check_asked, conflicts_asked, encode_asked, files_asked, route_asked, width_asked};
-ghost use Rattle.router_words.specs.Form.{check_form, encode_form, route_form};
-ghost use Rattle.router_words.specs.Job.{Checks, Encodes, Routes, check_said, encode_said, files_said, job_said, route_said};
+ghost use Rattle.router_words.specs.Command.{check_asked, conflicts_asked, encode_asked, files_asked, route_asked, sweep_asked, width_asked};
+ghost use Rattle.router_words.specs.Form.{check_form, encode_form, route_form, sweep_form};
+ghost use Rattle.router_words.specs.Job.{Checks, Encodes, Routes, Sweeps, check_said, encode_said, files_said, job_said, route_said, sweep_said};
 ghost use Rattle.router_words.specs.Taken.{HasFiles, HasRequired};
 ghost use Rattle.router_words.specs.declared.limits.TheConstants.{BUDGET_LIMIT};
 
-use crate::job::{CheckJob, EncodeJob, FourNames, Job, RouteJob};
+use crate::job::{CheckJob, EncodeJob, FourNames, Job, RouteJob, SweepJob};
 use crate::limits::{BUDGET_DEFAULT, BUDGET_LIMIT};
 use crate::matched::{first_word, is_given, number_from_one, required_word};
 use clap::ArgMatches;
@@ -27,7 +27,7 @@ fn file_names<'a>(matches: &ArgMatches<'a>) -> FourNames<'a>
     }
 }
 
-// How many tracks each channel has, where what the words say is in range.
+// How many tracks each channel has, or the most of them that are tried, where what the words say is in range.
 fn width(matches: &ArgMatches) -> Option<u32>
     requires { is_some (first_of (codes "width") (rows_of (found_of matches.now))) ≡ true }
     ensures number { result ≡ width_asked (rows_of (found_of matches.now)) }
@@ -65,6 +65,26 @@ pub fn route_job<'a>(matches: &ArgMatches<'a>) -> Option<Job<'a>>
     Some(Job::Route(RouteJob {
         files: file_names(matches),
         width,
+        prefix: required_word(matches, "prefix"),
+        conflicts,
+        keep: is_given(matches, "keep"),
+    }))
+}
+
+/// What `sweep` is asked for, where its numbers are in range.
+pub fn sweep_job<'a>(matches: &ArgMatches<'a>) -> Option<Job<'a>>
+    requires { HasRequired sweep_form (rows_of (found_of matches.now)) }
+    ensures { option_map job_said result ≡ sweep_asked (rows_of (found_of matches.now)) }
+{
+    let Some(most) = width(matches) else {
+        return None;
+    };
+    let Some(conflicts) = conflicts(matches) else {
+        return None;
+    };
+    Some(Job::Sweep(SweepJob {
+        files: file_names(matches),
+        most,
         prefix: required_word(matches, "prefix"),
         conflicts,
         keep: is_given(matches, "keep"),

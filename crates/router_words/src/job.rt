@@ -33,6 +33,23 @@ pub struct RouteJob<'a> {
     ghost affordable: { (1 ≤ conflicts) × (conflicts ≤ BUDGET_LIMIT) },
 }
 
+/// To look for the least width that has a routing.
+#[derive(Clone, Copy, Debug)]
+pub struct SweepJob<'a> {
+    /// The files of the problem.
+    pub files: FourNames<'a>,
+    /// The greatest width that is tried, from 1 to 64.
+    pub most: u32,
+    /// What the names of the files that are written begin with.
+    pub prefix: &'a str,
+    /// How many clauses the search at each width may learn, from 1 to 100,000,000.
+    pub conflicts: u64,
+    /// Whether the searches forget no clause.
+    pub keep: bool,
+    ghost in_range: { (1 ≤ most) × (most ≤ WIDTH_LIMIT) },
+    ghost affordable: { (1 ≤ conflicts) × (conflicts ≤ BUDGET_LIMIT) },
+}
+
 /// To write the clauses of a routing.
 #[derive(Clone, Copy, Debug)]
 pub struct EncodeJob<'a> {
@@ -59,6 +76,8 @@ pub struct CheckJob<'a> {
 pub enum Job<'a> {
     /// A routing.
     Route(RouteJob<'a>),
+    /// The least width that has a routing.
+    Sweep(SweepJob<'a>),
     /// The clauses of a routing.
     Encode(EncodeJob<'a>),
     /// Whether a log refutes the clauses of a file.

@@ -3,10 +3,11 @@
 //! | command | words behind it | options |
 //! |---|---|---|
 //! | `route` | ARCH NET PLACE ROUTE WIDTH PREFIX | `--conflicts N`, `--keep` |
+//! | `sweep` | ARCH NET PLACE ROUTE MAX PREFIX | `--conflicts N`, `--keep` |
 //! | `encode` | ARCH NET PLACE ROUTE WIDTH PREFIX | |
 //! | `check` | CNF LRAT | |
 //!
-//! WIDTH is a whole number from 1 to 64, and N one from 1 to 100,000,000, or 1,000,000 where it is
+//! WIDTH and MAX are whole numbers from 1 to 64, and N one from 1 to 100,000,000, or 1,000,000 where it is
 //! not given. Leading zeros are taken, signs are not.
 //!
 //! What stands behind the command is taken as `clap` takes it: options may stand anywhere,
@@ -18,7 +19,7 @@
 //! |---|---|
 //! | 1 | there is no first word, or it names no command |
 //! | 2 | the form of the command does not take the words behind it |
-//! | 3 | WIDTH or N is no whole number in its range |
+//! | 3 | WIDTH, MAX or N is no whole number in its range |
 //!
 //! The least code that holds is answered.
 #![tactic(auto)]
@@ -35,6 +36,6 @@ mod read;
 mod tests;
 
 pub use fault::{Refusal, WordsFault};
-pub use job::{CheckJob, EncodeJob, FourNames, Job, RouteJob};
+pub use job::{CheckJob, EncodeJob, FourNames, Job, RouteJob, SweepJob};
 pub use limits::{BUDGET_DEFAULT, BUDGET_LIMIT};
 pub use read::read_words;

@@ -58,6 +58,11 @@ fn lines_have_their_codes(rt: HostRuntime) -> Result<(), Fail> {
         ("route|a|n|p|r|5|out|--conflicts|0", 3),
         ("route|a|n|p|r|5|out|--conflicts|100000001", 3),
         ("route|a|n|p|r|5|out|--conflicts=", 3),
+        ("sweep|a|n|p|r|5", 2),
+        ("sweep|a|n|p|r|0|out", 3),
+        ("sweep|a|n|p|r|65|out", 3),
+        ("sweep|a|n|p|r|x|out", 3),
+        ("sweep|a|n|p|r|64|out|--keep", 0),
         ("encode|a|n|p|r|65|out", 3),
         ("route|a|n|p|r|64|out", 0),
         ("route|a|n|p|r|005|out|--conflicts|100000000", 0),
@@ -98,6 +103,17 @@ fn route_has_its_words(rt: HostRuntime) -> Result<(), Fail> {
         };
         has_route(&rt, &job, conflicts, keep);
     }
+    Ok(())
+}
+
+#[test]
+fn sweep_has_its_words(rt: HostRuntime) -> Result<(), Fail> {
+    let words = parted(rt.alloc(), "sweep|a|n|p|r|5|out|--conflicts|7|--keep")?;
+    let Ok(Job::Sweep(job)) = read_words(rt.alloc(), &words) else {
+        return Err("no job of sweeping".into());
+    };
+    assert_eq!(rt; (job.files.route, job.most, job.prefix), ("r", 5u32, "out"));
+    assert_eq!(rt; (job.conflicts, job.keep), (7, true));
     Ok(())
 }
 

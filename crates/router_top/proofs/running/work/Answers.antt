@@ -10,3 +10,8 @@ pub returns-in-Ok-Encode-clause-leaves : goal.returns-in-Ok-Encode-clause-leaves
 returns-in-Ok-Encode-clause-leaves g c =
     let asked = rw c.in-Ok-Encode.field-0-is at c.in-Ok-Encode.ensures.answers in
     inr (rw asked c.encode.ensures.leaves)
+
+pub returns-in-Ok-Sweep-clause-leaves : goal.returns-in-Ok-Sweep-clause-leaves
+returns-in-Ok-Sweep-clause-leaves g c =
+    let asked = rw c.in-Ok-Sweep.field-0-is at c.in-Ok-Sweep.ensures.answers in
+    inr (rw asked c.sweep.ensures.leaves)

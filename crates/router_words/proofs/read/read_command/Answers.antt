@@ -7,12 +7,13 @@ use Rattle.router_words.specs.Form.{is_form}
 use Rattle.router_words.specs.Taken.{HasRequired}
 use Rattle.router_words.specs.Word.{words_of}
 use Rattle.router_words.specs.declared.command_name.CommandName.{CommandName}
-use Rattle.router_words.specs.declared.command_name.CommandName.TheVariants.{Check, Encode, Route}
+use Rattle.router_words.specs.declared.command_name.CommandName.TheVariants.{Check, Encode, Route, Sweep}
 use Rattle.router_words.proofs.read.read_command.Goals as goal
 
 forms : (command : CommandName) → is_form (row_of command).form ≡ true
 unfolding clap_on_literals
 forms Route = refl
+forms Sweep = refl
 forms Encode = refl
 forms Check = refl
 

@@ -1,0 +1,229 @@
+-- What a climb comes to at the width where it ends, and what it has shown of the lower ones.
+use Rattle.std.proofs.Common.{◌≡◌, ◌∙◌, ◌⊎◌, ℕ, zero, suc, ◌+◌, ◌≤◌, ◌<◌, List, [], ◌∷◌, ◌++◌, Option, refl, sym, ap, subst, inl, inr, arith}
+use Rattle.std.specs.Prelude.{Result, Ok, Err, flat_map}
+use Rattle.std.specs.List.{range_with_len}
+use Rattle.std.proofs.lemmas.Grind.{flat_map-append}
+use Rattle.desk_io.specs.Files.{FileMap}
+use Rattle.desk_io.specs.ShelfState.{ShelfState}
+use Rattle.fpga_types.specs.Fits.{Fits}
+use Rattle.fpga_types.specs.Problem.{RoutingProblem}
+use Rattle.fpga_types.specs.declared.route.RouteText.{RouteText}
+use Rattle.route_encode.specs.Encoding.{cnf_of}
+use Rattle.route_encode.specs.Exact.{IsUnroutableAt}
+use Rattle.route_encode.specs.Good.{IsRoutingOf}
+use Rattle.route_sweep.specs.Asked.{Asked}
+use Rattle.route_sweep.specs.Climb.{AreRefuted, ClimbsTo, ComesTo}
+use Rattle.route_sweep.specs.Found.{FindsAt, HasFew, IsRefutedBy, WritesLog}
+use Rattle.route_sweep.specs.declared.found.Climbed.{Climbed}
+use Rattle.route_sweep.specs.declared.found.Climbed.TheVariants.{Routed as IsLeast, Unroutable as HasNone, Undecided as IsOpen}
+use Rattle.route_sweep.specs.declared.found.Found.{Found}
+use Rattle.route_sweep.specs.declared.found.Found.TheVariants.{Routed as IsRouted, Refuted, Spent}
+use Rattle.route_sweep.specs.declared.found.Stop.{Stop}
+use Rattle.sat_clause.specs.Formula.{Cnf}
+use Rattle.sat_clause.specs.Step.{Step}
+use Rattle.router_top.specs.Headline.{IsRefutedAt, proof_files}
+use Rattle.router_top.specs.Outcomes.{climbed_outcome, found_outcome}
+use Rattle.router_top.specs.Search.{Search}
+use Rattle.router_top.specs.Written.{NamedText, with_files}
+use Rattle.router_top.specs.declared.outcome.Outcome.TheVariants.{Unroutable}
+use Rattle.router_top.proofs.UnroutableLaws.{none-legal}
+use Rattle.router_top.proofs.WrittenLaws.{with_files-append}
+
+-- ---- numbers and lists
+
+-- a number up to the next is the next, or is up to this one
+next-or-below : (k n : ℕ) → k ≤ suc n → (k ≡ suc n) ⊎ (k ≤ n)
+next-or-below zero n h = inr (omega arith)
+next-or-below (suc zero) zero h = inl refl
+next-or-below (suc (suc k)) zero h = absurd (omega (arith, h))
+next-or-below (suc k) (suc n) h = elim (next-or-below k n (omega (arith, h))) [
+  | inl same ↦ inl (ap suc same)
+  | inr below ↦ inr (omega (arith, below))
+]
+
+-- one value above the number, and another up to it
+abbrev later : {T : Type 0} → (n k : ℕ) → (above upto : T) → T
+later n zero above upto = upto
+later zero (suc k) above upto = above
+later (suc n) (suc k) above upto = later n k above upto
+
+later-above : {T : Type 0} (n : ℕ) (above upto : T) → later n (suc n) above upto ≡ above
+later-above zero above upto = refl
+later-above (suc n) above upto = later-above n above upto
+
+later-upto : {T : Type 0} (n k : ℕ) (above upto : T) → k ≤ n → later n k above upto ≡ upto
+later-upto n zero above upto low = refl
+later-upto zero (suc k) above upto low = absurd (omega (arith, low))
+later-upto (suc n) (suc k) above upto low = later-upto n k above upto (omega (arith, low))
+
+-- rows over numbers from one on are alike where they are at each of them
+rows-alike : {T : Type 0} (f g : ℕ → List T) (first count : ℕ)
+    → ((k : ℕ) → first ≤ k → k < first + count → f k ≡ g k)
+    → flat_map f (range_with_len first count) ≡ flat_map g (range_with_len first count)
+rows-alike f g first zero same = refl
+rows-alike f g first (suc count) same =
+    let here = same first (omega arith) (omega arith) in
+    let rest = rows-alike f g (first + 1) count
+    (λ k low high. same k (omega (arith, low)) (omega (arith, high))) in
+    λ i. here i ++ rest i
+
+-- one number more
+range-more : (first count : ℕ)
+    → range_with_len first (suc count) ≡ range_with_len first count ++ (first + count) ∷ []
+range-more first zero = ap (λ (n : ℕ). n ∷ []) (omega arith)
+range-more first (suc count) =
+    ap (λ (ns : List ℕ). first ∷ ns) (range-more (first + 1) count
+    ∙ ap (λ (n : ℕ). range_with_len (first + 1) count ++ n ∷ []) (omega arith))
+
+rows-more : {T : Type 0} (f : ℕ → List T) (count : ℕ)
+    → flat_map f (range_with_len 1 (suc count))
+    ≡ flat_map f (range_with_len 1 count) ++ f (suc count)
+rows-more {T} f count =
+    ap (flat_map f) (range-more 1 count)
+    ∙ flat_map-append f (range_with_len 1 count) ((1 + count) ∷ [])
+    ∙ ap (λ (rows : List T). flat_map f (range_with_len 1 count) ++ rows)
+    (one-row (f (1 + count)) ∙ ap f (omega arith))
+  where
+    one-row : (xs : List T) → xs ++ [] ≡ xs
+    one-row [] = refl
+    one-row (x ∷ xs) = ap (λ (ys : List T). x ∷ ys) (one-row xs)
+
+-- ---- where a climb ends
+
+module _ (ask : Asked) (most : ℕ) (formula : ℕ → Cnf) (good : ℕ → RouteText → Type 0)
+    (before now : ShelfState) where
+  -- where the climb ends: at a width, with what was found there, and only at the last is that a
+  -- refutation
+  pub record EndsAt (came : Result Climbed Stop) : Type 0 where
+    pub width : ℕ
+    pub found : Result Found Stop
+    pub comes : ComesTo ask most formula good before now width found
+    pub is : climbed_outcome came ≡ found_outcome width found
+    pub last : found ≡ Ok Refuted → width ≡ most
+
+  -- if each width is refuted, so is the last
+  last-refuted : (top : ℕ) → top ≡ most → 1 ≤ top
+      → AreRefuted ask formula good top before now
+      → ComesTo ask most formula good before now top (Ok Refuted)
+  last-refuted zero is some h = absurd (omega (arith, some))
+  last-refuted (suc below) is some (between, lower, found) = record {
+    below = below;
+    next = refl;
+    within = omega (arith, is);
+    between = between;
+    refuted = lower;
+    then = found;
+  }
+
+  pub climb-ends : 1 ≤ most → (came : Result Climbed Stop)
+      → ClimbsTo ask most formula good before now came → EndsAt came
+  climb-ends some (Ok (IsLeast width)) h =
+      record { width = width; found = Ok IsRouted; comes = h; is = refl; last = λ bad. cc }
+  climb-ends some (Ok (HasNone width)) h = record {
+    width = most;
+    found = Ok Refuted;
+    comes = last-refuted most refl some h.1;
+    is = ap Unroutable h.0;
+    last = λ same. refl;
+  }
+  climb-ends some (Ok (IsOpen width learned)) h =
+      record { width = width; found = Ok (Spent learned); comes = h; is = refl; last = λ bad. cc }
+  climb-ends some (Err stop) h =
+      record { width = h.0; found = Err stop; comes = h.1; is = refl; last = λ bad. cc }
+
+-- ---- what a climb has shown of lower widths
+
+module _ (search : Search) (p : RoutingProblem) (fits : Fits p) where
+  -- the widths up to this one were refuted
+  abbrev HasClimbed : ℕ → ShelfState → ShelfState → Type 0
+  HasClimbed =
+      AreRefuted search.ask (λ width. cnf_of width p) (λ width. IsRoutingOf width p)
+
+  -- a width was refuted, behind lower ones
+  module _ (below : ℕ) (between now : ShelfState) (found : FindsAt search.ask (suc below)
+      (cnf_of (suc below) p) (IsRoutingOf (suc below) p) between now (Ok Refuted)) where
+    abbrev wrote : WritesLog search.ask (suc below) (cnf_of (suc below) p)
+        (IsRefutedBy search.ask (cnf_of (suc below) p) (IsRoutingOf (suc below) p)) between now
+    wrote = found.1
+
+    refuted-at : IsRefutedAt search p (suc below) wrote.log
+    refuted-at = record {
+      few = found.0;
+      refuted = wrote.ends;
+      none_legal = none-legal (suc below) p wrote.log fits wrote.ends.refutes.accepts;
+      reads_back = record { clauses = wrote.clauses_back; steps = wrote.log_back };
+    }
+
+  -- the shelf has not failed meanwhile
+  pub climbed-calm : (below : ℕ) (before now : ShelfState) → HasClimbed below before now
+      → now.faults ≡ before.faults
+  climbed-calm zero before now h = ap (λ (s : ShelfState). s.faults) h
+  climbed-calm (suc below) before now (between, lower, found) =
+      ap (λ (s : ShelfState). s.faults) (wrote below between now found).written
+      ∙ climbed-calm below before between lower
+
+  -- the clauses are few and no routing is legal
+  pub climbed-unroutable : (below : ℕ) (before now : ShelfState) → HasClimbed below before now
+      → (k : ℕ) → 1 ≤ k → k ≤ below → HasFew (cnf_of k p) × IsUnroutableAt k p
+  climbed-unroutable zero before now h k low high = absurd (omega (arith, low, high))
+  climbed-unroutable (suc below) before now (between, lower, found) k low high =
+      elim (next-or-below k below high) [
+        | inl same ↦ (let this = refuted-at below between now found in
+            subst (λ (n : ℕ). HasFew (cnf_of n p) × IsUnroutableAt n p) (sym same)
+            (this.few, this.none_legal))
+        | inr less ↦ climbed-unroutable below before between lower k low less
+      ]
+
+  -- there are the clauses and a log of each
+  pub record HasLogs (below : ℕ) (before now : Option FileMap) : Type 0 where
+    pub logs : ℕ → List Step
+    pub refuted : (k : ℕ) → 1 ≤ k → k ≤ below → IsRefutedAt search p k (logs k)
+    pub files : now ≡ with_files
+        (flat_map (λ k. proof_files search p k (logs k)) (range_with_len 1 below)) before
+
+  -- so with one width more
+  one-more : (below : ℕ) (before between now : Option FileMap) (log : List Step)
+      → IsRefutedAt search p (suc below) log
+      → now ≡ with_files (proof_files search p (suc below) log) between
+      → HasLogs below before between → HasLogs (suc below) before now
+  one-more below before between now log refuted written h =
+      let logs : ℕ → List Step = (λ k. later below k log (h.logs k)) in
+      let at : logs (suc below) ≡ log = later-above below log (h.logs (suc below)) in
+      let old : (k : ℕ) → k ≤ below → logs k ≡ h.logs k =
+      (λ k low. later-upto below k log (h.logs k) low) in
+      let files_of : (ℕ → List Step) → ℕ → List NamedText =
+      (λ of k. proof_files search p k (of k)) in
+      let lower = rows-alike (files_of logs) (files_of h.logs) 1 below
+      (λ k low high. ap (proof_files search p k) (old k (omega (arith, high)))) in
+      let all : flat_map (files_of logs) (range_with_len 1 (suc below))
+      ≡ flat_map (files_of h.logs) (range_with_len 1 below)
+      ++ proof_files search p (suc below) log =
+      rows-more (files_of logs) below
+      ∙ (λ i. lower i ++ proof_files search p (suc below) (at i)) in
+      record {
+        logs = logs;
+        refuted = λ k low high. elim (next-or-below k below high) [
+          | inl same ↦ subst (λ (n : ℕ). IsRefutedAt search p n (logs n)) (sym same)
+              (subst (IsRefutedAt search p (suc below)) (sym at) refuted)
+          | inr lower ↦ subst (IsRefutedAt search p k) (sym (old k lower)) (h.refuted k low lower)
+        ];
+        files = written
+            ∙ ap (with_files (proof_files search p (suc below) log)) h.files
+            ∙ sym (with_files-append
+            (flat_map (files_of h.logs) (range_with_len 1 below))
+            (proof_files search p (suc below) log) before)
+            ∙ ap (λ (fs : List NamedText). with_files fs before) (sym all);
+      }
+
+  pub climbed-logs : (below : ℕ) (before now : ShelfState) → HasClimbed below before now
+      → HasLogs below before.files now.files
+  climbed-logs zero before now h = record {
+    logs = λ k. [];
+    refuted = λ k low high. absurd (omega (arith, low, high));
+    files = ap (λ (s : ShelfState). s.files) h;
+  }
+  climbed-logs (suc below) before now (between, lower, found) =
+      one-more below before.files between.files now.files (wrote below between now found).log
+      (refuted-at below between now found)
+      (ap (λ (s : ShelfState). s.files) (wrote below between now found).written)
+      (climbed-logs below before between lower)

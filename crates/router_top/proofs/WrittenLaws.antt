@@ -1,0 +1,81 @@
+-- Files that were written one after the other stand with their texts, where their names differ.
+use Rattle.std.proofs.Common.{◌≡◌, ◌≢◌, ◌∙◌, Bool, true, false, cond, List, [], ◌∷◌, ◌++◌, Option, Some, None, refl, sym, subst}
+use Rattle.std.specs.Prelude.{⊤}
+use Rattle.std.specs.List.{All}
+use Rattle.std.specs.FinMap.{get, insert, get-insert}
+use Rattle.std.specs.Cmp.Lexicographic.{nat_list_cmp_total}
+use Rattle.std.proofs.lemmas.List.Elements.{All-cons, All-nil}
+use Rattle.desk_io.specs.Files.{Bytes, FileMap}
+use Rattle.desk_io.proofs.FileLemmas.{get-inserted, same_name, same_name-eq}
+use Rattle.list_laws.proofs.Places.{some_is}
+use Rattle.router_top.specs.Sources.{HasBytes}
+use Rattle.router_top.specs.Written.{AreWritten, NamedText, with_file, with_files}
+
+-- ---- one file
+
+-- a file of another name is as it was
+get-other : (m : FileMap) (k v q : Bytes) → q ≢ k → get (insert m k v) q ≡ get m q
+get-other m k v q other = get-insert nat_list_cmp_total m k v q ∙ by-test (same_name q k) refl
+  where
+    by-test : (b : Bool) → same_name q k ≡ b → cond b (Some v) (get m q) ≡ get m q
+    by-test true same = absurd (other (same_name-eq q k same))
+    by-test false same = refl
+
+-- a file that was written is there
+there : (file : NamedText) (files : Option FileMap) →
+    HasBytes (with_file file files) file.name file.text
+there file None = λ fs told. cc
+there file (Some old) = λ fs told.
+    subst (λ (m : FileMap). get m file.name ≡ Some file.text) (some_is told)
+    (get-inserted old file.name file.text)
+
+-- one of another name stays
+stays : (file : NamedText) (files : Option FileMap) (name text : Bytes) → name ≢ file.name →
+    HasBytes files name text → HasBytes (with_file file files) name text
+stays file None name text other h = λ fs told. cc
+stays file (Some old) name text other h = λ fs told.
+    subst (λ (m : FileMap). get m name ≡ Some text) (some_is told)
+    (get-other old file.name file.text name other ∙ h old refl)
+
+-- ---- more of them
+
+-- none of these files has the name
+abbrev pub NoneHas : Bytes → List NamedText → Type 0
+NoneHas name [] = ⊤
+NoneHas name (file ∷ more) = (name ≢ file.name) × NoneHas name more
+
+-- no two of these files have one name
+abbrev pub AreApart : List NamedText → Type 0
+AreApart [] = ⊤
+AreApart (file ∷ more) = NoneHas file.name more × AreApart more
+
+stays-behind : (more : List NamedText) (files : Option FileMap) (name text : Bytes) →
+    NoneHas name more → HasBytes files name text → HasBytes (with_files more files) name text
+stays-behind [] files name text none h = h
+stays-behind (file ∷ more) files name text none h =
+    stays-behind more (with_file file files) name text none.1
+    (stays file files name text none.0 h)
+
+all-stand : (written : List NamedText) (files : Option FileMap) → AreApart written →
+    All (λ file. HasBytes (with_files written files) file.name file.text) written
+all-stand [] files apart = All-nil (λ file. HasBytes files file.name file.text)
+all-stand (file ∷ more) files apart =
+    All-cons (λ one. HasBytes (with_files more (with_file file files)) one.name one.text) file more
+    (stays-behind more (with_file file files) file.name file.text apart.0 (there file files))
+    (all-stand more (with_file file files) apart.1)
+
+-- files whose names differ were written
+pub are-written : (written : List NamedText) (before now : Option FileMap) →
+    now ≡ with_files written before → AreApart written → AreWritten written before now
+are-written written before now only apart = record {
+  only = only;
+  stand = subst (λ (files : Option FileMap).
+      All (λ file. HasBytes files file.name file.text) written) (sym only)
+      (all-stand written before apart);
+}
+
+-- files behind others
+pub with_files-append : (xs ys : List NamedText) (files : Option FileMap) →
+    with_files (xs ++ ys) files ≡ with_files ys (with_files xs files)
+with_files-append [] ys files = refl
+with_files-append (x ∷ xs) ys files = with_files-append xs ys (with_file x files)

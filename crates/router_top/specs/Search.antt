@@ -1,0 +1,51 @@
+-- The searches that jobs ask for: for a routing at one width, or at the least width that has one.
+use Rattle.std.specs.Prelude.{ℕ, ◌-◌, true, false, List, Option, None, Some}
+use Rattle.std.specs.List.{range_with_len}
+use Rattle.route_sweep.specs.Asked.{Asked}
+use Rattle.router_words.specs.Job.{FilesAsked, JobAsked, RouteAsked, Routes, SweepAsked, Sweeps}
+
+-- a search of the problem of these files at the widths from the first on, one after the other, until
+-- one is not refuted or the last one was; and what is asked of it at each width
+pub record Search : Type 0 where
+  pub files : FilesAsked
+  pub first : ℕ
+  pub last : ℕ
+  pub ask : Asked
+
+-- `route` searches at its width alone
+abbrev pub route_search : RouteAsked → Search
+route_search job = record {
+  files = job.files;
+  first = job.width;
+  last = job.width;
+  ask = record {
+    budget = job.conflicts;
+    keep = job.keep;
+    prefix = job.prefix;
+    numbered = false;
+  };
+}
+
+-- `sweep` searches from width 1 on, and the names of clauses and logs have the width in them
+abbrev pub sweep_search : SweepAsked → Search
+sweep_search job = record {
+  files = job.files;
+  first = 1;
+  last = job.most;
+  ask = record {
+    budget = job.conflicts;
+    keep = job.keep;
+    prefix = job.prefix;
+    numbered = true;
+  };
+}
+
+-- the search that a job asks for
+abbrev pub search_asked : JobAsked → Option Search
+search_asked (Routes job) = Some (route_search job)
+search_asked (Sweeps job) = Some (sweep_search job)
+search_asked job = None
+
+-- the widths of the search that are lower than this one
+abbrev pub lower_widths : Search → (width : ℕ) → List ℕ
+lower_widths search width = range_with_len search.first (width - search.first)
