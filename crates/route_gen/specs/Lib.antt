@@ -1,0 +1,7 @@
+pub mod Draws
+pub mod Generated
+pub mod Netlists
+pub mod Placements
+pub mod Routes
+pub mod Texts
+pub mod Traces
