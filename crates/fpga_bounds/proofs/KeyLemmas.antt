@@ -152,15 +152,6 @@ one_more_pin k e q o p h =
     rw h (and_cond_or (is_pin q.kind) (is_eq (key_cmp (pin_key e) (pin_key q))) o (same_pin q e)
     (pin_key_ties e q p))
 
--- what is no pin is at no pin
-pub no_pin : (q e : Elem) → is_pin e.kind ≡ false → same_pin q e ≡ false
-no_pin q e h = rw h (go (is_pin q.kind))
-  where
-    go : (b : Bool) → (b && false && (q.x == e.x && q.y == e.y && same_label q.label e.label) &&
-        q.number == e.number) ≡ false
-    go true = refl
-    go false = refl
-
 -- one net more whose pins are taken
 pub pins-more : (nets : List RouteNet) (n : ℕ) (net : RouteNet) (e : Elem) → slice_get nets n
     ≡ Some net

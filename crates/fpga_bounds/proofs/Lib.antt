@@ -1,5 +1,5 @@
 pub mod CellOrder
-pub mod InPlaceLemmas
+pub mod CopyLemmas
 pub mod KeyLemmas
 pub mod LineLemmas
 pub mod PairLemmas

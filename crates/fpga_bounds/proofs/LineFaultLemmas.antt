@@ -1,24 +1,20 @@
 -- What a line is refused for, by what the code has at hand.
-use Rattle.std.proofs.Common.{◌≡◌, Bool, false, Option, sym, ap, ◌∙◌, List, subst}
+use Rattle.std.proofs.Common.{◌≡◌, Bool, false, Option, sym, ap, ◌∙◌}
 use Rattle.std.specs.Prelude.{◌&&◌, not}
 use Rattle.std.specs.BTreeSet.{BTreeSet}
 use Rattle.std.specs.List.{list_any}
-use Rattle.std.specs.Option.{option_map_or, option_or}
+use Rattle.std.specs.Option.{option_map_or}
 use Rattle.fpga_text.specs.Bytes.{Bytes}
 use Rattle.fpga_text.specs.Codes.{first_code}
-use Rattle.fpga_text.specs.FirstFault.{Faults, IsFaultless, IsRefusal, first_fault}
-use Rattle.fpga_text.specs.declared.fault.TextFault.{TextFault}
-use Rattle.fpga_types.specs.Fit.{LineContext, RouteLine, line_fault, line_number}
-use Rattle.fpga_types.specs.Fits.{device_of, has_net, is_known, lacks_sink, net_line_fault, problem_codes, problem_fault, so_far}
+use Rattle.fpga_types.specs.Fit.{LineContext, RouteLine, fit_codes, line_fault, line_number}
+use Rattle.fpga_types.specs.Fits.{device_of, has_net, is_known, lacks_sink, problem_codes, problem_fault, so_far}
 use Rattle.fpga_types.specs.Problem.{RoutingProblem}
 use Rattle.fpga_types.specs.Size.{Size}
 use Rattle.fpga_types.specs.Terminals.{driver_named, is_input, is_terminal, sinks_named}
 use Rattle.fpga_types.specs.declared.problem.Terminal.{Terminal}
 use Rattle.fpga_types.specs.declared.route.Elem.{Elem}
-use Rattle.fpga_types.specs.declared.route.RouteNet.{RouteNet}
-use Rattle.fpga_bounds.specs.LineFault.{IsLineOf}
-use Rattle.fpga_bounds.specs.NetEnds.{NamedNet, lacks_one}
-use Rattle.fpga_bounds.specs.NetFit.{elems_faults}
+use Rattle.fpga_bounds.specs.ElemContext.{IsLineOf, context_at}
+use Rattle.fpga_bounds.specs.NetEnds.{lacks_one}
 use Rattle.fpga_bounds.specs.ProblemContext.{problem_context_at}
 use Rattle.fpga_bounds.specs.declared.elem_context.ElemContext.{ElemContext}
 use Rattle.fpga_bounds.specs.declared.keys.ElemKey.{ElemKey}
@@ -28,6 +24,11 @@ module _ (at : ElemContext) (seen : BTreeSet ElemKey) (line : RouteLine) (is : I
     line) where
   number : at.elem.line ≡ line_number line
   number = λ i. option_map_or (λ (e : Elem). e.line) (sym is.elem i) line.net.line
+
+  -- by the route alone
+  pub by-route : (grid : Size) → first_code fit_codes grid at.elem.line (context_at at)
+      ≡ line_fault grid line
+  by-route grid = λ i. first_code fit_codes grid (number i) (is.context i)
 
   -- by the ends of its net
   pub by-ends : (p : RoutingProblem) (name : Bytes) (driver : Option Terminal)
@@ -58,20 +59,3 @@ module _ (at : ElemContext) (seen : BTreeSet ElemKey) (line : RouteLine) (is : I
           && ap (λ (c : LineContext). c.last) is.context k
           && (ap (λ n. lacks_one seen (sinks_named p n)) named
           ∙ lacks-lines seen (so_far line) (sinks_named p line.net.name) is.seen_are) k
-
--- with the ends of a net of a problem, a line's fault is the problem's
-module _ (p : RoutingProblem) (of : NamedNet) (name : Bytes) (grid : Size)
-    (is : of ≡ record { problem = p; name = name }) (same : grid ≡ p.route.grid)
-    (earlier : List RouteNet) (net : RouteNet) where
-  abbrev faults_by : NamedNet → Size → Faults
-  faults_by n g = elems_faults
-      (λ line. option_or (problem_fault n.problem line) (line_fault g line)) earlier net 0
-
-  pub problem-clean : IsFaultless (faults_by of grid)
-      → IsFaultless (elems_faults (net_line_fault p) earlier net 0)
-  problem-clean clean = (λ i. first_fault (faults_by (sym is i) (sym same i))) ∙ clean
-
-  pub problem-refused : (found : TextFault) → IsRefusal (faults_by of grid) found
-      → IsRefusal (elems_faults (net_line_fault p) earlier net 0) found
-  problem-refused found = subst (λ (f : Faults). IsRefusal f found)
-      (λ i. faults_by (is i) (same i))

@@ -1,6 +1,6 @@
 -- The faults of a net's lines, taken line by line.
 use Rattle.std.proofs.Common.{◌≡◌, ℕ, zero, suc, ◌+◌, ◌-◌, ◌<◌, ◌≤◌, Bool, true, false, Option, Some, None, List, [], ◌∷◌, ◌++◌, length, take, drop, get_or, refl, sym, ap, subst, ◌∙◌, arith, length-drop, add-one}
-use Rattle.std.specs.Prelude.{◌&&◌, ◌||◌, ◌==◌, not, map, flat_map, slice_get, option_map, if◌then◌else◌}
+use Rattle.std.specs.Prelude.{◌&&◌, ◌==◌, not, map, flat_map, slice_get, option_map, if◌then◌else◌}
 use Rattle.std.specs.BTreeSet.{BTreeSet}
 use Rattle.std.specs.List.{list_any, last_or}
 use Rattle.std.specs.Option.{option_or}
@@ -15,7 +15,7 @@ use Rattle.fpga_text.proofs.FaultLemmas.{IsPast, past-line, past-part, refusal-l
 use Rattle.fpga_text.specs.declared.fault.TextFault.{TextFault}
 use Rattle.fpga_text.specs.declared.fault.TextFault.TheVariants.{Bad, Limit, Memory}
 use Rattle.fpga_types.specs.Size.{Size}
-use Rattle.fpga_types.specs.Fit.{LineContext, RouteLine, comes_again, context_of, fit_codes, fit_faults, is_out_of_order, is_pin_of, leaps, line_fault, net_lines, same_elem, slots_past, splits, starts_loose}
+use Rattle.fpga_types.specs.Fit.{LineContext, RouteLine, comes_again, context_of, fit_codes, is_out_of_order, is_pin_of, leaps, line_fault, net_lines, same_elem, slots_past, splits, starts_loose}
 use Rattle.fpga_types.specs.Kinds.{is_channel}
 use Rattle.fpga_types.specs.Slots.{channel_at, elem_slot, same_slot, slots_of}
 use Rattle.fpga_types.specs.declared.limits.TheConstants.{SLOT_LIMIT}
@@ -26,13 +26,11 @@ use Rattle.fpga_types.specs.declared.route.ElemKind.{ElemKind}
 use Rattle.fpga_types.specs.declared.route.ElemKind.TheVariants.{Source, Opin, ChanX, ChanY, Ipin, Sink}
 use Rattle.fpga_types.specs.declared.route.Label.TheVariants.{Class}
 use Rattle.fpga_types.specs.declared.route.RouteNet.{RouteNet}
-use Rattle.fpga_types.specs.declared.route.RouteText.{RouteText}
 use Rattle.fpga_types.proofs.FitLemmas.{drop-splits, drop-splits_none}
 use Rattle.fpga_bounds.specs.Keys.{has_elem}
-use Rattle.fpga_bounds.specs.LineFault.{IsLineOf}
+use Rattle.fpga_bounds.specs.ElemContext.{IsLineOf}
 use Rattle.fpga_bounds.specs.NetFit.{elems_faults, head_line, line_at, nets_faults, slots_so_far}
 use Rattle.fpga_bounds.specs.declared.keys.ElemKey.{ElemKey}
-use Rattle.fpga_bounds.specs.Refusal.{IsRefusalOf, untold}
 use Rattle.fpga_bounds.proofs.SlotsOfLemmas.{again-slot}
 
 -- the line of the element at this position
@@ -187,15 +185,6 @@ line-of earlier net elems i slots previous again taken full seen own within so_f
     last : (i + 1 == length elems) ≡ (length (drop (suc i) elems) == 0)
     last = rw length-drop (ends i (length elems) within)
 
--- a fault is not told
-pub refused : (route : RouteText) (found : TextFault) → IsRefusal (fit_faults route) found
-    → IsRefusalOf route (untold found)
-refused route (Bad line code) is =
-    (refl, refl, λ fit. let clash : None ≡ Some (Bad line code) = sym fit ∙ is in cc)
-refused route (Limit code count) is =
-    (refl, refl, λ fit. let clash : None ≡ Some (Limit code count) = sym fit ∙ is in cc)
-refused route Memory is = tt
-
 -- a line without a fault passes each test
 pub record Passes (grid : Size) (at : LineContext) : Type 0 where
   pub leaps : leaps grid at ≡ false
@@ -268,18 +257,3 @@ slot-room grid earlier net i e s clean slot new limit =
 pub slots-all : (earlier : List RouteNet) (net : RouteNet) (i : ℕ) → i ≡ length net.elems
     → slots_so_far earlier net i ≡ slots_of (earlier ++ net ∷ [])
 slots-all earlier net i e = rw (e, take-length net.elems) refl
-
--- the Net line has no fault where the net is global or has elements, and else is out of order
-pub head-fault : (grid : Size) (earlier : List RouteNet) (net : RouteNet) (bare : Bool)
-    → bare ≡ ((length net.elems == 0) && not net.global) → line_fault grid (head_line earlier net)
-    ≡ (if bare then Some (Bad net.line 514) else None)
-head-fault grid earlier net bare is =
-    go (length net.elems == 0) net.global
-    ∙ ap (λ b. if b then Some (Bad net.line 514) else None) (sym is)
-  where
-    go : (b g : Bool) → (if not g && (false || b && true) then Some (Bad net.line 514) else None)
-        ≡ (if b && not g then Some (Bad net.line 514) else None)
-    go true true = refl
-    go true false = refl
-    go false true = refl
-    go false false = refl

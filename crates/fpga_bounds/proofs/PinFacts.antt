@@ -1,6 +1,5 @@
 -- The pin steps of a problem that fits: their slots are slots of the route, and their pins touch
--- the
--- cells of these.
+-- the cells of these.
 use Rattle.std.proofs.Common.{◌≡◌, ◌⊎◌, ℕ, suc, ◌<◌, Bool, true, false, Option, Some, None, List, length, take, drop, inl, inr, refl, sym, subst, arith}
 use Rattle.std.specs.Prelude.{◌&&◌, ◌||◌, All, not, filter_map, slice_get, if◌then◌else◌}
 use Rattle.std.specs.List.{enumerate_from, last_or}
@@ -40,7 +39,7 @@ use Rattle.fpga_types.proofs.FitLemmas.{In-splits}
 use Rattle.fpga_types.proofs.FitsLemmas.{Fits-line}
 use Rattle.fpga_bounds.specs.NetFit.{line_at}
 use Rattle.fpga_bounds.specs.PinList.{pin_step_beside}
-use Rattle.fpga_bounds.specs.Posed.{IsPinStepTouching}
+use Rattle.fpga_bounds.specs.Problem.{IsPinStepTouching}
 use Rattle.fpga_bounds.proofs.LineLemmas.{elem_line, passes}
 use Rattle.fpga_bounds.proofs.StepFacts.{adjacent-there, each-all, each-brought, each-made, slot-cell, slot-in, slot-there}
 

@@ -1,25 +1,31 @@
--- A route that is set up to be solved: it fits, and its slots and steps are at hand.
+-- A routing problem that is set up to be solved: its four values fit, and the slots, the steps and
+-- the pin steps of its route are at hand.
 use Rattle.std.specs.Prelude.{◌≡◌, ℕ, ◌*◌, ◌<◌, ◌≤◌, List, length}
 use Rattle.fpga_types.specs.Fabric.{Meets}
-use Rattle.fpga_types.specs.Fit.{IsFit}
+use Rattle.fpga_types.specs.Fits.{Fits}
+use Rattle.fpga_types.specs.Given.{IsGiven}
+use Rattle.fpga_types.specs.Pins.{HasPin}
+use Rattle.fpga_types.specs.Problem.{RoutingProblem}
 use Rattle.fpga_types.specs.Size.{Size}
-use Rattle.fpga_types.specs.Sound.{IsSound}
-use Rattle.fpga_types.specs.Slots.{pairs, slots, steps, slot_at}
+use Rattle.fpga_types.specs.Slots.{pairs, pin_steps, slot_at, slots, steps}
+use Rattle.fpga_types.specs.Touching.{Touches}
 use Rattle.fpga_types.specs.declared.limits.TheConstants.{SLOT_LIMIT, STEP_LIMIT}
+use Rattle.fpga_types.specs.declared.problem.PinStep.{PinStep}
 use Rattle.fpga_types.specs.declared.problem.RouteStep.{RouteStep}
 use Rattle.fpga_types.specs.declared.problem.Slot.{Slot}
-use Rattle.fpga_types.specs.declared.route.RouteText.{RouteText}
 
--- the route is one that was read and fits, these are its slots and its steps, and so many are the
--- pairs of its slots that take one cell
-pub record IsSetUp
-    (route : RouteText) (all : List Slot) (found : List RouteStep) (count : ℕ) : Type 0 where
-  pub sound : IsSound route
-  pub fits : IsFit route
-  pub pairs : count ≡ length (pairs (slots route))
-  pub slots : all ≡ slots route
-  pub steps : found ≡ steps route
+-- the values are given and fit; these are the slots, the steps and the pin steps of the route, and
+-- so many are the pairs of its slots that take one cell
+pub record IsPosed (p : RoutingProblem) (all : List Slot) (found : List RouteStep)
+    (pins : List PinStep) (count : ℕ) : Type 0 where
+  pub given : IsGiven p
+  pub fits : Fits p
+  pub slots_are : all ≡ slots p.route
+  pub steps_are : found ≡ steps p.route
+  pub pins_are : pins ≡ pin_steps p.route
+  pub pairs_are : count ≡ length (pairs (slots p.route))
   pub few_steps : length found ≤ STEP_LIMIT
+  pub few_pins : length pins ≤ STEP_LIMIT
   pub few_pairs : count ≤ SLOT_LIMIT * SLOT_LIMIT
 
 -- both slots of the step are some of these
@@ -29,3 +35,9 @@ IsStepWithin all s = (s.from < length all) × (s.to < length all)
 -- the cells of the step's slots meet
 abbrev pub IsStepMeeting : Size → List Slot → RouteStep → Type 0
 IsStepMeeting grid all s = Meets grid (slot_at all s.from).cell (slot_at all s.to).cell
+
+-- the pin is one of the architecture, the slot is one of the route, and the pin touches its cell
+pub record IsPinStepTouching (p : RoutingProblem) (step : PinStep) : Type 0 where
+  pub within : step.slot < length (slots p.route)
+  pub has_pin : HasPin p.arch step.pin
+  pub touches : Touches p.arch p.route.grid step.pin (slot_at (slots p.route) step.slot).cell

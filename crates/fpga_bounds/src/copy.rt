@@ -1,14 +1,26 @@
-//! A copy of a route.
-ghost use Rattle.std.specs.Prelude.{◌≡◌, IfOk};
+//! A copy of a route with other tracks.
+ghost use Rattle.std.specs.Prelude.{◌≡◌, ◌≤◌, length, map, slice_index, IfOk};
+ghost use Rattle.fpga_bounds.specs.Copy.{net_with_tracks, nets_with_tracks};
+ghost use Rattle.fpga_types.specs.Legal.{route_of, with_track};
+ghost use Rattle.fpga_types.specs.Slots.{slots};
 
-use fpga_types::{Items, Name, RouteNet, RouteText};
+use crate::slot_table::SlotTable;
+use crate::step_list::number_of_elem;
+use fpga_types::{Elem, Items, NET_LIMIT, Name, RouteNet, RouteText};
 use std::alloc::{AllocError, Global};
 
-/// A route that is equal to this one.
-pub(crate) fn copied_route(alloc: Global, route: &RouteText) -> Result<RouteText, AllocError>
-    ensures { IfOk result (λ copy. copy ≡ route.now) }
+/// A copy of the route in which each channel line has the track of its slot.
+pub(crate) fn copied_route(
+    alloc: Global,
+    route: &RouteText,
+    table: &SlotTable,
+    tracks: &[u32],
+) -> Result<RouteText, AllocError>
+    requires nets { length route.now.nets ≤ NET_LIMIT }
+    requires slots { table.now ≡ slots route.now }
+    ensures { IfOk result (λ copy. copy ≡ route_of route.now tracks.now) }
 {
-    let nets = copied_nets(alloc, route.nets.as_slice())?;
+    let nets = copied_nets(alloc, route.nets.as_slice(), table, tracks)?;
     Ok(RouteText {
         grid: route.grid,
         grid_line: route.grid_line,
@@ -17,23 +29,35 @@ pub(crate) fn copied_route(alloc: Global, route: &RouteText) -> Result<RouteText
     })
 }
 
-/// Nets that are equal to these.
-fn copied_nets(alloc: Global, nets: &[RouteNet]) -> Result<Vec<RouteNet>, AllocError>
-    ensures { IfOk result (λ copy. copy.items ≡ nets.now) }
+/// Copies of the nets in which each channel line has the track of its slot.
+fn copied_nets(
+    alloc: Global,
+    nets: &[RouteNet],
+    table: &SlotTable,
+    tracks: &[u32],
+) -> Result<Vec<RouteNet>, AllocError>
+    requires { length nets.now ≤ NET_LIMIT }
+    ensures { IfOk result (λ copy. copy.items ≡ nets_with_tracks table.now tracks.now nets.now) }
 {
     let mut copy = Vec::with_capacity(alloc, nets.len())?;
-    for net in nets {
-        copy.push(copied_net(alloc, net)?)?;
+    for n in 0..nets.len() {
+        copy.push(copied_net(alloc, &nets[n], n as u32, table, tracks)?)?;
     }
     Ok(copy)
 }
 
-/// A net that is equal to this one.
-fn copied_net(alloc: Global, net: &RouteNet) -> Result<RouteNet, AllocError>
-    ensures { IfOk result (λ copy. copy ≡ net.now) }
+/// A copy of the net at position `n` in which each channel line has the track of its slot.
+fn copied_net(
+    alloc: Global,
+    net: &RouteNet,
+    n: u32,
+    table: &SlotTable,
+    tracks: &[u32],
+) -> Result<RouteNet, AllocError>
+    ensures { IfOk result (λ copy. copy ≡ net_with_tracks table.now tracks.now n net.now) }
 {
     let name = copied_name(alloc, &net.name)?;
-    let elems = Vec::from_slice(alloc, net.elems.as_slice())?;
+    let elems = copied_elems(alloc, net.elems.as_slice(), n, table, tracks)?;
     let kept = copied_names(alloc, net.kept.as_slice())?;
     Ok(RouteNet {
         k: net.k,
@@ -43,6 +67,46 @@ fn copied_net(alloc: Global, net: &RouteNet) -> Result<RouteNet, AllocError>
         elems: Items::of(elems),
         kept: Items::of(kept),
     })
+}
+
+/// The elements of the net at position `n`, each channel with the track of its slot.
+fn copied_elems(
+    alloc: Global,
+    elems: &[Elem],
+    n: u32,
+    table: &SlotTable,
+    tracks: &[u32],
+) -> Result<Vec<Elem>, AllocError>
+    ensures { IfOk result (λ copy. copy.items ≡ map (with_track table.now tracks.now n) elems.now) }
+{
+    let mut copy = Vec::with_capacity(alloc, elems.len())?;
+    for e in elems {
+        copy.push(elem_with_track(*e, n, table, tracks))?;
+    }
+    Ok(copy)
+}
+
+/// The element with the track of its slot, if it is a channel.
+fn elem_with_track(e: Elem, n: u32, table: &SlotTable, tracks: &[u32]) -> Elem
+    ensures { result ≡ with_track table.now tracks.now n e }
+{
+    let Some(number) = number_of_elem(table, n, e) else {
+        return e;
+    };
+    Elem {
+        number: track_at(tracks, number),
+        ..e
+    }
+}
+
+/// The track of a slot, or 0 past the end.
+fn track_at(tracks: &[u32], slot: u32) -> u32
+    ensures { result ≡ slice_index tracks.now slot }
+{
+    match tracks.get(slot as usize) {
+        Some(track) => *track,
+        None => 0,
+    }
 }
 
 /// Names that are equal to these.

@@ -29,7 +29,7 @@ pub(crate) struct ElemContext {
     pub global: bool,
 }
 
-/// What is wrong with the line, by the least code that holds there.
+/// What is wrong with the line, by the least code of the route alone that holds there.
 pub(crate) fn elem_fault(grid: Grid, at: ElemContext) -> Option<TextFault>
     ensures { result ≡ first_code fit_codes grid at.elem.line (context_at at) }
 {

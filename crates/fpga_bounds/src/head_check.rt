@@ -1,5 +1,5 @@
 //! Whether the Net line of a net fits its netlist, and which nets have had one.
-ghost use Rattle.std.specs.Prelude.{◌≡◌, ◌∷◌, ◌++◌, [], List, IfSome, OnOk, length, is_some, true};
+ghost use Rattle.std.specs.Prelude.{◌≡◌, ◌==◌, ◌&&◌, not, ◌∷◌, ◌++◌, [], List, IfSome, OnOk, length, is_some, true};
 ghost use Rattle.std.specs.List.{list_any};
 ghost use Rattle.fpga_text.specs.FirstFault.{AnswersFault};
 ghost use Rattle.fpga_bounds.specs.Heads.{IsKnownAs, bare_fault as said_fault, is_known_in, lacks_line};
@@ -10,7 +10,6 @@ ghost use Rattle.fpga_types.specs.Terminals.{sinks_named};
 ghost use Rattle.fpga_types.specs.declared.route.RouteNet.{RouteNet};
 
 use crate::design::Design;
-use crate::net_check::is_bare;
 use crate::net_ends::NetEnds;
 use crate::net_table::NetTable;
 use fpga_text::{Coded, TextFault};
@@ -76,6 +75,13 @@ fn are_alike(a: bool, b: bool) -> bool
     ensures { result ≡ agree a b }
 {
     if a { b } else { !b }
+}
+
+/// Whether the net is ordinary and has no element.
+fn is_bare(net: &RouteNet) -> bool
+    ensures { result ≡ (length net.now.elems == 0 && not net.now.global) }
+{
+    net.elems.as_slice().is_empty() && !net.global
 }
 
 /// What is wrong with the Net line of an ordinary net that has no element: it ends the net without

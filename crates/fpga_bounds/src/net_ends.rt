@@ -2,14 +2,14 @@
 ghost use Rattle.std.specs.Prelude.{◌≡◌, ◌&&◌, not, filter_map, option_and_then, Some, IfOk, OnOk};
 ghost use Rattle.std.specs.List.{list_any};
 ghost use Rattle.std.specs.Option.{option_to_list};
+ghost use Rattle.fpga_bounds.specs.ElemContext.{IsLineOf};
 ghost use Rattle.fpga_bounds.specs.NetEnds.{GainsTerminal, HasTerminals, lacks_one, sink_line as sink_at};
-ghost use Rattle.fpga_bounds.specs.LineFault.{IsLineOf};
 ghost use Rattle.fpga_types.specs.Fit.{RouteLine};
-ghost use Rattle.fpga_types.specs.Fits.{problem_fault as refusal};
+ghost use Rattle.fpga_types.specs.Fits.{net_line_fault, problem_fault as refusal};
 ghost use Rattle.fpga_types.specs.Terminals.{driver_named, is_terminal, net_named, sinks_named, terminal_of};
 
 use crate::design::Design;
-use crate::elem_context::ElemContext;
+use crate::elem_context::{ElemContext, elem_fault};
 use crate::keys::{ElemKey, is_seen, see};
 use crate::problem_context::{ProblemContext, problem_fault};
 use fpga_text::TextFault;
@@ -95,9 +95,21 @@ impl<'a> NetEnds<'a> {
         !at.global && at.last && self.lacks(seen)
     }
 
-    /// What is wrong with a line of the net, by the least code that is not one of the route alone;
-    /// the set has the elements of the net up to the line.
+    /// What is wrong with a line of the net, by the least code that holds there; the set has the
+    /// elements of the net up to the line.
     pub(crate) fn fault(&self, at: ElemContext, seen: &BTreeSet<ElemKey>) -> Option<TextFault>
+        ensures { (line : RouteLine) → self.now.name ≡ line.net.name → IsLineOf at seen.now line
+            → result ≡ net_line_fault self.now.problem line }
+    {
+        let design = self.design;
+        if let Some(fault) = self.fault_by_ends(at, seen) {
+            return Some(fault);
+        }
+        elem_fault(design.route.grid, at)
+    }
+
+    /// What is wrong with a line of the net, by the least code that is not one of the route alone.
+    fn fault_by_ends(&self, at: ElemContext, seen: &BTreeSet<ElemKey>) -> Option<TextFault>
         ensures { (line : RouteLine) → self.now.name ≡ line.net.name → IsLineOf at seen.now line
             → result ≡ refusal self.now.problem line }
     {

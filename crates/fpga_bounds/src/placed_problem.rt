@@ -1,19 +1,20 @@
 //! Four values that fit, with the slots, the steps and the pin steps of the route.
 ghost use Rattle.std.specs.Prelude.{◌≡◌, ◌≤◌, ◌*◌, All, length, IfOk};
 ghost use Rattle.fpga_text.specs.FirstFault.{Answers};
-ghost use Rattle.fpga_bounds.specs.Posed.{IsPinStepTouching};
-ghost use Rattle.fpga_bounds.specs.Problem.{IsStepMeeting, IsStepWithin};
+ghost use Rattle.fpga_bounds.specs.Problem.{IsPinStepTouching, IsStepMeeting, IsStepWithin};
 ghost use Rattle.fpga_types.specs.Fits.{Fits, problem_faults};
 ghost use Rattle.fpga_types.specs.Given.{IsGiven};
 ghost use Rattle.fpga_types.specs.Legal.{route_of};
 ghost use Rattle.fpga_types.specs.Problem.{problem_of};
 ghost use Rattle.fpga_types.specs.Slots.{pairs, pin_steps, slots, steps};
 
+use crate::copy::copied_route;
 use crate::design::Design;
+use crate::pairs::pair_count;
 use crate::pin_list::pin_steps_of;
-use crate::problem::{Problem, posed_route};
 use crate::problem_check::fitting_problem;
 use crate::slot_table::SlotTable;
+use crate::step_list::steps_of;
 use fpga_text::TextFault;
 use fpga_types::{
     Arch, Netlist, PinStep, Placement, RouteStep, RouteText, SLOT_LIMIT, STEP_LIMIT, Slot,
@@ -28,20 +29,23 @@ pub struct PlacedProblem {
     arch: Arch,
     netlist: Netlist,
     placement: Placement,
-    routed: Problem,
+    route: RouteText,
+    table: SlotTable,
+    steps: Vec<RouteStep>,
     pin_steps: Vec<PinStep>,
+    pairs: u64,
 }
 
 impl Model for PlacedProblem {
     ghost use Rattle.fpga_types.specs.Problem.{RoutingProblem, problem_of};
-    ghost use Rattle.fpga_bounds.specs.Posed.{IsPosed};
+    ghost use Rattle.fpga_bounds.specs.Problem.{IsPosed};
 
     ghost Value = { RoutingProblem };
 
-    ghost view = { λ p. problem_of p.arch p.netlist p.placement p.routed };
+    ghost view = { λ p. problem_of p.arch p.netlist p.placement p.route };
 
-    ghost invariant = { λ p. IsPosed (problem_of p.arch p.netlist p.placement p.routed)
-        p.pin_steps.items };
+    ghost invariant = { λ p. IsPosed (problem_of p.arch p.netlist p.placement p.route)
+        p.table p.steps.items p.pin_steps.items p.pairs };
 }
 
 /// Takes four values that were read for one another, if they fit. They are dropped on a refusal.
@@ -93,23 +97,10 @@ pub fn fit(
         Ok(table) => table,
         Err(fault) => return Err(fault),
     };
-    let Ok(pin_steps) = pin_steps_of(alloc, route.nets.as_slice(), &table) else {
+    let Ok(problem) = posed(alloc, arch, net, place, route, table) else {
         return Err(TextFault::Memory);
     };
-    // One more pin step would take more than 16 TiB.
-    if pin_steps.len() > STEP_LIMIT {
-        return Err(TextFault::Memory);
-    }
-    let Ok(routed) = posed_route(alloc, route, table) else {
-        return Err(TextFault::Memory);
-    };
-    Ok(PlacedProblem {
-        arch,
-        netlist: net,
-        placement: place,
-        routed,
-        pin_steps,
-    })
+    Ok(problem)
 }
 
 /// The table of the slots of the route, if the values fit, or their first fault.
@@ -128,6 +119,42 @@ fn fitting_table(
         return Err(TextFault::Memory);
     };
     fitting_problem(alloc, &design)
+}
+
+/// The problem of four values that fit, where these are the slots of the route.
+fn posed(
+    alloc: Global,
+    arch: Arch,
+    netlist: Netlist,
+    placement: Placement,
+    route: RouteText,
+    table: SlotTable,
+) -> Result<PlacedProblem, AllocError>
+    requires given { IsGiven (problem_of arch netlist placement route) }
+    requires fits { Fits (problem_of arch netlist placement route) }
+    requires slots { table ≡ slots route }
+    ensures { IfOk result (λ problem. problem ≡ problem_of arch netlist placement route) }
+{
+    let steps = steps_of(alloc, route.nets.as_slice(), &table)?;
+    let pin_steps = pin_steps_of(alloc, route.nets.as_slice(), &table)?;
+    // One more of them would take more than 8 TiB.
+    if steps.len() > STEP_LIMIT {
+        return Err(AllocError);
+    }
+    if pin_steps.len() > STEP_LIMIT {
+        return Err(AllocError);
+    }
+    let pairs = pair_count(alloc, table.as_slice())?;
+    Ok(PlacedProblem {
+        arch,
+        netlist,
+        placement,
+        route,
+        table,
+        steps,
+        pin_steps,
+        pairs,
+    })
 }
 
 impl PlacedProblem {
@@ -164,7 +191,7 @@ impl PlacedProblem {
         ensures given { IsGiven self.now }
         ensures fits { Fits self.now }
     {
-        self.routed.route()
+        &self.route
     }
 
     /// The slots, by number.
@@ -173,7 +200,7 @@ impl PlacedProblem {
         ensures limit { length result.now ≤ SLOT_LIMIT }
         ensures fits { Fits self.now }
     {
-        self.routed.slots()
+        self.table.as_slice()
     }
 
     /// The steps, in line order.
@@ -183,7 +210,7 @@ impl PlacedProblem {
         ensures within { All (IsStepWithin (slots self.now.route)) result.now }
         ensures meet { All (IsStepMeeting self.now.route.grid (slots self.now.route)) result.now }
     {
-        self.routed.steps()
+        self.steps.as_slice()
     }
 
     /// The pin steps, in line order.
@@ -200,7 +227,7 @@ impl PlacedProblem {
         ensures value { result ≡ length (pairs (slots self.now.route)) }
         ensures limit { result ≤ SLOT_LIMIT * SLOT_LIMIT }
     {
-        self.routed.pairs()
+        self.pairs
     }
 
     /// A copy of the route in which each channel line has the track of its slot.
@@ -208,6 +235,6 @@ impl PlacedProblem {
         requires { length tracks.now ≡ length (slots self.now.route) }
         ensures { IfOk result (λ route. route ≡ route_of self.now.route tracks.now) }
     {
-        self.routed.copy_with_tracks(alloc, tracks)
+        copied_route(alloc, &self.route, &self.table, tracks)
     }
 }

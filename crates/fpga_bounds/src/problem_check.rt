@@ -94,8 +94,7 @@ fn check_nets<'a>(
         (λ table. table ≡ slots design.now.route) result }
     ensures marked { OnOk result (HasNetLines names.now marks.new design.now.route.nets) }
 {
-    let route = design.route;
-    let nets = route.nets.as_slice();
+    let nets = design.route.nets.as_slice();
     let mut table = SlotTable::new(alloc);
     let mut pins = BTreeSet::new(alloc);
     for n in 0..nets.len() {
@@ -104,15 +103,7 @@ fn check_nets<'a>(
             Ok(ends) => ends,
             Err(fault) => return Err(fault),
         };
-        if let Err(fault) = check_elems(
-            alloc,
-            route.grid,
-            Some(&ends),
-            &nets[..n],
-            net,
-            &pins,
-            &mut table,
-        ) {
+        if let Err(fault) = check_elems(alloc, &ends, &nets[..n], net, &pins, &mut table) {
             return Err(fault);
         }
         let Ok(()) = take_pins(&mut pins, net.elems.as_slice()) else {

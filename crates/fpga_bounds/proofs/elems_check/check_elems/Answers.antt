@@ -4,8 +4,8 @@ use Rattle.std.proofs.lemmas.List.Folds.{list_any_more}
 use Rattle.list_laws.proofs.Places.{get-there, last-push, take-get}
 use Rattle.fpga_text.proofs.FaultLemmas.{option_or-none, past-nothing}
 use Rattle.fpga_types.specs.Fit.{line_fault, same_elem}
+use Rattle.fpga_types.specs.Fits.{net_line_fault, problem_fault}
 use Rattle.fpga_types.specs.declared.route.Elem.{Elem}
-use Rattle.fpga_bounds.specs.LineFault.{ends_fault, fault_with}
 use Rattle.fpga_bounds.proofs.LineLemmas.{NO_ELEM, elem_line, found-fault, get-none, line-of, past-elem, past-elems, refused-elem, slot-room, slots-all}
 use Rattle.fpga_bounds.proofs.SlotsOfLemmas.{slots-start, slots-step}
 use Rattle.fpga_bounds.proofs.elems_check.check_elems.Goals as goal
@@ -27,7 +27,7 @@ returns-in-Some-clause-refused c =
     let lt : i < length elems = omega arith in
     let here : slice_get elems i ≡ Some e = get-there elems i e NO_ELEM lt refl in
     let there : slice_get c.args.net.now.elems i ≡ Some e = rw (← c.as_slice-elems.ensures) here in
-    let fault = c.line_fault.ensures
+    let fault = c.fault.ensures
     (elem_line c.args.earlier.now c.args.net.now i e) c.requires.ends
     (line-of c.args.earlier.now c.args.net.now elems i c.loop-i.slots c.loop-i.previous
     c.is_seen-again.result c.is_taken.result c.is_full.result c.see.new.seen
@@ -36,7 +36,7 @@ returns-in-Some-clause-refused c =
     (c.is_taken.ensures ∙ c.requires.pins e) c.is_full.ensures.value
     (λ q. c.in-Ok.ensures q ∙ ap (λ (b : Bool). b || same_elem q e) (c.loop-i.invariant.seen q)
     ∙ sym (list_any_more (same_elem q) elems i NO_ELEM lt))) in
-    refused-elem (fault_with c.args.ends c.args.grid) _ c.args.earlier.now c.args.net.now i e there
+    refused-elem (net_line_fault c.args.ends.now.problem) _ c.args.earlier.now c.args.net.now i e there
     c.loop-i.invariant.past c.in-Some.fault (found-fault _ _ (sym c.in-Some.is ∙ fault))
 
 pub add_slot-requires : goal.add_slot-requires
@@ -49,7 +49,7 @@ add_slot-requires c = record {
       let here : slice_get elems i ≡ Some e = get-there elems i e NO_ELEM lt refl in
       let there : slice_get c.args.net.now.elems i
       ≡ Some e = rw (← c.as_slice-elems.ensures) here in
-      let fault = c.line_fault.ensures
+      let fault = c.fault.ensures
       (elem_line c.args.earlier.now c.args.net.now i e) c.requires.ends
       (line-of c.args.earlier.now c.args.net.now elems i c.loop-i.slots c.loop-i.previous
       c.is_seen-again.result c.is_taken.result c.is_full.result c.see.new.seen
@@ -59,10 +59,11 @@ add_slot-requires c = record {
       (λ q. c.in-Ok.ensures q ∙ ap (λ (b : Bool). b || same_elem q e) (c.loop-i.invariant.seen q)
       ∙ sym (list_any_more (same_elem q) elems i NO_ELEM lt))) in
       let line = elem_line c.args.earlier.now c.args.net.now i e in
-      let clean = option_or-none (ends_fault c.args.ends line) (line_fault c.args.grid line)
-      (sym fault ∙ c.in_default-line_fault.is) in
+      let clean = option_or-none (problem_fault c.args.ends.now.problem line)
+      (line_fault c.args.ends.now.problem.route.grid line)
+      (sym fault ∙ c.in_default-fault.is) in
       rw c.loop-i.invariant.slots
-      (slot-room c.args.grid c.args.earlier.now c.args.net.now i e s clean.1 slot
+      (slot-room c.args.ends.now.problem.route.grid c.args.earlier.now c.args.net.now i e s clean.1 slot
       (rw c.loop-i.invariant.slots at new)
       (rw c.loop-i.invariant.slots at c.is_full.ensures.limit));
 }
@@ -75,7 +76,7 @@ loop-i-preserved c =
     let lt : i < length elems = omega arith in
     let here : slice_get elems i ≡ Some e = get-there elems i e NO_ELEM lt refl in
     let there : slice_get c.args.net.now.elems i ≡ Some e = rw (← c.as_slice-elems.ensures) here in
-    let fault = c.line_fault.ensures
+    let fault = c.fault.ensures
     (elem_line c.args.earlier.now c.args.net.now i e) c.requires.ends
     (line-of c.args.earlier.now c.args.net.now elems i c.loop-i.slots c.loop-i.previous
     c.is_seen-again.result c.is_taken.result c.is_full.result c.see.new.seen
@@ -86,8 +87,8 @@ loop-i-preserved c =
     ∙ sym (list_any_more (same_elem q) elems i NO_ELEM lt))) in
     record {
       elems = c.loop-i.invariant.elems;
-      past = past-elem (fault_with c.args.ends c.args.grid) _ c.args.earlier.now c.args.net.now i e
-          there c.loop-i.invariant.past (sym fault ∙ c.in_default-line_fault.is);
+      past = past-elem (net_line_fault c.args.ends.now.problem) _ c.args.earlier.now c.args.net.now i e
+          there c.loop-i.invariant.past (sym fault ∙ c.in_default-fault.is);
       previous = rw (add-one, take-get elems i e here) (sym (last-push None (take i elems) e));
       seen = λ q. c.in-Ok.ensures q ∙ ap (λ (b : Bool). b || same_elem q e)
           (c.loop-i.invariant.seen q) ∙ sym (list_any_more (same_elem q) elems i NO_ELEM lt);
@@ -101,7 +102,7 @@ loop-i-preserved c =
 
 pub returns-clause-fits : goal.returns-clause-fits
 returns-clause-fits c =
-    past-elems (fault_with c.args.ends c.args.grid) _ c.args.earlier.now c.args.net.now c.loop-i.i
+    past-elems (net_line_fault c.args.ends.now.problem) _ c.args.earlier.now c.args.net.now c.loop-i.i
     (get-none c.args.net.now.elems c.loop-i.i (rw (← c.as_slice-elems.ensures) (omega arith)))
     c.loop-i.invariant.past
 

@@ -7,15 +7,13 @@ use Rattle.list_laws.proofs.Places.{take-get}
 use Rattle.fpga_text.specs.FirstFault.{IsFaultless, IsRefusal, first_fault}
 use Rattle.fpga_types.specs.Fit.{is_pin_of, same_pin}
 use Rattle.fpga_types.specs.Fits.{net_line_fault}
-use Rattle.fpga_types.specs.Problem.{RoutingProblem}
 use Rattle.fpga_types.specs.Slots.{slots_of}
 use Rattle.fpga_types.specs.declared.route.Elem.{Elem}
 use Rattle.fpga_types.specs.declared.route.RouteNet.{RouteNet}
 use Rattle.fpga_bounds.specs.NetEnds.{NamedNet}
-use Rattle.fpga_bounds.specs.NetFit.{nets_faults}
+use Rattle.fpga_bounds.specs.NetFit.{elems_faults, nets_faults}
 use Rattle.fpga_bounds.specs.NetTable.{HasNetLines}
 use Rattle.fpga_bounds.proofs.KeyLemmas.{pins-more}
-use Rattle.fpga_bounds.proofs.LineFaultLemmas.{problem-clean, problem-refused}
 use Rattle.fpga_bounds.proofs.LineLemmas.{get-none, nets-none, past-net, refused-elems, refused-head}
 use Rattle.fpga_bounds.proofs.problem_check.check_nets.Goals as goal
 
@@ -50,9 +48,9 @@ returns-in-Err-check_elems-clause-answers c =
     c.in-Err-check_elems.fault) c.loop-n.invariant.nets
     (refused-elems (net_line_fault c.args.design.now) _ nets c.loop-n.n net here
     c.loop-n.invariant.past head.0 c.in-Err-check_elems.fault
-    (problem-refused c.args.design.now c.in-Ok.ends net.name c.design.inside.route.now.grid head.1
-    (ap (λ (p : RoutingProblem). p.route.grid) c.design.view_is) (take c.loop-n.n nets) net
-    c.in-Err-check_elems.fault c.in-Err-check_elems.ensures.refused))
+    (subst (λ (of : NamedNet). IsRefusal
+    (elems_faults (net_line_fault of.problem) (take c.loop-n.n nets) net 0)
+    c.in-Err-check_elems.fault) head.1 c.in-Err-check_elems.ensures.refused))
 
 pub loop-n-preserved : goal.loop-n-preserved
 loop-n-preserved c =
@@ -66,9 +64,9 @@ loop-n-preserved c =
       nets = c.loop-n.invariant.nets;
       past = past-net (net_line_fault c.args.design.now) _ nets c.loop-n.n net here
           c.loop-n.invariant.past head.0
-          (problem-clean c.args.design.now c.in-Ok.ends net.name c.design.inside.route.now.grid
-          head.1 (ap (λ (p : RoutingProblem). p.route.grid) c.design.view_is)
-          (take c.loop-n.n nets) net c.in_default.ensures.fits);
+          (subst (λ (of : NamedNet). IsFaultless
+          (elems_faults (net_line_fault of.problem) (take c.loop-n.n nets) net 0)) head.1
+          c.in_default.ensures.fits);
       table = c.in_default.ensures.slots ∙ rw (add-one, take-get nets c.loop-n.n net here) refl;
       pins = λ e.
           c.in-Ok-take_pins.ensures e

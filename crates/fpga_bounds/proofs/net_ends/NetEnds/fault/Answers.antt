@@ -1,26 +1,19 @@
-use Rattle.std.proofs.Common.{◌∙◌, ap}
-use Rattle.fpga_text.specs.Codes.{first_code}
-use Rattle.fpga_types.specs.Fits.{device_of, problem_codes}
+use Rattle.std.proofs.Common.{◌≡◌, ◌∙◌, Option, None, sym, ap}
+use Rattle.std.specs.Option.{option_or}
+use Rattle.fpga_text.specs.declared.fault.TextFault.{TextFault}
+use Rattle.fpga_types.specs.Fit.{line_fault}
+use Rattle.fpga_types.specs.Fits.{problem_fault}
 use Rattle.fpga_types.specs.Problem.{RoutingProblem}
-use Rattle.fpga_types.specs.Terminals.{is_input}
 use Rattle.fpga_bounds.specs.NetEnds.{NamedNet}
-use Rattle.fpga_bounds.specs.ProblemContext.{problem_context_at}
-use Rattle.fpga_bounds.proofs.LineFaultLemmas.{by-ends}
+use Rattle.fpga_bounds.proofs.LineFaultLemmas.{by-route}
 use Rattle.fpga_bounds.proofs.net_ends.NetEnds.fault.Goals as goal
 
 pub returns : goal.returns
 returns c = λ line named is.
-    c.problem_fault.ensures
-    ∙ ap (λ (p : RoutingProblem). first_code problem_codes (device_of p) c.args.at.elem.line
-    (problem_context_at (record {
-      route = c.args.at;
-      driver = c.driver.result;
-      ends = c.is_sink.result;
-      takes_in = c.is_input.result;
-      lacking = c.is_lacking.result;
-    }))) (c.design.view_is ∙ ap (λ (n : NamedNet). n.problem) c.self.view_is)
-    ∙ by-ends c.args.at c.args.seen.now line is c.args.self.now.problem c.args.self.now.name
-    c.driver.result c.is_sink.result c.is_input.result c.is_lacking.result named c.driver.ensures
-    c.is_sink.ensures (c.is_input.ensures
-    ∙ ap (λ (n : NamedNet). is_input n.problem c.args.at.elem) c.self.view_is)
-    c.is_lacking.ensures
+    let none : problem_fault c.args.self.now.problem line ≡ None =
+    sym (c.fault_by_ends.ensures line named is) ∙ c.in_default.is in
+    c.elem_fault.ensures ∙ by-route c.args.at c.args.seen.now line is _
+    ∙ ap (λ (p : RoutingProblem). line_fault p.route.grid line)
+    (c.design.view_is ∙ ap (λ (n : NamedNet). n.problem) c.self.view_is)
+    ∙ ap (λ (o : Option TextFault). option_or o
+    (line_fault c.args.self.now.problem.route.grid line)) (sym none)
