@@ -1,9 +1,9 @@
 -- A line that adds a clause and has no fault, by the numbers that were taken from it.
-use Rattle.std.proofs.Common.{◌≡◌, ◌<◌, ◌^◌, ℕ, ℤ, pos, negsuc, Bool, false, true, List, [], ◌∷◌, ◌++◌, drop, slice_get, None, Some, refl, sym, ap, ◌∙◌, arith, append_assoc, append-nil}
+use Rattle.std.proofs.Common.{◌≡◌, ◌<◌, ℕ, ℤ, pos, negsuc, Bool, false, true, List, [], ◌∷◌, ◌++◌, drop, slice_get, None, Some, refl, ◌∙◌, arith, append_assoc, append-nil}
 use Rattle.std.specs.Prelude.{map, max, nat_abs, nat_le, not, option_and_then}
 use Rattle.std.specs.Int.Signed.{le_z}
 use Rattle.std.proofs.lemmas.Bool.Decides.{nat_tests}
-use Rattle.fpga_text.specs.Bytes.{Bytes, is_empty}
+use Rattle.fpga_text.specs.Bytes.{is_empty}
 use Rattle.fpga_text.specs.Numbers.{signed_number_of}
 use Rattle.fpga_text.specs.Words.{TextLine, Words}
 use Rattle.sat_clause.specs.declared.literal.Lit.{Lit}

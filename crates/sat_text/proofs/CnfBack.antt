@@ -1,7 +1,7 @@
 -- A printed formula is read as it is.
-use Rattle.std.proofs.Common.{◌≡◌, ◌≤◌, ◌<◌, ◌+◌, ◌^◌, ℕ, zero, suc, ℤ, pos, Bool, false, true, List, [], ◌∷◌, ◌++◌, length, None, Some, refl, sym, ap, ◌∙◌, arith, append_assoc, eq-eqb}
+use Rattle.std.proofs.Common.{◌≡◌, ◌≤◌, ◌<◌, ◌+◌, ◌^◌, ℕ, ℤ, pos, false, true, List, [], ◌∷◌, ◌++◌, length, None, Some, refl, sym, ap, ◌∙◌, arith, append_assoc}
 use Rattle.std.specs.Prelude.{All, map, flat_map, nat_abs, slice_index_or, ◌||◌, codes, decimal}
-use Rattle.std.specs.List.{list_all, slice_split}
+use Rattle.std.specs.List.{list_all}
 use Rattle.std.proofs.lemmas.Bool.{le-ltb}
 use Rattle.std.proofs.lemmas.List.Elements.{All-cons, All-nil, All-tail}
 use Rattle.std.proofs.lemmas.List.Splits.{slice_split_at}
@@ -18,13 +18,13 @@ use Rattle.sat_text.specs.declared.head.Head.{Head}
 use Rattle.sat_text.specs.Bodies.{body_fault, body_faults, head_fault}
 use Rattle.sat_text.specs.CnfText.{ReadsCnf, begins_as_head, clause_parts, has_strange_variable, head_of, whole_clauses}
 use Rattle.sat_text.specs.Numbers.{is_zero, lacks_number, natural_of, numbers_of}
-use Rattle.sat_text.specs.Printed.{clause_text, cnf_text, literal_text, number_text}
+use Rattle.sat_text.specs.Printed.{clause_text, cnf_text, number_text}
 use Rattle.sat_text.specs.ReadBack.{IsPrintable}
 use Rattle.sat_text.specs.ToldLines.{told}
 use Rattle.sat_text.proofs.CnfLemmas.{reads_whole, whole_push}
 use Rattle.sat_text.proofs.DraftLemmas.{lits_of_codes, no_zeros}
 use Rattle.sat_text.proofs.FrontLemmas.{not_letter}
-use Rattle.sat_text.proofs.NumberLines.{IsSmall, IsTold, codes_of, lacks_number-printed, literal_text-numbers, number_line, numbers_of-printed, small_codes, told-all, told-line, whole-line, words-line}
+use Rattle.sat_text.proofs.NumberLines.{IsTold, codes_of, lacks_number-printed, literal_text-numbers, number_line, numbers_of-printed, small_codes, told-all, told-line, whole-line, words-line}
 
 -- the line of a clause, without its newline
 abbrev clause_line : Clause → Bytes

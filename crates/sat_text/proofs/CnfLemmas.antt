@@ -5,7 +5,7 @@ use Rattle.fpga_text.specs.declared.fault.TextFault.{TextFault}
 use Rattle.fpga_text.specs.declared.fault.TextFault.TheVariants.{Bad}
 use Rattle.fpga_text.specs.Bytes.{Bytes, is_empty}
 use Rattle.fpga_text.specs.FirstFault.{Faults, IsFaultless, IsFirst, IsRefusal, first_fault}
-use Rattle.fpga_text.specs.Codes.{faults_behind, line_fault, end_fault, numbered_words}
+use Rattle.fpga_text.specs.Codes.{faults_behind, end_fault, numbered_words}
 use Rattle.fpga_text.specs.Words.{TextLine, Words, line_count, line_words}
 use Rattle.fpga_text.proofs.FaultLemmas.{IsPast, past-line, past-part, refusal-part}
 use Rattle.sat_clause.specs.Formula.{Cnf}

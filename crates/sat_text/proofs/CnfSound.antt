@@ -3,7 +3,7 @@ use Rattle.std.proofs.Common.{◌≡◌, ◌≤◌, ◌+◌, ℕ, zero, suc, ℤ
 use Rattle.std.specs.Prelude.{All, map, flat_map, nat_abs, nat_lt, ◌==◌, ◌||◌, ◌&&◌, if◌then◌else◌, is_none, option_map, option_and_then}
 use Rattle.std.specs.List.{slice_split, onto_first}
 use Rattle.std.specs.Option.{option_map_or, option_or}
-use Rattle.std.proofs.lemmas.Bool.{and_parts, eqb-true, ltb-false}
+use Rattle.std.proofs.lemmas.Bool.{eqb-true, ltb-false}
 use Rattle.std.proofs.lemmas.List.Elements.{All-cons, All-nil, All-tail}
 use Rattle.std.proofs.lemmas.List.Folds.{list_any-append}
 use Rattle.fpga_text.specs.declared.fault.TextFault.{TextFault}
@@ -17,7 +17,7 @@ use Rattle.sat_clause.specs.Formula.{Cnf}
 use Rattle.sat_clause.specs.Literal.{Clause, IsWithin, lit}
 use Rattle.sat_text.specs.declared.head.Head.{Head}
 use Rattle.sat_text.specs.Bodies.{body_fault, body_faults, head_fault}
-use Rattle.sat_text.specs.CnfText.{CnfContext, HeadWords, ReadsCnf, begins_as_head, but_last, clause_parts, cnf_codes, context_of, faults_of, formula_of, has_strange_variable, head_of, head_or_none, head_said, head_words, last_part, past_limit, whole_clauses}
+use Rattle.sat_text.specs.CnfText.{HeadWords, ReadsCnf, begins_as_head, but_last, clause_parts, cnf_codes, context_of, faults_of, formula_of, has_strange_variable, head_of, head_or_none, head_said, head_words, last_part, past_limit}
 use Rattle.sat_text.specs.Numbers.{is_zero, lacks_number, numbers_of}
 use Rattle.sat_text.specs.Printed.{cnf_text}
 use Rattle.sat_text.specs.ReadBack.{IsPrintable}

@@ -1,6 +1,6 @@
 -- Numbers are taken from the front of a line, one after another.
-use Rattle.std.proofs.Common.{◌≡◌, ◌<◌, ◌≤◌, ◌^◌, ℕ, zero, suc, ℤ, pos, negsuc, Bool, false, true, List, [], ◌∷◌, ◌++◌, length, drop, slice_get, Option, None, Some, refl, sym, ap, ◌∙◌, arith, append_assoc, append-nil, w32, w64, to_z, of_z, FitsSigned}
-use Rattle.std.specs.Prelude.{All, nat_abs, not, ◌||◌, bytes_eq, codes, option_and_then}
+use Rattle.std.proofs.Common.{◌≡◌, ◌<◌, ◌≤◌, zero, suc, ℤ, pos, negsuc, Bool, false, true, List, [], ◌∷◌, ◌++◌, length, drop, slice_get, Option, None, Some, refl, sym, ap, ◌∙◌, arith, append_assoc, append-nil, w32, w64, to_z, of_z, FitsSigned}
+use Rattle.std.specs.Prelude.{All, nat_abs, not, bytes_eq, option_and_then}
 use Rattle.std.specs.Int.Signed.{lt_z}
 use Rattle.std.proofs.lemmas.Int.{to_z-of_z}
 use Rattle.std.proofs.lemmas.List.Elements.{All-append}

@@ -8,3 +8,4 @@ pub mod LogBack
 pub mod LogSound
 pub mod LratLemmas
 pub mod NumberLines
+pub mod PieceLemmas

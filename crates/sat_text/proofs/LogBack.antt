@@ -1,28 +1,27 @@
 -- A printed log is read as it is.
-use Rattle.std.proofs.Common.{◌≡◌, ◌<◌, ◌≤◌, ◌+◌, ◌^◌, ℕ, zero, suc, ℤ, pos, Bool, false, true, List, [], ◌∷◌, ◌++◌, length, Option, None, Some, refl, sym, ap, subst, ◌∙◌, arith, append_assoc}
-use Rattle.std.specs.Prelude.{All, map, flat_map, nat_abs, nat_lt, nat_le, not, ◌||◌, codes, if◌then◌else◌, slice_index_or}
-use Rattle.std.specs.List.{list_all, list_any, slice_split, cons_option}
+use Rattle.std.proofs.Common.{◌≡◌, ◌<◌, ◌≤◌, ◌+◌, ℕ, zero, suc, ℤ, pos, Bool, false, true, List, [], ◌∷◌, ◌++◌, length, Option, None, Some, refl, sym, ap, subst, ◌∙◌, arith, append_assoc}
+use Rattle.std.specs.Prelude.{All, map, flat_map, nat_abs, nat_le, not, ◌||◌, codes, slice_index_or}
+use Rattle.std.specs.List.{list_any, slice_split, cons_option}
 use Rattle.std.specs.Fmt.{signed_decimal}
 use Rattle.std.proofs.lemmas.Bool.{le-ltb, lt-leb}
-use Rattle.std.proofs.lemmas.List.Elements.{All-append, All-cons, All-map, All-nil, All-tail}
+use Rattle.std.proofs.lemmas.List.Elements.{All-append, All-cons, All-map, All-nil}
 use Rattle.std.proofs.lemmas.List.Splits.{slice_split_at}
 use Rattle.std.proofs.lemmas.Fmt.{decimal_digit}
 use Rattle.std.proofs.lemmas.Grind.{flat_map-append}
 use Rattle.fpga_text.specs.declared.style.Style.TheVariants.{Plain}
 use Rattle.fpga_text.specs.Bytes.{Bytes, is_newline, is_empty}
 use Rattle.fpga_text.specs.FirstFault.{IsFaultless}
-use Rattle.fpga_text.specs.Words.{TextLine, Words, line_count, line_words, lines, words, text_line}
+use Rattle.fpga_text.specs.Words.{Words, line_count, line_words, lines, words, text_line}
 use Rattle.fpga_text.proofs.PrintedLines.{lines-ended, numbered, seen}
-use Rattle.fpga_text.proofs.PrintedWords.{both-pass, is_line_byte, lacks, line-newline, signed-word, word-line, words-each, words-word}
-use Rattle.sat_clause.specs.declared.literal.Lit.{Lit}
+use Rattle.fpga_text.proofs.PrintedWords.{both-pass, is_line_byte, lacks, line-newline, signed-word, word-line, words-word}
 use Rattle.sat_clause.specs.Literal.{Clause, IsWithin}
 use Rattle.sat_clause.specs.Step.{Step, Added, Erased}
 use Rattle.sat_text.specs.ByNumbers.{step_line_fault}
-use Rattle.sat_text.specs.LratText.{ReadsLrat, added_limit, added_step, begins_with_d, due_words, erased_limit, erased_step, first_past, is_below_zero, is_deletion, is_not_positive, raised, said_step, steps_of}
+use Rattle.sat_text.specs.LratText.{ReadsLrat, added_limit, added_step, due_words, erased_limit, erased_step, first_past, is_below_zero, is_deletion, is_not_positive, raised, said_step, steps_of}
 use Rattle.sat_text.specs.Numbers.{is_number, is_zero, lacks_number, numbers_of}
 use Rattle.sat_text.specs.Printed.{literal_text, log_text, number_text, step_text}
 use Rattle.sat_text.specs.ReadBack.{IsIdNumber, IsPrintableStep, IsPrintableLog}
-use Rattle.sat_text.specs.ToldLines.{is_comment, told}
+use Rattle.sat_text.specs.ToldLines.{told}
 use Rattle.sat_text.proofs.DraftLemmas.{lits_of_codes, no_zeros, not_zero}
 use Rattle.sat_text.proofs.FrontLemmas.{not_letter}
 use Rattle.sat_text.proofs.LratLemmas.{but_last-last, by_numbers, deleted_ids-closed, ends_with_zero-last, faults_above, lrat_faults-from}

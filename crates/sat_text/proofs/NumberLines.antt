@@ -1,20 +1,20 @@
 -- Lines of printed numbers are read as they are.
-use Rattle.std.proofs.Common.{◌≡◌, ◌<◌, ◌≤◌, ◌+◌, ◌^◌, ℕ, zero, suc, ℤ, pos, Bool, false, true, List, [], ◌∷◌, ◌++◌, ◌⊎◌, inr, length, None, Some, refl, sym, ap, ◌∙◌, arith, append_assoc}
-use Rattle.std.specs.Prelude.{All, map, flat_map, filter, nat_abs, not, ◌==◌, codes}
-use Rattle.std.specs.List.{enumerate_from, list_all}
+use Rattle.std.proofs.Common.{◌≡◌, ◌<◌, ◌≤◌, ◌+◌, ◌^◌, ℕ, ℤ, false, true, List, [], ◌∷◌, ◌++◌, inr, refl, ap, ◌∙◌, arith, append_assoc}
+use Rattle.std.specs.Prelude.{All, map, flat_map, nat_abs, not, ◌==◌, codes}
+use Rattle.std.specs.List.{list_all}
 use Rattle.std.specs.Fmt.{signed_decimal}
 use Rattle.std.proofs.lemmas.Bool.{and_parts, not-true}
 use Rattle.std.proofs.lemmas.List.Elements.{All-cons, All-nil, All-tail}
 use Rattle.fpga_text.specs.declared.style.Style.TheVariants.{Plain}
-use Rattle.fpga_text.specs.Bytes.{Bytes, is_newline, is_empty}
+use Rattle.fpga_text.specs.Bytes.{Bytes, is_empty}
 use Rattle.fpga_text.specs.Words.{TextLine, Words, text_line, words}
 use Rattle.fpga_text.proofs.PrintedLines.{numbered, seen, seen-all}
-use Rattle.fpga_text.proofs.PrintedWords.{IsWord, both-pass, digit-differs, is_line_byte, lacks, line-each, line-newline, signed-pass, signed-word, signed_number_of-decimal, words-each}
+use Rattle.fpga_text.proofs.PrintedWords.{IsWord, both-pass, digit-differs, is_line_byte, lacks, line-each, signed-pass, signed-word, signed_number_of-decimal, words-each}
 use Rattle.sat_clause.specs.declared.literal.Lit.{Lit}
 use Rattle.sat_clause.specs.Literal.{Clause, IsWithin}
 use Rattle.sat_text.specs.Numbers.{lacks_number, numbers_of}
 use Rattle.sat_text.specs.Printed.{literal_text, number_text}
-use Rattle.sat_text.specs.ToldLines.{is_comment, told, told_lines}
+use Rattle.sat_text.specs.ToldLines.{is_comment, told}
 
 -- the number fits 64 bits with its sign, and so does its negation
 abbrev pub IsSmall : ℤ → Type 0

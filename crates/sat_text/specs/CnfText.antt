@@ -1,6 +1,6 @@
 -- CNF texts, as DIMACS has them: comments, the head line `p cnf VARS CLAUSES`, and numbers, of
 -- which each 0 ends a clause.
-use Rattle.std.specs.Prelude.{◌≡◌, ℕ, ◌+◌, ◌==◌, nat_lt, nat_abs, ℤ, Bool, true, false, ◌&&◌, if◌then◌else◌, List, [], ◌∷◌, length, map, flat_map, bytes_eq, codes, Option, None, Some, is_none, option_map, option_and_then, unwrap_or}
+use Rattle.std.specs.Prelude.{◌≡◌, ℕ, ◌+◌, ◌==◌, nat_lt, nat_abs, ℤ, Bool, false, ◌&&◌, if◌then◌else◌, List, [], ◌∷◌, length, map, flat_map, bytes_eq, codes, Option, None, Some, is_none, option_map, option_and_then, unwrap_or}
 use Rattle.std.specs.List.{list_any, slice_split}
 use Rattle.std.specs.Option.{option_map_or}
 use Rattle.fpga_text.specs.Bytes.{Bytes, is_empty}

@@ -1,11 +1,11 @@
 -- A formula as far as it was read.
 use Rattle.std.specs.Prelude.{◌≡◌, ℤ, Bool, false, List, [], ◌++◌, map, Option, None, Some, if◌then◌else◌}
-use Rattle.fpga_text.specs.Words.{Words, TextLine}
+use Rattle.fpga_text.specs.Words.{Words}
 use Rattle.sat_clause.specs.Literal.{Clause}
 use Rattle.sat_text.specs.declared.draft.Draft.{Draft}
 use Rattle.sat_text.specs.declared.head.Head.{Head}
 use Rattle.sat_text.specs.CnfText.{CnfContext, clause_parts, has_strange_variable, whole_clauses}
-use Rattle.sat_text.specs.FrontNumbers.{TakesFront, IsAtNoNumber}
+use Rattle.sat_text.specs.FrontNumbers.{TakesFront}
 
 -- what the head line said
 abbrev pub head_in : Draft → Head

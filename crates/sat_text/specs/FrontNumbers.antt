@@ -1,5 +1,5 @@
 -- Numbers that are taken from the front of a line.
-use Rattle.std.specs.Prelude.{◌≡◌, ℤ, Bool, false, not, List, ◌++◌}
+use Rattle.std.specs.Prelude.{◌≡◌, ℤ, not, List, ◌++◌}
 use Rattle.fpga_text.specs.Bytes.{is_empty}
 use Rattle.fpga_text.specs.Words.{Words}
 use Rattle.sat_text.specs.Numbers.{lacks_number, numbers_of}

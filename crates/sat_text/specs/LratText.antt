@@ -1,6 +1,6 @@
 -- LRAT texts without steps that resolve on a first literal: comments, and lines that add a clause
 -- or delete clauses.
-use Rattle.std.specs.Prelude.{◌≡◌, ℕ, ◌+◌, drop, fold, is_none, max, nat_lt, nat_le, nat_abs, ℤ, pos, int_le, int_lt, Bool, true, false, ◌&&◌, ◌||◌, if◌then◌else◌, List, [], ◌∷◌, map, find, filter_map, bytes_eq, codes, Option, None, Some, option_map}
+use Rattle.std.specs.Prelude.{◌≡◌, ℕ, ◌+◌, drop, fold, is_none, max, nat_lt, nat_le, nat_abs, ℤ, pos, int_le, int_lt, Bool, true, false, ◌&&◌, ◌||◌, if◌then◌else◌, List, [], ◌∷◌, map, find, filter_map, bytes_eq, codes, Option, None, Some}
 use Rattle.std.specs.List.{list_any, slice_split}
 use Rattle.std.specs.Option.{option_or}
 use Rattle.fpga_text.specs.Bytes.{Bytes}

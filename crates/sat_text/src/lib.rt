@@ -9,6 +9,7 @@ mod laws;
 mod log_draft;
 mod number;
 mod read;
+mod row;
 mod step_line;
 #[cfg(test)]
 mod tests;

@@ -7,10 +7,11 @@ ghost use Rattle.sat_clause.specs.Literal.{IsWithin};
 ghost use Rattle.sat_text.specs.CnfText.{ReadsCnf};
 ghost use Rattle.sat_text.specs.Printed.{clause_text, cnf_text, head_text, number_text};
 
+use crate::row::{row_room, write_row};
 use arrayvec::ArrayString;
-use desk_io::{BlockWriter, Failed, Prints, Shelf, append_text, print_each};
+use desk_io::{BlockWriter, Failed, Prints, Shelf, append_text};
 use itoa::Buffer;
-use sat_clause::{CLAUSE_LIMIT, Formula, Lit, VARIABLE_LIMIT};
+use sat_clause::{CLAUSE_LIMIT, Formula, VARIABLE_LIMIT};
 
 /// Room for a number of 64 bits with its sign, and the blank after it.
 pub const NUMBER_ROOM: usize = 24;
@@ -55,43 +56,6 @@ fn head(formula: &Formula) -> ArrayString<HEAD_ROOM>
     line
 }
 
-/// Literals, each with a blank after it.
-#[derive(Debug)]
-pub struct Literals;
-
-impl Prints<Lit> for Literals {
-    ghost use Rattle.sat_text.specs.Printed.{literal_text};
-
-    ghost text = { literal_text };
-
-    fn print<S: Shelf>(
-        &self,
-        writer: &mut BlockWriter,
-        shelf: &mut S,
-        literal: &Lit,
-    ) -> Result<(), Failed> {
-        write_short(writer, shelf, &spaced(i64::from(literal.code)))
-    }
-}
-
-/// Writes items, and what ends them.
-pub fn write_row<T, P: Prints<T>, S: Shelf>(
-    printer: &P,
-    writer: &mut BlockWriter,
-    shelf: &mut S,
-    items: &[T],
-    end: &[u8],
-) -> Result<(), Failed>
-    requires { (S.state shelf.old).is_created ≡ true }
-    ensures { Writes (S.state shelf.old) writer.old (flat_map P.text items.now ++ end.now)
-        (S.state shelf.new) writer.new result }
-{
-    let Ok(()) = print_each(printer, writer, shelf, items) else {
-        return Err(Failed);
-    };
-    writer.write(shelf, end)
-}
-
 /// Writes the clauses.
 fn write_clauses<S: Shelf>(
     writer: &mut BlockWriter,
@@ -104,8 +68,9 @@ fn write_clauses<S: Shelf>(
     ensures within { OnOk result
         (All (All (IsWithin formula.now.cnf.vars)) formula.now.cnf.clauses) }
 {
+    let mut room = row_room();
     for i in 0..formula.len() {
-        let Ok(()) = write_row(&Literals, writer, shelf, formula.clause(i), b"0\n") else {
+        let Ok(()) = write_row(&mut room, writer, shelf, formula.clause(i), b'\n') else {
             return Err(Failed);
         };
     }

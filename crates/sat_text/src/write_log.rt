@@ -7,7 +7,8 @@ ghost use Rattle.sat_text.specs.LratText.{ReadsLrat};
 ghost use Rattle.sat_text.specs.Printed.{closed_text, literal_text, log_text, number_text, step_text};
 ghost use Rattle.sat_text.specs.Steps.{viewed};
 
-use crate::write::{Literals, NUMBER_ROOM, spaced, write_row, write_short};
+use crate::row::{RowRoom, row_room, write_row};
+use crate::write::{NUMBER_ROOM, spaced, write_short};
 use arrayvec::ArrayString;
 use desk_io::{BlockWriter, Failed, Prints, Shelf, append_text};
 use itoa::Buffer;
@@ -15,23 +16,6 @@ use sat_clause::{Lit, Log, StepView};
 
 /// Room for an id of 10 digits, a `d`, and two blanks.
 const START_ROOM: usize = 16;
-
-/// Numbers, each with a blank after it.
-#[derive(Debug)]
-struct Numbers;
-
-impl Prints<i64> for Numbers {
-    ghost text = { number_text };
-
-    fn print<S: Shelf>(
-        &self,
-        writer: &mut BlockWriter,
-        shelf: &mut S,
-        number: &i64,
-    ) -> Result<(), Failed> {
-        write_short(writer, shelf, &spaced(*number))
-    }
-}
 
 /// An id, and a blank after it.
 fn id_start(id: u32) -> ArrayString<NUMBER_ROOM>
@@ -53,6 +37,7 @@ fn deletion_start(id: u32) -> ArrayString<START_ROOM>
 
 /// Writes the literals of an added clause, and its hints.
 fn write_clause_and_hints<S: Shelf>(
+    room: &mut RowRoom,
     writer: &mut BlockWriter,
     shelf: &mut S,
     clause: &[Lit],
@@ -63,14 +48,15 @@ fn write_clause_and_hints<S: Shelf>(
         ((flat_map literal_text clause.now ++ codes "0 ") ++ closed_text hints.now)
         (S.state shelf.new) writer.new result }
 {
-    let Ok(()) = write_row(&Literals, writer, shelf, clause, b"0 ") else {
+    let Ok(()) = write_row(room, writer, shelf, clause, b' ') else {
         return Err(Failed);
     };
-    write_row(&Numbers, writer, shelf, hints, b"0\n")
+    write_row(room, writer, shelf, hints, b'\n')
 }
 
 /// Writes a step.
 fn write_step<S: Shelf>(
+    room: &mut RowRoom,
     writer: &mut BlockWriter,
     shelf: &mut S,
     step: &StepView<'_>,
@@ -84,12 +70,12 @@ fn write_step<S: Shelf>(
         let Ok(()) = write_short(writer, shelf, &deletion_start(step.id)) else {
             return Err(Failed);
         };
-        return write_row(&Numbers, writer, shelf, step.hints, b"0\n");
+        return write_row(room, writer, shelf, step.hints, b'\n');
     }
     let Ok(()) = write_short(writer, shelf, &id_start(step.id)) else {
         return Err(Failed);
     };
-    write_clause_and_hints(writer, shelf, step.lits, step.hints)
+    write_clause_and_hints(room, writer, shelf, step.lits, step.hints)
 }
 
 /// Prints a log: each step on a line.
@@ -107,8 +93,9 @@ impl Prints<Log> for LratText {
         shelf: &mut S,
         log: &Log,
     ) -> Result<(), Failed> {
+        let mut room = row_room();
         for i in 0..log.len() {
-            let Ok(()) = write_step(writer, shelf, &log.step(i)) else {
+            let Ok(()) = write_step(&mut room, writer, shelf, &log.step(i)) else {
                 return Err(Failed);
             };
         }

@@ -1,5 +1,4 @@
 use Rattle.sat_text.proofs.CnfBack.{printed_reads}
-use Rattle.sat_text.proofs.CnfSound.{printable}
 use Rattle.sat_text.proofs.laws.printed_formulas_read_back.Goals as goal
 
 pub returns : goal.returns

@@ -1,5 +1,4 @@
 use Rattle.sat_text.proofs.LogBack.{printed_log_reads}
-use Rattle.sat_text.proofs.LogSound.{printable_log}
 use Rattle.sat_text.proofs.laws.printed_logs_read_back.Goals as goal
 
 pub returns : goal.returns

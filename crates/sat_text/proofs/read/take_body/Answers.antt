@@ -1,4 +1,4 @@
-use Rattle.std.proofs.Common.{◌≡◌, ◌∙◌, ap, sym}
+use Rattle.std.proofs.Common.{◌∙◌, ap, sym}
 use Rattle.fpga_text.proofs.FaultLemmas.{past-line}
 use Rattle.sat_text.specs.Bodies.{body_fault}
 use Rattle.sat_text.specs.Drafts.{head_in}

@@ -1,4 +1,4 @@
-use Rattle.std.proofs.Common.{◌≡◌, refl, sym, ap, ◌∙◌, to_z, of_z, w64}
+use Rattle.std.proofs.Common.{refl, sym, ap, ◌∙◌, to_z, w64}
 use Rattle.std.proofs.lemmas.Int.{to_z-of_z}
 use Rattle.sat_text.proofs.DraftLemmas.{takes_literal, takes_zero}
 use Rattle.sat_text.proofs.FrontLemmas.{same_literal}
