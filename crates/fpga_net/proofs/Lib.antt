@@ -4,6 +4,7 @@ pub mod DraftLemmas
 pub mod EndLemmas
 pub mod EntryLemmas
 pub mod GivenLemmas
+pub mod GlobalLemmas
 mod LimitRows
 pub mod LineLemmas
 pub mod NameLemmas

@@ -4,6 +4,7 @@ pub mod Codes
 pub mod Drafts
 pub mod Entries
 pub mod Forms
+pub mod Globals
 pub mod Lines
 pub mod Names
 pub mod NetUses
