@@ -19,7 +19,8 @@ use Rattle.route_gen.proofs.RoomLemmas.{among-all, full-among}
 
 -- the nets that end at a block, with one net more
 into-push : (sinks : List Sink) (sink : Sink) (block : ℕ) →
-    nets_into (sinks ++ sink ∷ []) block ≡ nets_into sinks block ++ ending_at block (length sinks, sink)
+    nets_into (sinks ++ sink ∷ []) block
+    ≡ nets_into sinks block ++ ending_at block (length sinks, sink)
 into-push sinks sink block =
     ap (flat_map (ending_at block)) (enumerate-push 0 sinks sink)
     ∙ flat_map-append (ending_at block) (enumerate_from 0 sinks) ((0 + length sinks, sink) ∷ [])

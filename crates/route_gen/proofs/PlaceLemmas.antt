@@ -4,7 +4,8 @@ use Rattle.std.proofs.Math.Nat.{div-lt_iff_lt-mul, mul-le-mul_left}
 
 -- a block stands in one of the rows
 pub row_within : (side block : ℕ) → 1 ≤ side → block < side * side → block / side < side
-row_within side block some below = (div-lt_iff_lt-mul {k = side} {x = block} {y = side} (omega arith)).1 below
+row_within side block some below =
+    (div-lt_iff_lt-mul {k = side} {x = block} {y = side} (omega arith)).1 below
 
 -- a square grows with its side
 pub square : (side most : ℕ) → side ≤ most → side * side ≤ most * most

@@ -1,5 +1,6 @@
 pub mod Draws
 pub mod Generated
+pub mod Laws
 pub mod Netlists
 pub mod Placements
 pub mod Routes

@@ -77,7 +77,8 @@ pub struct Draws {
     pub inputs: Vec<Inputs>,
 }
 
-/// The block that two draws point at, near a driver: the first moves its column, the second its row.
+/// The block that two draws point at, near a driver: the first moves its column, the second its
+/// row.
 fn wanted_block(side: u32, driver: u32, rand: &mut Rand) -> u32
     requires side { (1 ≤ side) × (side ≤ SIDE_LIMIT) }
     requires driver { driver < side * side }

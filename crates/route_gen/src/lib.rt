@@ -1,8 +1,9 @@
-//! Routing problems made from a number: four texts that read and fit.
+//! Routing problems made from a number, as large input.
 #![tactic(auto)]
 
 mod architecture;
 mod draws;
+mod laws;
 mod location;
 mod netlist;
 mod placement;
@@ -13,4 +14,5 @@ mod tests;
 mod texts;
 mod trace;
 
+pub use laws::{architecture_reads, placement_reads};
 pub use texts::{FourTexts, GenStop, generate};

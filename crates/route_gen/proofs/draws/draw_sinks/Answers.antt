@@ -1,7 +1,6 @@
-use Rattle.std.proofs.Common.{◌≡◌, ◌<◌, ◌*◌, ℕ, List, [], ◌∷◌, ◌++◌, length, ap, subst, sym, ◌∙◌, arith, add-one}
+use Rattle.std.proofs.Common.{◌≡◌, ℕ, List, [], ◌∷◌, ◌++◌, length, ap, subst, sym, ◌∙◌, arith, add-one}
 use Rattle.std.specs.Prelude.{slice_set}
 use Rattle.route_gen.specs.Draws.{HasFree, after_rand, drawing, drawn_block, drawn_sink, entry, input_table, next_sink, sinks_of}
-use Rattle.route_gen.specs.declared.draws.Sink.{Sink}
 use Rattle.route_gen.proofs.DrawLemmas.{has-free, table-length, table-next}
 use Rattle.route_gen.proofs.draws.draw_sinks.Goals as goal
 

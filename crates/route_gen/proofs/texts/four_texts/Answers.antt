@@ -28,6 +28,7 @@ pub route_text-requires-clause-sinks : goal.route_text-requires-clause-sinks
 route_text-requires-clause-sinks c =
     let inputs = sinks-inputs c.args.seed c.args.side c.args.nets c.requires.side.0
     c.requires.nets in
-    subst (λ (sinks : List Sink). All (λ (sink : Sink). sink.block < c.args.side * c.args.side) sinks)
+    subst (λ (sinks : List Sink).
+    All (λ (sink : Sink). sink.block < c.args.side * c.args.side) sinks)
     (sym (c.deref-2.ensures.value ∙ c.in_ok-drawn.ensures.sinks))
     (λ k d below. (inputs k d below).block)

@@ -10,4 +10,5 @@ loop-steps-preserved c =
     c.loop-steps.steps c.args.elems.now.items c.loop-steps.elems.items
     c.push_channel.new.elems.items c.loop-steps.invariant
     (c.in_ok-push_channel.ensures
-    ∙ ap (λ (at : ℕ). c.loop-steps.elems.items ++ channel ChanX at c.args.row ∷ []) c.towards.ensures)
+    ∙ ap (λ (at : ℕ). c.loop-steps.elems.items
+    ++ channel ChanX at c.args.row ∷ []) c.towards.ensures)
