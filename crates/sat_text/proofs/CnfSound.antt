@@ -80,7 +80,8 @@ not_strange_line head line clean =
     go (begins_as_head line.words) (lacks_number line.words)
     (has_strange_variable head.vars (numbers_of line.words)) clean where
       go : (a b c : Bool) → (if a then Some (Bad line.number 601) else if b then Some
-          (Bad line.number 602) else if c then Some (Bad line.number 603) else None) ≡ None → c ≡ false
+          (Bad line.number 602) else if c then Some (Bad line.number 603) else None) ≡ None
+          → c ≡ false
       go true b c clash = absurd (let no : Some (Bad line.number 601) ≡ None = clash in cc)
       go false true c clash = absurd (let no : Some (Bad line.number 602) ≡ None = clash in cc)
       go false false true clash = absurd (let no : Some (Bad line.number 603) ≡ None = clash in cc)

@@ -9,3 +9,4 @@ pub mod LogSound
 pub mod LratLemmas
 pub mod NumberLines
 pub mod PieceLemmas
+pub mod RowsLemmas

@@ -1,5 +1,5 @@
 -- Writing the texts of a row of items, piece by piece.
-use Rattle.std.proofs.Common.{◌≡◌, ◌∙◌, ◌++◌, List, [], refl, sym, ap, subst, append_assoc}
+use Rattle.std.proofs.Common.{◌≡◌, ◌∙◌, ◌++◌, List, [], refl, sym, ap, subst, append-nil, append_assoc}
 use Rattle.std.proofs.lemmas.Grind.{flat_map-append}
 use Rattle.std.specs.Prelude.{Result, flat_map}
 use Rattle.desk_io.specs.Files.{Bytes}
@@ -63,3 +63,21 @@ module _ {T : Type 0} (f : T → Bytes) (items : List T) where
       (sym (flat_map-append f p.front rest) ∙ ap (flat_map f) p.parts) in
       subst (λ (t : Bytes). Writes a w t c z r) whole
       (passes-then-writes (flat_map f rest ++ last) c z r p.passed q)
+
+  -- where none is left all are written
+  pub all-passed : {a b : ShelfState} {w y : Bytes} {rest : List T}
+      → IsPassed f items a w b y rest → rest ≡ [] → PassesOn a w (flat_map f items) b y
+  all-passed {a} {b} {w} {y} {rest} p none =
+      let whole : p.front ≡ items =
+      sym (append-nil p.front) ∙ ap (λ (xs : List T). p.front ++ xs) (sym none) ∙ p.parts in
+      subst (λ (xs : List T). PassesOn a w (flat_map f xs) b y) whole p.passed
+
+  -- what is left fails to be written
+  pub rest-fails : {a b c : ShelfState} {w y : Bytes} {rest : List T}
+      → IsPassed f items a w b y rest → FailsToAppend b (y ++ flat_map f rest) c
+      → FailsToAppend a (w ++ flat_map f items) c
+  rest-fails {a} {b} {c} {w} {y} {rest} p q =
+      let whole : flat_map f p.front ++ flat_map f rest ≡ flat_map f items =
+      sym (flat_map-append f p.front rest) ∙ ap (flat_map f) p.parts in
+      subst (λ (t : Bytes). FailsToAppend a (w ++ t) c) whole
+      (passes-then-fails y (flat_map f rest) p.passed q)

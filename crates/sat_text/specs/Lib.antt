@@ -9,5 +9,6 @@ pub mod LratText
 pub mod Numbers
 pub mod Printed
 pub mod ReadBack
+pub mod Rows
 pub mod Steps
 pub mod ToldLines

@@ -2,6 +2,7 @@
 #![tactic(auto)]
 
 mod cause;
+mod clauses;
 mod draft;
 mod front_numbers;
 mod head;

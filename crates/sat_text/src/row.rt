@@ -10,13 +10,13 @@ use itoa::write_digits;
 use sat_clause::Lit;
 
 /// How many numbers of a row are made at a time.
-const PIECE_LIMIT: usize = 64;
+pub const PIECE_LIMIT: usize = 64;
 
 /// Room for a number of 64 bits with its sign, and the blank behind it.
-const NUMBER_ROOM: usize = 24;
+pub const NUMBER_ROOM: usize = 24;
 
 /// Room for the numbers of a piece, and what ends a row.
-const ROW_ROOM: usize = 1538;
+pub const ROW_ROOM: usize = 1538;
 
 /// Room in which rows are made. What is in it is of no account between two rows.
 pub type RowRoom = [u8; ROW_ROOM];
@@ -54,7 +54,7 @@ pub fn row_room() -> RowRoom {
 }
 
 /// Puts a byte before an end, and gives where it is.
-fn put_byte(room: &mut RowRoom, byte: u8, end: usize) -> usize
+pub fn put_byte(room: &mut RowRoom, byte: u8, end: usize) -> usize
     requires some { 1 ≤ end }
     requires within { end ≤ ROW_ROOM }
     ensures before { result + 1 ≡ end }
@@ -92,7 +92,7 @@ fn put_number(room: &mut RowRoom, number: i64, end: usize) -> usize
 }
 
 /// Puts numbers, each with a blank behind it, before an end, and gives where they begin.
-fn put_numbers<T: AsNumber>(room: &mut RowRoom, numbers: &[T], end: usize) -> usize
+pub fn put_numbers<T: AsNumber>(room: &mut RowRoom, numbers: &[T], end: usize) -> usize
     requires enough { length numbers.now * NUMBER_ROOM ≤ end }
     requires within { end ≤ ROW_ROOM }
     ensures before { result ≤ end }
@@ -107,7 +107,7 @@ fn put_numbers<T: AsNumber>(room: &mut RowRoom, numbers: &[T], end: usize) -> us
 }
 
 /// Writes what stands in the room from a place on.
-fn write_from<S: Shelf>(
+pub fn write_from<S: Shelf>(
     room: &RowRoom,
     writer: &mut BlockWriter,
     shelf: &mut S,

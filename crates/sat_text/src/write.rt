@@ -7,14 +7,12 @@ ghost use Rattle.sat_clause.specs.Literal.{IsWithin};
 ghost use Rattle.sat_text.specs.CnfText.{ReadsCnf};
 ghost use Rattle.sat_text.specs.Printed.{clause_text, cnf_text, head_text, number_text};
 
-use crate::row::{row_room, write_row};
+use crate::clauses::write_clauses;
+use crate::row::NUMBER_ROOM;
 use arrayvec::ArrayString;
 use desk_io::{BlockWriter, Failed, Prints, Shelf, append_text};
 use itoa::Buffer;
 use sat_clause::{CLAUSE_LIMIT, Formula, VARIABLE_LIMIT};
-
-/// Room for a number of 64 bits with its sign, and the blank after it.
-pub const NUMBER_ROOM: usize = 24;
 
 /// Room for a head line: two numbers of 10 digits, and 8 signs.
 const HEAD_ROOM: usize = 32;
@@ -54,27 +52,6 @@ fn head(formula: &Formula) -> ArrayString<HEAD_ROOM>
     line.push_str(Buffer::new().format(formula.len()));
     line.push_str("\n");
     line
-}
-
-/// Writes the clauses.
-fn write_clauses<S: Shelf>(
-    writer: &mut BlockWriter,
-    shelf: &mut S,
-    formula: &Formula,
-) -> Result<(), Failed>
-    requires { (S.state shelf.old).is_created ≡ true }
-    ensures written { Writes (S.state shelf.old) writer.old
-        (flat_map clause_text formula.now.cnf.clauses) (S.state shelf.new) writer.new result }
-    ensures within { OnOk result
-        (All (All (IsWithin formula.now.cnf.vars)) formula.now.cnf.clauses) }
-{
-    let mut room = row_room();
-    for i in 0..formula.len() {
-        let Ok(()) = write_row(&mut room, writer, shelf, formula.clause(i), b'\n') else {
-            return Err(Failed);
-        };
-    }
-    Ok(())
 }
 
 /// Prints a formula: the head line, and each clause on a line.

@@ -7,8 +7,8 @@ ghost use Rattle.sat_text.specs.LratText.{ReadsLrat};
 ghost use Rattle.sat_text.specs.Printed.{closed_text, literal_text, log_text, number_text, step_text};
 ghost use Rattle.sat_text.specs.Steps.{viewed};
 
-use crate::row::{RowRoom, row_room, write_row};
-use crate::write::{NUMBER_ROOM, spaced, write_short};
+use crate::row::{NUMBER_ROOM, RowRoom, row_room, write_row};
+use crate::write::{spaced, write_short};
 use arrayvec::ArrayString;
 use desk_io::{BlockWriter, Failed, Prints, Shelf, append_text};
 use itoa::Buffer;

@@ -9,6 +9,7 @@ abbrev pub invariant-loop-i : goal.invariant-loop-i
 invariant-loop-i g l = record {
   enough : l.i * NUMBER_ROOM ≤ l.start;
   before : l.start ≤ l.end;
-  put : drop l.start l.room ≡ flat_map (λ n. number_text (g.T.AsNumber.number n)) (drop l.i l.numbers)
+  put : drop l.start l.room
+      ≡ flat_map (λ n. number_text (g.T.AsNumber.number n)) (drop l.i l.numbers)
       ++ drop l.end l.initial.room;
 }

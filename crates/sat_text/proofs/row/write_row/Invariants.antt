@@ -7,8 +7,8 @@ use Rattle.sat_text.proofs.row.write_row.Given as goal
 
 abbrev pub invariant-loop-rest : goal.invariant-loop-rest
 invariant-loop-rest g l = record {
-  front : IsPassed (λ n. number_text (g.T.AsNumber.number n)) l.numbers (g.S.Shelf.state l.initial.shelf)
-      l.initial.writer (g.S.Shelf.state l.shelf) l.writer l.rest;
+  front : IsPassed (λ n. number_text (g.T.AsNumber.number n)) l.numbers
+      (g.S.Shelf.state l.initial.shelf) l.initial.writer (g.S.Shelf.state l.shelf) l.writer l.rest;
   long : length l.room ≡ ROW_ROOM;
   created : (g.S.Shelf.state l.shelf).is_created ≡ true;
 }
