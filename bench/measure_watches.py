@@ -20,9 +20,10 @@ import tempfile
 HERE = os.path.dirname(os.path.abspath(__file__))
 TOP = os.path.dirname(HERE)
 CRATES = {
+    "list_laws": "",
     "sat_clause": "",
     "sat_arena": "sat_clause std_alloc core",
-    "sat_watch": "sat_arena sat_clause",
+    "sat_watch": "list_laws sat_arena sat_clause",
     "watch_bench": "sat_watch sat_arena sat_clause",
 }
 

@@ -1,5 +1,5 @@
 -- What is known of a block from its words, and what a write and a cut make of it.
-use Rattle.std.proofs.Common.{◌≡◌, ℕ, ◌+◌, ◌-◌, ◌<◌, ◌≤◌, [], ◌∷◌, ◌++◌, List, map, length, set, take, drop, Some, refl, sym, ap, ◌∙◌, subst, arith, length-append, length-set, length-take}
+use Rattle.std.proofs.Common.{◌≡◌, ℕ, ◌+◌, ◌-◌, ◌<◌, ◌≤◌, [], ◌∷◌, ◌++◌, List, map, length, set, take, drop, Option, Some, refl, sym, ap, ◌∙◌, subst, arith, length-append, length-set, length-take}
 use Rattle.std.specs.Global.{Global}
 use Rattle.sat_clause.specs.declared.literal.Lit.{Lit}
 use Rattle.sat_arena.specs.Places.{IsHeld, IsRun}
@@ -11,12 +11,12 @@ use Rattle.sat_arena.specs.declared.places.Claim.{Claim}
 use Rattle.sat_arena.proofs.PlacesLemmas.{Begins, begins, begins_less, begins_more, begins_set, filled_at, full_again, length_full, run_at, words_are}
 
 -- a block with these words in these places
-pub record Holds (start : Start Lit) (places : Places Lit) (claim : Claim Lit Global)
+pub record Holds (start : Start Lit) (places : Places Lit) (claim : Option (Claim Lit Global))
     (alloc : Global) (len capacity : ℕ) (words : List Lit) : Type 0 where
   pub block : IsBlock start places claim alloc len capacity
   pub are : words_in places len ≡ words
 
-module _ {start : Start Lit} {places : Places Lit} {claim : Claim Lit Global} {alloc : Global}
+module _ {start : Start Lit} {places : Places Lit} {claim : Option (Claim Lit Global)} {alloc : Global}
     {len capacity : ℕ} {now : Words} (h : IsBlock start places claim alloc len capacity)
     (view : record { words = words_in places len; spare = capacity - len } ≡ now) where
   same : words_in places len ≡ now.words
@@ -47,11 +47,12 @@ module _ {start : Start Lit} {places : Places Lit} {claim : Claim Lit Global} {a
       take n (drop from places.slots) ≡ map Some (take n (drop from now.words))
   run_is from n le = run_at places.slots now.words from n front le
 
-  pub run_held : (from n : ℕ) → from + n ≤ length now.words →
-      (start.address ≡ places.start) × IsRun places.slots from n
-  run_held from n le =
+  pub run_held : (from n : ℕ) → from + n ≤ length now.words → 1 ≤ length now.words →
+      (start.address ≡ places.start) × (1 ≤ length places.slots) × IsRun places.slots from n
+  run_held from n le some =
       let all = h.row.1 in let within = h.within in let words = count in (
         sym h.row.0,
+        omega arith,
         (
           omega arith,
           (take n (drop from now.words), run_is from n le),
@@ -64,7 +65,8 @@ module _ {start : Start Lit} {places : Places Lit} {claim : Claim Lit Global} {a
       n ≤ capacity → Holds start new claim alloc n capacity words
   with_words new n words here long begin is fits = record {
     block = record {
-      row = (here ∙ h.row.0, long ∙ h.row.1, h.row.2, h.row.3, h.row.4);
+      row = (here ∙ h.row.0, long ∙ h.row.1);
+      claimed = h.claimed;
       small = h.small;
       within = fits;
       full = full_again new.slots words n begin is;
@@ -104,3 +106,19 @@ module _ {start : Start Lit} {places : Places Lit} {claim : Claim Lit Global} {a
       with_words places n (take n now.words) refl refl
       (begins_less places.slots now.words n front le)
       (omega arith) (omega arith)
+
+-- two words were written over, one after the other
+pub two_over : {start : Start Lit} {places new next : Places Lit} {claim : Option (Claim Lit Global)}
+    {alloc : Global} {len capacity : ℕ} {now : Words}
+    (h : IsBlock start places claim alloc len capacity) →
+    record { words = words_in places len; spare = capacity - len } ≡ now →
+    (i j : ℕ) (x y : Lit) → i < length now.words → j < length now.words →
+    IsWritten places i x new → IsWritten new j y next →
+    Holds start next claim alloc len capacity (set (set now.words i x) j y)
+two_over {new = new} {len = len} {capacity = capacity} {now = now} h view i j x y lt lt' first
+    second =
+    let over = word_over h view i x lt first in
+    let between : Words = record { words = set now.words i x; spare = capacity - len } in
+    let seen : record { words = words_in new len; spare = capacity - len } ≡ between =
+    λ k. record { words = over.are k; spare = capacity - len } in
+    word_over over.block seen j y (rw (length-set now.words i x) lt') second

@@ -1,9 +1,9 @@
 -- What a row lends can be copied, and a borrow of the row gives it.
 use Prim.Native.Nat.{ℕ, ◌+◌}
-use Rattle.std.specs.Prelude.{List, [], ◌∷◌, Option, Some, None}
+use Rattle.std.specs.Prelude.{List, [], ◌∷◌, length, Option, Some, None}
 use Rattle.std.specs.Mem.{type_size}
 use seplogic.Ra.Ura.{Ura}
-use base.Fml.{Lft, Incl, ftrue, ffalse}
+use base.Fml.{Lft, Incl, flt, ftrue}
 use types.Logic.{Logic}
 use denote.RattleType.{RattleType, RowLaws}
 use denote.Param.Laws.{Laws}
@@ -11,7 +11,7 @@ use denote.RawPtr.{Ptr, block_ptr, null_ptr}
 use denote.Sharing.{ShrLaws, said}
 use denote.SharingLaws.{beside_shr_laws, nothing_shr_laws, said_shr_laws}
 use denote.Shares.{Shares-less}
-use denote.Struct.Lending.{Lends, Lends-both, Lends-nothing, Lends-said, Lends-false}
+use denote.Struct.Lending.{Lends, Lends-both, Lends-nothing, Lends-said}
 use Rattle.sat_arena.specs.Ownership as own
 
 module _ (R : RattleType) (laws : RowLaws R) where
@@ -29,7 +29,7 @@ module _ (R : RattleType) (laws : RowLaws R) where
 
   -- what the row lends can be copied, and used for a shorter time
   pub copied_row : (p : Ptr) (slots : List Slot) → ShrLaws (own.lends_row R p slots)
-  copied_row null_ptr slots = said_shr_laws ffalse tt
+  copied_row null_ptr slots = said_shr_laws (flt (length slots) 1) tt
   copied_row (block_ptr b o) slots =
       beside_shr_laws _ _ (said_shr_laws (own.fit R slots) tt) (copied_places b o slots)
 
@@ -54,7 +54,7 @@ module _ {M : Type 1} {𝓤 : Ura M} (𝓛 : Logic 𝓤) (l : Lft) (R : RattleTy
   -- a borrow of the row gives what the row lends
   pub lent_row : (p : Ptr) (slots : List Item) →
       Lends 𝓛 (own.owns_row R p slots) (own.lends_row R p slots) l
-  lent_row null_ptr slots = Lends-false 𝓛 (said ffalse) l
+  lent_row null_ptr slots = Lends-said 𝓛 (flt (length slots) 1) tt l
   lent_row (block_ptr b o) slots =
       Lends-both 𝓛 (own.fit R slots) (own.owns_places R b o slots)
       (said (own.fit R slots)) (own.lends_places R b o slots) l

@@ -10,10 +10,10 @@ use seplogic.Ra.Ura.{Ura}
 use base.Fraction.{full_share}
 use mir.Syntax.{Ty, ty_array}
 use mir.Val.{Val, vstruct, vcons, vnil, of_list}
-use base.Logic.{ent, sep, emp, via, snd∗, id⊢, mono_r}
-use base.Fml.{Fml, Lft, ftrue, fsep, fat, froom}
+use base.Logic.{ent, never, sep, emp, via, snd∗, id⊢, mono_r}
+use base.Fml.{Fml, Lft, flt, ftrue, fsep, fat, froom}
 use types.Logic.{Logic, sem}
-use types.Kit.{Item, Goal, Seq, Step, step, ‵, some, ◌⊛◌, ◌$◌, ◌∵◌, !, qed, by, move, keep, drop as skip, use1, use2, pick, split, frame, fsplit, fjoin, fpick, fpack, feq_i, feq_l, rewrite, done}
+use types.Kit.{Item, Goal, Seq, Step, step, ‵, some, ◌⊛◌, ◌$◌, ◌∵◌, !, qed, by, move, keep, drop as skip, use1, use2, pick, split, frame, fsplit, fjoin, fpick, fpack, feq_i, feq_l, flt_l, rewrite, done}
 use denote.RattleType.{RattleType, Valss}
 use denote.Laws.{Typed, Is, shows}
 use denote.Param.{param, layout}
@@ -139,6 +139,11 @@ pub held_inside : {X : Type 0} (slots : List (Option X)) (i : ℕ) (x : X) →
 held_inside [] i x e = cc
 held_inside (slot ∷ slots) zero x e = omega arith
 held_inside (slot ∷ slots) (suc i) x e = omega (arith, held_inside slots i x e)
+
+-- a row that is not in a block has no place
+pub none_there : {M : Type 1} {𝓤 : Ura M} (𝓛 : Logic 𝓤) (n : ℕ) → 1 ≤ n →
+    ent 𝓤 (sem 𝓛 (flt n 1)) (never 𝓤)
+none_there 𝓛 n le = qed 𝓛 (‵ (flt n 1) ∷ []) ∵ flt_l ! (λ few. absurd (omega (arith, le, few)))
 
 module _ (E : El) {M : Type 1} {𝓤 : Ura M} (𝓛 : Logic 𝓤) (b : ℕ) where
   open 𝓛 use {H}

@@ -1,10 +1,10 @@
 -- A block of words: what contracts see, and how it lies in memory.
-use Rattle.std.specs.Prelude.{◌≡◌, ℕ, ◌+◌, ◌^◌, ◌<◌, ◌≤◌, pos, List, ◌++◌, length, map, take, drop, get_or, Some}
+use Rattle.std.specs.Prelude.{◌≡◌, ℕ, ◌+◌, ◌^◌, ◌<◌, ◌≤◌, pos, List, ◌++◌, length, map, take, drop, get_or, Option, Some}
 use Rattle.std.specs.Global.{Global}
 use Rattle.sat_clause.specs.declared.literal.Lit.{Lit}
 use Rattle.sat_clause.specs.Literal.{lit}
 use Rattle.sat_arena.specs.Places.{somes}
-use Rattle.sat_arena.specs.Row.{AreOneRow}
+use Rattle.sat_arena.specs.Row.{AreRowOf, IsClaimOn}
 use Rattle.sat_arena.specs.declared.places.Start.{Start}
 use Rattle.sat_arena.specs.declared.places.Places.{Places}
 use Rattle.sat_arena.specs.declared.places.Claim.{Claim}
@@ -36,9 +36,10 @@ abbrev pub words_in : Places Lit → ℕ → List Lit
 words_in places len = somes (take len places.slots)
 
 -- the parts are of one row, whose first places hold words and whose other ones are not looked at
-pub record IsBlock (start : Start Lit) (places : Places Lit) (claim : Claim Lit Global)
+pub record IsBlock (start : Start Lit) (places : Places Lit) (claim : Option (Claim Lit Global))
     (alloc : Global) (len capacity : ℕ) : Type 0 where
-  pub row : AreOneRow start places claim capacity alloc
+  pub row : AreRowOf start places capacity
+  pub claimed : IsClaimOn start capacity alloc claim
   pub small : capacity < 2 ^ 63
   pub within : len ≤ capacity
   pub full : take len places.slots ≡ map Some (words_in places len)

@@ -2,7 +2,7 @@
 use Rattle.std.specs.Prelude.{ℕ, ◌+◌, ◌*◌, ◌^◌, List, [], ◌∷◌, length, Option, Some, None}
 use Rattle.std.specs.Mem.{type_size}
 use base.Fraction.{full_share}
-use base.Fml.{Lft, Fml, ftrue, ffalse, fsep, flt, froom}
+use base.Fml.{Lft, Fml, ftrue, fsep, flt, froom}
 use mir.Syntax.{Ty, ty_array}
 use mir.Raw.{raw}
 use denote.RattleType.{RattleType}
@@ -26,9 +26,9 @@ module _ (R : RattleType) where
   abbrev pub fit : List (Option R.Denot) → Fml
   fit slots = flt (length slots * type_size R) (2 ^ 63)
 
-  -- the row that begins at this address
+  -- the row that begins at this address; where that is no address, it has no places
   abbrev pub owns_row : Ptr → List (Option R.Denot) → Fml
-  owns_row null_ptr slots = ffalse
+  owns_row null_ptr slots = flt (length slots) 1
   owns_row (block_ptr b o) slots = fsep (fit slots) (owns_places b o slots)
 
   -- an empty place lends nothing
@@ -42,7 +42,7 @@ module _ (R : RattleType) where
       beside (lends_place b o slot) (lends_places b (o + type_size R) slots)
 
   abbrev pub lends_row : Ptr → List (Option R.Denot) → Lft → Fml
-  lends_row null_ptr slots = said ffalse
+  lends_row null_ptr slots = said (flt (length slots) 1)
   lends_row (block_ptr b o) slots = beside (said (fit slots)) (lends_places b o slots)
 
   -- the allocator's token for a block of so many places

@@ -4,7 +4,7 @@ ghost use Rattle.std.specs.Prelude.{◌≡◌, ◌+◌, ◌-◌, ◌^◌, ◌<�
 ghost use Rattle.sat_arena.specs.Block.{slid, word_at};
 ghost use Rattle.sat_arena.specs.Layout.{lower as lower_of, upper as upper_of, written_new};
 
-use crate::layout::{head, lower, upper, word};
+use crate::layout::{NO_LINK, head, lower, upper, word};
 use crate::places::{Claim, Places, Start, allocate, deallocate};
 use sat_clause::{LITERAL_LIMIT, Lit};
 use std::alloc::{AllocError, Global};
@@ -15,7 +15,7 @@ use std_alloc::room::may_hold;
 pub struct Block {
     start: Start<Lit>,
     places: Places<Lit>,
-    claim: Claim<Lit, Global>,
+    claim: Option<Claim<Lit, Global>>,
     alloc: Global,
     len: usize,
     capacity: usize,
@@ -33,11 +33,29 @@ impl Model for Block {
 }
 
 impl Block {
+    /// The block without words and without room. It takes no memory.
+    pub(crate) fn empty(alloc: Global) -> Block
+        ensures { result ≡ record { words = []; spare = 0 } }
+    {
+        let start = Start::nowhere();
+        Block {
+            start,
+            places: Places::none(start),
+            claim: None,
+            alloc,
+            len: 0,
+            capacity: 0,
+        }
+    }
+
     /// A block without words, with room for so many.
     pub(crate) fn with_room(alloc: Global, capacity: usize) -> Result<Block, AllocError>
         ensures block { IfOk result (λ b. b ≡ record { words = []; spare = capacity }) }
         ensures small { OnOk result (capacity < 2 ^ 63) }
     {
+        if capacity == 0 {
+            return Ok(Block::empty(alloc));
+        }
         if !may_hold::<Lit>(capacity) {
             return Err(AllocError);
         }
@@ -45,7 +63,7 @@ impl Block {
         Ok(Block {
             start,
             places,
-            claim,
+            claim: Some(claim),
             alloc,
             len: 0,
             capacity,
@@ -77,7 +95,8 @@ impl Block {
 
     /// The `len` words from `from` on.
     pub(crate) fn run(&self, from: usize, len: usize) -> &[Lit]
-        requires { from + len ≤ length self.now.words }
+        requires within { from + len ≤ length self.now.words }
+        requires some { 1 ≤ length self.now.words }
         ensures { result.now ≡ take len (drop from self.now.words) }
     {
         self.places.slice(self.start, from, len)
@@ -99,8 +118,9 @@ impl Block {
           words = slice_set (slice_set self.old.words index (lower_of n)) (index + 1) (upper_of n);
         } }
     {
-        self.set(index, lower(n));
-        self.set(index + 1, upper(n));
+        let start = self.start;
+        self.places.write(start, index, lower(n));
+        self.places.write(start, index + 1, upper(n));
     }
 
     /// Writes each of two words over the other.
@@ -115,8 +135,9 @@ impl Block {
     {
         let first = self.word(i);
         let second = self.word(j);
-        self.set(i, second);
-        self.set(j, first);
+        let start = self.start;
+        self.places.write(start, i, second);
+        self.places.write(start, j, first);
     }
 
     /// Writes one more word behind the others.
@@ -148,6 +169,9 @@ impl Block {
         ensures small { OnOk result (capacity < 2 ^ 63) }
     {
         let mut next = Block::with_room(alloc, capacity)?;
+        if self.len == 0 {
+            return Ok(next);
+        }
         next.extend(self.run(0, self.len));
         Ok(next)
     }
@@ -169,11 +193,12 @@ impl Block {
     /// Writes the two words of no link.
     fn append_link(&mut self)
         requires { 2 ≤ self.old.spare }
-        ensures words { self.new.words ≡ self.old.words ++ lower_of 0 ∷ upper_of 0 ∷ [] }
+        ensures words { self.new.words
+            ≡ self.old.words ++ lower_of NO_LINK ∷ upper_of NO_LINK ∷ [] }
         ensures spare { self.new.spare ≡ self.old.spare - 2 }
     {
-        self.append(lower(0));
-        self.append(upper(0));
+        self.append(lower(NO_LINK));
+        self.append(upper(NO_LINK));
     }
 
     /// Moves the `len` words from `from` on to an earlier place, word by word.
@@ -213,6 +238,9 @@ impl Drop for Block {
             len: _,
             capacity,
         } = self;
+        let Some(claim) = claim else {
+            return;
+        };
         deallocate(&alloc, start, capacity, places, claim);
     }
 }

@@ -1,6 +1,7 @@
 //! Clauses in one block of raw memory, each found by its reference.
 //!
-//! Five functions of the module `places` hold the pointer to the block; all else is safe code.
+//! Five functions of the module `places` use the pointer to the block, and two make a row without
+//! places, whose pointer is null; all else is safe code.
 #![tactic(auto)]
 
 mod arena;

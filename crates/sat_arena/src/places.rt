@@ -2,17 +2,17 @@
 //!
 //! A place is empty or holds a value. No other module touches a pointer.
 
-ghost use Rattle.std.specs.Prelude.{◌≡◌, ℕ, ◌<◌, List, Option, Some, None, map, length, take, drop, replicate, get_or, slice_set, IfOk, ⊤};
+ghost use Rattle.std.specs.Prelude.{◌≡◌, ℕ, ◌<◌, ◌≤◌, [], List, Option, Some, None, map, length, take, drop, replicate, get_or, slice_set, IfOk, ⊤};
 ghost use Rattle.std.specs.Vec.Ownership.{FitsInBlock};
 ghost use base.Fml.{ftrue};
-ghost use denote.RawPtr.{Ptr};
+ghost use denote.RawPtr.{Ptr, null_ptr};
 ghost use Rattle.sat_arena.specs.Places.{IsHeld, IsRun};
 ghost use Rattle.sat_arena.specs.Ownership.{owns_claim, lends_row, owns_row};
 
 use std::alloc::{AllocError, Allocator};
 use std::marker::{Model, PhantomData};
 use std::mem::{align_of, size_of};
-use std::slice;
+use std::{ptr, slice};
 
 /// Where a row begins. It owns nothing.
 pub struct Start<T> {
@@ -31,7 +31,19 @@ impl<T> Clone for Start<T> {
 
 impl<T> Copy for Start<T> {}
 
-/// What owns the places of a row. It takes no room itself.
+impl<T> Start<T> {
+    /// Where a row without places begins.
+    pub(crate) fn nowhere() -> Start<T>
+        ensures { result.address ≡ null_ptr }
+    {
+        Start {
+            address: ptr::null_mut(),
+        }
+    }
+}
+
+/// What owns the places of a row. It takes no room itself. To drop it forgets the places.
+#[derive(Drop)]
 pub struct Places<T> {
     owner: PhantomData<*const T>,
     ghost start: { Ptr },
@@ -92,7 +104,8 @@ pub(crate) fn deallocate<T, A: Allocator>(
     claim: Claim<T, A>,
 )
     requires { (places.start ≡ start.address) × (length places.slots ≡ count)
-        × (claim.start ≡ start.address) × (claim.count ≡ count) × (claim.alloc ≡ alloc.now) }
+        × (claim.start ≡ start.address) × (claim.count ≡ count) × (claim.alloc ≡ alloc.now)
+        × (1 ≤ count) }
 {
     let Places { owner: _ } = places;
     let Claim { owner: _ } = claim;
@@ -106,6 +119,14 @@ pub(crate) fn deallocate<T, A: Allocator>(
 }
 
 impl<T> Places<T> {
+    /// The places of a row that has none.
+    pub(crate) fn none(start: Start<T>) -> Places<T>
+        requires { start.address ≡ null_ptr }
+        ensures { (result.start ≡ start.address) × (result.slots ≡ []) }
+    {
+        Places { owner: PhantomData }
+    }
+
     /// Puts a value into a place. What the place held is forgotten.
     pub(crate) fn write(&mut self, start: Start<T>, index: usize, value: T)
         requires { (start.address ≡ self.old.start) × (index < length self.old.slots) }
@@ -125,7 +146,8 @@ impl<T> Places<T> {
 
     /// The values of `len` places that follow each other, the first of them at `from`.
     pub(crate) fn slice(&self, start: Start<T>, from: usize, len: usize) -> &[T]
-        requires { (start.address ≡ self.now.start) × IsRun self.now.slots from len }
+        requires { (start.address ≡ self.now.start) × (1 ≤ length self.now.slots)
+            × IsRun self.now.slots from len }
         ensures { take len (drop from self.now.slots) ≡ map Some result.now }
     {
         unsafe { slice::from_raw_parts(start.address.add(from), len) }

@@ -2,18 +2,18 @@
 use Rattle.std.proofs.Common.{◌≡◌, ◌≢◌, ◌<◌, ◌≤◌, ◌+◌, ◌-◌, ◌*◌, ◌==◌, inl, inr, Bool, ℕ, suc, ℤ, pos, negsuc, nat_abs, set, length-set, replicate, true, false, List, [], ◌∷◌, ◌++◌, length, slice_index_or, reverse, Some, Vec, refl, sym, ap, ◌∙◌, subst, arith}
 use Rattle.std.specs.Prelude.{vec_len, vec_capacity}
 use Rattle.std.specs.Global.{Global}
-use Rattle.std.specs.Vec.{with_item}
+use Rattle.std.specs.Vec.{with_item, with_items}
 use Rattle.std.specs.Prelude.{if◌then◌else◌}
 use Rattle.std.proofs.lemmas.Bool.{eqb-false, eqb-true}
 use Rattle.std.proofs.lemmas.List.{get_or-replicate, get_or-set_same, get_or-set_other}
-use Rattle.std.proofs.lemmas.List.{length-reverse, reverse-append}
+use Rattle.std.proofs.lemmas.List.{length-reverse, reverse-append, with_items_is}
 use Rattle.std.proofs.lemmas.List.Elements.{All-pop, All-push, All-tail}
 use Rattle.sat_clause.specs.declared.literal.Lit.{Lit}
 use Rattle.sat_clause.specs.Literal.{IsWithin, is_among, lit, negation, variable}
 use Rattle.sat_watch.specs.declared.entry.TrailEntry.{TrailEntry}
-use Rattle.sat_watch.specs.Trail.{AreWithin, IsOpen, IsTrail, falses, place_in}
+use Rattle.sat_watch.specs.Trail.{AreWithin, IsOnce, IsOpen, IsTrail, falses, place_in}
 use Rattle.sat_watch.specs.TrailStore.{ArePlacesOf, AreTold, IsTrailStore, place_by, place_of, trail_state, truth_by, truth_in}
-use Rattle.sat_watch.proofs.LevelLemmas.{not_own_negation}
+use Rattle.sat_watch.proofs.LevelLemmas.{not_both, not_own_negation}
 use Rattle.sat_watch.proofs.WatchLemmas.{lit_tells}
 use Rattle.sat_watch.proofs.FewLemmas.{longer_trail}
 use Rattle.sat_watch.proofs.PlaceLemmas.{none_placed}
@@ -51,6 +51,21 @@ module _ (vars : ℕ) (truths : List ℕ) (wide : length truths ≡ suc (vars * 
   set_other a l x within l_within ne =
       get_or-set_other truths (place_of vars a) (place_of vars l) x 0
       (λ e. ne (ap lit (place_one vars l.code a.code l_within.0 l_within.1 within.0 within.1 e)))
+
+-- the truth of a literal is 1 where it is true
+pub truth_one : (entries : List TrailEntry) (l : Lit) (truth : ℕ) → 1 ≤ variable l →
+    IsOnce entries → truth ≡ truth_in entries l →
+    (truth == 1) ≡ is_among (falses entries) (negation l)
+truth_one entries l truth some once is =
+    by (is_among (falses entries) l) (is_among (falses entries) (negation l)) refl refl is
+  where
+    by : (out true_now : Bool) → is_among (falses entries) l ≡ out →
+        is_among (falses entries) (negation l) ≡ true_now → truth ≡ truth_by out true_now →
+        (truth == 1) ≡ true_now
+    by true true eo et e = absurd (not_both entries l some once eo et)
+    by true false eo et e = rw e refl
+    by false true eo et e = rw e refl
+    by false false eo et e = rw e refl
 
 -- at the start each literal is open
 pub none_told : (vars : ℕ) → AreTold vars [] (replicate (vars * 2 + 1) 0)
@@ -193,13 +208,25 @@ module _ (vars : ℕ) (entries next : Vec TrailEntry Global) (truths places : Ve
       let few = longer.few in
       omega (arith, few, length-reverse entries.items, entries.ok.0, store.room)
 
+  -- the table of truths with other ones for the literal and its negation
+  abbrev told_as : ℕ → ℕ → List ℕ
+  told_as x y = set (set truths.items (place_of vars e.lit) x) (place_of vars (negation e.lit)) y
+
+  told_items : (x y : ℕ) (told : List ℕ) → told ≡ told_as x y →
+      (with_items truths told).items ≡ told_as x y
+  told_items x y told is =
+      let inner = set truths.items (place_of vars e.lit) x in
+      let long = length-set inner (place_of vars (negation e.lit)) y ∙
+      (length-set truths.items (place_of vars e.lit) x ∙ sym truths.ok.0) in
+      with_items_is truths told (ap length is ∙ long) ∙ is
+
   -- one more entry
   pub push_store : IsWithin vars e.lit → IsOpen (reverse entries.items) e.lit →
+      (told : List ℕ) → told ≡ told_as 1 2 →
       next.items ≡ entries.items ++ e ∷ [] → vec_capacity next ≡ vec_capacity entries →
-      IsTrailStore vars next
-      (with_item (with_item truths (place_of vars e.lit) 1) (place_of vars (negation e.lit)) 2)
+      IsTrailStore vars next (with_items truths told)
       (with_item places (variable e.lit - 1) (length (reverse entries.items)))
-  push_store within free items capacity =
+  push_store within free told told_is items capacity =
       let turned : reverse next.items ≡ e ∷ reverse entries.items =
       ap reverse items ∙ reverse-push entries.items e in
       record {
@@ -214,7 +241,9 @@ module _ (vars : ℕ) (entries next : Vec TrailEntry Global) (truths places : Ve
         wide = store.wide;
         many = store.many;
         told =
-            rw turned (push_told vars (reverse entries.items) e truths.items within free wide_is
+            subst (λ (p : List TrailEntry × List ℕ). AreTold vars p.0 p.1)
+            (λ x. (sym turned x, sym (told_items 1 2 told told_is) x))
+            (push_told vars (reverse entries.items) e truths.items within free wide_is
             store.told);
         placed =
             rw turned (push_places vars (reverse entries.items) e truths.items within free wide_is
@@ -222,12 +251,10 @@ module _ (vars : ℕ) (entries next : Vec TrailEntry Global) (truths places : Ve
       }
 
   -- one less
-  pub pop_store : entries.items ≡ next.items ++ e ∷ [] →
+  pub pop_store : (told : List ℕ) → told ≡ told_as 0 0 → entries.items ≡ next.items ++ e ∷ [] →
       vec_capacity next ≡ vec_capacity entries →
-      IsTrailStore vars next
-      (with_item (with_item truths (place_of vars e.lit) 0) (place_of vars (negation e.lit)) 0)
-      places
-  pop_store items capacity =
+      IsTrailStore vars next (with_items truths told) places
+  pop_store told told_is items capacity =
       let turned : reverse entries.items ≡ e ∷ reverse next.items =
       ap reverse items ∙ reverse-push next.items e in
       let before : IsTrail (record { vars = vars; entries = e ∷ reverse next.items }) =
@@ -251,8 +278,9 @@ module _ (vars : ℕ) (entries next : Vec TrailEntry Global) (truths places : Ve
         wide = store.wide;
         many = store.many;
         told =
-            pop_told vars (reverse next.items) e truths.items within once.0 wide_is
-            (subst (λ t. AreTold vars t truths.items) turned store.told);
+            subst (AreTold vars (reverse next.items)) (sym (told_items 0 0 told told_is))
+            (pop_told vars (reverse next.items) e truths.items within once.0 wide_is
+            (subst (λ t. AreTold vars t truths.items) turned store.told));
         placed =
             pop_places vars (reverse next.items) e truths.items within once.0 wide_is places.items
             (subst (λ t. ArePlacesOf vars t places.items) turned store.placed);

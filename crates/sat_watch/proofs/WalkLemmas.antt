@@ -7,7 +7,7 @@ use Rattle.sat_arena.specs.declared.clause_ref.ClauseRef.{ClauseRef}
 use Rattle.sat_arena.specs.Store.{Stored, is_held, stored_at}
 use Rattle.sat_watch.specs.declared.entry.TrailEntry.{TrailEntry}
 use Rattle.sat_watch.specs.declared.place.Place.{Place}
-use Rattle.sat_watch.specs.Chains.{ChainsState, GoesOn, HasCursor, IsChained, IsCursor, clause_of, head_in, is_in, next_by, next_on, watch_of}
+use Rattle.sat_watch.specs.Chains.{ChainsState, GoesOn, HasCursor, IsChained, IsCursor, clause_of, head_in, holders, is_in, next_by, next_on, watch_of}
 use Rattle.sat_watch.specs.Watched.{Goes, IsVisited, IsWalking, OtherIsTrue, chain_length}
 use Rattle.sat_watch.proofs.GoesLemmas.{few_refs, goes_trans, grows_true, rest_length}
 use Rattle.sat_watch.proofs.PathLemmas.{at_end, at_first, once_before, path_goes_on}
@@ -79,6 +79,12 @@ module _ (base : List TrailEntry) (level : ℕ) (f : Lit) (old : List Stored) (s
     cursor_first =
         subst (λ l. IsCursor (next_on s.clauses f) (head_in s.heads f) w.kept l (clause_of before)
         (Some c)) first.1 cursor_here
+
+    -- with the look at this clause they are still few
+    pub few_here : looks + 1 ≤ start + holders f old
+    few_here =
+        let few = w.few in let long : length w.rest ≡ suc (length first.0) = ap length first.1 in
+        omega arith
 
     pub goes_here : GoesOn (next_on s.clauses f c)
     goes_here = let back = cursor_first.back in subst GoesOn (sym back.1.1) tt

@@ -1,6 +1,7 @@
 pub mod Chains
 pub mod Choice
 pub mod Forget
+pub mod Head
 pub mod Levels
 pub mod Relinking
 pub mod Tests

@@ -1,6 +1,6 @@
 //! The clauses, and the chains of those that watch a literal.
 
-ghost use Rattle.std.specs.Prelude.{◌≡◌, ◌≢◌, ◌<◌, ◌≤◌, ◌∷◌, [], List, length, map, swap, true, All, IfOk, OnErr, OnOk, Some};
+ghost use Rattle.std.specs.Prelude.{◌≡◌, ◌≢◌, ◌^◌, ◌<◌, ◌≤◌, ◌∷◌, [], List, length, map, swap, true, All, IfOk, IfSome, OnErr, OnOk, Some};
 ghost use Rattle.sat_clause.specs.declared.literal.Lit.{Lit};
 ghost use Rattle.sat_clause.specs.Learned.{IsSimple};
 ghost use Rattle.sat_clause.specs.Literal.{IsWithin};
@@ -12,6 +12,7 @@ ghost use Rattle.sat_watch.specs.Choice.{IsAhead, after_first as after_first_of}
 ghost use Rattle.sat_watch.specs.Relinking.{marked, stored_without};
 ghost use Rattle.sat_watch.specs.Watches.{attached};
 
+use crate::head::Head;
 use crate::links::{index, link_all, link_first, mark_all, push_ordered, put_first, unlink};
 use crate::place::Place;
 use sat_arena::{Arena, ClauseRef, Moves};
@@ -24,7 +25,7 @@ use std::marker::Model;
 pub(crate) struct Chains {
     vars: u32,
     arena: Arena,
-    heads: Vec<Option<ClauseRef>>,
+    heads: Vec<Head>,
 }
 
 impl Model for Chains {
@@ -62,7 +63,7 @@ impl Chains {
         ensures clauses { IfOk result (λ c. c.clauses ≡ []) }
         ensures chained { IfOk result AreChained }
     {
-        let heads = vec![in alloc; None; vars as usize * 2]?;
+        let heads = vec![in alloc; Head::none(); vars as usize * 2]?;
         Ok(Chains { vars, arena, heads })
     }
 
@@ -140,7 +141,7 @@ impl Chains {
         requires within { IsWithin self.now.vars l }
         ensures { result ≡ head_in self.now.heads l }
     {
-        self.heads[index(l)]
+        self.heads[index(l)].clause()
     }
 
     /// The literals of a clause.
@@ -166,6 +167,7 @@ impl Chains {
         requires held { is_held self.now.clauses p.clause ≡ true }
         requires which { p.which < 2 }
         ensures value { result ≡ link_of (stored_at self.now.clauses p.clause) p.which }
+        ensures near { IfSome result (λ c. c.word < 2 ^ 63) }
     {
         self.arena.link(p.clause, p.which)
     }
@@ -206,7 +208,7 @@ impl Chains {
             mark_all(&mut self.arena, clauses, false);
             return Err(AllocError);
         };
-        self.heads.fill(None);
+        self.heads.fill(Head::none());
         link_all(&mut self.arena, &mut self.heads, &moves, self.vars);
         Ok(moves)
     }
@@ -229,6 +231,7 @@ impl Chains {
         requires cursor { HasCursor (next_on self.old.clauses f) (head_in self.old.heads f)
             (clause_of before) (Some at.clause) }
         requires after { link_of (stored_at self.old.clauses at.clause) at.which ≡ after }
+        requires near { IfSome after (λ c. c.word < 2 ^ 63) }
         ensures vars { self.new.vars ≡ self.old.vars }
         ensures spare { self.new.spare ≡ self.old.spare }
         ensures chained { AreChained self.new }

@@ -17,6 +17,7 @@
 mod chains;
 mod choice;
 mod entry;
+mod head;
 mod links;
 mod place;
 #[cfg(test)]

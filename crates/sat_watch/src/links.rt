@@ -1,6 +1,6 @@
 //! The steps that link clauses in an arena into chains.
 
-ghost use Rattle.std.specs.Prelude.{◌≡◌, ◌+◌, ◌*◌, ◌<◌, ◌≤◌, length, map, true, All};
+ghost use Rattle.std.specs.Prelude.{◌≡◌, ◌+◌, ◌*◌, ◌^◌, ◌<◌, ◌≤◌, length, map, true, All, IfSome};
 ghost use Rattle.sat_clause.specs.Literal.{variable as variable_of};
 ghost use Rattle.sat_arena.specs.declared.clause_ref.ClauseRef.{ClauseRef};
 ghost use Rattle.sat_arena.specs.Store.{ArePlaced, IsLinkTo, changed, is_held, new_clause, ref, size_all, with_link, with_swap};
@@ -8,6 +8,7 @@ ghost use Rattle.sat_watch.specs.Chains.{HasHead, IsChained, IsLast, MayBePlaceO
 ghost use Rattle.sat_watch.specs.Relinking.{AreRefsOf, AreUnlinked, heads_with, linked, marked};
 ghost use Rattle.sat_watch.specs.Watches.{attached};
 
+use crate::head::Head;
 use crate::place::Place;
 use sat_arena::{Arena, ClauseRef, Moves};
 use sat_clause::{LITERAL_LIMIT, Lit};
@@ -17,17 +18,17 @@ pub(crate) fn index(l: Lit) -> usize
     requires { 1 ≤ variable_of l }
     ensures { result ≡ index_of l }
 {
-    let plain = (l.variable() as usize - 1) * 2;
+    let twice = l.variable() as usize * 2;
     if l.code > 0 {
-        return plain;
+        return twice - 2;
     }
-    plain + 1
+    twice - 1
 }
 
 /// Links what stands before a clause in a literal's chain to what stands after it.
 pub(crate) fn unlink(
     arena: &mut Arena,
-    heads: &mut Vec<Option<ClauseRef>>,
+    heads: &mut Vec<Head>,
     f: Lit,
     before: Option<Place>,
     after: Option<ClauseRef>,
@@ -36,12 +37,13 @@ pub(crate) fn unlink(
     requires within { index_of f < length heads.old.items }
     requires place { MayBePlaceOf arena.old.clauses f before }
     requires after { IsLinkTo arena.old.clauses after }
+    requires near { IfSome after (λ c. c.word < 2 ^ 63) }
     ensures clauses { arena.new.clauses ≡ unlinked before after arena.old.clauses }
     ensures spare { arena.new.spare ≡ arena.old.spare }
     ensures heads { heads.new.items ≡ unlinked_heads f before after heads.old.items }
 {
     let Some(p) = before else {
-        heads[index(f)] = after;
+        heads[index(f)] = Head::of(after);
         return;
     };
     arena.set_link(p.clause, p.which, after);
@@ -49,7 +51,7 @@ pub(crate) fn unlink(
 
 /// Swaps the literal at a position of a clause to the place, and puts the clause in front of that
 /// literal's chain.
-pub(crate) fn put_first(arena: &mut Arena, heads: &mut Vec<Option<ClauseRef>>, at: Place, k: u32)
+pub(crate) fn put_first(arena: &mut Arena, heads: &mut Vec<Head>, at: Place, k: u32)
     requires held { is_held arena.old.clauses at.clause ≡ true }
     requires which { at.which < 2 }
     requires low { 2 ≤ k }
@@ -64,8 +66,8 @@ pub(crate) fn put_first(arena: &mut Arena, heads: &mut Vec<Option<ClauseRef>>, a
     let lits = arena.lits(at.clause);
     let first = index(lits[k as usize]);
     arena.swap(at.clause, at.which, k);
-    arena.set_link(at.clause, at.which, heads[first]);
-    heads[first] = Some(at.clause);
+    arena.set_link(at.clause, at.which, heads[first].clause());
+    heads[first] = Head::of(Some(at.clause));
 }
 
 /// Puts a clause behind the others, with the literal at position `i` first, and then the one that
@@ -88,7 +90,7 @@ pub(crate) fn push_ordered(arena: &mut Arena, lits: &[Lit], id: u32, i: u32, j: 
 }
 
 /// Puts a clause in front of the chains of its first two literals.
-pub(crate) fn link_first(arena: &mut Arena, heads: &mut Vec<Option<ClauseRef>>, c: ClauseRef)
+pub(crate) fn link_first(arena: &mut Arena, heads: &mut Vec<Head>, c: ClauseRef)
     requires held { is_held arena.old.clauses c ≡ true }
     requires two { 2 ≤ length (literals arena.old.clauses c) }
     requires first { HasHead arena.old.clauses heads.old.items c 0 }
@@ -104,11 +106,11 @@ pub(crate) fn link_first(arena: &mut Arena, heads: &mut Vec<Option<ClauseRef>>, 
     let lits = arena.lits(c);
     let first = index(lits[0]);
     let second = index(lits[1]);
-    let (to_first, to_second) = (heads[first], heads[second]);
+    let (to_first, to_second) = (heads[first].clause(), heads[second].clause());
     arena.set_link(c, 0, to_first);
     arena.set_link(c, 1, to_second);
-    heads[first] = Some(c);
-    heads[second] = Some(c);
+    heads[first] = Head::of(Some(c));
+    heads[second] = Head::of(Some(c));
 }
 
 /// Marks these clauses, or takes their marks away.
@@ -123,7 +125,7 @@ pub(crate) fn mark_all(arena: &mut Arena, clauses: &[ClauseRef], on: bool)
 }
 
 /// Puts a clause in front of the chains of its first two literals, if it has two.
-fn relink(arena: &mut Arena, heads: &mut Vec<Option<ClauseRef>>, c: ClauseRef)
+fn relink(arena: &mut Arena, heads: &mut Vec<Head>, c: ClauseRef)
     requires held { is_held arena.old.clauses c ≡ true }
     requires first { 2 ≤ length (literals arena.old.clauses c)
         → HasHead arena.old.clauses heads.old.items c 0 }
@@ -141,12 +143,7 @@ fn relink(arena: &mut Arena, heads: &mut Vec<Option<ClauseRef>>, c: ClauseRef)
 }
 
 /// Links all clauses, whose chains are still empty. The moves tell their references.
-pub(crate) fn link_all(
-    arena: &mut Arena,
-    heads: &mut Vec<Option<ClauseRef>>,
-    moves: &Moves,
-    vars: u32,
-)
+pub(crate) fn link_all(arena: &mut Arena, heads: &mut Vec<Head>, moves: &Moves, vars: u32)
     requires unlinked { AreUnlinked vars arena.old.clauses heads.old.items }
     requires references { AreRefsOf arena.old.clauses moves.now }
     ensures clauses { map attached arena.new.clauses ≡ map attached arena.old.clauses }

@@ -47,7 +47,7 @@ pub(crate) fn look(trail: &Trail, lits: &[Lit], which: u32) -> Sight
     ensures { SightSays trail.now.entries lits.now which result }
 {
     let other = lits[1 - which as usize];
-    if trail.is_false(other.negation()) {
+    if trail.is_true(other) {
         return Sight::IsTrueAlready;
     }
     if let Some(k) = open_position(trail, lits) {

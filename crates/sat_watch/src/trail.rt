@@ -1,6 +1,6 @@
 //! The literals that a search has made true, in order.
 
-ghost use Rattle.std.specs.Prelude.{◌≡◌, ◌≢◌, ◌≤◌, ◌∷◌, [], ℕ, length, drop, map, reverse, slice_index_or, true, false, ◌<◌, IfNone, IfOk, IfSome, None, Some};
+ghost use Rattle.std.specs.Prelude.{◌≡◌, ◌≢◌, ◌+◌, ◌*◌, ◌≤◌, ◌∷◌, [], ℕ, length, drop, map, reverse, slice_index_or, slice_set, true, false, ◌<◌, IfNone, IfOk, IfSome, None, Some};
 ghost use Rattle.sat_clause.specs.Literal.{IsLiteral, IsWithin, is_among, negation};
 ghost use Rattle.sat_arena.specs.Compact.{AreRising, moved_by};
 ghost use Rattle.sat_watch.specs.Forget.{entry_moved};
@@ -43,6 +43,18 @@ fn place(vars: u32, l: Lit) -> usize
     ensures { result ≡ place_of vars l }
 {
     (vars as i32 + l.code) as usize
+}
+
+/// Writes the truth of a literal and that of its negation into the table of truths.
+fn tell(truths: &mut [u8], vars: u32, l: Lit, truth: u8, opposite: u8)
+    requires few { vars ≤ VARIABLE_LIMIT }
+    requires within { IsWithin vars l }
+    requires wide { length truths.old ≡ vars * 2 + 1 }
+    ensures { truths.new ≡ slice_set (slice_set truths.old (place_of vars l) truth)
+        (place_of vars (negation l)) opposite }
+{
+    truths[place(vars, l)] = truth;
+    truths[place(vars, l.negation())] = opposite;
 }
 
 /// The entry with its reason at the reference that the moves give for it.
@@ -91,6 +103,14 @@ impl Trail {
         self.truths[place(self.vars, l)] == 2
     }
 
+    /// Whether the literal is true.
+    pub(crate) fn is_true(&self, l: Lit) -> bool
+        requires { IsWithin self.now.vars l }
+        ensures { result ≡ is_among (falses self.now.entries) (negation l) }
+    {
+        self.truths[place(self.vars, l)] == 1
+    }
+
     /// How many literals stand on it.
     pub(crate) fn len(&self) -> u32
         ensures { result ≡ length self.now.entries }
@@ -113,10 +133,9 @@ impl Trail {
         ensures entries { self.new.entries ≡ entry ∷ self.old.entries }
     {
         let older = self.len();
-        self.entries.push_reserved(entry);
-        self.truths[place(self.vars, entry.lit)] = 1;
-        self.truths[place(self.vars, entry.lit.negation())] = 2;
+        tell(&mut self.truths, self.vars, entry.lit, 1, 2);
         self.places[entry.lit.variable() as usize - 1] = older;
+        self.entries.push_reserved(entry);
     }
 
     /// Takes the newest entry off, if there is one.
@@ -128,8 +147,7 @@ impl Trail {
         let Some(entry) = self.entries.pop() else {
             return None;
         };
-        self.truths[place(self.vars, entry.lit)] = 0;
-        self.truths[place(self.vars, entry.lit.negation())] = 0;
+        tell(&mut self.truths, self.vars, entry.lit, 0, 0);
         Some(entry)
     }
 
@@ -177,7 +195,7 @@ impl Trail {
         ensures within { IsWithin self.now.vars result.lit }
         ensures literal { IsLiteral result.lit }
     {
-        self.entries[self.entries.len() - 1 - newer as usize]
+        self.entries[self.entries.len() - (newer as usize + 1)]
     }
 
     /// Takes off the entries of a level above this one, the newest first, up to one that is not.

@@ -1,6 +1,6 @@
 //! Visits of the clauses in the chain of a literal that has become false.
 
-ghost use Rattle.std.specs.Prelude.{◌≡◌, ◌+◌, ◌<◌, ◌≤◌, ◌∷◌, [], IfNone, IfSome, true, None, Some};
+ghost use Rattle.std.specs.Prelude.{◌≡◌, ◌+◌, ◌^◌, ◌<◌, ◌≤◌, ◌∷◌, [], IfNone, IfSome, true, None, Some};
 ghost use Rattle.sat_clause.specs.Literal.{IsWithin};
 ghost use Rattle.sat_arena.specs.declared.clause_ref.ClauseRef.{ClauseRef};
 ghost use Rattle.sat_arena.specs.Store.{is_held, link_of, stored_at};
@@ -35,6 +35,7 @@ fn visit_clause(
     requires cursor { HasCursor (next_on chains.old.clauses f) (head_in chains.old.heads f)
         (clause_of before) (Some at.clause) }
     requires after { link_of (stored_at chains.old.clauses at.clause) at.which ≡ after }
+    requires near { IfSome after (λ c. c.word < 2 ^ 63) }
     ensures vars { chains.new.vars ≡ chains.old.vars }
     ensures whole { AreWhole chains.new trail.new }
     ensures goes { GoesTo level f chains.old trail.old chains.new trail.new }
@@ -87,17 +88,20 @@ pub(crate) fn walk(
         (λ c. AreFalse trail.new.entries (literals chains.new.clauses c)) }
     ensures looks { looks.new ≤ looks.old + holders f chains.old.clauses }
 {
+    let mut walked: u64 = 0;
     let mut before: Option<Place> = None;
     let mut next = chains.head(f);
     while let Some(clause) = next {
-        *looks = looks.saturating_add(1);
+        walked = walked.wrapping_add(1);
         let at = chains.place(clause, f);
         let after = chains.after(at);
         let Some(last) = visit_clause(chains, trail, f, level, before, at, after) else {
+            *looks = looks.saturating_add(walked);
             return Some(clause);
         };
         before = last;
         next = after;
     }
+    *looks = looks.saturating_add(walked);
     None
 }

@@ -1,10 +1,11 @@
 -- `deallocate` makes the row room again, and hands the room back with the right to do so.
-use Rattle.sat_arena.proofs.Steps.{◌≡◌, refl, sym, ap, subst, ◌∙◌, ℕ, ◌*◌, ◌<◌, ◌^◌, arith, List, [], ◌∷◌, ◌++◌, T, length, Ura, SProp, ent, never, id⊢, Lft, Share, Incl-trans, ftrue, froom, flft, Fn, named, w64, ty_unit, ty_array, inst_fn, Val, vptr, vint, vunit, has_ty, WT, Env, Calls, Loops, Tables, WpFn, Memory, align, capped, capped_fits, Routine, Logic, Fun, fact, ◌⊑◌, FmC, WpFn-mono, fm_of, Item, ⋆, ‵, raw, ◌⊛◌, given, later, await, learn, at_ret, ◌$◌, ◌∵◌, !, qed, by, move, keep, use1, split, join, group, rewrite, fsplit, fsplit3, fjoin, feq_i, feq_l, flt_l, suffices, done, whole, sub, stop, fld, unit_lit, of_opd, bin, and_then, no_more, first, blocks, exec, returns, enter, size_word, align_word, alloc_all, pass_all, free_all, look_at, get, get_in, sets, lands_last, is, env, yes, no, RattleType, owns, hidden_shr, Ptr, ptr_val, in_a_block, Bor, ShrRef, RefOf, usize, plain, nothing, calls_at_last, Clauses, Ended, closing, on_entry, Meets, triple_of, Triple, entered, needs, Stays, stay_dropped, walk_of, ends_at, Goes-dropped, walk_Meets, El, R, elτ, uncapped, after, word, word-Good, as_raw}
+use Rattle.sat_arena.proofs.Steps.{◌≡◌, refl, sym, ap, subst, ◌∙◌, ℕ, ◌*◌, ◌<◌, ◌^◌, arith, List, [], ◌∷◌, ◌++◌, T, length, Ura, SProp, ent, Lft, Share, Incl-trans, ftrue, froom, flft, Fn, named, w64, ty_unit, ty_array, inst_fn, Val, vptr, vint, vunit, has_ty, WT, Env, Calls, Loops, Tables, WpFn, Memory, align, capped, capped_fits, Routine, Logic, Fun, fact, ◌⊑◌, FmC, WpFn-mono, fm_of, Item, ⋆, ‵, raw, ◌⊛◌, given, later, await, learn, at_ret, ◌$◌, ◌∵◌, !, qed, by, move, keep, use1, split, join, group, rewrite, fsplit, fsplit3, fjoin, feq_i, feq_l, flt_l, suffices, done, whole, sub, stop, fld, unit_lit, of_opd, bin, and_then, no_more, first, blocks, exec, returns, enter, size_word, align_word, alloc_all, pass_all, free_all, look_at, get, get_in, sets, lands_last, is, env, yes, no, RattleType, owns, hidden_shr, Ptr, ptr_val, in_a_block, Bor, ShrRef, RefOf, usize, plain, nothing, calls_at_last, Clauses, Ended, closing, on_entry, Meets, triple_of, Triple, entered, needs, Stays, stay_dropped, walk_of, ends_at, Goes-dropped, walk_Meets, El, R, elτ, uncapped, after, word, word-Good, as_raw}
+use Prim.Native.Nat.{◌≤◌}
 use contract.Running.{tables, tables_of}
 use Rattle.core.proofs.alloc.Calls.{Al, Goes-blank, second, token, gives_key, Gives, at_gives, Gives-goes, Gives-Gives}
 use Rattle.core.proofs.slots.Leases.{block_ty, block_size, block_align, args, P}
 use Rattle.sat_arena.specs.Ownership.{owns_claim, owns_row}
-use Rattle.sat_arena.proofs.RowMemory.{PlacesType, StartType, width, owner, owner_had, pointer_had, room_of_row}
+use Rattle.sat_arena.proofs.RowMemory.{none_there, PlacesType, StartType, width, owner, owner_had, pointer_had, room_of_row}
 use Rattle.sat_arena.specs.contracts.places.Claim as claim
 use Rattle.sat_arena.specs.contracts.places.deallocate as F
 use Rattle.sat_arena.specs.contracts.places.deallocate.Key.{name as key}
@@ -46,7 +47,7 @@ module _ (E : El) (Z : Al) where
       Type 0
   Asks alloc start count places right =
       (places.start ≡ start.address) × (length places.slots ≡ count)
-      × (right.start ≡ start.address) × (right.count ≡ count) × (right.alloc ≡ alloc)
+      × (right.start ≡ start.address) × (right.count ≡ count) × (right.alloc ≡ alloc) × (1 ≤ count)
 
 module _ (E : El) (Z : Al) {M : Type 1} {𝓤 : Ura M} (𝓛 : Logic 𝓤) (at_mem : Memory → SProp 𝓤)
     (run : Routine → Fun 𝓤) (C : Calls 𝓤 𝓛.H) (Λ : Loops 𝓤 𝓛.H) (fm : FmC 𝓤 𝓛.H 𝓛.laws C)
@@ -111,7 +112,7 @@ module _ (E : El) (Z : Al) {M : Type 1} {𝓤 : Ura M} (𝓛 : Logic 𝓤) (at_m
       ) $
       let locals : Env 𝓤 H = env (function E Z).locals l in
       rewrite ! 0 (λ (p : Ptr). ‵ (owns_row (R E) p slots)) asked.0 refl $
-      in_a_block ! start.address (λ p. owns_row (R E) p slots) (id⊢ 𝓤 (never 𝓤)) (λ b o e.
+      in_a_block ! start.address (λ p. owns_row (R E) p slots) (none_there 𝓛 (length slots) (omega (arith, asked.1, asked.5))) (λ b o e.
       fsplit ! $ flt_l ! (λ fit.
       let small : count * w < 2 ^ 63 = subst (λ k. k * w < 2 ^ 63) asked.1 fit in
       let bytes : count * w < 2 ^ 64 = omega arith in let row = block_ty E count in

@@ -8,7 +8,7 @@ use Rattle.sat_watch.proofs.links.link_first.Goals as goal
 pub set_link-requires-2-clause-held : goal.set_link-requires-2-clause-held
 set_link-requires-2-clause-held c =
     rw c.set_link.ensures.clauses
-    (held_changed (with_link 0 c.index.result.now) c.args.c c.args.c c.args.arena.now.clauses
+    (held_changed (with_link 0 c.clause-to_first.result) c.args.c c.args.c c.args.arena.now.clauses
     (λ k. refl) ∙ c.requires.held)
 
 pub set_link-requires-2-clause-next : goal.set_link-requires-2-clause-next
@@ -23,5 +23,6 @@ set_link-requires-2-clause-next c = λ d e.
     c.index-2.result.now c.requires.second.within
     ∙ (ap (λ n. get_or heads n c.index-2.result.now) (sym second) ∙ sym c.index-2.ensures) in
     rw c.set_link.ensures.clauses
-    (held_changed (with_link 0 c.index.result.now) c.args.c d c.args.arena.now.clauses
-    (λ k. refl) ∙ c.requires.second.held d (there ∙ e))
+    (held_changed (with_link 0 c.clause-to_first.result) c.args.c d c.args.arena.now.clauses
+    (λ k. refl) ∙ c.requires.second.held d
+    (there ∙ (sym c.clause-to_second.ensures ∙ e)))

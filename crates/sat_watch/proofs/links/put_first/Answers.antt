@@ -26,4 +26,5 @@ set_link-requires-clause-next c = λ d e.
     ∙ (ap (λ n. get_or heads n c.index.result.now) (sym first) ∙ sym c.index.ensures) in
     rw c.swap.ensures.clauses
     (held_changed (with_swap c.args.at.which c.args.k) c.args.at.clause d c.args.arena.now.clauses
-    (λ k. refl) ∙ c.requires.head.held d (there ∙ e))
+    (λ k. refl) ∙ c.requires.head.held d
+    (there ∙ (sym c.clause.ensures ∙ e)))

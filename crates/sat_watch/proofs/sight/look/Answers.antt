@@ -6,20 +6,19 @@ use Rattle.sat_watch.proofs.VisitLemmas.{all_false, other_at, others_false}
 use Rattle.sat_watch.proofs.sight.look.Goals as goal
 use Rattle.sat_watch.proofs.TrailLemmas.{is_open}
 
-pub returns-then-is_false-2 : goal.returns-then-is_false-2
-returns-then-is_false-2 c =
+pub returns-then-is_false : goal.returns-then-is_false
+returns-then-is_false c =
     let es = c.args.trail.now.entries in let lits = c.args.lits.now in
     all_false es lits c.args.which (lit (pos 0)) c.requires.which c.requires.two c.requires.watch
-    (sym c.is_false-2.ensures ∙ c.if-is_false-2.true) c.in_default.ensures
+    (sym c.is_false.ensures ∙ c.if-is_false.true) c.in_default.ensures
 
 pub returns : goal.returns
 returns c =
     let es = c.args.trail.now.entries in let lits = c.args.lits.now in
     let other : Lit = slice_index_or lits (1 - c.args.which) (lit (pos 0)) in
-    let not_false : is_false es other ≡ false = sym c.is_false-2.ensures ∙ c.if-is_false-2.false in
+    let not_false : is_false es other ≡ false = sym c.is_false.ensures ∙ c.if-is_false.false in
     let not_true : is_false es (negation other) ≡ false =
-    ap (λ l. is_false es l)
-    (sym c.negation.ensures.value) ∙ (sym c.is_false.ensures ∙ c.if-is_false.false) in (
+    sym c.is_true.ensures ∙ c.if-is_true.false in (
       other_at lits c.args.which c.requires.which c.requires.two,
       is_open es other not_false not_true,
       others_false es lits c.args.which c.requires.which c.requires.two c.requires.watch

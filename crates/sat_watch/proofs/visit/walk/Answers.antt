@@ -1,14 +1,15 @@
-use Rattle.std.proofs.Common.{refl, ◌∙◌, arith}
+use Rattle.std.proofs.Common.{◌+◌, ◌%◌, ◌^◌, refl, ◌∙◌, arith}
 use Rattle.sat_watch.proofs.GoesLemmas.{goes_trans}
-use Rattle.sat_watch.proofs.WalkLemmas.{goes_here, walk_begins, walk_ends, walk_shorter, walks_on}
+use Rattle.sat_watch.proofs.WalkLemmas.{few_here, goes_here, walk_begins, walk_ends, walk_shorter, walks_on}
 use Rattle.sat_watch.proofs.visit.walk.Goals as goal
 
 pub loop-next-init : goal.loop-next-init
 loop-next-init c = record {
   vars = refl;
   whole = c.requires.whole;
+  looks = refl;
   walking =
-      walk_begins c.args.trail.now.entries c.args.level c.args.f c.args.chains.now c.args.looks.now
+      walk_begins c.args.trail.now.entries c.args.level c.args.f c.args.chains.now 0
       c.head-next.result
       c.requires.whole.chained c.requires.within c.head-next.ensures;
 }
@@ -18,8 +19,8 @@ place-at-requires c =
     let l = c.loop-next in
     record {
       goes = goes_here c.args.trail.now.entries c.args.level c.args.f
-          c.args.chains.now.clauses c.args.looks.now l.chains l.trail.entries l.before l.next
-          l.looks
+          c.args.chains.now.clauses 0 l.chains l.trail.entries l.before l.next
+          l.walked
           l.invariant.walking c.in-Some.clause c.in-Some.is;
     }
 
@@ -35,7 +36,7 @@ pub loop-next-smaller : goal.loop-next-smaller
 loop-next-smaller c =
     let l = c.loop-next in
     walk_shorter c.args.trail.now.entries c.args.level c.args.f c.args.chains.now.clauses
-    c.args.looks.now l.chains l.trail.entries l.before l.next l.looks l.invariant.walking
+    0 l.chains l.trail.entries l.before l.next l.walked l.invariant.walking
     c.in-Some.clause c.in-Some.is c.place-at.result c.place-at.ensures.clause c.after-after.result
     c.visit_clause.new.chains c.visit_clause.new.trail.entries c.in-Some-visit_clause.last
     c.in-Some-visit_clause.ensures.visited c.visit_clause.ensures.goes
@@ -43,23 +44,36 @@ loop-next-smaller c =
 pub loop-next-preserved : goal.loop-next-preserved
 loop-next-preserved c =
     let l = c.loop-next in
-    let sum = c.saturating_add.ensures in
     record {
       vars = c.visit_clause.ensures.vars ∙ l.invariant.vars;
       whole = c.visit_clause.ensures.whole;
+      looks = l.invariant.looks;
       walking =
           walks_on c.args.trail.now.entries c.args.level c.args.f c.args.chains.now.clauses
-          c.args.looks.now l.chains l.trail.entries l.before l.next l.looks l.invariant.walking
+          0 l.chains l.trail.entries l.before l.next l.walked l.invariant.walking
           c.in-Some.clause c.in-Some.is c.place-at.result c.place-at.ensures.clause
           c.after-after.result c.visit_clause.new.chains c.visit_clause.new.trail.entries
           c.in-Some-visit_clause.last
-          c.in-Some-visit_clause.ensures.visited c.visit_clause.ensures.goes c.saturating_add.result
-          (omega (arith, sum));
+          c.in-Some-visit_clause.ensures.visited c.visit_clause.ensures.goes
+          ((l.walked + 1) % 2 ^ 64) (omega arith);
     }
+
+pub returns-in_default-visit_clause-clause-looks : goal.returns-in_default-visit_clause-clause-looks
+returns-in_default-visit_clause-clause-looks c =
+    let l = c.loop-next in
+    let few = few_here c.args.trail.now.entries c.args.level c.args.f c.args.chains.now.clauses 0
+    l.chains l.trail.entries l.before l.next l.walked l.invariant.walking c.in-Some.clause
+    c.in-Some.is in
+    omega (arith, c.saturating_add.ensures, l.invariant.looks, few)
+
+pub returns-clause-looks : goal.returns-clause-looks
+returns-clause-looks c =
+    let l = c.loop-next in let few = l.invariant.walking.few in
+    omega (arith, c.saturating_add-2.ensures, l.invariant.looks, few)
 
 pub returns-clause-none : goal.returns-clause-none
 returns-clause-none c =
     let l = c.loop-next in
     walk_ends c.args.trail.now.entries c.args.level c.args.f c.args.chains.now.clauses
-    c.args.looks.now l.chains l.trail.entries l.before l.next l.looks l.invariant.walking
+    0 l.chains l.trail.entries l.before l.next l.walked l.invariant.walking
     c.in_default.is l.invariant.whole.chained

@@ -8,8 +8,9 @@ abbrev pub invariant-loop-next : goal.invariant-loop-next
 invariant-loop-next l = record {
   vars : l.chains.vars ≡ l.initial.chains.vars;
   whole : AreWhole l.chains l.trail;
-  walking : IsWalking l.initial.trail.entries l.level l.f l.initial.chains.clauses l.initial.looks
-      l.chains l.trail.entries l.before l.next l.looks;
+  looks : l.looks ≡ l.initial.looks;
+  walking : IsWalking l.initial.trail.entries l.level l.f l.initial.chains.clauses 0
+      l.chains l.trail.entries l.before l.next l.walked;
 }
 
 -- the clauses that are left

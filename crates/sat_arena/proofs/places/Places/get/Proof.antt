@@ -1,9 +1,9 @@
 -- `get` lends what the row lends of one place.
-use Rattle.sat_arena.proofs.Steps.{◌≡◌, refl, sym, subst, ◌∙◌, ℕ, ◌+◌, ◌*◌, ◌<◌, ◌^◌, arith, List, [], ◌∷◌, ◌++◌, length, get_or, Ura, full_share, SProp, ent, never, id⊢, Lft, Share, ftrue, fat, flft, Fn, named, w64, inst_fn, Val, vptr, vint, Env, Calls, Loops, Tables, WpFn, Logic, fact, WpFn-mono, Item, ⋆, ‵, ◌⊛◌, at_ret, ◌$◌, ◌∵◌, !, qed, by, move, keep, drop, use1, split, join, rewrite, fsplit, fjoin, feq_i, feq_l, flt_l, suffices, frame, done, whole, sub, stop, fld, of_opd, addr, bin, first, blocks, exec, returns, enter, size_lit, alloc_all, pass_all, free_all, look_at, get, get_in, through, sets, sets_last, take_at, give_at, env, yes, no, owns, hidden_shr, layout, Ptr, in_a_block, Bor, ShrRef, RefOf, usize, plain, hide, unhide, nothing, spared, Clauses, Ended, closing, on_entry, Meets, triple_of, entered, run_framed, says, needs, Stays, stay_dropped, walk_of, ends_at, Goes-dropped, walk_Meets, Some, None, El, R, args, el_x, times_below, one_below, after, word, word-Good}
+use Rattle.sat_arena.proofs.Steps.{◌≡◌, refl, sym, subst, ◌∙◌, ℕ, ◌+◌, ◌*◌, ◌<◌, ◌^◌, arith, List, [], ◌∷◌, ◌++◌, length, get_or, Ura, full_share, SProp, ent, Lft, Share, ftrue, fat, flft, Fn, named, w64, inst_fn, Val, vptr, vint, Env, Calls, Loops, Tables, WpFn, Logic, fact, WpFn-mono, Item, ⋆, ‵, ◌⊛◌, at_ret, ◌$◌, ◌∵◌, !, qed, by, move, keep, drop, use1, split, join, rewrite, fsplit, fjoin, feq_i, feq_l, flt_l, suffices, frame, done, whole, sub, stop, fld, of_opd, addr, bin, first, blocks, exec, returns, enter, size_lit, alloc_all, pass_all, free_all, look_at, get, get_in, through, sets, sets_last, take_at, give_at, env, yes, no, owns, hidden_shr, layout, Ptr, in_a_block, Bor, ShrRef, RefOf, usize, plain, hide, unhide, nothing, spared, Clauses, Ended, closing, on_entry, Meets, triple_of, entered, run_framed, says, needs, Stays, stay_dropped, walk_of, ends_at, Goes-dropped, walk_Meets, Some, None, El, R, args, el_x, times_below, one_below, after, word, word-Good}
 use contract.Running.{tables, tables_of}
 use Rattle.sat_arena.specs.Places.{IsHeld}
 use Rattle.sat_arena.specs.Ownership.{lends_place, lends_row}
-use Rattle.sat_arena.proofs.RowMemory.{PlacesType, StartType, width, Slot, pointer_had, held_inside, place_lent}
+use Rattle.sat_arena.proofs.RowMemory.{none_there, PlacesType, StartType, width, Slot, pointer_had, held_inside, place_lent}
 use Rattle.sat_arena.specs.contracts.places.Places.get.Key.{name as key}
 use Rattle.sat_arena.proofs.places.Places.get.Statement as stated
 use Rattle.sat_arena.proofs.places.Places.get.Code as code
@@ -89,7 +89,7 @@ module _ (E : El) {M : Type 1} {𝓤 : Ura M} (𝓛 : Logic 𝓤) (C : Calls �
       ((tt, tt), (word-Good [] start.address, ((tt, record { fits = fits }), tt))) $
       let locals : Env 𝓤 H = env (function E).locals l in
       unhide ! $ fsplit ! $ drop ! $
-      in_a_block ! places.start (λ p. lends_row (R E) p slots κ) (id⊢ 𝓤 (never 𝓤)) (λ b o e.
+      in_a_block ! places.start (λ p. lends_row (R E) p slots κ) (none_there 𝓛 (length slots) (omega (arith, inside))) (λ b o e.
       fsplit ! $ flt_l ! (λ small.
       let tiny : w < 2 ^ 64 =
       omega (arith, one_below (length slots) w (2 ^ 63) (omega arith) small) in

@@ -1,11 +1,12 @@
 -- `slice` lends what the row lends of a run of places.
-use Rattle.sat_arena.proofs.Steps.{◌≡◌, refl, sym, ap, subst, ◌∙◌, ℕ, ◌+◌, ◌*◌, ◌<◌, ◌^◌, arith, List, [], ◌∷◌, ◌++◌, map, length, take, length-take, length-drop, Ura, full_share, SProp, ent, never, id⊢, Lft, Share, ftrue, fat, flft, Fn, named, w64, inst_fn, Val, vptr, vint, Env, Calls, Loops, Tables, WpFn, Logic, fact, WpFn-mono, Item, ⋆, ‵, ◌⊛◌, at_ret, ◌$◌, ◌∵◌, !, qed, by, move, keep, drop, use1, split, join, rewrite, fsplit, fjoin, feq_i, feq_l, flt_i, flt_l, suffices, frame, done, whole, sub, agg, stop, fld, of_opd, bin, and_then, no_more, first, blocks, exec, returns, enter, size_word, alloc_all, pass_all, free_all, look_at, get, get_in, sets, sets_last, take_at, give_at, is, env, yes, no, owns, hidden_shr, layout, Ptr, in_a_block, Bor, ShrRef, ShrSlice, slice_val, elements_shared, RefOf, SliceRefOf, usize, plain, hide, unhide, nothing, spared, Clauses, Ended, closing, on_entry, Meets, triple_of, entered, run_framed, says, needs, Stays, stay_dropped, walk_of, ends_at, Goes-dropped, walk_Meets, Some, El, R, args, el_x, times_below, uncapped, after, word, word-Good}
+use Rattle.sat_arena.proofs.Steps.{◌≡◌, refl, sym, ap, subst, ◌∙◌, ℕ, ◌+◌, ◌*◌, ◌<◌, ◌^◌, arith, List, [], ◌∷◌, ◌++◌, map, length, take, length-take, length-drop, Ura, full_share, SProp, ent, Lft, Share, ftrue, fat, flft, Fn, named, w64, inst_fn, Val, vptr, vint, Env, Calls, Loops, Tables, WpFn, Logic, fact, WpFn-mono, Item, ⋆, ‵, ◌⊛◌, at_ret, ◌$◌, ◌∵◌, !, qed, by, move, keep, drop, use1, split, join, rewrite, fsplit, fjoin, feq_i, feq_l, flt_i, flt_l, suffices, frame, done, whole, sub, agg, stop, fld, of_opd, bin, and_then, no_more, first, blocks, exec, returns, enter, size_word, alloc_all, pass_all, free_all, look_at, get, get_in, sets, sets_last, take_at, give_at, is, env, yes, no, owns, hidden_shr, layout, Ptr, in_a_block, Bor, ShrRef, ShrSlice, slice_val, elements_shared, RefOf, SliceRefOf, usize, plain, hide, unhide, nothing, spared, Clauses, Ended, closing, on_entry, Meets, triple_of, entered, run_framed, says, needs, Stays, stay_dropped, walk_of, ends_at, Goes-dropped, walk_Meets, Some, El, R, args, el_x, times_below, uncapped, after, word, word-Good}
 use lib.ListN.{drop as drop_first}
+use Prim.Native.Nat.{◌≤◌}
 use contract.Running.{tables, tables_of}
 use Rattle.std.proofs.lemmas.List.{length-map}
 use Rattle.sat_arena.specs.Places.{IsRun}
 use Rattle.sat_arena.specs.Ownership.{lends_row}
-use Rattle.sat_arena.proofs.RowMemory.{PlacesType, StartType, width, pointer_had, run_lent}
+use Rattle.sat_arena.proofs.RowMemory.{none_there, PlacesType, StartType, width, pointer_had, run_lent}
 use Rattle.sat_arena.specs.contracts.places.Places.slice.Key.{name as key}
 use Rattle.sat_arena.proofs.places.Places.slice.Statement as stated
 use Rattle.sat_arena.proofs.places.Places.slice.Code as code
@@ -38,7 +39,8 @@ module _ (E : El) where
 
   -- the row begins where the pointer points, and the places of the run hold values
   abbrev Asks : (PlacesType E).Denot → (StartType E).Denot → (from len : ℕ) → Type 0
-  Asks places start from len = (start.address ≡ places.start) × IsRun places.slots from len
+  Asks places start from len =
+      (start.address ≡ places.start) × (1 ≤ length places.slots) × IsRun places.slots from len
 
   -- the slice is of those values
   abbrev Gives : (PlacesType E).Denot → (from len : ℕ) → Bor (List (el_x E)) → Type 0
@@ -92,8 +94,8 @@ module _ (E : El) {M : Type 1} {𝓤 : Ura M} (𝓛 : Logic 𝓤) (C : Calls �
   walk : Asks E places start from len → from < 2 ^ 64 → len < 2 ^ 64 →
       ent 𝓤 (⋆ 𝓛 Had) (WpFn 𝓤 H C Λ (function E) Passed Post)
   walk asked fits_from fits_len =
-      let slots = places.slots in let inside = asked.1.0 in let w = width E in
-      let xs = asked.1.1.0 in let held = asked.1.1.1 in
+      let slots = places.slots in let inside = asked.2.0 in let w = width E in
+      let xs = asked.2.1.0 in let held = asked.2.1.1 in
       let count : length xs ≡ len =
       omega (
         arith,
@@ -112,7 +114,7 @@ module _ (E : El) {M : Type 1} {𝓤 : Ura M} (𝓛 : Logic 𝓤) (C : Calls �
       ) $
       let locals : Env 𝓤 H = env (function E).locals l in
       unhide ! $ fsplit ! $ drop ! $
-      in_a_block ! places.start (λ p. lends_row (R E) p slots κ) (id⊢ 𝓤 (never 𝓤)) (λ b o e.
+      in_a_block ! places.start (λ p. lends_row (R E) p slots κ) (none_there 𝓛 (length slots) asked.1) (λ b o e.
       fsplit ! $ flt_l ! (λ small.
       let far : from * w < 2 ^ 64 =
       omega (arith, times_below from (length slots) w (2 ^ 63) (omega arith) small) in

@@ -1,8 +1,8 @@
 -- `write` takes the place out of the row, empties it, puts the value there, and gives it back.
-use Rattle.sat_arena.proofs.Steps.{◌≡◌, refl, sym, subst, ◌∙◌, ℕ, ◌+◌, ◌*◌, ◌<◌, ◌^◌, arith, List, [], ◌∷◌, ◌++◌, length, set, get_or, length-set, Ura, full_share, SProp, ent, never, id⊢, Lft, GName, Share, ftrue, fat, flft, fobs, fbor, Fn, named, w64, inst_fn, Val, vptr, vint, vunit, Env, Calls, Loops, Tables, WpFn, Logic, Borrowed, fact, WpFn-mono, Item, ⋆, ‵, ◌⊛◌, at_ret, ◌$◌, ◌∵◌, !, qed, by, move, keep, use1, use2, split, join, rewrite, fsplit, fsplit3, fjoin, fjoin3, feq_i, feq_l, flt_i, flt_l, suffices, frame, done, whole, sub, init, stop, fld, unit_lit, of_opd, bin, assigns_last, first, blocks, exec, returns, enter, size_lit, alloc_all, pass_all, free_all, look_at, get, get_in, through, sets, take_at, give_at, env, yes, no, owns, mem, layout, Ptr, in_a_block, MutBor, MutRef, RefMutOf, unit, usize, plain, nothing, opens, closes, spared, Clauses, Ended, closing, on_entry, Meets, triple_of, entered, run_framed, says, needs, Stays, stay_dropped, stay_ref, walk_of, ends_at, Goes-dropped, Goes-ref, walk_Meets, Some, None, El, R, args, elτ, times_below, one_below, after, Good, word, word-Good, as_written}
+use Rattle.sat_arena.proofs.Steps.{◌≡◌, refl, sym, subst, ◌∙◌, ℕ, ◌+◌, ◌*◌, ◌<◌, ◌^◌, arith, List, [], ◌∷◌, ◌++◌, length, set, get_or, length-set, Ura, full_share, SProp, ent, Lft, GName, Share, ftrue, fat, flft, fobs, fbor, Fn, named, w64, inst_fn, Val, vptr, vint, vunit, Env, Calls, Loops, Tables, WpFn, Logic, Borrowed, fact, WpFn-mono, Item, ⋆, ‵, ◌⊛◌, at_ret, ◌$◌, ◌∵◌, !, qed, by, move, keep, use1, use2, split, join, rewrite, fsplit, fsplit3, fjoin, fjoin3, feq_i, feq_l, flt_i, flt_l, suffices, frame, done, whole, sub, init, stop, fld, unit_lit, of_opd, bin, assigns_last, first, blocks, exec, returns, enter, size_lit, alloc_all, pass_all, free_all, look_at, get, get_in, through, sets, take_at, give_at, env, yes, no, owns, mem, layout, Ptr, in_a_block, MutBor, MutRef, RefMutOf, unit, usize, plain, nothing, opens, closes, spared, Clauses, Ended, closing, on_entry, Meets, triple_of, entered, run_framed, says, needs, Stays, stay_dropped, stay_ref, walk_of, ends_at, Goes-dropped, Goes-ref, walk_Meets, Some, None, El, R, args, elτ, times_below, one_below, after, Good, word, word-Good, as_written}
 use contract.Running.{tables, tables_of}
 use Rattle.sat_arena.specs.Ownership.{owns_place, owns_places, owns_row}
-use Rattle.sat_arena.proofs.RowMemory.{PlacesType, StartType, width, pointer_had, value_had, filled, emptied, Others, place_out, place_in}
+use Rattle.sat_arena.proofs.RowMemory.{none_there, PlacesType, StartType, width, pointer_had, value_had, filled, emptied, Others, place_out, place_in}
 use Rattle.sat_arena.specs.contracts.places.Places.write.Key.{name as key}
 use Rattle.sat_arena.proofs.places.Places.write.Statement as stated
 use Rattle.sat_arena.proofs.places.Places.write.Code as code
@@ -114,7 +114,7 @@ module _ (E : El) {M : Type 1} {𝓤 : Ura M} (𝓛 : Logic 𝓤) (C : Calls �
       let locals : Env 𝓤 H = env (function E).locals l in
       opens ! tt (PlacesType E) {h = places} rb ro
       (λ vs. move ! (1 ∷ []) $ fsplit ! $ move ! (1 ∷ []) $
-      in_a_block ! places.start (λ p. owns_row (R E) p slots) (id⊢ 𝓤 (never 𝓤)) (λ b o e.
+      in_a_block ! places.start (λ p. owns_row (R E) p slots) (none_there 𝓛 (length slots) (omega (arith, inside))) (λ b o e.
       fsplit ! $ flt_l ! (λ small.
       let tiny : w < 2 ^ 64 =
       omega (arith, one_below (length slots) w (2 ^ 63) (omega arith) small) in

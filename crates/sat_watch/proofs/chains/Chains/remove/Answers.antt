@@ -64,7 +64,8 @@ link_all-requires c =
     c.in-Ok.ensures.pairs ∙ ap moves_of c.mark_all.ensures.clauses in
     let long : vec_len i.heads ≡ i.vars * 2 = omega (arith, i.heads.ok.0, h.many) in
     let empty : c.fill.new.self.items ≡ replicate (i.vars * 2) None =
-    c.fill.ensures.items (search rules) ∙ ap (λ n. replicate n None) long in
+    c.fill.ensures.items (search rules) ∙
+    (ap (replicate (vec_len i.heads)) c.none.ensures ∙ ap (λ n. replicate n None) long) in
     record {
       unlinked =
           subst (λ l. AreUnlinked i.vars l c.fill.new.self.items) (sym is)

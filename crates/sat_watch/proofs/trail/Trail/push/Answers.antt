@@ -1,5 +1,5 @@
-use Rattle.std.proofs.Common.{◌∙◌, ap, length, subst, sym}
-use Rattle.sat_clause.specs.Literal.{IsWithin}
+use Rattle.std.proofs.Common.{◌∙◌, ap, length, set, subst, sym}
+use Rattle.sat_clause.specs.Literal.{IsWithin, negation}
 use Rattle.sat_watch.specs.Trail.{IsOpen, TrailState}
 use Rattle.sat_watch.specs.TrailStore.{place_of}
 use Rattle.sat_watch.proofs.StoreLemmas.{has_room, push_store}
@@ -21,11 +21,12 @@ invariant_of-self c =
     c.requires.open in
     let within = subst (λ (t : TrailState). IsWithin t.vars c.args.entry.lit) (sym c.self.view_is)
     c.requires.within in
+    let told = c.tell.ensures ∙ ap (λ l. set (set l (place_of p.vars c.args.entry.lit) 1)
+    (place_of p.vars (negation c.args.entry.lit)) 2) c.deref_mut.ensures.value in
     rw (
-      c.place.ensures,
-      c.place-2.ensures ∙ ap (place_of p.vars) c.negation.ensures.value,
       c.variable.ensures,
       c.len-older.ensures ∙ ap (λ (t : TrailState). length t.entries) (sym c.self.view_is),
     )
     (push_store p.vars p.entries c.push_reserved.new.self p.truths p.places c.args.entry
-    c.self.invariant within free c.push_reserved.ensures.items c.push_reserved.ensures.capacity)
+    c.self.invariant within free c.tell.new.truths told
+    c.push_reserved.ensures.items c.push_reserved.ensures.capacity)
