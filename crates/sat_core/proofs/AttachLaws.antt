@@ -1,6 +1,6 @@
 -- When a clause may be attached, and what it is then.
 use Rattle.std.specs.Prelude.{if◌then◌else◌}
-use Rattle.std.proofs.Common.{inl, inr, ◌≡◌, ◌≤◌, ℕ, zero, suc, Bool, true, false, List, [], ◌∷◌, ◌++◌, length, Option, None, Some, slice_get, Contains, refl, sym, ap, ◌∙◌, subst, arith}
+use Rattle.std.proofs.Common.{inl, inr, ◌⊎◌, ◌≡◌, ◌≤◌, ℕ, zero, suc, Bool, true, false, List, [], ◌∷◌, ◌++◌, Option, None, Some, Contains, refl, sym, ap, ◌∙◌, subst, arith}
 use Rattle.std.proofs.lemmas.Bool.{both_ways, eq-eqb}
 use Rattle.std.proofs.lemmas.List.Elements.{All-contains}
 use Rattle.sat_clause.specs.declared.literal.Lit.{Lit}
@@ -10,14 +10,13 @@ use Rattle.sat_watch.specs.declared.entry.TrailEntry.{TrailEntry}
 use Rattle.sat_watch.specs.Levels.{due_without}
 use Rattle.sat_watch.specs.Trail.{value_in}
 use Rattle.sat_watch.specs.Watched.{IsReason, is_false, true_at}
-use Rattle.sat_watch.specs.Watches.{Attached, Attaches, HasOneOpen, HasOneTrue, IsOnlyOne, AreInPlace, WatchState, highest, implied, is_attached, lits_at}
-use Rattle.sat_watch.proofs.ChoiceLemmas.{free_level}
+use Rattle.sat_watch.specs.Watches.{Attached, Attaches, HasOneOpen, HasOneTrue, HasTwoFree, AreInPlace, WatchState, implied, is_attached, lits_at}
 use Rattle.sat_watch.proofs.GoesLemmas.{reason_moves}
-use Rattle.sat_watch.proofs.LevelLemmas.{true_is_false, true_level}
+use Rattle.sat_watch.proofs.LevelLemmas.{true_is_false}
 use Rattle.sat_watch.proofs.WatchLemmas.{lit_tells}
 use Rattle.sat_core.specs.Levels.{Assigned, level_of}
 use Rattle.sat_core.specs.SearchStore.{IsLeveled, assigned, assigned_in}
-use Rattle.sat_core.specs.Single.{IsTaken}
+use Rattle.sat_core.specs.Start.{IsTaken}
 use Rattle.sat_core.proofs.AttachedLaws.{last_is, new_place}
 use Rattle.sat_core.proofs.DecideLaws.{leveled_any, leveled_implied, value_stays}
 use Rattle.sat_core.proofs.LevelLaws.{none_above}
@@ -56,7 +55,7 @@ contains_assigned ks (x ∷ older) e (suc k, within, is) =
     (suc rest.0, omega (arith, rest.1), rest.2)
 
 -- at level 0 each true literal is true at level 0
-level_zero : (s : WatchState) (l : Lit) (n : ℕ) → IsLeveled s → s.level ≡ 0
+pub level_zero : (s : WatchState) (l : Lit) (n : ℕ) → IsLeveled s → s.level ≡ 0
     → true_at s.trail l ≡ Some n → n ≡ 0
 level_zero s l n leveled zero_is is =
     let e = true_entry s.trail l n is in
@@ -81,58 +80,6 @@ value_says trail l o is = by (is_false trail l) refl (is_false trail (negation l
     by true a b_any b e = subst (Says trail l) e a
     by false a true b e = subst (Says trail l) e (a, b)
     by false a false b e = subst (Says trail l) e (a, b)
-
--- ONE LITERAL
-
-pub one_literal : (xs : Clause) (l : Lit) → length xs ≤ 1 → slice_get xs 0 ≡ Some l → xs ≡ l ∷ []
-one_literal [] l few at = cc
-one_literal (x ∷ []) l few at = let same : x ≡ l = cc in ap (λ (y : Lit). y ∷ []) same
-one_literal (x ∷ y ∷ ys) l few at = absurd (omega (arith, few))
-
-only_literal : (trail : List TrailEntry) (l : Lit) → is_false trail l ≡ false
-    → IsOnlyOne trail (l ∷ []) l
-only_literal trail l free = (
-  (zero, omega arith, refl),
-  free,
-  λ m has other. absurd (other (by m has)),
-)
-  where
-    by : (m : Lit) → Contains (l ∷ []) m → m ≡ l
-    by m (zero, within, is) = sym is
-    by m (suc k, within, is) = absurd (omega (arith, within))
-
-one_highest : (trail : List TrailEntry) (l : Lit) → is_false trail l ≡ false
-    → highest trail (l ∷ []) ≡ 0
-one_highest trail l free = rw (free_level trail l free) refl
-
-pub one_open : (s : WatchState) (l : Lit) → s.level ≡ 0 → is_false s.trail l ≡ false
-    → is_false s.trail (negation l) ≡ false →
-    HasOneOpen s.trail s.level (l ∷ [])
-one_open s l level free not_true = (
-  l,
-  only_literal s.trail l free,
-  true_none s.trail l not_true,
-  level
-      ∙ sym (one_highest s.trail l free),
-)
-
-pub one_true : (s : WatchState) (l : Lit) → IsLeveled s → s.level ≡ 0 → is_false s.trail l ≡ false
-    → is_false s.trail (negation l) ≡ true →
-    HasOneTrue s.trail (l ∷ [])
-one_true s l leveled level free is_true =
-    let at = true_level s.trail l is_true in
-    let low : at.0 ≡ 0 = level_zero s l at.0 leveled level at.1 in
-    (l, at.0, only_literal s.trail l free, at.1, omega (arith, low))
-
-pub one_reason : (trail : List TrailEntry) (l : Lit) → IsReason trail (l ∷ []) l
-one_reason trail l = record {
-  has = (zero, omega arith, refl);
-  others = λ m has other. absurd (other (by m has));
-}
-  where
-    by : (m : Lit) → Contains (l ∷ []) m → m ≡ l
-    by m (zero, within, is) = sym is
-    by m (suc k, within, is) = absurd (omega (arith, within))
 
 -- WHAT IS ATTACHED
 
@@ -176,13 +123,13 @@ pub implied_due : (s : WatchState) (l : Lit) (c : ClauseRef) → s.due ≡ Some 
     → (implied l c s).due ≡ None
 implied_due s l c due = ap (due_without c) due ∙ rw (eq-eqb c.word c.word refl) refl
 
--- SINGLE CLAUSES
+-- AT LEVEL 0
 
 module _ (old new : WatchState) (lits : Clause) (id : ℕ) (c : ClauseRef)
     (does : Attaches old new lits id c) (stand : AreInPlace 0 old.clauses) where
-  pub taken_true : IsLeveled old → old.level ≡ 0 → HasOneTrue old.trail lits
-      → IsTaken old new lits id
-  taken_true leveled level case = record {
+  pub taken_free : IsLeveled old → old.level ≡ 0 →
+      HasTwoFree old.trail lits ⊎ HasOneTrue old.trail lits → IsTaken old new lits id
+  taken_free leveled level case = record {
     place = c;
     behind = does.place;
     order = does.order;
@@ -191,7 +138,7 @@ module _ (old new : WatchState) (lits : Clause) (id : ℕ) (c : ClauseRef)
     vars = now_vars old new lits id c does stand;
     level = now_level old new lits id c does stand ∙ level;
     leveled = now_leveled old new lits id c does stand leveled;
-    due = does.not_due (inr case);
+    due = does.not_due case;
     values = λ m some. rw (now_trail old new lits id c does stand) some;
   }
 

@@ -100,7 +100,7 @@ module _ (m : ℕ) (s : ClauseListState) (w : WatchState) (lits : Clause) (id : 
                 (put_under (suc (m + 0)) id (s.clauses ++ live_of w.clauses) does.order some
                 (omega (arith, most)) store.below);
             few_taken = store.few_taken;
-            short = store.short;
+            once = store.once;
             keeps = rw (clauses, vars) keeps;
             taken_are = λ k n x lt at. absurd (omega (arith, lt));
             waiting = inr (now_level w now lits id c does stand ∙ level);
@@ -115,9 +115,9 @@ module _ (m : ℕ) (s : ClauseListState) (w : WatchState) (lits : Clause) (id : 
           alike = alike;
         }
 
-    single_more : length s.clauses < m → length lits ≤ 1 →
+    single_more : length s.clauses < m →
         IsOneMore m s (record s { clauses = put s.clauses id lits }) w w lits id
-    single_more few short = record {
+    single_more few = record {
       store = record {
         few_ids = store.few_ids;
         few = omega (arith, few);
@@ -126,7 +126,7 @@ module _ (m : ℕ) (s : ClauseListState) (w : WatchState) (lits : Clause) (id : 
         below = put_under (suc (m + 0)) id (s.clauses ++ live_of w.clauses) lits some
             (omega (arith, most)) store.below;
         few_taken = omega arith;
-        short = λ n x at. by_short n x (n == id) at;
+        once = λ n x at. by_once n x (n == id) at;
         keeps = record {
           stand = store.keeps.stand;
           ids = λ c d c_is d_is alone one.
@@ -147,11 +147,10 @@ module _ (m : ℕ) (s : ClauseListState) (w : WatchState) (lits : Clause) (id : 
       alike = λ n. refl;
     }
       where
-        by_short : (n : ℕ) (x : Clause) (b : Bool) → cond b (Some lits) (clause_at s.clauses n) ≡ Some
-            x → length x ≤ 1
-        by_short n x true at = let same : lits ≡ x = cc in
-            subst (λ (y : Clause). length y ≤ 1) same short
-        by_short n x false at = store.short n x at
+        by_once : (n : ℕ) (x : Clause) (b : Bool) →
+            cond b (Some lits) (clause_at s.clauses n) ≡ Some x → HasOnce x
+        by_once n x true at = let same : lits ≡ x = cc in subst HasOnce same simple.once
+        by_once n x false at = store.once n x at
 
         other : (c : ClauseRef) → is_attached w.clauses c ≡ true →
             clause_at (put s.clauses id lits) (id_at w.clauses c)
@@ -167,7 +166,7 @@ module _ (m : ℕ) (s : ClauseListState) (w : WatchState) (lits : Clause) (id : 
           | inl short ↦
               let is = keeps.short (omega (arith, short)) in
               subst (λ (p : ClauseListState × WatchState). IsOneMore m s p.0 w p.1 lits id)
-              (λ i. (sym is.1 i, sym is.0 i)) (single_more few short)
+              (λ i. (sym is.1 i, sym is.0 i)) (single_more few)
           | inr long ↦
               let is = keeps.long long in
               subst (λ (x : ClauseListState). IsOneMore m s x w now_w lits id) (sym is.0)
@@ -332,7 +331,7 @@ taken_none formula picks w none few few_vars is = rw is (record {
     same_vars = refl;
     below = λ n c at. cc;
     few_taken = omega arith;
-    short = λ n x at. cc;
+    once = λ n x at. cc;
     keeps = record {
       stand = tt;
       ids = λ c d c_is d_is alone one. absurd (both_ways false refl c_is);

@@ -25,15 +25,15 @@ use Rattle.sat_watch.proofs.LevelLemmas.{true_level}
 use Rattle.sat_core.specs.ClauseList.{ClauseListState}
 use Rattle.sat_core.specs.Levels.{AreLevels, Assigned, IsAsserting, level_of, lits_of, made_false, up_to}
 use Rattle.sat_core.specs.Ranking.{IsRanked}
-use Rattle.sat_core.specs.SearchStore.{EndsAsserting, IsLesson, IsLeveled, IsSearchStore, Learns, assigned, assigned_in, live_of, search_value}
+use Rattle.sat_core.specs.SearchStore.{EndsAsserting, IsLesson, IsLeveled, IsSearchStore, Learns, SameKept, assigned, assigned_in, live_of, search_value}
 use Rattle.sat_core.proofs.AttachLaws.{contains_assigned, implied_due, now_attached, now_clauses, now_leveled, now_reason, now_trail, now_vars, true_entry, true_none}
 use Rattle.sat_core.proofs.AttachedLaws.{same_permuted, simple_permuted}
 use Rattle.sat_core.proofs.DecideLaws.{leveled_implied, value_stays}
 use Rattle.sat_core.proofs.LessonLaws.{all_false_or, first_is_open}
 use Rattle.sat_core.proofs.LevelLaws.{in_made_false, level_back, levels_back, none_above, only_entry}
 use Rattle.sat_core.proofs.RankingLaws.{ranked_more}
-use Rattle.sat_core.proofs.SameLaws.{same_back}
-use Rattle.sat_core.proofs.SearchLaws.{attached_alike, store_attached}
+use Rattle.sat_core.proofs.SameLaws.{same_back, same_itself}
+use Rattle.sat_core.proofs.SearchLaws.{attached_alike, store_attached, store_once}
 use Rattle.sat_core.proofs.WatchLaws.{falses_in, lits_in, up_to_in}
 
 -- THE HIGHEST LEVEL
@@ -132,12 +132,22 @@ module _ (i a t : ℕ) (s : ClauseListState) (w : WatchState) (store : IsSearchS
     same_vars = store.same_vars;
     below = store.below;
     few_taken = store.few_taken;
-    short = store.short;
+    once = store.once;
     keeps = store.keeps;
     taken_are = store.taken_are;
     waiting = inl all_taken;
     leveled = gone_leveled;
     none_due = refl;
+  }
+
+  pub kept_gone : SameKept (search_value i a s w) (search_value i a s gone)
+  kept_gone = record {
+    vars = refl;
+    inputs = refl;
+    added = refl;
+    among = λ n x at. (x, at, same_itself x);
+    back = λ n x at. (x, at, same_itself x);
+    once = λ n x at. store_once i a t s w store n x at;
   }
 
   first_open : IsOpenOn (watch_lits gone.trail) first
@@ -250,9 +260,9 @@ module _ (i a t : ℕ) (s : ClauseListState) (w : WatchState) (store : IsSearchS
 
     pub store_learned : suc (i + a) ≤ 4294967295 → IsSearchStore i (suc a) t s (implied first c now)
     store_learned few =
-        store_attached i a t s gone now id clause c does store_gone next lesson.simple i (suc a)
-        (implied first c now) (omega arith) (omega arith)
-        (omega (arith, few)) (now_clauses gone now clause id c does store.keeps.stand)
+        store_attached i a t s gone id clause does.order c does.same does.place store_gone next
+        lesson.simple (implied first c now) (omega (arith, few))
+        (now_clauses gone now clause id c does store.keeps.stand)
         (now_vars gone now clause id c does store.keeps.stand) (inl all_taken)
         (leveled_implied now first c (now_leveled gone now clause id c does store.keeps.stand
         gone_leveled))
@@ -278,7 +288,8 @@ module _ (i a t : ℕ) (s : ClauseListState) (w : WatchState) (store : IsSearchS
       once = (simple_permuted w.vars clause does.order does.same lesson.simple).once;
       clauses = λ n.
           ap (λ (j : ℕ). clause_at (put (s.clauses ++ live_of w.clauses) j does.order) n) (sym next)
-          ∙ attached_alike i a t s gone now id clause c does store_gone next lesson.simple n
+          ∙ attached_alike i a t s gone id clause does.order c does.same does.place store_gone next
+          lesson.simple n
           ∙ ap (λ (ks : List Attached). clause_at (s.clauses ++ live_of ks) n) (sym
           (now_clauses gone now clause id c does store.keeps.stand));
     }

@@ -5,6 +5,7 @@ pub mod DecideLaws
 pub mod DistinctLaws
 pub mod EarlierLaw
 pub mod FoundLaws
+pub mod ImpliedLaws
 pub mod InputLaws
 pub mod KeptLaws
 pub mod LearnLaws
@@ -14,12 +15,15 @@ pub mod ListLaws
 pub mod LogLemmas
 pub mod MarksLaws
 pub mod ModelLemmas
+pub mod MostAdded
 pub mod RankingLaws
 pub mod ReadingLemmas
 pub mod RelevantLaws
 pub mod SameLaws
 pub mod SearchLaws
+pub mod StartLaws
 pub mod TrailPlaces
+pub mod TurnLaws
 pub mod UnderwayLemmas
 pub mod UseLaws
 pub mod WatchLaws

@@ -1,10 +1,10 @@
 -- One more step of a log.
-use Rattle.std.proofs.Common.{inl, inr, ◌≡◌, ◌≢◌, ◌==◌, ◌<◌, ◌≤◌, ◌+◌, ℕ, zero, suc, ℤ, pos, negsuc, true, false, List, [], ◌∷◌, ◌++◌, length, take, fold, None, Some, slice_get, All, refl, sym, ap, ◌∙◌, arith}
+use Rattle.std.proofs.Common.{inl, inr, ◌≡◌, ◌≢◌, ◌==◌, ◌<◌, ◌≤◌, ◌+◌, ℕ, zero, suc, ℤ, pos, negsuc, true, false, List, [], ◌∷◌, ◌++◌, length, take, drop, fold, None, Some, slice_get, All, refl, sym, ap, ◌∙◌, subst, arith}
 use Rattle.std.proofs.lemmas.Bool.{both_ways, ne_eqb}
 use Rattle.std.proofs.lemmas.List.{take-append-le, take_at}
 use Rattle.std.proofs.lemmas.List.Elements.{All-head, All-tail}
 use Rattle.std.proofs.lemmas.List.Sums.{fold_push}
-use Rattle.std.proofs.lemmas.Option.{slice_get_within}
+use Rattle.std.proofs.lemmas.Option.{get_or_from_slice_get, slice_get_within}
 use Rattle.list_laws.proofs.Places.{get-cases}
 use Rattle.sat_clause.specs.declared.cause.Cause.{Cause}
 use Rattle.sat_clause.specs.declared.cause.Cause.TheVariants.{NoEmptyClause}
@@ -15,7 +15,7 @@ use Rattle.sat_clause.specs.Literal.{Clause}
 use Rattle.sat_clause.specs.Live.{Live, clause_at, put, without}
 use Rattle.sat_clause.specs.Step.{Step, Added, Erased}
 use Rattle.sat_clause.proofs.LiveLaws.{clause_at-without, inputs_at}
-use Rattle.sat_core.specs.SearchLog.{AreNumbered, EndsAtEmpty, added_count}
+use Rattle.sat_core.specs.SearchLog.{AreAddedFrom, AreNumbered, EndsAtEmpty, added_count}
 use Rattle.sat_core.specs.Stands.{AreGood, IsAbove, SparesInputs, live_after}
 
 -- steps without a refused one, and more of them
@@ -117,6 +117,15 @@ numbered_push id new (Added n c h ∷ log) clause hints numbered is =
 numbered_push id new (Erased n ids ∷ log) clause hints numbered is =
     (numbered.0, numbered.1, numbered_push id new log clause hints numbered.2 (omega (arith, is)))
 
+pub added_from_push : (id new : ℕ) (log : List Step) (clause : Clause) (hints : List ℤ) →
+    AreAddedFrom id log → new ≡ id + added_count log →
+    AreAddedFrom id (log ++ Added new clause hints ∷ [])
+added_from_push id new [] clause hints numbered is = (omega (arith, is), tt)
+added_from_push id new (Added n c h ∷ log) clause hints numbered is =
+    (numbered.0, added_from_push (suc id) new log clause hints numbered.1 (omega (arith, is)))
+added_from_push id new (Erased n ids ∷ log) clause hints numbered is =
+    added_from_push id new log clause hints numbered is
+
 pub added_count-push : (log : List Step) (id : ℕ) (clause : Clause) (hints : List ℤ) →
     added_count (log ++ Added id clause hints ∷ []) ≡ suc (added_count log)
 added_count-push [] id clause hints = refl
@@ -166,9 +175,8 @@ stays_erase m n (id ∷ ids) live over most =
     stays_erase m n ids (take_out live id) (All-tail (IsAbove m) id ids over) most
     ∙ stays_out m n live id (All-head (IsAbove m) id ids over) most
 
-stays : (m id : ℕ) (log : List Step) (live : Live) → m < id → AreNumbered id log → SparesInputs m
-    log →
-    (n : ℕ) → n ≤ m → clause_at (fold after live log) n ≡ clause_at live n
+stays : (m id : ℕ) (log : List Step) (live : Live) → m < id → AreAddedFrom id log →
+    SparesInputs m log → (n : ℕ) → n ≤ m → clause_at (fold after live log) n ≡ clause_at live n
 stays m id [] live over numbered spares n most = refl
 stays m id (Added new clause hints ∷ log) live over numbered spares n most =
     let other : (n == new) ≡ false = ne_eqb n new (omega (arith, over, numbered.0, most)) in
@@ -176,17 +184,84 @@ stays m id (Added new clause hints ∷ log) live over numbered spares n most =
     (λ j number ids is. spares (suc j) number ids is) n most
     ∙ rw other refl
 stays m id (Erased number ids ∷ log) live over numbered spares n most =
-    stays m id log (erase live ids) over numbered.2
+    stays m id log (erase live ids) over numbered
     (λ j other others is. spares (suc j) other others is) n most
     ∙ stays_erase m n ids live (spares 0 number ids refl) most
 
 -- each input stays live where no deletion names one
-pub inputs_live : (formula : Cnf) (log : List Step) → AreNumbered (suc (length formula.clauses)) log
-    →
-    SparesInputs (length formula.clauses) log → (i : ℕ) (c : Clause) → slice_get formula.clauses i ≡
-    Some c →
+pub inputs_live : (formula : Cnf) (log : List Step) →
+    AreAddedFrom (suc (length formula.clauses)) log → SparesInputs (length formula.clauses) log →
+    (i : ℕ) (c : Clause) → slice_get formula.clauses i ≡ Some c →
     clause_at (live_after formula log) (suc i) ≡ Some c
 inputs_live formula log numbered spares i c is =
     stays (length formula.clauses) (suc (length formula.clauses)) log (inputs formula) (omega arith)
     numbered spares (suc i) (slice_get_within formula.clauses i c is)
     ∙ inputs_at formula i ∙ is
+
+-- A FRONT PART
+
+pub added_from : (id : ℕ) (log : List Step) → AreNumbered id log → AreAddedFrom id log
+added_from id [] numbered = tt
+added_from id (Added new clause hints ∷ log) numbered =
+    (numbered.0, added_from (suc id) log numbered.1)
+added_from id (Erased own ids ∷ log) numbered = added_from id log numbered.2
+
+pub added_front : (k : ℕ) (log : List Step) → added_count (take k log) ≤ added_count log
+added_front zero log = omega arith
+added_front (suc k) [] = omega arith
+added_front (suc k) (Added id clause hints ∷ log) =
+    let rest = added_front k log in omega (arith, rest)
+added_front (suc k) (Erased id ids ∷ log) = added_front k log
+
+-- the step at a place adds its clause under the next id
+pub step_id : (id k : ℕ) (log : List Step) (new : ℕ) (clause : Clause) (hints : List ℤ) →
+    AreAddedFrom id log → slice_get log k ≡ Some (Added new clause hints) →
+    new ≡ id + added_count (take k log)
+step_id id k [] new clause hints numbered is = cc
+step_id id zero (Added n c h ∷ log) new clause hints numbered is =
+    let same : n ≡ new = cc in omega (arith, same, numbered.0)
+step_id id (suc k) (Added n c h ∷ log) new clause hints numbered is =
+    let rest = step_id (suc id) k log new clause hints numbered.1 is in omega (arith, rest)
+step_id id zero (Erased n ids ∷ log) new clause hints numbered is = cc
+step_id id (suc k) (Erased n ids ∷ log) new clause hints numbered is =
+    step_id id k log new clause hints numbered is
+
+-- fewer deletions are ahead
+pub deletions_drop : (k : ℕ) (log : List Step) → deletions (drop k log) ≤ deletions log
+deletions_drop zero log = omega arith
+deletions_drop (suc k) [] = omega arith
+deletions_drop (suc k) (Added id clause hints ∷ log) = deletions_drop k log
+deletions_drop (suc k) (Erased id ids ∷ log) =
+    let rest = deletions_drop k log in omega (arith, rest)
+
+pub deletions_next : (k : ℕ) (log : List Step) →
+    deletions (drop (suc k) log) ≤ deletions (drop k log)
+deletions_next zero [] = omega arith
+deletions_next zero (Added id clause hints ∷ log) = omega arith
+deletions_next zero (Erased id ids ∷ log) = omega arith
+deletions_next (suc k) [] = omega arith
+deletions_next (suc k) (step ∷ log) = deletions_next k log
+
+pub none_at_end : (log : List Step) → deletions (drop (length log) log) ≡ 0
+none_at_end [] = refl
+none_at_end (step ∷ log) = none_at_end log
+
+-- a step where nothing is deleted from there on is none that deletes
+pub none_erased_ahead : (k : ℕ) (log : List Step) (id : ℕ) (ids : List ℤ) →
+    deletions (drop k log) ≡ 0 → slice_get log k ≡ Some (Erased id ids) → ⊥
+none_erased_ahead k [] id ids none is = cc
+none_erased_ahead zero (Added n c h ∷ log) id ids none is = cc
+none_erased_ahead zero (Erased n i ∷ log) id ids none is = absurd (omega (arith, none))
+none_erased_ahead (suc k) (step ∷ log) id ids none is = none_erased_ahead k log id ids none is
+
+-- each step has what all have
+pub step_all : (P : Step → Type 0) (log : List Step) (k : ℕ) (step : Step) → All P log →
+    slice_get log k ≡ Some step → P step
+step_all P log k step all is =
+    subst P (get_or_from_slice_get log k step step is)
+    (all k step (slice_get_within log k step is))
+
+pub not_nil : (n : ℕ) (clause : Clause) (hints : List ℤ) →
+    is_empty_clause (Added n clause hints) ≡ false → clause ≢ []
+not_nil n [] hints some e = absurd (both_ways _ some refl)
+not_nil n (l ∷ ls) hints some e = cc

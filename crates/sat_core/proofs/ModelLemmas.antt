@@ -1,6 +1,6 @@
 -- Where the clauses are settled and each literal is false or true, the values satisfy them.
 use Rattle.std.proofs.Common.{inl, inr, ◌≡◌, ◌⊎◌, ℕ, suc, Bool, true, false, List, [], ◌∷◌, Any, All, refl, arith}
-use Rattle.std.specs.Prelude.{IfOk, IsTrue, Result, Ok, Err}
+use Rattle.std.specs.Prelude.{IfOk, IsTrue, OnErr, Result, Ok, Err}
 use Rattle.std.proofs.lemmas.List.Elements.{All-head, All-tail, All-cons, All-nil}
 use Rattle.sat_clause.specs.declared.literal.Lit.{Lit}
 use Rattle.sat_clause.specs.Formula.{IsTrueClause, makes_true}
@@ -52,3 +52,8 @@ pub if_ok_both : {X Y : Type 0} (r : Result X Y) (P Q R : X → Type 0) → ((x 
     IfOk r P → IfOk r Q → IfOk r R
 if_ok_both (Ok x) P Q R both p q = both x p q
 if_ok_both (Err e) P Q R both p q = tt
+
+-- what holds anyway holds where there is an error
+pub on_err_anyway : {X E P : Type 0} (r : Result X E) → P → OnErr r P
+on_err_anyway (Ok x) holds = tt
+on_err_anyway (Err e) holds = holds

@@ -1,7 +1,7 @@
 -- Which variables are held as the trail changes.
-use Rattle.std.proofs.Common.{inl, inr, ◌≡◌, ◌≢◌, ◌-◌, ◌/◌, ◌^◌, ◌<◌, ◌≤◌, ℕ, zero, suc, Bool, true, false, List, [], ◌∷◌, ◌++◌, length, set, get_or, replicate, None, refl, sym, ap, ◌∙◌, subst, arith}
+use Rattle.std.proofs.Common.{inl, inr, ◌≡◌, ◌≢◌, ◌+◌, ◌-◌, ◌/◌, ◌%◌, ◌^◌, ◌<◌, ◌≤◌, ℕ, zero, suc, Bool, true, false, List, [], ◌∷◌, ◌++◌, length, set, get_or, replicate, None, refl, sym, ap, ◌∙◌, subst, arith}
 use Rattle.std.proofs.lemmas.Bool.{both_ways, cases_eq}
-use Rattle.std.proofs.lemmas.List.{get_or-map, get_or-replicate, get_or-set_other, length-replicate, length-set}
+use Rattle.std.proofs.lemmas.List.{get_or-map, get_or-replicate, get_or-set_other, get_or-set_same, length-replicate, length-set}
 use Rattle.sat_clause.specs.declared.literal.Lit.{Lit}
 use Rattle.sat_clause.specs.Literal.{positive}
 use Rattle.sat_clause.specs.Trail.{IsClosed}
@@ -9,7 +9,7 @@ use Rattle.sat_order.specs.Order.{IsEmpty, IsVariable, IsWhole, OrderState, acti
 use Rattle.sat_watch.specs.declared.entry.TrailEntry.{TrailEntry}
 use Rattle.sat_watch.specs.Trail.{lits_of, value_in}
 use Rattle.sat_watch.specs.Watches.{Propagates, WatchState, assumed}
-use Rattle.sat_core.specs.Ranking.{IsRanked, SameHeld, held_count}
+use Rattle.sat_core.specs.Ranking.{AreDrawn, IsRanked, SameHeld, drawn, first_activity, held_count, next_draw}
 use Rattle.sat_core.proofs.DecideLaws.{closed_values, value_assumed, value_stays}
 
 -- values stay where the trail changes
@@ -119,3 +119,81 @@ scaled_small order v known whole small =
     let inside : v - 1 < length order.activities =
     omega (arith, known.first, known.last, whole.activities) in
     omega (arith, small, get_or-map (λ (a : ℕ). a / 2 ^ 40) order.activities (v - 1) 0 0 inside)
+
+-- FIRST ACTIVITIES
+
+-- the variables below the next one have the activities that were drawn, and the others none yet
+pub record AreDrawnTo (seed next draw : ℕ) (order : OrderState) : Type 0 where
+  pub many : length order.activities ≡ order.vars
+  pub draw_is : draw ≡ drawn seed (next - 1)
+  pub small : draw < 2 ^ 32
+  pub before : (w : ℕ) → 1 ≤ w → w < next → w ≤ order.vars →
+      activity_of order w ≡ drawn seed w / 65536 % 1024
+  pub behind : (w : ℕ) → next ≤ w → w ≤ order.vars → activity_of order w ≡ 0
+
+pub drawn_none : (seed vars : ℕ) (order : OrderState) → seed < 2 ^ 32 → order.vars ≡ vars →
+    order.activities ≡ replicate vars 0 → AreDrawnTo seed 1 seed order
+drawn_none seed vars order small many zero_is = record {
+  many = ap length zero_is ∙ length-replicate vars 0 ∙ sym many;
+  draw_is = refl;
+  small = small;
+  before = λ w some below within. absurd (omega (arith, some, below));
+  behind = λ w some within.
+      ap (λ (xs : List ℕ). get_or xs (w - 1) 0) zero_is
+      ∙ get_or-replicate vars (w - 1) 0 0 (omega (arith, some, within, many));
+}
+
+drawn_step : (seed next : ℕ) → 1 ≤ next → drawn seed next ≡ next_draw (drawn seed (next - 1))
+drawn_step seed zero some = absurd (omega (arith, some))
+drawn_step seed (suc n) some =
+    let e : n ≡ suc n - 1 = omega arith in ap (λ (k : ℕ). next_draw (drawn seed k)) e
+
+pub drawn_next : (seed next draw : ℕ) (order : OrderState) → 1 ≤ next → next ≤ order.vars →
+    AreDrawnTo seed next draw order →
+    AreDrawnTo seed (suc next) (next_draw draw) (record order {
+      activities = set order.activities (next - 1)
+          (activity_of order next + next_draw draw / 65536 % 1024);
+    })
+drawn_next seed next draw order some within so_far =
+    let by : ℕ = next_draw draw / 65536 % 1024 in
+    let now : ℕ = activity_of order next + by in
+    let here : next_draw draw ≡ drawn seed next =
+    ap next_draw so_far.draw_is ∙ sym (drawn_step seed next some) in
+    let inside : next - 1 < length order.activities = omega (arith, some, within, so_far.many) in
+    let none : activity_of order next ≡ 0 = so_far.behind next (omega arith) within in
+    let plain : 0 + by ≡ by = omega arith in
+    let same_at : next ≡ suc next - 1 = omega arith in
+    record {
+      many = length-set order.activities (next - 1) now ∙ so_far.many;
+      draw_is = here ∙ ap (drawn seed) same_at;
+      small = omega arith;
+      before = λ w first below most. elim (cases_eq w next) [
+        | inl same ↦
+            subst (λ (k : ℕ). get_or (set order.activities (next - 1) now) (k - 1) 0
+            ≡ drawn seed k / 65536 % 1024) (sym same)
+            (get_or-set_same order.activities (next - 1) now 0 inside
+            ∙ ap (λ (a : ℕ). a + by) none
+            ∙ plain
+            ∙ ap (λ (d : ℕ). d / 65536 % 1024) here)
+        | inr other ↦
+            get_or-set_other order.activities (next - 1) (w - 1) now 0
+            (omega (arith, first, some, other))
+            ∙ so_far.before w first (omega (arith, below, other)) most
+      ];
+      behind = λ w above most.
+          get_or-set_other order.activities (next - 1) (w - 1) now 0
+          (omega (arith, above, some))
+          ∙ so_far.behind w (omega (arith, above)) most;
+    }
+
+pub drawn_all : (seed next draw : ℕ) (order : OrderState) → seed ≢ 0 → order.vars < next →
+    AreDrawnTo seed next draw order → AreDrawn seed order
+drawn_all zero next draw order some past so_far v known = absurd (some refl)
+drawn_all (suc seed) next draw order some past so_far v known =
+    so_far.before v known.first (omega (arith, known.last, past)) known.last
+
+pub drawn_zero : (vars : ℕ) (order : OrderState) → order.vars ≡ vars →
+    order.activities ≡ replicate vars 0 → AreDrawn 0 order
+drawn_zero vars order many zero_is v known =
+    ap (λ (xs : List ℕ). get_or xs (v - 1) 0) zero_is
+    ∙ get_or-replicate vars (v - 1) 0 0 (omega (arith, known.first, known.last, many))

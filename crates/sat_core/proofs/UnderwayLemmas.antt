@@ -1,11 +1,13 @@
--- The log of a search at its start, with one more learned clause, and at its end.
-use Rattle.std.proofs.Common.{◌≡◌, ◌≢◌, ◌<◌, ◌≤◌, ◌+◌, ℕ, suc, ℤ, Bool, false, List, [], ◌∷◌, ◌++◌, length, None, All, refl, sym, ◌∙◌, subst, arith}
+-- What a turn makes of a log, the log of a search that is under way, and its end.
+use Rattle.std.proofs.Common.{◌≡◌, ◌≢◌, ◌<◌, ◌≤◌, ◌+◌, ℕ, suc, ℤ, Bool, false, List, [], ◌∷◌, ◌++◌, length, take, drop, None, All, refl, sym, ap, ◌∙◌, subst, arith}
 use Rattle.std.specs.Prelude.{IfOk, Ok, Result}
 use Rattle.std.specs.declared.alloc.AllocError.{AllocError}
-use Rattle.std.proofs.lemmas.List.{append-nil}
+use Rattle.std.proofs.Math.Seq.{take-length}
+use Rattle.std.proofs.lemmas.List.{append-nil, drop-append-le, length-append, take-append-le}
 use Rattle.std.proofs.lemmas.List.Elements.{All-nil, All-push}
+use Rattle.sat_clause.specs.declared.cause.Cause.{Cause}
 use Rattle.sat_clause.specs.Formula.{Cnf, Satisfies}
-use Rattle.sat_clause.specs.Judge.{Accepted, inputs, is_empty_clause, judge}
+use Rattle.sat_clause.specs.Judge.{Accepted, Accepts, IsGoodSoFar, Refused, inputs, is_empty_clause, judge}
 use Rattle.sat_clause.specs.Learned.{IsFresh, IsRelevant, IsSimple, LearnedNew, Relevant, deletions}
 use Rattle.sat_clause.specs.Literal.{Clause, IsWithin}
 use Rattle.sat_clause.specs.Live.{Live, put}
@@ -17,11 +19,181 @@ use Rattle.sat_core.specs.Answer.{IsAnswer, SpendsAll}
 use Rattle.sat_core.specs.Kept.{AreKept, SameLive}
 use Rattle.sat_core.specs.SearchLog.{AreNumbered, EndsAtEmpty, added_count}
 use Rattle.sat_core.specs.SearchStore.{AreTrue, IsLesson, Learns, SameKept}
-use Rattle.sat_core.specs.Stands.{AreGood, IsOpenLog, SearchValue, StandsFor, live_after, next_id}
-use Rattle.sat_core.specs.Underway.{HasSearched, IsDone, IsUnderway}
+use Rattle.sat_core.specs.Stands.{AreGood, IsOpenLog, SearchAt, SearchValue, StandsAt, StandsFor, at_end, live_after, next_id}
+use Rattle.sat_core.specs.Underway.{AddsRelevant, HasLearned, HasModel, HasRefuted, HasSearched, IsUnderway, MayFollow, MayTurn}
 use Rattle.sat_core.proofs.EarlierLaw.{hints_are_earlier}
 use Rattle.sat_core.proofs.KeptLaws.{fresh_kept, kept_alike, kept_put, kept_same, model_kept, relevant_kept, rup_kept}
-use Rattle.sat_core.proofs.LogLemmas.{added_count-push, deletions-push, each_added_push, ends_behind, good_accepted, good_behind, good_so_far, inputs_live, live_after-push, not_empty_step, numbered_push, spares_push, sparse_without}
+use Rattle.sat_core.proofs.LogLemmas.{added_count-push, added_from_push, deletions-push, deletions_drop, each_added_push, ends_behind, good_accepted, good_behind, good_so_far, inputs_live, live_after-push, none_at_end, not_empty_step, numbered_push, spares_push, sparse_without}
+
+-- WHAT A SEARCH STANDS FOR
+
+-- whatever stands on the trail, and in whatever orders the literals
+pub stands_along : (old new : SearchValue) (formula : Cnf) (log : List Step) → SameKept old new →
+    StandsFor old formula log → StandsFor new formula log
+stands_along old new formula log same stands = record {
+  vars = same.vars ∙ stands.vars;
+  inputs = same.inputs ∙ stands.inputs;
+  added = same.added ∙ stands.added;
+  clauses =
+      kept_same old.clauses new.clauses (live_after formula log) same.among same.back same.once
+      stands.clauses;
+}
+
+-- with the clause of one more step
+pub stands_next : (search new : SearchValue) (formula : Cnf) (log : List Step) (id : ℕ)
+    (clause : Clause) (hints : List ℤ) → StandsFor search formula log →
+    id ≡ suc (search.inputs + search.added) → Learns search new clause →
+    StandsFor new formula (log ++ Added id clause hints ∷ [])
+stands_next search new formula log id clause hints stands is learns =
+    let live : Live = live_after formula log in
+    let order : Clause = learns.order in
+    let are : AreKept (put search.clauses id order) (put live id clause) =
+    kept_put search.clauses live id order clause stands.clauses learns.same learns.once in
+    let alike : SameLive (put search.clauses id order) new.clauses =
+    subst (λ (n : ℕ). SameLive (put search.clauses n order) new.clauses) (sym is)
+    learns.clauses in
+    record {
+      vars = learns.vars ∙ stands.vars;
+      inputs = learns.inputs ∙ stands.inputs;
+      added = omega (arith, learns.added, stands.added, added_count-push log id clause hints);
+      clauses = rw (live_after-push formula log (Added id clause hints))
+          (kept_alike (put search.clauses id order) new.clauses (put live id clause)
+          (put live id clause) alike (λ n. refl) are);
+    }
+
+-- behind all steps
+pub follow_end : (value : SearchValue) (formula : Cnf) (log : List Step) →
+    StandsFor value formula log → MayFollow (at_end value log) formula log
+follow_end value formula log stands = record {
+  stands = record {
+    reached = omega arith;
+    stands = subst (StandsFor value formula) (sym (take-length log)) stands;
+  };
+  none_deleted = none_at_end log;
+}
+
+pub stands_all : (search : SearchAt) (formula : Cnf) (log : List Step) →
+    StandsAt search formula log → search.taken ≡ length log → StandsFor search.value formula log
+stands_all search formula log stands all =
+    subst (StandsFor search.value formula) (ap (λ (k : ℕ). take k log) all ∙ take-length log)
+    stands.stands
+
+-- another search beside, with one more step
+pub follow_next : (other : SearchAt) (formula : Cnf) (log now : List Step) (id : ℕ)
+    (clause : Clause) (hints : List ℤ) → now ≡ log ++ Added id clause hints ∷ [] →
+    MayFollow other formula log → MayFollow other formula now
+follow_next other formula log now id clause hints step follows =
+    let last : List Step = Added id clause hints ∷ [] in
+    let reached = follows.stands.reached in
+    let front : take other.taken (log ++ last) ≡ take other.taken log =
+    take-append-le other.taken log last reached in
+    let ahead : drop other.taken (log ++ last) ≡ drop other.taken log ++ last =
+    drop-append-le other.taken log last reached in
+    subst (MayFollow other formula) (sym step) (record {
+      stands = record {
+        reached = omega (arith, reached, length-append log last);
+        stands = subst (StandsFor other.value formula) (sym front) follows.stands.stands;
+      };
+      none_deleted = ap deletions ahead ∙ deletions-push (drop other.taken log) id clause hints
+          ∙ follows.none_deleted;
+    })
+
+-- A TURN
+
+module _ (search : SearchValue) (formula : Cnf) (log : List Step)
+    (stands : StandsFor search formula log) (open_log : IsOpenLog formula log) where
+  -- the next id, by what the search knows
+  pub next_is : suc (search.inputs + search.added) ≡ next_id formula log
+  next_is = omega (arith, stands.inputs, stands.added)
+
+  pub turn_adds : (id : ℕ) (clause : Clause) (hints : List ℤ) (back : ℕ) (now : List Step) →
+      id ≡ suc (search.inputs + search.added) → IsLesson search clause hints back →
+      now ≡ log ++ Added id clause hints ∷ [] → AddsRelevant formula log now clause
+  turn_adds id clause hints back now is lesson step = record {
+    hints = hints;
+    step = step ∙ ap (λ (n : ℕ). log ++ Added n clause hints ∷ []) (is ∙ next_is);
+    good = rup_kept search.clauses (live_after formula log) stands.clauses.are_live clause hints
+        lesson.follows;
+    relevant = relevant_kept search.clauses (live_after formula log) stands.clauses.are_live clause
+        hints lesson.relevant;
+  }
+
+  open_next : (id : ℕ) (clause : Clause) (hints : List ℤ) (back : ℕ) → id ≡ next_id formula log →
+      IsLesson search clause hints back → clause ≢ [] →
+      rup (live_after formula log) clause hints ≡ None →
+      IsOpenLog formula (log ++ Added id clause hints ∷ [])
+  open_next id clause hints back is lesson some good =
+      let live : Live = live_after formula log in
+      let simple : IsSimple formula.vars clause = subst (λ (n : ℕ). IsSimple n clause)
+      stands.vars lesson.simple in
+      let fresh : IsFresh live clause = fresh_kept search.clauses live stands.clauses
+      formula.vars clause simple (lesson.fresh some) in
+      record {
+        good = good_behind (inputs formula) log (Added id clause hints ∷ []) open_log.good
+            (good, tt);
+        none_empty = All-push (λ (step : Step). is_empty_clause step ≡ false) log
+            (Added id clause hints) open_log.none_empty (not_empty_step id clause hints some);
+        numbered = added_from_push (suc (length formula.clauses)) id log clause hints
+            open_log.numbered (omega (arith, is));
+        new = each_added_push (λ live c h. c ≢ [] → IsSimple formula.vars c × IsFresh live c)
+            formula log id clause hints open_log.new (λ _. (simple, fresh));
+        spares = spares_push (length formula.clauses) log id clause hints open_log.spares;
+      }
+
+  -- one more learned clause
+  pub turn_learned : (new : SearchValue) (id : ℕ) (clause : Clause) (hints : List ℤ) (back : ℕ)
+      (now : List Step) → id ≡ suc (search.inputs + search.added) →
+      IsLesson search clause hints back → clause ≢ [] → Learns search new clause →
+      now ≡ log ++ Added id clause hints ∷ [] → HasLearned (at_end new now) formula log now
+  turn_learned new id clause hints back now is lesson some learns step =
+      let adds = turn_adds id clause hints back now is lesson step in
+      let opens : IsOpenLog formula now = subst (IsOpenLog formula) (sym step)
+      (open_next id clause hints back (is ∙ next_is) lesson some
+      (rup_kept search.clauses (live_after formula log) stands.clauses.are_live clause hints
+      lesson.follows)) in
+      record {
+        clause = clause;
+        some = some;
+        adds = adds;
+        good = good_so_far 1 (inputs formula) now opens.good;
+        open_log = opens;
+        follows = follow_end new formula now (subst (StandsFor new formula) (sym step)
+            (stands_next search new formula log id clause hints stands is learns));
+        all_taken = refl;
+        others = λ other follows.
+            follow_next other formula log now id clause hints step follows;
+      }
+
+  -- the empty clause
+  pub turn_refuted : (id : ℕ) (clause : Clause) (hints : List ℤ) (back : ℕ) (now : List Step) →
+      id ≡ suc (search.inputs + search.added) → IsLesson search clause hints back → clause ≡ [] →
+      now ≡ log ++ Added id clause hints ∷ [] → HasRefuted formula log now
+  turn_refuted id clause hints back now is lesson none step =
+      let adds : AddsRelevant formula log now [] = subst (AddsRelevant formula log now) none
+      (turn_adds id clause hints back now is lesson step) in
+      let last = Added (next_id formula log) [] adds.hints in
+      let good : AreGood (inputs formula) (log ++ last ∷ []) = good_behind (inputs formula) log
+      (last ∷ []) open_log.good (adds.good, tt) in
+      record {
+        adds = adds;
+        accepts = subst (Accepts formula) (sym adds.step)
+            (good_accepted 1 (inputs formula) log (next_id formula log) adds.hints good);
+      }
+
+  -- values that make the kept clauses true satisfy the formula
+  pub turn_model : (values : List Bool) → All (All (IsWithin formula.vars)) formula.clauses →
+      AreTrue search values → HasModel (at_end search log) formula log log values
+  turn_model values within are = record {
+    satisfies =
+        model_kept search.clauses (live_after formula log) stands.clauses formula values
+        (are.many ∙ stands.vars) within
+        (inputs_live formula log open_log.numbered open_log.spares) are.each;
+    same = refl;
+    follows = follow_end search formula log stands;
+    all_taken = refl;
+  }
+
+-- UNDER WAY
 
 open_start : (formula : Cnf) → IsOpenLog formula []
 open_start formula = record {
@@ -29,191 +201,110 @@ open_start formula = record {
   none_empty = All-nil (λ (step : Step). is_empty_clause step ≡ false);
   numbered = tt;
   new = λ k id clause hints is. cc;
-  relevant = λ k id clause hints is. cc;
   spares = λ k id ids is. cc;
 }
 
-pub underway_start : (search : SearchValue) (formula : Cnf) → StandsFor search formula [] →
-    All (All (IsWithin formula.vars)) formula.clauses → IsUnderway search formula []
-underway_start search formula stands within = record {
-  within = within;
-  stands = stands;
+pub underway_start : (search : SearchAt) (formula : Cnf) → StandsFor search.value formula [] →
+    search.taken ≡ 0 → IsUnderway search formula []
+underway_start search formula stands none = record {
+  stands = record {
+    reached = omega (arith, none);
+    stands = subst (λ (k : ℕ). StandsFor search.value formula (take k [])) (sym none) stands;
+  };
   open_log = open_start formula;
+  numbered = tt;
+  relevant = λ k id clause hints is. cc;
   none_deleted = refl;
 }
 
--- whatever stands on the trail, and in whatever orders the literals
-pub underway_along : (old new : SearchValue) (formula : Cnf) (log : List Step) → SameKept old new →
-    IsUnderway old formula log → IsUnderway new formula log
-underway_along old new formula log same on = record {
-  within = on.within;
-  stands = record {
-    vars = same.vars ∙ on.stands.vars;
-    inputs = same.inputs ∙ on.stands.inputs;
-    added = same.added ∙ on.stands.added;
-    clauses =
-        kept_same old.clauses new.clauses (live_after formula log) same.among same.back same.once
-        on.stands.clauses;
-  };
-  open_log = on.open_log;
-  none_deleted = on.none_deleted;
-}
-
-module _ (search : SearchValue) (formula : Cnf) (log : List Step)
+module _ (search : SearchAt) (formula : Cnf) (log : List Step)
     (on : IsUnderway search formula log) where
-  -- the next id, by what the search knows
-  pub next_is : suc (search.inputs + search.added) ≡ next_id formula log
-  next_is = omega (arith, on.stands.inputs, on.stands.added)
-
-  good_hints : (clause : Clause) (hints : List ℤ) (back : ℕ) → IsLesson search clause hints back →
-      rup (live_after formula log) clause hints ≡ None
-  good_hints clause hints back lesson =
-      rup_kept search.clauses (live_after formula log) on.stands.clauses.are_live clause hints
-      lesson.follows
-
-  needed_hints : (clause : Clause) (hints : List ℤ) (back : ℕ) → IsLesson search clause hints back →
-      IsRelevant (live_after formula log) clause hints
-  needed_hints clause hints back lesson =
-      relevant_kept search.clauses (live_after formula log) on.stands.clauses.are_live clause hints
-      lesson.relevant
-
-  open_next : (id : ℕ) (clause : Clause) (hints : List ℤ) (back : ℕ) → id ≡ next_id formula log →
-      IsLesson search clause hints back →
-      clause ≢ [] → IsOpenLog formula (log ++ Added id clause hints ∷ [])
-  open_next id clause hints back is lesson some =
-      let live : Live = live_after formula log in
-      let simple : IsSimple formula.vars clause = subst (λ (n : ℕ). IsSimple n clause)
-      on.stands.vars lesson.simple in
-      let fresh : IsFresh live clause = fresh_kept search.clauses live on.stands.clauses
-      formula.vars clause simple (lesson.fresh some) in
-      record {
-        good = good_behind (inputs formula) log (Added id clause hints ∷ []) on.open_log.good
-            (good_hints clause hints back lesson, tt);
-        none_empty = All-push (λ (step : Step). is_empty_clause step ≡ false) log
-            (Added id clause hints) on.open_log.none_empty (not_empty_step id clause hints some);
-        numbered = numbered_push (suc (length formula.clauses)) id log clause hints
-            on.open_log.numbered (omega (arith, is));
-        new = each_added_push (λ live c h. c ≢ [] → IsSimple formula.vars c × IsFresh live c)
-            formula log id clause hints on.open_log.new (λ _. (simple, fresh));
-        relevant = each_added_push IsRelevant formula log id clause hints on.open_log.relevant
-            (needed_hints clause hints back lesson);
-        spares = spares_push (length formula.clauses) log id clause hints on.open_log.spares;
-      }
+  pub underway_may : next_id formula log ≤ 4294967295 → MayTurn search formula log
+  underway_may few = record {
+    follows = record {
+      stands = on.stands;
+      none_deleted =
+          let most = deletions_drop search.taken log in omega (arith, most, on.none_deleted);
+    };
+    open_log = on.open_log;
+    few = few;
+  }
 
   -- one more learned clause
-  pub underway_next : (new : SearchValue) (id : ℕ) (clause : Clause) (hints : List ℤ) (back : ℕ) →
-      id ≡ suc (search.inputs + search.added) → IsLesson search clause hints back → clause ≢ [] →
-      Learns search new clause → IsUnderway new formula (log ++ Added id clause hints ∷ [])
-  underway_next new id clause hints back is lesson some learns =
-      let live : Live = live_after formula log in
-      let next : id ≡ next_id formula log = is ∙ next_is in
-      let order : Clause = learns.order in
-      let are : AreKept (put search.clauses id order) (put live id clause) =
-      kept_put search.clauses live id order clause on.stands.clauses learns.same learns.once in
-      let alike : SameLive (put search.clauses id order) new.clauses =
-      subst (λ (n : ℕ). SameLive (put search.clauses n order) new.clauses) (sym is)
-      learns.clauses in
-      record {
-        within = on.within;
-        stands = record {
-          vars = learns.vars ∙ on.stands.vars;
-          inputs = learns.inputs ∙ on.stands.inputs;
-          added = omega (
-            arith,
-            learns.added,
-            on.stands.added,
-            added_count-push log id clause
-                hints,
-          );
-          clauses = rw (live_after-push formula log (Added id clause hints))
-              (kept_alike (put search.clauses id order) new.clauses (put live id clause)
-              (put live id clause) alike (λ n. refl) are);
-        };
-        open_log = open_next id clause hints back next lesson some;
-        none_deleted = deletions-push log id clause hints ∙ on.none_deleted;
-      }
-
-  -- the empty clause
-  pub underway_done : (id : ℕ) (clause : Clause) (hints : List ℤ) (back : ℕ) → id ≡ suc
-      (search.inputs + search.added) →
-      IsLesson search clause hints back → clause ≡ [] → IsDone formula log
-      (log ++ Added id clause hints ∷ [])
-  underway_done id clause hints back is lesson none = record {
-    hints = hints;
-    last = rw (is ∙ next_is, none) refl;
-    good = subst (λ (c : Clause). rup (live_after formula log) c hints ≡ None) none
-        (good_hints clause hints back lesson);
-    relevant = subst (λ (c : Clause). IsRelevant (live_after formula log) c hints) none
-        (needed_hints clause hints back lesson);
-  }
-
-  -- values that make the kept clauses true satisfy the formula
-  pub underway_model : (values : List Bool) → AreTrue search values → Satisfies values formula
-  underway_model values are =
-      model_kept search.clauses (live_after formula log) on.stands.clauses formula values
-      (are.many ∙ on.stands.vars) on.within
-      (inputs_live formula log on.open_log.numbered on.open_log.spares) are.each
-
-  -- the log, with or without a last step
-  searched_behind : (more : List Step) (budget : ℕ) (result : Result Answer AllocError) →
-      AreGood (inputs formula) (log ++ more) → AreNumbered (suc (length formula.clauses))
-      (log ++ more) →
-      EndsAtEmpty more → deletions (log ++ more) ≡ 0 → LearnedNew formula (log ++ more) →
-      Relevant formula (log ++ more) →
-      added_count (log ++ more) ≤ budget → IfOk result (IsAnswer formula budget (log ++ more)) →
-      HasSearched formula budget (log ++ more) result
-  searched_behind more budget result good numbered ends none new relevant few answer = record {
-    answer = answer;
-    logged = record {
-      good = good_so_far 1 (inputs formula) (log ++ more) good;
-      ends = ends_behind log more on.open_log.none_empty ends;
-      numbered = numbered;
-      earlier = hints_are_earlier formula (log ++ more) good numbered;
-      new = new;
-      relevant = relevant;
-      sparse = sparse_without (log ++ more) none;
-    };
-    within = few;
-    kept = none;
-  }
+  pub underway_next : (new : SearchAt) (now : List Step) → HasLearned new formula log now →
+      IsUnderway new formula now × (added_count now ≡ suc (added_count log))
+  underway_next new now learned =
+      let adds = learned.adds in
+      let id : ℕ = next_id formula log in
+      let clause : Clause = learned.clause in
+      let more : List Step = log ++ Added id clause adds.hints ∷ [] in
+      let numbered : AreNumbered (suc (length formula.clauses)) more =
+      numbered_push (suc (length formula.clauses)) id log clause adds.hints on.numbered
+      (omega arith) in
+      let relevant : Relevant formula more =
+      each_added_push IsRelevant formula log id clause adds.hints on.relevant adds.relevant in (
+        record {
+          stands = learned.follows.stands;
+          open_log = learned.open_log;
+          numbered = subst (AreNumbered (suc (length formula.clauses))) (sym adds.step) numbered;
+          relevant = subst (Relevant formula) (sym adds.step) relevant;
+          none_deleted = ap deletions adds.step ∙ deletions-push log id clause adds.hints
+              ∙ on.none_deleted;
+        },
+        ap added_count adds.step ∙ added_count-push log id clause adds.hints,
+      )
 
   pub searched : (budget : ℕ) (result : Result Answer AllocError) → added_count log ≤ budget →
       IfOk result (IsAnswer formula budget log) → HasSearched formula budget log result
-  searched budget result few answer =
-      let same : log ++ [] ≡ log = append-nil log in
-      subst (λ (l : List Step). HasSearched formula budget l result) same
-      (searched_behind [] budget result (rw same on.open_log.good) (rw same on.open_log.numbered) tt
-      (rw same on.none_deleted) (subst (LearnedNew formula) (sym same) on.open_log.new)
-      (subst (Relevant formula) (sym same) on.open_log.relevant)
-      (rw same few)
-      (subst (λ (l : List Step). IfOk result (IsAnswer formula budget l)) (sym same) answer))
+  searched budget result few answer = record {
+    answer = answer;
+    logged = record {
+      good = good_so_far 1 (inputs formula) log on.open_log.good;
+      ends = subst EndsAtEmpty (append-nil log) (ends_behind log [] on.open_log.none_empty tt);
+      numbered = on.numbered;
+      earlier = hints_are_earlier formula log on.open_log.good on.numbered;
+      new = on.open_log.new;
+      relevant = on.relevant;
+      sparse = sparse_without log on.none_deleted;
+    };
+    within = few;
+    kept = on.none_deleted;
+  }
 
   pub spent : (budget : ℕ) → added_count log ≡ budget → SpendsAll budget log
   spent budget many = record { all = many; none_empty = on.open_log.none_empty }
 
-  pub refuted : (budget : ℕ) (now : List Step) → added_count log < budget → IsDone formula log now →
-      HasSearched formula budget now (Ok Refuted)
+  pub refuted : (budget : ℕ) (now : List Step) → added_count log < budget →
+      HasRefuted formula log now → HasSearched formula budget now (Ok Refuted)
   refuted budget now few done =
       let id : ℕ = next_id formula log in
-      let last = Added id [] done.hints in
-      let good : AreGood (inputs formula) (log ++ last ∷ []) = good_behind (inputs formula) log
-      (last ∷ []) on.open_log.good (done.good, tt) in
-      let accepts : judge formula (log ++ last ∷ []) ≡ Accepted = good_accepted 1 (inputs formula)
-      log id done.hints good in
-      let within : added_count (log ++ last ∷ []) ≤ budget = omega
-      (arith, added_count-push log id [] done.hints, few) in
-      subst (λ (l : List Step). HasSearched formula budget l (Ok Refuted)) (sym done.last)
-      (searched_behind (last ∷ []) budget (Ok Refuted) good
-      (numbered_push (suc (length formula.clauses)) id log [] done.hints on.open_log.numbered
-      (omega arith))
-      (λ _. refl, tt) (deletions-push log id [] done.hints ∙ on.none_deleted)
-      (each_added_push (λ live c h. c ≢ [] → IsSimple formula.vars c × IsFresh live c) formula log
-      id [] done.hints on.open_log.new (λ some. absurd (some refl)))
-      (each_added_push IsRelevant formula log id [] done.hints on.open_log.relevant done.relevant)
-      within
+      let hints : List ℤ = done.adds.hints in
+      let more : List Step = log ++ Added id [] hints ∷ [] in
+      let good : AreGood (inputs formula) more = good_behind (inputs formula) log
+      (Added id [] hints ∷ []) on.open_log.good (done.adds.good, tt) in
+      let numbered : AreNumbered (suc (length formula.clauses)) more =
+      numbered_push (suc (length formula.clauses)) id log [] hints on.numbered (omega arith) in
+      let none : deletions more ≡ 0 = deletions-push log id [] hints ∙ on.none_deleted in
+      let within : added_count more ≤ budget =
+      omega (arith, added_count-push log id [] hints, few) in
+      subst (λ (l : List Step). HasSearched formula budget l (Ok Refuted)) (sym done.adds.step)
       (record {
-        accepts = accepts;
+        answer = record {
+          accepts = subst (Accepts formula) done.adds.step done.accepts;
+          within = within;
+          last = record { before = log; id = id; hints = hints; is = refl };
+        };
+        logged = record {
+          good = good_so_far 1 (inputs formula) more good;
+          ends = ends_behind log (Added id [] hints ∷ []) on.open_log.none_empty (λ _. refl, tt);
+          numbered = numbered;
+          earlier = hints_are_earlier formula more good numbered;
+          new = each_added_push (λ live c h. c ≢ [] → IsSimple formula.vars c × IsFresh live c)
+              formula log id [] hints on.open_log.new (λ some. absurd (some refl));
+          relevant = each_added_push IsRelevant formula log id [] hints on.relevant
+              done.adds.relevant;
+          sparse = sparse_without more none;
+        };
         within = within;
-        last = record
-            { before = log; id = id; hints = done.hints; is = refl };
-      }))
+        kept = none;
+      })

@@ -9,7 +9,7 @@ use Rattle.list_laws.proofs.Places.{take-get}
 use Rattle.sat_clause.specs.Literal.{Clause}
 use Rattle.sat_watch.specs.Trail.{AreWithin, IsOnce}
 use Rattle.sat_watch.specs.Watches.{HasLevels, WatchState}
-use Rattle.sat_core.specs.Analysis.{AreOn, AreUsedAtZero, HasLevel, HasReason, HasSource, IsAnalysed, IsAnalysis, IsFalsePlace, IsLeast, IsNoPoint, IsPoint, IsReasonPlace, IsWalk, Uses, reason_lits}
+use Rattle.sat_core.specs.Analysis.{AreOn, AreUsed, HasLevel, HasReason, HasSource, IsAnalysed, IsAnalysis, IsFalsePlace, IsLeast, IsNoPoint, IsPoint, IsReasonPlace, IsWalk, Uses, reason_lits}
 use Rattle.sat_core.specs.Marks.{IsClean, IsMet, IsUsed, MarkState, Meets, with_places}
 use Rattle.sat_core.proofs.MarksLaws.{mark_cases, mark_stays}
 use Rattle.sat_watch.proofs.PlaceLemmas.{place_entry}
@@ -237,15 +237,15 @@ module _ (w : WatchState) (i p : ℕ) (old : MarkState) (at : slice_get old.plac
       let lt = slice_get_within old.places i p at in
       take-append-le (suc i) old.places added (omega (arith, lt)) ∙ take-get old.places i p at
 
-  pub used_front : (new : MarkState) (added : List ℕ) → new.places ≡ old.places ++ added →
-      ((q : ℕ) → IsUsed old q → IsUsed new q) → (HasLevel w.trail 0 p → IsUsed new p) →
-      AreUsedAtZero w.trail i old → AreUsedAtZero w.trail (suc i) new
-  used_front new added places stays here front q has zero =
+  pub used_front : (P : ℕ → Type 0) (new : MarkState) (added : List ℕ) →
+      new.places ≡ old.places ++ added → ((q : ℕ) → IsUsed old q → IsUsed new q) →
+      (P p → IsUsed new p) → AreUsed P i old → AreUsed P (suc i) new
+  used_front P new added places stays here front q has is =
       elim (Contains-push_cases (take i old.places) p q
       (subst (λ (ps : List ℕ). Contains ps q)
       (ap (take (suc i)) places ∙ front_grows added) has)) [
-        | inl before ↦ stays q (front q before zero)
-        | inr same ↦ subst (IsUsed new) same (here (subst (HasLevel w.trail 0) (sym same) zero))
+        | inl before ↦ stays q (front q before is)
+        | inr same ↦ subst (IsUsed new) same (here (subst P (sym same) is))
       ]
 
 -- THE BEGINNING

@@ -23,11 +23,6 @@ abbrev pub IsFalsePlace : List TrailEntry → Clause → ℕ → Type 0
 IsFalsePlace trail lits place = (l : Lit) × Contains lits l × (is_false trail l ≡ true)
     × (place_in trail l ≡ Some place)
 
--- the place of each false literal of the clause was met, or is of level 0
-abbrev pub IsCovered : List TrailEntry → MarkState → Clause → Type 0
-IsCovered trail s lits = (place : ℕ) → IsFalsePlace trail lits place →
-    IsMet s place ⊎ HasLevel trail 0 place
-
 -- where a level was begun, a false literal of the clause is of the current one
 abbrev pub HasCurrent : WatchState → Clause → Type 0
 HasCurrent w lits = 1 ≤ w.level → (place : ℕ) × IsFalsePlace w.trail lits place
@@ -109,10 +104,9 @@ pub record IsPoint (w : WatchState) (s : MarkState) (point : ℕ) : Type 0 where
 abbrev pub AreOn : List TrailEntry → MarkState → Type 0
 AreOn trail s = (place : ℕ) → IsMet s place → place < length trail
 
--- of so many places met, the first ones, those of level 0 are used
-abbrev pub AreUsedAtZero : List TrailEntry → ℕ → MarkState → Type 0
-AreUsedAtZero trail i s = (place : ℕ) → Contains (take i s.places) place →
-    HasLevel trail 0 place → IsUsed s place
+-- of so many places met, the first ones, those with a property are used
+abbrev pub AreUsed : (ℕ → Type 0) → ℕ → MarkState → Type 0
+AreUsed P i s = (place : ℕ) → Contains (take i s.places) place → P place → IsUsed s place
 
 -- what is known of watches
 pub record IsKnown (w : WatchState) : Type 0 where

@@ -1,5 +1,5 @@
 -- What the answers of a search mean.
-use Rattle.std.specs.Prelude.{◌≡◌, ℕ, ◌≤◌, ℤ, false, List, [], ◌∷◌, ◌++◌, All}
+use Rattle.std.specs.Prelude.{◌≡◌, ℕ, ◌+◌, ◌*◌, ◌/◌, ◌^◌, ◌≤◌, ℤ, Bool, true, false, ⊤, List, [], ◌∷◌, ◌++◌, All}
 use Rattle.sat_clause.specs.Formula.{Cnf, Satisfies}
 use Rattle.sat_clause.specs.Judge.{Accepts, is_empty_clause}
 use Rattle.sat_clause.specs.Step.{Step, Added}
@@ -30,3 +30,16 @@ abbrev pub IsAnswer : Cnf → ℕ → List Step → Answer → Type 0
 IsAnswer formula budget log (Model values) = Satisfies values.items formula
 IsAnswer formula budget log Refuted = IsRefutation formula budget log
 IsAnswer formula budget log Spent = SpendsAll budget log
+
+-- more clauses than a search through so many variables adds, none of them empty: where it keeps all
+-- of them, each is another of the 3^v sets of literals without a variable twice; and between two
+-- deletions they are, of which the k-th waits for 1000 k of them
+abbrev pub most_added : Bool → ℕ → ℕ
+most_added true v = 3 ^ v
+most_added false v = 3 ^ v * (3 ^ v / 1000 + 1)
+
+-- there are values, or there are none
+abbrev pub IsDecided : Answer → Type 0
+IsDecided (Model values) = ⊤
+IsDecided Refuted = ⊤
+IsDecided Spent = ⊥

@@ -1,4 +1,5 @@
--- The clauses of a formula that a search has taken in: first those of two literals, then the others.
+-- The clauses of a formula that a search has taken in: first those of two literals, then the
+-- others.
 use Rattle.std.specs.Prelude.{◌≡◌, ℕ, suc, ◌<◌, ◌≤◌, ◌==◌, ◌++◌, nat_lt, not, Bool, false, ◌&&◌, ◌||◌, if◌then◌else◌, [], ◌∷◌, length, slice_get, Option, None, Some}
 use Rattle.sat_clause.specs.declared.limits.TheConstants.{ID_LIMIT, VARIABLE_LIMIT}
 use Rattle.sat_clause.specs.Formula.{Cnf}

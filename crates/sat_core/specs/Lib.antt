@@ -2,6 +2,7 @@ pub mod Analysis
 pub mod Answer
 pub mod ClauseList
 pub mod Deciding
+pub mod Implied
 pub mod Inputs
 pub mod Kept
 pub mod Levels
@@ -11,6 +12,6 @@ pub mod Reading
 pub mod Restarts
 pub mod SearchLog
 pub mod SearchStore
-pub mod Single
 pub mod Stands
+pub mod Start
 pub mod Underway

@@ -2,7 +2,8 @@
 use Rattle.std.specs.Prelude.{◌≡◌, ℕ, ◌+◌, ◌*◌}
 use Rattle.sat_order.specs.Luby.{IsLuby}
 
--- how many terms of Luby's sequence were taken, and behind how many conflicts the next restart comes
+-- how many terms of Luby's sequence were taken, and behind how many conflicts the next restart
+-- comes
 pub record RestartState : Type 0 where
   pub given : ℕ
   pub next : ℕ

@@ -32,7 +32,7 @@ assigned_in clauses trail = map (assigned clauses) trail
 abbrev pub live_of : List Attached → Live
 live_of clauses = map (λ k. (k.id, k.lits)) clauses
 
--- a search with clauses of fewer than two literals beside the attached ones
+-- a search with clauses that were laid aside beside the attached ones
 abbrev pub search_value : (inputs added : ℕ) → ClauseListState → WatchState → SearchValue
 search_value inputs added singles watches = record {
   vars = watches.vars;
@@ -43,7 +43,7 @@ search_value inputs added singles watches = record {
 }
 
 -- the attached clauses stand one behind another, without a variable twice; one with the id of a
--- single clause is that clause, and the others are each of another id
+-- clause that was laid aside is that clause, and the others are each of another id
 pub record IsKeeping (vars : ℕ) (singles : Live) (clauses : List Attached) : Type 0 where
   pub stand : AreInPlace 0 clauses
   pub ids : (c d : ClauseRef) → is_attached clauses c ≡ true → is_attached clauses d ≡ true →
@@ -57,23 +57,23 @@ pub record IsLeveled (watches : WatchState) : Type 0 where
   pub levels : AreLevels (assigned_in watches.clauses watches.trail)
   pub current : watches.level ≡ level_of (assigned_in watches.clauses watches.trail)
 
--- so many of the single clauses, the oldest, are attached
+-- so many of the clauses that were laid aside, the oldest, are attached
 abbrev pub AreTaken : ℕ → Live → List Attached → Type 0
 AreTaken taken singles clauses = (k id : ℕ) (x : Clause) → k < taken →
     slice_get (reverse singles) k ≡ Some (id, x) →
     (c : ClauseRef) × (is_attached clauses c ≡ true) × (id_at clauses c ≡ id)
 
--- the clauses are those of the inputs and of added clauses; until all single ones are attached
--- nothing is decided, and none is due
+-- the clauses are those of the inputs and of added clauses; until all that were laid aside are
+-- attached nothing is decided, and none is due
 pub record IsSearchStore
     (inputs added taken : ℕ) (singles : ClauseListState) (watches : WatchState) : Type 0 where
   pub few_ids : inputs + added ≤ ID_LIMIT
-  pub few : length singles.clauses ≤ inputs
+  pub few : length singles.clauses ≤ inputs + added
   pub few_vars : watches.vars ≤ VARIABLE_LIMIT
   pub same_vars : singles.vars ≡ watches.vars
   pub below : AreBelow (suc (inputs + added)) (singles.clauses ++ live_of watches.clauses)
   pub few_taken : taken ≤ length singles.clauses
-  pub short : (id : ℕ) (x : Clause) → clause_at singles.clauses id ≡ Some x → length x ≤ 1
+  pub once : (id : ℕ) (x : Clause) → clause_at singles.clauses id ≡ Some x → HasOnce x
   pub keeps : IsKeeping watches.vars singles.clauses watches.clauses
   pub taken_are : AreTaken taken singles.clauses watches.clauses
   pub waiting : (taken ≡ length singles.clauses) ⊎ (watches.level ≡ 0)

@@ -1,39 +1,80 @@
--- The log of a search that is under way, and what one turn and the whole search make of it.
-use Rattle.std.specs.Prelude.{◌≡◌, ℕ, suc, ◌≤◌, ℤ, List, [], ◌∷◌, ◌++◌, All, IfOk, None, Result}
+-- One turn of a search, the log of one that is under way, and what the whole search comes to.
+use Rattle.std.specs.Prelude.{◌≡◌, ◌≢◌, ℕ, suc, ◌≤◌, ℤ, Bool, List, [], ◌∷◌, ◌++◌, length, drop, IfOk, None, Result}
 use Rattle.std.specs.declared.alloc.AllocError.{AllocError}
+use Rattle.sat_clause.specs.declared.limits.TheConstants.{ID_LIMIT}
 use Rattle.sat_clause.specs.Formula.{Cnf, Satisfies}
-use Rattle.sat_clause.specs.Judge.{fault}
-use Rattle.sat_clause.specs.Learned.{IsRelevant, deletions}
-use Rattle.sat_clause.specs.Literal.{IsWithin}
+use Rattle.sat_clause.specs.Judge.{Accepts, IsGoodSoFar}
+use Rattle.sat_clause.specs.Learned.{IsRelevant, Relevant, deletions}
+use Rattle.sat_clause.specs.Literal.{Clause}
+use Rattle.sat_clause.specs.Rup.{rup}
 use Rattle.sat_clause.specs.Step.{Step, Added}
 use Rattle.sat_core.specs.Answer.{IsAnswer}
-use Rattle.sat_core.specs.SearchLog.{IsSearchLog, added_count}
-use Rattle.sat_core.specs.Stands.{IsOpenLog, SearchValue, StandsFor, live_after, next_id}
+use Rattle.sat_core.specs.SearchLog.{AreNumbered, IsSearchLog, added_count}
+use Rattle.sat_core.specs.Stands.{IsOpenLog, SearchAt, StandsAt, live_after, next_id}
 use Rattle.sat_core.specs.declared.answer.Answer.{Answer}
 use Rattle.sat_core.specs.declared.turn.Turn.{Turn}
 use Rattle.sat_core.specs.declared.turn.Turn.TheVariants.{Learned, Model, Refuted}
 
--- the clauses are of the formula's variables, and the search stands for it and a log that is open
--- and has deleted nothing
-pub record IsUnderway (search : SearchValue) (formula : Cnf) (log : List Step) : Type 0 where
-  pub within : All (All (IsWithin formula.vars)) formula.clauses
-  pub stands : StandsFor search formula log
-  pub open_log : IsOpenLog formula log
-  pub none_deleted : deletions log ≡ 0
+-- the search stands for the formula and the first steps of the log, and the steps behind these
+-- delete nothing
+pub record MayFollow (search : SearchAt) (formula : Cnf) (log : List Step) : Type 0 where
+  pub stands : StandsAt search formula log
+  pub none_deleted : deletions (drop search.taken log) ≡ 0
 
--- a good step more that adds the empty clause, by hints that it needs
-pub record IsDone (formula : Cnf) (before log : List Step) : Type 0 where
+-- what a turn asks for: that, an open log, and a next id
+pub record MayTurn (search : SearchAt) (formula : Cnf) (log : List Step) : Type 0 where
+  pub follows : MayFollow search formula log
+  pub open_log : IsOpenLog formula log
+  pub few : next_id formula log ≤ ID_LIMIT
+
+-- there is one more step, which adds this clause under the next id; it follows by its hints, and
+-- each of them is needed
+pub record AddsRelevant (formula : Cnf) (before now : List Step) (clause : Clause) : Type 0 where
   pub hints : List ℤ
-  pub last : log ≡ before ++ Added (next_id formula before) [] hints ∷ []
-  pub good : fault (live_after formula before) (Added (next_id formula before) [] hints) ≡ None
-  pub relevant : IsRelevant (live_after formula before) [] hints
+  pub step : now ≡ before ++ Added (next_id formula before) clause hints ∷ []
+  pub good : rup (live_after formula before) clause hints ≡ None
+  pub relevant : IsRelevant (live_after formula before) clause hints
+
+-- one more clause is learned, which is not empty: the log stays open, all its steps are taken, and
+-- each other search that could take a turn can take one behind it, while there is a next id
+pub record HasLearned (search : SearchAt) (formula : Cnf) (before now : List Step) : Type 0 where
+  pub clause : Clause
+  pub some : clause ≢ []
+  pub adds : AddsRelevant formula before now clause
+  pub good : IsGoodSoFar formula now
+  pub open_log : IsOpenLog formula now
+  pub follows : MayFollow search formula now
+  pub all_taken : search.taken ≡ length now
+  pub others : (other : SearchAt) → MayFollow other formula before → MayFollow other formula now
+
+-- the values satisfy the formula, and the log, of which all steps are taken, is as it was
+pub record HasModel
+    (search : SearchAt) (formula : Cnf) (before now : List Step) (values : List Bool) : Type 0
+  where
+    pub satisfies : Satisfies values formula
+    pub same : now ≡ before
+    pub follows : MayFollow search formula now
+    pub all_taken : search.taken ≡ length now
+
+-- the empty clause is added, so that the log refutes the formula
+pub record HasRefuted (formula : Cnf) (before now : List Step) : Type 0 where
+  pub adds : AddsRelevant formula before now []
+  pub accepts : Accepts formula now
 
 -- what a turn says: one more clause is learned, or values satisfy the formula, or it is refuted
-abbrev pub IsTurn : SearchValue → Cnf → (before now : List Step) → Turn → Type 0
-IsTurn search formula before now Learned =
-    IsUnderway search formula now × (added_count now ≡ suc (added_count before))
-IsTurn search formula before now (Model values) = Satisfies values.items formula × (now ≡ before)
-IsTurn search formula before now Refuted = IsDone formula before now
+abbrev pub IsTurn : SearchAt → Cnf → (before now : List Step) → Turn → Type 0
+IsTurn search formula before now Learned = HasLearned search formula before now
+IsTurn search formula before now (Model values) =
+    HasModel search formula before now values.items
+IsTurn search formula before now Refuted = HasRefuted formula before now
+
+-- a search that has taken all steps of its own log, which has deleted nothing
+pub record IsUnderway (search : SearchAt) (formula : Cnf) (log : List Step) : Type 0 where
+  pub stands : StandsAt search formula log
+  pub open_log : IsOpenLog formula log
+  pub numbered : AreNumbered (suc (length formula.clauses)) log
+  pub relevant : Relevant formula log
+  pub none_deleted : deletions log ≡ 0
 
 -- what a search comes to, and what its log is whatever that is
 pub record HasSearched

@@ -1,34 +1,22 @@
 //! The analysis of a false clause: which entries of the trail made it false.
 
-ghost use Rattle.std.specs.Prelude.{◌≡◌, ◌≢◌, ◌⊎◌, ◌-◌, ◌<◌, ◌≤◌, ℕ, [], ◌∷◌, All, IfNone, IfSome, Some, false, length, suc, true};
+ghost use Rattle.std.specs.Prelude.{◌≡◌, ◌⊎◌, ◌-◌, ◌<◌, ◌≤◌, ℕ, [], ◌∷◌, All, false, length, slice_index_or, suc, true};
 ghost use Rattle.sat_clause.specs.Literal.{Clause, IsWithin};
-ghost use Rattle.sat_core.specs.Analysis.{AreOn, AreUsedAtZero, HasCurrent, HasLevel, IsAnalysed, IsAnalysis, IsCovered, IsFalsePlace, IsKnown, IsLeast, IsPoint, IsReasonAt, IsReasonPlace, IsWalk, Uses};
+ghost use Rattle.sat_core.specs.Analysis.{AreOn, AreUsed, HasCurrent, HasLevel, IsAnalysed, IsAnalysis, IsFalsePlace, IsKnown, IsLeast, IsPoint, IsReasonAt, IsReasonPlace, IsWalk, Uses};
+ghost use Rattle.sat_core.specs.Implied.{AreImplied, IsAtRest, IsLeftOut};
 ghost use Rattle.sat_core.specs.Marks.{IsClean, IsMet, IsUsed, Meets};
-ghost use Rattle.sat_watch.specs.Trail.{place_in};
-ghost use Rattle.sat_watch.specs.Watched.{is_false};
+ghost use Rattle.sat_core.specs.Ranking.{SameHeld};
 ghost use Rattle.sat_watch.specs.Watches.{is_attached};
 
+use crate::bumping::bump_conflict;
+use crate::implied::Implied;
 use crate::marks::Marks;
+use crate::places::false_place;
+use crate::ranking::Ranking;
+use crate::walking::find_implied;
 use sat_arena::ClauseRef;
 use sat_clause::{Lit, VARIABLE_LIMIT};
 use sat_watch::Watches;
-
-/// The place of a literal that is false.
-pub(crate) fn false_place(watches: &Watches, l: Lit) -> Option<u32>
-    requires { IsWithin watches.now.vars l }
-    ensures is_false { IfSome result (λ _. is_false watches.now.trail l ≡ true) }
-    ensures place { IfSome result (λ p. place_in watches.now.trail l ≡ Some p) }
-    ensures within { IfSome result (λ p. p < watches.now.vars) }
-    ensures none { IfNone result (is_false watches.now.trail l ≡ false) }
-{
-    let Some(value) = watches.value(l) else {
-        return None;
-    };
-    if value {
-        return None;
-    }
-    Some(watches.place(l))
-}
 
 /// The lower one of two places, where the second counts only if it is of the current level.
 fn lower_current(watches: &Watches, least: u32, place: u32) -> u32
@@ -163,104 +151,42 @@ fn point(marks: &mut Marks, watches: &Watches, level: u32, least: u32) -> u32
     first_point(marks, watches, least)
 }
 
-/// Whether a literal is not false, or its place was met, or is of level 0.
-fn is_covered(marks: &Marks, watches: &Watches, l: Lit) -> bool
-    requires within { IsWithin watches.now.vars l }
-    requires size { watches.now.vars ≤ length marks.now.met }
-    ensures { result ≡ true → IsCovered watches.now.trail marks.now (l ∷ []) }
+/// Whether the entry at a place that was met needs no literal: it is of level 0 or implied.
+fn is_left_out(implied: &Implied, level: u32, place: u32) -> bool
+    requires { place < length implied.now.marks.met }
+    ensures yes { result ≡ true
+        → (level ≡ 0) ⊎ (slice_index_or implied.now.marks.used place false ≡ true) }
+    ensures none { result ≡ false
+        → (1 ≤ level) × (slice_index_or implied.now.marks.used place false ≡ false) }
 {
-    let Some(place) = false_place(watches, l) else {
-        return true;
-    };
-    if marks.is_met(place) {
+    if level == 0 {
         return true;
     }
-    watches.trail()[place as usize].level == 0
+    implied.is_implied(place)
 }
 
-/// Whether the place of each false literal of a clause was met, or is of level 0.
-fn are_covered(marks: &Marks, watches: &Watches, lits: &[Lit]) -> bool
-    requires within { All (IsWithin watches.now.vars) lits.now }
-    requires size { watches.now.vars ≤ length marks.now.met }
-    ensures { result ≡ true → IsCovered watches.now.trail marks.now lits.now }
-{
-    for l in lits {
-        if !is_covered(marks, watches, *l) {
-            return false;
-        }
-    }
-    true
-}
-
-/// Uses the reason of the place that was met as the i-th one, if it is of a lower level than the
-/// current one, and nothing is met by it but places of level 0. So a literal of the clause is
-/// dropped.
-fn drop_at(marks: &mut Marks, watches: &Watches, level: u32, i: u32)
-    requires level { level ≡ watches.now.level }
+/// Uses the reason of the place that was met as the i-th one, if the place needs no literal.
+fn use_at(marks: &mut Marks, implied: &Implied, watches: &Watches, i: u32)
     requires size { watches.now.vars ≤ length marks.old.met }
+    requires walk_size { watches.now.vars ≤ length implied.now.marks.met }
     requires within { AreOn watches.now.trail marks.old }
+    requires implied { AreImplied watches.now marks.old implied.now.marks.used }
     requires i { i < length marks.old.places }
     ensures kept { (conflict : Clause) → IsAnalysis watches.now conflict marks.old
         → IsAnalysis watches.now conflict marks.new }
     ensures size { length marks.new.met ≡ length marks.old.met }
     ensures within { AreOn watches.now.trail marks.new }
+    ensures implied { AreImplied watches.now marks.new implied.now.marks.used }
     ensures point { (point : ℕ) → 1 ≤ watches.now.level → IsPoint watches.now marks.old point
         → IsPoint watches.now marks.new point }
-    ensures no_more { (p : ℕ) → IsMet marks.new p
-        → IsMet marks.old p ⊎ HasLevel watches.now.trail 0 p }
+    ensures used { AreUsed (IsLeftOut watches.now.trail implied.now.marks.used) i marks.old
+        → AreUsed (IsLeftOut watches.now.trail implied.now.marks.used) (suc i) marks.new }
+    ensures no_more { (p : ℕ) → IsMet marks.new p → IsMet marks.old p
+        ⊎ IsLeftOut watches.now.trail implied.now.marks.used p }
 {
     let place = marks.place(i);
     let entry = watches.trail()[place as usize];
-    if entry.level == level {
-        return;
-    }
-    let Some(reason) = entry.reason else {
-        return;
-    };
-    if !are_covered(marks, watches, watches.lits(reason)) {
-        return;
-    }
-    use_entry(marks, watches, place, reason, 0);
-}
-
-/// Drops the literals of lower levels whose reasons say no more than the others.
-fn drop_covered(marks: &mut Marks, watches: &Watches, level: u32)
-    requires level { level ≡ watches.now.level }
-    requires size { watches.now.vars ≤ length marks.old.met }
-    requires within { AreOn watches.now.trail marks.old }
-    ensures kept { (conflict : Clause) → IsAnalysis watches.now conflict marks.old
-        → IsAnalysis watches.now conflict marks.new }
-    ensures size { length marks.new.met ≡ length marks.old.met }
-    ensures within { AreOn watches.now.trail marks.new }
-    ensures point { (point : ℕ) → 1 ≤ watches.now.level → IsPoint watches.now marks.old point
-        → IsPoint watches.now marks.new point }
-    ensures no_more { (p : ℕ) → IsMet marks.new p
-        → IsMet marks.old p ⊎ HasLevel watches.now.trail 0 p }
-{
-    let mut k = 0;
-    while k < marks.len() {
-        drop_at(marks, watches, level, k);
-        k += 1;
-    }
-}
-
-/// Uses the reason of the place that was met as the i-th one, if it is of level 0.
-fn use_at_zero(marks: &mut Marks, watches: &Watches, i: u32)
-    requires size { watches.now.vars ≤ length marks.old.met }
-    requires within { AreOn watches.now.trail marks.old }
-    requires i { i < length marks.old.places }
-    ensures kept { (conflict : Clause) → IsAnalysis watches.now conflict marks.old
-        → IsAnalysis watches.now conflict marks.new }
-    ensures size { length marks.new.met ≡ length marks.old.met }
-    ensures within { AreOn watches.now.trail marks.new }
-    ensures point { (point : ℕ) → 1 ≤ watches.now.level → IsPoint watches.now marks.old point
-        → IsPoint watches.now marks.new point }
-    ensures used { AreUsedAtZero watches.now.trail i marks.old
-        → AreUsedAtZero watches.now.trail (suc i) marks.new }
-{
-    let place = marks.place(i);
-    let entry = watches.trail()[place as usize];
-    if entry.level > 0 {
+    if !is_left_out(implied, entry.level, place) {
         return;
     }
     let Some(reason) = entry.reason else {
@@ -269,43 +195,64 @@ fn use_at_zero(marks: &mut Marks, watches: &Watches, i: u32)
     use_entry(marks, watches, place, reason, 0);
 }
 
-/// Uses the reasons of all places of level 0 that were met, and of those that they meet.
-fn use_level_zero(marks: &mut Marks, watches: &Watches)
+/// Uses the reasons of all places that were met and need no literal, and of those that they meet.
+/// So their literals are dropped, and no other one comes up.
+fn use_left_out(marks: &mut Marks, implied: &Implied, watches: &Watches)
     requires size { watches.now.vars ≤ length marks.old.met }
+    requires walk_size { watches.now.vars ≤ length implied.now.marks.met }
     requires within { AreOn watches.now.trail marks.old }
+    requires implied { AreImplied watches.now marks.old implied.now.marks.used }
     ensures kept { (conflict : Clause) → IsAnalysis watches.now conflict marks.old
         → IsAnalysis watches.now conflict marks.new }
     ensures size { length marks.new.met ≡ length marks.old.met }
     ensures point { (point : ℕ) → 1 ≤ watches.now.level → IsPoint watches.now marks.old point
         → IsPoint watches.now marks.new point }
-    ensures zero { (p : ℕ) → IsMet marks.new p → HasLevel watches.now.trail 0 p
-        → IsUsed marks.new p }
+    ensures used { (p : ℕ) → IsMet marks.new p
+        → IsLeftOut watches.now.trail implied.now.marks.used p → IsUsed marks.new p }
+    ensures no_more { (p : ℕ) → IsMet marks.new p → IsMet marks.old p ⊎ IsUsed marks.new p }
 {
     let mut i = 0;
     while i < marks.len() {
-        use_at_zero(marks, watches, i);
+        use_at(marks, implied, watches, i);
         i += 1;
     }
 }
 
 /// Uses the reasons of what made a clause false, from the newest entry on down to the first unique
-/// implication point of the current level, which it gives, and all those of level 0 that are met.
-/// It costs what it meets: the entries from the newest down to that point, and the literals of the
-/// reasons that it uses.
-pub(crate) fn analyse(marks: &mut Marks, watches: &Watches, lits: &[Lit]) -> u32
+/// implication point of the current level, which it gives, and all those that are met and are of
+/// level 0 or implied by the others. Bumps what is met on the way down, and what stands behind a
+/// short clause.
+///
+/// It costs what it meets: the entries from the newest down to that point, the literals of the
+/// reasons that it uses, and of those that it visits to find out what is implied.
+pub(crate) fn analyse(
+    ranking: &mut Ranking,
+    marks: &mut Marks,
+    implied: &mut Implied,
+    watches: &Watches,
+    lits: &[Lit],
+) -> u32
     requires few { watches.now.vars ≤ VARIABLE_LIMIT }
+    requires vars { ranking.old.vars ≡ watches.now.vars }
     requires size { watches.now.vars ≤ length marks.old.met }
+    requires walk_size { length implied.old.marks.met ≡ length marks.old.met }
     requires clean { IsClean marks.old }
+    requires rest { IsAtRest implied.old }
     requires within { All (IsWithin watches.now.vars) lits.now }
     requires current { IsKnown watches.now → HasCurrent watches.now lits.now }
+    ensures held { SameHeld ranking.old ranking.new }
     ensures size { length marks.new.met ≡ length marks.old.met }
+    ensures walk_size { length implied.new.marks.met ≡ length marks.new.met }
+    ensures rest { IsAtRest implied.new }
     ensures analysed { IsAnalysed watches.now lits.now marks.new result }
 {
     let top = watches.trail().len() as u32;
     let level = watches.level();
     let least = meet_clause(marks, watches, lits, top);
     let point = point(marks, watches, level, least);
-    drop_covered(marks, watches, level);
-    use_level_zero(marks, watches);
+    find_implied(implied, marks, watches, level);
+    bump_conflict(ranking, marks, implied, watches, point);
+    use_left_out(marks, implied, watches);
+    implied.clear();
     point
 }

@@ -3,17 +3,19 @@
 ghost use Rattle.std.specs.Prelude.{◌≡◌, ◌++◌, ◌∷◌, [], ◌<◌, ◌≤◌, All, AllPairs, IfOk, flat_map, length, max, pos};
 ghost use Rattle.sat_clause.specs.Literal.{IsWithin};
 ghost use Rattle.sat_core.specs.Analysis.{AreOn, HasCurrent, IsKnown};
-ghost use Rattle.sat_core.specs.Marks.{IsReady};
+ghost use Rattle.sat_core.specs.Marks.{IsClean, IsReady};
 ghost use Rattle.sat_core.specs.Ranking.{SameHeld};
 ghost use Rattle.sat_core.specs.Reading.{AreLearned, EndsIn, HasLesson, IsFound, hint_at};
 
 use crate::analysis::analyse;
-use crate::bumping::bump_conflict;
+use crate::implied::Implied;
 use crate::marks::Marks;
 use crate::ranking::Ranking;
 use sat_clause::{Lit, VARIABLE_LIMIT};
 use sat_watch::Watches;
 use std::alloc::{AllocError, Global};
+use std::marker::Model;
+use std::mem;
 
 /// A clause that follows from others, the ids of these, and the level to go back to. Its last
 /// literal is the one that became false last.
@@ -22,6 +24,21 @@ pub(crate) struct Lesson {
     pub(crate) clause: Vec<Lit>,
     pub(crate) hints: Vec<i64>,
     pub(crate) back: u32,
+}
+
+impl Lesson {
+    /// A lesson without literals and hints, which has no room yet.
+    fn empty(alloc: Global) -> Lesson
+        ensures clause { result.clause.items ≡ [] }
+        ensures hints { result.hints.items ≡ [] }
+        ensures back { result.back ≡ 0 }
+    {
+        Lesson {
+            clause: Vec::new(alloc),
+            hints: Vec::new(alloc),
+            back: 0,
+        }
+    }
 }
 
 /// Literals of lower levels than the current one, and the highest of their levels.
@@ -39,9 +56,9 @@ fn higher(a: u32, b: u32) -> u32
 }
 
 /// The negations of the entries that were met, but of those whose reasons were used, and of that at
-/// the first unique implication point.
+/// the first unique implication point; in place of these literals.
 fn lower_literals(
-    alloc: Global,
+    old: Vec<Lit>,
     marks: &Marks,
     watches: &Watches,
     point: u32,
@@ -52,7 +69,8 @@ fn lower_literals(
     ensures { IfOk result (λ lower. AreLearned watches.now marks.now point marks.now.places
         lower.lits.items lower.back) }
 {
-    let mut lits = Vec::new(alloc);
+    let mut lits = old;
+    lits.clear();
     let mut back = 0;
     for place in marks.places() {
         if marks.is_used(*place) {
@@ -68,9 +86,10 @@ fn lower_literals(
     Ok(Lower { lits, back })
 }
 
-/// The ids of the reasons that were used, in the order of the trail, and then an id.
+/// The ids of the reasons that were used, in the order of the trail, and then an id; in place of
+/// these.
 fn used_hints(
-    alloc: Global,
+    old: Vec<i64>,
     marks: &Marks,
     watches: &Watches,
     id: u32,
@@ -79,7 +98,8 @@ fn used_hints(
     ensures { IfOk result (λ hints. hints.items
         ≡ flat_map (hint_at watches.now marks.now) marks.now.places ++ pos id ∷ []) }
 {
-    let mut hints = Vec::new(alloc);
+    let mut hints = old;
+    hints.clear();
     for place in marks.places() {
         if !marks.is_used(*place) {
             continue;
@@ -109,9 +129,9 @@ fn with_point(watches: &Watches, lits: Vec<Lit>, point: u32) -> Result<Vec<Lit>,
     Ok(clause)
 }
 
-/// What an analysis comes to.
+/// What an analysis comes to, in the room of a lesson.
 fn read(
-    alloc: Global,
+    room: Lesson,
     marks: &Marks,
     watches: &Watches,
     point: u32,
@@ -124,8 +144,8 @@ fn read(
     ensures { IfOk result (λ lesson. HasLesson watches.now marks.now point id lesson.clause.items
         lesson.hints.items lesson.back) }
 {
-    let lower = lower_literals(alloc, marks, watches, point)?;
-    let hints = used_hints(alloc, marks, watches, id)?;
+    let lower = lower_literals(room.clause, marks, watches, point)?;
+    let hints = used_hints(room.hints, marks, watches, id)?;
     let clause = with_point(watches, lower.lits, point)?;
     Ok(Lesson {
         clause,
@@ -134,15 +154,58 @@ fn read(
     })
 }
 
-/// What is learned where a clause with this id is false. All marks are taken back. What the analysis
-/// meets is bumped.
+/// The marks of an analysis: what it has met, and what it has found to be implied. And the room of
+/// a lesson that is no longer needed.
+#[derive(Drop)]
+pub(crate) struct Findings {
+    marks: Marks,
+    implied: Implied,
+    spare: Lesson,
+}
+
+impl Model for Findings {
+    ghost use Rattle.sat_core.specs.Implied.{IsFindings};
+    ghost use Rattle.sat_core.specs.Marks.{MarkState};
+
+    ghost Value = { MarkState };
+
+    ghost view = { λ f. f.marks };
+
+    ghost invariant = { λ f. IsFindings f.marks f.implied };
+}
+
+impl Findings {
+    /// Marks for so many places, none of which was met.
+    pub(crate) fn new(alloc: Global, size: u32) -> Result<Findings, AllocError>
+        requires { size ≤ VARIABLE_LIMIT }
+        ensures clean { IfOk result IsClean }
+        ensures size { IfOk result (λ m. length m.met ≡ size) }
+    {
+        Ok(Findings {
+            marks: Marks::new(alloc, size)?,
+            implied: Implied::new(alloc, size)?,
+            spare: Lesson::empty(alloc),
+        })
+    }
+
+    /// Takes a lesson that is no longer needed, whose room the next one takes.
+    pub(crate) fn reuse(&mut self, lesson: Lesson)
+        ensures { self.new ≡ self.old }
+    {
+        self.spare = lesson;
+    }
+}
+
+/// What is learned where a clause with this id is false. All marks are taken back. What the
+/// analysis meets is bumped. It takes memory only where the clause or its hints have no room in the
+/// lesson that was given back.
 ///
 /// # Errors
 /// Where memory is short.
 pub(crate) fn find_lesson(
     alloc: Global,
     ranking: &mut Ranking,
-    marks: &mut Marks,
+    marks: &mut Findings,
     watches: &Watches,
     lits: &[Lit],
     id: u32,
@@ -157,10 +220,10 @@ pub(crate) fn find_lesson(
     ensures found { IfOk result (λ lesson. IsFound watches.now lits.now id lesson.clause.items
         lesson.hints.items lesson.back) }
 {
-    let point = analyse(marks, watches, lits);
-    marks.sort();
-    let lesson = read(alloc, marks, watches, point, id);
-    bump_conflict(ranking, marks, watches, point);
-    marks.clear();
+    let point = analyse(ranking, &mut marks.marks, &mut marks.implied, watches, lits);
+    marks.marks.sort();
+    let room = mem::replace(&mut marks.spare, Lesson::empty(alloc));
+    let lesson = read(room, &marks.marks, watches, point, id);
+    marks.marks.clear();
     lesson
 }

@@ -1,4 +1,5 @@
-//! A search for values that satisfy a formula, which logs why there are none.
+//! A search for values that satisfy a formula, which logs why there are none: as a whole, or turn
+//! by turn.
 #![tactic(auto)]
 
 mod analysis;
@@ -7,18 +8,25 @@ mod bumping;
 mod clause_list;
 mod deciding;
 mod distinct;
+mod implied;
 mod inputs;
 mod lesson;
 mod marks;
+mod places;
 mod ranking;
 mod restarts;
 mod search;
-mod single;
 mod solving;
+mod start;
+mod state;
 #[cfg(test)]
 mod tests;
 mod turn;
+mod visit;
+mod walking;
 mod way_back;
 
 pub use answer::Answer;
+pub use search::Search;
 pub use solving::solve;
+pub use turn::Turn;

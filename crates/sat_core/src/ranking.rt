@@ -1,7 +1,7 @@
 //! The variables in the order in which a search decides them.
 
-ghost use Rattle.std.specs.Prelude.{◌≡◌, ◌+◌, ◌-◌, ◌^◌, ◌≤◌, [], IfNone, IfOk, IfSome, false, slice_set, true};
-ghost use Rattle.sat_core.specs.Ranking.{IsRanked, SameHeld};
+ghost use Rattle.std.specs.Prelude.{◌≡◌, ◌+◌, ◌-◌, ◌^◌, ◌<◌, ◌≤◌, [], IfNone, IfOk, IfSome, false, replicate, slice_set, true};
+ghost use Rattle.sat_core.specs.Ranking.{AreDrawn, IsRanked, SameHeld, next_draw as next_draw_of};
 ghost use Rattle.sat_order.specs.Order.{IsBest, IsEmpty, IsVariable, activity_of};
 
 use sat_clause::VARIABLE_LIMIT;
@@ -41,6 +41,14 @@ pub(crate) struct Ranking {
     mean: u64,
 }
 
+/// The draw behind one.
+fn next_draw(draw: u64) -> u64
+    requires { draw < 2 ^ 32 }
+    ensures { result ≡ next_draw_of draw }
+{
+    (1103515245 * draw + 12345) % (1 << 31)
+}
+
 impl Model for Ranking {
     ghost use Rattle.sat_core.specs.Ranking.{IsRankingStore};
     ghost use Rattle.sat_order.specs.Order.{OrderState};
@@ -69,14 +77,35 @@ fn step_for(order: &mut Order, step: u64, v: u32) -> u64
     step / SCALE + 1
 }
 
+/// Draws the activity of each variable, where all are 0. A seed of 0 leaves them so.
+fn draw_activities(order: &mut Order, vars: u32, seed: u32)
+    requires few { vars ≤ VARIABLE_LIMIT }
+    requires vars { order.old.vars ≡ vars }
+    requires zero { order.old.activities ≡ replicate vars 0 }
+    ensures held { SameHeld order.old order.new }
+    ensures drawn { AreDrawn seed order.new }
+{
+    if seed == 0 {
+        return;
+    }
+    let mut draw = u64::from(seed);
+    for v in 1..vars + 1 {
+        draw = next_draw(draw);
+        order.bump(v, draw / 65536 % 1024);
+    }
+}
+
 impl Ranking {
-    /// All variables from 1 on, held with activity 0.
-    pub(crate) fn new(alloc: Global, vars: u32) -> Result<Ranking, AllocError>
+    /// All variables from 1 on, held with the activities that the seed draws.
+    pub(crate) fn new(alloc: Global, vars: u32, seed: u32) -> Result<Ranking, AllocError>
         requires { vars ≤ VARIABLE_LIMIT }
-        ensures { IfOk result (IsRanked vars []) }
+        ensures ranked { IfOk result (IsRanked vars []) }
+        ensures drawn { IfOk result (AreDrawn seed) }
     {
+        let mut order = Order::new(alloc, vars)?;
+        draw_activities(&mut order, vars, seed);
         Ok(Ranking {
-            order: Order::new(alloc, vars)?,
+            order,
             step: FIRST_STEP,
             mean: FIRST_MEAN,
         })

@@ -1,164 +1,144 @@
-//! A search: what it knows, and how it goes on.
+//! A search that is handed on turn by turn, and takes what other searches have learned.
 
-ghost use Rattle.std.specs.Prelude.{◌≡◌, ◌≢◌, ◌<◌, ◌≤◌, ◌+◌, suc, [], All, IfNone, IfOk, IfSome, OnOk, length};
+ghost use Rattle.std.specs.Prelude.{◌≡◌, ◌<◌, ◌≤◌, ◌+◌, ◌^◌, [], IfOk, OnErr, OnOk, length};
 ghost use Rattle.sat_clause.specs.Formula.{Cnf};
-ghost use Rattle.sat_clause.specs.Literal.{IsWithin};
-ghost use Rattle.sat_clause.specs.Trail.{IsClosed};
-ghost use Rattle.sat_core.specs.Levels.{lits_of};
-ghost use Rattle.sat_core.specs.SearchStore.{AreTrue, IsLesson, IsSettledState, Learns, SameKept};
+ghost use Rattle.sat_core.specs.Levels.{level_of};
 ghost use Rattle.sat_core.specs.Stands.{StandsFor};
+ghost use Rattle.sat_core.specs.Underway.{IsTurn, MayFollow, MayTurn};
 
-use crate::clause_list::ClauseList;
-use crate::deciding::{decide_on, values};
-use crate::inputs::{Inputs, take_inputs};
-use crate::lesson::{Lesson, find_lesson};
-use crate::marks::Marks;
-use crate::ranking::Ranking;
-use crate::restarts::Restarts;
-use crate::single::attach_single;
-use crate::way_back::go_back;
-use sat_clause::{Formula, ID_LIMIT, Lit, VARIABLE_LIMIT};
-use sat_watch::Watches;
+use crate::state::SearchState;
+use crate::turn::{Turn, take_turn};
+use sat_clause::{Formula, Log};
 use std::alloc::{AllocError, Global};
 use std::marker::Model;
 
-/// A search through the values of a formula's variables: its clauses and those that were added to
-/// the log, and the literals that are true, each decided or made true by a clause.
+/// A search for values that satisfy a formula, which goes on by turns, each to the next clause that
+/// it learns.
 ///
-/// A clause has the literals of an input or an added clause, each once. Clauses with a literal and
-/// its negation are left out. Input clauses of fewer than two literals are attached before the
-/// first decision, when all others are.
+/// Several searches may share a log: of its steps each has *taken* so many, the first ones, and
+/// knows their clauses. It *stands for* the formula and the steps that it has taken.
 #[derive(Drop)]
-pub(crate) struct Search {
-    inputs: u32,
-    added: u32,
-    singles: ClauseList,
-    taken: u32,
-    watches: Watches,
-    marks: Marks,
-    ranking: Ranking,
-    restarts: Restarts,
+pub struct Search {
+    alloc: Global,
+    state: SearchState,
+    taken: u64,
 }
 
 impl Model for Search {
-    ghost use Rattle.sat_core.specs.SearchStore.{IsSearching, search_value};
-    ghost use Rattle.sat_core.specs.Stands.{SearchValue};
+    ghost use Rattle.sat_core.specs.Stands.{SearchAt};
 
-    ghost Value = { SearchValue };
+    ghost Value = { SearchAt };
 
-    ghost view = { λ s. search_value s.inputs s.added s.singles s.watches };
-
-    ghost invariant = { λ s. IsSearching s.inputs s.added s.taken s.singles s.watches s.marks
-        s.ranking };
+    ghost view = { λ s. record { taken = s.taken; value = s.state } };
 }
 
 impl Search {
-    /// The search that has the clauses of a formula, and has decided nothing.
-    pub(crate) fn new(alloc: Global, formula: &Formula) -> Result<Search, AllocError>
-        requires { length formula.now.cnf.clauses ≤ ID_LIMIT }
-        ensures stands { IfOk result (λ s. StandsFor s formula.now.cnf []) }
-        ensures within { IfOk result (λ _.
-            All (All (IsWithin formula.now.cnf.vars)) formula.now.cnf.clauses) }
+    /// The search that stands for a formula and no step.
+    ///
+    /// The seed draws the activities by which variables are decided first: with 0 each is 0. With
+    /// another one that of variable `v` is the remainder of `s / 65536` by 1024, where `s` comes of
+    /// the seed by `v` times putting the remainder of `1103515245 s + 12345` by 2^31 in its place.
+    ///
+    /// It takes time and memory linear in the variables and the literals of the clauses; for a clause
+    /// whose variables do not rise n log n steps for n literals, and with a seed other than 0 a
+    /// logarithm for each variable.
+    ///
+    /// # Errors
+    /// Where memory is short.
+    pub fn new(alloc: Global, formula: &Formula, seed: u32) -> Result<Search, AllocError>
+        ensures stands { IfOk result (λ s. StandsFor s.value formula.now.cnf []) }
+        ensures none_taken { IfOk result (λ s. s.taken ≡ 0) }
     {
-        let Inputs { watches, singles } = take_inputs(alloc, formula)?;
         Ok(Search {
-            inputs: formula.len(),
-            added: 0,
-            singles,
+            alloc,
+            state: SearchState::new(alloc, formula, seed)?,
             taken: 0,
-            watches,
-            marks: Marks::new(alloc, formula.vars())?,
-            ranking: Ranking::new(alloc, formula.vars())?,
-            restarts: Restarts::new(),
         })
     }
 
-    /// The id of the next clause that is added.
-    pub(crate) fn next_id(&self) -> u32
-        requires { self.now.inputs + self.now.added < ID_LIMIT }
-        ensures { result ≡ suc (self.now.inputs + self.now.added) }
+    /// How many steps of the log are taken.
+    pub fn taken(&self) -> u64
+        ensures { result ≡ self.now.taken }
     {
-        self.inputs + self.added + 1
+        self.taken
     }
 
-    /// Goes back to level 0 where a restart is due.
-    pub(crate) fn restart_where_due(&mut self)
-        ensures { SameKept self.old self.new }
+    /// Takes the next step of the log, which another search added, at level 0.
+    fn take_step(&mut self, log: &Log) -> Result<(), AllocError>
+        requires ahead { self.old.taken < length log.now.steps }
+        requires counted { length log.now.steps < 2 ^ 64 }
+        requires level { level_of self.old.value.trail ≡ 0 }
+        requires may { (formula : Cnf) × MayTurn self.old formula log.now.steps }
+        ensures level { level_of self.new.value.trail ≡ 0 }
+        ensures may { (formula : Cnf) → MayTurn self.old formula log.now.steps
+            → MayTurn self.new formula log.now.steps }
+        ensures one { OnOk result (self.new.taken ≡ self.old.taken + 1) }
+        ensures none { OnErr result (self.new.taken ≡ self.old.taken) }
     {
-        if !self.restarts.is_due(self.added) {
-            return;
-        }
-        go_back(&mut self.ranking, &mut self.watches, 0);
-    }
-
-    /// Attaches the clauses of fewer than two literals that wait for it, and then decides variable
-    /// after variable, until a clause is false, of which it gives a lesson, or each variable has a
-    /// value.
-    pub(crate) fn next_lesson(&mut self, alloc: Global) -> Result<Option<Lesson>, AllocError>
-        ensures same { OnOk result (SameKept self.old self.new) }
-        ensures lesson { IfOk result (λ found. IfSome found (λ lesson. IsLesson self.new
-            lesson.clause.items lesson.hints.items lesson.back)) }
-        ensures settled { IfOk result (λ found. IfNone found (IsSettledState self.new)) }
-        ensures closed { IfOk result (λ found.
-            IfNone found (IsClosed self.new.vars (lits_of self.new.trail))) }
-    {
-        while self.taken < self.singles.len() {
-            let single = self.singles.get(self.taken);
-            if !attach_single(&mut self.watches, single.lits, single.id)? {
-                let lesson = find_lesson(
-                    alloc,
-                    &mut self.ranking,
-                    &mut self.marks,
-                    &self.watches,
-                    single.lits,
-                    single.id,
-                )?;
-                return Ok(Some(lesson));
-            }
-            self.taken += 1;
-        }
-        let Some(c) = decide_on(&mut self.ranking, &mut self.watches) else {
-            return Ok(None);
-        };
-        let id = self.watches.id(c);
-        let lits = self.watches.lits(c);
-        let lesson = find_lesson(
-            alloc,
-            &mut self.ranking,
-            &mut self.marks,
-            &self.watches,
-            lits,
-            id,
-        )?;
-        Ok(Some(lesson))
-    }
-
-    /// The value of each variable, where each has one and the clauses are settled.
-    pub(crate) fn model(&self, alloc: Global) -> Result<Vec<bool>, AllocError>
-        requires settled { IsSettledState self.now }
-        requires closed { IsClosed self.now.vars (lits_of self.now.trail) }
-        ensures { IfOk result (λ values. AreTrue self.now values.items) }
-    {
-        values(alloc, &self.watches, self.singles.vars())
-    }
-
-    /// Learns the clause of a lesson, which is not empty, under the next id: it goes back to the
-    /// highest level of its literals but the last, which the clause makes true there.
-    pub(crate) fn learn(&mut self, lesson: &Lesson) -> Result<(), AllocError>
-        requires lesson { IsLesson self.old lesson.now.clause.items lesson.now.hints.items
-            lesson.now.back }
-        requires some { lesson.now.clause.items ≢ [] }
-        requires few { self.old.inputs + self.old.added < ID_LIMIT }
-        ensures { OnOk result (Learns self.old self.new lesson.now.clause.items) }
-    {
-        let id = self.next_id();
-        let Some(last) = lesson.clause.last() else {
-            unreachable!();
-        };
-        go_back(&mut self.ranking, &mut self.watches, lesson.back);
-        let c = self.watches.attach(&lesson.clause, id)?;
-        self.watches.imply(*last, c);
-        self.added += 1;
+        let step = log.step(self.taken);
+        self.state.take(step.lits)?;
+        self.taken += 1;
         Ok(())
+    }
+
+    /// Takes the steps of the log that are left, at level 0.
+    fn take_steps(&mut self, log: &Log) -> Result<(), AllocError>
+        requires level { level_of self.old.value.trail ≡ 0 }
+        requires may { (formula : Cnf) × MayTurn self.old formula log.now.steps }
+        ensures may { (formula : Cnf) → MayTurn self.old formula log.now.steps
+            → MayTurn self.new formula log.now.steps }
+        ensures no_fewer { self.old.taken ≤ self.new.taken }
+        ensures all { OnOk result (self.new.taken ≡ length log.now.steps) }
+    {
+        for _ in self.taken..log.len() {
+            self.take_step(log)?;
+        }
+        Ok(())
+    }
+
+    /// Takes the steps that other searches have added. Where there is one, it goes back to level 0
+    /// and propagates before.
+    fn catch_up(&mut self, log: &Log) -> Result<(), AllocError>
+        requires { (formula : Cnf) × MayTurn self.old formula log.now.steps }
+        ensures may { (formula : Cnf) → MayTurn self.old formula log.now.steps
+            → MayTurn self.new formula log.now.steps }
+        ensures no_fewer { self.old.taken ≤ self.new.taken }
+        ensures all { OnOk result (self.new.taken ≡ length log.now.steps) }
+    {
+        if self.taken == log.len() {
+            return Ok(());
+        }
+        self.state.start_anew();
+        self.take_steps(log)
+    }
+
+    /// Takes the steps that other searches have added to the log, and then searches on until it
+    /// learns a clause, or has values that satisfy the formula, or refutes it.
+    ///
+    /// The search stands for the formula and the first steps of the log, and the steps behind these
+    /// delete nothing. No step of the log is refused, and none adds an empty clause; the added
+    /// clauses have the ids behind those of the inputs, in order, and each was new when it was
+    /// added. No deletion names an input, since values that satisfy what is left need not satisfy
+    /// the formula then.
+    ///
+    /// Where there are steps to take the search goes back to level 0, propagates, and takes them
+    /// there; a clause that is false there is the one that refutes the formula. Whatever the answer
+    /// but [`Turn::Refuted`], it stands for the formula and the steps that it has taken by then.
+    /// To take a step costs its literals; for the rest it is as for [`solve`](crate::solve).
+    ///
+    /// # Errors
+    /// Where memory is short. The log is then as it was, and the next turn goes on from here.
+    pub fn turn(&mut self, formula: &Formula, log: &mut Log) -> Result<Turn, AllocError>
+        requires { MayTurn self.old formula.now.cnf log.old.steps }
+        ensures turn { IfOk result
+            (IsTurn self.new formula.now.cnf log.old.steps log.new.steps) }
+        ensures no_fewer { self.old.taken ≤ self.new.taken }
+        ensures same { OnErr result (log.new.steps ≡ log.old.steps) }
+        ensures follows { OnErr result (MayFollow self.new formula.now.cnf log.new.steps) }
+    {
+        self.catch_up(log)?;
+        let turn = take_turn(self.alloc, &mut self.state, formula, log)?;
+        self.taken = log.len();
+        Ok(turn)
     }
 }

@@ -2,13 +2,13 @@
 
 ghost use Rattle.std.specs.Prelude.{◌≡◌, ◌+◌, ◌≤◌, [], length, IfOk, IsTrue};
 ghost use Rattle.sat_clause.specs.Learned.{deletions};
-ghost use Rattle.sat_core.specs.Answer.{IsAnswer};
+ghost use Rattle.sat_core.specs.Answer.{IsAnswer, IsDecided, most_added};
 ghost use Rattle.sat_core.specs.SearchLog.{IsSearchLog, added_count};
 ghost use Rattle.sat_core.specs.Underway.{HasSearched};
 
 use crate::Answer;
 use crate::search::Search;
-use crate::turn::{Turn, take_turn};
+use crate::turn::Turn;
 use sat_clause::{Formula, ID_LIMIT, Log};
 use std::alloc::{AllocError, Global};
 
@@ -23,9 +23,9 @@ fn search_for_values(
     requires fresh { log.old.steps ≡ [] }
     ensures { HasSearched formula.now.cnf budget log.new.steps result }
 {
-    let mut search = Search::new(alloc, formula)?;
+    let mut search = Search::new(alloc, formula, 0)?;
     for _ in 0..budget {
-        match take_turn(alloc, &mut search, log)? {
+        match search.turn(formula, log)? {
             Turn::Learned => {}
             Turn::Model(values) => return Ok(Answer::Model(values)),
             Turn::Refuted => return Ok(Answer::Refuted),
@@ -40,15 +40,17 @@ fn search_for_values(
 /// It ends at the latest where it has learned as many clauses as the budget allows, the empty
 /// clause among them. The log starts without steps, and an empty clause ends it. Its added clauses
 /// are numbered behind the input clauses, in order; none but the empty one has all literals of a
-/// clause that is live. With `keep` no clause is deleted; today none is deleted either way.
+/// clause that is live. With `keep` no clause is deleted; today none is deleted either way. So with
+/// a budget of 3^v for v variables it always comes to values or to a refutation.
 ///
 /// Of the open variables the one that conflicts met most and latest is decided, as true; after 64
 /// times the next term of Luby's sequence more conflicts the search goes back to level 0. Where a
 /// clause is false, the clause of the first unique implication point is learned: the search
 /// goes back to the highest level of its other literals, and it makes the last one true there.
 /// The analysis costs what it meets: the entries of the trail from the newest down to that point,
-/// and the literals of the reasons that it uses, whose places are sorted. A clause is kept twice,
-/// for the search and in the log.
+/// the literals of the reasons that it uses, whose places are sorted, and those of the reasons that
+/// it looks into for literals that the others imply. A clause is kept twice, for the search and in
+/// the log.
 ///
 /// # Errors
 /// Where memory is short. What the log has by then still follows.
@@ -66,6 +68,7 @@ pub fn solve(
     ensures logged { IsSearchLog formula.now.cnf log.new.steps }
     ensures within { added_count log.new.steps ≤ budget }
     ensures kept { IsTrue keep → deletions log.new.steps ≡ 0 }
+    ensures decided { most_added keep formula.now.cnf.vars ≤ budget → IfOk result IsDecided }
 {
     let _ = keep;
     search_for_values(alloc, formula, budget, log)

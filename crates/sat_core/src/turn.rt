@@ -1,42 +1,47 @@
 //! One turn of a search: on to the next false clause, and what is learned from it.
 
-ghost use Rattle.std.specs.Prelude.{◌≡◌, ◌+◌, ◌<◌, IfOk, OnErr};
-ghost use Rattle.sat_clause.specs.Formula.{Cnf};
-ghost use Rattle.sat_core.specs.Underway.{IsTurn, IsUnderway};
+ghost use Rattle.std.specs.Prelude.{◌≡◌, ◌≤◌, IfOk, OnErr};
+ghost use Rattle.sat_core.specs.SearchStore.{SameKept};
+ghost use Rattle.sat_core.specs.Stands.{IsOpenLog, StandsFor, at_end, next_id as next_id_of};
+ghost use Rattle.sat_core.specs.Underway.{IsTurn};
 
-use crate::search::Search;
-use sat_clause::{ID_LIMIT, Log};
+use crate::state::SearchState;
+use sat_clause::{Formula, ID_LIMIT, Log};
 use std::alloc::{AllocError, Global};
 
 /// What one turn of a search comes to.
 #[derive(Debug, Drop)]
-pub(crate) enum Turn {
-    /// One more clause is learned and logged.
+pub enum Turn {
+    /// One more clause is learned and logged, which is not empty.
     Learned,
     /// These values satisfy the formula, that of variable 1 first.
     Model(Vec<bool>),
-    /// The empty clause is logged.
+    /// The empty clause is logged, and the log refutes the formula.
     Refuted,
 }
 
-/// Goes back to level 0 where a restart is due. Searches on until a clause is false, and then learns
-/// and logs a clause; or until each variable has a value.
+/// Goes back to level 0 where a restart is due. Searches on until a clause is false, and then
+/// learns and logs a clause; or until each variable has a value. The search stands for the formula
+/// and all steps of the log.
 ///
 /// Memory is taken before anything is logged, so the log is as it was where memory is short.
 pub(crate) fn take_turn(
     alloc: Global,
-    search: &mut Search,
+    search: &mut SearchState,
+    formula: &Formula,
     log: &mut Log,
 ) -> Result<Turn, AllocError>
-    requires few { search.old.inputs + search.old.added < ID_LIMIT }
-    ensures ok { IfOk result (λ turn. (formula : Cnf)
-        → IsUnderway search.old formula log.old.steps
-        → IsTurn search.new formula log.old.steps log.new.steps turn) }
+    requires stands { StandsFor search.old formula.now.cnf log.old.steps }
+    requires open_log { IsOpenLog formula.now.cnf log.old.steps }
+    requires few { next_id_of formula.now.cnf log.old.steps ≤ ID_LIMIT }
+    ensures ok { IfOk result (IsTurn (at_end search.new log.new.steps) formula.now.cnf
+        log.old.steps log.new.steps) }
     ensures err { OnErr result (log.new.steps ≡ log.old.steps) }
+    ensures same { OnErr result (SameKept search.old search.new) }
 {
     search.restart_where_due();
     let Some(lesson) = search.next_lesson(alloc)? else {
-        let values = search.model(alloc)?;
+        let values = search.model(alloc, formula.vars())?;
         return Ok(Turn::Model(values));
     };
     let numbers = lesson.clause.len() as u64 + lesson.hints.len() as u64;
@@ -48,5 +53,6 @@ pub(crate) fn take_turn(
     }
     search.learn(&lesson)?;
     log.add(id, &lesson.clause, &lesson.hints);
+    search.reuse(lesson);
     Ok(Turn::Learned)
 }

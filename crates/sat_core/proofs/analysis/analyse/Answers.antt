@@ -1,4 +1,4 @@
-use Rattle.std.proofs.Common.{◌≡◌, ◌∙◌, ap, length, subst, sym, arith}
+use Rattle.std.proofs.Common.{◌≡◌, ◌∙◌, ap, inl, length, subst, sym, arith}
 use Rattle.std.proofs.lemmas.List.{length-reverse}
 use Rattle.sat_watch.proofs.FewLemmas.{few_entries}
 use Rattle.sat_core.specs.Analysis.{IsFalsePlace, IsLeast}
@@ -66,8 +66,26 @@ point-point-requires-clause-none_used c =
     none_used c.args.watches.now c.args.lits.now c.args.marks.now c.meet_clause-least.new.marks
     c.requires.clean c.meet_clause-least.ensures.meets
 
-pub drop_covered-requires-clause-within : goal.drop_covered-requires-clause-within
-drop_covered-requires-clause-within c =
+pub find_implied-requires-clause-on : goal.find_implied-requires-clause-on
+find_implied-requires-clause-on c =
+    let w = c.args.watches.now in
+    let new = c.meet_clause-least.new.marks in
+    analysis_on w c.args.lits.now c.point-point.new.marks
+    (c.point-point.ensures.kept c.args.lits.now
+    (analysis_starts w c.args.lits.now c.args.marks.now new c.requires.clean
+    c.meet_clause-least.ensures.meets c.requires.size))
+
+pub bump_conflict-requires-clause-on : goal.bump_conflict-requires-clause-on
+bump_conflict-requires-clause-on c =
+    let w = c.args.watches.now in
+    let new = c.meet_clause-least.new.marks in
+    analysis_on w c.args.lits.now c.point-point.new.marks
+    (c.point-point.ensures.kept c.args.lits.now
+    (analysis_starts w c.args.lits.now c.args.marks.now new c.requires.clean
+    c.meet_clause-least.ensures.meets c.requires.size))
+
+pub use_left_out-requires-clause-within : goal.use_left_out-requires-clause-within
+use_left_out-requires-clause-within c =
     let w = c.args.watches.now in
     let new = c.meet_clause-least.new.marks in
     analysis_on w c.args.lits.now c.point-point.new.marks
@@ -86,13 +104,20 @@ returns-clause-analysed c =
         levels = c.trail.ensures.levels;
         settled = c.level-level.ensures.settled;
       };
-      analysis = c.use_level_zero.ensures.kept c.args.lits.now
-          (c.drop_covered.ensures.kept c.args.lits.now
+      analysis = c.use_left_out.ensures.kept c.args.lits.now
           (c.point-point.ensures.kept c.args.lits.now
           (analysis_starts w c.args.lits.now c.args.marks.now new c.requires.clean
-          c.meet_clause-least.ensures.meets c.requires.size)));
-      zero = c.use_level_zero.ensures.zero;
-      current = λ some. c.use_level_zero.ensures.point c.point-point.result some
-          (c.drop_covered.ensures.point c.point-point.result some
-          (c.point-point.ensures.point some));
+          c.meet_clause-least.ensures.meets c.requires.size));
+      zero = λ p met zero. c.use_left_out.ensures.used p met (inl zero);
+      current = λ some. c.use_left_out.ensures.point c.point-point.result some
+          (c.point-point.ensures.point some);
     }
+
+pub returns-clause-walk_size : goal.returns-clause-walk_size
+returns-clause-walk_size c =
+    omega (
+      arith,
+      c.clear.ensures.size,
+      c.find_implied.ensures.walking.size,
+      c.use_left_out.ensures.size,
+    )

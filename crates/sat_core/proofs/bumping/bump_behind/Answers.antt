@@ -1,10 +1,5 @@
-use Rattle.sat_core.proofs.MarksLaws.{mark_within}
 use Rattle.sat_core.proofs.TrailPlaces.{read_attached}
 use Rattle.sat_core.proofs.bumping.bump_behind.Goals as goal
-
-pub is_used-requires : goal.is_used-requires
-is_used-requires c =
-    mark_within c.args.marks.now.met c.place-place.result c.place-place.ensures.met
 
 pub lits-requires : goal.lits-requires
 lits-requires c =

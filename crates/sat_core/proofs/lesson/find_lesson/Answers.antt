@@ -1,4 +1,4 @@
-use Rattle.std.proofs.Common.{length, ap, sym, subst, arith}
+use Rattle.std.proofs.Common.{sym, subst}
 use Rattle.std.proofs.lemmas.Result.{IfOk-weaker}
 use Rattle.sat_core.specs.Analysis.{AreOn, IsAnalysed}
 use Rattle.sat_core.specs.Marks.{MarkState}
@@ -19,22 +19,6 @@ read-lesson-requires-clause-point c some =
     let w = c.args.watches.now in
     let at = (c.analyse-point.ensures.analysed.current some).current in
     at_within w.trail c.analyse-point.result at.0 at.1
-
-pub bump_conflict-requires-clause-on : goal.bump_conflict-requires-clause-on
-bump_conflict-requires-clause-on c =
-    let w = c.args.watches.now in
-    subst (λ (s : MarkState). AreOn w.trail s) (sym c.sort.ensures.same)
-    (analysis_on w c.args.lits.now c.analyse-point.new.marks
-    c.analyse-point.ensures.analysed.analysis)
-
-pub bump_conflict-requires-clause-size : goal.bump_conflict-requires-clause-size
-bump_conflict-requires-clause-size c =
-    omega (
-      arith,
-      ap (λ (s : MarkState). length s.met) c.sort.ensures.same,
-      c.analyse-point.ensures.size,
-      c.requires.ready.size,
-    )
 
 pub returns-clause-found : goal.returns-clause-found
 returns-clause-found c =

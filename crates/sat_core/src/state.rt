@@ -1,0 +1,213 @@
+//! What a search knows, and how it goes on.
+
+ghost use Rattle.std.specs.Prelude.{◌≡◌, ◌≢◌, ◌<◌, ◌≤◌, ◌+◌, suc, [], IfNone, IfOk, IfSome, OnErr, OnOk};
+ghost use Rattle.sat_clause.specs.Learned.{IsSimple};
+ghost use Rattle.sat_clause.specs.Trail.{IsClosed};
+ghost use Rattle.sat_core.specs.Levels.{level_of, lits_of};
+ghost use Rattle.sat_core.specs.SearchStore.{AreTrue, IsLesson, IsSettledState, Learns, SameKept};
+ghost use Rattle.sat_core.specs.Stands.{StandsFor};
+
+use crate::clause_list::ClauseList;
+use crate::deciding::{decide_on, values};
+use crate::inputs::{Inputs, take_inputs};
+use crate::lesson::{Findings, Lesson, find_lesson};
+use crate::ranking::Ranking;
+use crate::restarts::Restarts;
+use crate::start::attach_at_start;
+use crate::way_back::go_back;
+use sat_clause::{Formula, ID_LIMIT, Lit, VARIABLE_LIMIT};
+use sat_watch::Watches;
+use std::alloc::{AllocError, Global};
+use std::marker::Model;
+
+/// A search through the values of a formula's variables: its clauses and those that were added to
+/// the log, and the literals that are true, each decided or made true by a clause.
+///
+/// A clause has the literals of an input or an added clause, each once. Clauses with a literal and
+/// its negation are left out. Laid aside are input clauses of fewer than two literals, until all
+/// others are attached, and clauses of other searches that were false when they came. They are
+/// attached before the first decision.
+#[derive(Drop)]
+pub(crate) struct SearchState {
+    inputs: u32,
+    added: u32,
+    aside: ClauseList,
+    attached: u32,
+    watches: Watches,
+    findings: Findings,
+    ranking: Ranking,
+    restarts: Restarts,
+}
+
+impl Model for SearchState {
+    ghost use Rattle.sat_core.specs.SearchStore.{IsSearching, search_value};
+    ghost use Rattle.sat_core.specs.Stands.{SearchValue};
+
+    ghost Value = { SearchValue };
+
+    ghost view = { λ s. search_value s.inputs s.added s.aside s.watches };
+
+    ghost invariant = { λ s. IsSearching s.inputs s.added s.attached s.aside s.watches s.findings
+        s.ranking };
+}
+
+impl SearchState {
+    /// The search that has the clauses of a formula, and has decided nothing. The seed draws the
+    /// first activities.
+    pub(crate) fn new(
+        alloc: Global,
+        formula: &Formula,
+        seed: u32,
+    ) -> Result<SearchState, AllocError>
+        ensures { IfOk result (λ s. StandsFor s formula.now.cnf []) }
+    {
+        let inputs = formula.len();
+        let Inputs { watches, singles } = take_inputs(alloc, formula)?;
+        Ok(SearchState {
+            inputs,
+            added: 0,
+            aside: singles,
+            attached: 0,
+            watches,
+            findings: Findings::new(alloc, formula.vars())?,
+            ranking: Ranking::new(alloc, formula.vars(), seed)?,
+            restarts: Restarts::new(),
+        })
+    }
+
+    /// The id of the next clause that is added.
+    pub(crate) fn next_id(&self) -> u32
+        requires { self.now.inputs + self.now.added < ID_LIMIT }
+        ensures { result ≡ suc (self.now.inputs + self.now.added) }
+    {
+        self.inputs + self.added + 1
+    }
+
+    /// Goes back to level 0 where a restart is due.
+    pub(crate) fn restart_where_due(&mut self)
+        ensures { SameKept self.old self.new }
+    {
+        if !self.restarts.is_due(self.added) {
+            return;
+        }
+        go_back(&mut self.ranking, &mut self.watches, 0);
+    }
+
+    /// Goes back to level 0 and propagates there. A clause that is then false stays so until the
+    /// next lesson is drawn from it.
+    pub(crate) fn start_anew(&mut self)
+        ensures same { SameKept self.old self.new }
+        ensures level { level_of self.new.trail ≡ 0 }
+    {
+        go_back(&mut self.ranking, &mut self.watches, 0);
+        let mut looks = 0;
+        self.watches.propagate(&mut looks);
+    }
+
+    /// Takes a clause that another search learned under the next id, at level 0. It is laid aside
+    /// where it is false there, so that the next lesson is drawn from it.
+    ///
+    /// # Errors
+    /// Where memory is short; nothing changes.
+    pub(crate) fn take(&mut self, lits: &[Lit]) -> Result<(), AllocError>
+        requires level { level_of self.old.trail ≡ 0 }
+        requires simple { IsSimple self.old.vars lits.now }
+        requires few { self.old.inputs + self.old.added < ID_LIMIT }
+        ensures level { level_of self.new.trail ≡ 0 }
+        ensures ok { OnOk result (Learns self.old self.new lits.now) }
+        ensures err { OnErr result (self.new ≡ self.old) }
+    {
+        let id = self.next_id();
+        if attach_at_start(&mut self.watches, lits, id)? {
+            self.added += 1;
+            return Ok(());
+        }
+        self.aside.add(id, lits)?;
+        self.added += 1;
+        Ok(())
+    }
+
+    /// Attaches the clauses that were laid aside, and then decides variable after variable, until a
+    /// clause is false, of which it gives a lesson, or each variable has a value.
+    pub(crate) fn next_lesson(&mut self, alloc: Global) -> Result<Option<Lesson>, AllocError>
+        ensures same { SameKept self.old self.new }
+        ensures lesson { IfOk result (λ found. IfSome found (λ lesson. IsLesson self.new
+            lesson.clause.items lesson.hints.items lesson.back)) }
+        ensures settled { IfOk result (λ found. IfNone found (IsSettledState self.new)) }
+        ensures closed { IfOk result (λ found.
+            IfNone found (IsClosed self.new.vars (lits_of self.new.trail))) }
+    {
+        while self.attached < self.aside.len() {
+            let waiting = self.aside.get(self.attached);
+            if !attach_at_start(&mut self.watches, waiting.lits, waiting.id)? {
+                let lesson = find_lesson(
+                    alloc,
+                    &mut self.ranking,
+                    &mut self.findings,
+                    &self.watches,
+                    waiting.lits,
+                    waiting.id,
+                )?;
+                return Ok(Some(lesson));
+            }
+            self.attached += 1;
+        }
+        let Some(c) = decide_on(&mut self.ranking, &mut self.watches) else {
+            return Ok(None);
+        };
+        let id = self.watches.id(c);
+        let lits = self.watches.lits(c);
+        let lesson = find_lesson(
+            alloc,
+            &mut self.ranking,
+            &mut self.findings,
+            &self.watches,
+            lits,
+            id,
+        )?;
+        Ok(Some(lesson))
+    }
+
+    /// The value of each of the variables 1 to `vars`, which are those of the search, where each
+    /// has one and the clauses are settled.
+    pub(crate) fn model(&self, alloc: Global, vars: u32) -> Result<Vec<bool>, AllocError>
+        requires vars { vars ≡ self.now.vars }
+        requires few { vars ≤ VARIABLE_LIMIT }
+        requires settled { IsSettledState self.now }
+        requires closed { IsClosed self.now.vars (lits_of self.now.trail) }
+        ensures { IfOk result (λ values. AreTrue self.now values.items) }
+    {
+        values(alloc, &self.watches, vars)
+    }
+
+    /// Learns the clause of a lesson, which is not empty, under the next id: it goes back to the
+    /// highest level of its literals but the last, which the clause makes true there.
+    ///
+    /// # Errors
+    /// Where memory is short; the clauses are then the same.
+    pub(crate) fn learn(&mut self, lesson: &Lesson) -> Result<(), AllocError>
+        requires lesson { IsLesson self.old lesson.now.clause.items lesson.now.hints.items
+            lesson.now.back }
+        requires some { lesson.now.clause.items ≢ [] }
+        requires few { self.old.inputs + self.old.added < ID_LIMIT }
+        ensures ok { OnOk result (Learns self.old self.new lesson.now.clause.items) }
+        ensures err { OnErr result (SameKept self.old self.new) }
+    {
+        let id = self.next_id();
+        let Some(last) = lesson.clause.last() else {
+            unreachable!();
+        };
+        go_back(&mut self.ranking, &mut self.watches, lesson.back);
+        let c = self.watches.attach(&lesson.clause, id)?;
+        self.watches.imply(*last, c);
+        self.added += 1;
+        Ok(())
+    }
+
+    /// Takes a lesson that is no longer needed, whose room the next one takes.
+    pub(crate) fn reuse(&mut self, lesson: Lesson)
+        ensures { self.new ≡ self.old }
+    {
+        self.findings.reuse(lesson);
+    }
+}
