@@ -1,6 +1,6 @@
 -- What one draw more makes of the sinks and of the inputs that are taken.
-use Rattle.std.proofs.Common.{◌≡◌, ◌≢◌, ℕ, zero, suc, ◌+◌, ◌*◌, ◌-◌, ◌<◌, ◌≤◌, ◌==◌, Bool, false, Option, Some, None, List, [], ◌∷◌, ◌++◌, length, refl, sym, ap, subst, ◌∙◌, inl, inr, arith, zero-add, length-append}
-use Rattle.std.specs.Prelude.{All, flat_map, map, slice_set, unwrap_or, if◌then◌else◌}
+use Rattle.std.proofs.Common.{◌≡◌, ◌≢◌, ℕ, zero, suc, ◌+◌, ◌*◌, ◌-◌, ◌<◌, ◌≤◌, Bool, false, Option, Some, None, List, [], ◌∷◌, ◌++◌, length, refl, sym, ap, subst, ◌∙◌, inl, inr, arith, zero-add, length-append}
+use Rattle.std.specs.Prelude.{All, flat_map, slice_set, unwrap_or, if◌then◌else◌}
 use Rattle.std.specs.List.{enumerate_from, range_with_len}
 use Rattle.std.specs.Option.{option_or}
 use Rattle.std.proofs.lemmas.Bool.{cases_Bool, cases_lt, eq-eqb, ltb-false, ltb-true, ne_eqb}
@@ -10,7 +10,7 @@ use Rattle.std.proofs.lemmas.List.Elements.{All-nil, All-push}
 use Rattle.std.proofs.lemmas.List.FromFn.{get_or-map-range_with_len, length-map-range_with_len}
 use Rattle.list_laws.proofs.Members.{In-range, find-In, find-some, from_In-range}
 use Rattle.list_laws.proofs.Numbered.{enumerate-push}
-use Rattle.route_gen.specs.Draws.{Drawing, HasFree, IsFree, after_rand, answer_of, drawing, drawn_block, drawn_sink, ending_at, entry, first_free, has_room, input_table, location_of, moved, nets_into, sinks_of}
+use Rattle.route_gen.specs.Draws.{HasFree, IsFree, after_rand, answer_of, drawing, drawn_block, drawn_sink, ending_at, entry, first_free, has_room, input_table, location_of, moved, nets_into, sinks_of}
 use Rattle.route_gen.specs.declared.draws.Sink.{Sink}
 use Rattle.route_gen.specs.declared.draws.TheConstants.{INPUT_COUNT}
 use Rattle.route_gen.proofs.PlaceLemmas.{block_within}
@@ -18,7 +18,7 @@ use Rattle.route_gen.proofs.RangeLemmas.{entry-put}
 use Rattle.route_gen.proofs.RoomLemmas.{among-all, full-among}
 
 -- the nets that end at a block, with one net more
-into-push : (sinks : List Sink) (sink : Sink) (block : ℕ) →
+pub into-push : (sinks : List Sink) (sink : Sink) (block : ℕ) →
     nets_into (sinks ++ sink ∷ []) block
     ≡ nets_into sinks block ++ ending_at block (length sinks, sink)
 into-push sinks sink block =
@@ -29,7 +29,7 @@ into-push sinks sink block =
     ∙ ap (λ (n : ℕ). nets_into sinks block ++ ending_at block (n, sink)) (zero-add (length sinks))
 
 -- it ends at its own block
-into-here : (sinks : List Sink) (sink : Sink) →
+pub into-here : (sinks : List Sink) (sink : Sink) →
     nets_into (sinks ++ sink ∷ []) sink.block ≡ nets_into sinks sink.block ++ length sinks ∷ []
 into-here sinks sink =
     into-push sinks sink sink.block
@@ -37,7 +37,7 @@ into-here sinks sink =
     (eq-eqb sink.block sink.block refl)
 
 -- and at no other
-into-other : (sinks : List Sink) (sink : Sink) (block : ℕ) → block ≢ sink.block →
+pub into-other : (sinks : List Sink) (sink : Sink) (block : ℕ) → block ≢ sink.block →
     nets_into sinks block ≡ nets_into (sinks ++ sink ∷ []) block
 into-other sinks sink block other = sym (
     into-push sinks sink block

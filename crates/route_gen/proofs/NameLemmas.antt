@@ -1,37 +1,49 @@
--- The names of blocks differ, and so do their places.
-use Rattle.std.proofs.Common.{◌≡◌, ◌≢◌, ℕ, zero, suc, ◌+◌, ◌-◌, ◌*◌, ◌/◌, ◌%◌, ◌<◌, ◌≤◌, ◌^◌, Bool, true, false, cond, Option, Some, None, List, [], ◌∷◌, ◌++◌, refl, sym, ap, subst, ◌∙◌, inl, inr, arith}
+-- The names of blocks and of nets differ, and so do the places of blocks.
+use Rattle.std.proofs.Common.{◌≡◌, ◌≢◌, ℕ, zero, suc, ◌+◌, ◌*◌, ◌/◌, ◌%◌, ◌<◌, ◌≤◌, ◌^◌, Bool, true, false, cond, Some, List, ◌∷◌, refl, sym, ap, ◌∙◌, inl, inr, arith}
 use Rattle.std.specs.Prelude.{bytes_eq, decimal, find, map, ◌==◌, ◌&&◌, ◌||◌}
 use Rattle.std.specs.List.{list_any, range_with_len}
-use Rattle.std.proofs.lemmas.Bool.{and_cases, cases_Bool, cases_eq, false≢true, ne_eqb}
+use Rattle.std.proofs.lemmas.Bool.{cases_Bool, cases_eq, ne_eqb}
 use Rattle.std.proofs.lemmas.Slice.Eq.{bytes_eq-Decides}
 use Rattle.fpga_text.specs.Numbers.{whole_number_of}
 use Rattle.fpga_text.proofs.PrintedWords.{whole_number_of-decimal}
 use Rattle.route_gen.specs.Draws.{location_of}
-use Rattle.route_gen.specs.Netlists.{block_name}
+use Rattle.route_gen.specs.Netlists.{block_name, net_name}
 
 -- two numbers with one decimal are one
-pub decimal-alone : (m n : ℕ) → m < 2 ^ 64 → n < 2 ^ 64 → decimal m ≡ decimal n → m ≡ n
+decimal-alone : (m n : ℕ) → m < 2 ^ 64 → n < 2 ^ 64 → decimal m ≡ decimal n → m ≡ n
 decimal-alone m n m_fits n_fits same =
     let both : Some m ≡ Some n = sym (whole_number_of-decimal m m_fits)
     ∙ ap whole_number_of same ∙ whole_number_of-decimal n n_fits in
     cc
 
--- a block has its name
-pub name-same : (block : ℕ) → bytes_eq (block_name block) (block_name block) ≡ true
-name-same block = (bytes_eq-Decides (block_name block) (block_name block)).1 refl
-
--- and no other block has it
-pub name-other : (m n : ℕ) → m < 2 ^ 64 → n < 2 ^ 64 → m ≢ n →
-    bytes_eq (block_name m) (block_name n) ≡ false
-name-other m n m_fits n_fits other =
-    elim (cases_Bool (bytes_eq (block_name m) (block_name n))) [
+-- two names of one beginning and a number each
+names-other : (first m n : ℕ) → m < 2 ^ 64 → n < 2 ^ 64 → m ≢ n →
+    bytes_eq (first ∷ decimal m) (first ∷ decimal n) ≡ false
+names-other first m n m_fits n_fits other =
+    elim (cases_Bool (bytes_eq (first ∷ decimal m) (first ∷ decimal n))) [
       | inl same ↦ absurd (other (decimal-alone m n m_fits n_fits (tail
-          ((bytes_eq-Decides (block_name m) (block_name n)).0 same))))
+          ((bytes_eq-Decides (first ∷ decimal m) (first ∷ decimal n)).0 same))))
       | inr differ ↦ differ
     ]
   where
     tail : {a b : ℕ} {s t : List ℕ} → (a ∷ s) ≡ (b ∷ t) → s ≡ t
     tail e = cc
+
+-- a block has its name, and no other block has it
+pub name-same : (block : ℕ) → bytes_eq (block_name block) (block_name block) ≡ true
+name-same block = (bytes_eq-Decides (block_name block) (block_name block)).1 refl
+
+pub name-other : (m n : ℕ) → m < 2 ^ 64 → n < 2 ^ 64 → m ≢ n →
+    bytes_eq (block_name m) (block_name n) ≡ false
+name-other = names-other 98
+
+-- the same of nets
+pub net-same : (net : ℕ) → bytes_eq (net_name net) (net_name net) ≡ true
+net-same net = (bytes_eq-Decides (net_name net) (net_name net)).1 refl
+
+pub net-other : (m n : ℕ) → m < 2 ^ 64 → n < 2 ^ 64 → m ≢ n →
+    bytes_eq (net_name m) (net_name n) ≡ false
+net-other = names-other 110
 
 -- two blocks stand at two places
 pub place-other : (side m n : ℕ) → 1 ≤ side → m ≢ n →

@@ -1,32 +1,26 @@
 -- The placement of a generated problem has no fault, and reads as the places of its blocks.
-use Rattle.std.proofs.Common.{◌≡◌, ◌≢◌, ℕ, zero, suc, ◌+◌, ◌*◌, ◌<◌, ◌≤◌, ◌^◌, Bool, true, false, Option, Some, None, List, [], ◌∷◌, ◌++◌, refl, sym, ap, ◌∙◌, inl, inr, arith, add-one, append_assoc, zero-add}
-use Rattle.std.specs.Prelude.{All, bytes_eq, codes, decimal, flat_map, is_none, map, nat_le, nat_lt, not, ◌&&◌, ◌||◌, unwrap_or, option_and_then, option_map, if◌then◌else◌}
-use Rattle.std.specs.List.{enumerate_from, list_all, list_any, range_with_len}
+use Rattle.std.proofs.Common.{◌≡◌, ℕ, zero, suc, ◌+◌, ◌*◌, ◌<◌, ◌≤◌, ◌^◌, Bool, true, false, Option, Some, None, List, [], ◌∷◌, ◌++◌, refl, sym, ap, ◌∙◌, inl, inr, arith, append_assoc, zero-add}
+use Rattle.std.specs.Prelude.{All, bytes_eq, codes, decimal, flat_map, is_none, map, nat_le, nat_lt, not, ◌&&◌, unwrap_or, option_and_then, option_map, if◌then◌else◌}
+use Rattle.std.specs.List.{list_all, list_any, range_with_len}
 use Rattle.std.specs.Option.{option_map_or, option_or}
 use Rattle.std.proofs.lemmas.Simd.{map-map}
 use Rattle.std.proofs.lemmas.Bool.{and_from, cases_eq, le-leb, le-ltb, lt-ltb}
 use Rattle.std.proofs.lemmas.List.Elements.{All-cons, All-nil}
-use Rattle.std.proofs.lemmas.List.{map-append}
 use Rattle.std.proofs.lemmas.List.FromFn.{map-range_with_len_more}
 use Rattle.list_laws.proofs.Members.{In-map, In-range, all-from_In, from_In-range, list_any-from_In}
 use Rattle.fpga_types.specs.Places.{is_lawful, same_spot, spot_of}
-use Rattle.fpga_types.specs.Size.{Size}
 use Rattle.fpga_types.specs.declared.arch.Arch.{Arch}
 use Rattle.fpga_types.specs.declared.limits.TheConstants.{SIDE_LIMIT}
 use Rattle.fpga_types.specs.declared.netlist.Block.{Block as BlockOf}
 use Rattle.fpga_types.specs.declared.netlist.BlockKind.TheVariants.{Logic}
 use Rattle.fpga_types.specs.declared.netlist.Netlist.{Netlist}
 use Rattle.fpga_types.specs.declared.placement.Place.{Place}
-use Rattle.fpga_types.specs.declared.placement.Placement.{Placement}
-use Rattle.fpga_types.specs.declared.placement.Spot.{Spot}
-use Rattle.fpga_types.specs.declared.placement.Spot.TheVariants.{Block as BlockSpot}
 use Rattle.fpga_text.specs.declared.fault.TextFault.TheVariants.{Bad, Limit}
 use Rattle.fpga_text.specs.declared.style.Style.TheVariants.{Hash}
 use Rattle.fpga_text.specs.ArrayLine.{size_words}
 use Rattle.fpga_text.specs.Bytes.{Bytes, is_empty, is_newline}
 use Rattle.fpga_text.specs.Codes.{end_fault, faults_behind, line_fault}
 use Rattle.fpga_text.specs.FirstFault.{IsFaultless, first_fault}
-use Rattle.fpga_text.specs.Numbers.{whole_number_of}
 use Rattle.fpga_text.specs.Words.{TextLine, Words, line_count, lines, text_line, text_lines, words}
 use Rattle.fpga_text.proofs.LineLemmas.{lines-next}
 use Rattle.fpga_text.proofs.PrintedLines.{ended, lines-ended, numbered, said, said-line, seen, seen-all, seen-line}
@@ -39,7 +33,7 @@ use Rattle.fpga_place.specs.Value.{Reads, place_named, place_value, value_of}
 use Rattle.fpga_place.specs.Value.{place_of as place_found}
 use Rattle.route_gen.specs.Draws.{location_of}
 use Rattle.route_gen.specs.Netlists.{block_name}
-use Rattle.route_gen.specs.Placements.{generated_placement, place_line, placement_head}
+use Rattle.route_gen.specs.Placements.{generated_placement, place_line}
 use Rattle.route_gen.specs.Laws.{HasBlocks, block_on, place_of, placement_of}
 use Rattle.route_gen.proofs.NameLemmas.{any-none, find-made, name-other, name-same, place-other, same-made}
 use Rattle.route_gen.proofs.PlaceLemmas.{row_within, square}

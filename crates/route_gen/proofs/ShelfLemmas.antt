@@ -1,5 +1,5 @@
 -- What a table in memory holds after one file was written to it.
-use Rattle.std.proofs.Common.{◌≡◌, List, [], Some, ap, ◌∙◌}
+use Rattle.std.proofs.Common.{◌≡◌, [], Some, ap, ◌∙◌}
 use Rattle.std.specs.Prelude.{codes}
 use Rattle.std.specs.FinMap.{empty, get, get-insert, insert}
 use Rattle.std.specs.Cmp.Lexicographic.{nat_list_cmp_total}

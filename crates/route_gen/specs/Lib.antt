@@ -1,4 +1,5 @@
 pub mod Draws
+pub mod Fitting
 pub mod Generated
 pub mod Laws
 pub mod Netlists

@@ -14,5 +14,8 @@ mod tests;
 mod texts;
 mod trace;
 
-pub use laws::{architecture_reads, placement_reads};
+pub use laws::{
+    architecture_reads, fits_but_for_slots, netlist_reads, placement_reads, route_reads,
+    texts_are_short,
+};
 pub use texts::{FourTexts, GenStop, generate};
