@@ -8,7 +8,7 @@ use Rattle.sat_clause.specs.declared.limits.TheConstants.{VARIABLE_LIMIT}
 use Rattle.sat_clause.specs.Formula.{Cnf, IsUnsat}
 use Rattle.sat_clause.specs.Step.{Step}
 use Rattle.sat_clause.proofs.Refutes.{refutes}
-use Rattle.sat_core.specs.Answer.{IsAnswer}
+use Rattle.sat_core.specs.Answer.{IsAnswer, IsDecided, most_added}
 use Rattle.sat_core.specs.SearchLog.{added_count}
 use Rattle.sat_core.specs.declared.answer.Answer.{Answer}
 use Rattle.sat_core.specs.declared.answer.Answer.TheVariants.{Refuted as Refutes, Spent as Spends}
@@ -32,6 +32,7 @@ pub record HasEnded (ask : Asked) (width : ℕ) (answer : Answer) (log : List St
   pub of : IsLogOf ask formula log
   pub within : added_count log ≤ ask.budget
   pub end : IsAnswer formula ask.budget log answer
+  pub decided : most_added ask.keep formula.vars ≤ ask.budget → IsDecided answer
   pub writes : WritesProof ask width formula log before now result
 
 module _ (ask : Asked) (width : ℕ) (formula : Cnf) (good : RouteText → Type 0)
@@ -59,7 +60,8 @@ module _ (ask : Asked) (width : ℕ) (formula : Cnf) (good : RouteText → Type 
   stopped ended (TooManyClauses count) writes = absurd writes
   stopped ended Memory writes = (few, writes)
 
-  refuted-by : (IsUnsat formula → (found : RouteText) → ¬ good found) → (result : Result (Unit {0}) Stop)
+  refuted-by : (IsUnsat formula → (found : RouteText) → ¬ good found)
+      → (result : Result (Unit {0}) Stop)
       → HasEnded ask width Refutes log before now result formula
       → IsRefutedBy ask formula good log
   refuted-by none result h = record {
@@ -69,7 +71,8 @@ module _ (ask : Asked) (width : ℕ) (formula : Cnf) (good : RouteText → Type 
   }
 
   -- the log refutes the formula
-  refuted : (IsUnsat formula → (found : RouteText) → ¬ good found) → (result : Result (Unit {0}) Stop)
+  refuted : (IsUnsat formula → (found : RouteText) → ¬ good found)
+      → (result : Result (Unit {0}) Stop)
       → HasEnded ask width Refutes log before now result formula
       → FindsAt ask width formula good before now (result_and result (Ok Refuted))
   refuted none (Ok done) h = (
@@ -78,15 +81,23 @@ module _ (ask : Asked) (width : ℕ) (formula : Cnf) (good : RouteText → Type 
   )
   refuted none (Err stop) h = stopped (inl (refuted-by none (Err stop) h)) stop h.writes
 
+  -- no more than the budget allows was learned, which is fewer than could be
+  left_open : (result : Result (Unit {0}) Stop)
+      → HasEnded ask width Spends log before now result formula → IsLeftOpenBy ask formula log
+  left_open result h =
+      let few_asked : ¬ (most_added ask.keep formula.vars ≤ ask.budget) = h.decided in
+      record { of = h.of; spends = h.end; short = omega (arith, few_asked) }
+
   -- the log spends the budget
-  spent : (result : Result (Unit {0}) Stop) → HasEnded ask width Spends log before now result formula
+  spent : (result : Result (Unit {0}) Stop)
+      → HasEnded ask width Spends log before now result formula
       → FindsAt ask width formula good before now (result_and result (Ok (Spent ask.budget)))
   spent (Ok done) h = (
     few,
     refl,
-    written (IsLeftOpenBy ask formula) (record { of = h.of; spends = h.end }) Spends done h,
+    written (IsLeftOpenBy ask formula) (left_open (Ok done) h) Spends done h,
   )
-  spent (Err stop) h = stopped (inr (record { of = h.of; spends = h.end })) stop h.writes
+  spent (Err stop) h = stopped (inr (left_open (Err stop) h)) stop h.writes
 
   -- the same of a formula that was built, and of an answer that is handed on
   pub finds-refuted : (IsUnsat formula → (found : RouteText) → ¬ good found)

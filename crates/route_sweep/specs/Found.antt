@@ -10,7 +10,7 @@ use Rattle.sat_clause.specs.declared.limits.TheConstants.{CLAUSE_LIMIT}
 use Rattle.sat_clause.specs.Formula.{Cnf}
 use Rattle.sat_clause.specs.Learned.{deletions}
 use Rattle.sat_clause.specs.Step.{Step}
-use Rattle.sat_core.specs.Answer.{IsRefutation, SpendsAll}
+use Rattle.sat_core.specs.Answer.{IsRefutation, SpendsAll, most_added}
 use Rattle.sat_core.specs.SearchLog.{IsSearchLog}
 use Rattle.sat_text.specs.CnfText.{ReadsCnf}
 use Rattle.sat_text.specs.LratText.{ReadsLrat}
@@ -41,10 +41,12 @@ pub record IsRefutedBy
   pub refutes : IsRefutation formula ask.budget log
   pub none_good : (found : RouteText) → ¬ good found
 
--- the log has as many learned clauses as the budget allows, none of them empty
+-- the log has as many learned clauses as the budget allows, none of them empty; with a larger budget
+-- than that no search is left open
 pub record IsLeftOpenBy (ask : Asked) (formula : Cnf) (log : List Step) : Type 0 where
   pub of : IsLogOf ask formula log
   pub spends : SpendsAll ask.budget log
+  pub short : ask.budget < most_added ask.keep formula.vars
 
 -- a routing was written, and no other file; it reads back where its problem's route was read
 pub record WritesRouting

@@ -1,6 +1,6 @@
 use Rattle.std.proofs.Common.{◌≤◌, arith, subst}
 use Rattle.sat_clause.specs.declared.limits.TheConstants.{VARIABLE_LIMIT}
-use Rattle.sat_core.specs.Answer.{IsAnswer}
+use Rattle.sat_core.specs.Answer.{IsAnswer, IsDecided}
 use Rattle.sat_core.specs.declared.answer.Answer.TheVariants.{Refuted, Spent}
 use Rattle.route_sweep.specs.Asked.{asked}
 use Rattle.route_sweep.specs.Found.{HasFew}
@@ -28,11 +28,14 @@ returns-in-Ok-Refuted g c =
       within = c.in-Ok-Refuted.ensures.within;
       end = subst (IsAnswer cnf ask.budget log) c.in-Ok-Refuted.field-0-is
           c.in-Ok-Refuted.ensures.answer;
+      decided = λ large. subst IsDecided c.in-Ok-Refuted.field-0-is
+          (c.in-Ok-Refuted.ensures.decided large);
       writes = c.write_proof.ensures;
     } in
     finds-refuted ask c.args.width formula
     (g.E.Encoder.is_good c.args.encoder.now c.args.problem.now c.args.width) before now log few
-    c.in-Ok.ensures.none_without_model c.write_proof.result cnf c.in-Ok.ensures.formula ended c.and-in-Ok-Refuted.result
+    c.in-Ok.ensures.none_without_model c.write_proof.result cnf c.in-Ok.ensures.formula ended
+    c.and-in-Ok-Refuted.result
     c.and-in-Ok-Refuted.ensures
 
 pub returns-in-Ok-Spent : goal.returns-in-Ok-Spent
@@ -44,7 +47,8 @@ returns-in-Ok-Spent g c =
     let log = c.solve.new.log.steps in
     let cnf = c.in-Ok.formula.cnf in
     let few : HasFew formula = omega (arith, c.count-count.ensures) in
-    let ended : HasEnded ask c.args.width Spent log before now c.write_proof-in-Ok-Spent.result cnf =
+    let ended : HasEnded ask c.args.width Spent log before now c.write_proof-in-Ok-Spent.result
+    cnf =
     record {
       few_vars = subst (λ s. s.cnf.vars ≤ VARIABLE_LIMIT) c.formula.view_is
           c.formula.invariant.few_vars;
@@ -56,6 +60,8 @@ returns-in-Ok-Spent g c =
       within = c.in-Ok-Spent.ensures.within;
       end = subst (IsAnswer cnf ask.budget log) c.in-Ok-Spent.field-0-is
           c.in-Ok-Spent.ensures.answer;
+      decided = λ large. subst IsDecided c.in-Ok-Spent.field-0-is
+          (c.in-Ok-Spent.ensures.decided large);
       writes = c.write_proof-in-Ok-Spent.ensures;
     } in
     finds-spent ask c.args.width formula
