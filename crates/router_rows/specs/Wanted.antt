@@ -1,5 +1,5 @@
 -- What must come of a run, and when it has come.
-use Rattle.std.specs.Prelude.{◌≡◌, [], Bool, true, Option, Some, None, All, is_some, if◌then◌else◌, nat_eq, option_map, string_bytes}
+use Rattle.std.specs.Prelude.{◌≡◌, ◌++◌, Bool, true, Option, Some, None, All, is_some, if◌then◌else◌, nat_eq, option_map, string_bytes}
 use Rattle.std.specs.List.{starts_with}
 use Rattle.std.specs.FinMap.{get}
 use Rattle.desk_io.specs.Files.{Bytes, FileMap}
@@ -11,9 +11,9 @@ use Rattle.router_rows.specs.declared.compare.Wants.{Wants}
 use Rattle.router_top.specs.Report.{line_of, report_of, status_of}
 use Rattle.router_top.specs.declared.outcome.Outcome.{Outcome}
 
--- what is to be said of a report line
-abbrev pub said_of : (is_silent : Bool) → Bytes → Bytes
-said_of is_silent line = if is_silent then [] else line
+-- what is to be said: these bytes, and the report line behind them unless that is not to be said
+abbrev pub said_of : (lead : Bytes) → (is_silent : Bool) → (line : Bytes) → Bytes
+said_of lead is_silent line = if is_silent then lead else lead ++ line
 
 -- a file, where there is one, is as it must be; of one that must hold a text only that it is there
 abbrev pub IsMet : Wanted → (text : Bytes) → (came : Option Bytes) → Type 0
@@ -30,5 +30,5 @@ IsMetBy files file = IsMet file.how file.text.items (get files (string_bytes fil
 pub record AreMet (wants : Wants) (outcome : Outcome) (shelf : MemShelfView) : Type 0 where
   pub outcome_line : option_map string_bytes wants.outcome ≡ Some (report_of outcome)
   pub status : wants.status ≡ Some (status_of outcome)
-  pub said : shelf.said ≡ said_of wants.is_silent (line_of outcome)
+  pub said : shelf.said ≡ said_of wants.lead.items wants.is_silent (line_of outcome)
   pub files : All (IsMetBy shelf.files) wants.files.items

@@ -1,5 +1,5 @@
 //! What must come of a run, and whether it came.
-ghost use Rattle.std.specs.Prelude.{◌≡◌, All, IsErr, IsTrue, OnOk};
+ghost use Rattle.std.specs.Prelude.{◌≡◌, All, IfOk, IsErr, IsTrue, OnOk};
 ghost use Rattle.router_rows.specs.Wanted.{AreMet, IsMetBy, said_of};
 
 use crate::stop::RowStop;
@@ -35,6 +35,8 @@ pub struct WantedFile {
 pub struct Wants {
     pub outcome: Option<String>,
     pub status: Option<u64>,
+    /// What must be said before the report line.
+    pub lead: Vec<u8>,
     /// Whether the report line must not be said.
     pub is_silent: bool,
     pub files: Vec<WantedFile>,
@@ -46,6 +48,7 @@ impl Wants {
         Wants {
             outcome: None,
             status: None,
+            lead: Vec::new(alloc),
             is_silent: false,
             files: Vec::new(alloc),
         }
@@ -65,19 +68,22 @@ impl Wants {
         };
         same_number(alloc, "the status", expected, u64::from(status(outcome)))?;
         line.push_str("\n");
-        compare_said(alloc, self.is_silent, line.as_bytes(), shelf.said())?;
+        let expected = said(alloc, &self.lead, self.is_silent, line.as_bytes())?;
+        same_text(alloc, "what was said", &expected, shelf.said())?;
         compare_files(alloc, &self.files, shelf)
     }
 }
 
-// Whether the report line was said, or nothing where it must not be.
-fn compare_said(alloc: Global, is_silent: bool, line: &[u8], came: &[u8]) -> Result<(), RowStop>
-    ensures { OnOk result (came.now ≡ said_of is_silent line.now) }
+// What must be said: the lead, and the report line behind it unless that must not be.
+fn said(alloc: Global, lead: &[u8], is_silent: bool, line: &[u8]) -> Result<Vec<u8>, AllocError>
+    ensures { IfOk result (λ text. text.items ≡ said_of lead.now is_silent line.now) }
 {
+    let mut text = Vec::from_slice(alloc, lead)?;
     if is_silent {
-        return same_text(alloc, "what was said", b"", came);
+        return Ok(text);
     }
-    same_text(alloc, "what was said", line, came)
+    text.extend_from_slice(line)?;
+    Ok(text)
 }
 
 // Whether the files are as they must be.

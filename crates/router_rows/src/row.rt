@@ -59,6 +59,7 @@ impl Row {
             "desk" => Ok(self.desk_fails = numbers(self.alloc, rest)?),
             "shelf" => Ok(self.shelf_fails = numbers(self.alloc, rest)?),
             "comes" => Ok(self.wants.outcome = Some(String::from_str(self.alloc, rest)?)),
+            "says" => self.take_lead(rest),
             "silent" => Ok(self.wants.is_silent = true),
             "status" => Ok(self.wants.status = Some(number(rest)?)),
             "writes" => self.take_wanted(Wanted::Whole, rest),
@@ -107,6 +108,13 @@ impl Row {
             self.take_file(file)?;
             self.take_text(texts, part.as_str())?;
         }
+        Ok(())
+    }
+
+    // Takes a line that must be said before the report line.
+    fn take_lead(&mut self, line: &str) -> Result<(), LineFault> {
+        self.wants.lead.extend_from_slice(line.as_bytes())?;
+        self.wants.lead.push(b'\n')?;
         Ok(())
     }
 

@@ -1,9 +1,11 @@
--- Outcomes that are true of the same words and files agree: they are one, or one of them says that a
--- search was left open.
+-- Outcomes that are true of the same words and files agree: they are one, or one of them says that
+-- a search was left open.
 use Rattle.std.proofs.Common.{◌≡◌, ◌∙◌, ◌⊎◌, ℕ, zero, suc, ◌<◌, ◌≤◌, List, length, Some, Ok, Err, Result, refl, sym, ap, subst, inl, inr, arith}
-use Rattle.std.specs.Prelude.{MatchResult}
+use Rattle.std.specs.Prelude.{◌*◌, MatchResult, Option}
 use Rattle.desk_io.specs.Files.{FileMap}
 use Rattle.fpga_types.specs.Problem.{RoutingProblem}
+use Rattle.fpga_types.specs.Slots.{slots}
+use Rattle.fpga_types.specs.declared.limits.TheConstants.{SLOT_LIMIT}
 use Rattle.route_encode.specs.Encoding.{cnf_of}
 use Rattle.route_encode.specs.Exact.{IsUnroutableAt}
 use Rattle.route_sweep.specs.Found.{HasFew}
@@ -12,16 +14,18 @@ use Rattle.sat_text.specs.CnfText.{cnf_said}
 use Rattle.sat_text.specs.LratText.{lrat_said}
 use Rattle.router_words.specs.Command.{job_of}
 use Rattle.router_words.specs.Refusal.{code_of}
-use Rattle.router_words.specs.Job.{CheckAsked, Checks, Encodes, FilesAsked, JobAsked, Routes, Sweeps}
+use Rattle.router_words.specs.Job.{CheckAsked, Checks, Encodes, FilesAsked, Generates, JobAsked, RecipeAsked, Routes, Sweeps, TrialAsked, Tries}
 use Rattle.router_words.specs.Word.{Word}
 use Rattle.router_words.specs.declared.fault.Refusal.{Refusal}
 use Rattle.router_top.specs.Check.{ChecksTo, cnf_source, judgement_outcome, lrat_source}
-use Rattle.router_top.specs.Search.{Search, route_search, sweep_search}
+use Rattle.router_top.specs.Generated.{IsTooLarge, Makes}
+use Rattle.router_top.specs.Search.{Search, route_search, sweep_of, sweep_search}
 use Rattle.router_top.specs.Sources.{IsHalted, ReadsThen}
-use Rattle.router_top.specs.Truth.{Agrees, IsOpenBelow, IsReached, IsTrueAt, IsTrueOf, IsTrueOfClauses, IsTrueOfJob, IsTrueOfSearch, IsTrueOfWork}
+use Rattle.router_top.specs.Truth.{Agrees, IsOpenBelow, IsReached, IsTrueAt, IsTrueOf, IsTrueOfClauses, IsTrueOfJob, IsTrueOfRecipe, IsTrueOfSearch, IsTrueOfWork}
 use Rattle.router_top.specs.declared.outcome.Outcome.{Outcome}
 use Rattle.router_top.specs.declared.outcome.Outcome.TheVariants.{Done, Undecided, Usage}
 use Rattle.router_top.proofs.FourLaws.{lack-poses, one-lack, one-problem}
+use Rattle.router_top.proofs.GeneratedLaws.{one-made}
 use Rattle.router_top.proofs.SourceLaws.{reads-alike}
 
 -- two true outcomes of the work on a problem are one, or both are true of one problem
@@ -36,8 +40,8 @@ work-agrees files names says a b (inl h) (inr g) agree =
 work-agrees files names says a b (inr h) (inl g) agree =
     absurd (lack-poses files names h.0 b g h.1)
 work-agrees files names says a b (inr h) (inr g) agree =
-    agree h.0 h.2 (subst (λ (p : RoutingProblem). says p b) (one-problem files names g.0 h.0 g.1 h.1)
-    g.2)
+    agree h.0 h.2 (subst (λ (p : RoutingProblem). says p b)
+    (one-problem files names g.0 h.0 g.1 h.1) g.2)
 
 -- so of what is true of the clauses at a width
 clauses-agree : (width : ℕ) (p : RoutingProblem) (says : Outcome → Type 0) (a b : Outcome)
@@ -134,6 +138,53 @@ check-agrees job files a b h g =
     (λ log outcome. outcome ≡ judgement_outcome (judge cnf log)) a b u v
     (λ log e f. e ∙ sym f))
 
+-- ---- a generated problem
+
+not-both : (nets blocks : ℕ) → blocks < nets → nets ≤ blocks → ⊥
+not-both nets blocks more few = omega (arith, more, few)
+
+recipe-agrees : (recipe : RecipeAsked) (says : Outcome → Type 0) (a b : Outcome)
+    → IsTrueOfRecipe recipe (says a) a → IsTrueOfRecipe recipe (says b) b
+    → (says a → says b → Agrees a b) → Agrees a b
+recipe-agrees recipe says a b (inl h) (inl g) agree = inl (h.1 ∙ sym g.1)
+recipe-agrees recipe says a b (inl h) (inr g) agree =
+    absurd (not-both recipe.nets (recipe.side * recipe.side) h.0 g.0)
+recipe-agrees recipe says a b (inr h) (inl g) agree =
+    absurd (not-both recipe.nets (recipe.side * recipe.side) g.0 h.0)
+recipe-agrees recipe says a b (inr h) (inr g) agree = agree h.1 g.1
+
+module _ (job : TrialAsked) where
+  -- what is true of a problem that was made
+  abbrev IsTrueOfMade : Outcome → Type 0
+  IsTrueOfMade outcome = (p : RoutingProblem) × Makes job.recipe p
+      × IsTrueOfSearch (sweep_search (sweep_of job)) p outcome
+
+  -- a problem is not too large and small enough
+  not-large : (a b : Outcome) → IsTooLarge job.recipe a → IsTrueOfMade b → ⊥
+  not-large a b h g =
+      let few = subst (λ (p : RoutingProblem). length (slots p.route) ≤ SLOT_LIMIT)
+      (one-made job.recipe g.0 h.0 g.1.made h.1) g.1.few in
+      omega (arith, few, h.2)
+
+  trial-agrees : (files : Option FileMap) (a b : Outcome) → IsTrueOfJob (Tries job) files a
+      → IsTrueOfJob (Tries job) files b → Agrees a b
+  trial-agrees files a b (inl h) (inl g) = inl (h.1 ∙ sym g.1)
+  trial-agrees files a b (inl h) (inr (inl g)) =
+      absurd (not-both job.recipe.nets (job.recipe.side * job.recipe.side) h.0 g.1.room)
+  trial-agrees files a b (inl h) (inr (inr g)) =
+      absurd (not-both job.recipe.nets (job.recipe.side * job.recipe.side) h.0 g.1.made.room)
+  trial-agrees files a b (inr (inl h)) (inl g) =
+      absurd (not-both job.recipe.nets (job.recipe.side * job.recipe.side) g.0 h.1.room)
+  trial-agrees files a b (inr (inl h)) (inr (inl g)) = inl (h.3 ∙ sym g.3)
+  trial-agrees files a b (inr (inl h)) (inr (inr g)) = absurd (not-large a b h g)
+  trial-agrees files a b (inr (inr h)) (inl g) =
+      absurd (not-both job.recipe.nets (job.recipe.side * job.recipe.side) g.0 h.1.made.room)
+  trial-agrees files a b (inr (inr h)) (inr (inl g)) = absurd (not-large b a g h)
+  trial-agrees files a b (inr (inr h)) (inr (inr g)) =
+      search-agrees (sweep_search (sweep_of job)) h.0 a b h.2
+      (subst (λ (p : RoutingProblem). IsTrueOfSearch (sweep_search (sweep_of job)) p b)
+      (one-made job.recipe g.0 h.0 g.1.made h.1.made) g.2)
+
 job-agrees : (job : JobAsked) (files : FileMap) (a b : Outcome) → IsTrueOfJob job (Some files) a →
     IsTrueOfJob job (Some files) b → Agrees a b
 job-agrees (Routes job) files a b h g =
@@ -146,6 +197,9 @@ job-agrees (Encodes job) files a b h g =
     work-agrees files job.files (λ p said. IsTrueOfClauses job.width p (said ≡ Done) said) a b h g
     (λ p u v. clauses-agree job.width p (λ said. said ≡ Done) a b u v (λ s t. inl (s ∙ sym t)))
 job-agrees (Checks job) files a b h g = inl (check-agrees job files a b h g)
+job-agrees (Generates job) files a b h g =
+    recipe-agrees job.recipe (λ said. said ≡ Done) a b h g (λ s t. inl (s ∙ sym t))
+job-agrees (Tries job) files a b h g = trial-agrees job (Some files) a b h g
 
 pub outcomes-agree : (words : List Word) (files : FileMap) (a b : Outcome) →
     IsTrueOf words (Some files) a → IsTrueOf words (Some files) b → Agrees a b

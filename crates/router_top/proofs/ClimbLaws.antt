@@ -21,9 +21,10 @@ use Rattle.route_sweep.specs.declared.found.Found.TheVariants.{Routed as IsRoute
 use Rattle.route_sweep.specs.declared.found.Stop.{Stop}
 use Rattle.sat_clause.specs.Formula.{Cnf}
 use Rattle.sat_clause.specs.Step.{Step}
-use Rattle.router_top.specs.Headline.{IsRefutedAt, proof_files}
+use Rattle.router_top.specs.Comes.{IsRefutedAt}
 use Rattle.router_top.specs.Outcomes.{climbed_outcome, found_outcome}
 use Rattle.router_top.specs.Search.{Search}
+use Rattle.router_top.specs.SearchFiles.{proof_files}
 use Rattle.router_top.specs.Written.{NamedText, with_files}
 use Rattle.router_top.specs.declared.outcome.Outcome.TheVariants.{Unroutable}
 use Rattle.router_top.proofs.UnroutableLaws.{none-legal}

@@ -1,10 +1,10 @@
 -- Where no fault has risen, what a run leaves is true, or memory ran out.
-use Rattle.std.proofs.Common.{◌≡◌, ◌∙◌, ◌⊎◌, ℕ, ◌<◌, ◌≤◌, List, length, Option, Ok, Err, Result, refl, sym, ap, subst, inl, inr, arith}
+use Rattle.std.proofs.Common.{◌≡◌, ◌∙◌, ◌⊎◌, ℕ, ◌<◌, ◌≤◌, List, [], ◌∷◌, length, Option, Ok, Err, Result, refl, sym, ap, subst, inl, inr, arith}
 use Rattle.std.specs.Prelude.{MatchResult, Some}
 use Rattle.desk_io.specs.DeskState.{DeskState}
 use Rattle.desk_io.specs.Files.{Bytes, FileMap, HasRisen}
 use Rattle.desk_io.specs.ShelfState.{ShelfState, after_say}
-use Rattle.desk_io.specs.WholeFile.{FailsToWrite}
+use Rattle.desk_io.specs.WholeFile.{FailsToWrite, after_writing}
 use Rattle.desk_io.proofs.FileLemmas.{has_risen}
 use Rattle.fpga_types.specs.Fits.{Fits}
 use Rattle.fpga_types.specs.Legal.{tracks_of}
@@ -28,23 +28,29 @@ use Rattle.route_sweep.specs.declared.found.Stop.{Stop}
 use Rattle.route_sweep.specs.declared.found.Stop.TheVariants.{Fault, TooManyClauses, Memory}
 use Rattle.router_words.specs.Command.{job_of}
 use Rattle.router_words.specs.Refusal.{code_of}
-use Rattle.router_words.specs.Job.{CheckAsked, Checks, EncodeAsked, Encodes as EncodesJob, FilesAsked, JobAsked, RouteAsked, Routes, SweepAsked, Sweeps as SweepsJob}
+use Rattle.router_words.specs.Job.{CheckAsked, Checks, EncodeAsked, Encodes as EncodesJob, FilesAsked, Generates, JobAsked, RecipeAsked, RouteAsked, Routes, SweepAsked, Sweeps as SweepsJob, TrialAsked, Tries as TriesJob}
 use Rattle.router_words.specs.Word.{Word}
 use Rattle.router_words.specs.declared.fault.Refusal.{Refusal}
 use Rattle.router_top.specs.Check.{ChecksTo, cnf_source, judgement_outcome, lrat_source}
+use Rattle.router_top.specs.Files.{FailsAmong, WritesFiles, problem_slots}
+use Rattle.router_top.specs.Generated.{generated_files}
 use Rattle.router_top.specs.Outcomes.{climbed_outcome, found_outcome, written_outcome}
 use Rattle.router_top.specs.Report.{line_of}
-use Rattle.router_top.specs.Run.{Leaves, LeavesJob, LeavesWork, Runs, Scene}
-use Rattle.router_top.specs.Search.{Search, route_search, sweep_search}
+use Rattle.router_top.specs.Run.{Leaves, LeavesJob, LeavesMade, LeavesWork, Runs, Scene, TriesGenerated}
+use Rattle.router_top.specs.Search.{Search, route_search, sweep_of, sweep_search}
 use Rattle.router_top.specs.Sources.{IsHalted, IsStopped, ReadsThen}
-use Rattle.router_top.specs.Truth.{Agrees, IsComplete, IsReached, IsTrueOf, IsTrueOfClauses, IsTrueOfJob, IsTrueOfSearch, IsTrueOfWork}
+use Rattle.router_top.specs.Trial.{Tries, trial_line}
+use Rattle.router_top.specs.Truth.{Agrees, IsComplete, IsReached, IsTrueOf, IsTrueOfClauses, IsTrueOfJob, IsTrueOfRecipe, IsTrueOfSearch, IsTrueOfWork}
 use Rattle.router_top.specs.Work.{Encodes, Searches, Sweeps, WritesClauses}
 use Rattle.router_top.specs.declared.outcome.Outcome.{Outcome}
 use Rattle.router_top.specs.declared.outcome.Outcome.TheVariants.{Routed, Unroutable, Undecided, Done, Limit, Usage, WriteFault, OutOfMemory}
+use Rattle.router_top.specs.Written.{NamedText}
+use Rattle.router_top.specs.declared.slot.Slot.{Slot}
 use Rattle.router_top.specs.declared.slot.Slot.TheVariants.{File}
 use Rattle.router_top.proofs.AgreeLaws.{outcomes-agree}
 use Rattle.router_top.proofs.ClimbLaws.{EndsAt, climb-ends, climbed-calm, climbed-unroutable}
 use Rattle.router_top.proofs.FourLaws.{calm-lack}
+use Rattle.router_top.proofs.GeneratedLaws.{faults-after, made-fits}
 use Rattle.router_top.proofs.SourceLaws.{calm-reads}
 use Rattle.router_top.proofs.UnroutableLaws.{none-legal}
 
@@ -204,6 +210,76 @@ module _ (job : EncodeAsked) (p : RoutingProblem) (before now : ShelfState) wher
   encode-settles o h =
       subst (Settles before now SaysClauses) (sym h.is) (written-settles h.came h.writes)
 
+-- ---- a generated problem
+
+among-risen : (slots : List Slot) (files : List NamedText) (before now : ShelfState) (slot : Slot)
+    → FailsAmong slots files before now slot → HasRisen before.faults now.faults
+among-risen [] files before now slot h = absurd h
+among-risen (at ∷ slots) [] before now slot h = absurd h
+among-risen (at ∷ slots) (file ∷ files) before now slot (inl h) =
+    write-risen before file.name file.text now h.1
+among-risen (at ∷ slots) (file ∷ files) before now slot (inr h) =
+    among-risen slots files (after_writing before file.name file.text) now slot h
+
+files-settle : (slots : List Slot) (files : List NamedText) (before now : ShelfState)
+    (o : Outcome) → WritesFiles slots files before now o
+    → Settles before now (λ said. said ≡ Done) o
+files-settle slots files before now o (inl h) =
+    by-word before now (λ said. said ≡ Done) o
+    (omega (arith, ap (λ (s : ShelfState). s.faults) h.1, faults-after files before)) h.0
+files-settle slots files before now o (inr h) =
+    by-fault before now (λ said. said ≡ Done) o (among-risen slots files before now h.0 h.1)
+
+-- where no problem is made the outcome says why, and else the rest settles it
+made-settles : (recipe : RecipeAsked) (left : Type 0) (says : Outcome → Type 0)
+    (before now : ShelfState) (o : Outcome) → (left → Settles before now says o)
+    → LeavesMade recipe left before now o
+    → Settles before now (λ said. IsTrueOfRecipe recipe (says said) said) o
+made-settles recipe left says before now o settles (inl (inl many, same)) =
+    by-word before now (λ said. IsTrueOfRecipe recipe (says said) said) o
+    (faults-same before now same) (inl many)
+made-settles recipe left says before now o settles (inl (inr spent, same)) =
+    by-memory before now (λ said. IsTrueOfRecipe recipe (says said) said) o same spent
+made-settles recipe left says before now o settles (inr (room, h)) =
+    let rest = settles h in
+    record {
+      kept = rest.kept;
+      settled = λ quiet. elim (rest.settled quiet) [
+        | inl told ↦ inl (inr (room, told))
+        | inr spent ↦ inr spent
+      ];
+    }
+
+trial-settles : (job : TrialAsked) (p : RoutingProblem) (before now : ShelfState) (o : Outcome)
+    → Fits p → Tries job p before now o
+    → Settles before now (IsTrueOfSearch (sweep_search (sweep_of job)) p) o
+trial-settles job p before now o fits (inl h) =
+    settles-before before (after_say before (trial_line p)) now
+    (IsTrueOfSearch (sweep_search (sweep_of job)) p) o refl
+    (sweep-settles (sweep_of job) p fits (after_say before (trial_line p)) now o h)
+trial-settles job p before now o fits (inr h) =
+    by-fault before now (IsTrueOfSearch (sweep_search (sweep_of job)) p) o
+    (has_risen _ _ h.0.failed.risen)
+
+tries-settle : (job : TrialAsked) (files : Option FileMap) (before now : ShelfState) (o : Outcome)
+    → TriesGenerated job before now o → Settles before now (IsTrueOfJob (TriesJob job) files) o
+tries-settle job files before now o (inl (inl (inl many), same)) =
+    by-word before now (IsTrueOfJob (TriesJob job) files) o (faults-same before now same) (inl many)
+tries-settle job files before now o (inl (inl (inr spent), same)) =
+    by-memory before now (IsTrueOfJob (TriesJob job) files) o same spent
+tries-settle job files before now o (inl (inr large, same)) =
+    by-word before now (IsTrueOfJob (TriesJob job) files) o (faults-same before now same)
+    (inr (inl large))
+tries-settle job files before now o (inr h) =
+    let rest = trial-settles job h.0 before now o (made-fits job.recipe h.0 h.1) h.2 in
+    record {
+      kept = rest.kept;
+      settled = λ quiet. elim (rest.settled quiet) [
+        | inl told ↦ inl (inr (inr (h.0, h.1, told)))
+        | inr spent ↦ inr spent
+      ];
+    }
+
 -- ---- a whole job
 
 module _ (at : Scene) (calm : ¬ HasRisen at.desk.faults at.desk_now.faults) where
@@ -231,17 +307,24 @@ module _ (at : Scene) (calm : ¬ HasRisen at.desk.faults at.desk_now.faults) whe
         ];
       }
 
+module _ (at : Scene) (calm : ¬ HasRisen at.desk.faults at.desk_now.faults) where
   job-settles : (job : JobAsked) (o : Outcome) → LeavesJob job at o →
       Settles at.shelf at.shelf_now (IsTrueOfJob job at.desk.files) o
   job-settles (Routes job) o h =
-      work-settles job.files (Searches job) (IsTrueOfSearch (route_search job)) o
+      work-settles at calm job.files (Searches job) (IsTrueOfSearch (route_search job)) o
       (λ p fits. search-settles job p fits at.shelf at.shelf_now o) h
   job-settles (SweepsJob job) o h =
-      work-settles job.files (Sweeps job) (IsTrueOfSearch (sweep_search job)) o
+      work-settles at calm job.files (Sweeps job) (IsTrueOfSearch (sweep_search job)) o
       (λ p fits. sweep-settles job p fits at.shelf at.shelf_now o) h
-  job-settles (EncodesJob job) o h = work-settles job.files (Encodes job)
+  job-settles (EncodesJob job) o h = work-settles at calm job.files (Encodes job)
       (λ p said. IsTrueOfClauses job.width p (said ≡ Done) said) o
       (λ p fits. encode-settles job p at.shelf at.shelf_now o) h
+  job-settles (Generates job) o h =
+      made-settles job.recipe (WritesFiles problem_slots (generated_files job.recipe job.prefix)
+      at.shelf at.shelf_now o) (λ said. said ≡ Done) at.shelf at.shelf_now o
+      (files-settle problem_slots (generated_files job.recipe job.prefix) at.shelf at.shelf_now o)
+      h.0
+  job-settles (TriesJob job) o h = tries-settle job at.desk.files at.shelf at.shelf_now o h.0
   job-settles (Checks job) o h = record {
     kept = faults-same at.shelf at.shelf_now h.1;
     settled = λ quiet. calm-check job o h.0;

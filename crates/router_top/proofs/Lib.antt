@@ -2,8 +2,11 @@ mod AgreeLaws
 mod ClimbLaws
 mod CompleteLaws
 mod FourLaws
+mod GeneratedLaws
 mod MeansLaws
 mod NameLaws
+mod SlotCountLaws
 mod SourceLaws
+mod TrackLaws
 mod UnroutableLaws
 mod WrittenLaws

@@ -1,10 +1,10 @@
 -- What the answer of a run means.
 use Rattle.std.proofs.Common.{◌≡◌, ◌∙◌, ℕ, ◌+◌, ◌-◌, ◌≤◌, List, [], ◌∷◌, ◌++◌, length, Option, Ok, Err, Result, refl, sym, ap, subst, inl, inr, arith}
-use Rattle.std.specs.Prelude.{MatchResult, flat_map}
+use Rattle.std.specs.Prelude.{MatchResult, Some, flat_map}
 use Rattle.std.specs.List.{range_with_len}
 use Rattle.desk_io.specs.DeskState.{DeskState}
 use Rattle.desk_io.specs.Files.{Bytes, FileMap}
-use Rattle.desk_io.specs.ShelfState.{ShelfState}
+use Rattle.desk_io.specs.ShelfState.{ShelfState, after_say}
 use Rattle.fpga_route.specs.ReadBack.{ReadsBack, ReadsBackWithTracks}
 use Rattle.fpga_arch.specs.Value.{arch_value}
 use Rattle.fpga_net.specs.Value.{net_value}
@@ -32,17 +32,22 @@ use Rattle.sat_text.specs.CnfText.{cnf_said}
 use Rattle.sat_text.specs.LratText.{lrat_said}
 use Rattle.router_words.specs.Command.{job_of}
 use Rattle.router_words.specs.Refusal.{code_of}
-use Rattle.router_words.specs.Job.{CheckAsked, Checks, EncodeAsked, Encodes as EncodesJob, FilesAsked, JobAsked, RouteAsked, Routes, SweepAsked, Sweeps as SweepsJob}
+use Rattle.router_words.specs.Job.{CheckAsked, Checks, EncodeAsked, Encodes as EncodesJob, FilesAsked, GenAsked, Generates, JobAsked, RecipeAsked, RouteAsked, Routes, SweepAsked, Sweeps as SweepsJob, TrialAsked, Tries as TriesJob}
 use Rattle.router_words.specs.Word.{Word}
 use Rattle.router_words.specs.declared.fault.Refusal.{Refusal}
 use Rattle.router_top.specs.Check.{cnf_source, judgement_outcome, lrat_source}
 use Rattle.router_top.specs.FourFiles.{GivesNone, IsUnfit, Poses, arch_source, net_source, place_source, route_source}
-use Rattle.router_top.specs.Headline.{ComesTo, Means, lower_files, proof_files, route_file}
+use Rattle.router_top.specs.Comes.{ComesTo, lower_files}
+use Rattle.router_top.specs.Files.{WritesFiles, problem_slots}
+use Rattle.router_top.specs.Generated.{HasRoom, generated_desk, generated_files, generated_names, texts_of}
+use Rattle.router_top.specs.Means.{Means}
 use Rattle.router_top.specs.Outcomes.{climbed_outcome, found_outcome, stop_outcome, written_outcome}
 use Rattle.router_top.specs.Report.{unsaid}
-use Rattle.router_top.specs.Run.{Leaves, LeavesJob, LeavesWork, Runs, Scene}
-use Rattle.router_top.specs.Search.{route_search, sweep_search}
+use Rattle.router_top.specs.Run.{Leaves, LeavesJob, LeavesMade, LeavesWork, Runs, Scene, TriesGenerated}
+use Rattle.router_top.specs.Search.{files_of, route_search, search_asked, sweep_of, sweep_search}
+use Rattle.router_top.specs.SearchFiles.{proof_files, route_file}
 use Rattle.router_top.specs.Sources.{IsStopped, ReadsThen, Says, Source, fault_outcome}
+use Rattle.router_top.specs.Trial.{Tries, trial_line}
 use Rattle.router_top.specs.Work.{Encodes, Searches, Sweeps, WritesClauses}
 use Rattle.router_top.specs.Written.{AreWritten, NamedText, with_files}
 use Rattle.router_top.specs.declared.outcome.Outcome.{Outcome}
@@ -51,6 +56,7 @@ use Rattle.router_top.specs.declared.text_file.TextFile.{TextFile}
 use Rattle.router_top.specs.declared.text_file.TextFile.TheVariants.{Route}
 use Rattle.router_top.proofs.ClimbLaws.{EndsAt, climb-ends, climbed-logs}
 use Rattle.router_top.proofs.FourLaws.{AfterArch, AfterNetlist, AfterPlacement}
+use Rattle.router_top.proofs.GeneratedLaws.{files-after, made-poses, problem-apart}
 use Rattle.router_top.proofs.NameLaws.{proof-apart, proofs-then-proof, proofs-then-route, route-apart}
 use Rattle.router_top.proofs.UnroutableLaws.{none-legal}
 use Rattle.router_top.proofs.WrittenLaws.{AreApart, are-written, with_files-append}
@@ -74,7 +80,8 @@ module _ (words : List Word) (desk before : Option FileMap) where
   fault-means now file (PastLimit code count) = tt
   fault-means now file NoMemory = tt
 
-  stop-means : (now : Option FileMap) (stop : Stop) → Means words desk before now (stop_outcome stop)
+  stop-means : (now : Option FileMap) (stop : Stop)
+      → Means words desk before now (stop_outcome stop)
   stop-means now (Fault slot) = tt
   stop-means now (TooManyClauses count) = tt
   stop-means now Memory = tt
@@ -209,7 +216,8 @@ module _ (words : List Word) (at : Scene) where
     alone more = subst (λ (fs : List NamedText). AreApart (fs ++ more)) (sym none-lower)
 
     route-means : (o : Outcome) → Searches job p at.shelf at.shelf_now o → MeansHere o
-    route-means o did = subst MeansHere (sym did.is) (found-means job.width comes-alone narrow at.shelf
+    route-means o did = subst MeansHere (sym did.is)
+        (found-means job.width comes-alone narrow at.shelf
         (sym (ap (λ (fs : List NamedText). with_files fs at.shelf.files) none-lower))
         (λ found. alone (route_file (route_search job) found ∷ [])
         (route-apart (route_search job) p found))
@@ -217,53 +225,56 @@ module _ (words : List Word) (at : Scene) where
         (proof-apart (route_search job) p job.width log))
         did.came did.finds (λ same. refl))
 
-  -- a climb through the widths
-  module _ (job : SweepAsked) (p : RoutingProblem) (asked : job_of words ≡ Ok (SweepsJob job))
-      (poses : Poses at.desk.files job.files p) (narrow : job.most ≤ WIDTH_LIMIT) where
-    ends-mean : (came : Result Climbed Stop)
-        → EndsAt (sweep_search job).ask job.most (λ width. cnf_of width p)
-        (λ width. IsRoutingOf width p) at.shelf at.shelf_now came
-        → MeansHere (climbed_outcome came)
-    ends-mean came end =
-        let search = sweep_search job in
-        let below = end.comes.below in
-        let lower = climbed-logs search p poses.fits below at.shelf end.comes.between
-        end.comes.refuted in
-        let low : end.width ≤ 64 = omega (arith, end.comes.next, end.comes.within, narrow) in
-        let count : below ≡ end.width - 1 = omega (arith, end.comes.next) in
-        let few : 1 + (end.width - 1) ≤ end.width = omega (arith, end.comes.next) in
-        let comes : ComesTo words at.desk.files end.width = record {
-          job = SweepsJob job;
-          asked = asked;
-          search = search;
-          searches = refl;
-          p = p;
-          poses = poses;
-          from = omega (arith, end.comes.next);
-          to = omega (arith, end.comes.next, end.comes.within);
-          logs = lower.logs;
-          lower = λ k from high. lower.refuted k from (omega (arith, high, end.comes.next));
-        } in
-        subst MeansHere (sym end.is) (found-means end.width comes low end.comes.between
-        (lower.files ∙ ap (λ (n : ℕ). with_files
-        (flat_map (λ k. proof_files search p k (lower.logs k)) (range_with_len 1 n))
-        at.shelf.files) count)
-        (λ found. proofs-then-route search p refl lower.logs 1 (end.width - 1) found
-        (omega (arith, few, low)))
-        (λ log. proofs-then-proof search p refl lower.logs 1 (end.width - 1) end.width log few low)
-        end.found end.comes.then end.last)
+  -- a climb through the widths, which a sweep or a trial asks for
+  module _ (which : JobAsked) (job : SweepAsked) (p : RoutingProblem)
+      (asked : job_of words ≡ Ok which) (searches : search_asked which ≡ Some (sweep_search job))
+      (poses : Poses (files_of which at.desk.files) job.files p) (narrow : job.most ≤ WIDTH_LIMIT)
+    where
+      ends-mean : (came : Result Climbed Stop)
+          → EndsAt (sweep_search job).ask job.most (λ width. cnf_of width p)
+          (λ width. IsRoutingOf width p) at.shelf at.shelf_now came
+          → MeansHere (climbed_outcome came)
+      ends-mean came end =
+          let search = sweep_search job in
+          let below = end.comes.below in
+          let lower = climbed-logs search p poses.fits below at.shelf end.comes.between
+          end.comes.refuted in
+          let low : end.width ≤ 64 = omega (arith, end.comes.next, end.comes.within, narrow) in
+          let count : below ≡ end.width - 1 = omega (arith, end.comes.next) in
+          let few : 1 + (end.width - 1) ≤ end.width = omega (arith, end.comes.next) in
+          let comes : ComesTo words at.desk.files end.width = record {
+            job = which;
+            asked = asked;
+            search = search;
+            searches = searches;
+            p = p;
+            poses = poses;
+            from = omega (arith, end.comes.next);
+            to = omega (arith, end.comes.next, end.comes.within);
+            logs = lower.logs;
+            lower = λ k from high. lower.refuted k from (omega (arith, high, end.comes.next));
+          } in
+          subst MeansHere (sym end.is) (found-means end.width comes low end.comes.between
+          (lower.files ∙ ap (λ (n : ℕ). with_files
+          (flat_map (λ k. proof_files search p k (lower.logs k)) (range_with_len 1 n))
+          at.shelf.files) count)
+          (λ found. proofs-then-route search p refl lower.logs 1 (end.width - 1) found
+          (omega (arith, few, low)))
+          (λ log.
+          proofs-then-proof search p refl lower.logs 1 (end.width - 1) end.width log few low)
+          end.found end.comes.then end.last)
 
-    sweep-means : (o : Outcome) → Sweeps job p at.shelf at.shelf_now o → MeansHere o
-    sweep-means o did = subst MeansHere (sym did.is) (ends-mean did.came
-        (climb-ends (sweep_search job).ask job.most (λ width. cnf_of width p)
-        (λ width. IsRoutingOf width p) at.shelf at.shelf_now did.some did.came did.climbs))
+      sweep-means : (o : Outcome) → Sweeps job p at.shelf at.shelf_now o → MeansHere o
+      sweep-means o did = subst MeansHere (sym did.is) (ends-mean did.came
+          (climb-ends (sweep_search job).ask job.most (λ width. cnf_of width p)
+          (λ width. IsRoutingOf width p) at.shelf at.shelf_now did.some did.came did.climbs))
 
   module _ (job : EncodeAsked) (p : RoutingProblem) (asked : job_of words ≡ Ok (EncodesJob job))
       (poses : Poses at.desk.files job.files p) where
     written-means : (came : Result (Unit {0}) Stop)
         → WritesClauses job (cnf_of job.width p) at.shelf at.shelf_now came
         → MeansHere (written_outcome came)
-    written-means (Ok written) h = record {
+    written-means (Ok written) h = inl (record {
       job = job;
       p = p;
       asked = asked;
@@ -271,7 +282,7 @@ module _ (words : List Word) (at : Scene) where
       few = h.0;
       reads_back = h.1;
       written = are-written _ at.shelf.files at.shelf_now.files (files-are _ h.2) (tt, tt);
-    }
+    })
     written-means (Err stop) h =
         stop-means words at.desk.files at.shelf.files at.shelf_now.files stop
 
@@ -293,22 +304,73 @@ module _ (words : List Word) (at : Scene) where
       }
       judged-means (IsRefused step cause) refused = tt
 
-  work-means : (names : FilesAsked)
-      (works : RoutingProblem → ShelfState → ShelfState → Outcome → Type 0) (o : Outcome)
-      → ((p : RoutingProblem) → Poses at.desk.files names p → works p at.shelf at.shelf_now o
-      → MeansHere o) → LeavesWork names works at o → MeansHere o
-  work-means names works o means (inl h) = none-means words at.desk.files at.shelf.files at.desk
-      at.desk_now at.shelf_now.files at.desk.files names o h.0
-  work-means names works o means (inr h) = means h.0 h.1 h.2
+  -- the files of a generated problem
+  module _ (job : GenAsked) (asked : job_of words ≡ Ok (Generates job)) (room : HasRoom job.recipe)
+    where
+      abbrev files : List NamedText
+      files = generated_files job.recipe job.prefix
 
-  job-means : (job : JobAsked) (o : Outcome) → job_of words ≡ Ok job → LeavesJob job at o → MeansHere o
-  job-means (Routes job) o asked h = work-means job.files (Searches job) o
-      (λ p poses did. route-means job p asked poses did.narrow o did) h
-  job-means (SweepsJob job) o asked h = work-means job.files (Sweeps job) o
-      (λ p poses did. sweep-means job p asked poses did.narrow o did) h
-  job-means (EncodesJob job) o asked h = work-means job.files (Encodes job) o
-      (λ p poses did. subst MeansHere (sym did.is)
-      (written-means job p asked poses did.came did.writes)) h
+      files-mean : (o : Outcome) → WritesFiles problem_slots files at.shelf at.shelf_now o
+          → MeansHere o
+      files-mean o (inl h) = subst MeansHere (sym h.0) (inr (record {
+        job = job;
+        asked = asked;
+        room = room;
+        written = are-written files at.shelf.files at.shelf_now.files
+            (files-are _ h.1 ∙ files-after files at.shelf)
+            (problem-apart job.prefix (texts_of job.recipe));
+      }))
+      files-mean o (inr h) = subst MeansHere (sym h.2) tt
+
+  made-means : (recipe : RecipeAsked) (left : Type 0) (o : Outcome)
+      → (HasRoom recipe → left → MeansHere o)
+      → LeavesMade recipe left at.shelf at.shelf_now o → MeansHere o
+  made-means recipe left o means (inl (inl many, same)) = subst MeansHere (sym many.1) tt
+  made-means recipe left o means (inl (inr spent, same)) = subst MeansHere (sym spent) tt
+  made-means recipe left o means (inr (room, h)) = means room h
+
+  -- the work on a problem whose files stand on this desk
+  work-means : (desk desk_now : DeskState) (names : FilesAsked)
+      (works : RoutingProblem → ShelfState → ShelfState → Outcome → Type 0) (o : Outcome)
+      → ((p : RoutingProblem) → Poses desk.files names p → works p at.shelf at.shelf_now o
+      → MeansHere o)
+      → LeavesWork names works (record at { desk = desk; desk_now = desk_now }) o → MeansHere o
+  work-means desk desk_now names works o means (inl h) = none-means words at.desk.files
+      at.shelf.files desk desk_now at.shelf_now.files desk.files names o h.0
+  work-means desk desk_now names works o means (inr h) = means h.0 h.1 h.2
+
+-- the trial of a generated problem
+module _ (words : List Word) (at : Scene) (job : TrialAsked)
+    (asked : job_of words ≡ Ok (TriesJob job)) where
+  tries-mean : (p : RoutingProblem)
+      → Poses (generated_desk job.recipe job.prefix).files (generated_names job.prefix) p
+      → (o : Outcome) → Tries job p at.shelf at.shelf_now o → MeansHere words at o
+  tries-mean p poses o (inl h) =
+      sweep-means words (record at { shelf = after_say at.shelf (trial_line p) }) (TriesJob job)
+      (sweep_of job) p asked refl poses h.narrow o h
+  tries-mean p poses o (inr h) = subst (MeansHere words at) (sym h.1) tt
+
+  trial-means : (o : Outcome) → TriesGenerated job at.shelf at.shelf_now o → MeansHere words at o
+  trial-means o (inl (inl (inl many), same)) = subst (MeansHere words at) (sym many.1) tt
+  trial-means o (inl (inl (inr spent), same)) = subst (MeansHere words at) (sym spent) tt
+  trial-means o (inl (inr large, same)) = subst (MeansHere words at) (sym large.3) tt
+  trial-means o (inr h) =
+      tries-mean h.0 (made-poses job.recipe job.prefix h.0 h.1) o h.2
+
+module _ (words : List Word) (at : Scene) where
+  job-means : (job : JobAsked) (o : Outcome) → job_of words ≡ Ok job → LeavesJob job at o
+      → MeansHere words at o
+  job-means (Routes job) o asked h =
+      work-means words at at.desk at.desk_now job.files (Searches job) o
+      (λ p poses did. route-means words at job p asked poses did.narrow o did) h
+  job-means (SweepsJob job) o asked h =
+      work-means words at at.desk at.desk_now job.files (Sweeps job) o
+      (λ p poses did.
+      sweep-means words at (SweepsJob job) job p asked refl poses did.narrow o did) h
+  job-means (EncodesJob job) o asked h =
+      work-means words at at.desk at.desk_now job.files (Encodes job) o
+      (λ p poses did. subst (MeansHere words at) (sym did.is)
+      (written-means words at job p asked poses did.came did.writes)) h
   job-means (Checks job) o asked h =
       reads-mean words at.desk.files at.shelf.files at.desk at.desk_now at.shelf_now.files
       at.desk.files (cnf_source job.cnf) cnf_said
@@ -319,18 +381,22 @@ module _ (words : List Word) (at : Scene) where
       reads-mean words at.desk.files at.shelf.files at.desk at.desk_now at.shelf_now.files
       at.desk.files (lrat_source job.lrat (length cnf.clauses)) lrat_said
       (λ log outcome. outcome ≡ judgement_outcome (judge cnf log)) o
-      (λ log reads_lrat is. subst MeansHere (sym is)
-      (judged-means job asked cnf log reads_cnf reads_lrat (judge cnf log) refl))) h.0
+      (λ log reads_lrat is. subst (MeansHere words at) (sym is)
+      (judged-means words at job asked cnf log reads_cnf reads_lrat (judge cnf log) refl))) h.0
+  job-means (Generates job) o asked h = made-means words at job.recipe
+      (WritesFiles problem_slots (generated_files job.recipe job.prefix) at.shelf at.shelf_now o) o
+      (λ room. files-mean words at job asked room o) h.0
+  job-means (TriesJob job) o asked h = trial-means words at job asked o h.0
 
-  left-means : (o : Outcome) → Leaves words at o → MeansHere o
-  left-means o (inl h) = subst MeansHere (sym h.0) tt
+  left-means : (o : Outcome) → Leaves words at o → MeansHere words at o
+  left-means o (inl h) = subst (MeansHere words at) (sym h.0) tt
   left-means o (inr h) = go (job_of words) refl h
     where
       go : (asked : Result JobAsked Refusal) → job_of words ≡ asked
           → MatchResult asked (λ job. LeavesJob job at o)
-          (λ cause. (o ≡ Usage (code_of cause)) × (at.shelf_now ≡ at.shelf)) → MeansHere o
+          (λ cause. (o ≡ Usage (code_of cause)) × (at.shelf_now ≡ at.shelf)) → MeansHere words at o
       go (Ok job) asked h = job-means job o asked h
-      go (Err cause) asked h = subst MeansHere (sym h.0) tt
+      go (Err cause) asked h = subst (MeansHere words at) (sym h.0) tt
 
 pub runs-mean : (words : List Word) (desk desk_now : DeskState) (shelf now : ShelfState)
     (answer : Outcome) → Runs words desk desk_now shelf now answer

@@ -12,8 +12,8 @@ use Rattle.list_laws.proofs.Places.{some_is}
 use Rattle.route_sweep.specs.Asked.{Asked}
 use Rattle.route_sweep.specs.Names.{cnf_name, lrat_name, numbered_prefix, proof_prefix, route_name}
 use Rattle.sat_clause.specs.Step.{Step}
-use Rattle.router_top.specs.Headline.{proof_files, route_file}
 use Rattle.router_top.specs.Search.{Search}
+use Rattle.router_top.specs.SearchFiles.{proof_files, route_file}
 use Rattle.router_top.specs.Written.{NamedText}
 use Rattle.router_top.proofs.WrittenLaws.{AreApart, NoneHas}
 

@@ -56,13 +56,25 @@ stays-behind (file ∷ more) files name text none h =
     stays-behind more (with_file file files) name text none.1
     (stays file files name text none.0 h)
 
-all-stand : (written : List NamedText) (files : Option FileMap) → AreApart written →
-    All (λ file. HasBytes (with_files written files) file.name file.text) written
-all-stand [] files apart = All-nil (λ file. HasBytes files file.name file.text)
-all-stand (file ∷ more) files apart =
-    All-cons (λ one. HasBytes (with_files more (with_file file files)) one.name one.text) file more
-    (stays-behind more (with_file file files) file.name file.text apart.0 (there file files))
-    (all-stand more (with_file file files) apart.1)
+-- each of these files stands with its text
+abbrev pub Stand : Option FileMap → List NamedText → Type 0
+Stand files [] = ⊤
+Stand files (file ∷ more) = HasBytes files file.name file.text × Stand files more
+
+pub written-stand : (written : List NamedText) (files : Option FileMap) → AreApart written →
+    Stand (with_files written files) written
+written-stand [] files apart = tt
+written-stand (file ∷ more) files apart = (
+  stays-behind more (with_file file files) file.name file.text apart.0 (there file files),
+  written-stand more (with_file file files) apart.1,
+)
+
+all-stand : (written : List NamedText) (files : Option FileMap) → Stand files written →
+    All (λ file. HasBytes files file.name file.text) written
+all-stand [] files each = All-nil (λ file. HasBytes files file.name file.text)
+all-stand (file ∷ more) files each =
+    All-cons (λ one. HasBytes files one.name one.text) file more each.0
+    (all-stand more files each.1)
 
 -- files whose names differ were written
 pub are-written : (written : List NamedText) (before now : Option FileMap) →
@@ -71,7 +83,7 @@ are-written written before now only apart = record {
   only = only;
   stand = subst (λ (files : Option FileMap).
       All (λ file. HasBytes files file.name file.text) written) (sym only)
-      (all-stand written before apart);
+      (all-stand written (with_files written before) (written-stand written before apart));
 }
 
 -- files behind others
@@ -79,3 +91,9 @@ pub with_files-append : (xs ys : List NamedText) (files : Option FileMap) →
     with_files (xs ++ ys) files ≡ with_files ys (with_files xs files)
 with_files-append [] ys files = refl
 with_files-append (x ∷ xs) ys files = with_files-append xs ys (with_file x files)
+
+-- where files are told, they are told behind these
+pub told-behind : (written : List NamedText) (old : FileMap) →
+    (new : FileMap) × (with_files written (Some old) ≡ Some new)
+told-behind [] old = (old, refl)
+told-behind (file ∷ more) old = told-behind more (insert old file.name file.text)

@@ -5,12 +5,15 @@ use Rattle.desk_io.specs.ShelfState.{FailsToSay, ShelfState, after_say}
 use Rattle.fpga_types.specs.Problem.{RoutingProblem}
 use Rattle.router_words.specs.Command.{job_of}
 use Rattle.router_words.specs.Refusal.{code_of}
-use Rattle.router_words.specs.Job.{Checks, Encodes as EncodesJob, FilesAsked, JobAsked, Routes, Sweeps as SweepsJob}
+use Rattle.router_words.specs.Job.{Checks, Encodes as EncodesJob, FilesAsked, GenAsked, Generates, JobAsked, RecipeAsked, Routes, Sweeps as SweepsJob, TrialAsked, Tries as TriesJob}
 use Rattle.router_words.specs.Word.{Word}
 use Rattle.router_top.specs.Check.{ChecksTo}
+use Rattle.router_top.specs.Files.{WritesFiles, problem_slots}
 use Rattle.router_top.specs.FourFiles.{GivesNone, Poses}
+use Rattle.router_top.specs.Generated.{HasRoom, Makes, MakesNone, PosesNone, generated_files}
 use Rattle.router_top.specs.Report.{IsReadFault, line_of, unsaid}
 use Rattle.router_top.specs.Sources.{IsStopped}
+use Rattle.router_top.specs.Trial.{Tries}
 use Rattle.router_top.specs.Work.{Encodes, Searches, Sweeps}
 use Rattle.router_top.specs.declared.outcome.Outcome.{Outcome}
 use Rattle.router_top.specs.declared.outcome.Outcome.TheVariants.{Usage, OutOfMemory}
@@ -32,7 +35,26 @@ LeavesWork names works at outcome =
     ⊎ ((p : RoutingProblem) × Poses at.desk.files names p
     × works p at.shelf at.shelf_now outcome)
 
--- what each job leaves before its outcome is reported; a check writes nothing
+-- nothing was written, since no problem was made; or one was, and this is left
+abbrev pub LeavesMade : RecipeAsked → (left : Type 0) → (before now : ShelfState) → Outcome → Type 0
+LeavesMade recipe left before now outcome =
+    (MakesNone recipe outcome × (now ≡ before)) ⊎ (HasRoom recipe × left)
+
+-- the making of a problem, and the writing of its files
+abbrev pub WritesGenerated : GenAsked → (before now : ShelfState) → Outcome → Type 0
+WritesGenerated job before now outcome = LeavesMade job.recipe
+    (WritesFiles problem_slots (generated_files job.recipe job.prefix) before now outcome)
+    before now outcome
+
+-- nothing was written, since no problem was made, or one that is too large; or a problem was made
+-- that is not, and this is what the trial of it leaves
+abbrev pub TriesGenerated : TrialAsked → (before now : ShelfState) → Outcome → Type 0
+TriesGenerated job before now outcome =
+    (PosesNone job.recipe outcome × (now ≡ before))
+    ⊎ ((p : RoutingProblem) × Makes job.recipe p × Tries job p before now outcome)
+
+-- what each job leaves before its outcome is reported; a check writes nothing, and no file is read
+-- where a problem is generated
 abbrev pub LeavesJob : JobAsked → Scene → Outcome → Type 0
 LeavesJob (Routes job) at outcome = LeavesWork job.files (Searches job) at outcome
 LeavesJob (SweepsJob job) at outcome = LeavesWork job.files (Sweeps job) at outcome
@@ -40,6 +62,10 @@ LeavesJob (EncodesJob job) at outcome = LeavesWork job.files (Encodes job) at ou
 LeavesJob (Checks job) at outcome =
     ChecksTo (IsStopped at.desk at.desk_now) at.desk.files job outcome
     × (at.shelf_now ≡ at.shelf)
+LeavesJob (Generates job) at outcome =
+    WritesGenerated job at.shelf at.shelf_now outcome × (at.desk_now ≡ at.desk)
+LeavesJob (TriesJob job) at outcome =
+    TriesGenerated job at.shelf at.shelf_now outcome × (at.desk_now ≡ at.desk)
 
 -- by what the words ask for; where they are not taken, or memory is too short for them, nothing is
 -- written

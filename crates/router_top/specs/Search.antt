@@ -1,11 +1,13 @@
 -- The searches that jobs ask for: for a routing at one width, or at the least width that has one.
 use Rattle.std.specs.Prelude.{ℕ, ◌-◌, true, false, List, Option, None, Some}
 use Rattle.std.specs.List.{range_with_len}
+use Rattle.desk_io.specs.Files.{FileMap}
 use Rattle.route_sweep.specs.Asked.{Asked}
-use Rattle.router_words.specs.Job.{FilesAsked, JobAsked, RouteAsked, Routes, SweepAsked, Sweeps}
+use Rattle.router_words.specs.Job.{FilesAsked, JobAsked, RouteAsked, Routes, SweepAsked, Sweeps, TrialAsked, Tries}
+use Rattle.router_top.specs.Generated.{generated_desk, generated_names}
 
--- a search of the problem of these files at the widths from the first on, one after the other, until
--- one is not refuted or the last one was; and what is asked of it at each width
+-- a search of the problem of these files at the widths from the first on, one after the other,
+-- until one is not refuted or the last one was; and what is asked of it at each width
 pub record Search : Type 0 where
   pub files : FilesAsked
   pub first : ℕ
@@ -40,11 +42,27 @@ sweep_search job = record {
   };
 }
 
+-- `trial` searches as `sweep` does, over the files that the generated problem would be written to
+abbrev pub sweep_of : TrialAsked → SweepAsked
+sweep_of job = record {
+  files = generated_names job.prefix;
+  most = job.most;
+  prefix = job.prefix;
+  conflicts = job.conflicts;
+  keep = job.keep;
+}
+
 -- the search that a job asks for
 abbrev pub search_asked : JobAsked → Option Search
 search_asked (Routes job) = Some (route_search job)
 search_asked (Sweeps job) = Some (sweep_search job)
+search_asked (Tries job) = Some (sweep_search (sweep_of job))
 search_asked job = None
+
+-- the files that a job reads its problem from: those of the desk, or else those that it makes
+abbrev pub files_of : JobAsked → (desk : Option FileMap) → Option FileMap
+files_of (Tries job) desk = (generated_desk job.recipe job.prefix).files
+files_of job desk = desk
 
 -- the widths of the search that are lower than this one
 abbrev pub lower_widths : Search → (width : ℕ) → List ℕ

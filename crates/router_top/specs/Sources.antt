@@ -8,6 +8,7 @@ use Rattle.desk_io.specs.Reading.{FaultIsOn}
 use Rattle.fpga_text.specs.FirstFault.{Faults, IsFaultless, IsFirst}
 use Rattle.fpga_text.specs.declared.fault.TextFault.{TextFault}
 use Rattle.fpga_text.specs.declared.fault.TextFault.TheVariants.{Bad, Limit as PastLimit, Memory}
+use Rattle.router_words.specs.Job.{FilesAsked}
 use Rattle.router_top.specs.TextFiles.{file_number}
 use Rattle.router_top.specs.declared.outcome.Outcome.{Outcome}
 use Rattle.router_top.specs.declared.outcome.Outcome.TheVariants.{InputFault, Limit, ReadFault, OutOfMemory}
@@ -59,6 +60,11 @@ fault_outcome file (Bad line code) = InputFault file line code
 fault_outcome file (PastLimit code count) = Limit code count
 fault_outcome file Memory = OutOfMemory
 
+-- the text of this file is longer than it may be, and the outcome says so
+abbrev pub IsTooLong : TextFile → (limit : ℕ) → Bytes → Outcome → Type 0
+IsTooLong file limit text outcome =
+    (limit < length text) × (outcome ≡ Limit (910 + file_number file) (limit + 1))
+
 -- the text is longer than it may be, or has a fault; and the outcome says so
 abbrev pub IsHalted : Option FileMap → Source → Outcome → Type 0
 IsHalted files source outcome =
@@ -80,6 +86,20 @@ abbrev pub ReadsThen : {T : Type 0} → (Source → Outcome → Type 0) → Opti
     → (Bytes → T) → (T → Outcome → Type 0) → Outcome → Type 0
 ReadsThen {T} stops files source value rest outcome =
     stops source outcome ⊎ ((said : T) × Says files source value said × rest said outcome)
+
+-- on whatever desk the text stands under the name of its file, it says this value
+abbrev pub SaysAnywhere : {T : Type 0} → (FilesAsked → Source) → (Bytes → T) → (text : Bytes) → T
+    → Type 0
+SaysAnywhere source value text said =
+    (files : Option FileMap) (names : FilesAsked) → HasBytes files (source names).name text
+    → Says files (source names) value said
+
+-- on whatever desk the text stands under the name of its file, the work stops at it, and the
+-- outcome says why
+abbrev pub StopsAnywhere : (FilesAsked → Source) → (text : Bytes) → Outcome → Type 0
+StopsAnywhere source text outcome =
+    (desk : DeskState) (names : FilesAsked) → HasBytes desk.files (source names).name text
+    → IsStopped desk desk (source names) outcome
 
 -- a file of which any text is taken
 abbrev pub any_text : TextFile → Bytes → (limit : ℕ) → Source

@@ -11,11 +11,12 @@ use Rattle.route_sweep.specs.Found.{HasFew}
 use Rattle.sat_clause.specs.declared.limits.TheConstants.{CLAUSE_LIMIT}
 use Rattle.router_words.specs.Command.{job_of}
 use Rattle.router_words.specs.Refusal.{code_of}
-use Rattle.router_words.specs.Job.{Checks, Encodes, FilesAsked, JobAsked, Routes, Sweeps}
+use Rattle.router_words.specs.Job.{Checks, Encodes, FilesAsked, Generates, JobAsked, RecipeAsked, Routes, Sweeps, Tries}
 use Rattle.router_words.specs.Word.{Word}
 use Rattle.router_top.specs.Check.{ChecksTo}
 use Rattle.router_top.specs.FourFiles.{GivesNone, Poses}
-use Rattle.router_top.specs.Search.{Search, route_search, sweep_search}
+use Rattle.router_top.specs.Generated.{HasRoom, IsTooLarge, IsTooMany, Makes}
+use Rattle.router_top.specs.Search.{Search, route_search, sweep_of, sweep_search}
 use Rattle.router_top.specs.Sources.{IsHalted}
 use Rattle.router_top.specs.declared.outcome.Outcome.{Outcome}
 use Rattle.router_top.specs.declared.outcome.Outcome.TheVariants.{Routed, Unroutable, Undecided, Done, Limit, Usage, OutOfMemory}
@@ -28,15 +29,15 @@ IsTrueOfClauses width p says outcome =
     × (outcome ≡ Limit 901 (length (cnf_of width p).clauses)))
     ⊎ (HasFew (cnf_of width p) × says)
 
--- the search comes to this width: each lower one that it tries has few enough clauses, and no tracks
--- make a legal routing there
+-- the search comes to this width: each lower one that it tries has few enough clauses, and no
+-- tracks make a legal routing there
 pub record IsReached (search : Search) (p : RoutingProblem) (width : ℕ) : Type 0 where
   pub from : search.first ≤ width
   pub to : width ≤ search.last
   pub lower : (k : ℕ) → search.first ≤ k → k < width → HasFew (cnf_of k p) × IsUnroutableAt k p
 
--- some tracks make a legal routing at this width, or it is the last one and none do, and the outcome
--- says which; or it says that the budget was spent
+-- some tracks make a legal routing at this width, or it is the last one and none do, and the
+-- outcome says which; or it says that the budget was spent
 abbrev pub IsTrueAt : Search → RoutingProblem → (width : ℕ) → Outcome → Type 0
 IsTrueAt search p width outcome =
     (IsRoutableAt width p × (outcome ≡ Routed width))
@@ -56,6 +57,11 @@ IsTrueOfWork names says files outcome =
     GivesNone (IsHalted files) files names outcome
     ⊎ ((p : RoutingProblem) × Poses files names p × says p outcome)
 
+-- there are more nets than blocks to drive them, and the outcome has their number; or there are
+-- not, and this is true
+abbrev pub IsTrueOfRecipe : RecipeAsked → (says : Type 0) → Outcome → Type 0
+IsTrueOfRecipe recipe says outcome = IsTooMany recipe outcome ⊎ (HasRoom recipe × says)
+
 -- what an outcome says of the files of each job
 abbrev pub IsTrueOfJob : JobAsked → Option FileMap → Outcome → Type 0
 IsTrueOfJob (Routes job) files outcome =
@@ -65,6 +71,11 @@ IsTrueOfJob (Sweeps job) files outcome =
 IsTrueOfJob (Encodes job) files outcome = IsTrueOfWork job.files
     (λ p said. IsTrueOfClauses job.width p (said ≡ Done) said) files outcome
 IsTrueOfJob (Checks job) files outcome = ChecksTo (IsHalted files) files job outcome
+IsTrueOfJob (Generates job) files outcome = IsTrueOfRecipe job.recipe (outcome ≡ Done) outcome
+IsTrueOfJob (Tries job) files outcome =
+    IsTooMany job.recipe outcome ⊎ IsTooLarge job.recipe outcome
+    ⊎ ((p : RoutingProblem) × Makes job.recipe p
+    × IsTrueOfSearch (sweep_search (sweep_of job)) p outcome)
 
 -- by what the words ask for, or by the code of what keeps them from being taken
 abbrev pub IsTrueOf : List Word → Option FileMap → Outcome → Type 0
@@ -80,8 +91,8 @@ IsOpenBelow (Undecided width learned) (Undecided of others) = (width ≤ of) × 
 IsOpenBelow (Undecided width learned) (Limit code count) = code ≡ 901
 IsOpenBelow outcome other = ⊥
 
--- the answer is this outcome; or a search is left open by one of the two, for which width its budget
--- is spent is the search's own
+-- the answer is this outcome; or a search is left open by one of the two, for which width its
+-- budget is spent is the search's own
 abbrev pub Agrees : Outcome → Outcome → Type 0
 Agrees answer outcome =
     (answer ≡ outcome) ⊎ IsOpenBelow answer outcome ⊎ IsOpenBelow outcome answer

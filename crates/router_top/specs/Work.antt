@@ -1,5 +1,5 @@
 -- What the work on a problem leaves on the shelf, by its outcome.
-use Rattle.std.specs.Prelude.{◌≡◌, ◌++◌, ◌<◌, ◌≤◌, codes, length, Result, Ok, Err}
+use Rattle.std.specs.Prelude.{◌≡◌, ℕ, ◌++◌, ◌<◌, ◌≤◌, codes, length, Result, Ok, Err}
 use Rattle.desk_io.specs.Files.{Bytes}
 use Rattle.desk_io.specs.ShelfState.{ShelfState}
 use Rattle.desk_io.specs.WholeFile.{FailsToWrite, after_writing}
@@ -7,6 +7,7 @@ use Rattle.fpga_types.specs.Problem.{RoutingProblem}
 use Rattle.fpga_types.specs.declared.limits.TheConstants.{WIDTH_LIMIT}
 use Rattle.route_encode.specs.Encoding.{cnf_of}
 use Rattle.route_encode.specs.Good.{IsRoutingOf}
+use Rattle.route_sweep.specs.Asked.{Asked}
 use Rattle.route_sweep.specs.Climb.{ClimbsTo}
 use Rattle.route_sweep.specs.Found.{FindsAt, HasFew}
 use Rattle.route_sweep.specs.declared.found.Climbed.{Climbed}
@@ -33,16 +34,20 @@ pub record Searches
       (IsRoutingOf job.width p) before now came
   pub is : outcome ≡ found_outcome job.width came
 
--- a climb through the widths of the problem up to the greatest of the job, which is at most 64
-pub record Sweeps
-    (job : SweepAsked) (p : RoutingProblem) (before now : ShelfState) (outcome : Outcome)
+-- a climb through the widths of the problem up to the greatest, which is at most 64
+pub record Climbs
+    (ask : Asked) (most : ℕ) (p : RoutingProblem) (before now : ShelfState) (outcome : Outcome)
     : Type 0 where
-  pub some : 1 ≤ job.most
-  pub narrow : job.most ≤ WIDTH_LIMIT
+  pub some : 1 ≤ most
+  pub narrow : most ≤ WIDTH_LIMIT
   pub came : Result Climbed Stop
-  pub climbs : ClimbsTo (sweep_search job).ask job.most (λ width. cnf_of width p)
-      (λ width. IsRoutingOf width p) before now came
+  pub climbs : ClimbsTo ask most (λ width. cnf_of width p) (λ width. IsRoutingOf width p) before now
+      came
   pub is : outcome ≡ climbed_outcome came
+
+-- the climb that a sweep asks for
+abbrev pub Sweeps : SweepAsked → RoutingProblem → (before now : ShelfState) → Outcome → Type 0
+Sweeps job p before now outcome = Climbs (sweep_search job).ask job.most p before now outcome
 
 -- the name of the file that clauses are written to
 abbrev pub clauses_name : EncodeAsked → Bytes

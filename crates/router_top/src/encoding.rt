@@ -1,5 +1,5 @@
 //! The command `encode`: the clauses of a problem.
-ghost use Rattle.std.specs.Prelude.{◌≡◌, ◌++◌, codes, string_bytes, IfOk};
+ghost use Rattle.std.specs.Prelude.{◌≡◌};
 ghost use Rattle.route_encode.specs.Encoding.{cnf_of};
 ghost use Rattle.router_words.specs.Job.{encode_said};
 ghost use Rattle.router_top.specs.Outcomes.{written_outcome};
@@ -7,6 +7,7 @@ ghost use Rattle.router_top.specs.Report.{IsReadFault};
 ghost use Rattle.router_top.specs.Run.{LeavesWork};
 ghost use Rattle.router_top.specs.Work.{Encodes, WritesClauses};
 
+use crate::file_name::file_name;
 use crate::four_files::pose_problem;
 use crate::outcome::Outcome;
 use crate::stopping::stopped;
@@ -17,16 +18,7 @@ use route_sweep::{FileSlot, Stop};
 use router_words::EncodeJob;
 use sat_clause::CLAUSE_LIMIT;
 use sat_text::CnfText;
-use std::alloc::{AllocError, Global};
-
-// The name of the file that the clauses are written to.
-fn clauses_name(alloc: Global, prefix: &str) -> Result<String, AllocError>
-    ensures { IfOk result (λ name. string_bytes name ≡ prefix.now ++ codes ".cnf") }
-{
-    let mut name = String::from_str(alloc, prefix)?;
-    name.push_str(".cnf")?;
-    Ok(name)
-}
+use std::alloc::Global;
 
 // Builds the clauses of a problem and writes them, where there are not too many.
 fn write_clauses<S: Shelf>(
@@ -45,7 +37,7 @@ fn write_clauses<S: Shelf>(
     let Ok(formula) = Strict.build(alloc, problem, job.width) else {
         return Err(Stop::Memory);
     };
-    let Ok(name) = clauses_name(alloc, job.prefix) else {
+    let Ok(name) = file_name(alloc, job.prefix, ".cnf") else {
         return Err(Stop::Memory);
     };
     let Ok(()) = write_file(&CnfText, shelf, name.as_str(), &formula) else {

@@ -1,12 +1,16 @@
 //! Routes a placed and globally routed design: reads its architecture, its netlist, its placement
 //! and its global route, searches for a track for each cell of each net, at one width or at the
-//! least that has a routing, and writes the detailed route, or a refutation; writes the clauses that
-//! say what a routing is; or checks a refutation of such clauses.
+//! least that has a routing, and writes the detailed route, or a refutation; writes the clauses
+//! that say what a routing is; checks a refutation of such clauses; or makes a design from a
+//! number, and writes or routes it.
 #![tactic(auto)]
 
 mod checking;
 mod encoding;
+mod file_name;
 mod four_files;
+mod four_texts;
+mod generating;
 mod limits;
 mod outcome;
 mod routing;
@@ -18,6 +22,7 @@ mod sweeping;
 #[cfg(test)]
 mod tests;
 mod text_file;
+mod trying;
 
 pub use outcome::{Outcome, report, status};
 pub use running::run;

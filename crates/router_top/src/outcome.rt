@@ -61,8 +61,8 @@ pub enum Outcome {
     OutOfMemory,
 }
 
-// Room for the longest report line.
-const REPORT_ROOM: usize = 96;
+/// Room for the longest line that a run says.
+pub const LINE_ROOM: usize = 96;
 
 /// The exit status.
 pub fn status(outcome: &Outcome) -> u8
@@ -81,7 +81,7 @@ pub fn status(outcome: &Outcome) -> u8
 }
 
 /// The report line, without its newline.
-pub fn report(outcome: &Outcome) -> ArrayString<REPORT_ROOM>
+pub fn report(outcome: &Outcome) -> ArrayString<LINE_ROOM>
     ensures line { result.bytes ≡ report_of outcome.now }
     ensures room { array_string_len result ≤ 80 }
 {
@@ -129,8 +129,8 @@ pub fn report(outcome: &Outcome) -> ArrayString<REPORT_ROOM>
     line
 }
 
-// A text and a number behind it.
-fn push_count(line: &mut ArrayString<REPORT_ROOM>, text: &str, count: u64)
+/// Adds a text and a number behind it.
+pub fn push_count(line: &mut ArrayString<LINE_ROOM>, text: &str, count: u64)
     requires { array_string_len line.old + length text.now ≤ 70 }
     ensures bytes { line.new.bytes ≡ line.old.bytes ++ text.now ++ decimal count }
     ensures room { array_string_len line.new ≤ array_string_len line.old + length text.now + 20 }

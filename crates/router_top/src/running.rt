@@ -1,17 +1,19 @@
 //! The whole work: from words and files in to files out.
 ghost use Rattle.std.specs.Prelude.{◌≡◌};
 ghost use Rattle.router_words.specs.Word.{words_of};
-ghost use Rattle.router_top.specs.Headline.{Means};
+ghost use Rattle.router_top.specs.Means.{Means};
 ghost use Rattle.router_top.specs.Report.{IsReadFault, unsaid};
 ghost use Rattle.router_top.specs.Run.{Leaves, Reports, Runs};
 ghost use Rattle.router_top.specs.Truth.{IsComplete};
 
 use crate::checking::check_files;
 use crate::encoding::encode;
+use crate::generating::generate_files;
 use crate::outcome::{Outcome, report};
 use crate::routing::route;
 use crate::slot::Slot;
 use crate::sweeping::sweep;
+use crate::trying::trial;
 use desk_io::{Desk, Shelf};
 use router_words::{Job, WordsFault, read_words};
 use std::alloc::Global;
@@ -33,6 +35,8 @@ fn work<D: Desk, S: Shelf>(alloc: Global, words: &[String], desk: &mut D, shelf:
         Ok(Job::Sweep(job)) => sweep(alloc, &job, desk, shelf),
         Ok(Job::Encode(job)) => encode(alloc, &job, desk, shelf),
         Ok(Job::Check(job)) => check_files(alloc, &job, desk),
+        Ok(Job::Gen(job)) => generate_files(alloc, &job, shelf),
+        Ok(Job::Trial(job)) => trial(alloc, &job, shelf),
         Err(WordsFault::Refused(cause)) => Outcome::Usage { code: cause.code() },
         Err(WordsFault::Memory) => Outcome::OutOfMemory,
     }
@@ -66,9 +70,15 @@ fn say_report<S: Shelf>(shelf: &mut S, outcome: Outcome) -> Outcome
 /// `route` writes PREFIX.route, or else PREFIX.cnf and PREFIX.lrat. `sweep` writes PREFIX.wK.cnf
 /// and PREFIX.wK.lrat for each width K that it does not route, and PREFIX.route where it routes
 /// one. `encode` writes PREFIX.cnf alone, and `check` writes nothing. Each file is read and taken
-/// apart before the next is opened, and the first refusal ends the work. After want of memory each
-/// file that was written is whole: of a `sweep` the files of lower widths, else none. The files of
-/// the desk stay in any case.
+/// apart before the next is opened, and the first refusal ends the work.
+///
+/// `gen` makes a problem from its recipe and writes PREFIX.arch, PREFIX.net, PREFIX.place and
+/// PREFIX.route. `trial` makes one too, says a line with the numbers of its slots, its steps and
+/// its pairs of slots of different nets in one cell, and writes what `sweep` would write if it read
+/// these four files. Both read no file.
+///
+/// After want of memory each file that was written is whole: of a `sweep` or a `trial` the files of
+/// lower widths, else none. The files of the desk stay in any case.
 pub fn run<D: Desk, S: Shelf>(
     alloc: Global,
     words: &[String],

@@ -11,17 +11,29 @@ pub enum Slot {
     Said,
     /// A file of a search.
     File(FileSlot),
+    /// The architecture of a generated problem.
+    Architecture,
+    /// The netlist of a generated problem.
+    Netlist,
+    /// The placement of a generated problem.
+    Placement,
+    /// The global route of a generated problem.
+    GlobalRoute,
 }
 
 impl Slot {
     /// The number by which reports name it.
     pub fn number(self) -> u32
         ensures value { result ≡ number_of self }
-        ensures small { result ≤ 3 }
+        ensures small { result ≤ 7 }
     {
         match self {
             Slot::Said => 0,
             Slot::File(slot) => slot.number(),
+            Slot::Architecture => 4,
+            Slot::Netlist => 5,
+            Slot::Placement => 6,
+            Slot::GlobalRoute => 7,
         }
     }
 }

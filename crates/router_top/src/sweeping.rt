@@ -1,15 +1,19 @@
 //! The command `sweep`: a search for the least width that has a legal routing.
-ghost use Rattle.std.specs.Prelude.{◌≡◌};
+ghost use Rattle.std.specs.Prelude.{◌≡◌, ◌≤◌};
+ghost use Rattle.fpga_types.specs.declared.limits.TheConstants.{WIDTH_LIMIT};
+ghost use Rattle.route_sweep.specs.Asked.{asked};
+ghost use Rattle.route_sweep.specs.Climb.{numbered};
 ghost use Rattle.router_words.specs.Job.{sweep_said};
 ghost use Rattle.router_top.specs.Outcomes.{climbed_outcome};
 ghost use Rattle.router_top.specs.Report.{IsReadFault};
 ghost use Rattle.router_top.specs.Run.{LeavesWork};
-ghost use Rattle.router_top.specs.Work.{Sweeps};
+ghost use Rattle.router_top.specs.Work.{Climbs, Sweeps};
 
 use crate::four_files::pose_problem;
 use crate::outcome::Outcome;
 use crate::stopping::stopped;
 use desk_io::{Desk, Shelf};
+use fpga_bounds::PlacedProblem;
 use route_encode::Strict;
 use route_sweep::{Ask, Climbed, Stop, climb};
 use router_words::SweepJob;
@@ -25,6 +29,22 @@ fn climbed(came: Result<Climbed, Stop>) -> Outcome
         Ok(Climbed::Undecided { width, learned }) => Outcome::Undecided { width, learned },
         Err(stop) => stopped(stop),
     }
+}
+
+/// Searches at the widths from 1 on, up to the first that is not refuted or up to the last; writes
+/// a routing, or else the clauses and the log of each width that was searched.
+pub fn search_widths<S: Shelf>(
+    alloc: Global,
+    problem: &PlacedProblem,
+    most: u32,
+    ask: &Ask<'_>,
+    shelf: &mut S,
+) -> Outcome
+    requires { (1 ≤ most) × (most ≤ WIDTH_LIMIT) }
+    ensures { Climbs (numbered (asked ask.now)) most problem.now (S.state shelf.old)
+        (S.state shelf.new) result }
+{
+    climbed(climb(alloc, &Strict, problem, most, ask, shelf))
 }
 
 /// Reads the four files, once, and searches at the widths from 1 on, up to the first that is not
@@ -55,5 +75,5 @@ pub fn sweep<D: Desk, S: Shelf>(
         prefix: job.prefix,
         numbered: true,
     };
-    climbed(climb(alloc, &Strict, &problem, job.most, &ask, shelf))
+    search_widths(alloc, &problem, job.most, &ask, shelf)
 }

@@ -131,6 +131,29 @@ fn clauses_are_written(rt: HostRuntime) -> Result<(), Fail> {
 }
 
 #[test]
+fn a_generated_problem_is_written(rt: HostRuntime) -> Result<(), Fail> {
+    let (outcome, shelf) = came_to(rt.alloc(), &["gen", "1", "1", "1", "out"], &[])?;
+    assert_eq!(rt; outcome, Outcome::Done);
+    let net = b".clb b0\npinlist: n0 open open open n0\n";
+    assert_eq!(rt; shelf.file("out.net"), Some(net.as_slice()));
+    assert!(rt; shelf.file("out.arch").is_some());
+    assert!(rt; shelf.file("out.place").is_some());
+    assert!(rt; shelf.file("out.route").is_some());
+    Ok(())
+}
+
+#[test]
+fn a_trial_is_swept(rt: HostRuntime) -> Result<(), Fail> {
+    let (outcome, shelf) = came_to(rt.alloc(), &["trial", "1", "1", "1", "2", "out"], &[])?;
+    assert_eq!(rt; outcome, Outcome::Routed { width: 1 });
+    let said = b"trial: slots 1 steps 0 pairs 0\nrouted 1\n";
+    assert_eq!(rt; shelf.said(), said.as_slice());
+    assert!(rt; shelf.file("out.route").is_some());
+    assert!(rt; shelf.file("out.arch").is_none());
+    Ok(())
+}
+
+#[test]
 fn statuses_and_reports(rt: HostRuntime) {
     let cases = [
         (Outcome::Routed { width: 3 }, 0, "routed 3"),
@@ -155,6 +178,13 @@ fn statuses_and_reports(rt: HostRuntime) {
             },
             6,
             "write fault: slot 3",
+        ),
+        (
+            Outcome::WriteFault {
+                slot: Slot::GlobalRoute,
+            },
+            6,
+            "write fault: slot 7",
         ),
         (Outcome::OutOfMemory, 7, "out of memory"),
         (

@@ -3,7 +3,7 @@ use Rattle.std.proofs.Common.{◌≡◌, ℕ, Bool, true, false, List, [], ◌�
 use Rattle.std.specs.Prelude.{Result, Ok, Err}
 use Rattle.clap.proofs.OnLiterals.{clap_on_literals}
 use Rattle.router_words.specs.Command.{job_of}
-use Rattle.router_words.specs.Job.{Checks, JobAsked, Routes, Sweeps}
+use Rattle.router_words.specs.Job.{Checks, Generates, JobAsked, Routes, Sweeps, Tries}
 use Rattle.router_words.specs.Word.{Word}
 use Rattle.router_words.specs.declared.fault.Refusal.{Refusal}
 use Rattle.router_words.specs.declared.fault.Refusal.TheVariants.{Command, Form, Number}
@@ -118,3 +118,39 @@ pub checks : job_of (codes "check" ∷ codes "c" ∷ codes "-" ∷ [])
     ≡ Ok (Checks (record { cnf = codes "c"; lrat = codes "-" }))
 unfolding clap_on_literals
 checks = refl
+
+-- `gen` and more words
+abbrev gen : List Word → Asked
+gen more = job_of (codes "gen" ∷ more)
+
+pub generates : gen (codes "0" ∷ codes "100" ∷ codes "10000" ∷ codes "g" ∷ [])
+    ≡ Ok (Generates (record {
+      recipe = record { seed = 0; side = 100; nets = 10_000 };
+      prefix = codes "g";
+    }))
+unfolding clap_on_literals
+generates = refl
+
+pub seed_too_great : gen (codes "2147483648" ∷ codes "1" ∷ codes "1" ∷ codes "g" ∷ []) ≡ Err Number
+unfolding clap_on_literals
+seed_too_great = refl
+
+pub no_side : gen (codes "1" ∷ codes "0" ∷ codes "1" ∷ codes "g" ∷ []) ≡ Err Number
+unfolding clap_on_literals
+no_side = refl
+
+pub gen_keeps : gen (codes "1" ∷ codes "2" ∷ codes "1" ∷ codes "g" ∷ codes "--keep" ∷ []) ≡ Err Form
+unfolding clap_on_literals
+gen_keeps = refl
+
+pub tries : job_of (codes "trial" ∷ codes "1" ∷ codes "6" ∷ codes "30" ∷ codes "10" ∷ codes "t"
+    ∷ codes "--conflicts" ∷ codes "200" ∷ [])
+    ≡ Ok (Tries (record {
+      recipe = record { seed = 1; side = 6; nets = 30 };
+      most = 10;
+      prefix = codes "t";
+      conflicts = 200;
+      keep = false;
+    }))
+unfolding clap_on_literals
+tries = refl

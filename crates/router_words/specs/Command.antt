@@ -4,19 +4,19 @@ use Rattle.std.specs.Option.{option_map_or}
 use Rattle.std.specs.Str.{bytes_eq}
 use Rattle.clap.specs.Words.{App, Row, first_of, matches_of}
 use Rattle.fpga_text.specs.Numbers.{whole_number_of}
-use Rattle.fpga_types.specs.declared.limits.TheConstants.{WIDTH_LIMIT}
-use Rattle.router_words.specs.Form.{check_form, encode_form, route_form, sweep_form}
-use Rattle.router_words.specs.Job.{Checks, Encodes, FilesAsked, JobAsked, Routes, Sweeps, job_said}
+use Rattle.fpga_types.specs.declared.limits.TheConstants.{SIDE_LIMIT, WIDTH_LIMIT}
+use Rattle.router_words.specs.Form.{check_form, encode_form, gen_form, route_form, sweep_form, trial_form}
+use Rattle.router_words.specs.Job.{Checks, Encodes, FilesAsked, Generates, JobAsked, RecipeAsked, Routes, Sweeps, Tries, job_said}
 use Rattle.router_words.specs.Taken.{HasRequired, is_taken}
 use Rattle.router_words.specs.Word.{Word}
 use Rattle.router_words.specs.declared.command_name.CommandName.{CommandName}
-use Rattle.router_words.specs.declared.command_name.CommandName.TheVariants.{Check, Encode, Route, Sweep}
+use Rattle.router_words.specs.declared.command_name.CommandName.TheVariants.{Check, Encode, Gen, Route, Sweep, Trial}
 use Rattle.router_words.specs.declared.fault.Refusal.{Refusal}
 use Rattle.router_words.specs.declared.fault.Refusal.TheVariants.{Command, Form, Number}
 use Rattle.router_words.specs.declared.fault.WordsFault.{WordsFault}
 use Rattle.router_words.specs.declared.fault.WordsFault.TheVariants.{Memory, Refused}
 use Rattle.router_words.specs.declared.job.Job.{Job}
-use Rattle.router_words.specs.declared.limits.TheConstants.{BUDGET_DEFAULT, BUDGET_LIMIT}
+use Rattle.router_words.specs.declared.limits.TheConstants.{BUDGET_DEFAULT, BUDGET_LIMIT, GENERATED_NETS_LIMIT, SEED_LIMIT}
 
 -- ---- what stands in the matches of a form
 
@@ -28,10 +28,10 @@ word_in name rows = unwrap_or (first_of name rows) []
 abbrev pub has_flag : Word → List Row → Bool
 has_flag name rows = option_map_or (λ text. bytes_eq text (codes "true")) (first_of name rows) false
 
--- the whole number that a word says, where it is from 1 to the greatest
-abbrev pub number_up_to : ℕ → Word → Option ℕ
-number_up_to greatest word =
-    option_and_then (λ n. if nat_le 1 n && nat_le n greatest then Some n else None)
+-- the whole number that a word says, where it is from the least to the greatest
+abbrev pub number_within : (least greatest : ℕ) → Word → Option ℕ
+number_within least greatest word =
+    option_and_then (λ n. if nat_le least n && nat_le n greatest then Some n else None)
     (whole_number_of word)
 
 -- ARCH NET PLACE ROUTE
@@ -45,13 +45,35 @@ files_asked rows = record {
 
 -- WIDTH, or MAX of a sweep
 abbrev pub width_asked : List Row → Option ℕ
-width_asked rows = number_up_to WIDTH_LIMIT (word_in (codes "width") rows)
+width_asked rows = number_within 1 WIDTH_LIMIT (word_in (codes "width") rows)
 
 -- N of `--conflicts N`, or the default
 abbrev pub conflicts_asked : List Row → Option ℕ
 conflicts_asked rows =
-    option_map_or (number_up_to BUDGET_LIMIT) (first_of (codes "conflicts") rows)
+    option_map_or (number_within 1 BUDGET_LIMIT) (first_of (codes "conflicts") rows)
     (Some BUDGET_DEFAULT)
+
+-- SEED
+abbrev pub seed_asked : List Row → Option ℕ
+seed_asked rows = number_within 0 SEED_LIMIT (word_in (codes "seed") rows)
+
+-- NX
+abbrev pub side_asked : List Row → Option ℕ
+side_asked rows = number_within 1 SIDE_LIMIT (word_in (codes "side") rows)
+
+-- NETS
+abbrev pub nets_asked : List Row → Option ℕ
+nets_asked rows = number_within 1 GENERATED_NETS_LIMIT (word_in (codes "nets") rows)
+
+-- what a generated problem is made from: these numbers, where all are there
+abbrev pub recipe_with : (seed side nets : Option ℕ) → Option RecipeAsked
+recipe_with (Some seed) (Some side) (Some nets) =
+    Some (record { seed = seed; side = side; nets = nets })
+recipe_with _ _ _ = None
+
+-- SEED NX NETS
+abbrev pub recipe_asked : List Row → Option RecipeAsked
+recipe_asked rows = recipe_with (seed_asked rows) (side_asked rows) (nets_asked rows)
 
 -- ---- the commands
 
@@ -107,6 +129,33 @@ abbrev pub check_asked : List Row → Option JobAsked
 check_asked rows =
     Some (Checks (record { cnf = word_in (codes "cnf") rows; lrat = word_in (codes "lrat") rows }))
 
+-- what `gen` is asked for: with this recipe, where it is there
+abbrev pub gen_with : List Row → Option RecipeAsked → Option JobAsked
+gen_with rows (Some recipe) = Some (Generates (record {
+  recipe = recipe;
+  prefix = word_in (codes "prefix") rows;
+}))
+gen_with rows None = None
+
+abbrev pub gen_asked : List Row → Option JobAsked
+gen_asked rows = gen_with rows (recipe_asked rows)
+
+-- what `trial` is asked for: with this recipe and these numbers, where all are there
+abbrev pub trial_with : List Row → Option RecipeAsked → (most conflicts : Option ℕ)
+    → Option JobAsked
+trial_with rows (Some recipe) (Some most) (Some conflicts) = Some (Tries (record {
+  recipe = recipe;
+  most = most;
+  prefix = word_in (codes "prefix") rows;
+  conflicts = conflicts;
+  keep = has_flag (codes "keep") rows;
+}))
+trial_with rows _ _ _ = None
+
+abbrev pub trial_asked : List Row → Option JobAsked
+trial_asked rows =
+    trial_with rows (recipe_asked rows) (width_asked rows) (conflicts_asked rows)
+
 abbrev pub route_row : CommandRow
 route_row = record { name = codes "route"; form = route_form; job = route_asked }
 
@@ -119,15 +168,23 @@ encode_row = record { name = codes "encode"; form = encode_form; job = encode_as
 abbrev pub check_row : CommandRow
 check_row = record { name = codes "check"; form = check_form; job = check_asked }
 
+abbrev pub gen_row : CommandRow
+gen_row = record { name = codes "gen"; form = gen_form; job = gen_asked }
+
+abbrev pub trial_row : CommandRow
+trial_row = record { name = codes "trial"; form = trial_form; job = trial_asked }
+
 -- the row of each command
 abbrev pub row_of : CommandName → CommandRow
 row_of Route = route_row
 row_of Sweep = sweep_row
 row_of Encode = encode_row
 row_of Check = check_row
+row_of Gen = gen_row
+row_of Trial = trial_row
 
 abbrev pub commands : List CommandRow
-commands = route_row ∷ sweep_row ∷ encode_row ∷ check_row ∷ []
+commands = route_row ∷ sweep_row ∷ encode_row ∷ check_row ∷ gen_row ∷ trial_row ∷ []
 
 -- ---- the job of words
 

@@ -48,13 +48,21 @@ with_files form =
 abbrev pub with_width_and_prefix : App → App
 with_width_and_prefix form = with_word (codes "prefix") (with_word (codes "width") form)
 
+-- WIDTH PREFIX [--conflicts N] [--keep], or with MAX
+abbrev pub with_search : App → App
+with_search form =
+    with_flag (codes "keep") (with_option (codes "conflicts") (with_width_and_prefix form))
+
+-- SEED NX NETS
+abbrev pub with_recipe : App → App
+with_recipe form =
+    with_word (codes "nets") (with_word (codes "side") (with_word (codes "seed") form))
+
 -- ---- the forms
 
 -- ARCH NET PLACE ROUTE WIDTH PREFIX [--conflicts N] [--keep]
 abbrev pub search_form : Word → App
-search_form name =
-    with_flag (codes "keep") (with_option (codes "conflicts")
-    (with_width_and_prefix (with_files (empty_form name))))
+search_form name = with_search (with_files (empty_form name))
 
 abbrev pub route_form : App
 route_form = search_form (codes "route")
@@ -70,6 +78,14 @@ encode_form = with_width_and_prefix (with_files (empty_form (codes "encode")))
 -- CNF LRAT
 abbrev pub check_form : App
 check_form = with_word (codes "lrat") (with_word (codes "cnf") (empty_form (codes "check")))
+
+-- SEED NX NETS PREFIX
+abbrev pub gen_form : App
+gen_form = with_word (codes "prefix") (with_recipe (empty_form (codes "gen")))
+
+-- SEED NX NETS MAX PREFIX [--conflicts N] [--keep]
+abbrev pub trial_form : App
+trial_form = with_search (with_recipe (empty_form (codes "trial")))
 
 -- ---- what holds of a form
 

@@ -4,10 +4,13 @@ use Rattle.router_words.specs.Word.{Word}
 use Rattle.router_words.specs.declared.job.CheckJob.{CheckJob}
 use Rattle.router_words.specs.declared.job.EncodeJob.{EncodeJob}
 use Rattle.router_words.specs.declared.job.FourNames.{FourNames}
+use Rattle.router_words.specs.declared.job.GenJob.{GenJob}
 use Rattle.router_words.specs.declared.job.Job.{Job}
-use Rattle.router_words.specs.declared.job.Job.TheVariants.{Check, Encode, Route, Sweep}
+use Rattle.router_words.specs.declared.job.Job.TheVariants.{Check, Encode, Gen, Route, Sweep, Trial}
+use Rattle.router_words.specs.declared.job.Recipe.{Recipe}
 use Rattle.router_words.specs.declared.job.RouteJob.{RouteJob}
 use Rattle.router_words.specs.declared.job.SweepJob.{SweepJob}
+use Rattle.router_words.specs.declared.job.TrialJob.{TrialJob}
 
 -- the names of the files of a problem
 pub record FilesAsked : Type 0 where
@@ -45,12 +48,35 @@ pub record CheckAsked : Type 0 where
   pub cnf : Word
   pub lrat : Word
 
+-- what a generated problem is made from: a number, how many logic blocks each side of its array
+-- has, and how many nets it has
+pub record RecipeAsked : Type 0 where
+  pub seed : ℕ
+  pub side : ℕ
+  pub nets : ℕ
+
+-- to write a generated problem: what it is made from, and what the names of its files begin with
+pub record GenAsked : Type 0 where
+  pub recipe : RecipeAsked
+  pub prefix : Word
+
+-- to look for the least width that has a routing of a generated problem: what that is made from,
+-- and the rest as of a sweep
+pub record TrialAsked : Type 0 where
+  pub recipe : RecipeAsked
+  pub most : ℕ
+  pub prefix : Word
+  pub conflicts : ℕ
+  pub keep : Bool
+
 -- what is asked for
 pub data JobAsked : Type 0 where
   Routes : RouteAsked → JobAsked
   Sweeps : SweepAsked → JobAsked
   Encodes : EncodeAsked → JobAsked
   Checks : CheckAsked → JobAsked
+  Generates : GenAsked → JobAsked
+  Tries : TrialAsked → JobAsked
 
 -- ---- what a job says, by the bytes of its words
 
@@ -90,8 +116,25 @@ encode_said job = record {
 abbrev pub check_said : CheckJob → CheckAsked
 check_said job = record { cnf = job.cnf.now; lrat = job.lrat.now }
 
+abbrev pub recipe_said : Recipe → RecipeAsked
+recipe_said recipe = record { seed = recipe.seed; side = recipe.side; nets = recipe.nets }
+
+abbrev pub gen_said : GenJob → GenAsked
+gen_said job = record { recipe = recipe_said job.recipe; prefix = job.prefix.now }
+
+abbrev pub trial_said : TrialJob → TrialAsked
+trial_said job = record {
+  recipe = recipe_said job.recipe;
+  most = job.most;
+  prefix = job.prefix.now;
+  conflicts = job.conflicts;
+  keep = job.keep;
+}
+
 abbrev pub job_said : Job → JobAsked
 job_said (Route job) = Routes (route_said job)
 job_said (Sweep job) = Sweeps (sweep_said job)
 job_said (Encode job) = Encodes (encode_said job)
 job_said (Check job) = Checks (check_said job)
+job_said (Gen job) = Generates (gen_said job)
+job_said (Trial job) = Tries (trial_said job)

@@ -25,6 +25,12 @@ pub record HasFiles (rows : List Row) : Type 0 where
   pub placement : is_some (first_of (codes "placement") rows) ≡ true
   pub route : is_some (first_of (codes "route") rows) ≡ true
 
+-- what a generated problem is made from is there
+pub record HasRecipe (rows : List Row) : Type 0 where
+  pub seed : is_some (first_of (codes "seed") rows) ≡ true
+  pub side : is_some (first_of (codes "side") rows) ≡ true
+  pub nets : is_some (first_of (codes "nets") rows) ≡ true
+
 -- the form takes the words, and this is what it finds there
 pub record IsTaken (form : App) (words : List Word) (rows : List Row) : Type 0 where
   pub taken : is_taken form words ≡ true

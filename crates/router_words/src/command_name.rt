@@ -5,8 +5,8 @@ ghost use Rattle.router_words.specs.Command.{command_named, row_of};
 ghost use Rattle.router_words.specs.Job.{job_said};
 ghost use Rattle.router_words.specs.Taken.{HasRequired};
 
-use crate::form::{check_command, encode_command, search_command};
-use crate::from_matches::{check_job, encode_job, route_job, sweep_job};
+use crate::form::{check_command, encode_command, gen_command, search_command, trial_command};
+use crate::from_matches::{check_job, encode_job, gen_job, route_job, sweep_job, trial_job};
 use crate::job::Job;
 use clap::{ArgMatches, Command};
 use std::alloc::{AllocError, Global};
@@ -18,6 +18,8 @@ pub enum CommandName {
     Sweep,
     Encode,
     Check,
+    Gen,
+    Trial,
 }
 
 impl CommandName {
@@ -37,6 +39,12 @@ impl CommandName {
         if word == "check" {
             return Some(CommandName::Check);
         }
+        if word == "gen" {
+            return Some(CommandName::Gen);
+        }
+        if word == "trial" {
+            return Some(CommandName::Trial);
+        }
         None
     }
 
@@ -49,6 +57,8 @@ impl CommandName {
             CommandName::Sweep => search_command(alloc, "sweep"),
             CommandName::Encode => encode_command(alloc),
             CommandName::Check => check_command(alloc),
+            CommandName::Gen => gen_command(alloc),
+            CommandName::Trial => trial_command(alloc),
         }
     }
 
@@ -62,6 +72,8 @@ impl CommandName {
             CommandName::Sweep => sweep_job(matches),
             CommandName::Encode => encode_job(matches),
             CommandName::Check => check_job(matches),
+            CommandName::Gen => gen_job(matches),
+            CommandName::Trial => trial_job(matches),
         }
     }
 }

@@ -1,7 +1,7 @@
 //! The forms of the commands, as `clap` has them.
 ghost use Rattle.std.specs.Prelude.{◌≡◌, IfOk, codes};
 ghost use Rattle.clap.specs.Words.{app_of, rule_of};
-ghost use Rattle.router_words.specs.Form.{check_form, empty_form, encode_form, flag_rule, option_rule, required_rule, search_form, with_files, with_flag, with_option, with_width_and_prefix, with_word};
+ghost use Rattle.router_words.specs.Form.{check_form, empty_form, encode_form, gen_form, search_form, trial_form, with_files, with_flag, with_option, with_recipe, with_search, with_width_and_prefix, with_word};
 
 use clap::{Arg, ArgAction, Command};
 use std::alloc::{AllocError, Global};
@@ -66,14 +66,30 @@ fn add_width_and_prefix<'a>(alloc: Global, command: Command<'a>) -> Result<Comma
     add_word(alloc, command, "prefix")
 }
 
+// With the width and the prefix, and what a search may be told.
+fn add_search<'a>(alloc: Global, command: Command<'a>) -> Result<Command<'a>, AllocError>
+    ensures { IfOk result (λ c. app_of c ≡ with_search (app_of command.entry)) }
+{
+    let command = add_width_and_prefix(alloc, command)?;
+    let command = add_option(alloc, command, "conflicts")?;
+    add_flag(alloc, command, "keep")
+}
+
+// With what a generated problem is made from.
+fn add_recipe<'a>(alloc: Global, command: Command<'a>) -> Result<Command<'a>, AllocError>
+    ensures { IfOk result (λ c. app_of c ≡ with_recipe (app_of command.entry)) }
+{
+    let command = add_word(alloc, command, "seed")?;
+    let command = add_word(alloc, command, "side")?;
+    add_word(alloc, command, "nets")
+}
+
 /// ARCH NET PLACE ROUTE WIDTH PREFIX [--conflicts N] [--keep], behind this name of a command.
 pub fn search_command<'a>(alloc: Global, name: &'a str) -> Result<Command<'a>, AllocError>
     ensures { IfOk result (λ c. app_of c ≡ search_form name.entry.now) }
 {
     let command = add_files(alloc, named(alloc, name))?;
-    let command = add_width_and_prefix(alloc, command)?;
-    let command = add_option(alloc, command, "conflicts")?;
-    add_flag(alloc, command, "keep")
+    add_search(alloc, command)
 }
 
 /// ARCH NET PLACE ROUTE WIDTH PREFIX
@@ -90,4 +106,20 @@ pub fn check_command<'a>(alloc: Global) -> Result<Command<'a>, AllocError>
 {
     let command = add_word(alloc, named(alloc, "check"), "cnf")?;
     add_word(alloc, command, "lrat")
+}
+
+/// SEED NX NETS PREFIX
+pub fn gen_command<'a>(alloc: Global) -> Result<Command<'a>, AllocError>
+    ensures { IfOk result (λ c. app_of c ≡ gen_form) }
+{
+    let command = add_recipe(alloc, named(alloc, "gen"))?;
+    add_word(alloc, command, "prefix")
+}
+
+/// SEED NX NETS MAX PREFIX [--conflicts N] [--keep]
+pub fn trial_command<'a>(alloc: Global) -> Result<Command<'a>, AllocError>
+    ensures { IfOk result (λ c. app_of c ≡ trial_form) }
+{
+    let command = add_recipe(alloc, named(alloc, "trial"))?;
+    add_search(alloc, command)
 }

@@ -1,7 +1,7 @@
 //! What the words of a command ask for.
 ghost use Rattle.std.specs.Prelude.{◌≤◌};
-ghost use Rattle.fpga_types.specs.declared.limits.TheConstants.{WIDTH_LIMIT};
-ghost use Rattle.router_words.specs.declared.limits.TheConstants.{BUDGET_LIMIT};
+ghost use Rattle.fpga_types.specs.declared.limits.TheConstants.{SIDE_LIMIT, WIDTH_LIMIT};
+ghost use Rattle.router_words.specs.declared.limits.TheConstants.{BUDGET_LIMIT, GENERATED_NETS_LIMIT, SEED_LIMIT};
 
 /// The names of the files of a problem.
 #[derive(Clone, Copy, Debug)]
@@ -71,6 +71,46 @@ pub struct CheckJob<'a> {
     pub lrat: &'a str,
 }
 
+/// What a generated problem is made from.
+#[derive(Clone, Copy, Debug)]
+pub struct Recipe {
+    /// The number that its nets are drawn by, at most 2,147,483,647.
+    pub seed: u32,
+    /// How many logic blocks each side of its array has, from 1 to 100.
+    pub side: u32,
+    /// How many nets it has, from 1 to 10,000.
+    pub nets: u32,
+    ghost drawable: { seed ≤ SEED_LIMIT },
+    ghost in_range: { (1 ≤ side) × (side ≤ SIDE_LIMIT) },
+    ghost few: { (1 ≤ nets) × (nets ≤ GENERATED_NETS_LIMIT) },
+}
+
+/// To write a generated problem.
+#[derive(Clone, Copy, Debug)]
+pub struct GenJob<'a> {
+    /// What the problem is made from.
+    pub recipe: Recipe,
+    /// What the names of its four files begin with.
+    pub prefix: &'a str,
+}
+
+/// To look for the least width that has a routing of a generated problem.
+#[derive(Clone, Copy, Debug)]
+pub struct TrialJob<'a> {
+    /// What the problem is made from.
+    pub recipe: Recipe,
+    /// The greatest width that is tried, from 1 to 64.
+    pub most: u32,
+    /// What the names of the files that are written begin with.
+    pub prefix: &'a str,
+    /// How many clauses the search at each width may learn, from 1 to 100,000,000.
+    pub conflicts: u64,
+    /// Whether the searches forget no clause.
+    pub keep: bool,
+    ghost in_range: { (1 ≤ most) × (most ≤ WIDTH_LIMIT) },
+    ghost affordable: { (1 ≤ conflicts) × (conflicts ≤ BUDGET_LIMIT) },
+}
+
 /// What the words ask for. It lends them.
 #[derive(Clone, Copy, Debug)]
 pub enum Job<'a> {
@@ -82,4 +122,8 @@ pub enum Job<'a> {
     Encode(EncodeJob<'a>),
     /// Whether a log refutes the clauses of a file.
     Check(CheckJob<'a>),
+    /// The files of a generated problem.
+    Gen(GenJob<'a>),
+    /// The least width that has a routing of a generated problem.
+    Trial(TrialJob<'a>),
 }

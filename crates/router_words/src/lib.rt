@@ -6,9 +6,12 @@
 //! | `sweep` | ARCH NET PLACE ROUTE MAX PREFIX | `--conflicts N`, `--keep` |
 //! | `encode` | ARCH NET PLACE ROUTE WIDTH PREFIX | |
 //! | `check` | CNF LRAT | |
+//! | `gen` | SEED NX NETS PREFIX | |
+//! | `trial` | SEED NX NETS MAX PREFIX | `--conflicts N`, `--keep` |
 //!
-//! WIDTH and MAX are whole numbers from 1 to 64, and N one from 1 to 100,000,000, or 1,000,000 where it is
-//! not given. Leading zeros are taken, signs are not.
+//! WIDTH and MAX are whole numbers from 1 to 64, and N one from 1 to 100,000,000, or 1,000,000
+//! where it is not given. SEED is one from 0 to 2,147,483,647, NX one from 1 to 100, and NETS one
+//! from 1 to 10,000. Leading zeros are taken, signs are not.
 //!
 //! What stands behind the command is taken as `clap` takes it: options may stand anywhere,
 //! `--conflicts=5` is `--conflicts 5`, behind `--` no word is an option, and a word may be empty or
@@ -19,7 +22,7 @@
 //! |---|---|
 //! | 1 | there is no first word, or it names no command |
 //! | 2 | the form of the command does not take the words behind it |
-//! | 3 | WIDTH, MAX or N is no whole number in its range |
+//! | 3 | a word that is to be a number is no whole number in its range |
 //!
 //! The least code that holds is answered.
 #![tactic(auto)]
@@ -36,6 +39,6 @@ mod read;
 mod tests;
 
 pub use fault::{Refusal, WordsFault};
-pub use job::{CheckJob, EncodeJob, FourNames, Job, RouteJob, SweepJob};
-pub use limits::{BUDGET_DEFAULT, BUDGET_LIMIT};
+pub use job::{CheckJob, EncodeJob, FourNames, GenJob, Job, Recipe, RouteJob, SweepJob, TrialJob};
+pub use limits::{BUDGET_DEFAULT, BUDGET_LIMIT, GENERATED_NETS_LIMIT, SEED_LIMIT};
 pub use read::read_words;

@@ -5,3 +5,9 @@ pub const BUDGET_LIMIT: u64 = 100_000_000;
 
 /// How many clauses a search may learn where the words do not say it.
 pub const BUDGET_DEFAULT: u64 = 1_000_000;
+
+/// The greatest seed of a generated problem.
+pub const SEED_LIMIT: u32 = 2_147_483_647;
+
+/// How many nets a generated problem may have at the most.
+pub const GENERATED_NETS_LIMIT: u32 = 10_000;

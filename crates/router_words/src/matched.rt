@@ -1,7 +1,7 @@
 //! What a form takes, and the words and numbers that it finds.
 ghost use Rattle.std.specs.Prelude.{◌≡◌, ◌≤◌, IfSome, is_some, option_map, true};
 ghost use Rattle.clap.specs.Words.{app_of, first_of, found_of, rows_of};
-ghost use Rattle.router_words.specs.Command.{has_flag, number_up_to, word_in};
+ghost use Rattle.router_words.specs.Command.{has_flag, number_within, word_in};
 ghost use Rattle.router_words.specs.Form.{is_form};
 ghost use Rattle.router_words.specs.Taken.{Takes};
 ghost use Rattle.router_words.specs.Word.{words_of};
@@ -57,15 +57,15 @@ pub fn is_given(matches: &ArgMatches, name: &str) -> bool
     text == "true"
 }
 
-/// The whole number that a word says, where it is from 1 to the greatest.
-pub fn number_from_one(word: &str, greatest: u64) -> Option<u64>
-    ensures number { result ≡ number_up_to greatest word.now }
-    ensures within { IfSome result (λ number. (1 ≤ number) × (number ≤ greatest)) }
+/// The whole number that a word says, where it is from the least to the greatest.
+pub fn number_within(word: &str, least: u64, greatest: u64) -> Option<u64>
+    ensures number { result ≡ number_within least greatest word.now }
+    ensures within { IfSome result (λ number. (least ≤ number) × (number ≤ greatest)) }
 {
     let Some(number) = whole_number(word.as_bytes()) else {
         return None;
     };
-    if number < 1 || greatest < number {
+    if number < least || greatest < number {
         return None;
     }
     Some(number)

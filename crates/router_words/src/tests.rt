@@ -71,6 +71,19 @@ fn lines_have_their_codes(rt: HostRuntime) -> Result<(), Fail> {
         ("route||-|p|r|5|", 0),
         ("encode|a|n|p|r|1|out", 0),
         ("check|c|l", 0),
+        ("gen|1|2|1", 2),
+        ("gen|1|2|1|g|--keep", 2),
+        ("gen|-1|2|1|g", 2),
+        ("gen|2147483648|2|1|g", 3),
+        ("gen|1|101|1|g", 3),
+        ("gen|1|0|1|g", 3),
+        ("gen|1|2|10001|g", 3),
+        ("gen|1|2|0|g", 3),
+        ("gen|2147483647|100|10000|g", 0),
+        ("trial|1|2|2|t", 2),
+        ("trial|1|2|2|65|t", 3),
+        ("trial|1|2|2|4|t|--conflicts|0", 3),
+        ("trial|0|1|1|64|t|--keep", 0),
     ];
     for (line, code) in rows {
         assert_eq!(rt; code_of(rt.alloc(), line)?, code, "at {line}");
@@ -130,5 +143,25 @@ fn encode_and_check_have_their_words(rt: HostRuntime) -> Result<(), Fail> {
         return Err("no job of checking".into());
     };
     assert_eq!(rt; (job.cnf, job.lrat), ("c", "l"));
+    Ok(())
+}
+
+#[test]
+fn gen_and_trial_have_their_words(rt: HostRuntime) -> Result<(), Fail> {
+    let words = parted(rt.alloc(), "gen|1|2|3|out")?;
+    let Ok(Job::Gen(job)) = read_words(rt.alloc(), &words) else {
+        return Err("no job of generating".into());
+    };
+    let recipe = job.recipe;
+    assert_eq!(rt; (recipe.seed, recipe.side, recipe.nets), (1u32, 2u32, 3u32));
+    assert_eq!(rt; job.prefix, "out");
+    let words = parted(rt.alloc(), "trial|1|2|3|5|out|--conflicts|7|--keep")?;
+    let Ok(Job::Trial(job)) = read_words(rt.alloc(), &words) else {
+        return Err("no job of trying".into());
+    };
+    let recipe = job.recipe;
+    assert_eq!(rt; (recipe.seed, recipe.side, recipe.nets), (1u32, 2u32, 3u32));
+    assert_eq!(rt; (job.most, job.prefix), (5u32, "out"));
+    assert_eq!(rt; (job.conflicts, job.keep), (7, true));
     Ok(())
 }

@@ -21,7 +21,8 @@ returns-in-Err-netlist-clause-stop g c =
       arch,
       c.in-Ok.ensures.says,
       inl (
-          stop-before (g.D.Desk.state c.architecture.new.desk) (g.D.Desk.state c.netlist.new.desk) before
+          stop-before (g.D.Desk.state c.architecture.new.desk)
+          (g.D.Desk.state c.netlist.new.desk) before
           (net_source names arch) c.in-Err-netlist.outcome c.in-Ok.ensures.files
           (c.in-Ok.ensures.quiet (λ e. e)) c.in-Err-netlist.ensures.stop),
     )
@@ -45,7 +46,8 @@ returns-in-Err-placement-clause-stop g c =
         netlist,
         says_net,
         inl (
-            stop-before (g.D.Desk.state c.netlist.new.desk) (g.D.Desk.state c.placement.new.desk) before
+            stop-before (g.D.Desk.state c.netlist.new.desk)
+            (g.D.Desk.state c.placement.new.desk) before
             (place_source names arch netlist) c.in-Err-placement.outcome files_net faults_net
             c.in-Err-placement.ensures.stop),
       ),
@@ -79,8 +81,9 @@ returns-in-Err-global_route-clause-stop g c =
           placement,
           says_place,
           inl (
-              stop-before (g.D.Desk.state c.placement.new.desk) (g.D.Desk.state c.global_route.new.desk)
-              before (route_source names) c.in-Err-global_route.outcome files_place faults_place
+              stop-before (g.D.Desk.state c.placement.new.desk)
+              (g.D.Desk.state c.global_route.new.desk) before (route_source names)
+              c.in-Err-global_route.outcome files_place faults_place
               c.in-Err-global_route.ensures.stop),
         ),
       ),

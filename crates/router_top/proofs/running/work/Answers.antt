@@ -1,4 +1,4 @@
-use Rattle.std.proofs.Common.{inr}
+use Rattle.std.proofs.Common.{inr, refl}
 use Rattle.router_top.proofs.running.work.Goals as goal
 
 pub returns-in-Ok-Route-clause-leaves : goal.returns-in-Ok-Route-clause-leaves
@@ -15,3 +15,13 @@ pub returns-in-Ok-Sweep-clause-leaves : goal.returns-in-Ok-Sweep-clause-leaves
 returns-in-Ok-Sweep-clause-leaves g c =
     let asked = rw c.in-Ok-Sweep.field-0-is at c.in-Ok-Sweep.ensures.answers in
     inr (rw asked c.sweep.ensures.leaves)
+
+pub returns-in-Ok-Gen-clause-leaves : goal.returns-in-Ok-Gen-clause-leaves
+returns-in-Ok-Gen-clause-leaves g c =
+    let asked = rw c.in-Ok-Gen.field-0-is at c.in-Ok-Gen.ensures.answers in
+    inr (rw asked (c.generate_files.ensures, refl))
+
+pub returns-in-Ok-Trial-clause-leaves : goal.returns-in-Ok-Trial-clause-leaves
+returns-in-Ok-Trial-clause-leaves g c =
+    let asked = rw c.in-Ok-Trial.field-0-is at c.in-Ok-Trial.ensures.answers in
+    inr (rw asked (c.trial.ensures, refl))

@@ -1,0 +1,36 @@
+use Rattle.std.proofs.Common.{◌∙◌, refl, ap, subst, inl, inr}
+use Rattle.desk_io.specs.Files.{Bytes}
+use Rattle.desk_io.specs.ShelfState.{FailsToSay, ShelfState, after_say}
+use Rattle.router_words.specs.Job.{trial_said}
+use Rattle.router_top.specs.Search.{sweep_of}
+use Rattle.router_top.specs.Work.{Sweeps}
+use Rattle.router_top.proofs.trying.trial.Goals as goal
+
+pub returns-in-Err : goal.returns-in-Err
+returns-in-Err g c = inl (c.in-Err.ensures.none, refl)
+
+pub returns-in_default : goal.returns-in_default
+returns-in_default g c =
+    let line = c.as_bytes.ensures.value ∙ c.deref.ensures.0 ∙ c.size_line.ensures.line in
+    inr (
+      c.in-Ok.problem,
+      record { made = c.in-Ok.ensures.made; few = c.size_line.ensures.few },
+      inr (
+        subst (λ (said : Bytes). FailsToSay (g.S.Shelf.state c.args.shelf.now) said
+            (g.S.Shelf.state c.say.new.self)) line c.in_default.ensures.err,
+        refl,
+      ),
+    )
+
+pub returns : goal.returns
+returns g c =
+    let job = trial_said c.args.job.now in
+    let line = c.as_bytes.ensures.value ∙ c.deref.ensures.0 ∙ c.size_line.ensures.line in
+    inr (
+      c.in-Ok.problem,
+      record { made = c.in-Ok.ensures.made; few = c.size_line.ensures.few },
+      inl (subst (λ (shelf : ShelfState). Sweeps (sweep_of job) c.in-Ok.problem shelf
+          (g.S.Shelf.state c.search_widths.new.shelf) c.search_widths.result)
+          (c.in-Ok-say.ensures.ok ∙ ap (after_say (g.S.Shelf.state c.args.shelf.now)) line)
+          c.search_widths.ensures),
+    )

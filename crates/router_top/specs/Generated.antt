@@ -1,0 +1,113 @@
+-- Problems that are made from a number: their files, and the desk on which these stand alone.
+use Rattle.std.specs.Prelude.{◌≡◌, ◌⊎◌, ℕ, ◌*◌, ◌<◌, ◌≤◌, ◌++◌, ◌+◌, false, List, [], ◌∷◌, length, codes, Option, Some, None}
+use Rattle.std.specs.FinMap.{empty}
+use Rattle.desk_io.specs.DeskState.{DeskState}
+use Rattle.desk_io.specs.Files.{FileMap}
+use Rattle.fpga_types.specs.FitCauses.{code_of}
+use Rattle.fpga_types.specs.Problem.{RoutingProblem}
+use Rattle.fpga_types.specs.Slots.{slots}
+use Rattle.fpga_types.specs.declared.fit_cause.FitCause.TheVariants.{PastLimit}
+use Rattle.fpga_types.specs.declared.limits.TheConstants.{SIDE_LIMIT, SLOT_LIMIT}
+use Rattle.route_gen.specs.Fitting.{AreRead}
+use Rattle.route_gen.specs.Generated.{generated}
+use Rattle.route_gen.specs.Texts.{Texts}
+use Rattle.router_words.specs.Job.{FilesAsked, RecipeAsked}
+use Rattle.router_words.specs.Word.{Word}
+use Rattle.router_top.specs.FourFiles.{GivesNone, Poses}
+use Rattle.router_top.specs.Sources.{HasBytes, IsStopped}
+use Rattle.router_top.specs.Written.{NamedText, with_files}
+use Rattle.router_top.specs.declared.outcome.Outcome.{Outcome}
+use Rattle.router_top.specs.declared.outcome.Outcome.TheVariants.{Limit, OutOfMemory}
+
+-- there is a block to drive each net
+abbrev pub HasRoom : RecipeAsked → Type 0
+HasRoom recipe = recipe.nets ≤ recipe.side * recipe.side
+
+-- there are more nets than blocks, and the outcome has their number
+abbrev pub IsTooMany : RecipeAsked → Outcome → Type 0
+IsTooMany recipe outcome =
+    (recipe.side * recipe.side < recipe.nets) × (outcome ≡ Limit 903 recipe.nets)
+
+-- no problem was made, and the outcome says why
+abbrev pub MakesNone : RecipeAsked → Outcome → Type 0
+MakesNone recipe outcome = IsTooMany recipe outcome ⊎ (outcome ≡ OutOfMemory)
+
+-- the texts of the problem
+abbrev pub texts_of : RecipeAsked → Texts
+texts_of recipe = generated recipe.seed recipe.side recipe.nets
+
+-- the names of its files
+abbrev pub generated_names : (prefix : Word) → FilesAsked
+generated_names prefix = record {
+  architecture = prefix ++ codes ".arch";
+  netlist = prefix ++ codes ".net";
+  placement = prefix ++ codes ".place";
+  route = prefix ++ codes ".route";
+}
+
+-- four texts under these names, in the order in which they are written
+abbrev pub problem_files : FilesAsked → Texts → List NamedText
+problem_files names texts =
+    record { name = names.architecture; text = texts.architecture }
+    ∷ record { name = names.netlist; text = texts.netlist }
+    ∷ record { name = names.placement; text = texts.placement }
+    ∷ record { name = names.route; text = texts.route } ∷ []
+
+-- the four texts stand on the desk under these names
+pub record AreOn (files : Option FileMap) (names : FilesAsked) (texts : Texts) : Type 0 where
+  pub architecture : HasBytes files names.architecture texts.architecture
+  pub netlist : HasBytes files names.netlist texts.netlist
+  pub placement : HasBytes files names.placement texts.placement
+  pub route : HasBytes files names.route texts.route
+
+-- on whatever desk the texts stand, they pose this problem
+abbrev pub PosesAnywhere : Texts → RoutingProblem → Type 0
+PosesAnywhere texts p =
+    (files : Option FileMap) (names : FilesAsked) → AreOn files names texts → Poses files names p
+
+-- on whatever desk the texts stand, they give no problem, and the outcome says why
+abbrev pub GivesNoneAnywhere : Texts → Outcome → Type 0
+GivesNoneAnywhere texts outcome =
+    (desk : DeskState) (names : FilesAsked) → AreOn desk.files names texts
+    → GivesNone (IsStopped desk desk) desk.files names outcome
+
+-- an array may have this side, there is a block to drive each net, and the texts read as the four
+-- values of this problem
+pub record IsMade (recipe : RecipeAsked) (p : RoutingProblem) : Type 0 where
+  pub side : (1 ≤ recipe.side) × (recipe.side ≤ SIDE_LIMIT)
+  pub room : HasRoom recipe
+  pub read : AreRead (texts_of recipe) p
+
+-- the problem that is made has more slots than may be, and the outcome says so
+abbrev pub IsTooLarge : RecipeAsked → Outcome → Type 0
+IsTooLarge recipe outcome =
+    (p : RoutingProblem) × IsMade recipe p × (SLOT_LIMIT < length (slots p.route))
+    × (outcome ≡ Limit (code_of PastLimit) (SLOT_LIMIT + 1))
+
+-- this problem is made, and has no more slots than may be
+pub record Makes (recipe : RecipeAsked) (p : RoutingProblem) : Type 0 where
+  pub made : IsMade recipe p
+  pub few : length (slots p.route) ≤ SLOT_LIMIT
+
+-- no problem was made, or one with too many slots, and the outcome says which
+abbrev pub PosesNone : RecipeAsked → Outcome → Type 0
+PosesNone recipe outcome = MakesNone recipe outcome ⊎ IsTooLarge recipe outcome
+
+-- the files of the problem
+abbrev pub generated_files : RecipeAsked → (prefix : Word) → List NamedText
+generated_files recipe prefix = problem_files (generated_names prefix) (texts_of recipe)
+
+-- a desk with these files alone, which has not failed
+abbrev pub desk_with : List NamedText → DeskState
+desk_with files = record {
+  files = with_files files (Some empty);
+  is_started = false;
+  started = None;
+  left = None;
+  faults = 0;
+  fault_name = None;
+}
+
+-- the desk on which the files of the problem stand alone
+abbrev pub generated_desk : RecipeAsked → (prefix : Word) → DeskState
+generated_desk recipe prefix = desk_with (generated_files recipe prefix)

@@ -1,0 +1,67 @@
+-- What each answer means.
+use Rattle.std.specs.Prelude.{◌≡◌, ◌⊎◌, List, [], ◌∷◌, ⊤, length, Ok, Option}
+use Rattle.desk_io.specs.Files.{FileMap}
+use Rattle.fpga_types.specs.Problem.{RoutingProblem}
+use Rattle.route_encode.specs.Encoding.{cnf_of}
+use Rattle.route_sweep.specs.Found.{HasFew}
+use Rattle.sat_clause.specs.Formula.{Cnf, IsUnsat}
+use Rattle.sat_clause.specs.Judge.{Accepts}
+use Rattle.sat_clause.specs.Step.{Step}
+use Rattle.sat_text.specs.CnfText.{ReadsCnf, cnf_said}
+use Rattle.sat_text.specs.LratText.{lrat_said}
+use Rattle.sat_text.specs.Printed.{cnf_text}
+use Rattle.router_words.specs.Command.{job_of}
+use Rattle.router_words.specs.Job.{CheckAsked, Checks, EncodeAsked, Encodes, GenAsked, Generates}
+use Rattle.router_words.specs.Word.{Word}
+use Rattle.router_top.specs.Check.{cnf_source, lrat_source}
+use Rattle.router_top.specs.FourFiles.{Poses}
+use Rattle.router_top.specs.Generated.{HasRoom, generated_files}
+use Rattle.router_top.specs.Headline.{IsLeftOpen, IsRefuted, IsRouted}
+use Rattle.router_top.specs.Sources.{Says}
+use Rattle.router_top.specs.Work.{clauses_name}
+use Rattle.router_top.specs.Written.{AreWritten}
+use Rattle.router_top.specs.declared.outcome.Outcome.{Outcome}
+use Rattle.router_top.specs.declared.outcome.Outcome.TheVariants.{Accepted, Done, Routed, Undecided, Unroutable}
+
+-- the words ask for the clauses, and one file alone was written: those of the problem
+pub record IsEncoded (words : List Word) (desk before now : Option FileMap) : Type 0 where
+  pub job : EncodeAsked
+  pub p : RoutingProblem
+  pub asked : job_of words ≡ Ok (Encodes job)
+  pub poses : Poses desk job.files p
+  pub few : HasFew (cnf_of job.width p)
+  pub reads_back : ReadsCnf (cnf_text (cnf_of job.width p)) (cnf_of job.width p)
+  pub written : AreWritten
+      (record { name = clauses_name job; text = cnf_text (cnf_of job.width p) } ∷ []) before now
+
+-- the words ask for a generated problem, there are blocks for its nets, and its four files alone
+-- were written
+pub record IsGenerated (words : List Word) (before now : Option FileMap) : Type 0 where
+  pub job : GenAsked
+  pub asked : job_of words ≡ Ok (Generates job)
+  pub room : HasRoom job.recipe
+  pub written : AreWritten (generated_files job.recipe job.prefix) before now
+
+-- the words ask for a check, both files read, and the log refutes the formula; so no truth values
+-- satisfy it
+pub record IsProved (words : List Word) (desk : Option FileMap) : Type 0 where
+  pub job : CheckAsked
+  pub cnf : Cnf
+  pub log : List Step
+  pub asked : job_of words ≡ Ok (Checks job)
+  pub reads_cnf : Says desk (cnf_source job.cnf) cnf_said cnf
+  pub reads_lrat : Says desk (lrat_source job.lrat (length cnf.clauses)) lrat_said log
+  pub accepts : Accepts cnf log
+  pub unsat : IsUnsat cnf
+
+-- what an answer means, by the files of the desk and those of the shelf before the run and after
+-- it; of the answers that something keeps the run from its work, *Runs* speaks
+abbrev pub Means : List Word → (desk before now : Option FileMap) → Outcome → Type 0
+Means words desk before now (Routed width) = IsRouted words desk before now width
+Means words desk before now (Unroutable width) = IsRefuted words desk before now width
+Means words desk before now (Undecided width learned) =
+    IsLeftOpen words desk before now width learned
+Means words desk before now Done =
+    IsEncoded words desk before now ⊎ IsGenerated words before now
+Means words desk before now Accepted = IsProved words desk
+Means words desk before now outcome = ⊤

@@ -1,0 +1,67 @@
+//! The command `trial`: a sweep of a generated problem.
+ghost use Rattle.std.specs.Prelude.{◌≡◌, ◌≤◌, length, IfErr, IfOk};
+ghost use Rattle.fpga_types.specs.Slots.{slots};
+ghost use Rattle.fpga_types.specs.declared.limits.TheConstants.{SLOT_LIMIT};
+ghost use Rattle.router_words.specs.Job.{recipe_said, trial_said};
+ghost use Rattle.router_top.specs.Generated.{IsMade, PosesNone};
+ghost use Rattle.router_top.specs.Run.{TriesGenerated};
+ghost use Rattle.router_top.specs.Trial.{trial_line};
+
+use crate::four_texts::pose_texts;
+use crate::generating::make_texts;
+use crate::outcome::{LINE_ROOM, Outcome, push_count};
+use crate::slot::Slot;
+use crate::sweeping::search_widths;
+use arrayvec::ArrayString;
+use desk_io::Shelf;
+use fpga_bounds::PlacedProblem;
+use route_sweep::Ask;
+use router_words::{Recipe, TrialJob};
+use std::alloc::Global;
+
+// The line that says how large a problem is.
+fn size_line(problem: &PlacedProblem) -> ArrayString<LINE_ROOM>
+    ensures line { result.bytes ≡ trial_line problem.now }
+    ensures few { length (slots problem.now.route) ≤ SLOT_LIMIT }
+{
+    let mut line = ArrayString::new();
+    push_count(&mut line, "trial: slots ", problem.slots().len() as u64);
+    push_count(&mut line, " steps ", problem.steps().len() as u64);
+    push_count(&mut line, " pairs ", problem.pairs());
+    line.push_str("\n");
+    line
+}
+
+// The problem that a recipe makes. The error is what the run comes to.
+fn make_problem(alloc: Global, recipe: Recipe) -> Result<PlacedProblem, Outcome>
+    ensures made { IfOk result (IsMade (recipe_said recipe)) }
+    ensures none { IfErr result (PosesNone (recipe_said recipe)) }
+{
+    let texts = match make_texts(alloc, recipe) {
+        Ok(texts) => texts,
+        Err(outcome) => return Err(outcome),
+    };
+    pose_texts(alloc, &texts)
+}
+
+/// Makes a problem from its recipe, says how large it is, and searches at the widths from 1 on, as
+/// a sweep does; writes what a sweep writes.
+pub fn trial<S: Shelf>(alloc: Global, job: &TrialJob<'_>, shelf: &mut S) -> Outcome
+    ensures { TriesGenerated (trial_said job.now) (S.state shelf.old) (S.state shelf.new)
+        result }
+{
+    let problem = match make_problem(alloc, job.recipe) {
+        Ok(problem) => problem,
+        Err(outcome) => return outcome,
+    };
+    let Ok(()) = shelf.say(size_line(&problem).as_bytes()) else {
+        return Outcome::WriteFault { slot: Slot::Said };
+    };
+    let ask = Ask {
+        budget: job.conflicts,
+        keep: job.keep,
+        prefix: job.prefix,
+        numbered: true,
+    };
+    search_widths(alloc, &problem, job.most, &ask, shelf)
+}
