@@ -3,7 +3,7 @@
 ghost use Rattle.std.specs.Prelude.{◌≤◌, All, IfOk, length};
 ghost use Rattle.sat_clause.specs.Literal.{IsWithin};
 
-use crate::{Answer, solve};
+use crate::{Answer, Search, Turn, solve};
 use sat_clause::{Formula, Lit, Log, holds};
 use std::alloc::{AllocError, Global};
 use std::process::Abort;
@@ -119,5 +119,41 @@ fn hints_of_a_refutation(rt: HostRuntime) -> Result<(), Fail> {
     let step = log.step(0);
     assert_eq!(rt; (step.id, step.lits.len()), (4, 0));
     assert_eq!(rt; step.hints, [1, 2, 3].as_slice());
+    Ok(())
+}
+
+/// A search that is handed on by turns refutes at its first one.
+#[test]
+fn turn_that_refutes(rt: HostRuntime) -> Result<(), Fail> {
+    let clauses: [&[i32]; 3] = [&[1], &[2], &[-1, -2]];
+    let formula = formula_of(&rt, rt.alloc(), 2, &clauses)?;
+    let mut log = Log::new(rt.alloc());
+    let mut search = Search::new(rt.alloc(), &formula, 0)?;
+    assert_eq!(rt; search.taken(), 0);
+    let turn = search.turn(&formula, &mut log)?;
+    assert!(rt; matches!(turn, Turn::Refuted));
+    assert_eq!(rt; log.len(), 1);
+    assert_eq!(rt; log.step(0).id, 4);
+    Ok(())
+}
+
+/// Each seed has a search decide otherwise: the first clauses that are learned are not all one.
+#[test]
+fn seeds_decide_otherwise(rt: HostRuntime) -> Result<(), Fail> {
+    let formula = formula_of(&rt, rt.alloc(), 6, &THREE_ON_TWO)?;
+    let mut before = None;
+    let mut differ = false;
+    for seed in 1..9 {
+        let mut log = Log::new(rt.alloc());
+        let mut search = Search::new(rt.alloc(), &formula, seed)?;
+        let turn = search.turn(&formula, &mut log)?;
+        assert!(rt; matches!(turn, Turn::Learned));
+        assert_eq!(rt; search.taken(), 1);
+        assert!(rt; 0 < log.len());
+        let learned = log.step(0).lits.first().copied();
+        differ = differ || before.is_some() && learned != before;
+        before = learned;
+    }
+    assert!(rt; differ);
     Ok(())
 }
