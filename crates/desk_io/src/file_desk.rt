@@ -1,14 +1,14 @@
 //! A desk of files of the system. What they hold is not told.
-ghost use Rattle.std.specs.Prelude.{◌≡◌, false};
+ghost use Rattle.std.specs.Prelude.{◌≡◌, ◌≤◌, false, length, IfOk};
 ghost use Rattle.desk_io.specs.SystemFiles.{file_desk_state};
 
 use crate::desk::{Desk, Failed};
 use std::fs;
-use std::io::Read;
+use std::io::{self, ErrorKind, Read};
 use std::marker::Model;
 use std::rt::Files;
 
-/// Reads files of the system, whose names are paths.
+/// Reads files of the system, whose names are paths. A read that a signal interrupts is tried again.
 #[derive(Drop)]
 pub struct FileDesk<'a, R: Files> {
     rt: &'a R,
@@ -59,10 +59,23 @@ impl<'a, R: Files> Desk for FileDesk<'a, R> {
         let Some(file) = &mut self.file else {
             unreachable!()
         };
-        let Ok(count) = file.read(buf) else {
+        let Ok(count) = read_through(file, buf) else {
             self.faults = self.faults.saturating_add(1);
             return Err(Failed);
         };
         Ok(count)
     }
+}
+
+// Reads as often as signals interrupt it.
+fn read_through<F: Read>(file: &mut F, buf: &mut [u8]) -> io::Result<usize>
+    ensures { IfOk result (λ count. count ≤ length buf.old) }
+{
+    for _ in 0..u64::MAX {
+        match file.read(buf) {
+            Err(e) if e.kind() == ErrorKind::Interrupted => {}
+            answer => return answer,
+        }
+    }
+    Err(ErrorKind::Interrupted.into())
 }
