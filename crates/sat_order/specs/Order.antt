@@ -1,8 +1,8 @@
 -- The variables with their activities, and which of them are held.
-use Rattle.std.specs.Prelude.{◌≡◌, ℕ, ◌-◌, ◌/◌, ◌^◌, ◌≤◌, Bool, true, false, List, length, map, slice_index, slice_index_or, vec_len, Vec}
+use Rattle.std.specs.Prelude.{◌≡◌, ℕ, ◌-◌, ◌/◌, ◌^◌, ◌≤◌, ◌<◌, Bool, true, false, ◌||◌, List, [], ◌∷◌, length, map, slice_index, slice_index_or, vec_len, Vec}
 use Rattle.std.specs.Global.{Global}
 use Rattle.sat_clause.specs.declared.limits.TheConstants.{VARIABLE_LIMIT}
-use Rattle.sat_order.specs.Heap.{Seats, IsSeated, IsHeap}
+use Rattle.sat_order.specs.Heap.{Seats, IsSeated, IsBefore, IsHeap, held_of}
 
 -- the number of variables; variable v has its activity, and whether it is held, at place v - 1
 pub record OrderState : Type 0 where
@@ -42,9 +42,45 @@ IsEmpty s = (v : ℕ) → IsVariable s v → is_held s v ≡ false
 abbrev pub scaled : List ℕ → List ℕ
 scaled activities = map (λ a. a / 2 ^ 40) activities
 
--- the held variables are the first in their seats, as a heap
-pub record IsOrderStore (activities : Vec ℕ Global) (seats : Seats) (count : ℕ) : Type 0 where
+-- of each number, whether it is in one of two sets
+abbrev pub joined : List Bool → List Bool → List Bool
+joined [] ys = []
+joined (x ∷ xs) [] = x ∷ xs
+joined (x ∷ xs) (y ∷ ys) = (x || y) ∷ joined xs ys
+
+-- no number is in both sets
+abbrev pub AreApart : List Bool → List Bool → Type 0
+AreApart held idle =
+    (x : ℕ) → slice_index_or idle x false ≡ true → slice_index_or held x false ≡ false
+
+-- each number of the set has activity 0
+abbrev pub AreAsleep : List ℕ → List Bool → Type 0
+AreAsleep activities idle =
+    (x : ℕ) → slice_index_or idle x false ≡ true → slice_index activities x ≡ 0
+
+-- the first seat comes before each number of the set
+abbrev pub IsAhead : List ℕ → Seats → List Bool → Type 0
+IsAhead activities s idle = (x : ℕ) → slice_index_or idle x false ≡ true →
+    IsBefore activities (slice_index s.order 0) x
+
+-- some number of the set comes before this one
+pub record HasBefore (activities : List ℕ) (idle : List Bool) (x : ℕ) : Type 0 where
+  pub number : ℕ
+  pub there : slice_index_or idle number false ≡ true
+  pub before : IsBefore activities number x
+
+-- some number of the set comes before each of the first seats
+abbrev pub IsBehind : List ℕ → Seats → ℕ → List Bool → Type 0
+IsBehind activities s count idle =
+    (i : ℕ) → i < count → HasBefore activities idle (slice_index s.order i)
+
+-- the held variables are the first in their seats, as a heap, and those of a set, all of activity 0
+pub record IsOrderStore (activities : Vec ℕ Global) (seats : Seats) (count : ℕ) (idle : List Bool)
+    : Type 0 where
   pub few : vec_len activities ≤ VARIABLE_LIMIT
   pub seated : IsSeated (length activities.items) seats
   pub within : count ≤ length activities.items
   pub heap : IsHeap activities.items seats count 0
+  pub whole : length idle ≡ length activities.items
+  pub apart : AreApart (held_of count seats) idle
+  pub asleep : AreAsleep activities.items idle

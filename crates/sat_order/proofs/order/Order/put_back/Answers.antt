@@ -1,42 +1,42 @@
-use Rattle.std.proofs.Common.{◌≡◌, ◌-◌, ◌<◌, ℕ, length, arith, subst, sym, ap}
-use Rattle.sat_order.specs.Order.{OrderState}
-use Rattle.sat_order.proofs.OrderLaws.{put, rising, stays}
+use Rattle.std.proofs.Common.{◌≡◌, ◌+◌, ◌-◌, ◌<◌, ℕ, Bool, true, false, List, length, get_or, set, sym, ap, ◌∙◌, subst, arith}
+use Rattle.std.proofs.lemmas.List.{set-get_or}
+use Rattle.sat_order.specs.Heap.{held_of}
+use Rattle.sat_order.specs.Order.{OrderState, joined}
+use Rattle.sat_order.proofs.JoinedLaws.{in_first, put_first, put_second}
+use Rattle.sat_order.proofs.OrderLaws.{early-in, held_changes}
+use Rattle.sat_order.proofs.SeatLaws.{length-held}
 use Rattle.sat_order.proofs.order.Order.put_back.Goals as goal
 
-pub returns-then-place-last : goal.returns-then-place-last
-returns-then-place-last c =
-    let o = c.self.inside in
+pub returns-then-place-self : goal.returns-then-place-self
+returns-then-place-self c =
+    let o = c.self.inside in let inv = c.self.invariant in let x : ℕ = c.args.v - 1 in
     let many : length o.activities.items ≡ c.args.self.now.vars =
     ap (λ (t : OrderState). t.vars) c.self.view_is in
-    let in_v : c.args.v - 1 < length o.activities.items =
+    let in_x : x < length o.activities.items =
     omega (arith, many, c.requires.first, c.requires.last) in
-    stays o.activities.items o.seats o.count c.self.invariant.seated (c.args.v - 1)
-    c.place-place.result c.args.self.now c.self.view_is in_v c.place-place.ensures.value
-    c.if-place-last.true
+    let there : get_or (joined (held_of o.count o.seats) o.idle) x false ≡ true =
+    in_first (held_of o.count o.seats) o.idle x
+    (early-in o.activities.items o.seats o.count inv.seated x in_x
+    (subst (λ (p : ℕ). p < o.count) c.place.ensures.value c.if-place-self.true)) in
+    sym c.self.view_is
+    ∙ held_changes o.activities.items o.seats o.seats o.count o.count o.idle o.idle x true
+    c.args.self.now c.self.view_is
+    (sym (set-get_or (joined (held_of o.count o.seats) o.idle) x false)
+    ∙ ap (λ (b : Bool). set (joined (held_of o.count o.seats) o.idle) x b) there)
 
-pub sift_up-requires-clause-rising : goal.sift_up-requires-clause-rising
-sift_up-requires-clause-rising c =
-    let o = c.self.inside in
-    let many : length o.activities.items ≡ c.args.self.now.vars =
-    ap (λ (t : OrderState). t.vars) c.self.view_is in
-    let in_v : c.args.v - 1 < length o.activities.items =
-    omega (arith, many, c.requires.first, c.requires.last) in
-    rw c.deref.ensures.value
-    (rising o.activities.items o.seats o.count c.self.invariant.seated c.swap.new.self
-    c.place-place.result
-    (subst (λ (p : ℕ). p < length o.activities.items) (sym c.place-place.ensures.value)
-    (c.self.invariant.seated.place (c.args.v - 1) in_v))
-    (omega (arith, c.if-place-last.false))
-    c.swap.ensures.exchanged c.self.invariant.heap)
+pub returns-then-index-eq0 : goal.returns-then-index-eq0
+returns-then-index-eq0 c =
+    let o = c.self.inside in let inv = c.self.invariant in let x : ℕ = c.args.v - 1 in
+    held_changes o.activities.items o.seats o.seats o.count o.count o.idle c.insert.new.self x true
+    c.args.self.now c.self.view_is
+    (ap (joined (held_of o.count o.seats)) c.insert.ensures
+    ∙ put_second (held_of o.count o.seats) o.idle x
+    (inv.whole ∙ sym (length-held (length o.activities.items) o.count o.seats inv.seated)))
 
 pub returns : goal.returns
 returns c =
-    let o = c.self.inside in
-    let many : length o.activities.items ≡ c.args.self.now.vars =
-    ap (λ (t : OrderState). t.vars) c.self.view_is in
-    let in_v : c.args.v - 1 < length o.activities.items =
-    omega (arith, many, c.requires.first, c.requires.last) in
-    put o.activities.items o.seats o.count c.self.invariant.seated c.swap.new.self
-    c.sift_up.new.seats (c.args.v - 1) c.place-place.result c.args.self.now c.self.view_is
-    in_v c.place-place.ensures.value (omega (arith, c.if-place-last.false))
-    c.swap.ensures.exchanged c.sift_up.ensures.held
+    let o = c.self.inside in let x : ℕ = c.args.v - 1 in
+    held_changes o.activities.items o.seats c.enter.new.seats o.count (o.count + 1) o.idle o.idle x
+    true c.args.self.now c.self.view_is
+    (ap (λ (l : List Bool). joined l o.idle) c.enter.ensures.held
+    ∙ put_first (held_of o.count o.seats) o.idle x)
