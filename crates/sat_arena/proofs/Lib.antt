@@ -1,3 +1,4 @@
+pub mod BehindLemmas
 pub mod BlockLemmas
 pub mod ClosingLemmas
 pub mod CompactLemmas

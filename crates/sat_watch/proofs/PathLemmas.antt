@@ -3,7 +3,7 @@ use Rattle.std.proofs.Common.{◌≡◌, ◌≢◌, Bool, true, false, ◌⊎◌
 use Rattle.std.proofs.lemmas.Bool.{both_ways}
 use Rattle.sat_arena.specs.declared.clause_ref.ClauseRef.{ClauseRef}
 use Rattle.sat_arena.proofs.StoreLaws.{same_or_other}
-use Rattle.sat_watch.specs.Chains.{Next, IsPath, is_in, AreOnce, last_or, IsCursor, HasChain}
+use Rattle.sat_watch.specs.Chains.{GoesOn, Next, IsPath, is_in, AreOnce, last_or, HasCursor, IsCursor, HasChain}
 use Rattle.sat_watch.proofs.TrailLemmas.{never}
 
 pub in_here : (c : ClauseRef) (ds : List ClauseRef) → is_in (c ∷ ds) c ≡ true
@@ -269,6 +269,14 @@ pub last_in_all : (xs : List ClauseRef) (q : ClauseRef) → last_or None xs ≡ 
     is_in xs q ≡ true
 last_in_all [] q e = let clash : None ≡ Some q = e in cc
 last_in_all (x ∷ xs) q e = last_in_some x xs q e
+
+-- the clause before a place in a chain is in it
+pub before_goes_on : (n : Next) (head before at : Option ClauseRef) → HasCursor n head before at →
+    (d : ClauseRef) → before ≡ Some d → GoesOn (n d)
+before_goes_on n head before at cursor d e =
+    let there = last_in_all cursor.kept d (cursor.is.last ∙ e) in
+    let goes = path_goes_on n head at cursor.kept d cursor.is.front there in
+    subst GoesOn (sym goes.1) tt
 
 not_before : (xs : List ClauseRef) (b : Option ClauseRef) (d : ClauseRef) → last_or None xs ≡ b →
     is_in xs d ≡ false → b ≢ Some d

@@ -10,9 +10,9 @@ use Rattle.sat_arena.specs.declared.clause_ref.ClauseRef.{ClauseRef}
 use Rattle.sat_arena.specs.Store.{Stored, is_held, link_of, stored_at}
 use Rattle.sat_watch.specs.declared.entry.TrailEntry.{TrailEntry}
 use Rattle.sat_watch.specs.declared.place.Place.{Place}
-use Rattle.sat_watch.specs.Chains.{holders, ChainsState, GoesOn, HasCursor, IsChained, IsCursor, IsPlaceOf, IsRewatched, MayBePlaceOf, clause_of, head_in, lit_at, next_by, next_on, watch_of}
+use Rattle.sat_watch.specs.Chains.{holders, ChainsState, GoesOn, IsChained, IsCursor, IsPlaceOf, IsRewatched, MayBePlaceOf, clause_of, head_in, lit_at, next_by, next_on, watch_of}
 use Rattle.sat_watch.specs.Watched.{Goes, Grows, IsImplied, IsVisited, LitsGo, OtherIsTrue, is_false, other_of}
-use Rattle.sat_watch.proofs.ChainLemmas.{before_apart, lits_moved, lits_stay}
+use Rattle.sat_watch.proofs.ChainLemmas.{lits_moved, lits_stay}
 use Rattle.sat_arena.proofs.StoreLaws.{same_or_other}
 use Rattle.sat_watch.proofs.PathLemmas.{advance, in_both, in_cases}
 use Rattle.sat_watch.proofs.StoredLemmas.{default_free, next_is_held}
@@ -158,10 +158,8 @@ lits_swap base lits w i f lw low high is free = record {
   ];
 }
 
-module _ (n : ℕ) (old : ChainsState) (entries : List TrailEntry) (f : Lit) (before : Option Place)
-    (at : Place) (after : Option ClauseRef)
+module _ (n : ℕ) (old : ChainsState) (f : Lit) (at : Place) (after : Option ClauseRef)
     (chained : IsChained n old.clauses old.heads) (place : IsPlaceOf old.clauses f at)
-    (places : MayBePlaceOf old.clauses f before)
     (goes : link_of (stored_at old.clauses at.clause) at.which ≡ after) where
   own : next_on old.clauses f at.clause ≡ Some after
   own =
@@ -169,17 +167,16 @@ module _ (n : ℕ) (old : ChainsState) (entries : List TrailEntry) (f : Lit) (be
       at.which place.which place.watch ∙ ap Some goes
 
   -- the clause stays in the chain
-  pub visited_kept : (now : List TrailEntry) →
+  pub visited_kept : (before : Option ClauseRef) (now : List TrailEntry) →
       OtherIsTrue now (stored_at old.clauses at.clause).lits f →
-      IsVisited f before at after old old now (Some at)
-  visited_kept now is_true = record {
-    place = place;
+      IsVisited f before at after old old now (Some at.clause)
+  visited_kept before now is_true = record {
     others = λ d ne. refl;
     cursor = λ kept rest cursor. record {
       kept_now = kept ++ at.clause ∷ [];
       is =
-          advance (next_on old.clauses f) (head_in old.heads f) kept rest at.clause
-          (clause_of before) after cursor own;
+          advance (next_on old.clauses f) (head_in old.heads f) kept rest at.clause before after
+          cursor own;
       were = λ d is. elim (in_both d kept (at.clause ∷ []) is) [
         | inl front ↦ inl front
         | inr back ↦ elim (in_cases d at.clause [] back) [
@@ -191,10 +188,10 @@ module _ (n : ℕ) (old : ChainsState) (entries : List TrailEntry) (f : Lit) (be
     };
   }
 
-  module _ (new : ChainsState) (i : ℕ) (head : Option ClauseRef) (low : 2 ≤ i)
+  module _ (entries : List TrailEntry) (before : Option Place)
+      (places : MayBePlaceOf old.clauses f before) (new : ChainsState) (i : ℕ)
+      (head : Option ClauseRef) (low : 2 ≤ i)
       (high : i < length (stored_at old.clauses at.clause).lits)
-      (cursor_at : HasCursor (next_on old.clauses f) (head_in old.heads f) (clause_of before)
-      (Some at.clause))
       (is : IsRewatched old.clauses new.clauses before at i after head) where
     stay : (d : ClauseRef) → d ≢ at.clause →
         (stored_at new.clauses d).lits ≡ (stored_at old.clauses d).lits
@@ -208,11 +205,8 @@ module _ (n : ℕ) (old : ChainsState) (entries : List TrailEntry) (f : Lit) (be
         IsCursor (next_on old.clauses f) (head_in old.heads f) kept (at.clause ∷ rest)
         (clause_of before) (Some at.clause) →
         IsCursor (next_on new.clauses f) (head_in new.heads f) kept rest (clause_of before) after) →
-        IsVisited f before at after old new now before
+        IsVisited f (clause_of before) at after old new now (clause_of before)
     visited_moved now moves_cursor = record {
-      place =
-          of_before before places
-          (before_apart old.clauses f (head_in old.heads f) before at.clause cursor_at);
       others = stay;
       cursor = λ kept rest cursor. record {
         kept_now = kept;
@@ -220,15 +214,6 @@ module _ (n : ℕ) (old : ChainsState) (entries : List TrailEntry) (f : Lit) (be
         were = λ d there. inl there;
       };
     }
-      where
-        of_before : (o : Option Place) → MayBePlaceOf old.clauses f o →
-            ((p : Place) → o ≡ Some p → p.clause ≢ at.clause) → MayBePlaceOf new.clauses f o
-        of_before None ok apart = tt
-        of_before (Some p) ok apart = record {
-          held = is.held p.clause ∙ ok.held;
-          which = ok.which;
-          watch = ap (λ l. watch_of l p.which) (stay p.clause (apart p refl)) ∙ ok.watch;
-        }
 
     pub goes_moved : (level : ℕ) → ((l : Lit) → holders l new.clauses ≡ holders l old.clauses) →
         is_false entries (lit_at (stored_at old.clauses at.clause).lits i) ≡ false →

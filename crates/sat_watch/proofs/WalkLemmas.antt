@@ -7,7 +7,7 @@ use Rattle.sat_arena.specs.declared.clause_ref.ClauseRef.{ClauseRef}
 use Rattle.sat_arena.specs.Store.{Stored, is_held, stored_at}
 use Rattle.sat_watch.specs.declared.entry.TrailEntry.{TrailEntry}
 use Rattle.sat_watch.specs.declared.place.Place.{Place}
-use Rattle.sat_watch.specs.Chains.{ChainsState, GoesOn, HasCursor, IsChained, IsCursor, clause_of, head_in, holders, is_in, next_by, next_on, watch_of}
+use Rattle.sat_watch.specs.Chains.{ChainsState, GoesOn, HasCursor, IsChained, IsCursor, head_in, holders, is_in, next_by, next_on, watch_of}
 use Rattle.sat_watch.specs.Watched.{Goes, IsVisited, IsWalking, OtherIsTrue, chain_length}
 use Rattle.sat_watch.proofs.GoesLemmas.{few_refs, goes_trans, grows_true, rest_length}
 use Rattle.sat_watch.proofs.PathLemmas.{at_end, at_first, once_before, path_goes_on}
@@ -51,7 +51,6 @@ walk_begins entries level f s looks next chained within is =
       cursor =
           subst (λ o. IsCursor (next_on s.clauses f) (head_in s.heads f) [] chain.refs None o)
           (sym is) chain.is;
-      place = tt;
       kept_true = λ d there. let clash : false ≡ true = there in cc;
       goes =
           goes_same entries level f s.clauses entries entries (grows_refl s.clauses level entries);
@@ -60,24 +59,24 @@ walk_begins entries level f s looks next chained within is =
 
 module _ (base : List TrailEntry) (level : ℕ) (f : Lit) (old : List Stored) (start : ℕ)
     (s : ChainsState) (entries : List TrailEntry)
-    (before : Option Place) (next : Option ClauseRef) (looks : ℕ)
+    (before next : Option ClauseRef) (looks : ℕ)
     (w : IsWalking base level f old start s entries before next looks) where
   module _ (c : ClauseRef) (is : next ≡ Some c) where
     cursor_here : IsCursor (next_on s.clauses f) (head_in s.heads f) w.kept w.rest
-        (clause_of before) (Some c)
+        before (Some c)
     cursor_here =
         subst (λ o. IsCursor (next_on s.clauses f) (head_in s.heads f) w.kept w.rest
-        (clause_of before) o) is w.cursor
+        before o) is w.cursor
 
     first : (others : List ClauseRef) × (w.rest ≡ c ∷ others)
     first =
-        at_first (next_on s.clauses f) (head_in s.heads f) w.kept w.rest (clause_of before) c
+        at_first (next_on s.clauses f) (head_in s.heads f) w.kept w.rest before c
         cursor_here
 
     cursor_first : IsCursor (next_on s.clauses f) (head_in s.heads f) w.kept (c ∷ first.0)
-        (clause_of before) (Some c)
+        before (Some c)
     cursor_first =
-        subst (λ l. IsCursor (next_on s.clauses f) (head_in s.heads f) w.kept l (clause_of before)
+        subst (λ l. IsCursor (next_on s.clauses f) (head_in s.heads f) w.kept l before
         (Some c)) first.1 cursor_here
 
     -- with the look at this clause they are still few
@@ -90,24 +89,24 @@ module _ (base : List TrailEntry) (level : ℕ) (f : Lit) (old : List Stored) (s
     goes_here = let back = cursor_first.back in subst GoesOn (sym back.1.1) tt
 
     pub has_cursor : (at : Place) → at.clause ≡ c →
-        HasCursor (next_on s.clauses f) (head_in s.heads f) (clause_of before) (Some at.clause)
+        HasCursor (next_on s.clauses f) (head_in s.heads f) before (Some at.clause)
     has_cursor at same = record {
       kept = w.kept;
       rest = c ∷ first.0;
       is =
           subst (λ r. IsCursor (next_on s.clauses f) (head_in s.heads f) w.kept (c ∷ first.0)
-          (clause_of before) (Some r)) (sym same) cursor_first;
+          before (Some r)) (sym same) cursor_first;
     }
 
     module _ (at : Place) (same : at.clause ≡ c) (after : Option ClauseRef) (new : ChainsState)
-        (now : List TrailEntry) (last : Option Place)
+        (now : List TrailEntry) (last : Option ClauseRef)
         (visited : IsVisited f before at after s new now last)
         (goes : Goes entries level f s.clauses new.clauses entries now) where
       here : IsCursor (next_on s.clauses f) (head_in s.heads f) w.kept (at.clause ∷ first.0)
-          (clause_of before) (Some at.clause)
+          before (Some at.clause)
       here =
           subst (λ r. IsCursor (next_on s.clauses f) (head_in s.heads f) w.kept (r ∷ first.0)
-          (clause_of before) (Some r)) (sym same) cursor_first
+          before (Some r)) (sym same) cursor_first
 
       pub walks_on : (looks' : ℕ) → looks' ≤ looks + 1 →
           IsWalking base level f old start new now last after looks'
@@ -119,7 +118,6 @@ module _ (base : List TrailEntry) (level : ℕ) (f : Lit) (old : List Stored) (s
             kept = moved.kept_now;
             rest = first.0;
             cursor = moved.is;
-            place = visited.place;
             kept_true = λ d there. elim (moved.were d there) [
               | inl was ↦
                   let apart : d ≢ at.clause =
@@ -140,10 +138,10 @@ module _ (base : List TrailEntry) (level : ℕ) (f : Lit) (old : List Stored) (s
       walk_shorter =
           let moved = visited.cursor w.kept first.0 here in
           let long : length w.rest ≡ suc (length first.0) = ap length first.1 in
-          let was = rest_length s.clauses f (head_in s.heads f) w.kept w.rest (clause_of before)
+          let was = rest_length s.clauses f (head_in s.heads f) w.kept w.rest before
           next w.cursor in
           let now_is = rest_length new.clauses f (head_in new.heads f) moved.kept_now first.0
-          (clause_of last) after moved.is in
+          last after moved.is in
           rw (was, now_is, long) (omega arith)
 
   -- at the end each clause that watches f was kept
@@ -153,9 +151,9 @@ module _ (base : List TrailEntry) (level : ℕ) (f : Lit) (old : List Stored) (s
       let k = stored_at s.clauses c in
       let held : is_held s.clauses c ≡ true = by_test (is_held s.clauses c) refl v at in
       let goes = own_next s.vars k.lits v f k.link0 k.link1 (chained.simple c held) lt at in
-      let none = at_end (next_on s.clauses f) (head_in s.heads f) w.kept w.rest (clause_of before)
+      let none = at_end (next_on s.clauses f) (head_in s.heads f) w.kept w.rest before
       (subst (λ x. IsCursor (next_on s.clauses f) (head_in s.heads f) w.kept w.rest
-      (clause_of before) x) is w.cursor) in
+      before x) is w.cursor) in
       let there = w.cursor.whole c (pick v k.link0 k.link1) goes in
       w.kept_true c (subst (λ l. is_in l c ≡ true) (ap (λ l. w.kept ++ l) none ∙ append-nil w.kept)
       there) v o lt at at_o

@@ -6,7 +6,7 @@ use Rattle.std.proofs.lemmas.List.Sorted.{IsPermutation-refl, IsPermutation-tran
 use Rattle.sat_clause.specs.declared.literal.Lit.{Lit}
 use Rattle.sat_clause.specs.Literal.{IsWithin, lit, negation, is_among}
 use Rattle.sat_arena.specs.declared.clause_ref.ClauseRef.{ClauseRef}
-use Rattle.sat_arena.specs.Store.{ArePlaced, Stored, is_held, size_of, stored_at}
+use Rattle.sat_arena.specs.Store.{ArePlaced, Stored, behind_of, first_ref, is_held, size_of, stored_at}
 use Rattle.sat_watch.specs.declared.entry.TrailEntry.{TrailEntry}
 use Rattle.sat_watch.specs.Chains.{holders, ChainsState}
 use Rattle.std.proofs.Math.Seq.{drop-append-add}
@@ -15,7 +15,7 @@ use Rattle.sat_watch.specs.Trail.{IsOpen, TrailState, falses}
 use Rattle.sat_watch.proofs.FewLemmas.{longer_trail}
 use Rattle.sat_watch.proofs.BackLemmas.{settled_below, settled_now}
 use Rattle.sat_watch.specs.Watched.{AreImplied, AreWhole, Goes, IsReason, is_false}
-use Rattle.sat_watch.specs.Watches.{AreInPlace, Attached, HasCause, HasLevels, IsSettledState, IsWatches, IsWithinLooks, holder_count, holder_sum, left_queued, taken_between, Propagates, SameClauses, WatchState, attached, id_at, is_attached, lits_at, watch_state}
+use Rattle.sat_watch.specs.Watches.{AreInPlace, Attached, attached_behind, first_attached, HasCause, HasLevels, IsSettledState, IsWatches, IsWithinLooks, holder_count, holder_sum, left_queued, taken_between, Propagates, SameClauses, WatchState, attached, id_at, is_attached, lits_at, watch_state}
 use Rattle.sat_arena.proofs.StoreLaws.{same_or_other}
 use Rattle.sat_clause.proofs.LiteralLaws.{among_here, among_more}
 
@@ -41,6 +41,19 @@ attached_id [] c = refl
 attached_id (k ∷ ks) c = elim (same_or_other k.place c) [
   | inl same ↦ rw same.0 refl
   | inr other ↦ rw other.0 (attached_id ks c)
+]
+
+-- which clause stands first, and which ones behind another
+pub attached_first : (ks : List Stored) → first_attached (map attached ks) ≡ first_ref ks
+attached_first [] = refl
+attached_first (k ∷ ks) = refl
+
+pub attached_next : (ks : List Stored) (c : ClauseRef) →
+    attached_behind (map attached ks) c ≡ map attached (behind_of ks c)
+attached_next [] c = refl
+attached_next (k ∷ ks) c = elim (same_or_other k.place c) [
+  | inl same ↦ rw same.0 refl
+  | inr other ↦ rw other.0 (attached_next ks c)
 ]
 
 -- the clauses stand one behind the other

@@ -1,8 +1,8 @@
 pub mod Chains
 pub mod Choice
 pub mod Forget
-pub mod Head
 pub mod Levels
+pub mod Link
 pub mod Relinking
 pub mod Tests
 pub mod Trail

@@ -10,7 +10,7 @@ use Rattle.sat_watch.specs.declared.sight.Sight.{Sight}
 use Rattle.sat_watch.specs.declared.sight.Sight.TheVariants.{IsTrueAlready, Open, Unit, IsFalseNow}
 use Rattle.sat_watch.specs.Trail.{IsOpen, IsTrail, TrailState, falses}
 use Rattle.sat_watch.specs.declared.place.Place.{Place}
-use Rattle.sat_watch.specs.Chains.{holders, AreChained, ChainsState, IsCursor, MayBePlaceOf, clause_of, head_in, is_in, lit_at, next_on, watch_of}
+use Rattle.sat_watch.specs.Chains.{holders, AreChained, ChainsState, IsCursor, head_in, is_in, lit_at, next_on, watch_of}
 
 -- the chains are whole, and the trail is one of the same variables
 pub record AreWhole (c : ChainsState) (t : TrailState) : Type 0 where
@@ -124,31 +124,27 @@ pub record NextCursor
   pub were : (d : ClauseRef) → is_in kept_now d ≡ true →
       (is_in kept d ≡ true) ⊎ OtherIsTrue now (stored_at new.clauses d).lits f
 
--- what a visit of the clause at a place leaves: the place behind which the next clause stands
+-- what a visit of the clause at a place leaves: the clause behind which the next one stands
 pub record IsVisited
-    (f : Lit) (before : Option Place) (at : Place) (after : Option ClauseRef)
+    (f : Lit) (before : Option ClauseRef) (at : Place) (after : Option ClauseRef)
     (old new : ChainsState) (now : List TrailEntry)
-    (last : Option Place) : Type 0 where
-  pub place : MayBePlaceOf new.clauses f last
+    (last : Option ClauseRef) : Type 0 where
   pub others : (d : ClauseRef) → d ≢ at.clause →
       (stored_at new.clauses d).lits ≡ (stored_at old.clauses d).lits
   pub cursor : (kept rest : List ClauseRef) →
-      IsCursor (next_on old.clauses f) (head_in old.heads f) kept (at.clause ∷ rest)
-      (clause_of before) (Some at.clause) →
-      NextCursor f new now kept rest (clause_of last) after
+      IsCursor (next_on old.clauses f) (head_in old.heads f) kept (at.clause ∷ rest) before
+      (Some at.clause) →
+      NextCursor f new now kept rest last after
 
 -- a walk along the chain of f, which is false: the clauses that are kept have their other watch
 -- true
 pub record IsWalking
     (base : List TrailEntry) (level : ℕ) (f : Lit) (old : List Stored) (looks_before : ℕ)
-    (now : ChainsState) (entries : List TrailEntry) (before : Option Place)
-    (next : Option ClauseRef) (looks : ℕ)
+    (now : ChainsState) (entries : List TrailEntry) (before next : Option ClauseRef) (looks : ℕ)
     : Type 0 where
   pub kept : List ClauseRef
   pub rest : List ClauseRef
-  pub cursor : IsCursor (next_on now.clauses f) (head_in now.heads f) kept rest (clause_of before)
-      next
-  pub place : MayBePlaceOf now.clauses f before
+  pub cursor : IsCursor (next_on now.clauses f) (head_in now.heads f) kept rest before next
   pub kept_true : (d : ClauseRef) → is_in kept d ≡ true →
       OtherIsTrue entries (stored_at now.clauses d).lits f
   pub goes : Goes base level f old now.clauses base entries

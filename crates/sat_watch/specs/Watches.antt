@@ -46,6 +46,16 @@ abbrev pub id_at : List Attached → ClauseRef → ℕ
 id_at [] c = 0
 id_at (k ∷ ks) c = if k.place.word == c.word then k.id else id_at ks c
 
+-- the reference of the first of the clauses
+abbrev pub first_attached : List Attached → Option ClauseRef
+first_attached [] = None
+first_attached (k ∷ ks) = Some k.place
+
+-- the clauses that stand behind the one with this reference
+abbrev pub attached_behind : List Attached → ClauseRef → List Attached
+attached_behind [] c = []
+attached_behind (k ∷ ks) c = if k.place.word == c.word then ks else attached_behind ks c
+
 -- the first clause stands at this word, and each next one behind the literals of the one before and
 -- six words
 abbrev pub AreInPlace : ℕ → List Attached → Type 0

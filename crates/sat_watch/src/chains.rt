@@ -6,13 +6,13 @@ ghost use Rattle.sat_clause.specs.Learned.{IsSimple};
 ghost use Rattle.sat_clause.specs.Literal.{IsWithin};
 ghost use Rattle.sat_arena.specs.declared.clause_ref.ClauseRef.{ClauseRef};
 ghost use Rattle.sat_arena.specs.Compact.{AreRising, moves_of};
-ghost use Rattle.sat_arena.specs.Store.{is_held, link_of, stored_at};
+ghost use Rattle.sat_arena.specs.Store.{behind_of, first_ref, is_held, link_of, stored_at};
 ghost use Rattle.sat_watch.specs.Chains.{AreChained, GoesOn, HasCursor, IsAdded, IsCursor, IsPlaceOf, IsRewatched, MayBePlaceOf, clause_of, head_at, head_in, holders, literals, next_on};
 ghost use Rattle.sat_watch.specs.Choice.{IsAhead, after_first as after_first_of};
 ghost use Rattle.sat_watch.specs.Relinking.{marked, stored_without};
 ghost use Rattle.sat_watch.specs.Watches.{attached};
 
-use crate::head::Head;
+use crate::link::Link;
 use crate::links::{index, link_all, link_first, mark_all, push_ordered, put_first, unlink};
 use crate::place::Place;
 use sat_arena::{Arena, ClauseRef, Moves};
@@ -25,7 +25,7 @@ use std::marker::Model;
 pub(crate) struct Chains {
     vars: u32,
     arena: Arena,
-    heads: Vec<Head>,
+    heads: Vec<Link>,
 }
 
 impl Model for Chains {
@@ -63,7 +63,7 @@ impl Chains {
         ensures clauses { IfOk result (λ c. c.clauses ≡ []) }
         ensures chained { IfOk result AreChained }
     {
-        let heads = vec![in alloc; Head::none(); vars as usize * 2]?;
+        let heads = vec![in alloc; Link::none(); vars as usize * 2]?;
         Ok(Chains { vars, arena, heads })
     }
 
@@ -150,6 +150,7 @@ impl Chains {
         ensures value { result.now ≡ (literals self.now.clauses c) }
         ensures simple { IsSimple self.now.vars result.now }
         ensures few { length result.now ≤ LITERAL_LIMIT }
+        ensures near { c.word < 2 ^ 63 }
     {
         self.arena.lits(c)
     }
@@ -160,6 +161,21 @@ impl Chains {
         ensures value { result ≡ (stored_at self.now.clauses c).id }
     {
         self.arena.id(c)
+    }
+
+    /// The clause that stands first.
+    pub(crate) fn first(&self) -> Option<ClauseRef>
+        ensures { result ≡ first_ref self.now.clauses }
+    {
+        self.arena.first()
+    }
+
+    /// The clause that stands right behind this one.
+    pub(crate) fn behind(&self, c: ClauseRef) -> Option<ClauseRef>
+        requires held { is_held self.now.clauses c ≡ true }
+        ensures { result ≡ first_ref (behind_of self.now.clauses c) }
+    {
+        self.arena.behind(c)
     }
 
     /// The clause after this one in the chain of its literal at a position.
@@ -182,6 +198,19 @@ impl Chains {
             return Place { clause, which: 0 };
         }
         Place { clause, which: 1 }
+    }
+
+    /// The place in a literal's chain of the clause that a walk stands behind, if there is one.
+    pub(crate) fn place_before(&self, before: Link, f: Lit) -> Option<Place>
+        requires goes { (c : ClauseRef) → before ≡ Some c
+            → GoesOn (next_on self.now.clauses f c) }
+        ensures clause { clause_of result ≡ before }
+        ensures place { MayBePlaceOf self.now.clauses f result }
+    {
+        let Some(clause) = before.clause() else {
+            return None;
+        };
+        Some(self.place(clause, f))
     }
 
     /// Takes these clauses out. The others close up, and chains and heads are made anew.
@@ -208,7 +237,7 @@ impl Chains {
             mark_all(&mut self.arena, clauses, false);
             return Err(AllocError);
         };
-        self.heads.fill(Head::none());
+        self.heads.fill(Link::none());
         link_all(&mut self.arena, &mut self.heads, &moves, self.vars);
         Ok(moves)
     }

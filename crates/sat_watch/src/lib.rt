@@ -17,7 +17,7 @@
 mod chains;
 mod choice;
 mod entry;
-mod head;
+mod link;
 mod links;
 mod place;
 #[cfg(test)]

@@ -8,7 +8,7 @@ ghost use Rattle.sat_watch.specs.Chains.{HasHead, IsChained, IsLast, MayBePlaceO
 ghost use Rattle.sat_watch.specs.Relinking.{AreRefsOf, AreUnlinked, heads_with, linked, marked};
 ghost use Rattle.sat_watch.specs.Watches.{attached};
 
-use crate::head::Head;
+use crate::link::Link;
 use crate::place::Place;
 use sat_arena::{Arena, ClauseRef, Moves};
 use sat_clause::{LITERAL_LIMIT, Lit};
@@ -28,7 +28,7 @@ pub(crate) fn index(l: Lit) -> usize
 /// Links what stands before a clause in a literal's chain to what stands after it.
 pub(crate) fn unlink(
     arena: &mut Arena,
-    heads: &mut Vec<Head>,
+    heads: &mut Vec<Link>,
     f: Lit,
     before: Option<Place>,
     after: Option<ClauseRef>,
@@ -43,7 +43,7 @@ pub(crate) fn unlink(
     ensures heads { heads.new.items ≡ unlinked_heads f before after heads.old.items }
 {
     let Some(p) = before else {
-        heads[index(f)] = Head::of(after);
+        heads[index(f)] = Link::of(after);
         return;
     };
     arena.set_link(p.clause, p.which, after);
@@ -51,7 +51,7 @@ pub(crate) fn unlink(
 
 /// Swaps the literal at a position of a clause to the place, and puts the clause in front of that
 /// literal's chain.
-pub(crate) fn put_first(arena: &mut Arena, heads: &mut Vec<Head>, at: Place, k: u32)
+pub(crate) fn put_first(arena: &mut Arena, heads: &mut Vec<Link>, at: Place, k: u32)
     requires held { is_held arena.old.clauses at.clause ≡ true }
     requires which { at.which < 2 }
     requires low { 2 ≤ k }
@@ -67,7 +67,7 @@ pub(crate) fn put_first(arena: &mut Arena, heads: &mut Vec<Head>, at: Place, k: 
     let first = index(lits[k as usize]);
     arena.swap(at.clause, at.which, k);
     arena.set_link(at.clause, at.which, heads[first].clause());
-    heads[first] = Head::of(Some(at.clause));
+    heads[first] = Link::of(Some(at.clause));
 }
 
 /// Puts a clause behind the others, with the literal at position `i` first, and then the one that
@@ -90,7 +90,7 @@ pub(crate) fn push_ordered(arena: &mut Arena, lits: &[Lit], id: u32, i: u32, j: 
 }
 
 /// Puts a clause in front of the chains of its first two literals.
-pub(crate) fn link_first(arena: &mut Arena, heads: &mut Vec<Head>, c: ClauseRef)
+pub(crate) fn link_first(arena: &mut Arena, heads: &mut Vec<Link>, c: ClauseRef)
     requires held { is_held arena.old.clauses c ≡ true }
     requires two { 2 ≤ length (literals arena.old.clauses c) }
     requires first { HasHead arena.old.clauses heads.old.items c 0 }
@@ -109,8 +109,8 @@ pub(crate) fn link_first(arena: &mut Arena, heads: &mut Vec<Head>, c: ClauseRef)
     let (to_first, to_second) = (heads[first].clause(), heads[second].clause());
     arena.set_link(c, 0, to_first);
     arena.set_link(c, 1, to_second);
-    heads[first] = Head::of(Some(c));
-    heads[second] = Head::of(Some(c));
+    heads[first] = Link::of(Some(c));
+    heads[second] = Link::of(Some(c));
 }
 
 /// Marks these clauses, or takes their marks away.
@@ -125,7 +125,7 @@ pub(crate) fn mark_all(arena: &mut Arena, clauses: &[ClauseRef], on: bool)
 }
 
 /// Puts a clause in front of the chains of its first two literals, if it has two.
-fn relink(arena: &mut Arena, heads: &mut Vec<Head>, c: ClauseRef)
+fn relink(arena: &mut Arena, heads: &mut Vec<Link>, c: ClauseRef)
     requires held { is_held arena.old.clauses c ≡ true }
     requires first { 2 ≤ length (literals arena.old.clauses c)
         → HasHead arena.old.clauses heads.old.items c 0 }
@@ -143,7 +143,7 @@ fn relink(arena: &mut Arena, heads: &mut Vec<Head>, c: ClauseRef)
 }
 
 /// Links all clauses, whose chains are still empty. The moves tell their references.
-pub(crate) fn link_all(arena: &mut Arena, heads: &mut Vec<Head>, moves: &Moves, vars: u32)
+pub(crate) fn link_all(arena: &mut Arena, heads: &mut Vec<Link>, moves: &Moves, vars: u32)
     requires unlinked { AreUnlinked vars arena.old.clauses heads.old.items }
     requires references { AreRefsOf arena.old.clauses moves.now }
     ensures clauses { map attached arena.new.clauses ≡ map attached arena.old.clauses }

@@ -124,6 +124,9 @@ fn clause_is_forgotten(rt: HostRuntime) -> Result<(), Fail> {
     let c = attach(&mut watches, 3, &two(3, -2, 3), 2)?;
     let d = attach(&mut watches, 3, &two(3, -2, -3), 3)?;
     assert_eq!(rt; d.word, 16);
+    assert!(rt; watches.first().is_some());
+    assert_eq!(rt; watches.behind(c), Some(d));
+    assert!(rt; watches.behind(d).is_none());
     forget(&mut watches, rt.alloc(), 3, c)?;
     watches.assume(Lit { code: -1 });
     assert!(rt; watches.propagate(&mut looks).is_none());

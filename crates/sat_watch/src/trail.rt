@@ -132,10 +132,11 @@ impl Trail {
         ensures vars { self.new.vars ≡ self.old.vars }
         ensures entries { self.new.entries ≡ entry ∷ self.old.entries }
     {
+        let l = entry.lit;
         let older = self.len();
-        tell(&mut self.truths, self.vars, entry.lit, 1, 2);
-        self.places[entry.lit.variable() as usize - 1] = older;
         self.entries.push_reserved(entry);
+        tell(&mut self.truths, self.vars, l, 1, 2);
+        self.places[l.variable() as usize - 1] = older;
     }
 
     /// Takes the newest entry off, if there is one.

@@ -4,11 +4,12 @@ ghost use Rattle.std.specs.Prelude.{◌≡◌, ◌+◌, ◌^◌, ◌<◌, ◌≤
 ghost use Rattle.sat_clause.specs.Literal.{IsWithin};
 ghost use Rattle.sat_arena.specs.declared.clause_ref.ClauseRef.{ClauseRef};
 ghost use Rattle.sat_arena.specs.Store.{is_held, link_of, stored_at};
-ghost use Rattle.sat_watch.specs.Chains.{holders, HasCursor, IsPlaceOf, MayBePlaceOf, clause_of, head_in, next_on, literals};
+ghost use Rattle.sat_watch.specs.Chains.{holders, HasCursor, IsPlaceOf, head_in, next_on, literals};
 ghost use Rattle.sat_watch.specs.Watched.{AreWhole, GoesTo, IsVisited, OtherIsTrue, is_false, AreFalse};
 
 use crate::chains::Chains;
 use crate::entry::TrailEntry;
+use crate::link::Link;
 use crate::place::Place;
 use crate::sight::{Sight, look};
 use crate::trail::Trail;
@@ -16,24 +17,23 @@ use sat_arena::ClauseRef;
 use sat_clause::Lit;
 
 /// Visits the clause at a place in the chain of `f`, which is false: it stays there, where its
-/// other watched literal is true or is made true, or moves to another chain. Gives the place behind
-/// which the next clause stands, or none where the clause is false.
+/// other watched literal is true or is made true, or moves to another chain. Gives the clause behind
+/// which the next one stands then, or none where the clause is false.
 fn visit_clause(
     chains: &mut Chains,
     trail: &mut Trail,
     f: Lit,
     level: u32,
-    before: Option<Place>,
+    before: Link,
     at: Place,
     after: Option<ClauseRef>,
-) -> Option<Option<Place>>
+) -> Option<Link>
     requires whole { AreWhole chains.old trail.old }
     requires within { IsWithin chains.old.vars f }
     requires is_false { is_false trail.old.entries f ≡ true }
     requires at { IsPlaceOf chains.old.clauses f at }
-    requires before { MayBePlaceOf chains.old.clauses f before }
-    requires cursor { HasCursor (next_on chains.old.clauses f) (head_in chains.old.heads f)
-        (clause_of before) (Some at.clause) }
+    requires cursor { HasCursor (next_on chains.old.clauses f) (head_in chains.old.heads f) before
+        (Some at.clause) }
     requires after { link_of (stored_at chains.old.clauses at.clause) at.which ≡ after }
     requires near { IfSome after (λ c. c.word < 2 ^ 63) }
     ensures vars { chains.new.vars ≡ chains.old.vars }
@@ -46,10 +46,11 @@ fn visit_clause(
 {
     match look(trail, chains.lits(at.clause), at.which) {
         Sight::IsTrueAlready => {
-            return Some(Some(at));
+            return Some(Link::to(at.clause));
         }
         Sight::Open(k) => {
-            chains.rewatch(f, before, at, k, after);
+            let place = chains.place_before(before, f);
+            chains.rewatch(f, place, at, k, after);
             return Some(before);
         }
         Sight::Unit(lit) => {
@@ -58,7 +59,7 @@ fn visit_clause(
                 level,
                 reason: Some(at.clause),
             });
-            return Some(Some(at));
+            return Some(Link::to(at.clause));
         }
         Sight::IsFalseNow => {
             return None;
@@ -89,7 +90,7 @@ pub(crate) fn walk(
     ensures looks { looks.new ≤ looks.old + holders f chains.old.clauses }
 {
     let mut walked: u64 = 0;
-    let mut before: Option<Place> = None;
+    let mut before = Link::none();
     let mut next = chains.head(f);
     while let Some(clause) = next {
         walked = walked.wrapping_add(1);

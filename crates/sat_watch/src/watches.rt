@@ -10,7 +10,7 @@ ghost use Rattle.sat_watch.specs.Forget.{IsNoReason, OthersMove, OthersStay, for
 ghost use Rattle.sat_watch.specs.Levels.{due_without as due_without_of};
 ghost use Rattle.sat_watch.specs.Trail.{AreWithin, IsOpen, IsOnce, place_in, value_in};
 ghost use Rattle.sat_watch.specs.Watched.{IsReason, is_false, true_at, AreFalse};
-ghost use Rattle.sat_watch.specs.Watches.{AreInPlace, Attaches, HasLevels, IsOnlyOne, MayAttach, highest, IsSettledAt, IsSettledState, IsWithinLooks, Propagates, assumed, gone_back, id_at, implied, is_attached, left_queued, lits_at};
+ghost use Rattle.sat_watch.specs.Watches.{AreInPlace, Attaches, HasLevels, IsOnlyOne, MayAttach, highest, IsSettledAt, IsSettledState, IsWithinLooks, Propagates, assumed, attached_behind, first_attached, gone_back, id_at, implied, is_attached, left_queued, lits_at};
 
 use crate::chains::Chains;
 use crate::choice::{free_position, highest_position};
@@ -151,6 +151,23 @@ impl Watches {
         ensures value { result ≡ id_at self.now.clauses c }
     {
         self.chains.id(c)
+    }
+
+    /// The clause that stands first, and none where there is no clause. With [`Watches::behind`] all
+    /// clauses are come by, each once, by rising references.
+    pub fn first(&self) -> Option<ClauseRef>
+        ensures value { result ≡ first_attached self.now.clauses }
+        ensures placed { AreInPlace 0 self.now.clauses }
+    {
+        self.chains.first()
+    }
+
+    /// The clause that stands right behind this one, and none behind the last. It costs one load.
+    pub fn behind(&self, c: ClauseRef) -> Option<ClauseRef>
+        requires attached { is_attached self.now.clauses c ≡ true }
+        ensures { result ≡ first_attached (attached_behind self.now.clauses c) }
+    {
+        self.chains.behind(c)
     }
 
     /// Attaches a clause two of whose literals, at positions `i` and `j`, are not false.

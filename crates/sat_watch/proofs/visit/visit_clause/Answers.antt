@@ -1,11 +1,12 @@
 use Rattle.std.proofs.Common.{◌≡◌, ◌<◌, length, Some, true, false, refl, sym, ap, ◌∙◌, subst}
 use Rattle.sat_clause.specs.Literal.{negation}
 use Rattle.sat_arena.specs.Store.{stored_at}
-use Rattle.sat_watch.specs.Chains.{watch_of}
+use Rattle.sat_watch.specs.Chains.{HasCursor, next_on, watch_of}
 use Rattle.sat_watch.specs.declared.entry.TrailEntry.{TrailEntry}
 use Rattle.sat_watch.specs.Chains.{head_in, lit_at}
 use Rattle.sat_watch.specs.Trail.{falses}
-use Rattle.sat_watch.specs.Watched.{IsImplied, IsReason, is_false, other_of}
+use Rattle.sat_watch.specs.Watched.{IsImplied, IsReason, IsVisited, is_false, other_of}
+use Rattle.sat_watch.proofs.PathLemmas.{before_goes_on}
 use Rattle.sat_watch.proofs.VisitLemmas.{goes_implied, goes_moved, other_true, visited_kept, visited_moved, watch_contains, watch_within}
 use Rattle.sat_watch.proofs.WatchesLemmas.{longer_whole}
 use Rattle.sat_watch.proofs.visit.visit_clause.Goals as goal
@@ -16,12 +17,28 @@ returns-in-IsTrueAlready-clause-visited c =
     let old = c.args.chains.now in let a = c.args in let chained = c.requires.whole.chained in
     let k = stored_at old.clauses a.at.clause in
     let simple = chained.simple a.at.clause c.requires.at.held in
-    visited_kept old.vars old a.trail.now.entries a.f a.before a.at a.after chained c.requires.at
-    c.requires.before c.requires.after a.trail.now.entries
+    subst (IsVisited a.f a.before a.at a.after old old a.trail.now.entries) (sym c.to.ensures)
+    (visited_kept old.vars old a.f a.at a.after chained c.requires.at c.requires.after a.before
+    a.trail.now.entries
     (other_true old.vars a.trail.now.entries k.lits a.at.which a.f simple c.requires.at.which
     c.requires.at.watch
     (λ o at. c.in-IsTrueAlready.ensures o
-    (ap (λ l. watch_of l (other_of a.at.which)) c.lits.ensures.value ∙ at)))
+    (ap (λ l. watch_of l (other_of a.at.which)) c.lits.ensures.value ∙ at))))
+
+pub place_before-place-requires : goal.place_before-place-requires
+place_before-place-requires c =
+    let old = c.args.chains.now in let a = c.args in
+    record {
+      goes =
+          before_goes_on (next_on old.clauses a.f) (head_in old.heads a.f) a.before
+          (Some a.at.clause) c.requires.cursor;
+    }
+
+pub rewatch-requires-clause-cursor : goal.rewatch-requires-clause-cursor
+rewatch-requires-clause-cursor c =
+    let old = c.args.chains.now in let a = c.args in
+    subst (λ b. HasCursor (next_on old.clauses a.f) (head_in old.heads a.f) b (Some a.at.clause))
+    (sym c.place_before-place.ensures.clause) c.requires.cursor
 
 pub returns-in-Open-clause-goes : goal.returns-in-Open-clause-goes
 returns-in-Open-clause-goes c =
@@ -32,11 +49,11 @@ returns-in-Open-clause-goes c =
     let free : is_false a.trail.now.entries
     (lit_at (stored_at old.clauses a.at.clause).lits c.in-Open.k) ≡ false =
     rw (← c.lits.ensures.value) says.2 in
-    goes_moved old.vars old a.trail.now.entries a.f a.before a.at a.after chained c.requires.at
-    c.requires.before c.requires.after
+    goes_moved old.vars old a.f a.at a.after chained c.requires.at c.requires.after
+    a.trail.now.entries c.place_before-place.result c.place_before-place.ensures.place
     c.rewatch.new.self c.in-Open.k
     (head_in old.heads (lit_at (stored_at old.clauses a.at.clause).lits c.in-Open.k)) says.0 high
-    c.requires.cursor c.rewatch.ensures.clauses a.level c.rewatch.ensures.holders free
+    c.rewatch.ensures.clauses a.level c.rewatch.ensures.holders free
 
 pub returns-in-Open-clause-visited : goal.returns-in-Open-clause-visited
 returns-in-Open-clause-visited c =
@@ -44,11 +61,13 @@ returns-in-Open-clause-visited c =
     let says = c.in-Open.ensures in
     let high : c.in-Open.k < length (stored_at old.clauses a.at.clause).lits =
     rw (← c.lits.ensures.value) says.1 in
-    visited_moved old.vars old a.trail.now.entries a.f a.before a.at a.after chained c.requires.at
-    c.requires.before c.requires.after
+    subst (λ b. IsVisited a.f b a.at a.after old c.rewatch.new.self a.trail.now.entries b)
+    c.place_before-place.ensures.clause
+    (visited_moved old.vars old a.f a.at a.after chained c.requires.at c.requires.after
+    a.trail.now.entries c.place_before-place.result c.place_before-place.ensures.place
     c.rewatch.new.self c.in-Open.k
     (head_in old.heads (lit_at (stored_at old.clauses a.at.clause).lits c.in-Open.k)) says.0 high
-    c.requires.cursor c.rewatch.ensures.clauses a.trail.now.entries c.rewatch.ensures.cursor
+    c.rewatch.ensures.clauses a.trail.now.entries c.rewatch.ensures.cursor)
 
 pub push-requires-clause-within : goal.push-requires-clause-within
 push-requires-clause-within c =
@@ -82,8 +101,10 @@ returns-in-Unit-clause-visited c =
     let old = c.args.chains.now in let a = c.args in let chained = c.requires.whole.chained in
     let k = stored_at old.clauses a.at.clause in
     let simple = chained.simple a.at.clause c.requires.at.held in
-    visited_kept old.vars old a.trail.now.entries a.f a.before a.at a.after chained c.requires.at
-    c.requires.before c.requires.after c.push.new.self.entries
+    subst (IsVisited a.f a.before a.at a.after old old c.push.new.self.entries)
+    (sym c.to-in-Unit.ensures)
+    (visited_kept old.vars old a.f a.at a.after chained c.requires.at c.requires.after a.before
+    c.push.new.self.entries
     (other_true old.vars c.push.new.self.entries k.lits a.at.which a.f simple c.requires.at.which
     c.requires.at.watch
     (λ o at.
@@ -92,7 +113,8 @@ returns-in-Unit-clause-visited c =
     let same : c.in-Unit.lit ≡ o =
     (let e : Some c.in-Unit.lit ≡ Some o = sym c.in-Unit.ensures.0 ∙ there in cc) in
     subst (λ l. is_false c.push.new.self.entries (negation l) ≡ true) same
-    (rw c.push.ensures.entries (among_here (falses a.trail.now.entries) (negation c.in-Unit.lit)))))
+    (rw c.push.ensures.entries
+    (among_here (falses a.trail.now.entries) (negation c.in-Unit.lit))))))
 
 pub returns-in-Open-clause-whole : goal.returns-in-Open-clause-whole
 returns-in-Open-clause-whole c =

@@ -1,4 +1,5 @@
-use Rattle.std.proofs.Common.{◌+◌, ◌%◌, ◌^◌, refl, ◌∙◌, arith}
+use Rattle.std.proofs.Common.{◌+◌, ◌%◌, ◌^◌, refl, sym, subst, ◌∙◌, arith}
+use Rattle.sat_watch.specs.Watched.{IsWalking}
 use Rattle.sat_watch.proofs.GoesLemmas.{goes_trans}
 use Rattle.sat_watch.proofs.WalkLemmas.{few_here, goes_here, walk_begins, walk_ends, walk_shorter, walks_on}
 use Rattle.sat_watch.proofs.visit.walk.Goals as goal
@@ -9,9 +10,12 @@ loop-next-init c = record {
   whole = c.requires.whole;
   looks = refl;
   walking =
-      walk_begins c.args.trail.now.entries c.args.level c.args.f c.args.chains.now 0
+      subst (λ b. IsWalking c.args.trail.now.entries c.args.level c.args.f
+      c.args.chains.now.clauses 0 c.args.chains.now c.args.trail.now.entries b c.head-next.result
+      0) (sym c.none-before.ensures)
+      (walk_begins c.args.trail.now.entries c.args.level c.args.f c.args.chains.now 0
       c.head-next.result
-      c.requires.whole.chained c.requires.within c.head-next.ensures;
+      c.requires.whole.chained c.requires.within c.head-next.ensures);
 }
 
 pub place-at-requires : goal.place-at-requires

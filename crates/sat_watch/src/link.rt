@@ -1,4 +1,4 @@
-//! The first clause of a chain.
+//! A clause or none, in one word.
 
 ghost use Rattle.std.specs.Prelude.{◌≡◌, ◌^◌, ◌<◌, None, Some, IfSome};
 
@@ -7,41 +7,50 @@ use std::marker::Model;
 
 const NO_CLAUSE: u64 = 18446744073709551615;
 
-/// The first clause of a chain, or none, in one word. Contracts see the reference.
+/// A clause or none, in one word: the first one of a chain, or the one that a walk stands behind.
+/// Contracts see the reference.
 #[derive(Clone, Copy, Debug)]
-pub(crate) struct Head {
+pub(crate) struct Link {
     word: u64,
 }
 
-impl Model for Head {
+impl Model for Link {
     ghost use Rattle.std.specs.Prelude.{Option};
     ghost use Rattle.sat_arena.specs.declared.clause_ref.ClauseRef.{ClauseRef};
-    ghost use Rattle.sat_watch.specs.Head.{first_by, word_by};
+    ghost use Rattle.sat_watch.specs.Link.{clause_by, word_by};
 
     ghost Value = { Option ClauseRef };
 
-    ghost view = { λ h. first_by h.word };
+    ghost view = { λ l. clause_by l.word };
 
-    ghost inverse = { λ l. record { word = word_by l } };
+    ghost inverse = { λ clause. record { word = word_by clause } };
 }
 
-impl Head {
+impl Link {
     /// No clause.
-    pub(crate) fn none() -> Head
+    pub(crate) fn none() -> Link
         ensures { result ≡ None }
     {
-        Head { word: NO_CLAUSE }
+        Link { word: NO_CLAUSE }
+    }
+
+    /// This clause.
+    pub(crate) fn to(clause: ClauseRef) -> Link
+        requires near { clause.word < 2 ^ 63 }
+        ensures { result ≡ Some clause }
+    {
+        Link { word: clause.word }
     }
 
     /// This clause, or none.
-    pub(crate) fn of(clause: Option<ClauseRef>) -> Head
+    pub(crate) fn of(clause: Option<ClauseRef>) -> Link
         requires near { IfSome clause (λ c. c.word < 2 ^ 63) }
         ensures { result ≡ clause }
     {
         let Some(c) = clause else {
-            return Head::none();
+            return Link::none();
         };
-        Head { word: c.word }
+        Link::to(c)
     }
 
     /// The clause, or none.
