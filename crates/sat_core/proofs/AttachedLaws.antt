@@ -26,7 +26,7 @@ same_permuted c d moved = (
 -- REFERENCES
 
 -- one of the clauses from a word on has no earlier reference
-later_word : (at : ℕ) (ks : List Attached) (c : ClauseRef) → AreInPlace at ks
+pub later_word : (at : ℕ) (ks : List Attached) (c : ClauseRef) → AreInPlace at ks
     → is_attached ks c ≡ true → at ≤ c.word
 later_word at [] c stand is = absurd (both_ways false refl is)
 later_word at (k ∷ ks) c stand is =
@@ -39,9 +39,8 @@ later_word at (k ∷ ks) c stand is =
     by false other is rest = let later = rest is in omega (arith, later)
 
 -- so it is another one than the first
-other_word : (at : ℕ) (k : Attached) (ks : List Attached) (c : ClauseRef) → AreInPlace at (k ∷ ks)
-    → is_attached ks c ≡ true →
-    (k.place.word == c.word) ≡ false
+pub other_word : (at : ℕ) (k : Attached) (ks : List Attached) (c : ClauseRef) →
+    AreInPlace at (k ∷ ks) → is_attached ks c ≡ true → (k.place.word == c.word) ≡ false
 other_word at k ks c stand is =
     let rest = later_word (at + (length k.lits + 6)) ks c stand.1 is in
     ne_eqb k.place.word c.word (omega (arith, rest, stand.0))
@@ -61,7 +60,7 @@ earlier_word at (k ∷ ks) c stand is =
     by false other is rest = let earlier = rest is in omega (arith, earlier)
 
 -- the first clause by its reference
-here_attached : (k : Attached) (ks : List Attached) → is_attached (k ∷ ks) k.place ≡ true
+pub here_attached : (k : Attached) (ks : List Attached) → is_attached (k ∷ ks) k.place ≡ true
 here_attached k ks = rw (eq-eqb k.place.word k.place.word refl) refl
 
 here_id : (k : Attached) (ks : List Attached) → id_at (k ∷ ks) k.place ≡ k.id
@@ -71,7 +70,7 @@ here_lits : (k : Attached) (ks : List Attached) → lits_at (k ∷ ks) k.place �
 here_lits k ks = rw (eq-eqb k.place.word k.place.word refl) refl
 
 -- a later one
-later_attached : (k : Attached) (ks : List Attached) (c : ClauseRef) → is_attached ks c ≡ true
+pub later_attached : (k : Attached) (ks : List Attached) (c : ClauseRef) → is_attached ks c ≡ true
     → is_attached (k ∷ ks) c ≡ true
 later_attached k ks c is = by (k.place.word == c.word)
   where

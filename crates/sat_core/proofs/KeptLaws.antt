@@ -91,7 +91,7 @@ always_true values clause within is =
 
 module _ (kept live : Live) (are : AreAmong kept live) where
   -- a hint that names a kept clause names a live one with the same literals
-  named_kept : (h : ℤ) (c : Clause) → named kept h ≡ Some c →
+  pub named_kept : (h : ℤ) (c : Clause) → named kept h ≡ Some c →
       (d : Clause) × (named live h ≡ Some d) × SameLiterals c d
   named_kept (pos zero) c is = cc
   named_kept (pos (suc n)) c is = are (suc n) c is

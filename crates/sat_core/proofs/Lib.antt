@@ -3,7 +3,10 @@ pub mod AttachLaws
 pub mod AttachedLaws
 pub mod DecideLaws
 pub mod DistinctLaws
+pub mod DoomedLaws
 pub mod EarlierLaw
+pub mod ErasedLaws
+pub mod ForgetLaws
 pub mod FoundLaws
 pub mod ImpliedLaws
 pub mod InputLaws

@@ -1,5 +1,5 @@
 -- One more step of a log.
-use Rattle.std.proofs.Common.{inl, inr, ◌≡◌, ◌≢◌, ◌==◌, ◌<◌, ◌≤◌, ◌+◌, ℕ, zero, suc, ℤ, pos, negsuc, true, false, List, [], ◌∷◌, ◌++◌, length, take, drop, fold, None, Some, slice_get, All, refl, sym, ap, ◌∙◌, subst, arith}
+use Rattle.std.proofs.Common.{inl, inr, ◌≡◌, ◌≢◌, ◌==◌, ◌<◌, ◌≤◌, ◌+◌, ◌*◌, ℕ, zero, suc, ℤ, pos, negsuc, true, false, List, [], ◌∷◌, ◌++◌, length, take, drop, fold, None, Some, slice_get, All, refl, sym, ap, ◌∙◌, subst, arith}
 use Rattle.std.proofs.lemmas.Bool.{both_ways, ne_eqb}
 use Rattle.std.proofs.lemmas.List.{take-append-le, take_at}
 use Rattle.std.proofs.lemmas.List.Elements.{All-head, All-tail}
@@ -9,8 +9,8 @@ use Rattle.list_laws.proofs.Places.{get-cases}
 use Rattle.sat_clause.specs.declared.cause.Cause.{Cause}
 use Rattle.sat_clause.specs.declared.cause.Cause.TheVariants.{NoEmptyClause}
 use Rattle.sat_clause.specs.Formula.{Cnf}
-use Rattle.sat_clause.specs.Judge.{Accepted, Refused, after, erase, inputs, is_empty_clause, judge_from, judge_step, take_out}
-use Rattle.sat_clause.specs.Learned.{EachAdded, EachErased, Sparse, deletions}
+use Rattle.sat_clause.specs.Judge.{Accepted, Refused, after, erase, erase_fault, inputs, is_empty_clause, judge_from, judge_step, take_out}
+use Rattle.sat_clause.specs.Learned.{EachAdded, EachErased, Sparse, added_since, deletions}
 use Rattle.sat_clause.specs.Literal.{Clause}
 use Rattle.sat_clause.specs.Live.{Live, clause_at, put, without}
 use Rattle.sat_clause.specs.Step.{Step, Added, Erased}
@@ -106,6 +106,12 @@ pub spares_push : (m : ℕ) (log : List Step) (id : ℕ) (clause : Clause) (hint
     SparesInputs m (log ++ Added id clause hints ∷ [])
 spares_push m log id clause hints spares =
     each_erased_push (λ before ids. All (IsAbove m) ids) log id clause hints spares
+
+pub sparse_push : (log : List Step) (id : ℕ) (clause : Clause) (hints : List ℤ) → Sparse log →
+    Sparse (log ++ Added id clause hints ∷ [])
+sparse_push log id clause hints sparse =
+    each_erased_push (λ before ids. (erase_fault (fold after [] before) ids ≡ None)
+    × (1000 * suc (deletions before) ≤ added_since 0 before)) log id clause hints sparse
 
 -- one more clause
 pub numbered_push : (id new : ℕ) (log : List Step) (clause : Clause) (hints : List ℤ) → AreNumbered
@@ -227,13 +233,6 @@ step_id id (suc k) (Erased n ids ∷ log) new clause hints numbered is =
     step_id id k log new clause hints numbered is
 
 -- fewer deletions are ahead
-pub deletions_drop : (k : ℕ) (log : List Step) → deletions (drop k log) ≤ deletions log
-deletions_drop zero log = omega arith
-deletions_drop (suc k) [] = omega arith
-deletions_drop (suc k) (Added id clause hints ∷ log) = deletions_drop k log
-deletions_drop (suc k) (Erased id ids ∷ log) =
-    let rest = deletions_drop k log in omega (arith, rest)
-
 pub deletions_next : (k : ℕ) (log : List Step) →
     deletions (drop (suc k) log) ≤ deletions (drop k log)
 deletions_next zero [] = omega arith

@@ -160,10 +160,10 @@ never_spent formula log budget false search spends none room =
     omega (arith, few, spends.all, room)
 
 pub decided : (formula : Cnf) (budget : ℕ) (log : List Step) (keep : Bool)
-    (result : Result Answer AllocError) → HasSearched formula budget log result →
+    (result : Result Answer AllocError) → HasSearched formula budget keep log result →
     most_added keep formula.vars ≤ budget → IfOk result IsDecided
 decided formula budget log keep (Ok (Model values)) searched room = tt
 decided formula budget log keep (Ok Refuted) searched room = tt
 decided formula budget log keep (Ok Spent) searched room =
-    never_spent formula log budget keep searched.logged searched.answer (λ _. searched.kept) room
+    never_spent formula log budget keep searched.logged searched.answer searched.kept room
 decided formula budget log keep (Err e) searched room = tt

@@ -1,8 +1,8 @@
 -- How a search lies, with a clause attached or laid aside, behind decisions, and with one more
 -- learned clause.
 use Rattle.std.specs.Prelude.{if◌then◌else◌, nat_lt, IsPermutation}
-use Rattle.std.proofs.Common.{inl, inr, ◌⊎◌, ◌≡◌, ◌<◌, ◌≤◌, ◌+◌, ◌==◌, ℕ, zero, suc, Bool, true, false, cond, List, [], ◌∷◌, ◌++◌, length, reverse, Option, None, Some, slice_get, All, refl, sym, ap, ◌∙◌, subst, arith}
-use Rattle.std.proofs.lemmas.Bool.{cases_eq, lt-ltb, ne_eqb}
+use Rattle.std.proofs.Common.{inl, inr, ◌⊎◌, ◌≡◌, ◌<◌, ◌≤◌, ◌+◌, ◌==◌, ℕ, suc, Bool, true, false, cond, List, [], ◌∷◌, ◌++◌, length, reverse, Option, None, Some, slice_get, All, refl, sym, ap, ◌∙◌, subst, arith}
+use Rattle.std.proofs.lemmas.Bool.{cases_eq, ne_eqb}
 use Rattle.std.proofs.lemmas.List.{length-reverse, reverse-append}
 use Rattle.std.proofs.lemmas.List.Elements.{All-cons, All-head, All-nil, All-tail}
 use Rattle.std.proofs.lemmas.Option.{slice_get_within}
@@ -33,7 +33,7 @@ use Rattle.sat_core.proofs.KeptLaws.{none_next, put_below}
 use Rattle.sat_core.proofs.LevelLaws.{level_back, levels_back}
 use Rattle.sat_core.proofs.ModelLemmas.{quiet_is_true}
 use Rattle.sat_core.proofs.SameLaws.{same_back, same_itself, same_then}
-use Rattle.sat_core.proofs.WatchLaws.{among_same, caused_here, false_in, falses_in, keeping_same, lits_in, same_among, settled_here, settled_in, single_found, up_to_in, value_added, value_again, value_found, value_origin}
+use Rattle.sat_core.proofs.WatchLaws.{among_same, caused_here, falses_in, keeping_same, lits_in, same_among, settled_here, settled_in, single_found, up_to_in, value_added, value_again, value_found, value_origin}
 
 -- IDS
 
@@ -437,12 +437,18 @@ module _ (i a t : ℕ) (s : ClauseListState) (w : WatchState) (store : IsSearchS
       }
       by false = kept_refl i a t s w store
 
-  pub level_begun : (gone_back 0 w).level ≡ 0
-  level_begun = by w.level refl
-    where
-      by : (n : ℕ) → w.level ≡ n → (gone_back 0 w).level ≡ 0
-      by zero is = rw is refl
-      by (suc n) is = rw (lt-ltb 0 w.level (omega (arith, is))) refl
+-- and the clauses have been propagated there
+module _ (i a t : ℕ) (s : ClauseListState) (w now : WatchState) (store : IsSearchStore i a t s w)
+    (goes : GoesOn (gone_back 0 w) now) (level : now.level ≡ 0) where
+  pub store_settled : IsSearchStore i a t s now
+  store_settled = store_decided i a t s (gone_back 0 w) now (store_begun i a t s w store) goes
+      (inr level)
+
+  pub kept_settled : SameKept (search_value i a s w) (search_value i a s now)
+  kept_settled =
+      kept_then (search_value i a s w) (search_value i a s (gone_back 0 w))
+      (search_value i a s now) (kept_begun i a t s w store)
+      (kept_decided i a t s (gone_back 0 w) now (store_begun i a t s w store) goes (inr level))
 
 -- WHAT IS LEARNED
 

@@ -1,29 +1,31 @@
 -- What a turn makes of a log, the log of a search that is under way, and its end.
-use Rattle.std.proofs.Common.{◌≡◌, ◌≢◌, ◌<◌, ◌≤◌, ◌+◌, ℕ, suc, ℤ, Bool, false, List, [], ◌∷◌, ◌++◌, length, take, drop, None, All, refl, sym, ap, ◌∙◌, subst, arith}
-use Rattle.std.specs.Prelude.{IfOk, Ok, Result}
+use Rattle.std.proofs.Common.{◌≡◌, ◌≢◌, ◌<◌, ◌≤◌, ◌+◌, ◌*◌, ℕ, suc, ℤ, Bool, false, List, [], ◌∷◌, ◌++◌, length, take, drop, None, All, refl, sym, ap, ◌∙◌, subst, arith}
+use Rattle.std.specs.Prelude.{IfOk, IsTrue, Ok, Result}
 use Rattle.std.specs.declared.alloc.AllocError.{AllocError}
 use Rattle.std.proofs.Math.Seq.{take-length}
 use Rattle.std.proofs.lemmas.List.{append-nil, drop-append-le, length-append, take-append-le}
 use Rattle.std.proofs.lemmas.List.Elements.{All-nil, All-push}
-use Rattle.sat_clause.specs.declared.cause.Cause.{Cause}
-use Rattle.sat_clause.specs.Formula.{Cnf, Satisfies}
-use Rattle.sat_clause.specs.Judge.{Accepted, Accepts, IsGoodSoFar, Refused, inputs, is_empty_clause, judge}
-use Rattle.sat_clause.specs.Learned.{IsFresh, IsRelevant, IsSimple, LearnedNew, Relevant, deletions}
+use Rattle.sat_clause.specs.Formula.{Cnf}
+use Rattle.sat_clause.specs.Judge.{Accepts, inputs, is_empty_clause}
+use Rattle.sat_clause.specs.Learned.{IsFresh, IsRelevant, IsSimple, Relevant, Sparse, added_since, deletions}
 use Rattle.sat_clause.specs.Literal.{Clause, IsWithin}
 use Rattle.sat_clause.specs.Live.{Live, put}
 use Rattle.sat_clause.specs.Rup.{rup}
-use Rattle.sat_clause.specs.Step.{Step, Added}
+use Rattle.sat_clause.specs.Step.{Step, Added, Erased}
 use Rattle.sat_core.specs.declared.answer.Answer.{Answer}
 use Rattle.sat_core.specs.declared.answer.Answer.TheVariants.{Refuted}
 use Rattle.sat_core.specs.Answer.{IsAnswer, SpendsAll}
+use Rattle.sat_core.specs.Deletions.{AreDeletions, DeletionState}
+use Rattle.sat_core.specs.Forget.{HasForgotten}
 use Rattle.sat_core.specs.Kept.{AreKept, SameLive}
 use Rattle.sat_core.specs.SearchLog.{AreNumbered, EndsAtEmpty, added_count}
 use Rattle.sat_core.specs.SearchStore.{AreTrue, IsLesson, Learns, SameKept}
 use Rattle.sat_core.specs.Stands.{AreGood, IsOpenLog, SearchAt, SearchValue, StandsAt, StandsFor, at_end, live_after, next_id}
 use Rattle.sat_core.specs.Underway.{AddsRelevant, HasLearned, HasModel, HasRefuted, HasSearched, IsUnderway, MayFollow, MayTurn}
 use Rattle.sat_core.proofs.EarlierLaw.{hints_are_earlier}
+use Rattle.sat_core.proofs.ErasedLaws.{added_count-erase, deletions_added, deletions_erase, each_added_erase, numbered_erase, open_erased, sparse_erased, stands_erased}
 use Rattle.sat_core.proofs.KeptLaws.{fresh_kept, kept_alike, kept_put, kept_same, model_kept, relevant_kept, rup_kept}
-use Rattle.sat_core.proofs.LogLemmas.{added_count-push, added_from_push, deletions-push, deletions_drop, each_added_push, ends_behind, good_accepted, good_behind, good_so_far, inputs_live, live_after-push, none_at_end, not_empty_step, numbered_push, spares_push, sparse_without}
+use Rattle.sat_core.proofs.LogLemmas.{added_count-push, added_from_push, deletions-push, each_added_push, ends_behind, good_accepted, good_behind, good_so_far, inputs_live, live_after-push, none_at_end, not_empty_step, numbered_push, spares_push, sparse_push, sparse_without}
 
 -- WHAT A SEARCH STANDS FOR
 
@@ -211,10 +213,27 @@ underway_start search formula stands none = record {
     reached = omega (arith, none);
     stands = subst (λ (k : ℕ). StandsFor search.value formula (take k [])) (sym none) stands;
   };
+  all_taken = none;
   open_log = open_start formula;
   numbered = tt;
   relevant = λ k id clause hints is. cc;
-  none_deleted = refl;
+  sparse = sparse_without [] refl;
+}
+
+-- whatever stands on the trail
+pub underway_along : (taken : ℕ) (old new : SearchValue) (formula : Cnf) (log : List Step) →
+    SameKept old new → IsUnderway (record { taken = taken; value = old }) formula log →
+    IsUnderway (record { taken = taken; value = new }) formula log
+underway_along taken old new formula log same on = record {
+  stands = record {
+    reached = on.stands.reached;
+    stands = stands_along old new formula (take taken log) same on.stands.stands;
+  };
+  all_taken = on.all_taken;
+  open_log = on.open_log;
+  numbered = on.numbered;
+  relevant = on.relevant;
+  sparse = on.sparse;
 }
 
 module _ (search : SearchAt) (formula : Cnf) (log : List Step)
@@ -223,8 +242,7 @@ module _ (search : SearchAt) (formula : Cnf) (log : List Step)
   underway_may few = record {
     follows = record {
       stands = on.stands;
-      none_deleted =
-          let most = deletions_drop search.taken log in omega (arith, most, on.none_deleted);
+      none_deleted = ap (λ (k : ℕ). deletions (drop k log)) on.all_taken ∙ none_at_end log;
     };
     open_log = on.open_log;
     few = few;
@@ -245,18 +263,59 @@ module _ (search : SearchAt) (formula : Cnf) (log : List Step)
       each_added_push IsRelevant formula log id clause adds.hints on.relevant adds.relevant in (
         record {
           stands = learned.follows.stands;
+          all_taken = learned.all_taken;
           open_log = learned.open_log;
           numbered = subst (AreNumbered (suc (length formula.clauses))) (sym adds.step) numbered;
           relevant = subst (Relevant formula) (sym adds.step) relevant;
-          none_deleted = ap deletions adds.step ∙ deletions-push log id clause adds.hints
-              ∙ on.none_deleted;
+          sparse = subst Sparse (sym adds.step)
+              (sparse_push log id clause adds.hints on.sparse);
         },
         ap added_count adds.step ∙ added_count-push log id clause adds.hints,
       )
 
-  pub searched : (budget : ℕ) (result : Result Answer AllocError) → added_count log ≤ budget →
-      IfOk result (IsAnswer formula budget log) → HasSearched formula budget log result
-  searched budget result few answer = record {
+  -- learned clauses are forgotten
+  pub underway_forgot : (new : SearchValue) (now : List Step) (d : DeletionState) →
+      AreDeletions log d → d.added + 1000 * suc d.count ≤ search.value.added →
+      HasForgotten search.value new log now →
+      IsUnderway (at_end new now) formula now
+      × AreDeletions now (record { count = suc d.count; added = search.value.added })
+      × (added_count now ≡ added_count log)
+  underway_forgot new now d are due forgot =
+      let before = stands_all search formula log on.stands on.all_taken in
+      let stands : StandsFor forgot.settled formula log =
+      stands_along search.value forgot.settled formula log forgot.same before in
+      let m : ℕ = length formula.clauses in
+      let own : ℕ = search.value.inputs + search.value.added in
+      let ids : List ℤ = forgot.ids in
+      let more : List Step = log ++ Erased own ids ∷ [] in
+      let late : 1000 * suc (deletions log) ≤ added_since 0 log =
+      omega (arith, are.count, are.added, due, before.added) in
+      let says : IsUnderway (at_end new more) formula more = record {
+        stands = (follow_end new formula more
+            (stands_erased forgot.settled new formula log own ids stands forgot.forgets)).stands;
+        all_taken = refl;
+        open_log = open_erased forgot.settled new formula log own ids stands forgot.forgets
+            on.open_log;
+        numbered = numbered_erase (suc m) own log ids on.numbered (omega (arith, due))
+            (omega (arith, before.inputs, before.added));
+        relevant = each_added_erase IsRelevant formula log own ids on.relevant;
+        sparse = sparse_erased forgot.settled new formula log own ids stands forgot.forgets
+            on.sparse late;
+      } in
+      let then : AreDeletions more (record { count = suc d.count; added = search.value.added }) =
+      subst (λ (n : ℕ). AreDeletions more (record { count = suc d.count; added = n }))
+      (sym before.added) (deletions_erase log d own ids are) in (
+        subst (λ (l : List Step). IsUnderway (at_end new l) formula l) (sym forgot.step) says,
+        subst (λ (l : List Step).
+            AreDeletions l (record { count = suc d.count; added = search.value.added }))
+            (sym forgot.step) then,
+        ap added_count forgot.step ∙ added_count-erase log own ids,
+      )
+
+  pub searched : (budget : ℕ) (keep : Bool) (result : Result Answer AllocError) →
+      added_count log ≤ budget → (IsTrue keep → deletions log ≡ 0) →
+      IfOk result (IsAnswer formula budget log) → HasSearched formula budget keep log result
+  searched budget keep result few kept answer = record {
     answer = answer;
     logged = record {
       good = good_so_far 1 (inputs formula) log on.open_log.good;
@@ -265,18 +324,19 @@ module _ (search : SearchAt) (formula : Cnf) (log : List Step)
       earlier = hints_are_earlier formula log on.open_log.good on.numbered;
       new = on.open_log.new;
       relevant = on.relevant;
-      sparse = sparse_without log on.none_deleted;
+      sparse = on.sparse;
     };
     within = few;
-    kept = on.none_deleted;
+    kept = kept;
   }
 
   pub spent : (budget : ℕ) → added_count log ≡ budget → SpendsAll budget log
   spent budget many = record { all = many; none_empty = on.open_log.none_empty }
 
-  pub refuted : (budget : ℕ) (now : List Step) → added_count log < budget →
-      HasRefuted formula log now → HasSearched formula budget now (Ok Refuted)
-  refuted budget now few done =
+  pub refuted : (budget : ℕ) (keep : Bool) (now : List Step) → added_count log < budget →
+      (IsTrue keep → deletions log ≡ 0) → HasRefuted formula log now →
+      HasSearched formula budget keep now (Ok Refuted)
+  refuted budget keep now few kept done =
       let id : ℕ = next_id formula log in
       let hints : List ℤ = done.adds.hints in
       let more : List Step = log ++ Added id [] hints ∷ [] in
@@ -284,10 +344,9 @@ module _ (search : SearchAt) (formula : Cnf) (log : List Step)
       (Added id [] hints ∷ []) on.open_log.good (done.adds.good, tt) in
       let numbered : AreNumbered (suc (length formula.clauses)) more =
       numbered_push (suc (length formula.clauses)) id log [] hints on.numbered (omega arith) in
-      let none : deletions more ≡ 0 = deletions-push log id [] hints ∙ on.none_deleted in
       let within : added_count more ≤ budget =
       omega (arith, added_count-push log id [] hints, few) in
-      subst (λ (l : List Step). HasSearched formula budget l (Ok Refuted)) (sym done.adds.step)
+      subst (λ (l : List Step). HasSearched formula budget keep l (Ok Refuted)) (sym done.adds.step)
       (record {
         answer = record {
           accepts = subst (Accepts formula) done.adds.step done.accepts;
@@ -303,8 +362,20 @@ module _ (search : SearchAt) (formula : Cnf) (log : List Step)
               formula log id [] hints on.open_log.new (λ some. absurd (some refl));
           relevant = each_added_push IsRelevant formula log id [] hints on.relevant
               done.adds.relevant;
-          sparse = sparse_without more none;
+          sparse = sparse_push log id [] hints on.sparse;
         };
         within = within;
-        kept = none;
+        kept = λ all. deletions-push log id [] hints ∙ kept all;
       })
+
+-- a learned clause deletes nothing
+pub tracked_next : (search : SearchAt) (formula : Cnf) (log now : List Step) (d : DeletionState) →
+    AreDeletions log d → HasLearned search formula log now →
+    AreDeletions now d × (deletions now ≡ deletions log)
+tracked_next search formula log now d are learned =
+    let adds = learned.adds in
+    let id : ℕ = next_id formula log in (
+      subst (λ (l : List Step). AreDeletions l d) (sym adds.step)
+          (deletions_added log d id learned.clause adds.hints are),
+      ap deletions adds.step ∙ deletions-push log id learned.clause adds.hints,
+    )

@@ -91,7 +91,7 @@ append_some (entry ∷ xs) ys id x at = by (id == entry.0) at (append_some xs ys
     by true at rest = at
     by false at rest = rest at
 
-append_none : (xs ys : Live) (id : ℕ) → clause_at xs id ≡ None
+pub append_none : (xs ys : Live) (id : ℕ) → clause_at xs id ≡ None
     → clause_at (xs ++ ys) id ≡ clause_at ys id
 append_none [] ys id at = refl
 append_none (entry ∷ xs) ys id at = by (id == entry.0) at (append_none xs ys id)

@@ -1,7 +1,7 @@
 -- Variables that lose their values are held again.
 use Rattle.std.specs.Prelude.{nat_le, nat_lt, if◌then◌else◌}
 use Rattle.std.proofs.Common.{inl, inr, ◌⊎◌, ◌≡◌, ◌≢◌, ◌-◌, ◌<◌, ◌≤◌, ℕ, zero, suc, Bool, true, false, List, [], ◌∷◌, length, set, get_or, Contains, None, refl, sym, ap, ◌∙◌, subst, arith}
-use Rattle.std.proofs.lemmas.Bool.{both_ways, cases_eq, le-leb}
+use Rattle.std.proofs.lemmas.Bool.{both_ways, cases_eq, le-leb, lt-ltb}
 use Rattle.std.proofs.lemmas.List.{get_or-set_other, get_or-set_same, length-set}
 use Rattle.sat_clause.specs.Literal.{positive, variable}
 use Rattle.sat_order.specs.Order.{IsVariable, OrderState, is_held}
@@ -68,6 +68,27 @@ vars_back j w = by (nat_lt j w.level)
     } else w).vars ≡ w.vars
     by true = refl
     by false = refl
+
+-- where none is due none is due behind the way back
+pub due_start : (w : WatchState) → w.due ≡ None → (gone_back 0 w).due ≡ None
+due_start w none = by (nat_lt 0 w.level)
+  where
+    by : (b : Bool) → (if b then record w {
+      trail = upto 0 w.trail;
+      queued = 0;
+      level = 0;
+      due = None;
+    } else w).due ≡ None
+    by true = refl
+    by false = none
+
+-- the way back to level 0 ends there
+pub level_start : (w : WatchState) → (gone_back 0 w).level ≡ 0
+level_start w = by w.level refl
+  where
+    by : (n : ℕ) → w.level ≡ n → (gone_back 0 w).level ≡ 0
+    by zero is = rw is refl
+    by (suc n) is = rw (lt-ltb 0 w.level (omega (arith, is))) refl
 
 -- of the variables that are not held each has an entry at one of so many places, the oldest
 pub record IsPutBack (w : WatchState) (left : ℕ) (order : OrderState) : Type 0 where

@@ -2,6 +2,9 @@ pub mod Analysis
 pub mod Answer
 pub mod ClauseList
 pub mod Deciding
+pub mod Deletions
+pub mod Doomed
+pub mod Forget
 pub mod Implied
 pub mod Inputs
 pub mod Kept

@@ -1,10 +1,10 @@
 -- One turn of a search, the log of one that is under way, and what the whole search comes to.
-use Rattle.std.specs.Prelude.{◌≡◌, ◌≢◌, ℕ, suc, ◌≤◌, ℤ, Bool, List, [], ◌∷◌, ◌++◌, length, drop, IfOk, None, Result}
+use Rattle.std.specs.Prelude.{◌≡◌, ◌≢◌, ℕ, suc, ◌≤◌, ℤ, Bool, List, [], ◌∷◌, ◌++◌, length, drop, IfOk, IsTrue, None, Result}
 use Rattle.std.specs.declared.alloc.AllocError.{AllocError}
 use Rattle.sat_clause.specs.declared.limits.TheConstants.{ID_LIMIT}
 use Rattle.sat_clause.specs.Formula.{Cnf, Satisfies}
 use Rattle.sat_clause.specs.Judge.{Accepts, IsGoodSoFar}
-use Rattle.sat_clause.specs.Learned.{IsRelevant, Relevant, deletions}
+use Rattle.sat_clause.specs.Learned.{IsRelevant, Relevant, Sparse, deletions}
 use Rattle.sat_clause.specs.Literal.{Clause}
 use Rattle.sat_clause.specs.Rup.{rup}
 use Rattle.sat_clause.specs.Step.{Step, Added}
@@ -68,19 +68,21 @@ IsTurn search formula before now (Model values) =
     HasModel search formula before now values.items
 IsTurn search formula before now Refuted = HasRefuted formula before now
 
--- a search that has taken all steps of its own log, which has deleted nothing
+-- a search that has taken all steps of its own log, which deletes seldom
 pub record IsUnderway (search : SearchAt) (formula : Cnf) (log : List Step) : Type 0 where
   pub stands : StandsAt search formula log
+  pub all_taken : search.taken ≡ length log
   pub open_log : IsOpenLog formula log
   pub numbered : AreNumbered (suc (length formula.clauses)) log
   pub relevant : Relevant formula log
-  pub none_deleted : deletions log ≡ 0
+  pub sparse : Sparse log
 
 -- what a search comes to, and what its log is whatever that is
 pub record HasSearched
-    (formula : Cnf) (budget : ℕ) (log : List Step) (result : Result Answer AllocError)
+    (formula : Cnf) (budget : ℕ) (keep : Bool) (log : List Step)
+    (result : Result Answer AllocError)
     : Type 0 where
   pub answer : IfOk result (IsAnswer formula budget log)
   pub logged : IsSearchLog formula log
   pub within : added_count log ≤ budget
-  pub kept : deletions log ≡ 0
+  pub kept : IsTrue keep → deletions log ≡ 0

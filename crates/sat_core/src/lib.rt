@@ -5,9 +5,12 @@
 mod analysis;
 mod answer;
 mod bumping;
+mod choosing;
 mod clause_list;
 mod deciding;
+mod deletions;
 mod distinct;
+mod forgetting;
 mod implied;
 mod inputs;
 mod lesson;
@@ -25,6 +28,7 @@ mod turn;
 mod visit;
 mod walking;
 mod way_back;
+mod worth;
 
 pub use answer::Answer;
 pub use search::Search;

@@ -2,10 +2,13 @@
 
 ghost use Rattle.std.specs.Prelude.{◌≡◌, ◌<◌, ◌≤◌, ◌+◌, ◌^◌, [], IfOk, OnErr, OnOk, length};
 ghost use Rattle.sat_clause.specs.Formula.{Cnf};
+ghost use Rattle.sat_core.specs.Deletions.{AreDeletions};
 ghost use Rattle.sat_core.specs.Levels.{level_of};
+ghost use Rattle.sat_core.specs.SearchLog.{added_count};
 ghost use Rattle.sat_core.specs.Stands.{StandsFor};
-ghost use Rattle.sat_core.specs.Underway.{IsTurn, MayFollow, MayTurn};
+ghost use Rattle.sat_core.specs.Underway.{IsTurn, IsUnderway, MayFollow, MayTurn};
 
+use crate::deletions::Deletions;
 use crate::state::SearchState;
 use crate::turn::{Turn, take_turn};
 use sat_clause::{Formula, Log};
@@ -39,9 +42,9 @@ impl Search {
     /// another one that of variable `v` is the remainder of `s / 65536` by 1024, where `s` comes of
     /// the seed by `v` times putting the remainder of `1103515245 s + 12345` by 2^31 in its place.
     ///
-    /// It takes time and memory linear in the variables and the literals of the clauses; for a clause
-    /// whose variables do not rise n log n steps for n literals, and with a seed other than 0 a
-    /// logarithm for each variable.
+    /// It takes time and memory linear in the variables and the literals of the clauses; for a
+    /// clause whose variables do not rise n log n steps for n literals, and with a seed other than
+    /// 0 a logarithm for each variable.
     ///
     /// # Errors
     /// Where memory is short.
@@ -140,5 +143,39 @@ impl Search {
         let turn = take_turn(self.alloc, &mut self.state, formula, log)?;
         self.taken = log.len();
         Ok(turn)
+    }
+
+    /// Forgets learned clauses between two turns, and logs that they are deleted, where a restart
+    /// is due and the log may have another deletion: at level 0, if no clause is false there and
+    /// some learned clause is no reason. The log is its own, with these deletions; it has taken all
+    /// steps, and stands for all of them afterwards.
+    ///
+    /// # Errors
+    /// Where memory is short. The log is then as it was, and the search goes on from here.
+    pub(crate) fn forget_where_due(
+        &mut self,
+        log: &mut Log,
+        deletions: &mut Deletions,
+    ) -> Result<(), AllocError>
+        requires underway { (formula : Cnf) × IsUnderway self.old formula log.old.steps }
+        requires tracked { AreDeletions log.old.steps deletions.old }
+        ensures underway { (formula : Cnf) → IsUnderway self.old formula log.old.steps
+            → IsUnderway self.new formula log.new.steps }
+        ensures tracked { AreDeletions log.new.steps deletions.new }
+        ensures none_added { added_count log.new.steps ≡ added_count log.old.steps }
+    {
+        let added = self.state.added();
+        if !deletions.may_come(added) {
+            return Ok(());
+        }
+        if !self
+            .state
+            .forget_at_restart(self.alloc, log, deletions.count())?
+        {
+            return Ok(());
+        }
+        deletions.push(added);
+        self.taken = log.len();
+        Ok(())
     }
 }

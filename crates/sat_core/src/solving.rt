@@ -1,30 +1,57 @@
 //! The search as a whole.
 
 ghost use Rattle.std.specs.Prelude.{◌≡◌, ◌+◌, ◌≤◌, [], length, IfOk, IsTrue};
+ghost use Rattle.sat_clause.specs.Formula.{Cnf};
 ghost use Rattle.sat_clause.specs.Learned.{deletions};
 ghost use Rattle.sat_core.specs.Answer.{IsAnswer, IsDecided, most_added};
+ghost use Rattle.sat_core.specs.Deletions.{AreDeletions};
 ghost use Rattle.sat_core.specs.SearchLog.{IsSearchLog, added_count};
-ghost use Rattle.sat_core.specs.Underway.{HasSearched};
+ghost use Rattle.sat_core.specs.Underway.{HasSearched, IsUnderway};
 
 use crate::Answer;
+use crate::deletions::Deletions;
 use crate::search::Search;
 use crate::turn::Turn;
 use sat_clause::{Formula, ID_LIMIT, Log};
 use std::alloc::{AllocError, Global};
 
-/// The search for values that satisfy a formula, which keeps each clause that it learns.
+/// Forgets clauses between two turns where that is due, unless all are to be kept.
+fn forget_unless(
+    keep: bool,
+    search: &mut Search,
+    log: &mut Log,
+    deletions: &mut Deletions,
+) -> Result<(), AllocError>
+    requires underway { (formula : Cnf) × IsUnderway search.old formula log.old.steps }
+    requires tracked { AreDeletions log.old.steps deletions.old }
+    ensures underway { (formula : Cnf) → IsUnderway search.old formula log.old.steps
+        → IsUnderway search.new formula log.new.steps }
+    ensures tracked { AreDeletions log.new.steps deletions.new }
+    ensures none_added { added_count log.new.steps ≡ added_count log.old.steps }
+    ensures kept { IsTrue keep → log.new.steps ≡ log.old.steps }
+{
+    if keep {
+        return Ok(());
+    }
+    search.forget_where_due(log, deletions)
+}
+
+/// The search for values that satisfy a formula, which forgets clauses unless all are to be kept.
 fn search_for_values(
     alloc: Global,
     formula: &Formula,
     budget: u64,
+    keep: bool,
     log: &mut Log,
 ) -> Result<Answer, AllocError>
     requires ids { length formula.now.cnf.clauses + budget ≤ ID_LIMIT }
     requires fresh { log.old.steps ≡ [] }
-    ensures { HasSearched formula.now.cnf budget log.new.steps result }
+    ensures { HasSearched formula.now.cnf budget keep log.new.steps result }
 {
     let mut search = Search::new(alloc, formula, 0)?;
+    let mut deletions = Deletions::new();
     for _ in 0..budget {
+        forget_unless(keep, &mut search, log, &mut deletions)?;
         match search.turn(formula, log)? {
             Turn::Learned => {}
             Turn::Model(values) => return Ok(Answer::Model(values)),
@@ -40,8 +67,13 @@ fn search_for_values(
 /// It ends at the latest where it has learned as many clauses as the budget allows, the empty
 /// clause among them. The log starts without steps, and an empty clause ends it. Its added clauses
 /// are numbered behind the input clauses, in order; none but the empty one has all literals of a
-/// clause that is live. With `keep` no clause is deleted; today none is deleted either way. So with
-/// a budget of 3^v for v variables it always comes to values or to a refutation.
+/// clause that is live. With `keep` no clause is deleted. So with a budget of 3^v for v variables
+/// it always comes to values or to a refutation, and without `keep` with one of
+/// 3^v (3^v / 1000 + 1).
+///
+/// Without `keep` learned clauses are forgotten at a restart, for the k-th time once 1000 k were
+/// added since the time before, if no clause is false at level 0 and some learned clause is no
+/// reason there. One step of the log deletes those that go. The clauses of the formula stay.
 ///
 /// Of the open variables the one that conflicts met most and latest is decided, as true; after 64
 /// times the next term of Luby's sequence more conflicts the search goes back to level 0. Where a
@@ -70,6 +102,5 @@ pub fn solve(
     ensures kept { IsTrue keep → deletions log.new.steps ≡ 0 }
     ensures decided { most_added keep formula.now.cnf.vars ≤ budget → IfOk result IsDecided }
 {
-    let _ = keep;
-    search_for_values(alloc, formula, budget, log)
+    search_for_values(alloc, formula, budget, keep, log)
 }

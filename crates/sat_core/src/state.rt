@@ -1,21 +1,24 @@
 //! What a search knows, and how it goes on.
 
-ghost use Rattle.std.specs.Prelude.{◌≡◌, ◌≢◌, ◌<◌, ◌≤◌, ◌+◌, suc, [], IfNone, IfOk, IfSome, OnErr, OnOk};
+ghost use Rattle.std.specs.Prelude.{◌≡◌, ◌≢◌, ◌<◌, ◌≤◌, ◌+◌, suc, [], IfNone, IfOk, IfSome, Ok, OnErr, OnOk, true};
 ghost use Rattle.sat_clause.specs.Learned.{IsSimple};
 ghost use Rattle.sat_clause.specs.Trail.{IsClosed};
+ghost use Rattle.sat_core.specs.Forget.{HasForgotten};
 ghost use Rattle.sat_core.specs.Levels.{level_of, lits_of};
 ghost use Rattle.sat_core.specs.SearchStore.{AreTrue, IsLesson, IsSettledState, Learns, SameKept};
 ghost use Rattle.sat_core.specs.Stands.{StandsFor};
 
 use crate::clause_list::ClauseList;
 use crate::deciding::{decide_on, values};
+use crate::forgetting::{forget_some, last_id, settle_at_start};
 use crate::inputs::{Inputs, take_inputs};
 use crate::lesson::{Findings, Lesson, find_lesson};
 use crate::ranking::Ranking;
 use crate::restarts::Restarts;
 use crate::start::attach_at_start;
 use crate::way_back::go_back;
-use sat_clause::{Formula, ID_LIMIT, Lit, VARIABLE_LIMIT};
+use crate::worth::Worth;
+use sat_clause::{Formula, ID_LIMIT, Lit, Log, VARIABLE_LIMIT};
 use sat_watch::Watches;
 use std::alloc::{AllocError, Global};
 use std::marker::Model;
@@ -37,6 +40,7 @@ pub(crate) struct SearchState {
     findings: Findings,
     ranking: Ranking,
     restarts: Restarts,
+    worth: Worth,
 }
 
 impl Model for SearchState {
@@ -72,7 +76,15 @@ impl SearchState {
             findings: Findings::new(alloc, formula.vars())?,
             ranking: Ranking::new(alloc, formula.vars(), seed)?,
             restarts: Restarts::new(),
+            worth: Worth::new(alloc),
         })
+    }
+
+    /// How many clauses are added.
+    pub(crate) fn added(&self) -> u32
+        ensures { result ≡ self.now.added }
+    {
+        self.added
     }
 
     /// The id of the next clause that is added.
@@ -99,9 +111,44 @@ impl SearchState {
         ensures same { SameKept self.old self.new }
         ensures level { level_of self.new.trail ≡ 0 }
     {
-        go_back(&mut self.ranking, &mut self.watches, 0);
-        let mut looks = 0;
-        self.watches.propagate(&mut looks);
+        settle_at_start(&mut self.ranking, &mut self.watches);
+    }
+
+    /// Where a restart is due it goes back to level 0 and propagates there. If no clause is false
+    /// then it forgets clauses that were added and are no reasons, and logs that they are deleted.
+    /// Whether there is one. So many deletions came before. A clause that was laid aside stays, and
+    /// so do those that were added before it.
+    ///
+    /// # Errors
+    /// Where memory is short; the clauses are then the same.
+    pub(crate) fn forget_at_restart(
+        &mut self,
+        alloc: Global,
+        log: &mut Log,
+        done: u32,
+    ) -> Result<bool, AllocError>
+        ensures forgotten { result ≡ Ok true
+            → HasForgotten self.old self.new log.old.steps log.new.steps }
+        ensures same { result ≢ Ok true → SameKept self.old self.new }
+        ensures same_log { result ≢ Ok true → log.new.steps ≡ log.old.steps }
+    {
+        if !self.restarts.is_due(self.added) {
+            return Ok(false);
+        }
+        if !settle_at_start(&mut self.ranking, &mut self.watches) {
+            return Ok(false);
+        }
+        let above = last_id(&self.aside, self.inputs);
+        let own = self.inputs + self.added;
+        forget_some(
+            alloc,
+            &mut self.watches,
+            &mut self.worth,
+            log,
+            above,
+            done,
+            own,
+        )
     }
 
     /// Takes a clause that another search learned under the next id, at level 0. It is laid aside
@@ -118,6 +165,7 @@ impl SearchState {
         ensures err { OnErr result (self.new ≡ self.old) }
     {
         let id = self.next_id();
+        self.worth.insert(id)?;
         if attach_at_start(&mut self.watches, lits, id)? {
             self.added += 1;
             return Ok(());
@@ -197,9 +245,11 @@ impl SearchState {
         let Some(last) = lesson.clause.last() else {
             unreachable!();
         };
+        self.worth.insert(id)?;
         go_back(&mut self.ranking, &mut self.watches, lesson.back);
         let c = self.watches.attach(&lesson.clause, id)?;
         self.watches.imply(*last, c);
+        self.worth.bump_all(&lesson.hints);
         self.added += 1;
         Ok(())
     }

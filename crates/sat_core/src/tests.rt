@@ -3,6 +3,7 @@
 ghost use Rattle.std.specs.Prelude.{◌≤◌, All, IfOk, length};
 ghost use Rattle.sat_clause.specs.Literal.{IsWithin};
 
+use crate::worth::Worth;
 use crate::{Answer, Search, Turn, solve};
 use sat_clause::{Formula, Lit, Log, holds};
 use std::alloc::{AllocError, Global};
@@ -155,5 +156,22 @@ fn seeds_decide_otherwise(rt: HostRuntime) -> Result<(), Fail> {
         before = learned;
     }
     assert!(rt; differ);
+    Ok(())
+}
+
+/// A clause that conflicts met is worth more, and one that is forgotten nothing.
+#[test]
+fn met_clauses_are_worth_more(rt: HostRuntime) -> Result<(), Fail> {
+    let mut worth = Worth::new(rt.alloc());
+    worth.insert(3)?;
+    worth.insert(5)?;
+    worth.bump_all(&[1, 5]);
+    worth.insert(6)?;
+    assert_eq!(rt; worth.of(3), 1024);
+    assert_eq!(rt; worth.of(5), 2048);
+    assert_eq!(rt; worth.of(6), 1025);
+    worth.forget(&[3, 6]);
+    assert_eq!(rt; worth.of(3), 0);
+    assert_eq!(rt; worth.of(5), 2048);
     Ok(())
 }

@@ -1,4 +1,7 @@
 use Rattle.std.proofs.Common.{◌≡◌}
+use Rattle.std.specs.Prelude.{IsTrue}
+use Rattle.sat_clause.specs.Learned.{deletions}
+use Rattle.sat_core.specs.Deletions.{AreDeletions}
 use Rattle.sat_core.specs.SearchLog.{added_count}
 use Rattle.sat_core.specs.Underway.{IsUnderway}
 use Rattle.sat_core.proofs.solving.search_for_values.Given as goal
@@ -7,5 +10,7 @@ use Rattle.sat_core.proofs.solving.search_for_values.Given as goal
 abbrev pub invariant-loop : goal.invariant-loop
 invariant-loop l = record {
   underway : IsUnderway l.search l.formula.cnf l.log.steps;
+  tracked : AreDeletions l.log.steps l.deletions;
+  kept : IsTrue l.keep → deletions l.log.steps ≡ 0;
   many : added_count l.log.steps ≡ l.counter;
 }

@@ -10,6 +10,7 @@ use Rattle.sat_core.specs.SearchStore.{IsLesson, IsSearchStore, Learns, SameKept
 use Rattle.sat_core.specs.Stands.{SearchValue}
 use Rattle.sat_core.proofs.LearnLaws.{ends_in_first, first, first_inside, gone, gone_is, has_last, kept_gone, last_literal, learn_attached, learn_may, learn_open, learn_reason, learns, ranked_learned, store_gone, store_learned}
 use Rattle.sat_core.proofs.ModelLemmas.{on_err_anyway}
+use Rattle.sat_core.proofs.SearchLaws.{kept_refl}
 use Rattle.sat_core.proofs.state.SearchState.learn.Goals as goal
 
 pub unreachable-requires : goal.unreachable-requires
@@ -52,8 +53,8 @@ attach-requires-clause-may c =
     rw (is, c.deref-2.ensures.value) (learn_may p.inputs p.added p.attached p.aside p.watches
     c.self.invariant.store clause hints back lesson c.requires.some)
 
-pub invariant_of-self : goal.invariant_of-self
-invariant_of-self c =
+pub invariant_of-self-in_err-c : goal.invariant_of-self-in_err-c
+invariant_of-self-in_err-c c =
     let p = c.self.inside in
     let clause = c.args.lesson.now.clause.items in
     let hints = c.args.lesson.now.hints.items in
@@ -289,10 +290,18 @@ returns-in_err-c-clause-err c =
     let is = c.in_err-c.ensures.err ∙ c.go_back.ensures.back
     ∙ gone_is p.inputs p.added p.attached p.aside p.watches store clause hints back lesson
     c.requires.some in
-    on_err_anyway c.from_residual.result
+    on_err_anyway c.from_residual-in_err-c.result
     (subst (λ (s : SearchValue). SameKept s (search_value p.inputs p.added p.aside
     c.attach.new.self)) c.self.view_is
     (subst (λ (s : WatchState). SameKept (search_value p.inputs p.added p.aside p.watches)
     (search_value p.inputs p.added p.aside s)) (sym is)
     (kept_gone p.inputs p.added p.attached p.aside p.watches store clause hints back lesson
     c.requires.some)))
+
+pub returns-in_err-insert-clause-err : goal.returns-in_err-insert-clause-err
+returns-in_err-insert-clause-err c =
+    let p = c.self.inside in
+    on_err_anyway c.from_residual.result
+    (subst (λ (s : SearchValue). SameKept s (search_value p.inputs p.added p.aside p.watches))
+    c.self.view_is
+    (kept_refl p.inputs p.added p.attached p.aside p.watches c.self.invariant.store))

@@ -1,0 +1,267 @@
+//! Which learned clauses a search forgets.
+
+ghost use Rattle.std.specs.Prelude.{◌≡◌, ◌<◌, [], All, AllPairs, IfOk, length, reverse, true};
+ghost use Rattle.sat_clause.specs.Literal.{IsWithin};
+ghost use Rattle.sat_arena.specs.declared.clause_ref.ClauseRef.{ClauseRef};
+ghost use Rattle.sat_watch.specs.Forget.{IsNoReason};
+ghost use Rattle.sat_watch.specs.Watches.{id_at, is_attached};
+ghost use Rattle.sat_core.specs.Doomed.{ArePartOf, IsForgettable, are_same, forgettable, is_reason as is_reason_of, is_forgettable as is_forgettable_by, reason_in, refs_of};
+
+use crate::worth::Worth;
+use sat_arena::ClauseRef;
+use sat_clause::Lit;
+use sat_watch::{TrailEntry, Watches};
+use std::alloc::{AllocError, Global};
+
+/// So many clauses of three or more literals stay at the first deletion.
+const FIRST_STAY: u64 = 1000;
+
+/// And so many more at each one that follows.
+const MORE_STAY: u64 = 100;
+
+/// What a clause is worth. Of two that are worth the same the later one counts more.
+#[derive(Clone, Copy, Debug, PartialEq, Eq, PartialOrd, Ord)]
+struct Rank {
+    worth: u64,
+    id: u32,
+}
+
+/// What says whether a clause goes.
+#[derive(Clone, Copy, Debug)]
+enum Kind {
+    /// One of its literals is true.
+    Satisfied,
+    /// It has fewer than three literals.
+    Short,
+    /// It has three or more.
+    Long,
+}
+
+/// A clause that may be forgotten.
+#[derive(Clone, Copy, Debug)]
+pub(crate) struct Candidate {
+    pub(crate) clause: ClauseRef,
+    kind: Kind,
+    rank: Rank,
+}
+
+/// Whether a clause is the reason for the value of a literal's variable.
+fn is_reason_for(watches: &Watches, trail: &[TrailEntry], l: Lit, c: ClauseRef) -> bool
+    requires trail { reverse trail.now ≡ watches.now.trail }
+    requires within { IsWithin watches.now.vars l }
+    ensures { result ≡ are_same (reason_in watches.now.trail l) c }
+{
+    let Some(_) = watches.value(l) else {
+        return false;
+    };
+    let place = watches.place(l);
+    let Some(reason) = trail[place as usize].reason else {
+        return false;
+    };
+    reason.word == c.word
+}
+
+/// Whether a clause is a reason. It costs a look at each of its literals.
+fn is_reason(watches: &Watches, c: ClauseRef) -> bool
+    requires { is_attached watches.now.clauses c ≡ true }
+    ensures { result ≡ is_reason_of watches.now.trail c }
+{
+    let trail = watches.trail();
+    for l in watches.lits(c) {
+        if is_reason_for(watches, trail, *l, c) {
+            return true;
+        }
+    }
+    false
+}
+
+/// Whether a clause may be forgotten: it has an id above this one and is no reason.
+fn is_forgettable(watches: &Watches, above: u32, c: ClauseRef) -> bool
+    requires { is_attached watches.now.clauses c ≡ true }
+    ensures { result ≡ is_forgettable_by watches.now above c }
+{
+    watches.id(c) > above && !is_reason(watches, c)
+}
+
+/// Whether one of these literals is true.
+fn is_satisfied(watches: &Watches, lits: &[Lit]) -> bool
+    requires { All (IsWithin watches.now.vars) lits.now }
+{
+    for l in lits {
+        if watches.value(*l).unwrap_or(false) {
+            return true;
+        }
+    }
+    false
+}
+
+/// A clause with what speaks for it.
+fn candidate_of(watches: &Watches, worth: &Worth, c: ClauseRef) -> Candidate
+    requires { is_attached watches.now.clauses c ≡ true }
+    ensures { result.clause ≡ c }
+{
+    let lits = watches.lits(c);
+    let kind = if is_satisfied(watches, lits) {
+        Kind::Satisfied
+    } else if lits.len() < 3 {
+        Kind::Short
+    } else {
+        Kind::Long
+    };
+    let id = watches.id(c);
+    let worth = worth.of(id);
+    Candidate {
+        clause: c,
+        kind,
+        rank: Rank { worth, id },
+    }
+}
+
+/// The clauses that may be forgotten, in the order of the arena. Each clause of the arena costs a
+/// look at its head.
+fn find_candidates(
+    alloc: Global,
+    watches: &Watches,
+    worth: &Worth,
+    above: u32,
+) -> Result<Vec<Candidate>, AllocError>
+    ensures all { IfOk result (λ found. refs_of found.items ≡ forgettable watches.now above) }
+    ensures rising { AllPairs (λ a b. a.word < b.word) (forgettable watches.now above) }
+{
+    let mut found = Vec::new(alloc);
+    let mut next = watches.first();
+    while let Some(c) = next {
+        if is_forgettable(watches, above, c) {
+            found.push(candidate_of(watches, worth, c))?;
+        }
+        next = watches.behind(c);
+    }
+    Ok(found)
+}
+
+/// The least rank of the long clauses that stay, which are so many of greatest rank; none where all
+/// of them stay.
+fn least_to_stay(
+    alloc: Global,
+    candidates: &[Candidate],
+    stay: u64,
+) -> Result<Option<Rank>, AllocError>
+    requires { 0 < stay }
+{
+    let mut ranks = Vec::new(alloc);
+    for candidate in candidates {
+        if let Kind::Long = candidate.kind {
+            ranks.push(candidate.rank)?;
+        }
+    }
+    if ranks.len() as u64 <= stay {
+        return Ok(None);
+    }
+    ranks.sort_unstable();
+    Ok(Some(ranks[ranks.len() - stay as usize]))
+}
+
+/// Whether a clause goes, where long ones of this rank or a greater one stay.
+fn goes(candidate: &Candidate, least: Option<Rank>) -> bool {
+    match candidate.kind {
+        Kind::Satisfied => true,
+        Kind::Short => false,
+        Kind::Long => match least {
+            None => false,
+            Some(least) => candidate.rank < least,
+        },
+    }
+}
+
+/// Those of the candidates that go, in their order.
+fn those_that_go(
+    alloc: Global,
+    candidates: &[Candidate],
+    least: Option<Rank>,
+) -> Result<Vec<ClauseRef>, AllocError>
+    ensures { IfOk result (λ doomed. ArePartOf doomed.items (refs_of candidates.now)) }
+{
+    let mut doomed = Vec::new(alloc);
+    for candidate in candidates {
+        if goes(candidate, least) {
+            doomed.push(candidate.clause)?;
+        }
+    }
+    Ok(doomed)
+}
+
+/// The index of the candidate of least rank.
+fn least_worthy(candidates: &[Candidate]) -> usize
+    requires { 0 < length candidates.now }
+    ensures { result < length candidates.now }
+{
+    let mut least = 0;
+    for k in 1..candidates.len() {
+        if candidates[k].rank < candidates[least].rank {
+            least = k;
+        }
+    }
+    least
+}
+
+/// The candidate of least rank alone, if there is one.
+fn one_that_goes(alloc: Global, candidates: &[Candidate]) -> Result<Vec<ClauseRef>, AllocError>
+    ensures part { IfOk result (λ doomed. ArePartOf doomed.items (refs_of candidates.now)) }
+    ensures none { IfOk result (λ doomed. doomed.items ≡ [] → refs_of candidates.now ≡ []) }
+{
+    let mut doomed = Vec::new(alloc);
+    if candidates.is_empty() {
+        return Ok(doomed);
+    }
+    doomed.push(candidates[least_worthy(candidates)].clause)?;
+    Ok(doomed)
+}
+
+/// Those of the candidates that go where so many long ones stay; one at least if there is one.
+fn choose_among(
+    alloc: Global,
+    candidates: &[Candidate],
+    stay: u64,
+) -> Result<Vec<ClauseRef>, AllocError>
+    requires { 0 < stay }
+    ensures part { IfOk result (λ doomed. ArePartOf doomed.items (refs_of candidates.now)) }
+    ensures none { IfOk result (λ doomed. doomed.items ≡ [] → refs_of candidates.now ≡ []) }
+{
+    let least = least_to_stay(alloc, candidates, stay)?;
+    let doomed = those_that_go(alloc, candidates, least)?;
+    if !doomed.is_empty() {
+        return Ok(doomed);
+    }
+    one_that_goes(alloc, candidates)
+}
+
+/// The clauses that a deletion forgets, at level 0, where so many deletions are done: of those with
+/// an id above this one that are no reasons.
+///
+/// A clause with a true literal goes. Of the others with three or more literals those go that are
+/// worth least, so that 1000 and 100 more for each deletion stay. Where none would go so, the one
+/// clause goes that is worth least. It costs a look at each clause of the arena, and for those that
+/// may go a look at their literals and a sort.
+///
+/// # Errors
+/// Where memory is short.
+pub(crate) fn choose_doomed(
+    alloc: Global,
+    watches: &Watches,
+    worth: &Worth,
+    above: u32,
+    done: u32,
+) -> Result<Vec<ClauseRef>, AllocError>
+    ensures attached { IfOk result
+        (λ doomed. All (λ c. is_attached watches.now.clauses c ≡ true) doomed.items) }
+    ensures learned { IfOk result
+        (λ doomed. All (λ c. above < id_at watches.now.clauses c) doomed.items) }
+    ensures no_reason { IfOk result (λ doomed. All (IsNoReason watches.now.trail) doomed.items) }
+    ensures apart { IfOk result (λ doomed. AllPairs (λ a b. a.word < b.word) doomed.items) }
+    ensures none { IfOk result
+        (λ doomed. doomed.items ≡ [] → (c : ClauseRef) → ¬ IsForgettable watches.now above c) }
+{
+    let candidates = find_candidates(alloc, watches, worth, above)?;
+    let stay = FIRST_STAY + MORE_STAY * u64::from(done);
+    choose_among(alloc, &candidates, stay)
+}
