@@ -4,6 +4,7 @@ pub mod KeyLemmas
 pub mod LineLemmas
 pub mod PairLemmas
 pub mod SlotTableLemmas
+pub mod SlotLines
 pub mod SlotsOfLemmas
 pub mod StepFacts
 pub mod StepLemmas

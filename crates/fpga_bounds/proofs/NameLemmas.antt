@@ -16,7 +16,7 @@ use Rattle.list_laws.proofs.Searches.{position-push}
 use Rattle.fpga_text.specs.Bytes.{Bytes}
 use Rattle.fpga_types.specs.Terminals.{is_net_named}
 use Rattle.fpga_types.specs.declared.netlist.Net.{Net}
-use Rattle.fpga_bounds.specs.NetTable.{AreNumbered, GainsName, number_named}
+use Rattle.fpga_bounds.specs.NetTable.{GainsName, number_in, number_named}
 
 -- two names that pass as one are one
 pub same_name : (a b : Bytes) → bytes_eq a b ≡ true → a ≡ b
@@ -61,7 +61,7 @@ module _ {T : Type 0} (p : T → Bool) (xs : List T) where
   passes n d is = let f = found n is in rw (sym f.0) (passes_at_first p xs d f.1)
 
   -- the first that passes stands at the number
-  find-position : find p xs ≡ option_and_then (slice_get xs) (position_from p 0 xs)
+  pub find-position : find p xs ≡ option_and_then (slice_get xs) (position_from p 0 xs)
   find-position = rw (find_at p xs, ← position_from-zero p xs)
       (go (nat_lt (position_or_len p xs) (length xs)) refl)
     where
@@ -94,31 +94,33 @@ module _ (nets : List Net) (name : Bytes) where
   unnamed none = find-position (is_net_named name) nets
       ∙ (λ i. option_and_then (slice_get nets) (none i))
 
--- one net more is numbered
-pub numbered-more : (nets : List Net) (i : ℕ) (net : Net) (name : Bytes)
-    (old new : BTreeMap (Bor Bytes) ℕ) → slice_get nets i ≡ Some net → name ≡ net.name
-    → GainsName old name i new → AreNumbered (take i nets) old
-    → AreNumbered (take (i + 1) nets) new
-numbered-more nets i net name old new here is gains numbered = record {
-  found = λ other. gains other
-      ∙ (λ k. option_or (numbered.found other k)
-      (if bytes_eq (is k) other then Some (sym count k) else None))
-      ∙ sym (position-push (is_net_named other) 0 (take i nets) net)
-      ∙ (λ k. number_named (sym more k) other);
-}
-  where
-    within : i < length nets
-    within = slice_get_within nets i net here
+-- a number that is found is a place of the list
+pub position-within : {T : Type 0} (p : T → Bool) (xs : List T) (number : Option ℕ)
+    → number ≡ position_from p 0 xs → IfSome number (λ n. n < length xs)
+position-within p xs None is = tt
+position-within p xs (Some n) is = let f = found p xs n (sym is) in omega (arith, f.0, f.1)
 
-    count : 0 + length (take i nets) ≡ i
-    count = let l : length (take i nets) ≡ i = length-take-le i nets
+-- one more is numbered, where things have names
+pub numbers-more : {T : Type 0} (name_of : T → Bytes) (xs : List T) (i : ℕ) (x : T) (name : Bytes)
+    (old new : BTreeMap (Bor Bytes) ℕ) → slice_get xs i ≡ Some x → name ≡ name_of x
+    → GainsName old name i new
+    → ((other : Bytes) → number_in old other
+    ≡ position_from (λ x. bytes_eq (name_of x) other) 0 (take i xs))
+    → (other : Bytes) → number_in new other
+    ≡ position_from (λ x. bytes_eq (name_of x) other) 0 (take (i + 1) xs)
+numbers-more name_of xs i x name old new here is gains numbered other =
+    gains other
+    ∙ (λ k. option_or (numbered other k)
+    (if bytes_eq (is k) other then Some (sym count k) else None))
+    ∙ sym (position-push (λ x. bytes_eq (name_of x) other) 0 (take i xs) x)
+    ∙ (λ k. position_from (λ x. bytes_eq (name_of x) other) 0 (sym more k))
+  where
+    within : i < length xs
+    within = slice_get_within xs i x here
+
+    count : 0 + length (take i xs) ≡ i
+    count = let l : length (take i xs) ≡ i = length-take-le i xs
         (let w = within in omega (arith, w)) in omega (arith, l)
 
-    more : take (i + 1) nets ≡ take i nets ++ net ∷ []
-    more = rw add-one (take-get nets i net here)
-
--- a number that is found is one of a net
-pub numbers-within : (nets : List Net) (name : Bytes) (number : Option ℕ)
-    → number ≡ number_named nets name → IfSome number (λ n. n < length nets)
-numbers-within nets name None is = tt
-numbers-within nets name (Some n) is = number-within nets name n (sym is)
+    more : take (i + 1) xs ≡ take i xs ++ x ∷ []
+    more = rw add-one (take-get xs i x here)

@@ -15,13 +15,12 @@ use Rattle.fpga_text.specs.declared.fault.TextFault.TheVariants.{Bad}
 use Rattle.fpga_text.proofs.FaultLemmas.{option_or-none}
 use Rattle.fpga_types.specs.Fit.{context_of, line_fault, net_lines, splits}
 use Rattle.fpga_types.specs.Fits.{Device, Fits, ProblemContext, device_of, is_off, is_other_pin, is_other_sink, is_other_source, is_pin_apart, is_repeated, is_sink_not_once, is_unknown, net_line_fault, problem_codes, problem_context, problem_fault}
-use Rattle.fpga_types.specs.Given.{IsGiven}
 use Rattle.fpga_types.specs.Kinds.{is_ipin, is_opin, may_follow}
 use Rattle.fpga_types.specs.Pins.{HasPin}
 use Rattle.fpga_types.specs.Problem.{RoutingProblem}
 use Rattle.fpga_types.specs.Size.{Size}
 use Rattle.fpga_types.specs.Slots.{adjacent, channel_at, either, elem_pin, elem_slot, pin_at, pin_step_of, pin_steps, same_slot, slot_number, slots}
-use Rattle.fpga_types.specs.Sound.{IsSoundNet}
+use Rattle.fpga_types.specs.Sound.{IsSound, IsSoundNet}
 use Rattle.fpga_types.specs.Touching.{Touches, has_side, touches}
 use Rattle.fpga_types.specs.declared.arch.Arch.{Arch}
 use Rattle.fpga_types.specs.declared.arch.PinSpec.{PinSpec}
@@ -148,7 +147,7 @@ touching-pin arch grid (PinOf x y k) cell t = go (slice_get arch.pins k) refl t.
     go (Some spec) e h = slice_get_within arch.pins k spec e
 
 -- the parts of a pin step
-pin-parts : (all : List Slot) (a : Option PinAt) (b : Option Slot) (s : PinStep)
+pub pin-parts : (all : List Slot) (a : Option PinAt) (b : Option Slot) (s : PinStep)
     → pin_step_of all a b ≡ Some s → (pin : PinAt) × (q : Slot) × (a ≡ Some pin) × (b ≡ Some q)
     × (record { pin = pin; slot = slot_number all q } ≡ s)
 pin-parts all None b s h = cc
@@ -158,11 +157,11 @@ pin-parts all (Some p) (Some q) s h = (p, q, refl, refl, some_is _ _ h)
     some_is : (u v : PinStep) → Some u ≡ Some v → u ≡ v
     some_is u v g = cc
 
-one-of : {T : Type 0} (x y : Option T) (z : T) → either x y ≡ Some z → (x ≡ Some z) ⊎ (y ≡ Some z)
+pub one-of : {T : Type 0} (x y : Option T) (z : T) → either x y ≡ Some z → (x ≡ Some z) ⊎ (y ≡ Some z)
 one-of None y z h = inr h
 one-of (Some x) y z h = inl h
 
-module _ (p : RoutingProblem) (fits : Fits p) (given : IsGiven p) where
+module _ (p : RoutingProblem) (fits : Fits p) (sound : IsSound p.route) where
   -- no line of the route has a fault
   line-clean : (n : ℕ) (net : RouteNet) (i : ℕ) (e : Elem) → slice_get p.route.nets n ≡ Some net
       → slice_get net.elems i ≡ Some e
@@ -181,12 +180,12 @@ module _ (p : RoutingProblem) (fits : Fits p) (given : IsGiven p) where
   ordinary n net i e here there =
       go net.global refl (subst (IsSoundNet p.route.grid)
       (get_or_from_slice_get p.route.nets n net net here)
-      (given.route.nets n net (slice_get_within p.route.nets n net here)))
+      (sound.nets n net (slice_get_within p.route.nets n net here)))
     where
       go : (g : Bool) → net.global ≡ g → IsSoundNet p.route.grid net → net.global ≡ false
-      go false is sound = is
-      go true is sound =
-          absurd (let clash : None ≡ Some e = rw (sound.global_elems is) at there in cc)
+      go false is own = is
+      go true is own =
+          absurd (let clash : None ≡ Some e = rw (own.global_elems is) at there in cc)
 
   module _ (n : ℕ) (net : RouteNet) (i : ℕ) (a b : Elem) (here : slice_get p.route.nets n
       ≡ Some net)

@@ -182,7 +182,8 @@ neighbours-meet route fit n net i a b p q here at_a at_b slot_a slot_b =
     go None e f = absurd (false≢true (sym f ∙ rw e refl))
     go (Some m) e f = (m, meeting-is route.grid p.cell q.cell m e)
 
-step-parts : (all : List Slot) (a b : Option Slot) (s : RouteStep) → step_of all a b ≡ Some s
+-- the ends of a step
+pub step-parts : (all : List Slot) (a b : Option Slot) (s : RouteStep) → step_of all a b ≡ Some s
     → (p : Slot) × (q : Slot) × (a ≡ Some p) × (b ≡ Some q)
     × (record { from = slot_number all p; to = slot_number all q } ≡ s)
 step-parts all None b s h = cc

@@ -13,7 +13,7 @@ use std::marker::Model;
 
 /// The four values, and the spots of the blocks at which nets may end. Contracts see the values.
 #[derive(Drop)]
-pub(crate) struct Design<'a> {
+pub struct Design<'a> {
     pub arch: &'a Arch,
     pub netlist: &'a Netlist,
     pub placement: &'a Placement,
@@ -35,8 +35,11 @@ impl<'a> Model for Design<'a> {
 }
 
 impl<'a> Design<'a> {
-    /// These four values.
-    pub(crate) fn of(
+    /// These four values; each block has its place.
+    ///
+    /// # Errors
+    /// Where memory is short.
+    pub fn of(
         alloc: Global,
         arch: &'a Arch,
         netlist: &'a Netlist,
@@ -63,7 +66,7 @@ impl<'a> Design<'a> {
 
     /// Whether the pin line is at an input pin of a placed logic block that takes ordinary nets, or
     /// at a placed output pad.
-    pub(crate) fn is_input(&self, e: Elem) -> bool
+    pub fn is_input(&self, e: Elem) -> bool
         ensures { result ≡ input self.now e }
     {
         is_at_input(self.arch, &self.inputs, e)

@@ -12,7 +12,7 @@ use fpga_types::{Cell, Elem, ElemKind, FitCause, Grid, SLOT_LIMIT};
 
 /// What the codes of an element line look at.
 #[derive(Clone, Copy, Debug)]
-pub(crate) struct ElemContext {
+pub struct ElemContext {
     /// The element.
     pub elem: Elem,
     /// The element before it in its net.
@@ -84,8 +84,8 @@ fn are_apart(grid: Grid, from: Cell, to: Cell) -> bool
     meet(grid, from, to).is_none()
 }
 
-/// Whether the element stands after a SINK.
-fn is_branch(at: ElemContext) -> bool
+/// Whether the element stands after a SINK: in branch position.
+pub fn is_branch(at: ElemContext) -> bool
     ensures { result ≡ fit.is_branch (context_at at) }
 {
     match at.previous {
@@ -95,7 +95,7 @@ fn is_branch(at: ElemContext) -> bool
 }
 
 /// Whether an element comes a second time where no branch starts.
-fn is_repeat(at: ElemContext) -> bool
+pub fn is_repeat(at: ElemContext) -> bool
     ensures { result ≡ comes_again (context_at at) }
 {
     !matches!(at.elem.kind, ElemKind::Sink) && !is_branch(at) && at.again
@@ -112,7 +112,7 @@ fn is_loose_branch(at: ElemContext) -> bool
 }
 
 /// Whether an element of an ordinary net is out of order, or ends it without being a SINK.
-fn is_out_of_place(at: ElemContext) -> bool
+pub fn is_out_of_place(at: ElemContext) -> bool
     ensures { result ≡ is_out_of_order (context_at at) }
 {
     if at.global {

@@ -71,7 +71,7 @@ fn known_number<'a>(names: &NetTable<'a>, net: &'a RouteNet) -> Option<usize>
 }
 
 /// Whether both are true, or neither is.
-fn are_alike(a: bool, b: bool) -> bool
+pub fn are_alike(a: bool, b: bool) -> bool
     ensures { result ≡ agree a b }
 {
     if a { b } else { !b }
@@ -98,8 +98,9 @@ fn bare_fault(alloc: Global, ends: &NetEnds, net: &RouteNet) -> Option<TextFault
     Some(FitCause::OutOfOrder.at(net.line))
 }
 
-/// Whether a net that is not global has no Net line.
-pub(crate) fn lacks_net(names: &NetTable, marks: &[bool]) -> bool
+/// Whether a net that is not global has no Net line. The mark at the number of a net says whether
+/// it has one.
+pub fn lacks_net(names: &NetTable, marks: &[bool]) -> bool
     requires { length marks.now ≡ length names.now }
     ensures { (lines : List RouteNet) → HasNetLines names.now marks.now lines
         → result ≡ list_any (lacks_line lines) names.now }

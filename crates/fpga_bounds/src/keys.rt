@@ -8,7 +8,7 @@ use std::collections::BTreeSet;
 
 /// What two equal elements, or two elements at one pin, have in common.
 #[derive(Clone, Copy, Debug, PartialEq, Eq, PartialOrd, Ord)]
-pub(crate) struct ElemKey {
+pub struct ElemKey {
     pub kind: ElemKind,
     pub x: u32,
     pub y: u32,
@@ -43,29 +43,35 @@ fn key_of_pin(e: Elem) -> ElemKey
 }
 
 /// Whether the set has an element that equals this one.
-pub(crate) fn is_seen(seen: &BTreeSet<ElemKey>, e: Elem) -> bool
+pub fn is_seen(seen: &BTreeSet<ElemKey>, e: Elem) -> bool
     ensures { result ≡ has_elem seen.now e }
 {
     seen.contains(&key_of_elem(e))
 }
 
 /// Puts an element into the set.
-pub(crate) fn see(seen: &mut BTreeSet<ElemKey>, e: Elem) -> Result<(), AllocError>
+///
+/// # Errors
+/// Where memory is short.
+pub fn see(seen: &mut BTreeSet<ElemKey>, e: Elem) -> Result<(), AllocError>
     ensures { OnOk result (GainsElem seen.old e seen.new) }
 {
     seen.insert(key_of_elem(e))?;
     Ok(())
 }
 
-/// Whether the element is a pin that the set has.
-pub(crate) fn is_taken(pins: &BTreeSet<ElemKey>, e: Elem) -> bool
+/// Whether the element is a pin that the set has, as one that drives a net or as one that ends it.
+pub fn is_taken(pins: &BTreeSet<ElemKey>, e: Elem) -> bool
     ensures { result ≡ has_pin pins.now e }
 {
     e.kind.is_pin() && pins.contains(&key_of_pin(e))
 }
 
-/// Puts the pins of a net into the set.
-pub(crate) fn take_pins(pins: &mut BTreeSet<ElemKey>, elems: &[Elem]) -> Result<(), AllocError>
+/// Puts the pins among these elements of a net into the set.
+///
+/// # Errors
+/// Where memory is short.
+pub fn take_pins(pins: &mut BTreeSet<ElemKey>, elems: &[Elem]) -> Result<(), AllocError>
     ensures { OnOk result (GainsPins pins.old elems.now pins.new) }
 {
     for e in elems {

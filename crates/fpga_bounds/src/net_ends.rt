@@ -4,6 +4,7 @@ ghost use Rattle.std.specs.List.{list_any};
 ghost use Rattle.std.specs.Option.{option_to_list};
 ghost use Rattle.fpga_bounds.specs.ElemContext.{IsLineOf};
 ghost use Rattle.fpga_bounds.specs.NetEnds.{GainsTerminal, HasTerminals, lacks_one, sink_line as sink_at};
+ghost use Rattle.fpga_bounds.specs.ProblemContext.{context_by};
 ghost use Rattle.fpga_types.specs.Fit.{RouteLine};
 ghost use Rattle.fpga_types.specs.Fits.{net_line_fault, problem_fault as refusal};
 ghost use Rattle.fpga_types.specs.Terminals.{driver_named, is_terminal, net_named, sinks_named, terminal_of};
@@ -20,7 +21,7 @@ use std::marker::Model;
 
 /// A net by its name, with the terminals at which it begins and ends.
 #[derive(Drop)]
-pub(crate) struct NetEnds<'a> {
+pub struct NetEnds<'a> {
     design: &'a Design<'a>,
     name: &'a [u8],
     net: &'a Net,
@@ -40,8 +41,11 @@ impl<'a> Model for NetEnds<'a> {
 }
 
 impl<'a> NetEnds<'a> {
-    /// The ends of the net with this name.
-    pub(crate) fn of(
+    /// The ends of the net with this name, which is the first of that name.
+    ///
+    /// # Errors
+    /// Where memory is short.
+    pub fn of(
         alloc: Global,
         design: &'a Design<'a>,
         name: &'a [u8],
@@ -62,14 +66,14 @@ impl<'a> NetEnds<'a> {
     }
 
     /// The terminal that drives the net.
-    pub(crate) fn driver(&self) -> Option<Terminal>
+    fn driver(&self) -> Option<Terminal>
         ensures { result ≡ driver_named self.now.problem self.now.name }
     {
         self.driver
     }
 
     /// Whether the terminal that the line names is a sink of the net.
-    pub(crate) fn is_sink(&self, e: Elem) -> bool
+    fn is_sink(&self, e: Elem) -> bool
         ensures { result ≡ list_any (is_terminal e) (sinks_named self.now.problem self.now.name) }
     {
         let sink = Elem {
@@ -81,7 +85,7 @@ impl<'a> NetEnds<'a> {
     }
 
     /// Whether a sink of the net has no SINK line among these lines.
-    pub(crate) fn lacks(&self, seen: &BTreeSet<ElemKey>) -> bool
+    pub fn lacks(&self, seen: &BTreeSet<ElemKey>) -> bool
         ensures { result ≡ lacks_one seen.now (sinks_named self.now.problem self.now.name) }
     {
         lacks_terminal(self.design, self.net.sinks.as_slice(), seen)
@@ -114,14 +118,22 @@ impl<'a> NetEnds<'a> {
             → result ≡ refusal self.now.problem line }
     {
         let design = self.design;
-        let context = ProblemContext {
+        problem_fault(design.arch, design.route.grid, self.context(at, seen))
+    }
+
+    /// What the codes of the fit look at, of a line of the net; the set has the elements of the net
+    /// up to it.
+    pub fn context(&self, at: ElemContext, seen: &BTreeSet<ElemKey>) -> ProblemContext
+        ensures { result ≡ context_by self.now at seen.now }
+    {
+        let design = self.design;
+        ProblemContext {
             route: at,
             driver: self.driver(),
             ends: self.is_sink(at.elem),
             takes_in: design.is_input(at.elem),
             lacking: self.is_lacking(at, seen),
-        };
-        problem_fault(design.arch, design.route.grid, context)
+        }
     }
 }
 

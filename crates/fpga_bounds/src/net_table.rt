@@ -9,7 +9,7 @@ use std::marker::Model;
 
 /// Nets that are found by name. Of two with one name the first is found.
 #[derive(Drop)]
-pub(crate) struct NetTable<'a> {
+pub struct NetTable<'a> {
     nets: &'a [Net],
     numbers: BTreeMap<&'a [u8], usize>,
 }
@@ -28,7 +28,10 @@ impl<'a> Model for NetTable<'a> {
 
 impl<'a> NetTable<'a> {
     /// The table of these nets.
-    pub(crate) fn of(alloc: Global, nets: &'a [Net]) -> Result<NetTable<'a>, AllocError>
+    ///
+    /// # Errors
+    /// Where memory is short.
+    pub fn of(alloc: Global, nets: &'a [Net]) -> Result<NetTable<'a>, AllocError>
         ensures { IfOk result (λ table. table ≡ nets.now) }
     {
         let mut numbers = BTreeMap::new(alloc);
@@ -39,14 +42,14 @@ impl<'a> NetTable<'a> {
     }
 
     /// The nets, by number.
-    pub(crate) fn as_slice(&self) -> &'a [Net]
+    pub fn as_slice(&self) -> &'a [Net]
         ensures { result.now ≡ self.now }
     {
         self.nets
     }
 
     /// The number of the first net with this name.
-    pub(crate) fn number_of(&self, name: &'a [u8]) -> Option<usize>
+    pub fn number_of(&self, name: &'a [u8]) -> Option<usize>
         ensures number { result ≡ number_named self.now name.now }
         ensures within { IfSome result (λ number. number < length self.now) }
     {
@@ -55,7 +58,10 @@ impl<'a> NetTable<'a> {
 }
 
 /// Gives a name this number, unless it has one.
-fn number_name<'a>(
+///
+/// # Errors
+/// Where memory is short.
+pub fn number_name<'a>(
     numbers: &mut BTreeMap<&'a [u8], usize>,
     name: &'a [u8],
     number: usize,

@@ -42,7 +42,7 @@ pub(crate) fn fitting_problem<'a>(
 }
 
 /// Whether the arrays have one size.
-fn is_one_size(a: Grid, b: Grid) -> bool
+pub fn is_one_size(a: Grid, b: Grid) -> bool
     ensures { result ≡ one_size a b }
 {
     a.nx == b.nx && a.ny == b.ny

@@ -17,7 +17,7 @@ use fpga_types::{Arch, Cell, Elem, ElemKind, FitCause, Grid, Label, PinAt, Termi
 
 /// What the codes of an element line look at that are not those of the route alone.
 #[derive(Clone, Copy, Debug)]
-pub(crate) struct ProblemContext {
+pub struct ProblemContext {
     /// What those of the route alone look at.
     pub route: ElemContext,
     /// The terminal that drives the net.
@@ -55,7 +55,7 @@ pub(crate) fn problem_fault(arch: &Arch, grid: Grid, at: ProblemContext) -> Opti
 }
 
 /// Whether a SOURCE is not the driver of its net.
-fn is_other_source(at: ProblemContext) -> bool
+pub fn is_other_source(at: ProblemContext) -> bool
     ensures { result ≡ fits.is_other_source (problem_context_at at) }
 {
     matches!(at.route.elem.kind, ElemKind::Source) && !is_driver(at.driver, at.route.elem)
@@ -92,7 +92,7 @@ fn is_label(a: Label, b: Label) -> bool
 }
 
 /// Whether a SINK is no sink of its net.
-fn is_other_sink(at: ProblemContext) -> bool
+pub fn is_other_sink(at: ProblemContext) -> bool
     ensures { result ≡ fits.is_other_sink (problem_context_at at) }
 {
     matches!(at.route.elem.kind, ElemKind::Sink) && !at.ends
@@ -107,7 +107,7 @@ fn is_sink_not_once(at: ProblemContext) -> bool
 
 /// Whether an OPIN is no pin of the driver, an IPIN no input, or a SINK of another place, class or
 /// pad than the IPIN before it.
-fn is_other_pin(arch: &Arch, at: ProblemContext) -> bool
+pub fn is_other_pin(arch: &Arch, at: ProblemContext) -> bool
     ensures { (grid : Size) → result ≡ fits.is_other_pin (record { arch = arch.now; grid = grid })
         (problem_context_at at) }
 {

@@ -1,30 +1,18 @@
 -- The slots of the pin steps of a route are slots of the route.
-use Rattle.std.proofs.Common.{◌≡◌, ◌⊎◌, ℕ, suc, ◌<◌, Option, Some, None, List, length, ap, subst, inl, inr, arith, refl}
+use Rattle.std.proofs.Common.{◌≡◌, ℕ, suc, ◌<◌, Option, Some, length, ap, subst, inl, inr, arith}
 use Rattle.std.specs.Prelude.{filter_map, slice_get}
 use Rattle.std.specs.List.{enumerate_from}
 use Rattle.list_laws.proofs.Members.{In, In-all}
 use Rattle.list_laws.proofs.Numbered.{numbered-there}
-use Rattle.list_laws.proofs.Places.{some_is}
 use Rattle.list_laws.proofs.Searches.{position-below}
-use Rattle.fpga_types.specs.Slots.{adjacent, either, elem_pin, elem_slot, pin_step_of, pin_steps, same_slot, slot_number, slots}
+use Rattle.fpga_types.specs.Slots.{adjacent, either, elem_pin, elem_slot, pin_step_of, pin_steps, same_slot, slots}
 use Rattle.fpga_types.specs.declared.grid.PinAt.{PinAt}
 use Rattle.fpga_types.specs.declared.problem.PinStep.{PinStep}
-use Rattle.fpga_types.specs.declared.problem.Slot.{Slot}
 use Rattle.fpga_types.specs.declared.route.Elem.{Elem}
 use Rattle.fpga_types.specs.declared.route.RouteNet.{RouteNet}
 use Rattle.fpga_types.specs.declared.route.RouteText.{RouteText}
+use Rattle.fpga_bounds.proofs.PinFacts.{one-of, pin-parts}
 use Rattle.fpga_bounds.proofs.StepFacts.{adjacent-there, each-all, each-brought, each-made, slot-in}
-
--- the slot of a pin step
-slot-part : (all : List Slot) (a : Option PinAt) (b : Option Slot) (s : PinStep)
-    → pin_step_of all a b ≡ Some s → (q : Slot) × (b ≡ Some q) × (slot_number all q ≡ s.slot)
-slot-part all None b s h = cc
-slot-part all (Some p) None s h = cc
-slot-part all (Some p) (Some q) s h = (q, refl, ap (λ (w : PinStep). w.slot) (some_is h))
-
-one-of : {T : Type 0} (x y : Option T) (z : T) → either x y ≡ Some z → (x ≡ Some z) ⊎ (y ≡ Some z)
-one-of None y z h = inr h
-one-of (Some x) y z h = inl h
 
 module _ (route : RouteText) where
   -- the slot of the pin step is one of the route's
@@ -40,10 +28,10 @@ module _ (route : RouteText) where
       → slice_get route.nets n ≡ Some net → slice_get net.elems i ≡ Some e
       → pin_step_of (slots route) pin (elem_slot n e) ≡ Some s → IsPinWithin s
   within n net i e pin s here there made =
-      let part = slot-part (slots route) pin (elem_slot n e) s made in
-      subst (λ (k : ℕ). k < length (slots route)) part.2
-      (position-below (same_slot part.0) (slots route)
-      (slot-in route.nets n net i e part.0 here there part.1))
+      let ends = pin-parts (slots route) pin (elem_slot n e) s made in
+      subst (λ (k : ℕ). k < length (slots route)) (ap (λ (w : PinStep). w.slot) ends.4)
+      (position-below (same_slot ends.1) (slots route)
+      (slot-in route.nets n net i e ends.1 here there ends.3))
 
   pub pin-slot : (p : PinStep) → In (pin_steps route) p → p.slot < length (slots route)
   pin-slot p i = In-all IsPinWithin (pin_steps route) p (each-all IsPinWithin (pin_steps route)

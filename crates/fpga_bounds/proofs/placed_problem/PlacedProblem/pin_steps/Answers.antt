@@ -10,6 +10,6 @@ returns-clause-touching c =
     c.self.inside.placement c.self.inside.route in
     let good : All (IsPinStepTouching p) c.as_slice.result.now =
     rw (c.as_slice.ensures.value, c.self.invariant.pins_are)
-    (good-pins p c.self.invariant.fits c.self.invariant.given) in
+    (good-pins p c.self.invariant.fits c.self.invariant.given.route) in
     subst (λ (q : RoutingProblem). All (IsPinStepTouching q) c.as_slice.result.now) c.self.view_is
     good
