@@ -1,0 +1,16 @@
+mod CodeLemmas
+mod ElemLemmas
+mod FittingLine
+pub mod JudgedTracks
+pub mod LegalLines
+mod LegalWires
+mod LimitLemmas
+mod PlaceLemmas
+mod RuleLemmas
+mod SlotWires
+mod TraceLemmas
+mod TrackLemmas
+mod TrackedLines
+mod UnreadTests
+mod VerdictLemmas
+mod WireLemmas

@@ -1,0 +1,81 @@
+-- What there is against a line of a routed file is a cause, and no limit.
+use Rattle.std.proofs.Common.{◌≡◌, ℕ, ◌+◌, Bool, true, false, List, [], ◌∷◌, Option, Some, None, refl, sym, subst}
+use Rattle.std.specs.Prelude.{map, ⊤, ◌↔◌, if◌then◌else◌}
+use Rattle.std.specs.Option.{option_or}
+use Rattle.fpga_graph.specs.GraphOf.{GraphOf}
+use Rattle.fpga_text.specs.FirstFault.{IsFaultOf, first_fault}
+use Rattle.fpga_text.specs.declared.fault.TextFault.{TextFault}
+use Rattle.fpga_text.specs.declared.fault.TextFault.TheVariants.{Bad, Limit, Memory}
+use Rattle.fpga_text.proofs.FaultLemmas.{first_fault-append}
+use Rattle.fpga_types.specs.Fit.{RouteLine, line_number, route_lines}
+use Rattle.fpga_types.specs.Fits.{lacks_net, same_size}
+use Rattle.fpga_types.specs.Problem.{RoutingProblem}
+use Rattle.fpga_types.specs.declared.route.RouteText.{RouteText}
+use Rattle.route_verify.specs.Judged.{array_cause, causes, end_cause, graph_of, judgement_by, line_cause}
+use Rattle.route_verify.specs.Lines.{JudgedLine, is_too_high, is_unconnected, is_unfit, judged_line, repeats_cell}
+use Rattle.route_verify.specs.declared.judgement.Judgement.TheVariants.{Legal}
+
+-- a cause, if anything
+abbrev pub IsCause : Option TextFault → Type 0
+IsCause None = ⊤
+IsCause (Some (Bad line cause)) = ⊤
+IsCause (Some (Limit cause count)) = ⊥
+IsCause (Some Memory) = ⊥
+
+this-or-rest : (holds : Bool) (line cause : ℕ) (rest : Option TextFault) → IsCause rest
+    → IsCause (if holds then Some (Bad line cause) else rest)
+this-or-rest true line cause rest is = tt
+this-or-rest false line cause rest is = is
+
+none-or-this : (fine : Bool) (line cause : ℕ)
+    → IsCause (if fine then None else Some (Bad line cause))
+none-or-this true line cause = tt
+none-or-this false line cause = tt
+
+first-or-later : (first later : Option TextFault) → IsCause first → IsCause later
+    → IsCause (option_or first later)
+first-or-later None later is after = after
+first-or-later (Some (Bad line cause)) later is after = tt
+first-or-later (Some (Limit cause count)) later is after = absurd is
+first-or-later (Some Memory) later is after = absurd is
+
+module _ (width : ℕ) (p : RoutingProblem) where
+  line-is : (line : RouteLine) → IsCause (line_cause width p line)
+  line-is line =
+      let g : GraphOf = graph_of width p in
+      let at : JudgedLine = judged_line p line in
+      let n : ℕ = line_number line in
+      this-or-rest (is_unconnected g at) n 801 _ (this-or-rest (is_too_high g at) n 802 _
+      (this-or-rest at.wire_taken n 803 _ (this-or-rest at.stray n 804 _
+      (this-or-rest (repeats_cell at) n 805 _ (this-or-rest at.fit.lacking n 806 _
+      (this-or-rest (is_unfit g at) n 807 None tt))))))
+
+  lines-are : (lines : List RouteLine) → IsCause (first_fault (map (line_cause width p) lines))
+  lines-are [] = tt
+  lines-are (line ∷ lines) = first-or-later (line_cause width p line)
+      (first_fault (map (line_cause width p) lines)) (line-is line) (lines-are lines)
+
+  pub first-is-cause : (found : RouteText) → IsCause (first_fault (causes width p found))
+  first-is-cause found =
+      let lines : List (Option TextFault) = map (line_cause width p) (route_lines found) in
+      let end : IsCause (end_cause p found) = this-or-rest
+      (lacks_net (record p { route = found })) (found.lines + 1) 806 None tt in
+      let behind : IsCause (option_or (first_fault lines) (option_or (end_cause p found) None)) =
+      first-or-later (first_fault lines) (option_or (end_cause p found) None)
+      (lines-are (route_lines found)) (first-or-later (end_cause p found) None end tt) in
+      first-or-later (array_cause p found) _
+      (none-or-this (same_size p.placement.grid found.grid) found.grid_line 807)
+      (subst IsCause (sym (first_fault-append lines (end_cause p found ∷ []))) behind)
+
+-- legal exactly where there is none
+pub legal-exactly : (cause : Option TextFault) → IsCause cause
+    → (judgement_by cause ≡ Legal) ↔ (cause ≡ None)
+legal-exactly None is = ((λ _. refl), (λ _. refl))
+legal-exactly (Some (Bad line cause)) is = ((λ e. cc), (λ e. cc))
+legal-exactly (Some (Limit cause count)) is = absurd is
+legal-exactly (Some Memory) is = absurd is
+
+-- so no limit is passed
+pub no-limit : (cause : Option TextFault) (code count : ℕ) → IsCause cause
+    → IsFaultOf cause (Limit code count) → ⊥
+no-limit cause code count is found = subst IsCause found is

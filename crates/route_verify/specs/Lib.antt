@@ -1,0 +1,9 @@
+pub mod Causes
+pub mod Heads
+pub mod Judge
+pub mod Judged
+pub mod Lines
+pub mod Rules
+pub mod Traces
+pub mod Wires
+pub mod Wiring

@@ -1,0 +1,187 @@
+//! What the nets of a routed file are judged by, and the cause against a Net line.
+ghost use Rattle.std.specs.Prelude.{◌≡◌, ◌<◌, ◌==◌, ◌&&◌, not, [], ◌∷◌, ◌++◌, false, length, slice_index_or, List, IfOk, OnOk, Some};
+ghost use Rattle.std.specs.List.{list_all};
+ghost use Rattle.fpga_text.specs.FirstFault.{AnswersFault};
+ghost use Rattle.fpga_bounds.specs.NetFit.{head_line};
+ghost use Rattle.fpga_bounds.specs.NetTable.{HasNetLines, number_named};
+ghost use Rattle.fpga_types.specs.Fits.{has_sink, is_known};
+ghost use Rattle.fpga_types.specs.Terminals.{sinks_named};
+ghost use Rattle.fpga_types.specs.declared.route.RouteNet.{RouteNet};
+ghost use Rattle.route_verify.specs.Heads as spec;
+ghost use Rattle.route_verify.specs.Judged.{graph_of, line_cause};
+
+use crate::cause::Cause;
+use crate::rules::Rules;
+use crate::traces::Traces;
+use crate::wiring::Wiring;
+use fpga_bounds::{Design, NetEnds, NetTable, are_alike};
+use fpga_text::{Coded, TextFault};
+use fpga_types::RouteNet;
+use std::alloc::{AllocError, Global};
+use std::collections::BTreeSet;
+use std::marker::Model;
+
+/// The problem of a global route at a number of tracks, with its nets by name.
+#[derive(Drop)]
+pub(crate) struct Judge<'a> {
+    design: &'a Design<'a>,
+    wiring: &'a Wiring<'a>,
+    names: NetTable<'a>,
+    traces: Traces<'a>,
+}
+
+impl<'a> Model for Judge<'a> {
+    ghost use Rattle.route_verify.specs.Judge.{IsJudge, JudgedProblem};
+
+    ghost Value = { JudgedProblem };
+
+    ghost view = { λ j. record { problem = j.design.now; width = j.wiring.now.width } };
+
+    ghost invariant = { λ j. IsJudge j.design.now j.wiring.now j.names j.traces };
+}
+
+impl<'a> Judge<'a> {
+    /// By this problem and this fabric, which is the problem's.
+    pub(crate) fn of(
+        alloc: Global,
+        design: &'a Design<'a>,
+        wiring: &'a Wiring<'a>,
+    ) -> Result<Judge<'a>, AllocError>
+        requires { wiring.now ≡ graph_of wiring.now.width design.now }
+        ensures { IfOk result (λ judge. judge
+            ≡ record { problem = design.now; width = wiring.now.width }) }
+    {
+        let names = NetTable::of(alloc, design.netlist.nets.as_slice())?;
+        let traces = Traces::of(alloc, design.route.nets.as_slice())?;
+        Ok(Judge {
+            design,
+            wiring,
+            names,
+            traces,
+        })
+    }
+
+    /// The nets of the netlist.
+    pub(crate) fn names(&self) -> &NetTable<'a>
+        ensures { result.now ≡ self.now.problem.netlist.nets }
+    {
+        &self.names
+    }
+
+    /// The problem.
+    pub(crate) fn design(&self) -> &'a Design<'a>
+        ensures { result.now ≡ self.now.problem }
+    {
+        self.design
+    }
+
+    /// Judges the Net line of a net, and marks that its net of the netlist has one: the rules for
+    /// the lines of the net, where nothing is against it.
+    pub(crate) fn check_head(
+        &self,
+        alloc: Global,
+        marks: &mut [bool],
+        net: &'a RouteNet,
+    ) -> Result<Rules<'a>, TextFault>
+        requires { length marks.old ≡ length self.now.problem.netlist.nets }
+        ensures answers { (earlier : List RouteNet)
+            → HasNetLines self.now.problem.netlist.nets marks.old earlier
+            → AnswersFault (line_cause self.now.width self.now.problem (head_line earlier net.now))
+            (λ rules. rules ≡ record {
+              problem = self.now.problem;
+              name = net.now.name;
+              width = self.now.width;
+            }) result }
+        ensures marked { (earlier : List RouteNet)
+            → HasNetLines self.now.problem.netlist.nets marks.old earlier
+            → OnOk result (HasNetLines self.now.problem.netlist.nets marks.new
+            (earlier ++ net.now ∷ [])) }
+    {
+        let Some(number) = self.names().number_of(net.name.bytes.as_slice()) else {
+            return Err(Cause::Unfit.at(net.line));
+        };
+        let Ok(rules) = self.rules(alloc, number, net) else {
+            return Err(TextFault::Memory);
+        };
+        let known = self.has_form(number, net);
+        let repeated = is_marked(marks, number);
+        let lacking = is_lacking(alloc, &rules, net);
+        if let Some(fault) = head_cause(net.line, known, repeated, is_bare(net), lacking) {
+            return Err(fault);
+        }
+        marks[number] = true;
+        Ok(rules)
+    }
+
+    /// The rules for the lines of the net, which has this number in the netlist.
+    fn rules(
+        &self,
+        alloc: Global,
+        number: usize,
+        net: &'a RouteNet,
+    ) -> Result<Rules<'a>, AllocError>
+        requires named { number_named self.now.problem.netlist.nets net.now.name ≡ Some number }
+        requires within { number < length self.now.problem.netlist.nets }
+        ensures { IfOk result (λ rules. rules ≡ record {
+          problem = self.now.problem;
+          name = net.now.name;
+          width = self.now.width;
+        }) }
+    {
+        let name = net.name.bytes.as_slice();
+        let ends = NetEnds::of(alloc, self.design, name, &self.names.as_slice()[number])?;
+        Rules::of(alloc, self.wiring, &self.traces, ends, name)
+    }
+
+    /// Whether the Net line has the form of the net with this number, which has its name.
+    fn has_form(&self, number: usize, net: &RouteNet) -> bool
+        requires named { number_named self.now.problem.netlist.nets net.now.name ≡ Some number }
+        requires within { number < length self.now.problem.netlist.nets }
+        ensures { result ≡ is_known self.now.problem net.now.name net.now.global }
+    {
+        let named = &self.names().as_slice()[number];
+        are_alike(named.global, net.global)
+    }
+}
+
+/// Whether the net with this number is marked.
+fn is_marked(marks: &[bool], number: usize) -> bool
+    requires { number < length marks.now }
+    ensures { result ≡ slice_index_or marks.now number false }
+{
+    marks[number]
+}
+
+/// Whether the net is ordinary and has no element.
+fn is_bare(net: &RouteNet) -> bool
+    ensures { result ≡ (not net.now.global && length net.now.elems == 0) }
+{
+    !net.global && net.elems.as_slice().is_empty()
+}
+
+/// Whether the net is ordinary and has no element, though it has a sink.
+fn is_lacking(alloc: Global, rules: &Rules, net: &RouteNet) -> bool
+    ensures { result ≡ (not net.now.global && length net.now.elems == 0
+        && not (list_all (has_sink []) (sinks_named rules.now.problem rules.now.name))) }
+{
+    is_bare(net) && rules.lacks(&BTreeSet::new(alloc))
+}
+
+/// The least cause against a Net line.
+fn head_cause(
+    line: u64,
+    known: bool,
+    repeated: bool,
+    bare: bool,
+    lacking: bool,
+) -> Option<TextFault>
+    ensures { result ≡ spec.head_cause line known repeated bare lacking }
+{
+    if lacking {
+        return Some(Cause::MissingSink.at(line));
+    }
+    if !known || repeated || bare {
+        return Some(Cause::Unfit.at(line));
+    }
+    None
+}

@@ -1,0 +1,21 @@
+//! A judge of routed files: whether a stranger's detailed route is legal for a problem.
+#![tactic(auto)]
+
+mod cause;
+mod elems;
+mod judge;
+mod judgement;
+mod laws;
+mod line;
+mod nets;
+mod rules;
+mod taken;
+mod traces;
+mod verdict;
+mod wires;
+mod wiring;
+
+pub use cause::Cause;
+pub use judgement::Judgement;
+pub use laws::{legal_tracks_are_judged_legal, legal_without_causes};
+pub use verdict::verify;

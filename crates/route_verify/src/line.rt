@@ -1,0 +1,138 @@
+//! The causes against an element line, from what they look at.
+ghost use Rattle.std.specs.Prelude.{◌≡◌};
+ghost use Rattle.fpga_bounds.specs.ElemContext.{context_at};
+ghost use Rattle.fpga_text.specs.Codes.{first_code};
+ghost use Rattle.route_verify.specs.Judged.{line_causes};
+ghost use Rattle.route_verify.specs.Lines as spec;
+ghost use Rattle.route_verify.specs.Rules.{judged_at};
+
+use crate::cause::Cause;
+use crate::wiring::Wiring;
+use fpga_bounds::{
+    ElemContext, ProblemContext, is_branch, is_other_pin, is_other_sink, is_other_source,
+    is_out_of_place, is_repeat,
+};
+use fpga_text::{Coded, TextFault};
+use fpga_types::ElemKind;
+
+/// What is at hand of an element line while its net is read.
+#[derive(Clone, Copy, Debug)]
+pub(crate) struct ElemLine {
+    /// What the codes of a route alone look at. How many slots there are is not asked.
+    pub route: ElemContext,
+    /// Whether it is a channel on a wire of an earlier line of its net.
+    pub wire_again: bool,
+    /// Whether it is a channel on a wire of an earlier net.
+    pub wire_taken: bool,
+}
+
+/// What the causes against an element line look at.
+#[derive(Clone, Copy, Debug)]
+pub(crate) struct LineContext {
+    /// What the codes of the fit look at. How many slots there are is not asked.
+    pub fit: ProblemContext,
+    /// Whether it is a channel on a wire of an earlier line of its net.
+    pub wire_again: bool,
+    /// Whether it is a channel on a wire of an earlier net.
+    pub wire_taken: bool,
+    /// Whether it is a channel in a cell that is none of its net's in the global route.
+    pub stray: bool,
+}
+
+/// The least cause against the line, if there is one.
+pub(crate) fn line_cause(wiring: &Wiring, at: LineContext) -> Option<TextFault>
+    ensures { result ≡ first_code line_causes wiring.now at.fit.route.elem.line (judged_at at) }
+{
+    let elem = at.fit.route.elem;
+    let line = elem.line;
+    if is_unconnected(wiring, at) {
+        return Some(Cause::NotConnected.at(line));
+    }
+    if wiring.is_past_width(elem) {
+        return Some(Cause::PastWidth.at(line));
+    }
+    if at.wire_taken {
+        return Some(Cause::SharedWire.at(line));
+    }
+    if at.stray {
+        return Some(Cause::OffTrace.at(line));
+    }
+    if repeats_cell(at) {
+        return Some(Cause::RepeatedCell.at(line));
+    }
+    if at.fit.lacking {
+        return Some(Cause::MissingSink.at(line));
+    }
+    if is_unfit(wiring, at) {
+        return Some(Cause::Unfit.at(line));
+    }
+    None
+}
+
+/// Whether the line before and this one are not connected by the fabric.
+fn is_unconnected(wiring: &Wiring, at: LineContext) -> bool
+    ensures { result ≡ spec.is_unconnected wiring.now (judged_at at) }
+{
+    let route = at.fit.route;
+    match route.previous {
+        Some(before) => wiring.are_unconnected(before, route.elem),
+        None => false,
+    }
+}
+
+/// Whether a channel is in a cell of an earlier line of its net, unless it is in branch position
+/// and names a wire of its net again.
+fn repeats_cell(at: LineContext) -> bool
+    ensures { result ≡ spec.repeats_cell (judged_at at) }
+{
+    let route = at.fit.route;
+    route.elem.kind.is_channel() && route.again && !(is_branch(route) && at.wire_again)
+}
+
+/// Whether a code of the fit would hold at the line, one that no other cause stands for.
+fn is_unfit(wiring: &Wiring, at: LineContext) -> bool
+    ensures { result ≡ spec.is_unfit wiring.now (judged_at at) }
+{
+    let route = at.fit.route;
+    is_other_source(at.fit)
+        || is_other_sink(at.fit)
+        || is_sink_again(route)
+        || is_other_pin(wiring.arch(), at.fit)
+        || is_other_again(route)
+        || branches_loose(at)
+        || route.taken
+        || is_out_of_place(route)
+}
+
+/// Whether it is a SINK that stands earlier in its net.
+fn is_sink_again(at: ElemContext) -> bool
+    ensures { result ≡ spec.is_sink_again (context_at at) }
+{
+    matches!(at.elem.kind, ElemKind::Sink) && at.again
+}
+
+/// Whether an element that is no channel comes a second time where no branch starts.
+fn is_other_again(at: ElemContext) -> bool
+    ensures { result ≡ spec.is_other_again (context_at at) }
+{
+    is_repeat(at) && !at.elem.kind.is_channel()
+}
+
+/// Whether a branch starts at an element that the net does not have yet, a channel with its track.
+fn branches_loose(at: LineContext) -> bool
+    ensures { result ≡ spec.branches_loose (judged_at at) }
+{
+    let route = at.fit.route;
+    !matches!(route.elem.kind, ElemKind::Ipin)
+        && !matches!(route.elem.kind, ElemKind::Sink)
+        && is_branch(route)
+        && !is_again(at)
+}
+
+/// Whether the element equals an earlier one of its net, a channel with its track.
+fn is_again(at: LineContext) -> bool
+    ensures { result ≡ spec.is_again (judged_at at) at.fit.route.elem }
+{
+    let route = at.fit.route;
+    route.again && (!route.elem.kind.is_channel() || at.wire_again)
+}

@@ -1,0 +1,138 @@
+//! How a routed file is judged against the problem of its global route.
+ghost use Rattle.std.specs.Prelude.{◌≡◌, ◌<◌, ◌≤◌, ◌-◌, ◌^◌, [], false, ⊤, replicate, IfOk};
+ghost use Rattle.fpga_bounds.specs.NetTable.{HasNetLines};
+ghost use Rattle.fpga_text.specs.FirstFault.{Answers};
+ghost use Rattle.fpga_types.specs.Sound.{IsSound};
+ghost use Rattle.route_verify.specs.Judge.{lines_causes};
+ghost use Rattle.route_verify.specs.Judged.{causes, graph_of, judged};
+
+use crate::cause::Cause;
+use crate::judge::Judge;
+use crate::judgement::Judgement;
+use crate::nets::check_nets;
+use crate::wiring::Wiring;
+use fpga_bounds::{Design, PlacedProblem, is_one_size, lacks_net};
+use fpga_text::{Coded, TextFault};
+use fpga_types::{Grid, RouteText, WIDTH_LIMIT};
+use std::alloc::{AllocError, Global};
+
+/// Judges a routed file, which was read like a global route, against the problem of its global
+/// route at a width from 1 to 64 tracks. Any tree over the cells of a net is legal, whatever the
+/// steps of the global route are.
+///
+/// A file that is not legal is so at its first line with a cause, by the least cause there:
+/// - 801: a channel line after a channel line of its net, both of tracks below the width, whose
+///   wires no switch block joins; a channel line and a pin line next to each other, the track below
+///   the width, where the pin does not touch the cell or does not open the track: the later line;
+/// - 802: a channel line of a track that is not below the width;
+/// - 803: a channel line whose wire stands in an earlier net of the file;
+/// - 804: a channel line whose cell is none of its net's in the global route;
+/// - 805: a channel line whose cell stands earlier in its net, unless it stands after a SINK and
+///   names a wire of its net again;
+/// - 806: the last line of an ordinary net where a sink has no SINK line; the end, which counts as
+///   the line after the last, where an ordinary net has no Net line;
+/// - 807: a line at which a global route would not fit for another reason: another array; an
+///   unknown or repeated net; another SOURCE, SINK, OPIN or IPIN than the net's; a SINK that
+///   stands earlier in its net; a pin line that does without standing after a SINK; a branch at an
+///   element that its net does not have; a pin of an earlier net; an element out of order.
+///
+/// # Errors
+/// Where memory is short.
+///
+/// Takes time that grows with the elements, blocks and pins times the logarithm of their number,
+/// and memory in proportion to them.
+pub fn verify(
+    alloc: Global,
+    problem: &PlacedProblem,
+    width: u32,
+    found: &RouteText,
+) -> Result<Judgement, AllocError>
+    requires width { (1 ≤ width) × (width ≤ WIDTH_LIMIT) }
+    requires found { IsSound found.now }
+    ensures { IfOk result (λ judgement. judgement ≡ judged width problem.now found.now) }
+{
+    match first_cause(alloc, problem, width, found) {
+        Ok(()) => Ok(Judgement::Legal),
+        Err(TextFault::Bad { line, code }) => Ok(Judgement::NotLegal { line, cause: code }),
+        Err(TextFault::Limit { .. }) => unreachable!(),
+        Err(TextFault::Memory) => Err(AllocError),
+    }
+}
+
+/// The first cause against the file.
+fn first_cause(
+    alloc: Global,
+    problem: &PlacedProblem,
+    width: u32,
+    found: &RouteText,
+) -> Result<(), TextFault>
+    requires width { (1 ≤ width) × (width ≤ WIDTH_LIMIT) }
+    requires found { IsSound found.now }
+    ensures { Answers (causes width problem.now found.now) (λ _. ⊤) result }
+{
+    let arch = problem.arch();
+    let route = problem.route();
+    let Ok(design) = Design::of(alloc, arch, problem.netlist(), problem.placement(), route) else {
+        return Err(TextFault::Memory);
+    };
+    let wiring = Wiring::new(arch, route.grid, width);
+    check_with(alloc, &design, &wiring, found)
+}
+
+/// The first cause against the file by this problem and this fabric, which is the problem's.
+fn check_with<'a>(
+    alloc: Global,
+    design: &'a Design<'a>,
+    wiring: &'a Wiring<'a>,
+    found: &'a RouteText,
+) -> Result<(), TextFault>
+    requires fabric { wiring.now ≡ graph_of wiring.now.width design.now }
+    requires lines { found.now.lines < 2 ^ 64 - 1 }
+    ensures { Answers (causes wiring.now.width design.now found.now) (λ _. ⊤) result }
+{
+    let Ok(judge) = Judge::of(alloc, design, wiring) else {
+        return Err(TextFault::Memory);
+    };
+    check_file(alloc, &judge, found)
+}
+
+/// The first cause against the file.
+fn check_file<'a>(alloc: Global, judge: &Judge<'a>, found: &'a RouteText) -> Result<(), TextFault>
+    requires { found.now.lines < 2 ^ 64 - 1 }
+    ensures { Answers (causes judge.now.width judge.now.problem found.now) (λ _. ⊤) result }
+{
+    if !is_one_size(judge.design().placement.grid, found.grid) {
+        return Err(Cause::Unfit.at(found.grid_line));
+    }
+    let Ok(mut marks) = no_marks(alloc, judge.names().as_slice().len()) else {
+        return Err(TextFault::Memory);
+    };
+    check_lines(alloc, judge, &mut marks, found)
+}
+
+/// A mark for each of so many nets, none of which has had its Net line.
+fn no_marks(alloc: Global, count: usize) -> Result<Vec<bool>, AllocError>
+    ensures { IfOk result (λ marks. marks.items ≡ replicate count false) }
+{
+    vec![in alloc; false; count]
+}
+
+/// The first cause against the file behind its array line; no net is marked.
+fn check_lines<'a>(
+    alloc: Global,
+    judge: &Judge<'a>,
+    marks: &mut [bool],
+    found: &'a RouteText,
+) -> Result<(), TextFault>
+    requires lines { found.now.lines < 2 ^ 64 - 1 }
+    requires marks { HasNetLines judge.now.problem.netlist.nets marks.old [] }
+    ensures { Answers (lines_causes judge.now.width judge.now.problem found.now) (λ _. ⊤) result }
+{
+    if let Err(fault) = check_nets(alloc, judge, marks, found.nets.as_slice()) {
+        return Err(fault);
+    }
+    if lacks_net(judge.names(), marks) {
+        return Err(Cause::MissingSink.at(found.lines + 1));
+    }
+    Ok(())
+}
