@@ -115,8 +115,8 @@ fn is_met(file: &WantedFile, shelf: &MemShelf) -> bool
     }
 }
 
-// Whether two numbers are the same.
-fn same_number(alloc: Global, what: &str, expected: u64, came: u64) -> Result<(), RowStop>
+/// Whether two numbers are the same.
+pub fn same_number(alloc: Global, what: &str, expected: u64, came: u64) -> Result<(), RowStop>
     ensures { OnOk result (came ≡ expected) }
 {
     if expected == came {
@@ -127,8 +127,8 @@ fn same_number(alloc: Global, what: &str, expected: u64, came: u64) -> Result<()
     differs(alloc, what, left.as_bytes(), right.as_bytes())
 }
 
-// Whether two texts are the same.
-fn same_text(alloc: Global, what: &str, expected: &[u8], came: &[u8]) -> Result<(), RowStop>
+/// Whether two texts are the same.
+pub fn same_text(alloc: Global, what: &str, expected: &[u8], came: &[u8]) -> Result<(), RowStop>
     ensures { OnOk result (came.now ≡ expected.now) }
 {
     if expected == came {
@@ -137,8 +137,8 @@ fn same_text(alloc: Global, what: &str, expected: &[u8], came: &[u8]) -> Result<
     differs(alloc, what, expected, came)
 }
 
-// Tells two texts that differ.
-fn differs(alloc: Global, what: &str, expected: &[u8], came: &[u8]) -> Result<(), RowStop>
+/// Tells two texts that differ.
+pub fn differs(alloc: Global, what: &str, expected: &[u8], came: &[u8]) -> Result<(), RowStop>
     ensures { IsErr result }
 {
     Err(RowStop::Differs {

@@ -5,11 +5,13 @@ use crate::stop::{LineFault, RowStop, RowsError};
 use crate::texts::Texts;
 use std::alloc::{AllocError, Global};
 
-/// How many cases hold, and how many do not.
+/// How many cases hold, and how many do not; and in how many runs of those that hold calls failed one
+/// after the other.
 #[derive(Clone, Copy)]
 pub struct Tally {
     pub holding: u64,
     pub others: u64,
+    pub cut: u64,
 }
 
 // Why a line of a case is not taken, with the line.
@@ -23,8 +25,14 @@ fn at_line(alloc: Global, fault: LineFault, line: &str) -> RowStop {
     }
 }
 
-// Judges a case: takes its lines, runs at each `then`, and at the end.
-fn judge(alloc: Global, texts: &mut Texts, common: &[&str], lines: &[&str]) -> Result<(), RowStop> {
+// Judges a case: takes its lines, runs at each `then`, and at the end, and then once for each call that
+// is to fail; gives how many runs these were.
+fn judge(
+    alloc: Global,
+    texts: &mut Texts,
+    common: &[&str],
+    lines: &[&str],
+) -> Result<u64, RowStop> {
     texts.written = None;
     let mut row = Row::new(alloc);
     for line in common.iter().chain(lines) {
@@ -35,12 +43,12 @@ fn judge(alloc: Global, texts: &mut Texts, common: &[&str], lines: &[&str]) -> R
             return Err(at_line(alloc, fault, line));
         }
     }
-    row.play()?;
-    Ok(())
+    let whole = row.play()?;
+    row.play_series(&whole)
 }
 
 // Adds a part to the texts.
-fn add_part(alloc: Global, texts: &mut Texts, name: &str, lines: &[&str]) -> Result<(), RowStop> {
+fn add_part(alloc: Global, texts: &mut Texts, name: &str, lines: &[&str]) -> Result<u64, RowStop> {
     let mut text = Vec::new(alloc);
     for line in lines {
         if let Err(fault) = texts.append_line(&mut text, line) {
@@ -48,16 +56,22 @@ fn add_part(alloc: Global, texts: &mut Texts, name: &str, lines: &[&str]) -> Res
         }
     }
     texts.parts.push((String::from_str(alloc, name)?, text))?;
-    Ok(())
+    Ok(0)
 }
 
-/// Judges the cases of a file, and prints a line for each that does not hold.
-pub fn judge_file(rt: &impl Print, alloc: Global, text: &str) -> Result<Tally, RowsError> {
+/// Judges the cases of a file, and prints a line for each that does not hold. They can cite the parts
+/// of the files before.
+pub fn judge_file(
+    rt: &impl Print,
+    alloc: Global,
+    texts: &mut Texts,
+    text: &str,
+) -> Result<Tally, RowsError> {
     let mut tally = Tally {
         holding: 0,
         others: 0,
+        cut: 0,
     };
-    let mut texts = Texts::new(alloc);
     let mut common = Vec::new(alloc);
     for section in sections(alloc, text)? {
         let Section { heading, lines } = section;
@@ -66,13 +80,14 @@ pub fn judge_file(rt: &impl Print, alloc: Global, text: &str) -> Result<Tally, R
                 common = lines;
                 continue;
             }
-            Heading::Part(name) => (name, add_part(alloc, &mut texts, name, &lines)),
-            Heading::Case(name) => (name, judge(alloc, &mut texts, &common, &lines)),
+            Heading::Part(name) => (name, add_part(alloc, texts, name, &lines)),
+            Heading::Case(name) => (name, judge(alloc, texts, &common, &lines)),
         };
         match judged {
-            Ok(()) => {
+            Ok(cut) => {
                 let is_case = matches!(heading, Heading::Case(_));
                 tally.holding = tally.holding.saturating_add(u64::from(is_case));
+                tally.cut = tally.cut.saturating_add(cut);
             }
             Err(stop) => {
                 println!(rt; "{name}: {stop}")?;

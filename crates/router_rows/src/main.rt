@@ -3,25 +3,29 @@
 #![tactic(auto)]
 
 mod compare;
+mod cut;
 mod judge;
 mod numbers;
 mod row;
 mod sections;
+mod series;
 mod stop;
 mod texts;
 
 use crate::judge::judge_file;
 use crate::stop::RowsError;
+use crate::texts::Texts;
 use desk_io::{FileDesk, read_file};
 use std::str;
 
 // The files of cases. The first says how they are written.
-const FILES: [&str; 5] = [
+const FILES: [&str; 6] = [
     "worked.rows",
     "failing_calls.rows",
     "route_texts.rows",
     "limits.rows",
     "proof_texts.rows",
+    "routed_texts.rows",
 ];
 
 // No file of cases is longer.
@@ -30,15 +34,18 @@ const LIMIT: u64 = 1 << 20;
 fn main(rt: HostRuntime) -> Result<(), RowsError> {
     let mut holding = 0u64;
     let mut others = 0u64;
+    let mut cut = 0u64;
+    let mut texts = Texts::new(rt.alloc());
     for name in FILES {
         let bytes = read_file(rt.alloc(), &mut FileDesk::new(&rt), name, LIMIT)?;
-        let tally = judge_file(&rt, rt.alloc(), str::from_utf8(&bytes)?)?;
+        let tally = judge_file(&rt, rt.alloc(), &mut texts, str::from_utf8(&bytes)?)?;
         holding = holding.saturating_add(tally.holding);
         others = others.saturating_add(tally.others);
+        cut = cut.saturating_add(tally.cut);
     }
     if others > 0 {
         println!(rt; "{others} rows differ")?;
     }
-    println!(rt; "{holding} rows hold")?;
+    println!(rt; "{holding} rows hold, and {cut} runs in which calls fail one after the other")?;
     Ok(())
 }

@@ -1,14 +1,18 @@
 //! A run of the router, and what must come of it.
-ghost use Rattle.std.specs.Prelude.{IfOk};
+ghost use Rattle.std.specs.Prelude.{All, IfOk, OnOk};
+ghost use Rattle.std.specs.Option.{ForSome};
+ghost use Rattle.router_rows.specs.Series.{HasCome, IsCutBySome, IsMetBySome};
 ghost use Rattle.router_rows.specs.Wanted.{AreMet};
 ghost use Rattle.router_top.specs.declared.outcome.Outcome.{Outcome};
 
 use crate::compare::{Wanted, WantedFile, Wants};
+use crate::cut::{Cut, compare_same};
 use crate::numbers::{number, numbers};
+use crate::series::{Failing, Series};
 use crate::stop::{LineFault, RowStop};
 use crate::texts::{Texts, is_of_text};
 use desk_io::{MemDesk, MemShelf};
-use router_top::run;
+use router_top::{Outcome as Answer, run};
 use std::alloc::Global;
 
 // Where the lines of a text go.
@@ -19,7 +23,8 @@ enum Target {
     Wanted,
 }
 
-/// The words, the files and the calls that fail of a run, and what must come of it.
+/// The words, the files and the calls that fail of a run, and what must come of it; and of the runs
+/// like it in which calls fail.
 #[derive(Drop)]
 pub struct Row {
     alloc: Global,
@@ -28,6 +33,7 @@ pub struct Row {
     desk_fails: Vec<u64>,
     shelf_fails: Vec<u64>,
     wants: Wants,
+    series: Series,
     target: Target,
 }
 
@@ -41,6 +47,7 @@ impl Row {
             desk_fails: Vec::new(alloc),
             shelf_fails: Vec::new(alloc),
             wants: Wants::new(alloc),
+            series: Series::new(alloc),
             target: Target::Nothing,
         }
     }
@@ -66,6 +73,9 @@ impl Row {
             "begins" => self.take_wanted(Wanted::Begins, rest),
             "holds" => self.take_wanted(Wanted::Holds, rest),
             "lacks" => self.take_wanted(Wanted::Lacks, rest),
+            "order" => self.series.take_order(self.alloc, rest),
+            "each" => self.series.take_failing(rest),
+            "meets" => self.series.take_cuts(self.alloc, rest),
             _ => Err(LineFault::NotUnderstood),
         }
     }
@@ -130,13 +140,89 @@ impl Row {
     }
 
     /// Runs, and compares what comes; gives the shelf then.
-    pub fn play(self) -> Result<MemShelf, RowStop>
-        ensures { IfOk result (λ shelf. (outcome : Outcome) × AreMet self.wants outcome shelf) }
+    pub fn play(&self) -> Result<MemShelf, RowStop>
+        ensures { IfOk result (λ shelf. (outcome : Outcome) × AreMet self.now.wants outcome shelf) }
     {
-        let mut desk = MemDesk::new(self.alloc, self.files, self.desk_fails);
-        let mut shelf = MemShelf::new(self.alloc, self.shelf_fails);
-        let outcome = run(self.alloc, &self.words, &mut desk, &mut shelf);
+        let (outcome, shelf) = self.run(self.desk_fails.clone()?, self.shelf_fails.clone()?)?;
         self.wants.compare(self.alloc, &outcome, &shelf)?;
         Ok(shelf)
+    }
+
+    // Runs over new tables, of which these calls fail.
+    fn run(
+        &self,
+        desk_fails: Vec<u64>,
+        shelf_fails: Vec<u64>,
+    ) -> Result<(Answer, MemShelf), RowStop> {
+        let mut desk = MemDesk::new(self.alloc, self.files.clone()?, desk_fails);
+        let mut shelf = MemShelf::new(self.alloc, shelf_fails);
+        let outcome = run(self.alloc, &self.words, &mut desk, &mut shelf);
+        Ok((outcome, shelf))
+    }
+
+    /// Runs with calls that fail, with one number after the other up to the first at which none
+    /// does, and compares what comes; gives how many runs met a fault. Without a fault the shelf was
+    /// left like this.
+    pub fn play_series(&self, whole: &MemShelf) -> Result<u64, RowStop>
+        ensures { OnOk result (ForSome self.now.series.failing
+            (λ failing. HasCome self.now.wants self.now.series whole.now)) }
+    {
+        let Some(failing) = self.series.failing else {
+            if self.series.cuts.is_empty() {
+                return Ok(0);
+            }
+            return Err(RowStop::Lacks("each"));
+        };
+        self.play_numbers(failing, whole)
+    }
+
+    // The same, where it is said which calls fail.
+    fn play_numbers(&self, failing: Failing, whole: &MemShelf) -> Result<u64, RowStop>
+        ensures { OnOk result (HasCome self.now.wants self.now.series whole.now) }
+    {
+        let count = self.play_cuts(failing, whole)?;
+        self.play_last(failing, count.saturating_add(1), whole)?;
+        Ok(count)
+    }
+
+    // Runs at each number at which a call fails.
+    fn play_cuts(&self, failing: Failing, whole: &MemShelf) -> Result<u64, RowStop>
+        ensures { OnOk result (All (IsCutBySome self.now.wants self.now.series whole.now)
+            self.now.series.cuts.items) }
+    {
+        let mut number = 0u64;
+        for cut in &self.series.cuts {
+            number = number.saturating_add(1);
+            self.play_cut(failing, number, cut, whole)?;
+        }
+        Ok(number)
+    }
+
+    // Runs at a number at which a call fails.
+    fn play_cut(
+        &self,
+        failing: Failing,
+        number: u64,
+        cut: &Cut,
+        whole: &MemShelf,
+    ) -> Result<(), RowStop>
+        ensures { OnOk result (IsCutBySome self.now.wants self.now.series whole.now cut.now) }
+    {
+        let (desk_fails, shelf_fails) = failing.calls(self.alloc, number)?;
+        let (outcome, shelf) = self.run(desk_fails, shelf_fails)?;
+        let order = self.series.order.as_slice();
+        cut.compare(self.alloc, &self.wants.lead, order, whole, &outcome, &shelf)?;
+        Ok(())
+    }
+
+    // Runs at the number behind the last call.
+    fn play_last(&self, failing: Failing, number: u64, whole: &MemShelf) -> Result<(), RowStop>
+        ensures { OnOk result (IsMetBySome self.now.wants self.now.series whole.now) }
+    {
+        let (desk_fails, shelf_fails) = failing.calls(self.alloc, number)?;
+        let (outcome, last) = self.run(desk_fails, shelf_fails)?;
+        self.wants.compare(self.alloc, &outcome, &last)?;
+        compare_same(self.alloc, &self.series.order, whole, &last)?;
+        Ok(())
     }
 }

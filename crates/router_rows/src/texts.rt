@@ -21,9 +21,9 @@ impl Texts {
         }
     }
 
-    // The part of this name.
+    // The last part of this name.
     fn part(&self, name: &str) -> Result<&[u8], LineFault> {
-        for (found, text) in &self.parts {
+        for (found, text) in self.parts.iter().rev() {
             if found.as_str() == name {
                 return Ok(text);
             }

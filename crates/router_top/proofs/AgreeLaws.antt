@@ -3,18 +3,20 @@
 use Rattle.std.proofs.Common.{◌≡◌, ◌∙◌, ◌⊎◌, ℕ, zero, suc, ◌<◌, ◌≤◌, List, length, Some, Ok, Err, Result, refl, sym, ap, subst, inl, inr, arith}
 use Rattle.std.specs.Prelude.{◌*◌, MatchResult, Option}
 use Rattle.desk_io.specs.Files.{FileMap}
+use Rattle.fpga_route.specs.Value.{route_value}
 use Rattle.fpga_types.specs.Problem.{RoutingProblem}
 use Rattle.fpga_types.specs.Slots.{slots}
 use Rattle.fpga_types.specs.declared.limits.TheConstants.{SLOT_LIMIT}
 use Rattle.route_encode.specs.Encoding.{cnf_of}
 use Rattle.route_encode.specs.Exact.{IsUnroutableAt}
 use Rattle.route_sweep.specs.Found.{HasFew}
+use Rattle.route_verify.specs.Judged.{judged}
 use Rattle.sat_clause.specs.Judge.{judge}
 use Rattle.sat_text.specs.CnfText.{cnf_said}
 use Rattle.sat_text.specs.LratText.{lrat_said}
 use Rattle.router_words.specs.Command.{job_of}
 use Rattle.router_words.specs.Refusal.{code_of}
-use Rattle.router_words.specs.Job.{CheckAsked, Checks, Encodes, FilesAsked, Generates, JobAsked, RecipeAsked, Routes, Sweeps, TrialAsked, Tries}
+use Rattle.router_words.specs.Job.{CheckAsked, Checks, Encodes, FilesAsked, Generates, JobAsked, RecipeAsked, Routes, Sweeps, TrialAsked, Tries, Verifies, VerifyAsked}
 use Rattle.router_words.specs.Word.{Word}
 use Rattle.router_words.specs.declared.fault.Refusal.{Refusal}
 use Rattle.router_top.specs.Check.{ChecksTo, cnf_source, judgement_outcome, lrat_source}
@@ -22,6 +24,7 @@ use Rattle.router_top.specs.Generated.{IsTooLarge, Makes}
 use Rattle.router_top.specs.Search.{Search, route_search, sweep_of, sweep_search}
 use Rattle.router_top.specs.Sources.{IsHalted, ReadsThen}
 use Rattle.router_top.specs.Truth.{Agrees, IsOpenBelow, IsReached, IsTrueAt, IsTrueOf, IsTrueOfClauses, IsTrueOfJob, IsTrueOfRecipe, IsTrueOfSearch, IsTrueOfWork}
+use Rattle.router_top.specs.Verify.{JudgesTo, VerifiesTo, judged_outcome, routed_source}
 use Rattle.router_top.specs.declared.outcome.Outcome.{Outcome}
 use Rattle.router_top.specs.declared.outcome.Outcome.TheVariants.{Done, Undecided, Usage}
 use Rattle.router_top.proofs.FourLaws.{lack-poses, one-lack, one-problem}
@@ -138,6 +141,15 @@ check-agrees job files a b h g =
     (λ log outcome. outcome ≡ judgement_outcome (judge cnf log)) a b u v
     (λ log e f. e ∙ sym f))
 
+verify-agrees : (job : VerifyAsked) (files : FileMap) (a b : Outcome)
+    → VerifiesTo (IsHalted (Some files)) (Some files) job a
+    → VerifiesTo (IsHalted (Some files)) (Some files) job b → Agrees a b
+verify-agrees job files a b h g =
+    work-agrees files job.files (JudgesTo (IsHalted (Some files)) (Some files) job) a b h g
+    (λ p u v. inl (reads-alike files (routed_source job.routed) route_value
+    (λ found outcome. outcome ≡ judged_outcome (judged job.width p found)) a b u v
+    (λ found e f. e ∙ sym f)))
+
 -- ---- a generated problem
 
 not-both : (nets blocks : ℕ) → blocks < nets → nets ≤ blocks → ⊥
@@ -197,6 +209,7 @@ job-agrees (Encodes job) files a b h g =
     work-agrees files job.files (λ p said. IsTrueOfClauses job.width p (said ≡ Done) said) a b h g
     (λ p u v. clauses-agree job.width p (λ said. said ≡ Done) a b u v (λ s t. inl (s ∙ sym t)))
 job-agrees (Checks job) files a b h g = inl (check-agrees job files a b h g)
+job-agrees (Verifies job) files a b h g = verify-agrees job files a b h g
 job-agrees (Generates job) files a b h g =
     recipe-agrees job.recipe (λ said. said ≡ Done) a b h g (λ s t. inl (s ∙ sym t))
 job-agrees (Tries job) files a b h g = trial-agrees job (Some files) a b h g

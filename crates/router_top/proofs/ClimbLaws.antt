@@ -163,6 +163,14 @@ module _ (search : Search) (p : RoutingProblem) (fits : Fits p) where
       ap (λ (s : ShelfState). s.faults) (wrote below between now found).written
       ∙ climbed-calm below before between lower
 
+  -- nothing was said meanwhile
+  pub climbed-said : (below : ℕ) (before now : ShelfState) → HasClimbed below before now
+      → now.said ≡ before.said
+  climbed-said zero before now h = ap (λ (s : ShelfState). s.said) h
+  climbed-said (suc below) before now (between, lower, found) =
+      ap (λ (s : ShelfState). s.said) (wrote below between now found).written
+      ∙ climbed-said below before between lower
+
   -- the clauses are few and no routing is legal
   pub climbed-unroutable : (below : ℕ) (before now : ShelfState) → HasClimbed below before now
       → (k : ℕ) → 1 ≤ k → k ≤ below → HasFew (cnf_of k p) × IsUnroutableAt k p

@@ -6,6 +6,7 @@ use Rattle.desk_io.specs.Files.{Bytes, FileMap, HasRisen}
 use Rattle.desk_io.specs.ShelfState.{ShelfState, after_say}
 use Rattle.desk_io.specs.WholeFile.{FailsToWrite, after_writing}
 use Rattle.desk_io.proofs.FileLemmas.{has_risen}
+use Rattle.fpga_route.specs.Value.{route_value}
 use Rattle.fpga_types.specs.Fits.{Fits}
 use Rattle.fpga_types.specs.Legal.{tracks_of}
 use Rattle.fpga_types.specs.Problem.{RoutingProblem}
@@ -17,6 +18,7 @@ use Rattle.sat_text.specs.CnfText.{cnf_said}
 use Rattle.sat_text.specs.LratText.{lrat_said}
 use Rattle.route_encode.specs.Encoding.{cnf_of}
 use Rattle.route_encode.specs.Good.{IsRoutingOf}
+use Rattle.route_verify.specs.Judged.{judged}
 use Rattle.route_sweep.specs.Asked.{Asked}
 use Rattle.route_sweep.specs.Found.{FailsOn, FindsAt}
 use Rattle.route_sweep.specs.declared.found.Climbed.{Climbed}
@@ -28,7 +30,7 @@ use Rattle.route_sweep.specs.declared.found.Stop.{Stop}
 use Rattle.route_sweep.specs.declared.found.Stop.TheVariants.{Fault, TooManyClauses, Memory}
 use Rattle.router_words.specs.Command.{job_of}
 use Rattle.router_words.specs.Refusal.{code_of}
-use Rattle.router_words.specs.Job.{CheckAsked, Checks, EncodeAsked, Encodes as EncodesJob, FilesAsked, Generates, JobAsked, RecipeAsked, RouteAsked, Routes, SweepAsked, Sweeps as SweepsJob, TrialAsked, Tries as TriesJob}
+use Rattle.router_words.specs.Job.{CheckAsked, Checks, EncodeAsked, Encodes as EncodesJob, FilesAsked, Generates, JobAsked, RecipeAsked, RouteAsked, Routes, SweepAsked, Sweeps as SweepsJob, TrialAsked, Tries as TriesJob, Verifies, VerifyAsked}
 use Rattle.router_words.specs.Word.{Word}
 use Rattle.router_words.specs.declared.fault.Refusal.{Refusal}
 use Rattle.router_top.specs.Check.{ChecksTo, cnf_source, judgement_outcome, lrat_source}
@@ -41,6 +43,7 @@ use Rattle.router_top.specs.Search.{Search, route_search, sweep_of, sweep_search
 use Rattle.router_top.specs.Sources.{IsHalted, IsStopped, ReadsThen}
 use Rattle.router_top.specs.Trial.{Tries, trial_line}
 use Rattle.router_top.specs.Truth.{Agrees, IsComplete, IsReached, IsTrueOf, IsTrueOfClauses, IsTrueOfJob, IsTrueOfRecipe, IsTrueOfSearch, IsTrueOfWork}
+use Rattle.router_top.specs.Verify.{VerifiesTo, judged_outcome, routed_source}
 use Rattle.router_top.specs.Work.{Encodes, Searches, Sweeps, WritesClauses}
 use Rattle.router_top.specs.declared.outcome.Outcome.{Outcome}
 use Rattle.router_top.specs.declared.outcome.Outcome.TheVariants.{Routed, Unroutable, Undecided, Done, Limit, Usage, WriteFault, OutOfMemory}
@@ -325,6 +328,26 @@ module _ (at : Scene) (calm : ¬ HasRisen at.desk.faults at.desk_now.faults) whe
       (files-settle problem_slots (generated_files job.recipe job.prefix) at.shelf at.shelf_now o)
       h.0
   job-settles (TriesJob job) o h = tries-settle job at.desk.files at.shelf at.shelf_now o h.0
+  job-settles (Verifies job) o h = record {
+    kept = faults-same at.shelf at.shelf_now h.1;
+    settled = λ quiet. calm-verify job o h.0;
+  }
+    where
+      calm-verify : (job : VerifyAsked) (o : Outcome)
+          → VerifiesTo (IsStopped at.desk at.desk_now) at.desk.files job o
+          → VerifiesTo (IsHalted at.desk.files) at.desk.files job o ⊎ (o ≡ OutOfMemory)
+      calm-verify job o (inl h) = elim (calm-lack at.desk at.desk_now job.files o calm h) [
+        | inl lack ↦ inl (inl lack)
+        | inr spent ↦ inr spent
+      ]
+      calm-verify job o (inr (p, poses, h)) =
+          let judges = λ (found : RouteText) (outcome : Outcome).
+          outcome ≡ judged_outcome (judged job.width p found) in
+          elim (calm-reads at.desk at.desk_now (routed_source job.routed) route_value judges judges o
+          calm (λ found. inl) h) [
+            | inl told ↦ inl (inr (p, poses, told))
+            | inr spent ↦ inr spent
+          ]
   job-settles (Checks job) o h = record {
     kept = faults-same at.shelf at.shelf_now h.1;
     settled = λ quiet. calm-check job o h.0;

@@ -1,12 +1,16 @@
 mod AgreeLaws
 mod ClimbLaws
+mod ComeLaws
 mod CompleteLaws
 mod FourLaws
 mod GeneratedLaws
+mod LeftLaws
 mod MeansLaws
 mod NameLaws
+mod SaidLaws
 mod SlotCountLaws
 mod SourceLaws
+mod StopLaws
 mod TrackLaws
 mod UnroutableLaws
 mod WrittenLaws

@@ -24,6 +24,9 @@ use Rattle.route_sweep.specs.declared.found.Found.{Found}
 use Rattle.route_sweep.specs.declared.found.Found.TheVariants.{Routed as IsRoutedThere, Refuted, Spent}
 use Rattle.route_sweep.specs.declared.found.Stop.{Stop}
 use Rattle.route_sweep.specs.declared.found.Stop.TheVariants.{Fault, TooManyClauses, Memory}
+use Rattle.route_verify.specs.Judged.{judged}
+use Rattle.route_verify.specs.declared.judgement.Judgement.{Judgement as Judged}
+use Rattle.route_verify.specs.declared.judgement.Judgement.TheVariants.{Legal as IsLegal, NotLegal as IsNotLegal}
 use Rattle.sat_clause.specs.Formula.{Cnf}
 use Rattle.sat_clause.specs.Judge.{Judgement, Accepted as IsAccepted, Refused as IsRefused, judge}
 use Rattle.sat_clause.specs.Step.{Step}
@@ -32,7 +35,7 @@ use Rattle.sat_text.specs.CnfText.{cnf_said}
 use Rattle.sat_text.specs.LratText.{lrat_said}
 use Rattle.router_words.specs.Command.{job_of}
 use Rattle.router_words.specs.Refusal.{code_of}
-use Rattle.router_words.specs.Job.{CheckAsked, Checks, EncodeAsked, Encodes as EncodesJob, FilesAsked, GenAsked, Generates, JobAsked, RecipeAsked, RouteAsked, Routes, SweepAsked, Sweeps as SweepsJob, TrialAsked, Tries as TriesJob}
+use Rattle.router_words.specs.Job.{CheckAsked, Checks, EncodeAsked, Encodes as EncodesJob, FilesAsked, GenAsked, Generates, JobAsked, RecipeAsked, RouteAsked, Routes, SweepAsked, Sweeps as SweepsJob, TrialAsked, Tries as TriesJob, Verifies, VerifyAsked}
 use Rattle.router_words.specs.Word.{Word}
 use Rattle.router_words.specs.declared.fault.Refusal.{Refusal}
 use Rattle.router_top.specs.Check.{cnf_source, judgement_outcome, lrat_source}
@@ -40,7 +43,7 @@ use Rattle.router_top.specs.FourFiles.{GivesNone, IsUnfit, Poses, arch_source, n
 use Rattle.router_top.specs.Comes.{ComesTo, lower_files}
 use Rattle.router_top.specs.Files.{WritesFiles, problem_slots}
 use Rattle.router_top.specs.Generated.{HasRoom, generated_desk, generated_files, generated_names, texts_of}
-use Rattle.router_top.specs.Means.{Means}
+use Rattle.router_top.specs.Means.{IsJudged, Means}
 use Rattle.router_top.specs.Outcomes.{climbed_outcome, found_outcome, stop_outcome, written_outcome}
 use Rattle.router_top.specs.Report.{unsaid}
 use Rattle.router_top.specs.Run.{Leaves, LeavesJob, LeavesMade, LeavesWork, Runs, Scene, TriesGenerated}
@@ -48,16 +51,16 @@ use Rattle.router_top.specs.Search.{files_of, route_search, search_asked, sweep_
 use Rattle.router_top.specs.SearchFiles.{proof_files, route_file}
 use Rattle.router_top.specs.Sources.{IsStopped, ReadsThen, Says, Source, fault_outcome}
 use Rattle.router_top.specs.Trial.{Tries, trial_line}
+use Rattle.router_top.specs.Verify.{VerifiesTo, judged_outcome, routed_source}
 use Rattle.router_top.specs.Work.{Encodes, Searches, Sweeps, WritesClauses}
 use Rattle.router_top.specs.Written.{AreWritten, NamedText, with_files}
 use Rattle.router_top.specs.declared.outcome.Outcome.{Outcome}
 use Rattle.router_top.specs.declared.outcome.Outcome.TheVariants.{Usage, WriteFault}
 use Rattle.router_top.specs.declared.text_file.TextFile.{TextFile}
 use Rattle.router_top.specs.declared.text_file.TextFile.TheVariants.{Route}
-use Rattle.router_top.proofs.ClimbLaws.{EndsAt, climb-ends, climbed-logs}
+use Rattle.router_top.proofs.ComeLaws.{HasCome, route-comes, sweep-comes}
 use Rattle.router_top.proofs.FourLaws.{AfterArch, AfterNetlist, AfterPlacement}
 use Rattle.router_top.proofs.GeneratedLaws.{files-after, made-poses, problem-apart}
-use Rattle.router_top.proofs.NameLaws.{proof-apart, proofs-then-proof, proofs-then-route, route-apart}
 use Rattle.router_top.proofs.UnroutableLaws.{none-legal}
 use Rattle.router_top.proofs.WrittenLaws.{AreApart, are-written, with_files-append}
 
@@ -68,9 +71,6 @@ routing-reads : (width : ℕ) (p : RoutingProblem) (found : RouteText) (text : B
 routing-reads width p found text narrow read routing reads =
     reads text p.route (tracks_of p.route found) read (λ k d inside.
     let t = routing.legal.within k d inside in omega (arith, t, narrow)) routing.is
-
-less-itself : (n : ℕ) → n - n ≡ 0
-less-itself n = omega arith
 
 module _ (words : List Word) (desk before : Option FileMap) where
   -- what keeps a run from its work says nothing more
@@ -191,83 +191,11 @@ module _ (words : List Word) (at : Scene) where
     found-means (Err stop) h last =
         stop-means words at.desk.files at.shelf.files at.shelf_now.files stop
 
-  -- a search at one width
-  module _ (job : RouteAsked) (p : RoutingProblem) (asked : job_of words ≡ Ok (Routes job))
-      (poses : Poses at.desk.files job.files p) (narrow : job.width ≤ WIDTH_LIMIT) where
-    abbrev comes-alone : ComesTo words at.desk.files job.width
-    comes-alone = record {
-      job = Routes job;
-      asked = asked;
-      search = route_search job;
-      searches = refl;
-      p = p;
-      poses = poses;
-      from = omega arith;
-      to = omega arith;
-      logs = λ k. [];
-      lower = λ k low high. absurd (omega (arith, low, high));
-    }
-
-    none-lower : lower_files comes-alone ≡ []
-    none-lower = ap (λ (count : ℕ). flat_map (λ k. proof_files (route_search job) p k [])
-        (range_with_len job.width count)) (less-itself job.width)
-
-    alone : (more : List NamedText) → AreApart more → AreApart (lower_files comes-alone ++ more)
-    alone more = subst (λ (fs : List NamedText). AreApart (fs ++ more)) (sym none-lower)
-
-    route-means : (o : Outcome) → Searches job p at.shelf at.shelf_now o → MeansHere o
-    route-means o did = subst MeansHere (sym did.is)
-        (found-means job.width comes-alone narrow at.shelf
-        (sym (ap (λ (fs : List NamedText). with_files fs at.shelf.files) none-lower))
-        (λ found. alone (route_file (route_search job) found ∷ [])
-        (route-apart (route_search job) p found))
-        (λ log. alone (proof_files (route_search job) p job.width log)
-        (proof-apart (route_search job) p job.width log))
-        did.came did.finds (λ same. refl))
-
-  -- a climb through the widths, which a sweep or a trial asks for
-  module _ (which : JobAsked) (job : SweepAsked) (p : RoutingProblem)
-      (asked : job_of words ≡ Ok which) (searches : search_asked which ≡ Some (sweep_search job))
-      (poses : Poses (files_of which at.desk.files) job.files p) (narrow : job.most ≤ WIDTH_LIMIT)
-    where
-      ends-mean : (came : Result Climbed Stop)
-          → EndsAt (sweep_search job).ask job.most (λ width. cnf_of width p)
-          (λ width. IsRoutingOf width p) at.shelf at.shelf_now came
-          → MeansHere (climbed_outcome came)
-      ends-mean came end =
-          let search = sweep_search job in
-          let below = end.comes.below in
-          let lower = climbed-logs search p poses.fits below at.shelf end.comes.between
-          end.comes.refuted in
-          let low : end.width ≤ 64 = omega (arith, end.comes.next, end.comes.within, narrow) in
-          let count : below ≡ end.width - 1 = omega (arith, end.comes.next) in
-          let few : 1 + (end.width - 1) ≤ end.width = omega (arith, end.comes.next) in
-          let comes : ComesTo words at.desk.files end.width = record {
-            job = which;
-            asked = asked;
-            search = search;
-            searches = searches;
-            p = p;
-            poses = poses;
-            from = omega (arith, end.comes.next);
-            to = omega (arith, end.comes.next, end.comes.within);
-            logs = lower.logs;
-            lower = λ k from high. lower.refuted k from (omega (arith, high, end.comes.next));
-          } in
-          subst MeansHere (sym end.is) (found-means end.width comes low end.comes.between
-          (lower.files ∙ ap (λ (n : ℕ). with_files
-          (flat_map (λ k. proof_files search p k (lower.logs k)) (range_with_len 1 n))
-          at.shelf.files) count)
-          (λ found. proofs-then-route search p refl lower.logs 1 (end.width - 1) found
-          (omega (arith, few, low)))
-          (λ log.
-          proofs-then-proof search p refl lower.logs 1 (end.width - 1) end.width log few low)
-          end.found end.comes.then end.last)
-
-      sweep-means : (o : Outcome) → Sweeps job p at.shelf at.shelf_now o → MeansHere o
-      sweep-means o did = subst MeansHere (sym did.is) (ends-mean did.came
-          (climb-ends (sweep_search job).ask job.most (λ width. cnf_of width p)
-          (λ width. IsRoutingOf width p) at.shelf at.shelf_now did.some did.came did.climbs))
+  -- a search that has come to a width
+  come-means : (o : Outcome) → HasCome words at o → MeansHere o
+  come-means o h = subst MeansHere (sym h.is)
+      (found-means h.width h.comes h.narrow h.between h.lower h.route_apart h.proof_apart h.came
+      h.finds h.last)
 
   module _ (job : EncodeAsked) (p : RoutingProblem) (asked : job_of words ≡ Ok (EncodesJob job))
       (poses : Poses at.desk.files job.files p) where
@@ -303,6 +231,31 @@ module _ (words : List Word) (at : Scene) where
         unsat = refutes cnf log accepts;
       }
       judged-means (IsRefused step cause) refused = tt
+
+  -- the judging of a routed file
+  module _ (job : VerifyAsked) (asked : job_of words ≡ Ok (Verifies job)) where
+    verdict-means : (judgement : Judged) → IsJudged words at.desk.files judgement
+        → MeansHere (judged_outcome judgement)
+    verdict-means IsLegal h = h
+    verdict-means (IsNotLegal line cause) h = h
+
+    verify-means : (o : Outcome)
+        → VerifiesTo (IsStopped at.desk at.desk_now) at.desk.files job o → MeansHere o
+    verify-means o (inl h) = none-means words at.desk.files at.shelf.files at.desk at.desk_now
+        at.shelf_now.files at.desk.files job.files o h
+    verify-means o (inr (p, poses, h)) = reads-mean words at.desk.files at.shelf.files at.desk
+        at.desk_now at.shelf_now.files at.desk.files (routed_source job.routed) route_value
+        (λ found outcome. outcome ≡ judged_outcome (judged job.width p found)) o
+        (λ found reads is. subst MeansHere (sym is)
+        (verdict-means (judged job.width p found) (record {
+          job = job;
+          p = p;
+          found = found;
+          asked = asked;
+          poses = poses;
+          reads = reads;
+          is = refl;
+        }))) h
 
   -- the files of a generated problem
   module _ (job : GenAsked) (asked : job_of words ≡ Ok (Generates job)) (room : HasRoom job.recipe)
@@ -346,8 +299,9 @@ module _ (words : List Word) (at : Scene) (job : TrialAsked)
       → Poses (generated_desk job.recipe job.prefix).files (generated_names job.prefix) p
       → (o : Outcome) → Tries job p at.shelf at.shelf_now o → MeansHere words at o
   tries-mean p poses o (inl h) =
-      sweep-means words (record at { shelf = after_say at.shelf (trial_line p) }) (TriesJob job)
-      (sweep_of job) p asked refl poses h.narrow o h
+      let behind : Scene = record at { shelf = after_say at.shelf (trial_line p) } in
+      come-means words behind o (sweep-comes words behind (TriesJob job) (sweep_of job) p asked refl
+      (inr (job, asked)) poses h.narrow o h)
   tries-mean p poses o (inr h) = subst (MeansHere words at) (sym h.1) tt
 
   trial-means : (o : Outcome) → TriesGenerated job at.shelf at.shelf_now o → MeansHere words at o
@@ -362,11 +316,13 @@ module _ (words : List Word) (at : Scene) where
       → MeansHere words at o
   job-means (Routes job) o asked h =
       work-means words at at.desk at.desk_now job.files (Searches job) o
-      (λ p poses did. route-means words at job p asked poses did.narrow o did) h
+      (λ p poses did. come-means words at o
+      (route-comes words at job p asked poses did.narrow o did)) h
   job-means (SweepsJob job) o asked h =
       work-means words at at.desk at.desk_now job.files (Sweeps job) o
-      (λ p poses did.
-      sweep-means words at (SweepsJob job) job p asked refl poses did.narrow o did) h
+      (λ p poses did. come-means words at o
+      (sweep-comes words at (SweepsJob job) job p asked refl (inl (job, asked)) poses did.narrow o
+      did)) h
   job-means (EncodesJob job) o asked h =
       work-means words at at.desk at.desk_now job.files (Encodes job) o
       (λ p poses did. subst (MeansHere words at) (sym did.is)
@@ -383,6 +339,7 @@ module _ (words : List Word) (at : Scene) where
       (λ log outcome. outcome ≡ judgement_outcome (judge cnf log)) o
       (λ log reads_lrat is. subst (MeansHere words at) (sym is)
       (judged-means words at job asked cnf log reads_cnf reads_lrat (judge cnf log) refl))) h.0
+  job-means (Verifies job) o asked h = verify-means words at job asked o h.0
   job-means (Generates job) o asked h = made-means words at job.recipe
       (WritesFiles problem_slots (generated_files job.recipe job.prefix) at.shelf at.shelf_now o) o
       (λ room. files-mean words at job asked room o) h.0

@@ -14,7 +14,7 @@ use Rattle.router_top.specs.Written.{AreWritten, NamedText, with_file, with_file
 -- ---- one file
 
 -- a file of another name is as it was
-get-other : (m : FileMap) (k v q : Bytes) → q ≢ k → get (insert m k v) q ≡ get m q
+pub get-other : (m : FileMap) (k v q : Bytes) → q ≢ k → get (insert m k v) q ≡ get m q
 get-other m k v q other = get-insert nat_list_cmp_total m k v q ∙ by-test (same_name q k) refl
   where
     by-test : (b : Bool) → same_name q k ≡ b → cond b (Some v) (get m q) ≡ get m q
@@ -69,7 +69,7 @@ written-stand (file ∷ more) files apart = (
   written-stand more (with_file file files) apart.1,
 )
 
-all-stand : (written : List NamedText) (files : Option FileMap) → Stand files written →
+pub all-stand : (written : List NamedText) (files : Option FileMap) → Stand files written →
     All (λ file. HasBytes files file.name file.text) written
 all-stand [] files each = All-nil (λ file. HasBytes files file.name file.text)
 all-stand (file ∷ more) files each =

@@ -1,6 +1,6 @@
 -- The four files of a problem, in the order in which they are read.
 use Rattle.std.specs.Prelude.{◌≡◌, Option}
-use Rattle.desk_io.specs.Files.{FileMap}
+use Rattle.desk_io.specs.Files.{Bytes, FileMap}
 use Rattle.fpga_arch.specs.Codes.{arch_faults}
 use Rattle.fpga_arch.specs.Value.{arch_value}
 use Rattle.fpga_net.specs.Codes.{net_faults}
@@ -19,6 +19,7 @@ use Rattle.router_words.specs.Job.{FilesAsked}
 use Rattle.router_top.specs.Sources.{ReadsThen, Says, Source, fault_outcome}
 use Rattle.router_top.specs.declared.limits.TheConstants.{TEXT_BYTES}
 use Rattle.router_top.specs.declared.outcome.Outcome.{Outcome}
+use Rattle.router_top.specs.declared.text_file.TextFile.{TextFile}
 use Rattle.router_top.specs.declared.text_file.TextFile.TheVariants.{Architecture, Netlist as NetlistFile, Placement, Route}
 
 -- the architecture
@@ -48,14 +49,18 @@ place_source names arch netlist = record {
   faults = place_faults arch netlist;
 }
 
--- the global route
-abbrev pub route_source : FilesAsked → Source
-route_source names = record {
-  file = Route;
-  name = names.route;
+-- a route, which is this file
+abbrev pub route_file_source : TextFile → Bytes → Source
+route_file_source file name = record {
+  file = file;
+  name = name;
   limit = TEXT_BYTES;
   faults = route_faults;
 }
+
+-- the global route
+abbrev pub route_source : FilesAsked → Source
+route_source names = route_file_source Route names.route
 
 -- the values do not fit together, and the outcome says why
 abbrev pub IsUnfit : RoutingProblem → Outcome → Type 0

@@ -4,10 +4,12 @@ pub mod Files
 pub mod FourFiles
 pub mod Generated
 pub mod Headline
+pub mod JobFiles
 pub mod Means
 pub mod Outcomes
 pub mod Report
 pub mod Run
+pub mod Saying
 pub mod Search
 pub mod SearchFiles
 pub mod Slots
@@ -15,5 +17,6 @@ pub mod Sources
 pub mod TextFiles
 pub mod Trial
 pub mod Truth
+pub mod Verify
 pub mod Work
 pub mod Written

@@ -1,9 +1,14 @@
 -- What each answer means.
 use Rattle.std.specs.Prelude.{◌≡◌, ◌⊎◌, List, [], ◌∷◌, ⊤, length, Ok, Option}
 use Rattle.desk_io.specs.Files.{FileMap}
+use Rattle.fpga_route.specs.Value.{route_value}
 use Rattle.fpga_types.specs.Problem.{RoutingProblem}
+use Rattle.fpga_types.specs.declared.route.RouteText.{RouteText}
 use Rattle.route_encode.specs.Encoding.{cnf_of}
 use Rattle.route_sweep.specs.Found.{HasFew}
+use Rattle.route_verify.specs.Judged.{judged}
+use Rattle.route_verify.specs.declared.judgement.Judgement.{Judgement}
+use Rattle.route_verify.specs.declared.judgement.Judgement.TheVariants.{Legal as IsLegal, NotLegal as IsNotLegal}
 use Rattle.sat_clause.specs.Formula.{Cnf, IsUnsat}
 use Rattle.sat_clause.specs.Judge.{Accepts}
 use Rattle.sat_clause.specs.Step.{Step}
@@ -11,17 +16,18 @@ use Rattle.sat_text.specs.CnfText.{ReadsCnf, cnf_said}
 use Rattle.sat_text.specs.LratText.{lrat_said}
 use Rattle.sat_text.specs.Printed.{cnf_text}
 use Rattle.router_words.specs.Command.{job_of}
-use Rattle.router_words.specs.Job.{CheckAsked, Checks, EncodeAsked, Encodes, GenAsked, Generates}
+use Rattle.router_words.specs.Job.{CheckAsked, Checks, EncodeAsked, Encodes, GenAsked, Generates, VerifyAsked, Verifies}
 use Rattle.router_words.specs.Word.{Word}
 use Rattle.router_top.specs.Check.{cnf_source, lrat_source}
 use Rattle.router_top.specs.FourFiles.{Poses}
 use Rattle.router_top.specs.Generated.{HasRoom, generated_files}
 use Rattle.router_top.specs.Headline.{IsLeftOpen, IsRefuted, IsRouted}
 use Rattle.router_top.specs.Sources.{Says}
+use Rattle.router_top.specs.Verify.{routed_source}
 use Rattle.router_top.specs.Work.{clauses_name}
 use Rattle.router_top.specs.Written.{AreWritten}
 use Rattle.router_top.specs.declared.outcome.Outcome.{Outcome}
-use Rattle.router_top.specs.declared.outcome.Outcome.TheVariants.{Accepted, Done, Routed, Undecided, Unroutable}
+use Rattle.router_top.specs.declared.outcome.Outcome.TheVariants.{Accepted, Done, LegalRoute, NotLegal, Routed, Undecided, Unroutable}
 
 -- the words ask for the clauses, and one file alone was written: those of the problem
 pub record IsEncoded (words : List Word) (desk before now : Option FileMap) : Type 0 where
@@ -54,6 +60,18 @@ pub record IsProved (words : List Word) (desk : Option FileMap) : Type 0 where
   pub accepts : Accepts cnf log
   pub unsat : IsUnsat cnf
 
+-- the words ask for the judging of a routed file, the four files of the problem read and fit, the
+-- routed file reads, and it is judged so against the problem
+pub record IsJudged (words : List Word) (desk : Option FileMap) (judgement : Judgement)
+    : Type 0 where
+  pub job : VerifyAsked
+  pub p : RoutingProblem
+  pub found : RouteText
+  pub asked : job_of words ≡ Ok (Verifies job)
+  pub poses : Poses desk job.files p
+  pub reads : Says desk (routed_source job.routed) route_value found
+  pub is : judged job.width p found ≡ judgement
+
 -- what an answer means, by the files of the desk and those of the shelf before the run and after
 -- it; of the answers that something keeps the run from its work, *Runs* speaks
 abbrev pub Means : List Word → (desk before now : Option FileMap) → Outcome → Type 0
@@ -64,4 +82,6 @@ Means words desk before now (Undecided width learned) =
 Means words desk before now Done =
     IsEncoded words desk before now ⊎ IsGenerated words before now
 Means words desk before now Accepted = IsProved words desk
+Means words desk before now LegalRoute = IsJudged words desk IsLegal
+Means words desk before now (NotLegal line cause) = IsJudged words desk (IsNotLegal line cause)
 Means words desk before now outcome = ⊤

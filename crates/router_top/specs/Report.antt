@@ -4,7 +4,7 @@ use Rattle.router_top.specs.Slots.{number_of}
 use Rattle.router_top.specs.TextFiles.{file_word}
 use Rattle.router_top.specs.declared.outcome.Outcome.{Outcome}
 use Rattle.router_top.specs.declared.slot.Slot.TheVariants.{Said}
-use Rattle.router_top.specs.declared.outcome.Outcome.TheVariants.{Routed, Unroutable, Undecided, Done, Accepted, NotAccepted, InputFault, Limit, Usage, ReadFault, WriteFault, OutOfMemory}
+use Rattle.router_top.specs.declared.outcome.Outcome.TheVariants.{Routed, Unroutable, Undecided, Done, Accepted, NotAccepted, LegalRoute, NotLegal, InputFault, Limit, Usage, ReadFault, WriteFault, OutOfMemory}
 
 -- the exit status
 abbrev pub status_of : Outcome → ℕ
@@ -14,6 +14,8 @@ status_of (Undecided width learned) = 2
 status_of Done = 0
 status_of Accepted = 0
 status_of (NotAccepted step cause) = 1
+status_of LegalRoute = 0
+status_of (NotLegal line cause) = 1
 status_of (InputFault file line code) = 3
 status_of (Limit code count) = 3
 status_of (Usage code) = 4
@@ -32,6 +34,9 @@ report_of Done = codes "done"
 report_of Accepted = codes "accepted"
 report_of (NotAccepted step cause) =
     codes "not accepted: step " ++ decimal step ++ codes " cause " ++ decimal cause
+report_of LegalRoute = codes "legal"
+report_of (NotLegal line cause) =
+    codes "not legal: line " ++ decimal line ++ codes " cause " ++ decimal cause
 report_of (InputFault file line code) =
     codes "fault: " ++ file_word file ++ codes " line " ++ decimal line ++ codes " code "
     ++ decimal code

@@ -5,7 +5,7 @@ use Rattle.desk_io.specs.ShelfState.{FailsToSay, ShelfState, after_say}
 use Rattle.fpga_types.specs.Problem.{RoutingProblem}
 use Rattle.router_words.specs.Command.{job_of}
 use Rattle.router_words.specs.Refusal.{code_of}
-use Rattle.router_words.specs.Job.{Checks, Encodes as EncodesJob, FilesAsked, GenAsked, Generates, JobAsked, RecipeAsked, Routes, Sweeps as SweepsJob, TrialAsked, Tries as TriesJob}
+use Rattle.router_words.specs.Job.{Checks, Encodes as EncodesJob, FilesAsked, GenAsked, Generates, JobAsked, RecipeAsked, Routes, Sweeps as SweepsJob, TrialAsked, Tries as TriesJob, Verifies}
 use Rattle.router_words.specs.Word.{Word}
 use Rattle.router_top.specs.Check.{ChecksTo}
 use Rattle.router_top.specs.Files.{WritesFiles, problem_slots}
@@ -14,6 +14,7 @@ use Rattle.router_top.specs.Generated.{HasRoom, Makes, MakesNone, PosesNone, gen
 use Rattle.router_top.specs.Report.{IsReadFault, line_of, unsaid}
 use Rattle.router_top.specs.Sources.{IsStopped}
 use Rattle.router_top.specs.Trial.{Tries}
+use Rattle.router_top.specs.Verify.{VerifiesTo}
 use Rattle.router_top.specs.Work.{Encodes, Searches, Sweeps}
 use Rattle.router_top.specs.declared.outcome.Outcome.{Outcome}
 use Rattle.router_top.specs.declared.outcome.Outcome.TheVariants.{Usage, OutOfMemory}
@@ -53,14 +54,17 @@ TriesGenerated job before now outcome =
     (PosesNone job.recipe outcome × (now ≡ before))
     ⊎ ((p : RoutingProblem) × Makes job.recipe p × Tries job p before now outcome)
 
--- what each job leaves before its outcome is reported; a check writes nothing, and no file is read
--- where a problem is generated
+-- what each job leaves before its outcome is reported; to check a refutation and to judge a routed
+-- file writes nothing, and no file is read where a problem is generated
 abbrev pub LeavesJob : JobAsked → Scene → Outcome → Type 0
 LeavesJob (Routes job) at outcome = LeavesWork job.files (Searches job) at outcome
 LeavesJob (SweepsJob job) at outcome = LeavesWork job.files (Sweeps job) at outcome
 LeavesJob (EncodesJob job) at outcome = LeavesWork job.files (Encodes job) at outcome
 LeavesJob (Checks job) at outcome =
     ChecksTo (IsStopped at.desk at.desk_now) at.desk.files job outcome
+    × (at.shelf_now ≡ at.shelf)
+LeavesJob (Verifies job) at outcome =
+    VerifiesTo (IsStopped at.desk at.desk_now) at.desk.files job outcome
     × (at.shelf_now ≡ at.shelf)
 LeavesJob (Generates job) at outcome =
     WritesGenerated job at.shelf at.shelf_now outcome × (at.desk_now ≡ at.desk)

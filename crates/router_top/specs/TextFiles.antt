@@ -1,7 +1,7 @@
 -- The files that commands read, by number and by word.
 use Rattle.std.specs.Prelude.{ℕ, List, codes}
 use Rattle.router_top.specs.declared.text_file.TextFile.{TextFile}
-use Rattle.router_top.specs.declared.text_file.TextFile.TheVariants.{Architecture, Netlist, Placement, Route, Cnf, Lrat}
+use Rattle.router_top.specs.declared.text_file.TextFile.TheVariants.{Architecture, Netlist, Placement, Route, Cnf, Lrat, Routed}
 
 -- the number of a file among those of all commands
 abbrev pub file_number : TextFile → ℕ
@@ -11,6 +11,7 @@ file_number Placement = 3
 file_number Route = 4
 file_number Cnf = 5
 file_number Lrat = 6
+file_number Routed = 7
 
 -- the word for a file in a report
 abbrev pub file_word : TextFile → List ℕ
@@ -20,3 +21,4 @@ file_word Placement = codes "placement"
 file_word Route = codes "route"
 file_word Cnf = codes "cnf"
 file_word Lrat = codes "lrat"
+file_word Routed = codes "routed"

@@ -11,13 +11,14 @@ use Rattle.route_sweep.specs.Found.{HasFew}
 use Rattle.sat_clause.specs.declared.limits.TheConstants.{CLAUSE_LIMIT}
 use Rattle.router_words.specs.Command.{job_of}
 use Rattle.router_words.specs.Refusal.{code_of}
-use Rattle.router_words.specs.Job.{Checks, Encodes, FilesAsked, Generates, JobAsked, RecipeAsked, Routes, Sweeps, Tries}
+use Rattle.router_words.specs.Job.{Checks, Encodes, FilesAsked, Generates, JobAsked, RecipeAsked, Routes, Sweeps, Tries, Verifies}
 use Rattle.router_words.specs.Word.{Word}
 use Rattle.router_top.specs.Check.{ChecksTo}
 use Rattle.router_top.specs.FourFiles.{GivesNone, Poses}
 use Rattle.router_top.specs.Generated.{HasRoom, IsTooLarge, IsTooMany, Makes}
 use Rattle.router_top.specs.Search.{Search, route_search, sweep_of, sweep_search}
 use Rattle.router_top.specs.Sources.{IsHalted}
+use Rattle.router_top.specs.Verify.{VerifiesTo}
 use Rattle.router_top.specs.declared.outcome.Outcome.{Outcome}
 use Rattle.router_top.specs.declared.outcome.Outcome.TheVariants.{Routed, Unroutable, Undecided, Done, Limit, Usage, OutOfMemory}
 
@@ -71,6 +72,7 @@ IsTrueOfJob (Sweeps job) files outcome =
 IsTrueOfJob (Encodes job) files outcome = IsTrueOfWork job.files
     (λ p said. IsTrueOfClauses job.width p (said ≡ Done) said) files outcome
 IsTrueOfJob (Checks job) files outcome = ChecksTo (IsHalted files) files job outcome
+IsTrueOfJob (Verifies job) files outcome = VerifiesTo (IsHalted files) files job outcome
 IsTrueOfJob (Generates job) files outcome = IsTrueOfRecipe job.recipe (outcome ≡ Done) outcome
 IsTrueOfJob (Tries job) files outcome =
     IsTooMany job.recipe outcome ⊎ IsTooLarge job.recipe outcome

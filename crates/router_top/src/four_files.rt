@@ -4,16 +4,15 @@ ghost use Rattle.fpga_arch.specs.Value.{arch_value};
 ghost use Rattle.fpga_net.specs.Sound.{IsSound as IsSoundNetlist};
 ghost use Rattle.fpga_net.specs.Value.{net_value};
 ghost use Rattle.fpga_place.specs.Value.{place_value};
-ghost use Rattle.fpga_route.specs.Value.{route_value};
 ghost use Rattle.fpga_types.specs.Placements.{IsSoundPlacement};
-ghost use Rattle.fpga_types.specs.Sound.{IsSound as IsSoundRoute};
 ghost use Rattle.router_words.specs.Job.{files_said};
-ghost use Rattle.router_top.specs.FourFiles.{GivesNone, Poses, arch_source, net_source, place_source, route_source};
+ghost use Rattle.router_top.specs.FourFiles.{GivesNone, Poses, arch_source, net_source, place_source};
 ghost use Rattle.router_top.specs.Report.{IsReadFaultErr};
 ghost use Rattle.router_top.specs.Sources.{IsStopped, Says};
 
 use crate::limits::TEXT_BYTES;
 use crate::outcome::Outcome;
+use crate::route_text::read_route_text;
 use crate::source::{read_bytes, refused};
 use crate::text_file::TextFile;
 use desk_io::Desk;
@@ -21,8 +20,7 @@ use fpga_arch::read_arch;
 use fpga_bounds::{PlacedProblem, fit};
 use fpga_net::read_net;
 use fpga_place::read_place;
-use fpga_route::read_route;
-use fpga_types::{Arch, Netlist, Placement, RouteText};
+use fpga_types::{Arch, Netlist, Placement};
 use router_words::FourNames;
 use std::alloc::Global;
 
@@ -106,32 +104,6 @@ fn placement<D: Desk>(
     }
 }
 
-// The global route.
-fn global_route<D: Desk>(
-    alloc: Global,
-    desk: &mut D,
-    names: &FourNames<'_>,
-) -> Result<RouteText, Outcome>
-    ensures says { IfOk result (Says (D.state desk.old).files
-        (route_source (files_said names.now)) route_value) }
-    ensures sound { IfOk result IsSoundRoute }
-    ensures stop { IfErr result (IsStopped (D.state desk.old) (D.state desk.new)
-        (route_source (files_said names.now))) }
-    ensures files { (D.state desk.new).files ≡ (D.state desk.old).files }
-    ensures quiet { ¬ IsReadFaultErr result
-        → (D.state desk.new).faults ≡ (D.state desk.old).faults }
-{
-    let file = TextFile::Route;
-    let text = match read_bytes(alloc, desk, file, names.route, TEXT_BYTES) {
-        Ok(text) => text,
-        Err(outcome) => return Err(outcome),
-    };
-    match read_route(alloc, &text) {
-        Ok(route) => Ok(route),
-        Err(fault) => Err(refused(file, fault)),
-    }
-}
-
 /// The problem that four files pose: each is read and taken apart before the next is opened, and
 /// last their values are fitted. The error is what the run comes to: the first refusal ends it.
 pub fn pose_problem<D: Desk>(
@@ -158,7 +130,7 @@ pub fn pose_problem<D: Desk>(
         Ok(placement) => placement,
         Err(outcome) => return Err(outcome),
     };
-    let route = match global_route(alloc, desk, names) {
+    let route = match read_route_text(alloc, desk, TextFile::Route, names.route) {
         Ok(route) => route,
         Err(outcome) => return Err(outcome),
     };

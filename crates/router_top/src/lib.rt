@@ -1,8 +1,8 @@
 //! Routes a placed and globally routed design: reads its architecture, its netlist, its placement
 //! and its global route, searches for a track for each cell of each net, at one width or at the
 //! least that has a routing, and writes the detailed route, or a refutation; writes the clauses
-//! that say what a routing is; checks a refutation of such clauses; or makes a design from a
-//! number, and writes or routes it.
+//! that say what a routing is; checks a refutation of such clauses; judges a routed file, whoever
+//! wrote it; or makes a design from a number, and writes or routes it.
 #![tactic(auto)]
 
 mod checking;
@@ -13,6 +13,7 @@ mod four_texts;
 mod generating;
 mod limits;
 mod outcome;
+mod route_text;
 mod routing;
 mod running;
 mod slot;
@@ -23,6 +24,7 @@ mod sweeping;
 mod tests;
 mod text_file;
 mod trying;
+mod verifying;
 
 pub use outcome::{Outcome, report, status};
 pub use running::run;

@@ -34,6 +34,14 @@ pub enum Outcome {
         step: u64,
         cause: u32,
     },
+    /// The routed file is a legal routing of the problem.
+    LegalRoute,
+    /// The routed file is no legal routing: this is its first line with a cause against it, and the
+    /// least cause there, from 801 to 807.
+    NotLegal {
+        line: u64,
+        cause: u32,
+    },
     /// A file is bad: this is the first bad line, and the least code that holds there.
     InputFault {
         file: TextFile,
@@ -69,8 +77,8 @@ pub fn status(outcome: &Outcome) -> u8
     ensures { result ≡ status_of outcome.now }
 {
     match outcome {
-        Outcome::Routed { .. } | Outcome::Done | Outcome::Accepted => 0,
-        Outcome::Unroutable { .. } | Outcome::NotAccepted { .. } => 1,
+        Outcome::Routed { .. } | Outcome::Done | Outcome::Accepted | Outcome::LegalRoute => 0,
+        Outcome::Unroutable { .. } | Outcome::NotAccepted { .. } | Outcome::NotLegal { .. } => 1,
         Outcome::Undecided { .. } => 2,
         Outcome::InputFault { .. } | Outcome::Limit { .. } => 3,
         Outcome::Usage { .. } => 4,
@@ -98,6 +106,11 @@ pub fn report(outcome: &Outcome) -> ArrayString<LINE_ROOM>
         Outcome::Accepted => line.push_str("accepted"),
         Outcome::NotAccepted { step, cause } => {
             push_count(&mut line, "not accepted: step ", step);
+            push_count(&mut line, " cause ", cause as u64);
+        }
+        Outcome::LegalRoute => line.push_str("legal"),
+        Outcome::NotLegal { line: at, cause } => {
+            push_count(&mut line, "not legal: line ", at);
             push_count(&mut line, " cause ", cause as u64);
         }
         Outcome::InputFault {

@@ -1,9 +1,11 @@
 //! The whole work: from words and files in to files out.
 ghost use Rattle.std.specs.Prelude.{◌≡◌};
 ghost use Rattle.router_words.specs.Word.{words_of};
+ghost use Rattle.router_top.specs.JobFiles.{LeavesFiles};
 ghost use Rattle.router_top.specs.Means.{Means};
 ghost use Rattle.router_top.specs.Report.{IsReadFault, unsaid};
 ghost use Rattle.router_top.specs.Run.{Leaves, Reports, Runs};
+ghost use Rattle.router_top.specs.Saying.{Speaks};
 ghost use Rattle.router_top.specs.Truth.{IsComplete};
 
 use crate::checking::check_files;
@@ -14,6 +16,7 @@ use crate::routing::route;
 use crate::slot::Slot;
 use crate::sweeping::sweep;
 use crate::trying::trial;
+use crate::verifying::verify_file;
 use desk_io::{Desk, Shelf};
 use router_words::{Job, WordsFault, read_words};
 use std::alloc::Global;
@@ -35,6 +38,7 @@ fn work<D: Desk, S: Shelf>(alloc: Global, words: &[String], desk: &mut D, shelf:
         Ok(Job::Sweep(job)) => sweep(alloc, &job, desk, shelf),
         Ok(Job::Encode(job)) => encode(alloc, &job, desk, shelf),
         Ok(Job::Check(job)) => check_files(alloc, &job, desk),
+        Ok(Job::Verify(job)) => verify_file(alloc, &job, desk),
         Ok(Job::Gen(job)) => generate_files(alloc, &job, shelf),
         Ok(Job::Trial(job)) => trial(alloc, &job, shelf),
         Err(WordsFault::Refused(cause)) => Outcome::Usage { code: cause.code() },
@@ -69,16 +73,23 @@ fn say_report<S: Shelf>(shelf: &mut S, outcome: Outcome) -> Outcome
 ///
 /// `route` writes PREFIX.route, or else PREFIX.cnf and PREFIX.lrat. `sweep` writes PREFIX.wK.cnf
 /// and PREFIX.wK.lrat for each width K that it does not route, and PREFIX.route where it routes
-/// one. `encode` writes PREFIX.cnf alone, and `check` writes nothing. Each file is read and taken
-/// apart before the next is opened, and the first refusal ends the work.
+/// one. `encode` writes PREFIX.cnf alone; `check` and `verify` write nothing. Each file is read and
+/// taken apart before the next is opened, the routed file of `verify` once the four before it fit,
+/// and the first refusal ends the work.
 ///
 /// `gen` makes a problem from its recipe and writes PREFIX.arch, PREFIX.net, PREFIX.place and
 /// PREFIX.route. `trial` makes one too, says a line with the numbers of its slots, its steps and
 /// its pairs of slots of different nets in one cell, and writes what `sweep` would write if it read
 /// these four files. Both read no file.
 ///
-/// After want of memory each file that was written is whole: of a `sweep` or a `trial` the files of
-/// lower widths, else none. The files of the desk stay in any case.
+/// Whatever fails, the files of a job are written in one order, and no other file changes. Where the
+/// shelf fails on one, those before it are whole, it holds a front part of its text or was not
+/// created, and those behind it are as they were; after any other answer each file that was begun is
+/// whole. What is said is a front part of the trial line and the report line, and all of both where
+/// the shelf has not failed.
+///
+/// After want of memory the files of a `sweep` or a `trial` are those of lower widths, and of another
+/// command there is none. The files of the desk stay in any case.
 pub fn run<D: Desk, S: Shelf>(
     alloc: Global,
     words: &[String],
@@ -89,6 +100,10 @@ pub fn run<D: Desk, S: Shelf>(
         (S.state shelf.new).files result }
     ensures runs { Runs (words_of words.now) (D.state desk.old) (D.state desk.new)
         (S.state shelf.old) (S.state shelf.new) result }
+    ensures files { LeavesFiles (words_of words.now) (D.state desk.old).files
+        (S.state shelf.old).files (S.state shelf.new).files result }
+    ensures says { Speaks (words_of words.now) (S.state shelf.old).said (S.state shelf.new).said
+        result }
     ensures complete { IsComplete (words_of words.now) (D.state desk.old) (D.state desk.new)
         (S.state shelf.old) (S.state shelf.new) result }
 {

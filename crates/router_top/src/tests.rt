@@ -131,6 +131,23 @@ fn clauses_are_written(rt: HostRuntime) -> Result<(), Fail> {
 }
 
 #[test]
+fn a_routed_file_is_judged(rt: HostRuntime) -> Result<(), Fail> {
+    let words = ["verify", "arch", "net", "place", "route", "1", "route"];
+    let (outcome, shelf) = of_one(rt.alloc(), &words)?;
+    assert_eq!(rt; outcome, Outcome::LegalRoute);
+    assert_eq!(rt; shelf.said(), b"legal\n".as_slice());
+    let (outcome, _) = of_two(rt.alloc(), &words)?;
+    assert_eq!(rt;
+        outcome,
+        Outcome::NotLegal {
+            line: 12,
+            cause: 803
+        }
+    );
+    Ok(())
+}
+
+#[test]
 fn a_generated_problem_is_written(rt: HostRuntime) -> Result<(), Fail> {
     let (outcome, shelf) = came_to(rt.alloc(), &["gen", "1", "1", "1", "out"], &[])?;
     assert_eq!(rt; outcome, Outcome::Done);
@@ -187,6 +204,21 @@ fn statuses_and_reports(rt: HostRuntime) {
             "write fault: slot 7",
         ),
         (Outcome::OutOfMemory, 7, "out of memory"),
+        (
+            Outcome::NotLegal {
+                line: 27,
+                cause: 803,
+            },
+            1,
+            "not legal: line 27 cause 803",
+        ),
+        (
+            Outcome::ReadFault {
+                file: TextFile::Routed,
+            },
+            5,
+            "read fault: routed",
+        ),
         (
             Outcome::InputFault {
                 file: TextFile::Architecture,

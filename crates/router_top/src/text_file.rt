@@ -11,6 +11,7 @@ pub enum TextFile {
     Route,
     Cnf,
     Lrat,
+    Routed,
 }
 
 impl TextFile {
@@ -25,6 +26,7 @@ impl TextFile {
             TextFile::Route => 4,
             TextFile::Cnf => 5,
             TextFile::Lrat => 6,
+            TextFile::Routed => 7,
         }
     }
 
@@ -40,6 +42,7 @@ impl TextFile {
             TextFile::Route => "route",
             TextFile::Cnf => "cnf",
             TextFile::Lrat => "lrat",
+            TextFile::Routed => "routed",
         }
     }
 }

@@ -3,7 +3,7 @@ use Rattle.std.proofs.Common.{◌≡◌, ℕ, Bool, true, false, List, [], ◌�
 use Rattle.std.specs.Prelude.{Result, Ok, Err}
 use Rattle.clap.proofs.OnLiterals.{clap_on_literals}
 use Rattle.router_words.specs.Command.{job_of}
-use Rattle.router_words.specs.Job.{Checks, Generates, JobAsked, Routes, Sweeps, Tries}
+use Rattle.router_words.specs.Job.{Checks, Generates, JobAsked, Routes, Sweeps, Tries, Verifies}
 use Rattle.router_words.specs.Word.{Word}
 use Rattle.router_words.specs.declared.fault.Refusal.{Refusal}
 use Rattle.router_words.specs.declared.fault.Refusal.TheVariants.{Command, Form, Number}
@@ -118,6 +118,27 @@ pub checks : job_of (codes "check" ∷ codes "c" ∷ codes "-" ∷ [])
     ≡ Ok (Checks (record { cnf = codes "c"; lrat = codes "-" }))
 unfolding clap_on_literals
 checks = refl
+
+-- `verify a n p r` and more words
+abbrev verify : List Word → Asked
+verify more = job_of (codes "verify" ∷ codes "a" ∷ codes "n" ∷ codes "p" ∷ codes "r" ∷ more)
+
+pub verifies : verify (codes "64" ∷ codes "f" ∷ [])
+    ≡ Ok (Verifies (record {
+      files = record { architecture = codes "a"; netlist = codes "n"; placement = codes "p"; route = codes "r" };
+      width = 64;
+      routed = codes "f";
+    }))
+unfolding clap_on_literals
+verifies = refl
+
+pub no_routed : verify (codes "5" ∷ []) ≡ Err Form
+unfolding clap_on_literals
+no_routed = refl
+
+pub routed_before_width : verify (codes "f" ∷ codes "5" ∷ []) ≡ Err Number
+unfolding clap_on_literals
+routed_before_width = refl
 
 -- `gen` and more words
 abbrev gen : List Word → Asked

@@ -5,12 +5,12 @@ use Rattle.std.specs.Str.{bytes_eq}
 use Rattle.clap.specs.Words.{App, Row, first_of, matches_of}
 use Rattle.fpga_text.specs.Numbers.{whole_number_of}
 use Rattle.fpga_types.specs.declared.limits.TheConstants.{SIDE_LIMIT, WIDTH_LIMIT}
-use Rattle.router_words.specs.Form.{check_form, encode_form, gen_form, route_form, sweep_form, trial_form}
-use Rattle.router_words.specs.Job.{Checks, Encodes, FilesAsked, Generates, JobAsked, RecipeAsked, Routes, Sweeps, Tries, job_said}
+use Rattle.router_words.specs.Form.{check_form, encode_form, gen_form, route_form, sweep_form, trial_form, verify_form}
+use Rattle.router_words.specs.Job.{Checks, Encodes, FilesAsked, Generates, JobAsked, RecipeAsked, Routes, Sweeps, Tries, Verifies, job_said}
 use Rattle.router_words.specs.Taken.{HasRequired, is_taken}
 use Rattle.router_words.specs.Word.{Word}
 use Rattle.router_words.specs.declared.command_name.CommandName.{CommandName}
-use Rattle.router_words.specs.declared.command_name.CommandName.TheVariants.{Check, Encode, Gen, Route, Sweep, Trial}
+use Rattle.router_words.specs.declared.command_name.CommandName.TheVariants.{Check, Encode, Gen, Route, Sweep, Trial, Verify}
 use Rattle.router_words.specs.declared.fault.Refusal.{Refusal}
 use Rattle.router_words.specs.declared.fault.Refusal.TheVariants.{Command, Form, Number}
 use Rattle.router_words.specs.declared.fault.WordsFault.{WordsFault}
@@ -129,6 +129,18 @@ abbrev pub check_asked : List Row → Option JobAsked
 check_asked rows =
     Some (Checks (record { cnf = word_in (codes "cnf") rows; lrat = word_in (codes "lrat") rows }))
 
+-- what `verify` is asked for: with this width, where it is there
+abbrev pub verify_with : List Row → Option ℕ → Option JobAsked
+verify_with rows (Some width) = Some (Verifies (record {
+  files = files_asked rows;
+  width = width;
+  routed = word_in (codes "routed") rows;
+}))
+verify_with rows None = None
+
+abbrev pub verify_asked : List Row → Option JobAsked
+verify_asked rows = verify_with rows (width_asked rows)
+
 -- what `gen` is asked for: with this recipe, where it is there
 abbrev pub gen_with : List Row → Option RecipeAsked → Option JobAsked
 gen_with rows (Some recipe) = Some (Generates (record {
@@ -168,6 +180,9 @@ encode_row = record { name = codes "encode"; form = encode_form; job = encode_as
 abbrev pub check_row : CommandRow
 check_row = record { name = codes "check"; form = check_form; job = check_asked }
 
+abbrev pub verify_row : CommandRow
+verify_row = record { name = codes "verify"; form = verify_form; job = verify_asked }
+
 abbrev pub gen_row : CommandRow
 gen_row = record { name = codes "gen"; form = gen_form; job = gen_asked }
 
@@ -180,11 +195,12 @@ row_of Route = route_row
 row_of Sweep = sweep_row
 row_of Encode = encode_row
 row_of Check = check_row
+row_of Verify = verify_row
 row_of Gen = gen_row
 row_of Trial = trial_row
 
 abbrev pub commands : List CommandRow
-commands = route_row ∷ sweep_row ∷ encode_row ∷ check_row ∷ gen_row ∷ trial_row ∷ []
+commands = route_row ∷ sweep_row ∷ encode_row ∷ check_row ∷ verify_row ∷ gen_row ∷ trial_row ∷ []
 
 -- ---- the job of words
 

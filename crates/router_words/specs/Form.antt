@@ -79,6 +79,11 @@ encode_form = with_width_and_prefix (with_files (empty_form (codes "encode")))
 abbrev pub check_form : App
 check_form = with_word (codes "lrat") (with_word (codes "cnf") (empty_form (codes "check")))
 
+-- ARCH NET PLACE ROUTE WIDTH ROUTED
+abbrev pub verify_form : App
+verify_form = with_word (codes "routed") (with_word (codes "width")
+    (with_files (empty_form (codes "verify"))))
+
 -- SEED NX NETS PREFIX
 abbrev pub gen_form : App
 gen_form = with_word (codes "prefix") (with_recipe (empty_form (codes "gen")))

@@ -6,11 +6,12 @@ use Rattle.router_words.specs.declared.job.EncodeJob.{EncodeJob}
 use Rattle.router_words.specs.declared.job.FourNames.{FourNames}
 use Rattle.router_words.specs.declared.job.GenJob.{GenJob}
 use Rattle.router_words.specs.declared.job.Job.{Job}
-use Rattle.router_words.specs.declared.job.Job.TheVariants.{Check, Encode, Gen, Route, Sweep, Trial}
+use Rattle.router_words.specs.declared.job.Job.TheVariants.{Check, Encode, Gen, Route, Sweep, Trial, Verify}
 use Rattle.router_words.specs.declared.job.Recipe.{Recipe}
 use Rattle.router_words.specs.declared.job.RouteJob.{RouteJob}
 use Rattle.router_words.specs.declared.job.SweepJob.{SweepJob}
 use Rattle.router_words.specs.declared.job.TrialJob.{TrialJob}
+use Rattle.router_words.specs.declared.job.VerifyJob.{VerifyJob}
 
 -- the names of the files of a problem
 pub record FilesAsked : Type 0 where
@@ -48,6 +49,12 @@ pub record CheckAsked : Type 0 where
   pub cnf : Word
   pub lrat : Word
 
+-- to judge a routed file: the files of the problem, the width, and the name of the routed file
+pub record VerifyAsked : Type 0 where
+  pub files : FilesAsked
+  pub width : ℕ
+  pub routed : Word
+
 -- what a generated problem is made from: a number, how many logic blocks each side of its array
 -- has, and how many nets it has
 pub record RecipeAsked : Type 0 where
@@ -75,6 +82,7 @@ pub data JobAsked : Type 0 where
   Sweeps : SweepAsked → JobAsked
   Encodes : EncodeAsked → JobAsked
   Checks : CheckAsked → JobAsked
+  Verifies : VerifyAsked → JobAsked
   Generates : GenAsked → JobAsked
   Tries : TrialAsked → JobAsked
 
@@ -116,6 +124,13 @@ encode_said job = record {
 abbrev pub check_said : CheckJob → CheckAsked
 check_said job = record { cnf = job.cnf.now; lrat = job.lrat.now }
 
+abbrev pub verify_said : VerifyJob → VerifyAsked
+verify_said job = record {
+  files = files_said job.files;
+  width = job.width;
+  routed = job.routed.now;
+}
+
 abbrev pub recipe_said : Recipe → RecipeAsked
 recipe_said recipe = record { seed = recipe.seed; side = recipe.side; nets = recipe.nets }
 
@@ -136,5 +151,6 @@ job_said (Route job) = Routes (route_said job)
 job_said (Sweep job) = Sweeps (sweep_said job)
 job_said (Encode job) = Encodes (encode_said job)
 job_said (Check job) = Checks (check_said job)
+job_said (Verify job) = Verifies (verify_said job)
 job_said (Gen job) = Generates (gen_said job)
 job_said (Trial job) = Tries (trial_said job)

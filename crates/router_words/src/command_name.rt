@@ -5,8 +5,12 @@ ghost use Rattle.router_words.specs.Command.{command_named, row_of};
 ghost use Rattle.router_words.specs.Job.{job_said};
 ghost use Rattle.router_words.specs.Taken.{HasRequired};
 
-use crate::form::{check_command, encode_command, gen_command, search_command, trial_command};
-use crate::from_matches::{check_job, encode_job, gen_job, route_job, sweep_job, trial_job};
+use crate::form::{
+    check_command, encode_command, gen_command, search_command, trial_command, verify_command,
+};
+use crate::from_matches::{
+    check_job, encode_job, gen_job, route_job, sweep_job, trial_job, verify_job,
+};
 use crate::job::Job;
 use clap::{ArgMatches, Command};
 use std::alloc::{AllocError, Global};
@@ -18,6 +22,7 @@ pub enum CommandName {
     Sweep,
     Encode,
     Check,
+    Verify,
     Gen,
     Trial,
 }
@@ -39,6 +44,9 @@ impl CommandName {
         if word == "check" {
             return Some(CommandName::Check);
         }
+        if word == "verify" {
+            return Some(CommandName::Verify);
+        }
         if word == "gen" {
             return Some(CommandName::Gen);
         }
@@ -57,6 +65,7 @@ impl CommandName {
             CommandName::Sweep => search_command(alloc, "sweep"),
             CommandName::Encode => encode_command(alloc),
             CommandName::Check => check_command(alloc),
+            CommandName::Verify => verify_command(alloc),
             CommandName::Gen => gen_command(alloc),
             CommandName::Trial => trial_command(alloc),
         }
@@ -72,6 +81,7 @@ impl CommandName {
             CommandName::Sweep => sweep_job(matches),
             CommandName::Encode => encode_job(matches),
             CommandName::Check => check_job(matches),
+            CommandName::Verify => verify_job(matches),
             CommandName::Gen => gen_job(matches),
             CommandName::Trial => trial_job(matches),
         }

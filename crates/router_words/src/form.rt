@@ -1,7 +1,7 @@
 //! The forms of the commands, as `clap` has them.
 ghost use Rattle.std.specs.Prelude.{◌≡◌, IfOk, codes};
 ghost use Rattle.clap.specs.Words.{app_of, rule_of};
-ghost use Rattle.router_words.specs.Form.{check_form, empty_form, encode_form, gen_form, search_form, trial_form, with_files, with_flag, with_option, with_recipe, with_search, with_width_and_prefix, with_word};
+ghost use Rattle.router_words.specs.Form.{check_form, empty_form, encode_form, gen_form, search_form, trial_form, verify_form, with_files, with_flag, with_option, with_recipe, with_search, with_width_and_prefix, with_word};
 
 use clap::{Arg, ArgAction, Command};
 use std::alloc::{AllocError, Global};
@@ -106,6 +106,15 @@ pub fn check_command<'a>(alloc: Global) -> Result<Command<'a>, AllocError>
 {
     let command = add_word(alloc, named(alloc, "check"), "cnf")?;
     add_word(alloc, command, "lrat")
+}
+
+/// ARCH NET PLACE ROUTE WIDTH ROUTED
+pub fn verify_command<'a>(alloc: Global) -> Result<Command<'a>, AllocError>
+    ensures { IfOk result (λ c. app_of c ≡ verify_form) }
+{
+    let problem = add_files(alloc, named(alloc, "verify"))?;
+    let command = add_word(alloc, problem, "width")?;
+    add_word(alloc, command, "routed")
 }
 
 /// SEED NX NETS PREFIX

@@ -2,14 +2,14 @@
 ghost use Rattle.std.specs.Prelude.{◌≡◌, ◌≤◌, IfSome, codes, is_some, option_map, true};
 ghost use Rattle.clap.specs.Words.{first_of, found_of, rows_of};
 ghost use Rattle.fpga_types.specs.declared.limits.TheConstants.{SIDE_LIMIT, WIDTH_LIMIT};
-ghost use Rattle.router_words.specs.Command.{check_asked, conflicts_asked, encode_asked, files_asked, gen_asked, nets_asked, recipe_asked, route_asked, seed_asked, side_asked, sweep_asked, trial_asked, width_asked};
-ghost use Rattle.router_words.specs.Form.{check_form, encode_form, gen_form, route_form, sweep_form, trial_form};
+ghost use Rattle.router_words.specs.Command.{check_asked, conflicts_asked, encode_asked, files_asked, gen_asked, nets_asked, recipe_asked, route_asked, seed_asked, side_asked, sweep_asked, trial_asked, verify_asked, width_asked};
+ghost use Rattle.router_words.specs.Form.{check_form, encode_form, gen_form, route_form, sweep_form, trial_form, verify_form};
 ghost use Rattle.router_words.specs.Job.{files_said, job_said, recipe_said};
 ghost use Rattle.router_words.specs.Taken.{HasFiles, HasRecipe, HasRequired};
 ghost use Rattle.router_words.specs.declared.limits.TheConstants.{BUDGET_LIMIT, GENERATED_NETS_LIMIT, SEED_LIMIT};
 
 use crate::job::{
-    CheckJob, EncodeJob, FourNames, GenJob, Job, Recipe, RouteJob, SweepJob, TrialJob,
+    CheckJob, EncodeJob, FourNames, GenJob, Job, Recipe, RouteJob, SweepJob, TrialJob, VerifyJob,
 };
 use crate::limits::{BUDGET_DEFAULT, BUDGET_LIMIT, GENERATED_NETS_LIMIT, SEED_LIMIT};
 use crate::matched::{first_word, is_given, number_within, required_word};
@@ -173,6 +173,21 @@ pub fn check_job<'a>(matches: &ArgMatches<'a>) -> Option<Job<'a>>
     Some(Job::Check(CheckJob {
         cnf: required_word(matches, "cnf"),
         lrat: required_word(matches, "lrat"),
+    }))
+}
+
+/// What `verify` is asked for, where its number is in range.
+pub fn verify_job<'a>(matches: &ArgMatches<'a>) -> Option<Job<'a>>
+    requires { HasRequired verify_form (rows_of (found_of matches.now)) }
+    ensures { option_map job_said result ≡ verify_asked (rows_of (found_of matches.now)) }
+{
+    let Some(width) = width(matches) else {
+        return None;
+    };
+    Some(Job::Verify(VerifyJob {
+        files: file_names(matches),
+        width,
+        routed: required_word(matches, "routed"),
     }))
 }
 

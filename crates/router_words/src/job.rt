@@ -71,6 +71,18 @@ pub struct CheckJob<'a> {
     pub lrat: &'a str,
 }
 
+/// To judge a routed file.
+#[derive(Clone, Copy, Debug)]
+pub struct VerifyJob<'a> {
+    /// The files of the problem.
+    pub files: FourNames<'a>,
+    /// How many tracks each channel has, from 1 to 64.
+    pub width: u32,
+    /// The name of the routed file.
+    pub routed: &'a str,
+    ghost in_range: { (1 ≤ width) × (width ≤ WIDTH_LIMIT) },
+}
+
 /// What a generated problem is made from.
 #[derive(Clone, Copy, Debug)]
 pub struct Recipe {
@@ -122,6 +134,8 @@ pub enum Job<'a> {
     Encode(EncodeJob<'a>),
     /// Whether a log refutes the clauses of a file.
     Check(CheckJob<'a>),
+    /// Whether a routed file is a legal routing.
+    Verify(VerifyJob<'a>),
     /// The files of a generated problem.
     Gen(GenJob<'a>),
     /// The least width that has a routing of a generated problem.

@@ -6,6 +6,7 @@
 //! | `sweep` | ARCH NET PLACE ROUTE MAX PREFIX | `--conflicts N`, `--keep` |
 //! | `encode` | ARCH NET PLACE ROUTE WIDTH PREFIX | |
 //! | `check` | CNF LRAT | |
+//! | `verify` | ARCH NET PLACE ROUTE WIDTH ROUTED | |
 //! | `gen` | SEED NX NETS PREFIX | |
 //! | `trial` | SEED NX NETS MAX PREFIX | `--conflicts N`, `--keep` |
 //!
@@ -39,6 +40,8 @@ mod read;
 mod tests;
 
 pub use fault::{Refusal, WordsFault};
-pub use job::{CheckJob, EncodeJob, FourNames, GenJob, Job, Recipe, RouteJob, SweepJob, TrialJob};
+pub use job::{
+    CheckJob, EncodeJob, FourNames, GenJob, Job, Recipe, RouteJob, SweepJob, TrialJob, VerifyJob,
+};
 pub use limits::{BUDGET_DEFAULT, BUDGET_LIMIT, GENERATED_NETS_LIMIT, SEED_LIMIT};
 pub use read::read_words;

@@ -71,6 +71,13 @@ fn lines_have_their_codes(rt: HostRuntime) -> Result<(), Fail> {
         ("route||-|p|r|5|", 0),
         ("encode|a|n|p|r|1|out", 0),
         ("check|c|l", 0),
+        ("verify|a|n|p|r|5", 2),
+        ("verify|a|n|p|r|5|f|more", 2),
+        ("verify|a|n|p|r|5|f|--keep", 2),
+        ("verify|a|n|p|r|0|f", 3),
+        ("verify|a|n|p|r|65|f", 3),
+        ("verify|a|n|p|r|f|5", 3),
+        ("verify|a|n|p|r|64|f", 0),
         ("gen|1|2|1", 2),
         ("gen|1|2|1|g|--keep", 2),
         ("gen|-1|2|1|g", 2),
@@ -131,7 +138,7 @@ fn sweep_has_its_words(rt: HostRuntime) -> Result<(), Fail> {
 }
 
 #[test]
-fn encode_and_check_have_their_words(rt: HostRuntime) -> Result<(), Fail> {
+fn encode_check_and_verify_have_their_words(rt: HostRuntime) -> Result<(), Fail> {
     let words = parted(rt.alloc(), "encode|a|n|p|r|5|out")?;
     let Ok(Job::Encode(job)) = read_words(rt.alloc(), &words) else {
         return Err("no job of encoding".into());
@@ -143,6 +150,12 @@ fn encode_and_check_have_their_words(rt: HostRuntime) -> Result<(), Fail> {
         return Err("no job of checking".into());
     };
     assert_eq!(rt; (job.cnf, job.lrat), ("c", "l"));
+    let words = parted(rt.alloc(), "verify|a|n|p|r|5|f")?;
+    let Ok(Job::Verify(job)) = read_words(rt.alloc(), &words) else {
+        return Err("no job of judging".into());
+    };
+    assert_eq!(rt; (job.files.placement, job.files.route), ("p", "r"));
+    assert_eq!(rt; (job.width, job.routed), (5u32, "f"));
     Ok(())
 }
 

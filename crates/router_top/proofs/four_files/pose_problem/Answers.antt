@@ -53,8 +53,8 @@ returns-in-Err-placement-clause-stop g c =
       ),
     )
 
-pub returns-in-Err-global_route-clause-stop : goal.returns-in-Err-global_route-clause-stop
-returns-in-Err-global_route-clause-stop g c =
+pub returns-in-Err-read_route_text-clause-stop : goal.returns-in-Err-read_route_text-clause-stop
+returns-in-Err-read_route_text-clause-stop g c =
     let names = files_said c.args.names.now in
     let before = g.D.Desk.state c.args.desk.now in
     let arch = c.in-Ok.arch in
@@ -82,9 +82,9 @@ returns-in-Err-global_route-clause-stop g c =
           says_place,
           inl (
               stop-before (g.D.Desk.state c.placement.new.desk)
-              (g.D.Desk.state c.global_route.new.desk) before (route_source names)
-              c.in-Err-global_route.outcome files_place faults_place
-              c.in-Err-global_route.ensures.stop),
+              (g.D.Desk.state c.read_route_text.new.desk) before (route_source names)
+              c.in-Err-read_route_text.outcome files_place faults_place
+              c.in-Err-read_route_text.ensures.stop),
         ),
       ),
     )
@@ -92,8 +92,8 @@ returns-in-Err-global_route-clause-stop g c =
 pub fit-requires : goal.fit-requires
 fit-requires g c =
     readers-give c.in-Ok.arch c.in-Ok-netlist.netlist c.in-Ok-netlist.ensures.sound
-    c.in-Ok-placement.placement c.in-Ok-global_route.route c.in-Ok-placement.ensures.sound
-    c.in-Ok-global_route.ensures.sound
+    c.in-Ok-placement.placement c.in-Ok-read_route_text.route c.in-Ok-placement.ensures.sound
+    c.in-Ok-read_route_text.ensures.sound
 
 pub returns-in-Err-fit-clause-stop : goal.returns-in-Err-fit-clause-stop
 returns-in-Err-fit-clause-stop g c =
@@ -110,10 +110,10 @@ returns-in-Err-fit-clause-stop g c =
     let says_place = subst (λ (f : Option FileMap).
     Says f (place_source names arch netlist) (place_value netlist) placement) files_net
     c.in-Ok-placement.ensures.says in
-    let route = c.in-Ok-global_route.route in
+    let route = c.in-Ok-read_route_text.route in
     let says_route = subst (λ (f : Option FileMap).
     Says f (route_source names) route_value route) files_place
-    c.in-Ok-global_route.ensures.says in
+    c.in-Ok-read_route_text.ensures.says in
     let p = problem_of arch netlist placement route in
     elim (fit-stops p c.in-Err-fit.fault c.in-Err-fit.ensures) [
       | inl unfit ↦ inr (

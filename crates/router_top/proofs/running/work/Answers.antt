@@ -16,6 +16,11 @@ returns-in-Ok-Sweep-clause-leaves g c =
     let asked = rw c.in-Ok-Sweep.field-0-is at c.in-Ok-Sweep.ensures.answers in
     inr (rw asked c.sweep.ensures.leaves)
 
+pub returns-in-Ok-Verify-clause-leaves : goal.returns-in-Ok-Verify-clause-leaves
+returns-in-Ok-Verify-clause-leaves g c =
+    let asked = rw c.in-Ok-Verify.field-0-is at c.in-Ok-Verify.ensures.answers in
+    inr (rw asked (c.verify_file.ensures.verifies, refl))
+
 pub returns-in-Ok-Gen-clause-leaves : goal.returns-in-Ok-Gen-clause-leaves
 returns-in-Ok-Gen-clause-leaves g c =
     let asked = rw c.in-Ok-Gen.field-0-is at c.in-Ok-Gen.ensures.answers in

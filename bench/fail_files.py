@@ -1,0 +1,461 @@
+#!/usr/bin/env python3
+"""Runs the built program on real files that fail, and prints a table of what came.
+
+Each row is a run in a folder of its own: its status, what it says, and what stands then. A row is
+wrong where one of these is otherwise than it must be, or where a file has changed that is not of
+the job. Then each call of the system that a command makes on files is refused alone, one number
+after the other, and all from a number on; and interrupted, after which the run must go on.
+
+    bench/fail_files.py [--router PATH] [--rows WORD]
+
+It needs Linux, strace, gdb, and the right to mount a file system of fixed size and to become
+another user; a row that cannot be run here is named. The last line counts the rows.
+"""
+import argparse
+import os
+import shutil
+import stat
+import subprocess
+import sys
+import tempfile
+
+TOP = os.path.dirname(os.path.dirname(os.path.abspath(__file__)))
+THREE = ["three.arch", "three.net", "three.place", "three.route"]
+NOBODY = 65534
+SECONDS = 60
+
+
+class Row:
+    """A run, what it must come to and what came."""
+
+    def __init__(self, router, folder):
+        self.router, self.folder = router, folder
+        self.before = {}
+
+    def path(self, name):
+        return os.path.join(self.folder, name)
+
+    def held(self):
+        """Each file below the folder with what it holds; of what is no file its kind."""
+        found = {}
+        for top, folders, files in os.walk(self.folder):
+            for name in files + folders:
+                path = os.path.join(top, name)
+                kind = os.lstat(path).st_mode
+                short = os.path.relpath(path, self.folder)
+                if stat.S_ISREG(kind):
+                    with open(path, "rb") as it:
+                        found[short] = it.read()
+                else:
+                    found[short] = stat.S_IFMT(kind)
+        return found
+
+    def run(self, words, before=(), **how):
+        """The status and the bytes said, by the program on these words, behind these words."""
+        self.before = self.held()
+        how.setdefault("stdout", subprocess.PIPE)
+        ran = subprocess.run(
+            [*before, self.router, *words],
+            cwd=self.folder,
+            stdin=subprocess.DEVNULL,
+            stderr=subprocess.DEVNULL,
+            timeout=SECONDS,
+            **how,
+        )
+        return ran.returncode, ran.stdout or b""
+
+    def changed(self):
+        """The names whose files are not as they were before the run."""
+        now = self.held()
+        names = set(now) | set(self.before)
+        return sorted(n for n in names if now.get(n) != self.before.get(n))
+
+
+def as_nobody():
+    os.setgroups([])
+    os.setgid(NOBODY)
+    os.setuid(NOBODY)
+
+
+def missing(*words):
+    return [w for w in words if not shutil.which(w)]
+
+
+class Table:
+    """The rows that were run, as lines of a table."""
+
+    def __init__(self, only):
+        self.only = only
+        self.right = self.wrong = self.left_out = 0
+
+    def takes(self, name):
+        return self.only is None or self.only in name
+
+    def add(self, name, faults, status, said, left):
+        line = said.decode("ascii", "replace").strip().replace("\n", "; ") or "nothing"
+        print(f"| {name} | {status} | {line} | {left} |", flush=True)
+        for fault in faults:
+            print(f"WRONG: {name}: {fault}", flush=True)
+        if faults:
+            self.wrong += 1
+        else:
+            self.right += 1
+
+    def leave_out(self, name, why):
+        print(f"not run: {name}: {why}", flush=True)
+        self.left_out += 1
+
+
+def compare(row, status, said, wanted_status, wanted_said, wanted_changed):
+    faults = []
+    if status != wanted_status:
+        faults.append(f"status {status}, not {wanted_status}")
+    if said != wanted_said:
+        faults.append(f"said {said!r}, not {wanted_said!r}")
+    changed = row.changed()
+    if changed != sorted(wanted_changed):
+        faults.append(f"changed {changed}, not {sorted(wanted_changed)}")
+    return faults
+
+
+def simple_rows(table, router, fresh):
+    """Names, folders and permissions: nothing changes but what is named."""
+
+    def one(name, words, status, said, changed=(), prepare=None, **how):
+        if not table.takes(name):
+            return
+        row = Row(router, fresh())
+        if prepare:
+            prepare(row)
+        came = row.run(words, **how)
+        faults = compare(row, *came, status, said, changed)
+        table.add(name, faults, *came, ", ".join(row.changed()) or "all as before")
+
+    def mode(name, bits):
+        return lambda row: os.chmod(row.path(name), bits)
+
+    def folder(name):
+        return lambda row: os.makedirs(row.path(name))
+
+    def read_only(name):
+        def make(row):
+            with open(row.path(name), "wb") as it:
+                it.write(b"old\n")
+            os.chmod(row.path(name), 0o444)
+
+        return make
+
+    route = ["route", *THREE, "3", "out"]
+    lacks = b"read fault: netlist\n"
+
+    def with_netlist(name):
+        return ["route", "three.arch", name, *THREE[2:], "3", "out"]
+
+    one("an input that is not there", with_netlist("no.net"), 5, lacks)
+    one("a folder in place of an input", with_netlist("."), 5, lacks)
+    nobody = {"preexec_fn": as_nobody}
+    one(
+        "an input without permission",
+        route,
+        5,
+        lacks,
+        prepare=mode("three.net", 0o000),
+        **nobody,
+    )
+    one(
+        "an output folder without permission",
+        route,
+        6,
+        b"write fault: slot 1\n",
+        prepare=mode(".", 0o555),
+        **nobody,
+    )
+    one(
+        "an output without permission",
+        route,
+        6,
+        b"write fault: slot 1\n",
+        prepare=read_only("out.route"),
+        **nobody,
+    )
+    one(
+        "a folder in place of an output",
+        route,
+        6,
+        b"write fault: slot 1\n",
+        prepare=folder("out.route"),
+    )
+    one(
+        "a folder in place of the second output",
+        ["route", *THREE, "2", "out"],
+        6,
+        b"write fault: slot 3\n",
+        ["out.cnf"],
+        prepare=folder("out.lrat"),
+    )
+    one(
+        "a folder in place of the third output",
+        ["sweep", *THREE, "8", "out"],
+        6,
+        b"write fault: slot 2\n",
+        ["out.w1.cnf", "out.w1.lrat"],
+        prepare=folder("out.w2.cnf"),
+    )
+    one(
+        "a prefix in a folder that is not there",
+        ["route", *THREE, "3", "no/out"],
+        6,
+        b"write fault: slot 1\n",
+    )
+    no_text = ["route", b"thr\xff.arch", *THREE[1:], "3", "out"]
+    one("an input whose name is no text", no_text, 8, b"")
+    one("a prefix that is no text", ["route", *THREE, "3", b"o\xff"], 8, b"")
+    one("an empty name", ["route", "", *THREE[1:], "3", "out"], 5, b"read fault: architecture\n")
+
+
+def output_rows(table, router, fresh):
+    """Standard output that takes nothing: the files are whole, and the status says so."""
+
+    def one(name, **how):
+        if not table.takes(name):
+            return
+        row = Row(router, fresh())
+        came = row.run(["route", *THREE, "2", "out"], **how)
+        faults = compare(row, *came, 6, b"", ["out.cnf", "out.lrat"])
+        table.add(name, faults, *came, ", ".join(row.changed()))
+
+    one("standard output closed", stdout=None, preexec_fn=lambda: os.close(1))
+    read_end, write_end = os.pipe()
+    os.close(read_end)
+    one("a broken pipe", stdout=write_end)
+    os.close(write_end)
+    if os.path.exists("/dev/full"):
+        with open("/dev/full", "wb") as it:
+            one("a full device as standard output", stdout=it)
+
+
+def is_front(part, whole):
+    return whole[: len(part)] == part
+
+
+def compare_order(row, order, whole, status):
+    """What is wrong with the files of a job where some call may have failed: so many are whole, the
+    next is a front part, and later ones are not there. Gives the faults, and how many are whole."""
+    now = row.held()
+    faults = []
+    kept = 0
+    while kept < len(order) and now.get(order[kept]) == whole[order[kept]]:
+        kept += 1
+    if kept < len(order):
+        part = now.get(order[kept], b"")
+        if not is_front(part, whole[order[kept]]):
+            faults.append(f"{order[kept]} is no front part")
+        later = [n for n in order[kept + 1 :] if n in now]
+        if later:
+            faults.append(f"{later} stand behind {order[kept]}")
+    others = [n for n in row.changed() if n not in order]
+    if others:
+        faults.append(f"{others} are not of the job")
+    if status == 0 and kept < len(order):
+        faults.append("status 0 without all files")
+    return faults, kept
+
+
+def disk_rows(table, router, fresh):
+    """A file system of fixed size, which is full within a file."""
+    jobs = [
+        ("gen 1 100 10000", ["gen", "1", "100", "10000"], ["arch", "net", "place", "route"], 4, 64),
+        ("trial 1 30 500 12", ["trial", "1", "30", "500", "12"], None, 2, 640),
+        ("encode, three nets at width 64", ["encode", *THREE, "64"], ["cnf"], 2, 16),
+    ]
+    for name, words, endings, first_slot, kilobytes in jobs:
+        title = f"a full disk of {kilobytes} KB: {name}"
+        if not table.takes(title):
+            continue
+        ample = Row(router, fresh())
+        ample.run([*words, "out"])
+        whole = ample.held()
+        row = Row(router, fresh())
+        disk = row.path("disk")
+        os.makedirs(disk)
+        mounted = subprocess.run(
+            ["mount", "-t", "tmpfs", "-o", f"size={kilobytes}k", "none", disk],
+            stderr=subprocess.DEVNULL,
+        )
+        if mounted.returncode:
+            table.leave_out(title, "no file system can be mounted here")
+            continue
+        try:
+            status, said = row.run([*words, "disk/out"])
+            if endings is None:
+                made = sorted(n for n in ample.changed() if ".w" in n)
+                made.sort(key=lambda n: (int(n.split(".w")[1].split(".")[0]), n))
+                made += [n for n in ample.changed() if n == "out.route"]
+                order = made
+            else:
+                order = [f"out.{e}" for e in endings]
+            whole = {f"disk/{n}": whole[n] for n in order}
+            order = [f"disk/{n}" for n in order]
+            faults, kept = compare_order(row, order, whole, status)
+            if status != 6 or not said.splitlines()[-1].startswith(b"write fault: slot "):
+                faults.append(f"status {status}, said {said!r}")
+            elif endings is not None and said != b"write fault: slot %d\n" % (first_slot + kept):
+                faults.append(f"said {said!r} with {kept} whole files")
+            part = len(row.held().get(order[kept], b"")) if kept < len(order) else 0
+            left = f"{kept} whole, {part} of {len(whole[order[kept]])} bytes of the next"
+            table.add(title, faults, status, said, left)
+        finally:
+            subprocess.run(["umount", disk], check=False)
+
+
+JOBS = [
+    ("route that routes", ["route", *THREE, "3", "out"], ["out.route"]),
+    ("route that refutes", ["route", *THREE, "2", "out"], ["out.cnf", "out.lrat"]),
+    (
+        "sweep",
+        ["sweep", *THREE, "8", "out"],
+        ["out.w1.cnf", "out.w1.lrat", "out.w2.cnf", "out.w2.lrat", "out.route"],
+    ),
+    ("encode", ["encode", *THREE, "2", "out"], ["out.cnf"]),
+    ("check", ["check", "three.cnf", "three.lrat"], []),
+    ("gen", ["gen", "1", "2", "1", "out"], ["out.arch", "out.net", "out.place", "out.route"]),
+    ("trial", ["trial", "1", "2", "2", "4", "out"], ["out.w1.cnf", "out.w1.lrat", "out.route"]),
+]
+CALLS = ["openat", "read", "write", "fsync", "close"]
+
+
+def call_rows(table, router, fresh):
+    """Each call of the system refused alone, and all from a number on; interrupted ones go on."""
+    lacking = missing("strace")
+    for job, words, order in JOBS:
+        ample = Row(router, fresh())
+        good = ample.run(words)
+        whole = ample.held()
+        for call in CALLS:
+            for how, when in [("EIO", "{}"), ("EIO", "{}+"), ("EINTR", "{}")]:
+                title = f"{job}: {call} gives {how}, alone"
+                if when != "{}":
+                    title = f"{job}: {call} gives {how}, and all after it"
+                if not table.takes(title):
+                    continue
+                if lacking:
+                    table.leave_out(title, "there is no strace")
+                    continue
+                one_call(table, router, fresh, title, words, order, whole, good, call, how, when)
+
+
+# The calls that the loader makes before the program begins.
+LOADER = {"openat": 2, "read": 1, "write": 0, "fsync": 0, "close": 2}
+
+
+def one_call(table, router, fresh, title, words, order, whole, good, call, how, when):
+    faults, outcomes = [], []
+    number = LOADER[call]
+    while True:
+        number += 1
+        row = Row(router, fresh())
+        trace = row.folder + ".trace"
+        tracer = ["strace", "-qq", "-o", trace, "-e", f"trace={call}"]
+        tracer += ["-e", f"inject={call}:error={how}:when={when.format(number)}"]
+        status, said = row.run(words, before=tracer)
+        with open(trace, "rb") as it:
+            met = b"INJECTED" in it.read()
+        os.unlink(trace)
+        if not met:
+            break
+        wrong, kept = compare_order(row, order, whole, status)
+        faults += [f"number {number}: {w}" for w in wrong]
+        if how == "EINTR" and call != "close" and (status, said) != good:
+            # An interrupted call is to be tried again.
+            faults.append(f"number {number}: status {status}, said {said!r}")
+        if (status, said) != good and status not in (5, 6):
+            faults.append(f"number {number}: status {status}, said {said!r}")
+        outcomes.append((status, said))
+    if not outcomes:
+        return
+    counted = {}
+    for it in outcomes:
+        counted[it] = counted.get(it, 0) + 1
+    parts = []
+    for (status, said), count in counted.items():
+        line = said.decode("ascii", "replace").strip().replace("\n", "; ") or "nothing"
+        parts.append(f"{count} x {status} `{line}`")
+    print(f"| {title} | {len(outcomes)} calls | {', '.join(parts)} |", flush=True)
+    for fault in faults:
+        print(f"WRONG: {title}: {fault}", flush=True)
+    if faults:
+        table.wrong += 1
+    else:
+        table.right += 1
+
+
+def short_rows(table, router, fresh):
+    """A write that the system takes a few bytes of goes on behind them."""
+    title = "a write of which five bytes are taken goes on"
+    if not table.takes(title):
+        return
+    if missing("gdb"):
+        table.leave_out(title, "there is no gdb")
+        return
+    ample = Row(router, fresh())
+    good = ample.run(["route", *THREE, "3", "out"])
+    row = Row(router, fresh())
+    script = row.folder + ".gdb"
+    with open(script, "w") as it:
+        it.write("catch syscall write\nrun\nset $rdx = 5\ncontinue\ncontinue\ndelete\ncontinue\n")
+    came = row.run(
+        ["route", *THREE, "3", "out"], before=["gdb", "-batch", "-x", script, "--args"]
+    )
+    os.unlink(script)
+    whole, now = ample.held(), row.held()
+    faults = [] if now == whole else ["the files are not those of a run with whole writes"]
+    if b"nbytes=5)" not in came[1] or good[1] not in came[1]:
+        faults.append("no write was made short")
+    table.add(title, faults, good[0], good[1], ", ".join(row.changed()))
+
+
+def main():
+    words = argparse.ArgumentParser(description=__doc__.splitlines()[0])
+    words.add_argument("--router", default=os.path.join(TOP, "crates/router/out/router"))
+    words.add_argument("--rows", help="only rows with this in their name")
+    asked = words.parse_args()
+    router = os.path.abspath(asked.router)
+    if not os.access(router, os.X_OK):
+        sys.exit(f"{router} is not built")
+    with tempfile.TemporaryDirectory(prefix="fail-files-") as top:
+        os.chmod(top, 0o755)
+        shutil.copy(router, os.path.join(top, "router"))
+        router = os.path.join(top, "router")
+        count = 0
+
+        def fresh():
+            nonlocal count
+            count += 1
+            folder = os.path.join(top, str(count))
+            os.makedirs(folder)
+            for name in THREE:
+                shutil.copy(os.path.join(TOP, "examples", name), folder)
+            for ending, text in proof.items():
+                with open(os.path.join(folder, f"three.{ending}"), "wb") as it:
+                    it.write(text)
+            for there in [folder, *(os.path.join(folder, n) for n in os.listdir(folder))]:
+                os.chown(there, NOBODY, NOBODY)
+            return folder
+
+        proof = {}
+        first = Row(router, fresh())
+        first.run(["route", *THREE, "2", "three"])
+        proof = {e: first.held()[f"three.{e}"] for e in ("cnf", "lrat")}
+        table = Table(asked.rows)
+        print("| what fails | status | said | what has changed |\n|---|---|---|---|")
+        simple_rows(table, router, fresh)
+        output_rows(table, router, fresh)
+        disk_rows(table, router, fresh)
+        short_rows(table, router, fresh)
+        call_rows(table, router, fresh)
+    print(f"{table.right} rows as they must be, {table.wrong} not, {table.left_out} not run")
+    sys.exit(1 if table.wrong else 0)
+
+
+if __name__ == "__main__":
+    main()

@@ -1,0 +1,100 @@
+-- What holds of each outcome that keeps a run from its work.
+use Rattle.std.proofs.Common.{◌≡◌, ◌⊎◌, ℕ, List, [], ◌∷◌, Option, sym, subst, inl, inr}
+use Rattle.desk_io.specs.DeskState.{DeskState}
+use Rattle.desk_io.specs.Files.{Bytes, FileMap}
+use Rattle.desk_io.specs.ShelfState.{ShelfState}
+use Rattle.desk_io.specs.WholeFile.{after_writing}
+use Rattle.fpga_arch.specs.Value.{arch_value}
+use Rattle.fpga_net.specs.Value.{net_value}
+use Rattle.fpga_place.specs.Value.{place_value}
+use Rattle.fpga_route.specs.Value.{route_value}
+use Rattle.fpga_text.specs.declared.fault.TextFault.{TextFault}
+use Rattle.fpga_text.specs.declared.fault.TextFault.TheVariants.{Bad, Limit as PastLimit, Memory as NoMemory}
+use Rattle.fpga_types.specs.Problem.{problem_of}
+use Rattle.route_verify.specs.Judged.{judged}
+use Rattle.route_verify.specs.declared.judgement.Judgement.{Judgement}
+use Rattle.router_words.specs.Job.{FilesAsked, VerifyAsked}
+use Rattle.router_top.specs.Files.{FailsAmong}
+use Rattle.router_top.specs.FourFiles.{GivesNone, IsUnfit, arch_source, net_source, place_source, route_source}
+use Rattle.router_top.specs.Sources.{IsStopped, ReadsThen, Says, Source, fault_outcome}
+use Rattle.router_top.specs.Verify.{VerifiesTo, judged_outcome, routed_source}
+use Rattle.router_top.specs.Written.{NamedText}
+use Rattle.router_top.specs.declared.outcome.Outcome.{Outcome}
+use Rattle.router_top.specs.declared.outcome.Outcome.TheVariants.{InputFault, Limit, ReadFault, WriteFault, OutOfMemory}
+use Rattle.router_top.specs.declared.slot.Slot.{Slot}
+use Rattle.router_top.specs.declared.slot.Slot.TheVariants.{Said}
+use Rattle.router_top.specs.declared.text_file.TextFile.{TextFile}
+use Rattle.router_top.specs.declared.text_file.TextFile.TheVariants.{Route}
+use Rattle.router_top.proofs.FourLaws.{AfterArch, AfterNetlist, AfterPlacement}
+
+-- this holds of want of memory, of faults of the desk, of faults of texts and of limits
+pub record HoldsOfStops (Q : Outcome → Type 0) : Type 0 where
+  pub memory : Q OutOfMemory
+  pub read : (file : TextFile) → Q (ReadFault file)
+  pub input : (file : TextFile) (line code : ℕ) → Q (InputFault file line code)
+  pub limit : (code count : ℕ) → Q (Limit code count)
+
+module _ (Q : Outcome → Type 0) (each : HoldsOfStops Q) where
+  fault-holds : (file : TextFile) (fault : TextFault) → Q (fault_outcome file fault)
+  fault-holds file (Bad line code) = each.input file line code
+  fault-holds file (PastLimit code count) = each.limit code count
+  fault-holds file NoMemory = each.memory
+
+  module _ (desk desk_now : DeskState) (files : Option FileMap) where
+    stop-holds : (source : Source) (o : Outcome) → IsStopped desk desk_now source o → Q o
+    stop-holds source o (inl h) = subst Q (sym h) each.memory
+    stop-holds source o (inr (inl h)) = subst Q (sym h.1) (each.read source.file)
+    stop-holds source o (inr (inr (inl h))) = subst Q (sym h.1) (each.limit _ _)
+    stop-holds source o (inr (inr (inr h))) = subst Q (sym h.2) (fault-holds source.file h.0)
+
+    pub reads-hold : {T : Type 0} (source : Source) (value : Bytes → T)
+        (rest : T → Outcome → Type 0) (o : Outcome)
+        → ((said : T) → Says files source value said → rest said o → Q o)
+        → ReadsThen (IsStopped desk desk_now) files source value rest o → Q o
+    reads-hold source value rest o on (inl h) = stop-holds source o h
+    reads-hold source value rest o on (inr h) = on h.0 h.1 h.2
+
+    pub lacks-hold : (names : FilesAsked) (o : Outcome)
+        → GivesNone (IsStopped desk desk_now) files names o → Q o
+    lacks-hold names o =
+        reads-hold (arch_source names) arch_value
+        (AfterArch (IsStopped desk desk_now) files names) o
+        (λ arch says. reads-hold (net_source names arch) (net_value arch)
+        (AfterNetlist (IsStopped desk desk_now) files names arch) o
+        (λ netlist says. reads-hold (place_source names arch netlist) (place_value netlist)
+        (AfterPlacement (IsStopped desk desk_now) files names arch netlist) o
+        (λ placement says. reads-hold (route_source names) route_value
+        (λ route. IsUnfit (problem_of arch netlist placement route)) o
+        (λ route says unfit. subst Q (sym unfit.2) (fault-holds Route unfit.0)))))
+
+    -- so it does of what the judging of a routed file comes to, where it holds of each judgement
+    pub verdict-holds : (job : VerifyAsked) (o : Outcome)
+        → ((judgement : Judgement) → Q (judged_outcome judgement))
+        → VerifiesTo (IsStopped desk desk_now) files job o → Q o
+    verdict-holds job o each_judgement (inl h) = lacks-hold job.files o h
+    verdict-holds job o each_judgement (inr (p, poses, h)) =
+        reads-hold (routed_source job.routed) route_value
+        (λ found outcome. outcome ≡ judged_outcome (judged job.width p found)) o
+        (λ found says is. subst Q (sym is) (each_judgement (judged job.width p found))) h
+
+-- ---- faults of files
+
+-- no fault of what is said
+abbrev pub IsHeard : Outcome → Type 0
+IsHeard (WriteFault Said) = ⊥
+IsHeard outcome = Unit {0}
+
+-- none of these slots is of what is said
+abbrev AreHeard : List Slot → Type 0
+AreHeard [] = Unit {0}
+AreHeard (slot ∷ slots) = IsHeard (WriteFault slot) × AreHeard slots
+
+pub among-heard : (slots : List Slot) (files : List NamedText) (before now : ShelfState)
+    (slot : Slot) → AreHeard slots → FailsAmong slots files before now slot
+    → IsHeard (WriteFault slot)
+among-heard [] files before now slot heard h = absurd h
+among-heard (first ∷ slots) [] before now slot heard h = absurd h
+among-heard (first ∷ slots) (file ∷ files) before now slot heard (inl h) =
+    subst (λ (s : Slot). IsHeard (WriteFault s)) (sym h.0) heard.0
+among-heard (first ∷ slots) (file ∷ files) before now slot heard (inr h) =
+    among-heard slots files (after_writing before file.name file.text) now slot heard.1 h

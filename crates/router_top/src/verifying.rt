@@ -1,0 +1,51 @@
+//! The command `verify`: whether a routed file is a legal routing of a problem.
+ghost use Rattle.std.specs.Prelude.{◌≡◌, ◌⊎◌};
+ghost use Rattle.fpga_types.specs.Sound.{IsSound};
+ghost use Rattle.route_verify.specs.Judged.{judged};
+ghost use Rattle.router_words.specs.Job.{verify_said};
+ghost use Rattle.router_top.specs.Report.{IsReadFault};
+ghost use Rattle.router_top.specs.Sources.{IsStopped};
+ghost use Rattle.router_top.specs.Verify.{VerifiesTo, judged_outcome};
+ghost use Rattle.router_top.specs.declared.outcome.Outcome.TheVariants.{OutOfMemory};
+
+use crate::four_files::pose_problem;
+use crate::outcome::Outcome;
+use crate::route_text::read_route_text;
+use crate::text_file::TextFile;
+use desk_io::Desk;
+use fpga_bounds::PlacedProblem;
+use fpga_types::RouteText;
+use route_verify::{Judgement, verify};
+use router_words::VerifyJob;
+use std::alloc::Global;
+
+// What the run comes to by how the routed file is judged.
+fn judge(alloc: Global, job: &VerifyJob<'_>, problem: &PlacedProblem, found: &RouteText) -> Outcome
+    requires { IsSound found.now }
+    ensures { (result ≡ OutOfMemory)
+        ⊎ (result ≡ judged_outcome (judged job.now.width problem.now found.now)) }
+{
+    match verify(alloc, problem, job.width, found) {
+        Ok(Judgement::Legal) => Outcome::LegalRoute,
+        Ok(Judgement::NotLegal { line, cause }) => Outcome::NotLegal { line, cause },
+        Err(_) => Outcome::OutOfMemory,
+    }
+}
+
+/// Reads the four files, and once they pose a problem the routed file, and judges that.
+pub fn verify_file<D: Desk>(alloc: Global, job: &VerifyJob<'_>, desk: &mut D) -> Outcome
+    ensures verifies { VerifiesTo (IsStopped (D.state desk.old) (D.state desk.new))
+        (D.state desk.old).files (verify_said job.now) result }
+    ensures files { (D.state desk.new).files ≡ (D.state desk.old).files }
+    ensures quiet { ¬ IsReadFault result → (D.state desk.new).faults ≡ (D.state desk.old).faults }
+{
+    let problem = match pose_problem(alloc, desk, &job.files) {
+        Ok(problem) => problem,
+        Err(outcome) => return outcome,
+    };
+    let found = match read_route_text(alloc, desk, TextFile::Routed, job.routed) {
+        Ok(found) => found,
+        Err(outcome) => return outcome,
+    };
+    judge(alloc, job, &problem, &found)
+}
