@@ -1,10 +1,12 @@
-//! The program: runs the router on the words that it is given, over real files.
+//! The program: runs the router on the words that it is given, over real files, and says on standard
+//! error what it came to where that was not what was asked for.
 #![tactic(auto)]
 
 use desk_io::{FileDesk, FileShelf};
-use router_top::{run, status};
+use router_says::append_words;
+use router_top::{Outcome, run, status};
 use std::process::ExitCode;
-use std::rt::Env;
+use std::rt::{Env, Files};
 use std::{env, io};
 
 // The status where the system does not give the words.
@@ -19,6 +21,14 @@ fn given_words(rt: &(impl Env + AllocGlobal)) -> io::Result<Vec<String>> {
     Ok(words)
 }
 
+// Says what the run came to, if there is memory for that and someone to take it.
+fn say<R: Files + AllocGlobal + Eprint>(rt: &R, words: &[String], outcome: &Outcome) {
+    let mut text = String::new(rt.alloc());
+    if append_words(rt, &mut text, words, outcome).is_ok() && !text.is_empty() {
+        let _ = eprint!(rt; "{text}");
+    }
+}
+
 fn main(rt: HostRuntime) -> ExitCode {
     let Ok(words) = given_words(&rt) else {
         return ExitCode::from(NO_WORDS);
@@ -26,5 +36,6 @@ fn main(rt: HostRuntime) -> ExitCode {
     let mut desk = FileDesk::new(&rt);
     let mut shelf = FileShelf::new(&rt);
     let outcome = run(rt.alloc(), &words, &mut desk, &mut shelf);
+    say(&rt, &words, &outcome);
     ExitCode::from(status(&outcome))
 }

@@ -1,0 +1,10 @@
+//! What the codes of reports mean, in words. `docs/FORMATS.md` has where each holds.
+#![tactic(auto)]
+
+mod causes;
+mod refusals;
+#[cfg(test)]
+mod tests;
+
+pub use causes::cause;
+pub use refusals::refusal;

@@ -1,0 +1,21 @@
+//! Pictures of routes, as texts of SVG: the array with its blocks and pads, the channels with their
+//! tracks, each net in a colour, and the cells that want more tracks than there are.
+#![tactic(auto)]
+
+mod array;
+mod blocks;
+mod caption;
+mod colour;
+mod escape;
+mod head;
+mod lanes;
+mod nets;
+mod path;
+mod picture;
+mod pins;
+mod scale;
+mod share;
+mod tracks;
+
+pub use escape::append_escaped;
+pub use picture::draw;

@@ -1,0 +1,40 @@
+//! Why no picture is printed.
+ghost use Rattle.std.specs.Prelude.{◌≡◌};
+ghost use Rattle.route_picture.specs.Stop.{status_of};
+
+use crate::source::Source;
+use fpga_text::TextFault;
+use thiserror::Error;
+
+/// Why no picture is printed.
+#[derive(Clone, Copy, Debug, Error)]
+pub(crate) enum Stop {
+    #[error("usage: route_picture ARCH NET PLACE ROUTE WIDTH > PICTURE.svg, with WIDTH from 1 to 64")]
+    Usage,
+    #[error("{0} file: it is not there, or can't be read")]
+    Unread(Source),
+    #[error("{0} file: it has more than 67,108,864 bytes")]
+    TooLong(Source),
+    #[error("{0} file: {1}")]
+    Faulty(Source, TextFault),
+    #[error("out of memory")]
+    Memory,
+    #[error("standard output takes no more")]
+    Unprinted,
+}
+
+impl Stop {
+    /// The exit status.
+    pub(crate) fn status(self) -> u8
+        ensures { result ≡ status_of self }
+    {
+        match self {
+            Stop::TooLong(_) | Stop::Faulty(_, TextFault::Bad { .. } | TextFault::Limit { .. }) =>
+                3,
+            Stop::Usage => 4,
+            Stop::Unread(_) => 5,
+            Stop::Unprinted => 6,
+            Stop::Memory | Stop::Faulty(_, TextFault::Memory) => 7,
+        }
+    }
+}

@@ -1,0 +1,6 @@
+mod ArchitectureCodes
+mod NetlistCodes
+mod PlacementCodes
+mod RouteCodes
+mod FitCodes
+mod ClauseCodes

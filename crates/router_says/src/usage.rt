@@ -1,0 +1,53 @@
+//! Words for a command that is not taken.
+use std::alloc::AllocError;
+
+/// Appends what is wrong with the words, what the command takes, and an example.
+pub(crate) fn append_usage(
+    out: &mut String,
+    words: &[String],
+    code: u32,
+) -> Result<(), AllocError> {
+    let name = match words.first() {
+        Some(word) => word.as_str(),
+        None => "",
+    };
+    let (takes, example) = form_of(name);
+    out.push_str(match code {
+        1 =>
+            "The first word is to be a command: route, sweep, encode, check, verify, gen or trial.\n",
+        3 => "A number is missing or out of its range.\n",
+        _ => "The command does not take these words.\n",
+    })?;
+    write!(out, "Usage: gafkelam {takes}\nAs in: gafkelam {example}\n")
+}
+
+// The words that a command takes, and an example; those of `route` where it is no command.
+fn form_of(name: &str) -> (&'static str, &'static str) {
+    match name {
+        "sweep" => (
+            "sweep ARCH NET PLACE ROUTE MAX PREFIX [--conflicts N] [--keep], MAX from 1 to 64",
+            "sweep design.arch design.net design.place design.route 12 out",
+        ),
+        "encode" => (
+            "encode ARCH NET PLACE ROUTE WIDTH PREFIX, WIDTH from 1 to 64",
+            "encode design.arch design.net design.place design.route 9 out",
+        ),
+        "check" => ("check CNF LRAT", "check out.cnf out.lrat"),
+        "verify" => (
+            "verify ARCH NET PLACE ROUTE WIDTH ROUTED, WIDTH from 1 to 64",
+            "verify design.arch design.net design.place design.route 9 out.route",
+        ),
+        "gen" => (
+            "gen SEED NX NETS PREFIX, NX from 1 to 100, NETS from 1 to 10,000",
+            "gen 1 20 300 made",
+        ),
+        "trial" => (
+            "trial SEED NX NETS MAX PREFIX [--conflicts N] [--keep], NX from 1 to 100, MAX to 64",
+            "trial 1 20 300 12 out",
+        ),
+        _ => (
+            "route ARCH NET PLACE ROUTE WIDTH PREFIX [--conflicts N] [--keep], WIDTH from 1 to 64",
+            "route design.arch design.net design.place design.route 9 out",
+        ),
+    }
+}

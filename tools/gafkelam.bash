@@ -1,0 +1,23 @@
+# Completes the words of gafkelam in bash: source this file, as in ~/.bashrc.
+_gafkelam() {
+    local word=${COMP_WORDS[COMP_CWORD]} command=${COMP_WORDS[1]}
+    COMPREPLY=()
+    if [ "$COMP_CWORD" -eq 1 ]; then
+        mapfile -t COMPREPLY < <(compgen -W "route sweep encode check verify gen trial picture --help --version" -- "$word")
+        return
+    fi
+    local options=--help
+    case $command in
+    route | sweep | trial) options="--conflicts --keep --help" ;;
+    esac
+    if [ "${word:0:1}" = - ]; then
+        mapfile -t COMPREPLY < <(compgen -W "$options" -- "$word")
+        return
+    fi
+    case $command:$COMP_CWORD in
+    gen:[234] | trial:[2345] | *:6) return ;;
+    esac
+    compopt -o filenames 2>/dev/null
+    mapfile -t COMPREPLY < <(compgen -f -- "$word")
+}
+complete -F _gafkelam gafkelam ./gafkelam ../gafkelam
