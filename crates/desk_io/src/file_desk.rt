@@ -8,7 +8,8 @@ use std::io::{self, ErrorKind, Read};
 use std::marker::Model;
 use std::rt::Files;
 
-/// Reads files of the system, whose names are paths. A read that a signal interrupts is tried again.
+/// Reads files of the system, whose names are paths. A read that a signal interrupts is tried
+/// again.
 #[derive(Drop)]
 pub struct FileDesk<'a, R: Files> {
     rt: &'a R,

@@ -9,7 +9,7 @@ use Rattle.std.proofs.lemmas.Map.Made.{IsDistinct-from_AllPairs}
 use Rattle.std.proofs.lemmas.Slice.Eq.{bytes_eq-Decides}
 use Rattle.list_laws.proofs.Members.{In, In-all, all-from_In, from_In-filter, from_In-filter_map, from_In-flat_map, from_In-map, list_any-from_In}
 use Rattle.list_laws.proofs.Numbered.{from_In-enumerate}
-use Rattle.list_laws.proofs.Places.{get-map}
+use Rattle.list_laws.proofs.Places.{get-In, get-map}
 use Rattle.fpga_types.specs.declared.arch.Arch.{Arch}
 use Rattle.fpga_types.specs.declared.arch.PinSpec.{PinSpec}
 use Rattle.fpga_types.specs.declared.netlist.Block.{Block}
@@ -38,12 +38,6 @@ map-get : {A B : Type 0} (f : A → B) (xs : List A) (k : ℕ) (x : A) → slice
 map-get f [] k x at = absurd (let clash : None ≡ Some x = at in cc)
 map-get f (y ∷ ys) zero x at = let same : y ≡ x = cc in ap (λ z. Some (f z)) same
 map-get f (y ∷ ys) (suc k) x at = map-get f ys k x at
-
--- an element stands in its list
-In-at : {A : Type 0} (xs : List A) (k : ℕ) (x : A) → slice_get xs k ≡ Some x → In xs x
-In-at [] k x at = absurd (let clash : None ≡ Some x = at in cc)
-In-at (y ∷ ys) zero x at = inl cc
-In-at (y ∷ ys) (suc k) x at = inr (In-at ys k x at)
 
 -- the second of two lists, side by side
 zip-second : {A B : Type 0} (firsts : List A) (seconds : List B) (k : ℕ) (p : A × B)
@@ -239,9 +233,9 @@ module _ (arch : Arch) (blocks : List ListedBlock) (global : Bytes → Bool)
           (λ x there. let u = from_In-map (λ (u : Use). u.at) (on_net name (sinks uses)) x there in
           subst (IsOn (map (block_of names) blocks) i) u.2 (on (λ v. not v.pin.output) u.0 u.1));
       driven = λ ordinary. some_first (on_net name (drivers uses))
-          (lacking (drivers uses) (not_any _ names name driven (In-at names i name at)) ordinary);
+          (lacking (drivers uses) (not_any _ names name driven (get-In names i name at)) ordinary);
       ended = λ ordinary. some_length (on_net name (sinks uses))
-          (lacking (sinks uses) (not_any _ names name ended (In-at names i name at)) ordinary);
+          (lacking (sinks uses) (not_any _ names name ended (get-In names i name at)) ordinary);
     }
       where
         on : (p : Use → Bool) (u : Use) → In (on_net name (filter p uses)) u

@@ -41,7 +41,7 @@ pub record IsRefutedBy
   pub refutes : IsRefutation formula ask.budget log
   pub none_good : (found : RouteText) → ¬ good found
 
--- the log has as many learned clauses as the budget allows, none of them empty; with a larger budget
+-- the log has as many learned clauses as the budget allows, none of them empty; with a larger one
 -- than that no search is left open
 pub record IsLeftOpenBy (ask : Asked) (formula : Cnf) (log : List Step) : Type 0 where
   pub of : IsLogOf ask formula log

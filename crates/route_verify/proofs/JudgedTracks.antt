@@ -7,7 +7,7 @@ use Rattle.std.proofs.lemmas.Bool.{cases_lt, eqb-true, false≢true, lt-ltb, ltb
 use Rattle.std.proofs.lemmas.List.{get_or_default}
 use Rattle.list_laws.proofs.Members.{In, In-map, list_any-from_In}
 use Rattle.list_laws.proofs.Numbered.{numbered-here, numbered-there}
-use Rattle.list_laws.proofs.Places.{last-push, take-get}
+use Rattle.list_laws.proofs.Places.{In-place, get-In, get-taken, last-changed, last-push, take-get}
 use Rattle.fpga_graph.specs.GraphOf.{GraphOf}
 use Rattle.fpga_text.specs.FirstFault.{Faults, IsFaultless, first_fault}
 use Rattle.fpga_text.proofs.FaultLemmas.{first_fault-append, option_or-none}
@@ -40,7 +40,6 @@ use Rattle.route_verify.specs.Wiring.{are_joined, are_parted, are_unconnected, e
 use Rattle.route_verify.specs.declared.judgement.Judgement.TheVariants.{Legal}
 use Rattle.route_verify.proofs.CodeLemmas.{IsSilent, faultless-each, silent-codes}
 use Rattle.route_verify.proofs.LimitLemmas.{first-is-cause, legal-exactly}
-use Rattle.route_verify.proofs.PlaceLemmas.{In-place, get-In, get-taken, last-changed}
 use Rattle.route_verify.proofs.SlotWires.{line-wire, same_wire-itself, track-wire}
 use Rattle.route_verify.proofs.TrackLemmas.{pin-tracked, tracked, tracked_net, tracked_nets}
 use Rattle.route_verify.proofs.TrackedLines.{route_of-is, tracked-among, tracked_line, tracked_route}

@@ -5,7 +5,7 @@ use Rattle.std.specs.List.{last_or, list_any}
 use Rattle.std.specs.Option.{option_map_or, option_or}
 use Rattle.std.proofs.lemmas.Bool.{eq-eqb, false≢true, or_parts}
 use Rattle.list_laws.proofs.Members.{list_any-from_In}
-use Rattle.list_laws.proofs.Places.{last-push, take-get}
+use Rattle.list_laws.proofs.Places.{find-first, get-In, get-before, last-changed, last-push, take-get}
 use Rattle.fpga_graph.specs.GraphOf.{GraphOf}
 use Rattle.fpga_text.specs.Codes.{first_code}
 use Rattle.fpga_text.specs.FirstFault.{Faults, IsFaultless, first_fault}
@@ -40,7 +40,6 @@ use Rattle.route_verify.specs.declared.judgement.Judgement.TheVariants.{Legal}
 use Rattle.route_verify.proofs.CodeLemmas.{faultless-lines}
 use Rattle.route_verify.proofs.FittingLine.{IsFitting, fitting}
 use Rattle.route_verify.proofs.LegalWires.{alone, connected, not-past}
-use Rattle.route_verify.proofs.PlaceLemmas.{find-first, get-In, get-before, last-changed}
 use Rattle.route_verify.proofs.SlotWires.{met-again}
 use Rattle.route_verify.proofs.TrackLemmas.{has_net-tracked, tracked}
 use Rattle.route_verify.proofs.TrackedLines.{elem-among, head-among, lines-tracked, route_of-is, tracked_line, tracked_route}

@@ -1,6 +1,6 @@
 -- The wires of a problem's route with the tracks of a legal routing: below the width, joined by the
 -- fabric where they stand next to each other, open to the pins beside them, and of one net each.
-use Rattle.std.proofs.Common.{◌≡◌, ℕ, suc, ◌<◌, Bool, true, false, Option, Some, None, List, length, take, refl, sym, ap, subst, ◌∙◌, arith, zero-add}
+use Rattle.std.proofs.Common.{◌≡◌, ℕ, zero, suc, ◌<◌, Bool, true, false, Option, Some, None, List, [], ◌∷◌, length, take, refl, sym, ap, subst, inl, inr, ◌∙◌, arith, zero-add}
 use Rattle.std.specs.Prelude.{◌&&◌, ◌||◌, ◌==◌, filter_map, map, nat_lt, not, option_map, slice_get, slice_index}
 use Rattle.std.specs.List.{enumerate_from}
 use Rattle.std.specs.Option.{option_map_or}
@@ -8,6 +8,7 @@ use Rattle.std.proofs.Math.Bool.{and-false}
 use Rattle.std.proofs.lemmas.Bool.{eq-eqb, eqb-true, false≢true, lt-ltb}
 use Rattle.list_laws.proofs.Members.{In, In-all, In-filter_map, In-flat_map, In-list_any, from_In-map}
 use Rattle.list_laws.proofs.Numbered.{from_In-enumerate, numbered-here}
+use Rattle.list_laws.proofs.Places.{In-place, any-changed, get-In, get-take}
 use Rattle.fpga_graph.specs.GraphOf.{GraphOf}
 use Rattle.fpga_types.specs.Boxes.{Opens, opens}
 use Rattle.fpga_types.specs.Fabric.{same_cell}
@@ -37,9 +38,18 @@ use Rattle.fpga_bounds.proofs.SlotLines.{slot-net}
 use Rattle.route_verify.specs.Judged.{graph_of}
 use Rattle.route_verify.specs.Lines.{has_wire, is_on_wire, is_wire_of}
 use Rattle.route_verify.specs.Wiring.{are_joined, are_parted, are_unconnected, elem_wire, is_past_width, misses, same_wire, wire_on}
-use Rattle.route_verify.proofs.PlaceLemmas.{In-place, any-changed, get-In, get-take, next-In}
 use Rattle.route_verify.proofs.SlotWires.{slot-wire}
 use Rattle.route_verify.proofs.TrackLemmas.{pin-tracked, tracked, tracked_net, tracked_nets}
+
+-- two elements that stand next to each other
+next-In : {T : Type 0} (xs : List T) (k : ℕ) (a b : T) → slice_get xs k ≡ Some a
+    → slice_get xs (suc k) ≡ Some b → In (adjacent xs) (a, b)
+next-In [] k a b p q = cc
+next-In (x ∷ []) zero a b p q = cc
+next-In (x ∷ []) (suc k) a b p q = cc
+next-In {T} (x ∷ y ∷ ys) zero a b p q =
+    let first : x ≡ a = cc in let second : y ≡ b = cc in inl (λ i. (first i, second i))
+next-In (x ∷ y ∷ ys) (suc k) a b p q = inr (next-In (y ∷ ys) k a b p q)
 
 -- a channel line has no pin
 no_pin : (n : ℕ) (e : Elem) (s : Slot) → elem_slot n e ≡ Some s → elem_pin e ≡ None

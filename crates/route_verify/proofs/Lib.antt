@@ -5,7 +5,6 @@ pub mod JudgedTracks
 pub mod LegalLines
 mod LegalWires
 mod LimitLemmas
-mod PlaceLemmas
 mod RuleLemmas
 mod SlotWires
 mod TraceLemmas

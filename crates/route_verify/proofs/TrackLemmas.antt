@@ -18,7 +18,7 @@ use Rattle.fpga_types.specs.declared.route.Elem.{Elem}
 use Rattle.fpga_types.specs.declared.route.ElemKind.{ElemKind}
 use Rattle.fpga_types.specs.declared.route.ElemKind.TheVariants.{Source, Opin, ChanX, ChanY, Ipin, Sink}
 use Rattle.fpga_types.specs.declared.route.RouteNet.{RouteNet}
-use Rattle.route_verify.proofs.PlaceLemmas.{any-changed}
+use Rattle.list_laws.proofs.Places.{any-changed}
 
 -- a channel is of no other kind
 pub record IsOfChannel (kind : ElemKind) : Type 0 where

@@ -19,7 +19,7 @@ use Rattle.fpga_bounds.specs.NetFit.{head_line, line_at}
 use Rattle.route_verify.specs.Judged.{graph_of}
 use Rattle.route_verify.specs.Lines.{JudgedLine, branches_loose, device_in, is_again, is_other_again, is_sink_again, is_unfit, judged_line, repeats_cell}
 use Rattle.route_verify.proofs.FittingLine.{IsFitting}
-use Rattle.route_verify.proofs.PlaceLemmas.{last-changed}
+use Rattle.list_laws.proofs.Places.{last-changed}
 use Rattle.route_verify.proofs.TrackLemmas.{again-tracked, channel-kind, has_net-tracked, has_sink-tracked, pin_of-tracked, tracked, unread}
 use Rattle.route_verify.proofs.TrackedLines.{tracked_line}
 

@@ -15,8 +15,8 @@ use std::marker::Model;
 ///
 /// To take, put back or bump a variable takes a time by the logarithm of their number; to take one
 /// of activity 0 may read a word for each 64 variables besides. To tell an activity takes the same
-/// time whatever the number, and to rescale a time by their number. Nothing but [`Order::new`] takes
-/// memory.
+/// time whatever the number, and to rescale a time by their number. Nothing but [`Order::new`]
+/// takes memory.
 #[derive(Drop)]
 pub struct Order {
     activities: Vec<u64>,

@@ -17,8 +17,8 @@ use sat_arena::ClauseRef;
 use sat_clause::Lit;
 
 /// Visits the clause at a place in the chain of `f`, which is false: it stays there, where its
-/// other watched literal is true or is made true, or moves to another chain. Gives the clause behind
-/// which the next one stands then, or none where the clause is false.
+/// other watched literal is true or is made true, or moves to another chain. Gives the clause
+/// behind which the next one stands then, or none where the clause is false.
 fn visit_clause(
     chains: &mut Chains,
     trail: &mut Trail,

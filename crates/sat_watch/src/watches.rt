@@ -153,8 +153,8 @@ impl Watches {
         self.chains.id(c)
     }
 
-    /// The clause that stands first, and none where there is no clause. With [`Watches::behind`] all
-    /// clauses are come by, each once, by rising references.
+    /// The clause that stands first, and none where there is no clause. With [`Watches::behind`]
+    /// all clauses are come by, each once, by rising references.
     pub fn first(&self) -> Option<ClauseRef>
         ensures value { result ≡ first_attached self.now.clauses }
         ensures placed { AreInPlace 0 self.now.clauses }
