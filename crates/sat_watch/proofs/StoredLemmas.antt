@@ -89,6 +89,17 @@ unmarked_changed f c (k ∷ ks) same un =
       | inr other ↦ rw other.0 (un.0, others)
     ]
 
+-- where no clause is marked, one that is looked up is not
+pub unmarked_at : (ks : List Stored) (c : ClauseRef) → AreUnmarked ks →
+    (stored_at ks c).mark ≡ false
+unmarked_at [] c un = refl
+unmarked_at (k ∷ ks) c un =
+    let others = unmarked_at ks c un.1 in
+    elim (same_or_other k.place c) [
+      | inl here ↦ rw here.0 un.0
+      | inr other ↦ rw other.0 others
+    ]
+
 pub unmarked_append : (ks more : List Stored) → AreUnmarked ks → AreUnmarked more →
     AreUnmarked (ks ++ more)
 unmarked_append [] more un un' = un'

@@ -152,7 +152,7 @@ impl Chains {
         ensures few { length result.now ≤ LITERAL_LIMIT }
         ensures near { c.word < 2 ^ 63 }
     {
-        self.arena.lits(c)
+        self.arena.unmarked_lits(c)
     }
 
     /// The id of a clause.

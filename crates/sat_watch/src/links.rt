@@ -18,11 +18,10 @@ pub(crate) fn index(l: Lit) -> usize
     requires { 1 ≤ variable_of l }
     ensures { result ≡ index_of l }
 {
-    let twice = l.variable() as usize * 2;
     if l.code > 0 {
-        return twice - 2;
+        return l.code as usize * 2 - 2;
     }
-    twice - 1
+    (-1 - l.code) as usize * 2 + 1
 }
 
 /// Links what stands before a clause in a literal's chain to what stands after it.
@@ -63,10 +62,12 @@ pub(crate) fn put_first(arena: &mut Arena, heads: &mut Vec<Link>, at: Place, k: 
     ensures spare { arena.new.spare ≡ arena.old.spare }
     ensures heads { heads.new.items ≡ with_head arena.old.clauses heads.old.items at.clause k }
 {
+    let heads: &mut [Link] = heads;
     let lits = arena.lits(at.clause);
     let first = index(lits[k as usize]);
+    let next = heads[first].clause();
     arena.swap(at.clause, at.which, k);
-    arena.set_link(at.clause, at.which, heads[first].clause());
+    arena.set_link(at.clause, at.which, next);
     heads[first] = Link::of(Some(at.clause));
 }
 

@@ -134,8 +134,10 @@ impl Trail {
     {
         let l = entry.lit;
         let older = self.len();
+        let vars = self.vars;
+        let truths: &mut [u8] = &mut self.truths;
         self.entries.push_reserved(entry);
-        tell(&mut self.truths, self.vars, l, 1, 2);
+        tell(truths, vars, l, 1, 2);
         self.places[l.variable() as usize - 1] = older;
     }
 

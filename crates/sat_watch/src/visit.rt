@@ -88,6 +88,7 @@ pub(crate) fn walk(
     ensures stopped { IfSome result
         (λ c. AreFalse trail.new.entries (literals chains.new.clauses c)) }
     ensures looks { looks.new ≤ looks.old + holders f chains.old.clauses }
+    ensures counted { looks.old ≤ looks.new }
 {
     let mut walked: u64 = 0;
     let mut before = Link::none();

@@ -344,6 +344,7 @@ impl Watches {
         ensures stopped { IfSome result
             (λ c. AreFalse self.new.trail (lits_at self.new.clauses c)) }
         ensures looks { IsWithinLooks self.old self.new result looks.old looks.new }
+        ensures counted { looks.old ≤ looks.new }
         ensures front { length self.new.trail + self.old.queued
             ≡ length self.old.trail + left_queued self.new result + 1 }
         ensures few { length self.new.trail ≤ self.new.vars }
@@ -394,6 +395,7 @@ impl Watches {
         ensures stopped { IfSome result
             (λ c. AreFalse self.new.trail (lits_at self.new.clauses c)) }
         ensures looks { IsWithinLooks self.old self.new result looks.old looks.new }
+        ensures counted { looks.old ≤ looks.new }
     {
         while self.has_queued() {
             if let Some(c) = self.take_queued(looks) {

@@ -14,17 +14,19 @@ set_link-requires-clause-held c =
 pub set_link-requires-clause-next : goal.set_link-requires-clause-next
 set_link-requires-clause-next c = λ d e.
     let heads = c.args.heads.now.items in
+    let found = c.index-heads-first.result in
     let first : c.index-first.result ≡ index_of
     (lit_at (stored_at c.args.arena.now.clauses c.args.at.clause).lits c.args.k) =
     c.index-first.ensures ∙ ap (λ l. index_of (lit_at l c.args.k)) c.lits-lits.ensures.value in
     let there : head_in heads
-    (lit_at (stored_at c.args.arena.now.clauses c.args.at.clause).lits c.args.k) ≡
-    c.index.result.now =
+    (lit_at (stored_at c.args.arena.now.clauses c.args.at.clause).lits c.args.k) ≡ found =
     default_free heads (index_of
     (lit_at (stored_at c.args.arena.now.clauses c.args.at.clause).lits c.args.k)) None
-    c.index.result.now c.requires.head.within
-    ∙ (ap (λ n. get_or heads n c.index.result.now) (sym first) ∙ sym c.index.ensures) in
+    found c.requires.head.within
+    ∙ (ap (λ n. get_or heads n found) (sym first)
+    ∙ (ap (λ hs. get_or hs c.index-first.result found) (sym c.deref_mut-heads.ensures.value)
+    ∙ sym c.index-heads-first.is)) in
     rw c.swap.ensures.clauses
     (held_changed (with_swap c.args.at.which c.args.k) c.args.at.clause d c.args.arena.now.clauses
     (λ k. refl) ∙ c.requires.head.held d
-    (there ∙ (sym c.clause.ensures ∙ e)))
+    (there ∙ (sym c.clause-next.ensures ∙ e)))

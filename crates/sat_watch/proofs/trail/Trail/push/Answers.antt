@@ -22,7 +22,7 @@ invariant_of-self c =
     let within = subst (λ (t : TrailState). IsWithin t.vars c.args.entry.lit) (sym c.self.view_is)
     c.requires.within in
     let told = c.tell.ensures ∙ ap (λ l. set (set l (place_of p.vars c.args.entry.lit) 1)
-    (place_of p.vars (negation c.args.entry.lit)) 2) c.deref_mut.ensures.value in
+    (place_of p.vars (negation c.args.entry.lit)) 2) c.deref_mut-truths.ensures.value in
     rw (
       c.variable.ensures,
       c.len-older.ensures ∙ ap (λ (t : TrailState). length t.entries) (sym c.self.view_is),

@@ -21,6 +21,7 @@ loop-self-init c = record {
   propagates = propagates_refl c.args.self.now c.requires.quiet;
   front = omega arith;
   looks = looks_none c.args.self.now c.args.looks.now;
+  counted = omega arith;
 }
 
 pub loop-self-preserved : goal.loop-self-preserved
@@ -39,4 +40,5 @@ loop-self-preserved c =
           c.args.looks.now l.looks c.take_queued.new.looks
           l.invariant.propagates.clauses some queue e.propagates.trail e.front l.invariant.front
           l.invariant.looks e.looks;
+      counted = let now = l.invariant.counted in let more = e.counted in omega arith;
     }
