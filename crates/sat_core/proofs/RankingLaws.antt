@@ -9,7 +9,7 @@ use Rattle.sat_order.specs.Order.{IsEmpty, IsVariable, IsWhole, OrderState, acti
 use Rattle.sat_watch.specs.declared.entry.TrailEntry.{TrailEntry}
 use Rattle.sat_watch.specs.Trail.{lits_of, value_in}
 use Rattle.sat_watch.specs.Watches.{Propagates, WatchState, assumed}
-use Rattle.sat_core.specs.Ranking.{AreDrawn, IsRanked, SameHeld, drawn, first_activity, held_count, next_draw}
+use Rattle.sat_core.specs.Ranking.{AreDrawn, IsRanked, SameHeld, drawn, held_count, next_draw}
 use Rattle.sat_core.proofs.DecideLaws.{closed_values, value_assumed, value_stays}
 
 -- values stay where the trail changes

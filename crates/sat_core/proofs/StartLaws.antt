@@ -1,6 +1,6 @@
 -- How a clause stands at level 0, by the first positions whose literals are not false.
 use Rattle.std.specs.Prelude.{is_some, max, unwrap_or}
-use Rattle.std.proofs.Common.{inl, inr, ◌⊎◌, ◌≡◌, ◌≢◌, ◌<◌, ◌≤◌, ◌+◌, ℕ, suc, pos, Bool, true, false, List, [], ◌∷◌, length, Option, None, Some, Contains, refl, sym, ◌∙◌, subst, arith}
+use Rattle.std.proofs.Common.{inl, inr, ◌≡◌, ◌≢◌, ◌+◌, ℕ, pos, Bool, true, false, List, [], ◌∷◌, Option, None, Some, Contains, refl, sym, ◌∙◌, subst, arith}
 use Rattle.std.proofs.lemmas.Bool.{cases_eq, cases_lt}
 use Rattle.std.proofs.lemmas.List.Elements.{All-contains}
 use Rattle.sat_clause.specs.declared.literal.Lit.{Lit}

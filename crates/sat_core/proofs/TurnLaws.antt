@@ -1,11 +1,11 @@
 -- What a search may do next where it has taken one more step of a log.
-use Rattle.std.proofs.Common.{◌≡◌, ◌≢◌, ◌<◌, ◌≤◌, ◌+◌, ℕ, suc, ℤ, Bool, true, false, List, [], ◌∷◌, ◌++◌, length, take, drop, Some, slice_get, All, sym, ap, ◌∙◌, subst, arith}
+use Rattle.std.proofs.Common.{◌≡◌, ◌≢◌, ◌<◌, ◌+◌, ℕ, suc, ℤ, Bool, true, false, List, [], ◌∷◌, ◌++◌, length, take, Some, slice_get, sym, ap, ◌∙◌, subst, arith}
 use Rattle.std.specs.Prelude.{if◌then◌else◌}
 use Rattle.std.proofs.lemmas.Option.{slice_get_within}
 use Rattle.list_laws.proofs.Places.{take-get}
 use Rattle.sat_clause.specs.Formula.{Cnf}
 use Rattle.sat_clause.specs.Judge.{is_empty_clause}
-use Rattle.sat_clause.specs.Learned.{IsSimple, deletions}
+use Rattle.sat_clause.specs.Learned.{IsSimple}
 use Rattle.sat_clause.specs.Literal.{Clause}
 use Rattle.sat_clause.specs.Step.{Step, Added, Erased}
 use Rattle.sat_core.specs.SearchLog.{added_count}

@@ -1,5 +1,5 @@
 -- What a turn makes of a log, the log of a search that is under way, and its end.
-use Rattle.std.proofs.Common.{◌≡◌, ◌≢◌, ◌<◌, ◌≤◌, ◌+◌, ◌*◌, ℕ, suc, ℤ, Bool, false, List, [], ◌∷◌, ◌++◌, length, take, drop, None, All, refl, sym, ap, ◌∙◌, subst, arith}
+use Rattle.std.proofs.Common.{true, ◌≡◌, ◌≢◌, ◌<◌, ◌≤◌, ◌+◌, ◌*◌, ℕ, suc, ℤ, Bool, false, List, [], ◌∷◌, ◌++◌, length, take, drop, None, All, refl, sym, ap, ◌∙◌, subst, arith}
 use Rattle.std.specs.Prelude.{IfOk, IsTrue, Ok, Result}
 use Rattle.std.specs.declared.alloc.AllocError.{AllocError}
 use Rattle.std.proofs.Math.Seq.{take-length}
@@ -23,6 +23,7 @@ use Rattle.sat_core.specs.SearchStore.{AreTrue, IsLesson, Learns, SameKept}
 use Rattle.sat_core.specs.Stands.{AreGood, IsOpenLog, SearchAt, SearchValue, StandsAt, StandsFor, at_end, live_after, next_id}
 use Rattle.sat_core.specs.Underway.{AddsRelevant, HasLearned, HasModel, HasRefuted, HasSearched, IsUnderway, MayFollow, MayTurn}
 use Rattle.sat_core.proofs.EarlierLaw.{hints_are_earlier}
+use Rattle.sat_core.proofs.ForgetLaws.{whether}
 use Rattle.sat_core.proofs.ErasedLaws.{added_count-erase, deletions_added, deletions_erase, each_added_erase, numbered_erase, open_erased, sparse_erased, stands_erased}
 use Rattle.sat_core.proofs.KeptLaws.{fresh_kept, kept_alike, kept_put, kept_same, model_kept, relevant_kept, rup_kept}
 use Rattle.sat_core.proofs.LogLemmas.{added_count-push, added_from_push, deletions-push, each_added_push, ends_behind, good_accepted, good_behind, good_so_far, inputs_live, live_after-push, none_at_end, not_empty_step, numbered_push, spares_push, sparse_push, sparse_without}
@@ -195,6 +196,89 @@ module _ (search : SearchValue) (formula : Cnf) (log : List Step)
     all_taken = refl;
   }
 
+-- with an id left, another turn may come behind a learned clause
+pub may_learned : (search : SearchAt) (formula : Cnf) (log now : List Step) →
+    HasLearned search formula log now → next_id formula log < 4294967295 →
+    MayTurn search formula now × (added_count now ≡ suc (added_count log))
+may_learned search formula log now learned few =
+    let adds = learned.adds in
+    let more : added_count now ≡ suc (added_count log) = ap added_count adds.step
+    ∙ added_count-push log (next_id formula log) learned.clause adds.hints in (
+      record {
+        follows = learned.follows;
+        open_log = learned.open_log;
+        few = omega (arith, few, more);
+      },
+      more,
+    )
+
+-- A DELETION
+
+none_added_forgot : (old new : SearchValue) (log now : List Step) → HasForgotten old new log now →
+    added_count now ≡ added_count log
+none_added_forgot old new log now forgot =
+    ap added_count forgot.step ∙ added_count-erase log (old.inputs + old.added) forgot.ids
+
+module _ (search : SearchAt) (formula : Cnf) (log : List Step)
+    (before : StandsFor search.value formula log) (new : SearchValue) (now : List Step)
+    (forgot : HasForgotten search.value new log now) where
+  abbrev own : ℕ
+  own = search.value.inputs + search.value.added
+
+  stands_settled : StandsFor forgot.settled formula log
+  stands_settled =
+      stands_along search.value forgot.settled formula log forgot.same before
+
+  pub follow_forgot : MayFollow (at_end new now) formula now
+  follow_forgot =
+      subst (λ (l : List Step). MayFollow (at_end new l) formula l) (sym forgot.step)
+      (follow_end new formula (log ++ Erased own forgot.ids ∷ [])
+      (stands_erased forgot.settled new formula log own forgot.ids stands_settled forgot.forgets))
+
+  pub open_forgot : IsOpenLog formula log → IsOpenLog formula now
+  open_forgot is =
+      subst (IsOpenLog formula) (sym forgot.step)
+      (open_erased forgot.settled new formula log own forgot.ids stands_settled forgot.forgets is)
+
+-- a search that has taken all steps forgets clauses at any time, or does not
+module _ (search : SearchAt) (log : List Step) (all : search.taken ≡ length log)
+    (new : SearchAt) (now : List Step) (all_now : new.taken ≡ length now)
+    (result : Result Bool AllocError)
+    (forgotten : result ≡ Ok true → HasForgotten search.value new.value log now)
+    (same : result ≢ Ok true → SameKept search.value new.value)
+    (same_log : result ≢ Ok true → now ≡ log) where
+  pub may_after : (formula : Cnf) → MayTurn search formula log → MayTurn new formula now
+  may_after formula may = whether result
+      (λ is_so.
+      let forgot = forgotten is_so in
+      let before = stands_all search formula log may.follows.stands all in
+      let follows : MayFollow new formula now =
+      subst (λ (n : ℕ). MayFollow (record { taken = n; value = new.value }) formula now)
+      (sym all_now) (follow_forgot search formula log before new.value now forgot) in
+      record {
+        follows = follows;
+        open_log =
+            open_forgot search formula log before new.value now forgot may.open_log;
+        few = subst (λ (n : ℕ). suc (length formula.clauses + n) ≤ 4294967295)
+            (sym (none_added_forgot search.value new.value log now forgot)) may.few;
+      })
+      (λ is_not.
+      let kept = same_log is_not in
+      subst (MayTurn new formula) (sym kept) (record {
+        follows = subst (λ (n : ℕ). MayFollow (record { taken = n; value = new.value }) formula log)
+            (sym (all_now ∙ ap length kept))
+            (follow_end new.value formula log
+            (stands_along search.value new.value formula log (same is_not)
+            (stands_all search formula log may.follows.stands all)));
+        open_log = may.open_log;
+        few = may.few;
+      }))
+
+  pub none_added_after : added_count now ≡ added_count log
+  none_added_after = whether result
+      (λ is_so. none_added_forgot search.value new.value log now (forgotten is_so))
+      (λ is_not. ap added_count (same_log is_not))
+
 -- UNDER WAY
 
 open_start : (formula : Cnf) → IsOpenLog formula []
@@ -221,15 +305,17 @@ underway_start search formula stands none = record {
 }
 
 -- whatever stands on the trail
-pub underway_along : (taken : ℕ) (old new : SearchValue) (formula : Cnf) (log : List Step) →
-    SameKept old new → IsUnderway (record { taken = taken; value = old }) formula log →
-    IsUnderway (record { taken = taken; value = new }) formula log
-underway_along taken old new formula log same on = record {
+pub underway_along : (search new : SearchAt) (formula : Cnf) (log : List Step) →
+    SameKept search.value new.value → new.taken ≡ length log → IsUnderway search formula log →
+    IsUnderway new formula log
+underway_along search new formula log same all on = record {
   stands = record {
-    reached = on.stands.reached;
-    stands = stands_along old new formula (take taken log) same on.stands.stands;
+    reached = omega (arith, all);
+    stands = stands_along search.value new.value formula (take new.taken log) same
+        (subst (λ (k : ℕ). StandsFor search.value formula (take k log)) (on.all_taken ∙ sym all)
+        on.stands.stands);
   };
-  all_taken = on.all_taken;
+  all_taken = all;
   open_log = on.open_log;
   numbered = on.numbered;
   relevant = on.relevant;
@@ -273,7 +359,7 @@ module _ (search : SearchAt) (formula : Cnf) (log : List Step)
         ap added_count adds.step ∙ added_count-push log id clause adds.hints,
       )
 
-  -- learned clauses are forgotten
+  -- learned clauses are forgotten when the log may have another deletion
   pub underway_forgot : (new : SearchValue) (now : List Step) (d : DeletionState) →
       AreDeletions log d → d.added + 1000 * suc d.count ≤ search.value.added →
       HasForgotten search.value new log now →
@@ -290,26 +376,27 @@ module _ (search : SearchAt) (formula : Cnf) (log : List Step)
       let more : List Step = log ++ Erased own ids ∷ [] in
       let late : 1000 * suc (deletions log) ≤ added_since 0 log =
       omega (arith, are.count, are.added, due, before.added) in
-      let says : IsUnderway (at_end new more) formula more = record {
-        stands = (follow_end new formula more
-            (stands_erased forgot.settled new formula log own ids stands forgot.forgets)).stands;
-        all_taken = refl;
-        open_log = open_erased forgot.settled new formula log own ids stands forgot.forgets
-            on.open_log;
-        numbered = numbered_erase (suc m) own log ids on.numbered (omega (arith, due))
-            (omega (arith, before.inputs, before.added));
-        relevant = each_added_erase IsRelevant formula log own ids on.relevant;
-        sparse = sparse_erased forgot.settled new formula log own ids stands forgot.forgets
-            on.sparse late;
-      } in
+      let follows = follow_forgot search formula log before new now forgot in
+      let numbered : AreNumbered (suc m) more = numbered_erase (suc m) own log ids on.numbered
+      (omega (arith, due)) (omega (arith, before.inputs, before.added)) in
       let then : AreDeletions more (record { count = suc d.count; added = search.value.added }) =
       subst (λ (n : ℕ). AreDeletions more (record { count = suc d.count; added = n }))
       (sym before.added) (deletions_erase log d own ids are) in (
-        subst (λ (l : List Step). IsUnderway (at_end new l) formula l) (sym forgot.step) says,
+        record {
+          stands = follows.stands;
+          all_taken = refl;
+          open_log = open_forgot search formula log before new now forgot on.open_log;
+          numbered = subst (AreNumbered (suc m)) (sym forgot.step) numbered;
+          relevant = subst (Relevant formula) (sym forgot.step)
+              (each_added_erase IsRelevant formula log own ids on.relevant);
+          sparse = subst Sparse (sym forgot.step)
+              (sparse_erased forgot.settled new formula log own ids stands forgot.forgets
+              on.sparse late);
+        },
         subst (λ (l : List Step).
             AreDeletions l (record { count = suc d.count; added = search.value.added }))
             (sym forgot.step) then,
-        ap added_count forgot.step ∙ added_count-erase log own ids,
+        none_added_forgot search.value new log now forgot,
       )
 
   pub searched : (budget : ℕ) (keep : Bool) (result : Result Answer AllocError) →

@@ -4,7 +4,8 @@ ghost use Rattle.std.specs.Prelude.{◌≡◌, ◌<◌, [], All, AllPairs, IfOk,
 ghost use Rattle.sat_clause.specs.Literal.{IsWithin};
 ghost use Rattle.sat_arena.specs.declared.clause_ref.ClauseRef.{ClauseRef};
 ghost use Rattle.sat_watch.specs.Forget.{IsNoReason};
-ghost use Rattle.sat_watch.specs.Watches.{id_at, is_attached};
+ghost use Rattle.sat_watch.specs.Trail.{IsOnce};
+ghost use Rattle.sat_watch.specs.Watches.{HasLevels, id_at, is_attached};
 ghost use Rattle.sat_core.specs.Doomed.{ArePartOf, IsForgettable, are_same, forgettable, is_reason as is_reason_of, is_forgettable as is_forgettable_by, reason_in, refs_of};
 
 use crate::worth::Worth;
@@ -61,12 +62,14 @@ fn is_reason_for(watches: &Watches, trail: &[TrailEntry], l: Lit, c: ClauseRef) 
     reason.word == c.word
 }
 
-/// Whether a clause is a reason. It costs a look at each of its literals.
-fn is_reason(watches: &Watches, c: ClauseRef) -> bool
-    requires { is_attached watches.now.clauses c ≡ true }
+/// Whether a clause is a reason on the trail. It costs a look at each of its literals.
+fn is_reason(watches: &Watches, trail: &[TrailEntry], c: ClauseRef) -> bool
+    requires trail { reverse trail.now ≡ watches.now.trail }
+    requires once { IsOnce watches.now.trail }
+    requires levels { HasLevels watches.now.clauses watches.now.level watches.now.trail }
+    requires attached { is_attached watches.now.clauses c ≡ true }
     ensures { result ≡ is_reason_of watches.now.trail c }
 {
-    let trail = watches.trail();
     for l in watches.lits(c) {
         if is_reason_for(watches, trail, *l, c) {
             return true;
@@ -75,12 +78,15 @@ fn is_reason(watches: &Watches, c: ClauseRef) -> bool
     false
 }
 
-/// Whether a clause may be forgotten: it has an id above this one and is no reason.
-fn is_forgettable(watches: &Watches, above: u32, c: ClauseRef) -> bool
-    requires { is_attached watches.now.clauses c ≡ true }
+/// Whether a clause may be forgotten: it has an id above this one and is no reason on the trail.
+fn is_forgettable(watches: &Watches, trail: &[TrailEntry], above: u32, c: ClauseRef) -> bool
+    requires trail { reverse trail.now ≡ watches.now.trail }
+    requires once { IsOnce watches.now.trail }
+    requires levels { HasLevels watches.now.clauses watches.now.level watches.now.trail }
+    requires attached { is_attached watches.now.clauses c ≡ true }
     ensures { result ≡ is_forgettable_by watches.now above c }
 {
-    watches.id(c) > above && !is_reason(watches, c)
+    watches.id(c) > above && !is_reason(watches, trail, c)
 }
 
 /// Whether one of these literals is true.
@@ -127,11 +133,13 @@ fn find_candidates(
 ) -> Result<Vec<Candidate>, AllocError>
     ensures all { IfOk result (λ found. refs_of found.items ≡ forgettable watches.now above) }
     ensures rising { AllPairs (λ a b. a.word < b.word) (forgettable watches.now above) }
+    ensures levels { HasLevels watches.now.clauses watches.now.level watches.now.trail }
 {
+    let trail = watches.trail();
     let mut found = Vec::new(alloc);
     let mut next = watches.first();
     while let Some(c) = next {
-        if is_forgettable(watches, above, c) {
+        if is_forgettable(watches, trail, above, c) {
             found.push(candidate_of(watches, worth, c))?;
         }
         next = watches.behind(c);
@@ -260,6 +268,7 @@ pub(crate) fn choose_doomed(
     ensures apart { IfOk result (λ doomed. AllPairs (λ a b. a.word < b.word) doomed.items) }
     ensures none { IfOk result
         (λ doomed. doomed.items ≡ [] → (c : ClauseRef) → ¬ IsForgettable watches.now above c) }
+    ensures levels { HasLevels watches.now.clauses watches.now.level watches.now.trail }
 {
     let candidates = find_candidates(alloc, watches, worth, above)?;
     let stay = FIRST_STAY + MORE_STAY * u64::from(done);

@@ -85,8 +85,6 @@ pub(crate) fn forget_some(
     if doomed.is_empty() {
         return Ok(false);
     }
-    // Its clauses say that each reason is attached.
-    let _trail = watches.trail();
     let ids = ids_of(alloc, watches, &doomed)?;
     log.reserve(1, ids.len() as u64)?;
     watches.forget(alloc, &doomed)?;

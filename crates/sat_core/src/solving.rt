@@ -6,6 +6,7 @@ ghost use Rattle.sat_clause.specs.Learned.{deletions};
 ghost use Rattle.sat_core.specs.Answer.{IsAnswer, IsDecided, most_added};
 ghost use Rattle.sat_core.specs.Deletions.{AreDeletions};
 ghost use Rattle.sat_core.specs.SearchLog.{IsSearchLog, added_count};
+ghost use Rattle.sat_core.specs.Stands.{StandsFor};
 ghost use Rattle.sat_core.specs.Underway.{HasSearched, IsUnderway};
 
 use crate::Answer;
@@ -36,6 +37,33 @@ fn forget_unless(
     search.forget_where_due(log, deletions)
 }
 
+/// Takes at most so many turns of a search that has taken none, and forgets clauses between them
+/// unless all are to be kept.
+fn take_turns(
+    search: &mut Search,
+    formula: &Formula,
+    budget: u64,
+    keep: bool,
+    log: &mut Log,
+) -> Result<Answer, AllocError>
+    requires ids { length formula.now.cnf.clauses + budget ≤ ID_LIMIT }
+    requires fresh { log.old.steps ≡ [] }
+    requires stands { StandsFor search.old.value formula.now.cnf [] }
+    requires none_taken { search.old.taken ≡ 0 }
+    ensures { HasSearched formula.now.cnf budget keep log.new.steps result }
+{
+    let mut deletions = Deletions::new();
+    for _ in 0..budget {
+        forget_unless(keep, search, log, &mut deletions)?;
+        match search.turn(formula, log)? {
+            Turn::Learned => {}
+            Turn::Model(values) => return Ok(Answer::Model(values)),
+            Turn::Refuted => return Ok(Answer::Refuted),
+        }
+    }
+    Ok(Answer::Spent)
+}
+
 /// The search for values that satisfy a formula, which forgets clauses unless all are to be kept.
 fn search_for_values(
     alloc: Global,
@@ -49,16 +77,7 @@ fn search_for_values(
     ensures { HasSearched formula.now.cnf budget keep log.new.steps result }
 {
     let mut search = Search::new(alloc, formula, 0)?;
-    let mut deletions = Deletions::new();
-    for _ in 0..budget {
-        forget_unless(keep, &mut search, log, &mut deletions)?;
-        match search.turn(formula, log)? {
-            Turn::Learned => {}
-            Turn::Model(values) => return Ok(Answer::Model(values)),
-            Turn::Refuted => return Ok(Answer::Refuted),
-        }
-    }
-    Ok(Answer::Spent)
+    take_turns(&mut search, formula, budget, keep, log)
 }
 
 /// Searches for values that satisfy a formula, and logs each clause that it learns with the clauses

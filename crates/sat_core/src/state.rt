@@ -114,14 +114,21 @@ impl SearchState {
         settle_at_start(&mut self.ranking, &mut self.watches);
     }
 
-    /// Where a restart is due it goes back to level 0 and propagates there. If no clause is false
-    /// then it forgets clauses that were added and are no reasons, and logs that they are deleted.
-    /// Whether there is one. So many deletions came before. A clause that was laid aside stays, and
-    /// so do those that were added before it.
+    /// Whether a restart is due. Then the next one is looked ahead to.
+    pub(crate) fn is_restart_due(&mut self) -> bool
+        ensures { self.new ≡ self.old }
+    {
+        self.restarts.is_due(self.added)
+    }
+
+    /// Goes back to level 0 and propagates there. If no clause is false then it forgets clauses
+    /// that were added and are no reasons, and logs that they are deleted. Whether there is one. So
+    /// many deletions came before. A clause that was laid aside stays, and so do those that were
+    /// added before it.
     ///
     /// # Errors
     /// Where memory is short; the clauses are then the same.
-    pub(crate) fn forget_at_restart(
+    pub(crate) fn forget(
         &mut self,
         alloc: Global,
         log: &mut Log,
@@ -132,9 +139,6 @@ impl SearchState {
         ensures same { result ≢ Ok true → SameKept self.old self.new }
         ensures same_log { result ≢ Ok true → log.new.steps ≡ log.old.steps }
     {
-        if !self.restarts.is_due(self.added) {
-            return Ok(false);
-        }
         if !settle_at_start(&mut self.ranking, &mut self.watches) {
             return Ok(false);
         }

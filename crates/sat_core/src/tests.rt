@@ -11,7 +11,7 @@ use std::process::Abort;
 use std::test::Fail;
 
 /// The formula of these clauses.
-fn formula_of(
+pub(crate) fn formula_of(
     rt: &impl Abort,
     alloc: Global,
     vars: u32,

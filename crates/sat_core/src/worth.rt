@@ -60,8 +60,22 @@ impl Worth {
         Ok(())
     }
 
-    /// How many of the clauses have a lower id than this one.
+    /// How many of the clauses have a lower id than this one. It takes a search only for those that
+    /// the last deletion has left: those behind it have ids one behind the other.
     fn place(&self, id: i64) -> usize {
+        let (Some(first), Some(last)) = (self.valued.first(), self.valued.last()) else {
+            return 0;
+        };
+        if id <= first.id {
+            return 0;
+        }
+        let behind = last.id.wrapping_sub(id).cast_unsigned();
+        if behind < self.valued.len() as u64 {
+            let at = self.valued.len() - 1 - behind as usize;
+            if self.valued[at].id == id {
+                return at;
+            }
+        }
         self.valued.partition_point(|valued| valued.id < id)
     }
 

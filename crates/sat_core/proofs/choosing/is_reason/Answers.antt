@@ -9,7 +9,6 @@ returns-then-is_reason_for c =
 
 pub returns : goal.returns
 returns c =
-    let told = c.trail-trail.ensures in
     sym (none_in c.args.watches.now c.args.c c.lits-l-items.result.now c.lits-l-items.ensures.value
-    told.levels told.once
+    c.requires.levels c.requires.once
     (λ k d lt. c.loop-l.invariant k d (omega (arith, lt, c.loop-l-test.false))))

@@ -38,7 +38,7 @@ returns-clause-erased c is_so =
       may = may;
       is = is;
       others = others;
-      trail = trail_stays refs w now c.trail-trail.ensures.levels may.no_reason is others;
+      trail = trail_stays refs w now says.levels may.no_reason is others;
       step = said ∙ ap (λ (them : List ℤ). before ++ Erased c.args.own them ∷ []) ids_are;
     }
 

@@ -1,4 +1,4 @@
-use Rattle.std.proofs.Common.{None, Some, inl, inr, sym, ◌∙◌, subst}
+use Rattle.std.proofs.Common.{inl, inr, sym, ◌∙◌, subst}
 use Rattle.sat_watch.specs.Choice.{FreeSays}
 use Rattle.sat_core.proofs.DecideLaws.{is_none_none, is_some_some}
 use Rattle.sat_core.proofs.StartLaws.{all_false, open_position, second_found, second_missing, some_position}

@@ -1,4 +1,4 @@
-use Rattle.std.proofs.Common.{refl, sym, ◌∙◌}
+use Rattle.std.proofs.Common.{sym, ◌∙◌}
 use Rattle.sat_core.proofs.StartLaws.{false_value, free_value}
 use Rattle.sat_core.proofs.start.is_free.Goals as goal
 

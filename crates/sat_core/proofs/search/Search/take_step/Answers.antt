@@ -1,4 +1,4 @@
-use Rattle.std.proofs.Common.{◌≡◌, suc, add-one, subst, sym}
+use Rattle.std.proofs.Common.{◌≡◌, add-one, subst, sym}
 use Rattle.sat_core.specs.Levels.{level_of}
 use Rattle.sat_core.specs.Stands.{SearchAt}
 use Rattle.sat_core.specs.Underway.{MayTurn}

@@ -3,18 +3,12 @@ use Rattle.sat_watch.specs.Watches.{WatchState}
 use Rattle.sat_core.specs.Marks.{IsReady}
 use Rattle.sat_core.specs.SearchStore.{IsSearching, SameKept, search_value}
 use Rattle.sat_core.proofs.ForgetLaws.{has_forgotten, ranked_left, store_left, vars_left, whether}
-use Rattle.sat_core.proofs.SearchLaws.{kept_refl, kept_settled, store_settled}
+use Rattle.sat_core.proofs.SearchLaws.{kept_settled, store_settled}
 use Rattle.sat_core.proofs.WayBackLaws.{vars_back}
-use Rattle.sat_core.proofs.state.SearchState.forget_at_restart.Goals as goal
+use Rattle.sat_core.proofs.state.SearchState.forget.Goals as goal
 
-pub returns-then-not-is_due-clause-same : goal.returns-then-not-is_due-clause-same
-returns-then-not-is_due-clause-same c is_not =
-    let p = c.self.inside in
-    rw (← c.self.view_is)
-    (kept_refl p.inputs p.added p.attached p.aside p.watches c.self.invariant.store)
-
-pub invariant_of-self-then-not-settle_at_start : goal.invariant_of-self-then-not-settle_at_start
-invariant_of-self-then-not-settle_at_start c =
+pub invariant_of-self : goal.invariant_of-self
+invariant_of-self c =
     let p = c.self.inside in
     let says = c.settle_at_start.ensures in
     record {

@@ -4,7 +4,7 @@ use Rattle.sat_clause.specs.Learned.{deletions}
 use Rattle.sat_core.specs.Deletions.{AreDeletions}
 use Rattle.sat_core.specs.SearchLog.{added_count}
 use Rattle.sat_core.specs.Underway.{IsUnderway}
-use Rattle.sat_core.proofs.solving.search_for_values.Given as goal
+use Rattle.sat_core.proofs.solving.take_turns.Given as goal
 
 -- the log is under way, and each turn so far has added a clause
 abbrev pub invariant-loop : goal.invariant-loop

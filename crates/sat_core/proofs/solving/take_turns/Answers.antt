@@ -4,12 +4,12 @@ use Rattle.sat_core.specs.declared.answer.Answer.TheVariants.{Model, Spent}
 use Rattle.sat_core.specs.SearchLog.{added_count}
 use Rattle.sat_core.specs.Underway.{IsTurn}
 use Rattle.sat_core.proofs.UnderwayLemmas.{refuted, searched, spent, tracked_next, underway_may, underway_next, underway_start}
-use Rattle.sat_core.proofs.solving.search_for_values.Goals as goal
+use Rattle.sat_core.proofs.solving.take_turns.Goals as goal
 
 pub loop-init : goal.loop-init
 loop-init c = record {
-  underway = rw c.requires.fresh (underway_start c.in_ok-search.search c.args.formula.now.cnf
-      c.in_ok-search.ensures.stands c.in_ok-search.ensures.none_taken);
+  underway = rw c.requires.fresh (underway_start c.args.search.now c.args.formula.now.cnf
+      c.requires.stands c.requires.none_taken);
   tracked = rw c.requires.fresh c.new-deletions.ensures;
   kept = λ all. ap deletions c.requires.fresh;
   many = rw c.requires.fresh refl;
