@@ -1,5 +1,5 @@
 -- A row of bits with one of its words written.
-use Rattle.std.proofs.Common.{◌≡◌, ◌≢◌, ◌==◌, ◌<◌, ◌/◌, ◌%◌, ◌*◌, ℕ, true, false, List, length, slice_index_or, set, ap, ◌∙◌, refl, arith}
+use Rattle.std.proofs.Common.{zero, suc, [], ◌∷◌, ◌++◌, ◌≡◌, ◌≢◌, ◌==◌, ◌<◌, ◌/◌, ◌%◌, ◌*◌, ℕ, true, false, List, length, slice_index_or, set, ap, ◌∙◌, refl, arith}
 use Rattle.std.specs.Int.{bit_at}
 use Rattle.std.proofs.lemmas.Bool.{both_ways, eq-eqb, eqb-true}
 use Rattle.std.proofs.lemmas.List.{get_or-set_same, get_or-set_other, get_or_default}
@@ -42,3 +42,14 @@ stays_clear old new at here others i clear =
       | true ↦ λ is. let same : i ≡ at = eqb-true i at is in rw same here
       | false ↦ λ is. others i (λ same. both_ways _ is (eq-eqb i at same)) ∙ clear
     ] refl
+
+-- a word without bits at the end sets none
+pub longer_same : (words : List ℕ) (at : ℕ) → is_set (words ++ 0 ∷ []) at ≡ is_set words at
+longer_same words at =
+    ap (λ w. bit_at w (at % 64) == 1) (last words (at / 64))
+  where
+    last : (row : List ℕ) (i : ℕ) → slice_index_or (row ++ 0 ∷ []) i 0 ≡ slice_index_or row i 0
+    last [] zero = refl
+    last [] (suc i) = refl
+    last (w ∷ row) zero = refl
+    last (w ∷ row) (suc i) = last row i

@@ -1,5 +1,5 @@
 -- What finders answer beside maps of live clauses.
-use Rattle.std.proofs.Common.{◌≡◌, ℕ, zero, suc, ◌<◌, ℤ, pos, negsuc, nat_abs, Bool, true, false, cond, eqb, List, length, take, drop, get_or, All, Option, None, Some, refl, sym, ap, ◌∙◌, arith}
+use Rattle.std.proofs.Common.{◌≡◌, ℕ, zero, suc, ◌<◌, ◌≤◌, ℤ, pos, negsuc, nat_abs, Bool, true, false, cond, eqb, List, length, take, drop, get_or, All, Option, None, Some, refl, sym, ap, ◌∙◌, arith}
 use Rattle.std.specs.Prelude.{is_some, ◌||◌, if◌then◌else◌}
 use Rattle.std.specs.Option.{option_or}
 use lib.Signed.{le_z}
@@ -93,3 +93,19 @@ within_changes n find new id value changes here within q clause is =
     by : (b : Bool) → cond b value (find q) ≡ Some clause → All (IsWithin n) clause
     by true e = here clause e
     by false e = within q clause e
+
+-- a change of what is the same is the same change
+pub changes_same : (old mid new : Finder) (id : ℕ) (value : Option Clause)
+    → ((q : ℕ) → mid q ≡ old q) → Changes mid new id value → Changes old new id value
+changes_same old mid new id value same changes q =
+    changes q ∙ ap (cond (eqb id q) value) (same q)
+
+pub finds_same : (old new : Finder) (live : Live) → ((q : ℕ) → new q ≡ old q) → Finds old live
+    → Finds new live
+finds_same old new live same finds q = same q ∙ finds q
+
+-- greater numbers hold the variables too
+pub within_more : (n m : ℕ) → n ≤ m → (lits : Clause) → All (IsWithin n) lits
+    → All (IsWithin m) lits
+within_more n m more lits within k d below =
+    let here = within k d below in (here.0, omega (arith, here.1))

@@ -1,7 +1,8 @@
 -- Clauses by their ids, in a table of the ids from a first one on and a map of the others.
-use Rattle.std.specs.Prelude.{ℕ, ◌-◌, ◌==◌, nat_lt, if◌then◌else◌, List, length, slice_index_or, Option, None, Some, option_map}
-use Rattle.std.specs.Borrow.{Bor}
+use Rattle.std.specs.Prelude.{ℕ, ◌-◌, ◌==◌, nat_lt, if◌then◌else◌, List, length, slice_index_or, Option, None, Some, option_map, Vec}
+use Rattle.std.specs.Global.{Global}
 use Rattle.std.specs.Map.{lookup}
+use Rattle.sat_clause.specs.declared.literal.Lit.{Lit}
 use Rattle.sat_clause.specs.Literal.{Clause}
 use Rattle.sat_check.specs.Finder.{Finder}
 
@@ -15,18 +16,18 @@ abbrev pub cell_or : {X : Type 0} → Option ℕ → List (Option X) → Option 
 cell_or None table other = other
 cell_or (Some at) table other = slice_index_or table at None
 
--- the clause behind a reference
-abbrev pub now : Bor Clause → Clause
-now c = c.now
+-- the literals of a clause in memory of its own
+abbrev pub lits_of : Vec Lit Global → Clause
+lits_of clause = clause.items
 
 -- a table whose first cell has this id, and a map
 pub record DerivedState : Type 0 where
   pub first : ℕ
-  pub table : List (Option (Bor Clause))
-  pub others : List (ℕ × Bor Clause)
+  pub table : List (Option (Vec Lit Global))
+  pub others : List (ℕ × Vec Lit Global)
 
 -- the clause with an id
 abbrev pub derived_at : DerivedState → Finder
 derived_at state id =
     let cell = cell_at state.first (length state.table) id in
-    option_map now (cell_or cell state.table (lookup (λ k. id == k) state.others))
+    option_map lits_of (cell_or cell state.table (lookup (λ k. id == k) state.others))

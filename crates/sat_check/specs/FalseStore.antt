@@ -1,6 +1,7 @@
 -- A set of false literals: what contracts see, and how it lies in marks and a list of the marked.
 use Rattle.std.specs.Prelude.{◌≡◌, ℕ, ◌+◌, ◌*◌, ◌≤◌, ℤ, pos, negsuc, List, length, All, Vec, reverse}
 use Rattle.std.specs.Global.{Global}
+use Rattle.sat_clause.specs.declared.limits.TheConstants.{LITERAL_LIMIT}
 use Rattle.sat_clause.specs.declared.literal.Lit.{Lit}
 use Rattle.sat_check.specs.Bits.{is_set}
 use Rattle.sat_clause.specs.Literal.{IsWithin, is_among}
@@ -19,5 +20,5 @@ slot_of (negsuc n) = 2 * n + 3
 pub record IsFalseStore (size : ℕ) (marks : List ℕ) (trail : Vec Lit Global) : Type 0 where
   pub many : 2 * size + 2 ≤ 64 * length marks
   pub within : All (IsWithin size) trail.items
-  pub marked : (l : Lit) → IsWithin size l →
-      is_set marks (slot_of l.code) ≡ is_among (reverse trail.items) l
+  pub few : size ≤ LITERAL_LIMIT
+  pub marked : (l : Lit) → is_set marks (slot_of l.code) ≡ is_among (reverse trail.items) l

@@ -1,8 +1,6 @@
 -- Clauses by their ids, as what they answer to an id.
-use Rattle.std.specs.Prelude.{◌≡◌, ℕ, zero, suc, ◌≤◌, ◌==◌, if◌then◌else◌, ℤ, pos, negsuc, List, slice_get, All, Option, None, Some}
+use Rattle.std.specs.Prelude.{◌≡◌, ℕ, zero, suc, ◌==◌, if◌then◌else◌, ℤ, pos, negsuc, All, Option, None, Some}
 use Rattle.sat_clause.specs.Literal.{Clause, IsWithin}
-use Rattle.sat_clause.specs.Formula.{Cnf}
-use Rattle.sat_clause.specs.Step.{Step, Added}
 use Rattle.sat_clause.specs.Live.{Live, clause_at}
 
 -- clauses by their ids: the clause with an id, where there is one
@@ -26,9 +24,3 @@ Changes old new id value = (q : ℕ) → new q ≡ (if id == q then value else o
 -- the clauses have the variables 1 to n alone
 abbrev pub AllWithin : ℕ → Finder → Type 0
 AllWithin n find = (id : ℕ) (clause : Clause) → find id ≡ Some clause → All (IsWithin n) clause
-
--- the formula and the clauses that the log adds have the variables 1 to n alone
-pub record HasVars (n : ℕ) (formula : Cnf) (log : List Step) : Type 0 where
-  pub inputs : formula.vars ≤ n
-  pub steps : (k id : ℕ) (clause : Clause) (hints : List ℤ) →
-      slice_get log k ≡ Some (Added id clause hints) → All (IsWithin n) clause

@@ -4,4 +4,5 @@ pub mod FalseStore
 pub mod Finder
 pub mod InputStore
 pub mod LiveStore
+pub mod Replaying
 pub mod Verdict

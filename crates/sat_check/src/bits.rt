@@ -1,6 +1,6 @@
 //! Rows of bits.
 
-ghost use Rattle.std.specs.Prelude.{◌≡◌, ◌≢◌, ◌*◌, ◌<◌, ◌≤◌, ℕ, IfOk, length, true, false};
+ghost use Rattle.std.specs.Prelude.{◌≡◌, ◌≢◌, ◌*◌, ◌<◌, ◌≤◌, ℕ, IfOk, OnOk, length, true, false};
 ghost use Rattle.sat_check.specs.Bits.{is_set};
 
 use std::alloc::{AllocError, Global};
@@ -47,6 +47,18 @@ impl Bits {
         ensures others { (i : ℕ) → i ≢ at → is_set self.new i ≡ is_set self.old i }
     {
         self.words[at / 64] |= 1 << (at % 64);
+    }
+
+    /// Makes the row one of at least so many bits. What comes is not set.
+    pub(crate) fn widen(&mut self, count: usize) -> Result<(), AllocError>
+        ensures many { OnOk result (count ≤ 64 * length self.new) }
+        ensures no_fewer { length self.old ≤ length self.new }
+        ensures same { (at : ℕ) → is_set self.new at ≡ is_set self.old at }
+    {
+        while self.words.len() <= count / 64 {
+            self.words.push(0)?;
+        }
+        Ok(())
     }
 
     /// Takes a bit away.

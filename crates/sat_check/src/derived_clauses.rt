@@ -1,6 +1,6 @@
 //! The live clauses that a log has added.
 
-ghost use Rattle.std.specs.Prelude.{◌≡◌, ◌<◌, ℕ, IfOk, IfSome, OnErr, OnOk, None, Some, is_some, option_map};
+ghost use Rattle.std.specs.Prelude.{◌≡◌, ◌<◌, ◌+◌, ◌^◌, ℕ, IfSome, OnErr, OnOk, None, Some, is_some, length, option_map};
 ghost use Rattle.sat_check.specs.DerivedStore.{cell_at, derived_at};
 ghost use Rattle.sat_check.specs.Finder.{Changes};
 
@@ -9,19 +9,24 @@ use sat_clause::Lit;
 use std::alloc::{AllocError, Global};
 use std::marker::Model;
 
-/// Clauses by their ids. It borrows them, and keeps only where they lie.
+/// How many cells there may be for each clause that was put in.
+const CELLS_EACH: u64 = 4;
+
+/// Clauses by their ids, each in memory of its own, which is given back where it is taken out.
 ///
-/// Logs number the clauses that they add from the last input clause on. So so many ids from there
-/// on as the log has steps have a cell of a table each, which is read at once. The clauses with
-/// other ids, which a log may have as well, stand in a map.
+/// Logs number the clauses that they add from the last input clause on. So the ids from there on
+/// have a cell of a table each, which is read at once. The table grows with the ids that come, as
+/// far as the number of clauses allows. The clauses with other ids, which a log may have as well,
+/// stand in a map, until the table has grown up to them.
 #[derive(Drop)]
-pub(crate) struct DerivedClauses<'a> {
+pub(crate) struct DerivedClauses {
     first: u64,
-    table: Vec<Option<&'a [Lit]>>,
-    others: IndexMap<u64, &'a [Lit]>,
+    allowed: u64,
+    table: Vec<Option<Vec<Lit>>>,
+    others: IndexMap<u64, Vec<Lit>>,
 }
 
-impl<'a> Model for DerivedClauses<'a> {
+impl Model for DerivedClauses {
     ghost use Rattle.sat_check.specs.DerivedStore.{DerivedState};
 
     ghost Value = { DerivedState };
@@ -48,36 +53,72 @@ fn cell_of(first: u64, count: usize, id: u64) -> Option<usize>
     None
 }
 
-impl<'a> DerivedClauses<'a> {
-    /// No clauses, and cells for so many ids, of which this is the first.
-    pub(crate) fn new(
-        alloc: Global,
-        first: u64,
-        count: u64,
-    ) -> Result<DerivedClauses<'a>, AllocError>
-        ensures { IfOk result (λ c. (id : ℕ) → derived_at c id ≡ None) }
+impl DerivedClauses {
+    /// No clauses, and no cells, of which the first will have this id.
+    pub(crate) fn new(alloc: Global, first: u64) -> DerivedClauses
+        ensures { (id : ℕ) → derived_at result id ≡ None }
     {
-        Ok(DerivedClauses {
+        DerivedClauses {
             first,
-            table: vec![in alloc; None; count as usize]?,
+            allowed: 0,
+            table: Vec::new(alloc),
             others: IndexMap::new(alloc),
-        })
+        }
     }
 
     /// The clause with an id.
-    pub(crate) fn get(&self, id: u64) -> Option<&'a [Lit]>
+    pub(crate) fn get(&self, id: u64) -> Option<&[Lit]>
         ensures { option_map (λ c. c.now) result ≡ derived_at self.now id }
     {
         let Some(at) = cell_of(self.first, self.table.len(), id) else {
-            return self.others.get(&id).copied();
+            let Some(clause) = self.others.get(&id) else {
+                return None;
+            };
+            return Some(clause.as_slice());
         };
-        self.table[at]
+        let Some(clause) = &self.table[at] else {
+            return None;
+        };
+        Some(clause.as_slice())
     }
 
-    /// Puts a clause in under an id, in place of any other.
-    pub(crate) fn put(&mut self, id: u64, clause: &'a [Lit]) -> Result<(), AllocError>
+    /// One more id gets a cell. A clause under it moves there.
+    fn widen(&mut self) -> Result<(), AllocError>
+        requires { self.old.first + length self.old.table < 2 ^ 64 }
+        ensures first { self.new.first ≡ self.old.first }
+        ensures longer { OnOk result (length self.new.table ≡ length self.old.table + 1) }
+        ensures kept { (id : ℕ) → derived_at self.new id ≡ derived_at self.old id }
+    {
+        if self.others.is_empty() {
+            self.table.push(None)?;
+            return Ok(());
+        }
+        let id = self.first + self.table.len() as u64;
+        self.table.reserve(1)?;
+        let clause = self.others.swap_remove(&id);
+        self.table.push_reserved(clause);
+        Ok(())
+    }
+
+    /// The ids up to this one get cells, as far as the number of clauses allows one more clause.
+    fn reach(&mut self, id: u64) -> Result<(), AllocError>
+        ensures { (q : ℕ) → derived_at self.new q ≡ derived_at self.old q }
+    {
+        self.allowed = self.allowed.saturating_add(CELLS_EACH);
+        if id < self.first {
+            return Ok(());
+        }
+        let last = id - self.first;
+        while self.table.len() as u64 <= last && (self.table.len() as u64) < self.allowed {
+            self.widen()?;
+        }
+        Ok(())
+    }
+
+    /// Puts a clause in under an id, in place of any other, where the table is as it is.
+    fn place(&mut self, id: u64, clause: Vec<Lit>) -> Result<(), AllocError>
         ensures ok { OnOk result
-            (Changes (derived_at self.old) (derived_at self.new) id (Some clause.now)) }
+            (Changes (derived_at self.old) (derived_at self.new) id (Some clause.items)) }
         ensures err { OnErr result ((q : ℕ) → derived_at self.new q ≡ derived_at self.old q) }
     {
         let Some(at) = cell_of(self.first, self.table.len(), id) else {
@@ -85,6 +126,21 @@ impl<'a> DerivedClauses<'a> {
             return Ok(());
         };
         self.table[at] = Some(clause);
+        Ok(())
+    }
+
+    /// Puts a clause in under an id, in place of any other.
+    pub(crate) fn put(&mut self, id: u64, clause: Vec<Lit>) -> Result<(), AllocError>
+        ensures ok { OnOk result
+            (Changes (derived_at self.old) (derived_at self.new) id (Some clause.items)) }
+        ensures err { OnErr result ((q : ℕ) → derived_at self.new q ≡ derived_at self.old q) }
+    {
+        let Ok(()) = self.reach(id) else {
+            return Err(AllocError);
+        };
+        let Ok(()) = self.place(id, clause) else {
+            return Err(AllocError);
+        };
         Ok(())
     }
 

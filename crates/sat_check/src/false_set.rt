@@ -6,7 +6,7 @@ ghost use Rattle.sat_clause.specs.Literal.{IsWithin, is_among};
 ghost use Rattle.sat_check.specs.FalseStore.{slot_of};
 
 use crate::bits::Bits;
-use sat_clause::{FalseLiterals, Lit};
+use sat_clause::{FalseLiterals, LITERAL_LIMIT, Lit};
 use std::alloc::{AllocError, Global};
 use std::marker::Model;
 
@@ -50,7 +50,7 @@ fn unmark(marks: &mut Bits, lits: &[Lit], size: u32)
     requires many { 2 * size + 2 ≤ 64 * length marks.old }
     requires within { All (IsWithin size) lits.now }
     ensures many { length marks.new ≡ length marks.old }
-    ensures unmarked { (l : Lit) → IsWithin size l → IsTrue (is_among lits.now l)
+    ensures unmarked { (l : Lit) → IsTrue (is_among lits.now l)
         → is_set marks.new (slot_of l.code) ≡ false }
     ensures others { (at : ℕ) → is_set marks.old at ≡ false → is_set marks.new at ≡ false }
 {
@@ -72,6 +72,7 @@ impl FalseLiterals for FalseSet {
 impl FalseSet {
     /// The empty set.
     pub(crate) fn new(alloc: Global, size: u32) -> Result<FalseSet, AllocError>
+        requires { size ≤ LITERAL_LIMIT }
         ensures { IfOk result (λ s. s ≡ record { size = size; set = [] }) }
     {
         Ok(FalseSet {
@@ -79,6 +80,30 @@ impl FalseSet {
             marks: Bits::new(alloc, 2 * size as usize + 2)?,
             trail: Vec::new(alloc),
         })
+    }
+
+    /// The greatest variable that its literals may have.
+    pub(crate) fn size(&self) -> u32
+        ensures value { result ≡ self.now.size }
+        ensures small { result ≤ LITERAL_LIMIT }
+    {
+        self.size
+    }
+
+    /// Makes it a set of literals of the variables up to a greater size.
+    pub(crate) fn widen(&mut self, size: u32) -> Result<(), AllocError>
+        requires more { self.old.size ≤ size }
+        requires small { size ≤ LITERAL_LIMIT }
+        ensures set { self.new.set ≡ self.old.set }
+        ensures ok { OnOk result (self.new.size ≡ size) }
+        ensures err { OnErr result (self.new.size ≡ self.old.size) }
+    {
+        if size == self.size {
+            return Ok(());
+        }
+        self.marks.widen(2 * size as usize + 2)?;
+        self.size = size;
+        Ok(())
     }
 
     /// Puts a literal into the set.

@@ -1,6 +1,6 @@
 //! Whether hints lead from false literals to a clause whose literals are all false.
 
-ghost use Rattle.std.specs.Prelude.{◌≡◌, ◌≤◌, [], All, IfOk, OnOk};
+ghost use Rattle.std.specs.Prelude.{◌≡◌, ◌≤◌, [], All, IfOk};
 ghost use Rattle.sat_clause.specs.Literal.{IsWithin};
 ghost use Rattle.sat_clause.specs.Rup.{rup};
 ghost use Rattle.sat_clause.specs.Live.{Live};
@@ -57,12 +57,15 @@ pub(crate) fn check_clause(
     requires empty { set.old.set ≡ [] }
     requires within { All (IsWithin set.old.size) clause.now }
     ensures size { set.new.size ≡ set.old.size }
-    ensures empty { OnOk result (set.new.set ≡ []) }
+    ensures empty { set.new.set ≡ [] }
     ensures ok { IfOk result (λ r. (clauses : Live) → Finds (live_at live.now) clauses
         → r ≡ rup clauses clause.now hints.now) }
 {
-    set.put_all(clause)?;
-    let fault = follow_hints(live, set, hints)?;
+    let Ok(()) = set.put_all(clause) else {
+        set.clear();
+        return Err(AllocError);
+    };
+    let fault = follow_hints(live, set, hints);
     set.clear();
-    Ok(fault)
+    fault
 }

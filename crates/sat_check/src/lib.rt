@@ -8,10 +8,12 @@ mod false_set;
 mod hints;
 mod input_clauses;
 mod live_clauses;
+mod replay;
 #[cfg(test)]
 mod tests;
 mod variables;
 mod verdict;
 
 pub use checker::check;
+pub use replay::Replay;
 pub use verdict::Verdict;

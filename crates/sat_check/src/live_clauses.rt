@@ -1,6 +1,6 @@
 //! The live clauses, as the hints of a log name them.
 
-ghost use Rattle.std.specs.Prelude.{◌≡◌, ◌≤◌, All, IfOk, IfSome, IsTrue, IsNone, OnOk, is_some, option_map};
+ghost use Rattle.std.specs.Prelude.{◌≡◌, ◌≤◌, ℕ, All, IfOk, IfSome, IsTrue, IsNone, OnErr, OnOk, is_some, option_map};
 ghost use Rattle.sat_clause.specs.Literal.{IsWithin};
 ghost use Rattle.sat_clause.specs.Live.{Live, put as put_in};
 ghost use Rattle.sat_check.specs.Finder.{Finds, named_by};
@@ -13,15 +13,16 @@ use sat_clause::{Cause, Formula, Lit};
 use std::alloc::{AllocError, Global};
 use std::marker::Model;
 
-/// The live clauses of a formula and a log, which it borrows.
+/// The live clauses of a formula, which it borrows, and of a log.
 ///
 /// An input clause is found by its mark until it is deleted, or a step adds another clause under
 /// its id, which then stands among the derived ones.
 #[derive(Drop)]
 pub(crate) struct LiveClauses<'a> {
+    alloc: Global,
     vars: u32,
     inputs: InputClauses<'a>,
-    derived: DerivedClauses<'a>,
+    derived: DerivedClauses,
 }
 
 impl<'a> Model for LiveClauses<'a> {
@@ -37,29 +38,43 @@ impl<'a> Model for LiveClauses<'a> {
     ghost invariant = { λ c. (c.inputs.vars ≤ c.vars) × AllWithin c.vars (derived_at c.derived) };
 }
 
+/// A copy of a clause, in memory of its own.
+fn copy_of(alloc: Global, clause: &[Lit]) -> Result<Vec<Lit>, AllocError>
+    ensures { IfOk result (λ copy. copy.items ≡ clause.now) }
+{
+    let mut copy = Vec::new(alloc);
+    let Ok(()) = copy.extend_from_slice(clause) else {
+        return Err(AllocError);
+    };
+    Ok(copy)
+}
+
 impl<'a> LiveClauses<'a> {
-    /// The clauses of the formula, with the ids from 1 on, which have the variables 1 to `vars`
-    /// alone. The log has so many steps.
-    pub(crate) fn inputs(
-        alloc: Global,
-        formula: &'a Formula,
-        steps: u64,
-        vars: u32,
-    ) -> Result<LiveClauses<'a>, AllocError>
-        requires { formula.now.cnf.vars ≤ vars }
-        ensures vars { IfOk result (λ c. c.vars ≡ vars) }
+    /// The clauses of the formula, with the ids from 1 on.
+    pub(crate) fn inputs(alloc: Global, formula: &'a Formula) -> Result<LiveClauses<'a>, AllocError>
+        ensures vars { IfOk result (λ c. c.vars ≡ formula.now.cnf.vars) }
         ensures live { IfOk result (λ c. Finds (live_at c) (inputs_of formula.now.cnf)) }
     {
         let first = formula.len() as u64 + 1;
         Ok(LiveClauses {
-            vars,
+            alloc,
+            vars: formula.vars(),
             inputs: InputClauses::all(alloc, formula)?,
-            derived: DerivedClauses::new(alloc, first, steps)?,
+            derived: DerivedClauses::new(alloc, first),
         })
     }
 
+    /// Lets clauses have the variables up to a greater number.
+    pub(crate) fn widen(&mut self, vars: u32)
+        requires { self.old.vars ≤ vars }
+        ensures vars { self.new.vars ≡ vars }
+        ensures live { live_at self.new ≡ live_at self.old }
+    {
+        self.vars = vars;
+    }
+
     /// The live clause that a hint names. A number that is zero or negative names none.
-    pub(crate) fn named(&self, hint: i64) -> Option<&'a [Lit]>
+    pub(crate) fn named(&self, hint: i64) -> Option<&[Lit]>
         ensures value { option_map (λ c. c.now) result ≡ named_by (live_at self.now) hint }
         ensures within { IfSome result (λ c. All (IsWithin self.now.vars) c.now) }
     {
@@ -73,16 +88,23 @@ impl<'a> LiveClauses<'a> {
         self.derived.get(id)
     }
 
-    /// Makes a clause live under an id, in place of any other.
-    pub(crate) fn put(&mut self, id: u32, clause: &'a [Lit]) -> Result<(), AllocError>
+    /// Makes a copy of a clause live under an id, in place of any other.
+    pub(crate) fn put(&mut self, id: u32, clause: &[Lit]) -> Result<(), AllocError>
         requires { All (IsWithin self.old.vars) clause.now }
         ensures vars { self.new.vars ≡ self.old.vars }
         ensures live { OnOk result ((live : Live) → Finds (live_at self.old) live
             → Finds (live_at self.new) (put_in live id clause.now)) }
+        ensures err { OnErr result
+            ((q : ℕ) → live_at self.new q ≡ live_at self.old q) }
     {
         let id = id as u64;
+        let Ok(copy) = copy_of(self.alloc, clause) else {
+            return Err(AllocError);
+        };
+        let Ok(()) = self.derived.put(id, copy) else {
+            return Err(AllocError);
+        };
         let _ = self.inputs.take_out(id);
-        self.derived.put(id, clause)?;
         Ok(())
     }
 

@@ -99,8 +99,26 @@ fn judged(
 #[test]
 fn logs_of_three_clauses(rt: HostRuntime) -> Result<(), Fail> {
     let clauses: [&[i32]; 3] = [&[1], &[2], &[-1, -2]];
-    let cases: [(&[Line], Option<(u64, Cause)>); 6] = [
+    let cases: [(&[Line], Option<(u64, Cause)>); 8] = [
         (&[Added(4, &[], &[1, 2, 3])], None),
+        // Clauses that are not needed any more are deleted.
+        (
+            &[
+                Added(4, &[-1], &[2, 3]),
+                Deleted(4, &[3, 2]),
+                Added(5, &[], &[1, 4]),
+            ],
+            None,
+        ),
+        // The first refused step counts.
+        (
+            &[
+                Added(4, &[], &[1]),
+                Deleted(4, &[9]),
+                Added(5, &[], &[1, 2, 3]),
+            ],
+            Some((1, Cause::NoConflict)),
+        ),
         (
             &[Added(4, &[], &[1, 2, 3, 1])],
             Some((1, Cause::HintAfterConflict)),

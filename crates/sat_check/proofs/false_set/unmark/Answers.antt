@@ -16,11 +16,11 @@ loop-l-preserved c =
     c.clear.ensures.others in
     record {
       many = c.clear.ensures.many ∙ c.loop-l.invariant.many;
-      unmarked = λ m within is.
+      unmarked = λ m is.
           elim (or_cases _ _ (sym
           (list_any_more (λ x. int_eq x.code m.code) c.args.lits.now c.loop-l.l-index
           (lit (pos 0)) c.loop-l-test.true) ∙ is)) [
-            | inl before ↦ stays (slot_of m.code) (c.loop-l.invariant.unmarked m within before)
+            | inl before ↦ stays (slot_of m.code) (c.loop-l.invariant.unmarked m before)
             | inr here ↦ subst (λ at. is_set marks at ≡ false)
                 (c.slot.ensures.value ∙ ap slot_of ((Decides-int_eq _ m.code).0 here))
                 c.clear.ensures.here

@@ -1,7 +1,7 @@
 use Rattle.std.proofs.Common.{◌≡◌, ℕ, false, length, take}
 use Rattle.std.specs.Prelude.{IsTrue}
 use Rattle.sat_clause.specs.declared.literal.Lit.{Lit}
-use Rattle.sat_clause.specs.Literal.{IsWithin, is_among}
+use Rattle.sat_clause.specs.Literal.{is_among}
 use Rattle.sat_check.specs.Bits.{is_set}
 use Rattle.sat_check.specs.FalseStore.{slot_of}
 use Rattle.sat_check.proofs.false_set.unmark.Given as goal
@@ -10,7 +10,7 @@ use Rattle.sat_check.proofs.false_set.unmark.Given as goal
 abbrev pub invariant-loop-l : goal.invariant-loop-l
 invariant-loop-l l = record {
   many : length l.marks ≡ length l.initial.marks;
-  unmarked : (m : Lit) → IsWithin l.size m → IsTrue (is_among (take l.l-index l.lits) m) →
+  unmarked : (m : Lit) → IsTrue (is_among (take l.l-index l.lits) m) →
       is_set l.marks (slot_of m.code) ≡ false;
   others : (at : ℕ) → is_set l.initial.marks at ≡ false → is_set l.marks at ≡ false;
 }

@@ -1,7 +1,7 @@
 use Rattle.std.proofs.Common.{◌<◌, length, None, ap, sym, ◌∙◌}
 use Rattle.std.specs.Prelude.{is_some}
 use Rattle.std.proofs.lemmas.List.{get_or_default}
-use Rattle.sat_check.proofs.DerivedLaws.{changes_cell, changes_others, is_some-now}
+use Rattle.sat_check.proofs.DerivedLaws.{changes_cell, changes_others, is_some-lits}
 use Rattle.sat_check.proofs.derived_clauses.DerivedClauses.take_out.Goals as goal
 
 pub returns-in_default-clause-found : goal.returns-in_default-clause-found
@@ -9,7 +9,7 @@ returns-in_default-clause-found c =
     let p = c.self.inside in
     let none = rw (c.len.ensures, p.table.ok.0) at c.in_default.ensures.value in
     rw (← c.self.view_is, ← none) (c.is_some.ensures ∙ ap is_some c.swap_remove.ensures.value
-    ∙ is_some-now _)
+    ∙ is_some-lits _)
 
 pub returns-in_default-clause-clauses : goal.returns-in_default-clause-clauses
 returns-in_default-clause-clauses c =
@@ -27,7 +27,7 @@ returns-clause-found c =
     rw (← p.table.ok.0, ← c.len.ensures) c.in-Some.ensures.within in
     let cell = c.index.ensures ∙ get_or_default p.table.items c.in-Some.at c.index.result.now None
     within in
-    rw (← c.self.view_is, ← some) (c.is_some-found.ensures ∙ ap is_some cell ∙ is_some-now _)
+    rw (← c.self.view_is, ← some) (c.is_some-found.ensures ∙ ap is_some cell ∙ is_some-lits _)
 
 pub returns-clause-clauses : goal.returns-clause-clauses
 returns-clause-clauses c =

@@ -7,9 +7,10 @@ invariant_of-self c =
     let marks = c.self.inside.marks in
     record {
       many = omega (arith, c.unmark.ensures.many, c.self.invariant.many);
+      few = c.self.invariant.few;
       within = rw c.clear.ensures.items (λ k d none. absurd (omega arith));
       marked = rw c.clear.ensures.items
-          (none_is_marked c.self.inside.size marks c.unmark.new.marks c.self.inside.trail.items
+          (none_is_marked marks c.unmark.new.marks c.self.inside.trail.items
           c.self.invariant.marked (simp c.deref.ensures.value at c.unmark.ensures.unmarked)
           c.unmark.ensures.others);
     }
