@@ -1,3 +1,4 @@
+pub mod AheadLemmas
 pub mod AdditionLemmas
 pub mod CnfBack
 pub mod CnfLemmas

@@ -17,14 +17,14 @@ use Rattle.fpga_text.proofs.PrintedWords.{both-pass, is_line_byte, lacks, line-n
 use Rattle.sat_clause.specs.Literal.{Clause, IsWithin}
 use Rattle.sat_clause.specs.Step.{Step, Added, Erased}
 use Rattle.sat_text.specs.ByNumbers.{step_line_fault}
-use Rattle.sat_text.specs.LratText.{ReadsLrat, added_limit, added_step, due_words, erased_limit, erased_step, first_past, is_below_zero, is_deletion, is_not_positive, raised, said_step, steps_of}
+use Rattle.sat_text.specs.LratText.{faults_above, ReadsLrat, added_limit, added_step, due_words, erased_limit, erased_step, first_past, is_below_zero, is_deletion, is_not_positive, raised, said_step, steps_of}
 use Rattle.sat_text.specs.Numbers.{is_number, is_zero, lacks_number, numbers_of}
 use Rattle.sat_text.specs.Printed.{literal_text, log_text, number_text, step_text}
 use Rattle.sat_text.specs.ReadBack.{IsIdNumber, IsPrintableStep, IsPrintableLog}
 use Rattle.sat_text.specs.ToldLines.{told}
 use Rattle.sat_text.proofs.DraftLemmas.{lits_of_codes, no_zeros, not_zero}
 use Rattle.sat_text.proofs.FrontLemmas.{not_letter}
-use Rattle.sat_text.proofs.LratLemmas.{but_last-last, by_numbers, deleted_ids-closed, ends_with_zero-last, faults_above, lrat_faults-from}
+use Rattle.sat_text.proofs.LratLemmas.{but_last-last, by_numbers, deleted_ids-closed, ends_with_zero-last, lrat_faults-from}
 use Rattle.sat_text.proofs.NumberLines.{IsSmall, IsTold, codes_of, lacks_number-printed, literal_text-numbers, no_comment-number, number_line, numbers_of-printed, small_codes, told-all, told-line, whole-line, words-line}
 
 -- the numbers of a line that adds a clause, but for the last 0

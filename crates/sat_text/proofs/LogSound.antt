@@ -14,13 +14,13 @@ use Rattle.sat_clause.specs.Literal.{IsWithin, lit}
 use Rattle.sat_clause.specs.Step.{Step, Added, Erased}
 use Rattle.sat_text.specs.ByNumbers.{step_fault, step_line_fault}
 use Rattle.sat_text.specs.CnfText.{but_last}
-use Rattle.sat_text.specs.LratText.{ReadsLrat, added_by, added_limit, deleted_ids, due_words, ends_with_zero, erased_limit, first_past, has_no_id, is_below_zero, is_deletion, is_not_positive, raised, said_step, step_of, steps_of}
+use Rattle.sat_text.specs.LratText.{faults_above, ReadsLrat, added_by, added_limit, deleted_ids, due_words, ends_with_zero, erased_limit, first_past, has_no_id, is_below_zero, is_deletion, is_not_positive, raised, said_step, step_of, steps_of}
 use Rattle.sat_text.specs.Numbers.{is_zero, lacks_number, numbers_of}
 use Rattle.sat_text.specs.Printed.{log_text}
 use Rattle.sat_text.specs.ReadBack.{IsIdNumber, IsPrintableStep, IsPrintableLog}
 use Rattle.sat_text.specs.ToldLines.{told_lines}
 use Rattle.sat_text.proofs.LogBack.{printed_log_reads}
-use Rattle.sat_text.proofs.LratLemmas.{by_numbers, codes_of_lits, faults_above, lrat_faults-from, none_past}
+use Rattle.sat_text.proofs.LratLemmas.{by_numbers, codes_of_lits, lrat_faults-from, none_past}
 
 -- there is no fault, so this one is not it
 not_first : (b : Bool) (fault : TextFault) (rest : Option TextFault)

@@ -1,6 +1,6 @@
 -- The numbers of a line of an LRAT text, and the step that they say.
-use Rattle.std.proofs.Common.{◌≡◌, ◌<◌, ◌≤◌, ◌+◌, ℕ, zero, suc, ℤ, pos, negsuc, Bool, false, true, List, [], ◌∷◌, ◌++◌, length, take, drop, slice_get, Option, None, Some, Result, refl, sym, ap, subst, ◌∙◌, arith, add-one, append_assoc}
-use Rattle.std.specs.Prelude.{All, fold, map, nat_abs, slice_index_or, if◌then◌else◌, nat_le, nat_lt, ◌==◌, ◌||◌, is_none, option_and_then, option_map, option_to_list}
+use Rattle.std.proofs.Common.{◌≡◌, ◌<◌, ◌≤◌, ◌+◌, ℕ, zero, suc, ℤ, pos, negsuc, Bool, false, true, List, [], ◌∷◌, ◌++◌, length, take, drop, slice_get, Option, None, Some, Result, refl, sym, ap, subst, ◌∙◌, arith, add-one}
+use Rattle.std.specs.Prelude.{All, fold, map, nat_abs, slice_index_or, if◌then◌else◌, nat_le, nat_lt, ◌==◌, ◌||◌, is_none, option_and_then, option_map}
 use Rattle.std.specs.List.{list_any, slice_split, onto_first, cons_option}
 use Rattle.std.proofs.lemmas.List.Splits.{slice_split_at, slice_split_none, length-slice_split}
 use Rattle.std.specs.Option.{option_or}
@@ -8,7 +8,7 @@ use Rattle.fpga_text.specs.declared.fault.TextFault.{TextFault}
 use Rattle.fpga_text.specs.declared.fault.TextFault.TheVariants.{Bad, Limit}
 use Rattle.fpga_text.specs.Bytes.{Bytes}
 use Rattle.fpga_text.specs.FirstFault.{AnswersFault, Faults}
-use Rattle.fpga_text.specs.Codes.{faults_from, line_fault, numbered_words}
+use Rattle.fpga_text.specs.Codes.{line_fault, numbered_words}
 use Rattle.fpga_text.specs.Numbers.{signed_number_of}
 use Rattle.fpga_text.specs.Words.{TextLine, Words, line_count, line_words}
 use Rattle.fpga_text.proofs.CodeLemmas.{faults_behind-from}
@@ -21,7 +21,7 @@ use Rattle.sat_text.specs.CnfText.{but_last}
 use Rattle.sat_text.specs.FrontNumbers.{TakesFront}
 use Rattle.sat_text.specs.Numbers.{is_zero, numbers_of, lacks_number}
 use Rattle.sat_text.specs.ToldLines.{told_lines}
-use Rattle.sat_text.specs.LratText.{added_by, added_limit, begins_with_d, deleted_ids, due_words, ends_with_zero, erased_limit, first_past, has_negative_hint, has_no_id, is_below_zero, is_deletion, is_out_of_order, lrat_codes, lrat_faults, past_number_limit, raised, raised_by, said_step, step_of, steps_of}
+use Rattle.sat_text.specs.LratText.{added_by, added_limit, begins_with_d, deleted_ids, due_words, ends_with_zero, erased_limit, faults_above, first_past, has_negative_hint, has_no_id, is_below_zero, is_deletion, is_out_of_order, lrat_codes, lrat_faults, past_number_limit, raised, raised_by, said_step, step_of, steps_of}
 
 -- the front numbers are not 0
 pub all_before : (numbers : List ℤ) (i : ℕ)
@@ -225,10 +225,6 @@ pub context_of-push : (inputs : ℕ) (before : List Words) (words : Words)
 context_of-push inputs [] words = refl
 context_of-push inputs (first ∷ more) words = context_of-push (raised_by inputs first) more words
 
--- the faults of the lines behind ids up to this one
-abbrev pub faults_above : ℕ → List TextLine → ℕ → Faults
-faults_above above lines end = faults_from raised_by (lrat_codes 0) above (numbered_words lines) end
-
 -- the faults of a text are those behind the ids of its input clauses
 pub lrat_faults-from : (inputs : ℕ) (text : Bytes) → lrat_faults inputs text
     ≡ faults_above inputs (told_lines text) (line_count text + 1)
@@ -245,19 +241,13 @@ step_past all above now end ahead more line is past clean raise =
     subst (λ (n : ℕ). IsPast all (faults_above n more end)) (sym raise)
     (past-line {fault = step_line_fault above line} (rw is at past) clean)
 
--- and its step, if it says one
-pub step_taken : (all done now : List Step) (ahead more : List TextLine) (line : TextLine) → ahead
-    ≡ line ∷ more → done ++ steps_of (line_words ahead) ≡ all
-    → now ≡ done ++ option_to_list (said_step line.words) → now ++ steps_of (line_words more) ≡ all
-step_taken all done now ahead more line is whole taken =
-    ap (λ (l : List Step). l ++ steps_of (line_words more)) taken
-    ∙ append_assoc done (option_to_list (said_step line.words)) (steps_of (line_words more))
-    ∙ ap (λ (l : List Step). done ++ l) (go (said_step line.words)) ∙ rw is at whole
-  where
-    go : (step : Option Step) → option_to_list step ++ steps_of (line_words more)
-        ≡ cons_option step (steps_of (line_words more))
-    go None = refl
-    go (Some step) = refl
+-- and its step
+pub step_taken : (ahead more : List TextLine) (line : TextLine) (step : Step) → ahead ≡ line ∷ more
+    → said_step line.words ≡ Some step
+    → steps_of (line_words ahead) ≡ step ∷ steps_of (line_words more)
+step_taken ahead more line step is said =
+    ap (λ (l : List TextLine). steps_of (line_words l)) is
+    ∙ ap (λ (o : Option Step). cons_option o (steps_of (line_words more))) said
 
 -- the numbers of a line were taken: the first, and those behind it or behind a `d`
 pub due_front : (words behind rest : Words) (n : ℤ) (more : List ℤ) (d : Bool) → Some n

@@ -4,11 +4,12 @@ pub mod Causes
 pub mod CnfText
 pub mod Drafts
 pub mod FrontNumbers
-pub mod LogDrafts
+pub mod LogAhead
 pub mod LratText
 pub mod Numbers
 pub mod Printed
 pub mod ReadBack
 pub mod Rows
+pub mod StepDrafts
 pub mod Steps
 pub mod ToldLines

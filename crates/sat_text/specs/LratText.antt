@@ -4,8 +4,8 @@ use Rattle.std.specs.Prelude.{◌≡◌, ℕ, ◌+◌, drop, fold, is_none, max,
 use Rattle.std.specs.List.{list_any, slice_split}
 use Rattle.std.specs.Option.{option_or}
 use Rattle.fpga_text.specs.Bytes.{Bytes}
-use Rattle.fpga_text.specs.Words.{Words, line_count, line_words}
-use Rattle.fpga_text.specs.Codes.{Codes, At, Past, text_faults}
+use Rattle.fpga_text.specs.Words.{TextLine, Words, line_count, line_words}
+use Rattle.fpga_text.specs.Codes.{Codes, At, Past, faults_from, numbered_words, text_faults}
 use Rattle.fpga_text.specs.FirstFault.{Faults, IsFaultless}
 use Rattle.sat_clause.specs.declared.limits.TheConstants.{ID_LIMIT, VARIABLE_LIMIT}
 use Rattle.sat_clause.specs.Literal.{Clause, lit}
@@ -144,6 +144,10 @@ lrat_codes inputs = record {
 -- the faults of a text that goes with so many input clauses
 abbrev pub lrat_faults : ℕ → Bytes → Faults
 lrat_faults inputs text = text_faults (lrat_codes inputs) (told_lines text) (line_count text + 1)
+
+-- the faults of lines behind ids up to this one, and of the end, which has this number
+abbrev pub faults_above : ℕ → List TextLine → ℕ → Faults
+faults_above above lines end = faults_from raised_by (lrat_codes 0) above (numbered_words lines) end
 
 -- the steps that lines with these words say
 abbrev pub steps_of : List Words → List Step

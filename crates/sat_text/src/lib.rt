@@ -7,10 +7,11 @@ mod draft;
 mod front_numbers;
 mod head;
 mod laws;
-mod log_draft;
+mod log_lines;
 mod number;
 mod read;
 mod row;
+mod step_draft;
 mod step_line;
 #[cfg(test)]
 mod tests;
@@ -19,6 +20,7 @@ mod write;
 mod write_log;
 
 pub use laws::{printed_formulas_read_back, printed_logs_read_back};
+pub use log_lines::LogLines;
 pub use read::{read_cnf, read_lrat};
 pub use write::{CnfText, write_cnf};
 pub use write_log::{LratText, write_lrat};

@@ -1,20 +1,22 @@
 //! Reading CNF and LRAT texts.
-ghost use Rattle.std.specs.Prelude.{◌≡◌};
+ghost use Rattle.std.specs.Prelude.{◌≡◌, ◌∷◌, ◌++◌, [], OnOk, All};
 ghost use Rattle.fpga_text.specs.FirstFault.{Answers};
 ghost use Rattle.sat_text.specs.Bodies.{TakesBody, body_faults};
 ghost use Rattle.sat_text.specs.CnfText.{cnf_faults, cnf_said};
 ghost use Rattle.sat_text.specs.Drafts.{head_in};
+ghost use Rattle.sat_clause.specs.Literal.{IsLiteral};
 ghost use Rattle.sat_text.specs.LratText.{lrat_faults, lrat_said};
+ghost use Rattle.sat_text.specs.Steps.{viewed};
 ghost use Rattle.sat_text.specs.ToldLines.{told};
 
 use crate::cause::Cause;
 use crate::draft::Draft;
 use crate::head::read_head;
-use crate::log_draft::LogDraft;
+use crate::log_lines::LogLines;
 use crate::told::next_told;
 use fpga_text::{Coded, Lines, Style, TextFault};
-use sat_clause::{Formula, Log};
-use std::alloc::Global;
+use sat_clause::{Formula, Log, StepView};
+use std::alloc::{AllocError, Global};
 
 /// Takes the lines behind the head line.
 fn take_body(draft: &mut Draft, lines: &mut Lines<'_>) -> Result<(), TextFault>
@@ -74,6 +76,22 @@ pub fn read_cnf(alloc: Global, bytes: &[u8]) -> Result<Formula, TextFault>
     Ok(formula)
 }
 
+/// Adds a step to a log.
+fn add_step(log: &mut Log, step: StepView<'_>) -> Result<(), AllocError>
+    requires { All IsLiteral step.lits.now }
+    ensures { OnOk result (log.new.steps ≡ log.old.steps ++ viewed step.entry ∷ []) }
+{
+    let Ok(()) = log.reserve(1, step.lits.len() as u64 + step.hints.len() as u64) else {
+        return Err(AllocError);
+    };
+    if step.erase {
+        log.erase(step.id, step.hints);
+        return Ok(());
+    }
+    log.add(step.id, step.lits, step.hints);
+    Ok(())
+}
+
 /// The log that an LRAT text says which goes with so many input clauses, in the format of
 /// Cruz-Filipe, Heule, Hunt, Kaufmann and Schneider-Kamp (2017) without steps that resolve on a
 /// first literal. The text is read once.
@@ -91,19 +109,18 @@ pub fn read_lrat(alloc: Global, bytes: &[u8], inputs: u32) -> Result<Log, TextFa
     ensures { Answers (lrat_faults inputs bytes.now)
         (λ log. log.steps ≡ lrat_said bytes.now) result }
 {
-    let mut lines = Lines::new(bytes, Style::Plain);
-    let mut log_draft = LogDraft::new(alloc, inputs);
-    while let Some(mut line) = next_told(&mut lines) {
-        match log_draft.take_line(&mut line) {
-            Ok(()) => {}
+    let mut log = Log::new(alloc);
+    let mut lines = LogLines::new(alloc, bytes, inputs);
+    loop {
+        let more = match lines.read_next() {
+            Ok(more) => more,
             Err(fault) => return Err(fault),
+        };
+        if !more {
+            return Ok(log);
         }
+        let Ok(()) = add_step(&mut log, lines.step()) else {
+            return Err(TextFault::Memory);
+        };
     }
-    let LogDraft {
-        log,
-        above: _,
-        numbers: _,
-        lits: _,
-    } = log_draft;
-    Ok(log)
 }

@@ -3,8 +3,8 @@ use Rattle.std.specs.Prelude.{nat_abs}
 use Rattle.std.proofs.lemmas.Int.{to_z-of_z}
 use Rattle.sat_text.proofs.AdditionLemmas.{AddsClause, IsAbove, addition_taken, greater, is_above}
 use Rattle.sat_text.proofs.FrontLemmas.{same_number}
-use Rattle.sat_text.proofs.log_draft.LogDraft.take_faultless_addition.Goals as goal
-use Rattle.sat_text.proofs.log_draft.LogDraft.take_faultless_addition.Goals.{After-add}
+use Rattle.sat_text.proofs.step_draft.StepDraft.take_faultless_addition.Goals as goal
+use Rattle.sat_text.proofs.step_draft.StepDraft.take_faultless_addition.Goals.{After-add}
 
 same : (c : After-add) → to_z w64 (of_z w64 c.in-Some.id) ≡ c.in-Some.id
 same c = same_number (slice_get c.args.line.now.words 0) c.in-Some.id c.in-Some.ensures.number
@@ -44,13 +44,8 @@ returns-clause-step c _ =
     let at = (goal.at.returns-clause-step c).After-add in
     let said = (taken at).said in
     let over = above at in
-    rw (said, same at) (record {
-      steps = rw (
-        c.add.ensures.steps,
-        c.in-Ok.ensures.kept,
-        c.deref.ensures.value,
-        c.deref-2.ensures.value,
-        same at,
-      ) refl;
-      above = greater c.args.self.now.above (nat_abs c.in-Some.id) over.over;
+    rw said (record {
+      says = rw (c.add.ensures.step, same at) refl;
+      above = rw (c.add.ensures.above, same at)
+          (greater c.args.self.now.above (nat_abs c.in-Some.id) over.over);
     })

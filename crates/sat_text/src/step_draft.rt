@@ -1,25 +1,30 @@
-//! A log as far as it was read.
+//! The step of a line of an LRAT text.
 ghost use Rattle.std.specs.Prelude.{◌≡◌, [], true, false, None, OnOk, IsTrue, map, All};
 ghost use Rattle.sat_clause.specs.Literal.{IsLiteral, lit};
+ghost use Rattle.sat_clause.specs.Step.{Added};
 ghost use Rattle.fpga_text.specs.FirstFault.{AnswersFault};
 ghost use Rattle.sat_text.specs.ByNumbers.{numbers_fault, step_line_fault};
 ghost use Rattle.sat_text.specs.LratText.{said_step, step_of};
+ghost use Rattle.sat_text.specs.Steps.{viewed};
 
 use crate::front_numbers::{front_hints, front_literals};
 use crate::step_line::{MOST_ID, addition_said, deletion_said, read_numbers};
 use fpga_text::{Line, TextFault};
-use sat_clause::{Lit, Log};
+use sat_clause::{Lit, StepView};
 use std::alloc::{AllocError, Global};
 
-/// The steps that were read, and the number that the id of the next added clause has to be above.
-/// The numbers and the literals are those of the line that was read last: each line reuses their
-/// room.
+/// The step of the line that was read last, and the number that the id of the next added clause has
+/// to be above. The hints of a deletion are the ids that it deletes. Each line reuses the room of
+/// the one before, and `numbers` too. Where a line is refused, what stands here is no step of it.
 #[derive(Drop)]
-pub struct LogDraft {
-    pub log: Log,
+pub struct StepDraft {
+    pub id: u32,
+    pub erase: bool,
+    pub lits: Vec<Lit>,
+    pub hints: Vec<i64>,
     pub above: u32,
     pub numbers: Vec<i64>,
-    pub lits: Vec<Lit>,
+    ghost literals: { erase ≡ false → All IsLiteral lits.items },
 }
 
 /// Puts the literals with these numbers in place of these.
@@ -36,20 +41,65 @@ fn read_literals(lits: &mut Vec<Lit>, numbers: &[i64]) -> Result<(), AllocError>
     Ok(())
 }
 
-impl LogDraft {
-    ghost use Rattle.sat_text.specs.LogDrafts.{TakesStep};
+/// Puts these numbers in place of the others.
+fn put_numbers(numbers: &mut Vec<i64>, others: &[i64]) -> Result<(), AllocError>
+    ensures { OnOk result (numbers.new.items ≡ others.now) }
+{
+    numbers.clear();
+    let Ok(()) = numbers.extend_from_slice(others) else {
+        return Err(AllocError);
+    };
+    Ok(())
+}
 
-    /// Nothing was read of a log that goes with so many input clauses.
-    pub fn new(alloc: Global, inputs: u32) -> LogDraft
-        ensures steps { result.log.steps ≡ [] }
-        ensures above { result.above ≡ inputs }
+impl StepDraft {
+    ghost use Rattle.sat_text.specs.StepDrafts.{TakesStep, held};
+
+    /// No line was read of a log that goes with so many input clauses.
+    pub fn new(alloc: Global, inputs: u32) -> StepDraft
+        ensures { result.above ≡ inputs }
     {
-        LogDraft {
-            log: Log::new(alloc),
+        StepDraft {
+            id: 0,
+            erase: true,
+            lits: Vec::new(alloc),
+            hints: Vec::new(alloc),
             above: inputs,
             numbers: Vec::new(alloc),
-            lits: Vec::new(alloc),
         }
+    }
+
+    /// The step.
+    pub fn step(&self) -> StepView<'_>
+        ensures value { viewed result ≡ held self.now }
+        ensures literals { All IsLiteral result.lits.now }
+        ensures none { IsTrue result.erase → result.lits.now ≡ [] }
+    {
+        if self.erase {
+            return StepView {
+                id: self.id,
+                erase: true,
+                lits: &[],
+                hints: &self.hints,
+            };
+        }
+        StepView {
+            id: self.id,
+            erase: false,
+            lits: &self.lits,
+            hints: &self.hints,
+        }
+    }
+
+    /// Makes the step one that adds the clause that stands here, with the hints, under this id.
+    fn add(&mut self, id: u32)
+        requires { All IsLiteral self.old.lits.items }
+        ensures step { held self.new ≡ Added id self.old.lits.items self.old.hints.items }
+        ensures above { self.new.above ≡ id }
+    {
+        self.id = id;
+        self.erase = false;
+        self.above = id;
     }
 
     /// Takes the deletion that the numbers say.
@@ -61,10 +111,11 @@ impl LogDraft {
             Ok(said) => said,
             Err(fault) => return Err(fault),
         };
-        let Ok(()) = self.log.reserve(1, said.ids.len() as u64) else {
+        let Ok(()) = put_numbers(&mut self.hints, said.ids) else {
             return Err(TextFault::Memory);
         };
-        self.log.erase(said.id, said.ids);
+        self.id = said.id;
+        self.erase = true;
         Ok(())
     }
 
@@ -77,17 +128,15 @@ impl LogDraft {
             Ok(said) => said,
             Err(fault) => return Err(fault),
         };
+        self.erase = true;
         let Ok(()) = read_literals(&mut self.lits, said.lits) else {
             return Err(TextFault::Memory);
         };
-        let Ok(()) = self
-            .log
-            .reserve(1, said.lits.len() as u64 + said.hints.len() as u64)
-        else {
+        let Ok(()) = put_numbers(&mut self.hints, said.hints) else {
             return Err(TextFault::Memory);
         };
-        self.log.add(said.id, &self.lits, said.hints);
-        self.above = said.id;
+        let id = said.id;
+        self.add(id);
         Ok(())
     }
 
@@ -96,28 +145,22 @@ impl LogDraft {
     fn take_faultless_addition(&mut self, line: &mut Line<'_>) -> bool
         ensures clean { IsTrue result → step_line_fault self.old.above line.old ≡ None }
         ensures step { IsTrue result → TakesStep self.old self.new (said_step line.old.words) }
-        ensures kept { result ≡ false → TakesStep self.old self.new None }
+        ensures kept { result ≡ false → self.new.above ≡ self.old.above }
     {
+        self.erase = true;
         let Some(id) = line.next_number() else {
             return false;
         };
         if id <= i64::from(self.above) || id as u64 > MOST_ID {
             return false;
         }
-        if !front_literals(&mut self.lits, line) || !front_hints(&mut self.numbers, line) {
+        if !front_literals(&mut self.lits, line) || !front_hints(&mut self.hints, line) {
             return false;
         }
         if line.has_words() {
             return false;
         }
-        let Ok(()) = self
-            .log
-            .reserve(1, self.lits.len() as u64 + self.numbers.len() as u64)
-        else {
-            return false;
-        };
-        self.log.add(id as u32, &self.lits, &self.numbers);
-        self.above = id as u32;
+        self.add(id as u32);
         true
     }
 
