@@ -1,5 +1,5 @@
--- The files of a job in the order in which they are written, and what a run leaves of them, whatever
--- fails.
+-- The files of a job in the order in which they are written, and what a run leaves of them,
+-- whatever fails.
 use Rattle.std.specs.Prelude.{◌≡◌, ◌≢◌, ◌⊎◌, ℕ, ◌≤◌, ◌++◌, List, [], ◌∷◌, flat_map, length, map, take, Ok, Option, None, option_and_then}
 use Rattle.std.specs.List.{All}
 use Rattle.std.specs.Option.{ForSome}
@@ -101,8 +101,8 @@ pub record AreGenerated (words : List Word) (files : List JobFile) : Type 0 wher
   pub room : HasRoom job.recipe
   pub order : files ≡ in_slots problem_slots (generated_files job.recipe job.prefix)
 
--- the files that the words ask for, in the order in which they are written; none where the work does
--- not come to a file
+-- the files that the words ask for, in the order in which they are written; none where the work
+-- does not come to a file
 abbrev pub AreFilesOf : List Word → (desk : Option FileMap) → List JobFile → Type 0
 AreFilesOf words desk files =
     AreSearched words desk files ⊎ AreEncoded words desk files ⊎ AreGenerated words files

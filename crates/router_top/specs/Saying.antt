@@ -24,8 +24,8 @@ pub record IsTrialLine (words : List Word) (lead : Bytes) : Type 0 where
   pub makes : Makes job.recipe p
   pub is : lead ≡ trial_line p
 
--- what is said before the report line: the trial line; or nothing, since the words ask for no trial,
--- or for one of a problem that was not made or is too large
+-- what is said before the report line: the trial line; or nothing, since the words ask for no
+-- trial, or for one of a problem that was not made or is too large
 abbrev pub IsLead : List Word → Outcome → Bytes → Type 0
 IsLead words outcome lead =
     IsTrialLine words lead

@@ -1,9 +1,12 @@
 //! The command `check`: whether a log refutes a formula.
-ghost use Rattle.std.specs.Prelude.{◌≡◌, IfErr, IfOk};
+ghost use Rattle.std.specs.Prelude.{◌≡◌, IfErr, IfOk, length};
+ghost use Rattle.fpga_text.specs.FirstFault.{Answers};
+ghost use Rattle.sat_check.specs.Verdict.{judgement_of};
+ghost use Rattle.sat_clause.specs.Judge.{judge};
 ghost use Rattle.sat_text.specs.CnfText.{cnf_said};
-ghost use Rattle.sat_text.specs.LratText.{lrat_said};
+ghost use Rattle.sat_text.specs.LratText.{lrat_faults, lrat_said};
 ghost use Rattle.router_words.specs.Job.{check_said};
-ghost use Rattle.router_top.specs.Check.{ChecksTo, cnf_source, lrat_source};
+ghost use Rattle.router_top.specs.Check.{ChecksTo, SaysOf, cnf_source, lrat_source};
 ghost use Rattle.router_top.specs.Report.{IsReadFault, IsReadFaultErr};
 ghost use Rattle.router_top.specs.Sources.{IsStopped, Says};
 
@@ -12,10 +15,11 @@ use crate::outcome::Outcome;
 use crate::source::{read_bytes, refused};
 use crate::text_file::TextFile;
 use desk_io::Desk;
+use fpga_text::TextFault;
 use router_words::CheckJob;
-use sat_check::{Verdict, check};
-use sat_clause::{Formula, Log};
-use sat_text::{read_cnf, read_lrat};
+use sat_check::{Replay, Verdict};
+use sat_clause::Formula;
+use sat_text::{LogLines, read_cnf};
 use std::alloc::Global;
 
 // The formula of a CNF file. The error is what the run comes to, here and below.
@@ -38,12 +42,42 @@ fn read_formula<D: Desk>(alloc: Global, desk: &mut D, name: &str) -> Result<Form
     }
 }
 
-// The log of an LRAT file that goes with so many input clauses.
-fn read_log<D: Desk>(alloc: Global, desk: &mut D, name: &str, inputs: u32) -> Result<Log, Outcome>
-    ensures says { IfOk result (λ log. Says (D.state desk.old).files
-        (lrat_source name.now inputs) lrat_said log.steps) }
-    ensures stop { IfErr result
-        (IsStopped (D.state desk.old) (D.state desk.new) (lrat_source name.now inputs)) }
+// What the steps of an LRAT text say of the formula. Each step is judged as it is read, and the
+// clauses that it adds are kept as long as they are live. What stands behind the end of the judging
+// is read for faults alone.
+fn replay_text(alloc: Global, formula: &Formula, text: &[u8]) -> Result<Verdict, TextFault>
+    ensures { Answers (lrat_faults (length formula.now.cnf.clauses) text.now)
+        (λ verdict. judgement_of verdict ≡ judge formula.now.cnf (lrat_said text.now)) result }
+{
+    let Ok(mut replay) = Replay::new(alloc, formula) else {
+        return Err(TextFault::Memory);
+    };
+    let mut lines = LogLines::new(alloc, text, formula.len());
+    loop {
+        let more = match lines.read_next() {
+            Ok(more) => more,
+            Err(fault) => return Err(fault),
+        };
+        if !more {
+            return Ok(replay.verdict());
+        }
+        let Ok(()) = replay.take(lines.step()) else {
+            return Err(TextFault::Memory);
+        };
+    }
+}
+
+// What the log of an LRAT file says of the formula.
+fn replay_file<D: Desk>(
+    alloc: Global,
+    desk: &mut D,
+    name: &str,
+    formula: &Formula,
+) -> Result<Verdict, Outcome>
+    ensures says { IfOk result (λ verdict. SaysOf (D.state desk.old).files name.now
+        formula.now.cnf (judgement_of verdict)) }
+    ensures stop { IfErr result (IsStopped (D.state desk.old) (D.state desk.new)
+        (lrat_source name.now (length formula.now.cnf.clauses))) }
     ensures files { (D.state desk.new).files ≡ (D.state desk.old).files }
     ensures quiet { ¬ IsReadFaultErr result
         → (D.state desk.new).faults ≡ (D.state desk.old).faults }
@@ -52,13 +86,13 @@ fn read_log<D: Desk>(alloc: Global, desk: &mut D, name: &str, inputs: u32) -> Re
         Ok(text) => text,
         Err(outcome) => return Err(outcome),
     };
-    match read_lrat(alloc, &text, inputs) {
-        Ok(log) => Ok(log),
+    match replay_text(alloc, formula, &text) {
+        Ok(verdict) => Ok(verdict),
         Err(fault) => Err(refused(TextFile::Lrat, fault)),
     }
 }
 
-/// Reads the two files, and replays the log.
+/// Reads the formula, and replays the log as it reads it.
 pub fn check_files<D: Desk>(alloc: Global, job: &CheckJob<'_>, desk: &mut D) -> Outcome
     ensures checks { ChecksTo (IsStopped (D.state desk.old) (D.state desk.new))
         (D.state desk.old).files (check_said job.now) result }
@@ -69,16 +103,15 @@ pub fn check_files<D: Desk>(alloc: Global, job: &CheckJob<'_>, desk: &mut D) -> 
         Ok(formula) => formula,
         Err(outcome) => return outcome,
     };
-    let log = match read_log(alloc, desk, job.lrat, formula.len()) {
-        Ok(log) => log,
+    let verdict = match replay_file(alloc, desk, job.lrat, &formula) {
+        Ok(verdict) => verdict,
         Err(outcome) => return outcome,
     };
-    match check(alloc, &formula, &log) {
-        Ok(Verdict::Accepted) => Outcome::Accepted,
-        Ok(Verdict::Refused { step, cause }) => Outcome::NotAccepted {
+    match verdict {
+        Verdict::Accepted => Outcome::Accepted,
+        Verdict::Refused { step, cause } => Outcome::NotAccepted {
             step,
             cause: cause.number(),
         },
-        Err(_) => Outcome::OutOfMemory,
     }
 }

@@ -82,14 +82,14 @@ fn say_report<S: Shelf>(shelf: &mut S, outcome: Outcome) -> Outcome
 /// its pairs of slots of different nets in one cell, and writes what `sweep` would write if it read
 /// these four files. Both read no file.
 ///
-/// Whatever fails, the files of a job are written in one order, and no other file changes. Where the
-/// shelf fails on one, those before it are whole, it holds a front part of its text or was not
-/// created, and those behind it are as they were; after any other answer each file that was begun is
-/// whole. What is said is a front part of the trial line and the report line, and all of both where
-/// the shelf has not failed.
+/// Whatever fails, the files of a job are written in one order, and no other file changes. Where
+/// the shelf fails on one, those before it are whole, it holds a front part of its text or was not
+/// created, and those behind it are as they were; after any other answer each file that was begun
+/// is whole. What is said is a front part of the trial line and the report line, and all of both
+/// where the shelf has not failed.
 ///
-/// After want of memory the files of a `sweep` or a `trial` are those of lower widths, and of another
-/// command there is none. The files of the desk stay in any case.
+/// After want of memory the files of a `sweep` or a `trial` are those of lower widths, and of
+/// another command there is none. The files of the desk stay in any case.
 pub fn run<D: Desk, S: Shelf>(
     alloc: Global,
     words: &[String],

@@ -118,6 +118,16 @@ fn a_refutation_is_written_and_accepted(rt: HostRuntime) -> Result<(), Fail> {
     assert_eq!(rt; cnf, TWO_CNF.as_bytes());
     let lrat = shelf.file("out.lrat").ok_or("no log")?;
     assert_eq!(rt; checked(alloc, cnf, lrat)?, Outcome::Accepted);
+    let with_deletions = b"4 -1 0 2 3 0\n4 d 3 2 0\n5 0 1 4 0\n".as_slice();
+    assert_eq!(rt; checked(alloc, cnf, with_deletions)?, Outcome::Accepted);
+    // A fault behind the empty clause is told.
+    let with_a_fault = b"4 -1 0 2 3 0\n4 d 3 2 0\n5 0 1 4 0\n6 x 0\n".as_slice();
+    let fault = Outcome::InputFault {
+        file: TextFile::Lrat,
+        line: 4,
+        code: 701,
+    };
+    assert_eq!(rt; checked(alloc, cnf, with_a_fault)?, fault);
     Ok(())
 }
 
