@@ -5,8 +5,8 @@ use crate::stop::{LineFault, RowStop, RowsError};
 use crate::texts::Texts;
 use std::alloc::{AllocError, Global};
 
-/// How many cases hold, and how many do not; and in how many runs of those that hold calls failed one
-/// after the other.
+/// How many cases hold, and how many do not; and in how many runs of those that hold calls failed
+/// one after the other.
 #[derive(Clone, Copy)]
 pub struct Tally {
     pub holding: u64,
@@ -25,8 +25,8 @@ fn at_line(alloc: Global, fault: LineFault, line: &str) -> RowStop {
     }
 }
 
-// Judges a case: takes its lines, runs at each `then`, and at the end, and then once for each call that
-// is to fail; gives how many runs these were.
+// Judges a case: takes its lines, runs at each `then`, and at the end, and then once for each call
+// that is to fail; gives how many runs these were.
 fn judge(
     alloc: Global,
     texts: &mut Texts,
@@ -59,8 +59,8 @@ fn add_part(alloc: Global, texts: &mut Texts, name: &str, lines: &[&str]) -> Res
     Ok(0)
 }
 
-/// Judges the cases of a file, and prints a line for each that does not hold. They can cite the parts
-/// of the files before.
+/// Judges the cases of a file, and prints a line for each that does not hold. They can cite the
+/// parts of the files before.
 pub fn judge_file(
     rt: &impl Print,
     alloc: Global,

@@ -161,8 +161,8 @@ impl Row {
     }
 
     /// Runs with calls that fail, with one number after the other up to the first at which none
-    /// does, and compares what comes; gives how many runs met a fault. Without a fault the shelf was
-    /// left like this.
+    /// does, and compares what comes; gives how many runs met a fault. Without a fault the shelf
+    /// was left like this.
     pub fn play_series(&self, whole: &MemShelf) -> Result<u64, RowStop>
         ensures { OnOk result (ForSome self.now.series.failing
             (λ failing. HasCome self.now.wants self.now.series whole.now)) }
