@@ -38,3 +38,7 @@ is_code code =
     is_architecture_code code || is_netlist_code code || is_placement_code code
     || is_route_code code || is_fit_code code || is_clause_code code || is_log_code code
     || is_judge_code code || is_size_code code
+
+-- whether a number is a cause for which a step of a log is refused
+abbrev pub is_refusal_cause : ℕ → Bool
+is_refusal_cause cause = is_from 1 7 cause

@@ -1,7 +1,14 @@
 //! Why a step of a log is refused.
+ghost use Rattle.std.specs.Prelude.{◌≡◌, IfSome, IsTrue, is_some};
+ghost use Rattle.code_words.specs.Codes.{is_refusal_cause};
+ghost use Rattle.code_words.specs.Phrases.{is_phrase};
 
-/// Why a step is refused, by the cause from 1 to 7 that a report tells.
-pub fn refusal(cause: u32) -> Option<&'static str> {
+/// Why a step is refused, by the cause from 1 to 7 that a report tells: a phrase of printable ASCII
+/// on one line, with no stop at its end. None of another number.
+pub fn refusal(cause: u32) -> Option<&'static str>
+    ensures there { is_some result ≡ is_refusal_cause cause }
+    ensures phrase { IfSome result (λ words. IsTrue (is_phrase words.now)) }
+{
     match cause {
         1 => Some("a hint names a clause that is not there"),
         2 => Some("the clause of a hint has two or more open literals"),

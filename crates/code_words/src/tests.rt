@@ -14,3 +14,14 @@ fn each_code_has_words(rt: HostRuntime) -> Result<(), Fail> {
     );
     Ok(())
 }
+
+#[test]
+fn codes_of_one_file_have_different_words(rt: HostRuntime) -> Result<(), Fail> {
+    for first in 101u32..900 {
+        let words = cause(first);
+        for second in first + 1..first / 100 * 100 + 100 {
+            assert!(rt; words.is_none() || words != cause(second));
+        }
+    }
+    Ok(())
+}

@@ -4,3 +4,4 @@ mod PlacementCodes
 mod RouteCodes
 mod FitCodes
 mod ClauseCodes
+mod SaidLemmas

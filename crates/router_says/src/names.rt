@@ -1,33 +1,81 @@
 //! The names of the files that a job reads and writes.
+ghost use Rattle.std.specs.Prelude.{◌≡◌, IfOk};
+ghost use Rattle.std.specs.Option.{option_copied};
+ghost use Rattle.router_says.specs.Names.{name_in, name_of, name_of_five, name_of_four, name_of_two};
+ghost use Rattle.router_top.specs.declared.text_file.TextFile.{TextFile as AnyFile};
+ghost use Rattle.router_words.specs.Job.{check_said, files_said, verify_said};
+ghost use Rattle.router_words.specs.Word.{words_of};
+
 use router_top::TextFile;
-use router_words::{FourNames, Job};
+use router_words::{CheckJob, FourNames, Job, VerifyJob, WordsFault, read_words};
+use std::alloc::{AllocError, Global};
+
+/// The job that the words ask for, if they ask for one.
+pub(crate) fn job_in<'a>(alloc: Global, words: &'a [String]) -> Result<Option<Job<'a>>, AllocError>
+    ensures { IfOk result (λ job. (file : AnyFile) →
+        name_of job file ≡ name_in (words_of words.entry.now) file) }
+{
+    match read_words(alloc, words) {
+        Ok(job) => Ok(Some(job)),
+        Err(WordsFault::Refused(_)) => Ok(None),
+        Err(WordsFault::Memory) => Err(AllocError),
+    }
+}
 
 /// The name that was given for a file, if the job reads it.
-pub(crate) fn given_name<'a>(job: Option<Job<'a>>, file: TextFile) -> Option<&'a str> {
-    match job? {
+pub(crate) fn given_name<'a>(job: Option<Job<'a>>, file: TextFile) -> Option<&'a str>
+    ensures { option_copied result ≡ name_of job.entry file }
+{
+    let Some(job) = job else {
+        return None;
+    };
+    match job {
         Job::Route(job) => name_of_four(job.files, file),
         Job::Sweep(job) => name_of_four(job.files, file),
         Job::Encode(job) => name_of_four(job.files, file),
-        Job::Check(job) => match file {
-            TextFile::Cnf => Some(job.cnf),
-            TextFile::Lrat => Some(job.lrat),
-            _ => None,
-        },
-        Job::Verify(job) => match file {
-            TextFile::Routed => Some(job.routed),
-            _ => name_of_four(job.files, file),
-        },
+        Job::Check(job) => name_of_two(job, file),
+        Job::Verify(job) => name_of_five(job, file),
         Job::Gen(_) | Job::Trial(_) => None,
     }
 }
 
-fn name_of_four(files: FourNames<'_>, file: TextFile) -> Option<&str> {
+fn name_of_four<'a>(files: FourNames<'a>, file: TextFile) -> Option<&'a str>
+    ensures { option_copied result ≡ name_of_four (files_said files.entry) file }
+{
     match file {
         TextFile::Architecture => Some(files.architecture),
         TextFile::Netlist => Some(files.netlist),
         TextFile::Placement => Some(files.placement),
         TextFile::Route => Some(files.route),
         TextFile::Cnf | TextFile::Lrat | TextFile::Routed => None,
+    }
+}
+
+fn name_of_two<'a>(job: CheckJob<'a>, file: TextFile) -> Option<&'a str>
+    ensures { option_copied result ≡ name_of_two (check_said job.entry) file }
+{
+    match file {
+        TextFile::Cnf => Some(job.cnf),
+        TextFile::Lrat => Some(job.lrat),
+        TextFile::Architecture
+        | TextFile::Netlist
+        | TextFile::Placement
+        | TextFile::Route
+        | TextFile::Routed => None,
+    }
+}
+
+fn name_of_five<'a>(job: VerifyJob<'a>, file: TextFile) -> Option<&'a str>
+    ensures { option_copied result ≡ name_of_five (verify_said job.entry) file }
+{
+    match file {
+        TextFile::Routed => Some(job.routed),
+        TextFile::Architecture
+        | TextFile::Netlist
+        | TextFile::Placement
+        | TextFile::Route
+        | TextFile::Cnf
+        | TextFile::Lrat => name_of_four(job.files, file),
     }
 }
 

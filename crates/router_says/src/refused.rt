@@ -1,40 +1,54 @@
 //! Words for what is wrong in a file.
+ghost use Rattle.std.specs.Prelude.{◌≡◌, ◌++◌, OnOk, string_bytes};
+ghost use Rattle.router_says.specs.Names.{file_said, name_of};
+ghost use Rattle.router_says.specs.Said.{limit_file, limit_gap, limit_said, line_said, step_said};
+
 use crate::names::given_name;
-use code_words::{cause, refusal};
 use router_top::TextFile;
 use router_words::Job;
 use std::alloc::AllocError;
 
-/// Appends which line of which file is bad, and why.
+/// Appends which line is bad, and why.
 pub(crate) fn append_line(
     out: &mut String,
-    job: Option<Job<'_>>,
-    file: TextFile,
     line: u64,
     code: u32,
-) -> Result<(), AllocError> {
-    append_file(out, job, file)?;
-    let words = cause(code).unwrap_or("this line is not taken");
-    write!(out, ", line {line}: {words} (code {code})\n")
+    why: &str,
+) -> Result<(), AllocError>
+    ensures { OnOk result
+        (string_bytes out.new ≡ string_bytes out.old ++ line_said line code why.now) }
+{
+    write!(out, ", line {line}: {why} (code {code})")
 }
 
 /// Appends which number passes its limit.
 pub(crate) fn append_limit(
     out: &mut String,
-    job: Option<Job<'_>>,
     code: u32,
     count: u64,
-) -> Result<(), AllocError> {
-    if let Some(file) = file_of(code) {
-        append_file(out, job, file)?;
-        out.push_str(": ")?;
-    }
-    let words = cause(code).unwrap_or("a number passes its limit");
-    write!(out, "{words}: {count} (code {code})\n")
+    why: &str,
+) -> Result<(), AllocError>
+    ensures { OnOk result (string_bytes out.new ≡ string_bytes out.old
+        ++ (limit_gap (limit_file code) ++ limit_said code count why.now)) }
+{
+    out.push_str(gap(file_of(code)))?;
+    write!(out, "{why}: {count} (code {code})")
 }
 
-// The file that a limit with this code is of, if it is of one.
-fn file_of(code: u32) -> Option<TextFile> {
+// What stands between a file and what passes its limit there.
+fn gap(file: Option<TextFile>) -> &'static str
+    ensures { result.now ≡ limit_gap file }
+{
+    match file {
+        Some(_) => ": ",
+        None => "",
+    }
+}
+
+/// The file that a limit with this code is of, if it is of one.
+pub(crate) fn file_of(code: u32) -> Option<TextFile>
+    ensures { result ≡ limit_file code }
+{
     match code {
         109 | 911 => Some(TextFile::Architecture),
         209 | 912 => Some(TextFile::Netlist),
@@ -50,15 +64,16 @@ fn file_of(code: u32) -> Option<TextFile> {
 /// Appends which step of a log is refused, and why.
 pub(crate) fn append_step(
     out: &mut String,
-    job: Option<Job<'_>>,
     step: u64,
-    code: u32,
-) -> Result<(), AllocError> {
-    append_file(out, job, TextFile::Lrat)?;
-    let words = refusal(code).unwrap_or("it does not follow");
+    cause: u32,
+    why: &str,
+) -> Result<(), AllocError>
+    ensures { OnOk result
+        (string_bytes out.new ≡ string_bytes out.old ++ step_said step cause why.now) }
+{
     write!(
         out,
-        ", step {step}: {words} (cause {code}); so it refutes nothing\n"
+        ", step {step}: {why} (cause {cause}); so it refutes nothing"
     )
 }
 
@@ -67,7 +82,10 @@ pub(crate) fn append_file(
     out: &mut String,
     job: Option<Job<'_>>,
     file: TextFile,
-) -> Result<(), AllocError> {
+) -> Result<(), AllocError>
+    ensures { OnOk result
+        (string_bytes out.new ≡ string_bytes out.old ++ file_said file (name_of job.entry file)) }
+{
     let kind = file.word();
     match given_name(job, file) {
         Some(name) => write!(out, "{kind} file {name}"),

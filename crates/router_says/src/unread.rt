@@ -1,32 +1,26 @@
 //! Words for a file that is not read.
-use crate::names::given_name;
-use crate::refused::append_file;
-use router_top::TextFile;
-use router_words::Job;
 use std::alloc::AllocError;
 use std::io::Read;
 use std::rt::Files;
 use std::{fs, io};
 
-/// Appends which file is not read, and what the system says of it.
+/// Appends that the file with this name is not read, and what the system says of it.
 pub(crate) fn append_unread<R: Files>(
     rt: &R,
     out: &mut String,
-    job: Option<Job<'_>>,
-    file: TextFile,
+    name: Option<&str>,
 ) -> Result<(), AllocError> {
-    append_file(out, job, file)?;
-    match given_name(job, file) {
+    match name {
         Some(name) => append_cause(rt, out, name),
-        None => out.push_str(": it can't be read\n"),
+        None => out.push_str(": it can't be read"),
     }
 }
 
 // What the system says where it is asked for the first byte.
 fn append_cause<R: Files>(rt: &R, out: &mut String, name: &str) -> Result<(), AllocError> {
     match first_byte(rt, name) {
-        Ok(()) => out.push_str(": it could not be read to its end\n"),
-        Err(error) => write!(out, ": it can't be read: {error}\n"),
+        Ok(()) => out.push_str(": it could not be read to its end"),
+        Err(error) => write!(out, ": it can't be read: {error}"),
     }
 }
 

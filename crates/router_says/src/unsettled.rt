@@ -12,29 +12,31 @@ pub(crate) fn append_unroutable(
     match files_written(job) {
         Some(Written::One(prefix)) => append_refuted(out, prefix, width),
         Some(Written::Each(prefix)) => append_all_refuted(out, prefix, width),
-        None => write!(out, "No routing with {width} tracks is legal.\n"),
+        None => write!(out, "No routing with {width} tracks is legal."),
     }
 }
 
 fn append_refuted(out: &mut String, prefix: &str, width: u32) -> Result<(), AllocError> {
+    write!(out, "No routing with {width} tracks is legal: ")?;
     write!(
         out,
-        "No routing with {width} tracks is legal: {prefix}.lrat refutes the clauses of one, {prefix}.cnf.\n"
+        "{prefix}.lrat refutes the clauses of one, {prefix}.cnf.\n"
     )?;
     write!(
         out,
-        "To check that: gafkelam check {prefix}.cnf {prefix}.lrat\n"
+        "To check that: gafkelam check {prefix}.cnf {prefix}.lrat"
     )
 }
 
 fn append_all_refuted(out: &mut String, prefix: &str, width: u32) -> Result<(), AllocError> {
+    write!(out, "No routing with up to {width} tracks is legal: ")?;
     write!(
         out,
-        "No routing with up to {width} tracks is legal: {prefix}.wK.lrat refutes {prefix}.wK.cnf for each width K.\n"
+        "{prefix}.wK.lrat refutes {prefix}.wK.cnf for each width K.\n"
     )?;
     write!(
         out,
-        "To check the last: gafkelam check {prefix}.w{width}.cnf {prefix}.w{width}.lrat\n"
+        "To check the last: gafkelam check {prefix}.w{width}.cnf {prefix}.w{width}.lrat"
     )
 }
 
@@ -47,8 +49,9 @@ pub(crate) fn append_undecided(
 ) -> Result<(), AllocError> {
     write!(
         out,
-        "Whether a routing with {width} tracks is legal is open: the search learned {learned} clauses, its budget.\n"
+        "Whether a routing with {width} tracks is legal is open: "
     )?;
+    write!(out, "the search learned {learned} clauses, its budget.")?;
     match files_written(job) {
         Some(Written::One(prefix)) => append_next(out, prefix, learned),
         Some(Written::Each(prefix)) => append_next_of_width(out, prefix, width, learned),
@@ -58,9 +61,10 @@ pub(crate) fn append_undecided(
 
 fn append_next(out: &mut String, prefix: &str, learned: u64) -> Result<(), AllocError> {
     let more = learned.saturating_mul(10);
+    write!(out, "\nTry --conflicts {more}, ")?;
     write!(
         out,
-        "Try --conflicts {more}, or hand {prefix}.cnf to another solver, or try another width.\n"
+        "or hand {prefix}.cnf to another solver, or try another width."
     )
 }
 
@@ -71,8 +75,9 @@ fn append_next_of_width(
     learned: u64,
 ) -> Result<(), AllocError> {
     let more = learned.saturating_mul(10);
+    write!(out, "\nTry --conflicts {more}, ")?;
     write!(
         out,
-        "Try --conflicts {more}, or hand {prefix}.w{width}.cnf to another solver, or route at a greater width.\n"
+        "or hand {prefix}.w{width}.cnf to another solver, or route at a greater width."
     )
 }

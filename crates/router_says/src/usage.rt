@@ -13,12 +13,12 @@ pub(crate) fn append_usage(
     };
     let (takes, example) = form_of(name);
     out.push_str(match code {
-        1 =>
-            "The first word is to be a command: route, sweep, encode, check, verify, gen or trial.\n",
+        1 => "The first word is to be a command: route, sweep, encode, check, verify, gen or \
+             trial.\n",
         3 => "A number is missing or out of its range.\n",
         _ => "The command does not take these words.\n",
     })?;
-    write!(out, "Usage: gafkelam {takes}\nAs in: gafkelam {example}\n")
+    write!(out, "Usage: gafkelam {takes}\nAs in: gafkelam {example}")
 }
 
 // The words that a command takes, and an example; those of `route` where it is no command.

@@ -1,19 +1,25 @@
 //! The words for each outcome.
-ghost use Rattle.std.specs.Prelude.{◌≡◌, IsTrue, string_bytes};
+ghost use Rattle.std.specs.Prelude.{◌≡◌, ◌++◌, IfOk, IsTrue, List, OnOk, false, string_bytes, ℕ};
+ghost use Rattle.router_says.specs.Names.{name_in, name_of};
 ghost use Rattle.router_says.specs.Quiet.{is_quiet};
+ghost use Rattle.router_says.specs.Said.{IsSaid, Means, about_said, file_about, limit_file, limit_gap, limit_said, line_said, step_said};
+ghost use Rattle.router_top.specs.declared.text_file.TextFile.{TextFile as AnyFile};
+ghost use Rattle.router_words.specs.Word.{Word, words_of};
 
-use crate::refused::{append_limit, append_line, append_step};
+use crate::names::{given_name, job_in};
+use crate::refused::{append_file, append_limit, append_line, append_step, file_of};
 use crate::unread::append_unread;
 use crate::unsettled::{append_undecided, append_unroutable};
 use crate::usage::append_usage;
+use code_words::{cause, refusal};
 use router_top::{Outcome, TextFile};
-use router_words::read_words;
-use std::alloc::AllocError;
+use router_words::Job;
+use std::alloc::{AllocError, Global};
 use std::rt::Files;
 
 /// Appends what an outcome of a run with these words means, in lines that end with a newline:
 /// which file is meant, by the name that was given; what its line has; what can be tried next. It
-/// appends nothing where the run came to what was asked for.
+/// appends nothing where the run came to what was asked for, and in each other case something.
 ///
 /// After a read fault it asks the system for the file once more, to tell why it is not read.
 pub fn append_words<R: Files + AllocGlobal>(
@@ -22,25 +28,164 @@ pub fn append_words<R: Files + AllocGlobal>(
     words: &[String],
     outcome: &Outcome,
 ) -> Result<(), AllocError>
-    ensures { IsTrue (is_quiet outcome.now) → string_bytes out.new ≡ string_bytes out.old }
+    ensures quiet { IsTrue (is_quiet outcome.now) → string_bytes out.new ≡ string_bytes out.old }
+    ensures said { OnOk result (is_quiet outcome.now ≡ false → IsSaid (words_of words.now)
+        outcome.now (string_bytes out.old) (string_bytes out.new)) }
 {
-    let job = read_words(rt.alloc(), words).ok();
-    match *outcome {
-        Outcome::Routed { .. } | Outcome::Done | Outcome::Accepted | Outcome::LegalRoute => Ok(()),
-        Outcome::Unroutable { width } => append_unroutable(out, job, width),
-        Outcome::Undecided { width, learned } => append_undecided(out, job, width, learned),
-        Outcome::NotAccepted { step, cause } => append_step(out, job, step, cause),
-        Outcome::NotLegal { line, cause } => {
-            append_line(out, job, TextFile::Routed, line, cause)
-        }
-        Outcome::InputFault { file, line, code } => append_line(out, job, file, line, code),
-        Outcome::Limit { code, count } => append_limit(out, job, code, count),
-        Outcome::Usage { code } => append_usage(out, words, code),
-        Outcome::ReadFault { file } => append_unread(rt, out, job, file),
-        Outcome::WriteFault { .. } => out.push_str(
-            "The system refused to write what this run leaves: is there a folder of this name, \
-             with room and the right to write?\n",
-        ),
-        Outcome::OutOfMemory => out.push_str("Memory ran out, so that nothing was found.\n"),
+    if came_as_asked(outcome) {
+        return Ok(());
     }
+    let job = job_in(rt.alloc(), words)?;
+    let meaning = meaning(rt, words, job, outcome)?;
+    append_about(out, job, file_meant(outcome))?;
+    out.push_str(meaning.as_str())?;
+    out.push_str("\n")?;
+    Ok(())
+}
+
+// Whether the run came to what was asked for.
+fn came_as_asked(outcome: &Outcome) -> bool
+    ensures { result ≡ is_quiet outcome.now }
+{
+    match outcome {
+        Outcome::Routed { .. } | Outcome::Done | Outcome::Accepted | Outcome::LegalRoute => true,
+        Outcome::Unroutable { .. }
+        | Outcome::Undecided { .. }
+        | Outcome::NotAccepted { .. }
+        | Outcome::NotLegal { .. }
+        | Outcome::InputFault { .. }
+        | Outcome::Limit { .. }
+        | Outcome::Usage { .. }
+        | Outcome::ReadFault { .. }
+        | Outcome::WriteFault { .. }
+        | Outcome::OutOfMemory => false,
+    }
+}
+
+// The file that the outcome is about, if it is about one.
+fn file_meant(outcome: &Outcome) -> Option<TextFile>
+    ensures { result ≡ file_about outcome.now }
+{
+    match *outcome {
+        Outcome::NotAccepted { .. } => Some(TextFile::Lrat),
+        Outcome::NotLegal { .. } => Some(TextFile::Routed),
+        Outcome::InputFault { file, .. } | Outcome::ReadFault { file } => Some(file),
+        Outcome::Limit { code, .. } => file_of(code),
+        Outcome::Routed { .. }
+        | Outcome::Unroutable { .. }
+        | Outcome::Undecided { .. }
+        | Outcome::Done
+        | Outcome::Accepted
+        | Outcome::LegalRoute
+        | Outcome::Usage { .. }
+        | Outcome::WriteFault { .. }
+        | Outcome::OutOfMemory => None,
+    }
+}
+
+// Appends the file that is meant, if one is.
+fn append_about(
+    out: &mut String,
+    job: Option<Job<'_>>,
+    file: Option<TextFile>,
+) -> Result<(), AllocError>
+    ensures { OnOk result ((words : List Word) → ((named : AnyFile) →
+        name_of job.entry named ≡ name_in words named) →
+        string_bytes out.new ≡ string_bytes out.old ++ about_said words file) }
+{
+    let Some(file) = file else {
+        return Ok(());
+    };
+    append_file(out, job, file)?;
+    Ok(())
+}
+
+// What the outcome means, without the file that it is about and without the newline at the end.
+fn meaning<R: Files + AllocGlobal>(
+    rt: &R,
+    words: &[String],
+    job: Option<Job<'_>>,
+    outcome: &Outcome,
+) -> Result<String, AllocError>
+    ensures { IfOk result (λ text. Means outcome.now (string_bytes text)) }
+{
+    match *outcome {
+        Outcome::NotAccepted { step, cause } => refused_step(rt.alloc(), step, cause),
+        Outcome::NotLegal { line, cause } => bad_line(rt.alloc(), line, cause),
+        Outcome::InputFault { line, code, .. } => bad_line(rt.alloc(), line, code),
+        Outcome::Limit { code, count } => passed_limit(rt.alloc(), code, count),
+        Outcome::Unroutable { .. }
+        | Outcome::Undecided { .. }
+        | Outcome::Usage { .. }
+        | Outcome::ReadFault { .. }
+        | Outcome::WriteFault { .. }
+        | Outcome::OutOfMemory
+        | Outcome::Routed { .. }
+        | Outcome::Done
+        | Outcome::Accepted
+        | Outcome::LegalRoute => advice(rt, words, job, outcome),
+    }
+}
+
+// Which line is bad, and why.
+fn bad_line(alloc: Global, line: u64, code: u32) -> Result<String, AllocError>
+    ensures { IfOk result (λ text. (why : List ℕ) × (string_bytes text ≡ line_said line code why)) }
+{
+    let why = cause(code).unwrap_or("this line is not taken");
+    let mut text = String::new(alloc);
+    append_line(&mut text, line, code, why)?;
+    Ok(text)
+}
+
+// Which step is refused, and why.
+fn refused_step(alloc: Global, step: u64, code: u32) -> Result<String, AllocError>
+    ensures { IfOk result (λ text. (why : List ℕ) × (string_bytes text ≡ step_said step code why)) }
+{
+    let why = refusal(code).unwrap_or("it does not follow");
+    let mut text = String::new(alloc);
+    append_step(&mut text, step, code, why)?;
+    Ok(text)
+}
+
+// What passes its limit.
+fn passed_limit(alloc: Global, code: u32, count: u64) -> Result<String, AllocError>
+    ensures { IfOk result (λ text. (why : List ℕ) × (string_bytes text
+        ≡ limit_gap (limit_file code) ++ limit_said code count why)) }
+{
+    let why = cause(code).unwrap_or("a number passes its limit");
+    let mut text = String::new(alloc);
+    append_limit(&mut text, code, count, why)?;
+    Ok(text)
+}
+
+// What the outcome means, where that is no line, no step and no number, and what can be tried next.
+fn advice<R: Files + AllocGlobal>(
+    rt: &R,
+    words: &[String],
+    job: Option<Job<'_>>,
+    outcome: &Outcome,
+) -> Result<String, AllocError> {
+    let mut text = String::new(rt.alloc());
+    match *outcome {
+        Outcome::Unroutable { width } => append_unroutable(&mut text, job, width)?,
+        Outcome::Undecided { width, learned } => {
+            append_undecided(&mut text, job, width, learned)?
+        }
+        Outcome::Usage { code } => append_usage(&mut text, words, code)?,
+        Outcome::ReadFault { file } => append_unread(rt, &mut text, given_name(job, file))?,
+        Outcome::WriteFault { .. } => text.push_str(
+            "The system refused to write what this run leaves: is there a folder of this name, \
+             with room and the right to write?",
+        )?,
+        Outcome::OutOfMemory => text.push_str("Memory ran out, so that nothing was found.")?,
+        Outcome::NotAccepted { .. }
+        | Outcome::NotLegal { .. }
+        | Outcome::InputFault { .. }
+        | Outcome::Limit { .. }
+        | Outcome::Routed { .. }
+        | Outcome::Done
+        | Outcome::Accepted
+        | Outcome::LegalRoute => (),
+    }
+    Ok(text)
 }

@@ -1,0 +1,71 @@
+-- What is said of an outcome that was not asked for.
+use Rattle.std.specs.Prelude.{◌≡◌, ℕ, ◌++◌, ◌==◌, ◌||◌, ⊤, List, [], codes, decimal, Option, Some, None, if◌then◌else◌}
+use Rattle.router_says.specs.Names.{file_said, name_in}
+use Rattle.router_top.specs.declared.outcome.Outcome.{Outcome}
+use Rattle.router_top.specs.declared.outcome.Outcome.TheVariants.{NotAccepted, NotLegal, InputFault, Limit, ReadFault}
+use Rattle.router_top.specs.declared.text_file.TextFile.{TextFile}
+use Rattle.router_top.specs.declared.text_file.TextFile.TheVariants.{Architecture, Netlist, Placement, Route, Cnf, Lrat, Routed}
+use Rattle.router_words.specs.Word.{Word}
+
+-- the file that a number past a limit is of, if it is of one
+abbrev pub limit_file : (code : ℕ) → Option TextFile
+limit_file code =
+    if code == 109 || code == 911 then Some Architecture else
+    if code == 209 || code == 912 then Some Netlist else
+    if code == 308 || code == 913 then Some Placement else
+    if code == 407 || code == 515 || code == 914 then Some Route else
+    if code == 605 || code == 915 then Some Cnf else
+    if code == 705 || code == 916 then Some Lrat else
+    if code == 917 then Some Routed else
+    None
+
+-- the file that an outcome is about, if it is about one
+abbrev pub file_about : Outcome → Option TextFile
+file_about (NotAccepted step cause) = Some Lrat
+file_about (NotLegal line cause) = Some Routed
+file_about (InputFault file line code) = Some file
+file_about (Limit code count) = limit_file code
+file_about (ReadFault file) = Some file
+file_about _ = None
+
+-- what is said first: the file that is meant, by the name that the words give
+abbrev pub about_said : List Word → Option TextFile → List ℕ
+about_said words (Some file) = file_said file (name_in words file)
+about_said words None = []
+
+-- a line of a file, what is wrong with it, and the code
+abbrev pub line_said : (line code : ℕ) → (why : List ℕ) → List ℕ
+line_said line code why =
+    codes ", line " ++ decimal line ++ codes ": " ++ why ++ codes " (code " ++ decimal code
+    ++ codes ")"
+
+-- a step of a log, why it is refused, and the cause
+abbrev pub step_said : (step cause : ℕ) → (why : List ℕ) → List ℕ
+step_said step cause why =
+    codes ", step " ++ decimal step ++ codes ": " ++ why ++ codes " (cause " ++ decimal cause
+    ++ codes "); so it refutes nothing"
+
+-- what passes its limit, the number, and the code
+abbrev pub limit_said : (code count : ℕ) → (why : List ℕ) → List ℕ
+limit_said code count why =
+    why ++ codes ": " ++ decimal count ++ codes " (code " ++ decimal code ++ codes ")"
+
+-- what stands between a file and what passes its limit there
+abbrev pub limit_gap : Option TextFile → List ℕ
+limit_gap (Some file) = codes ": "
+limit_gap None = []
+
+-- a text says what is wrong, for some reason in words
+abbrev pub Means : Outcome → List ℕ → Type 0
+Means (NotAccepted step cause) text = (why : List ℕ) × (text ≡ step_said step cause why)
+Means (NotLegal line cause) text = (why : List ℕ) × (text ≡ line_said line cause why)
+Means (InputFault file line code) text = (why : List ℕ) × (text ≡ line_said line code why)
+Means (Limit code count) text =
+    (why : List ℕ) × (text ≡ limit_gap (limit_file code) ++ limit_said code count why)
+Means _ text = ⊤
+
+-- after what stood in a text comes the file that is meant, then what is wrong, and a newline
+pub record IsSaid (words : List Word) (outcome : Outcome) (old new : List ℕ) : Type 0 where
+  pub meaning : List ℕ
+  pub means : Means outcome meaning
+  pub text : new ≡ old ++ about_said words (file_about outcome) ++ meaning ++ codes "\n"
