@@ -1,1 +1,3 @@
 pub mod Escape
+pub mod Parts
+pub mod Picture

@@ -1,10 +1,15 @@
 //! The blocks of a placement, and the global nets that connect them.
+ghost use Rattle.std.specs.Prelude.{◌≡◌, OnOk, string_bytes};
+ghost use Rattle.route_draw.specs.Parts.{Adds, AreParts};
+ghost use Rattle.route_draw.specs.Picture.{IsBlock, IsGlobal, block_class};
+
 use crate::escape::append_escaped;
+use crate::group::append_group;
 use crate::path::{append_dot, append_rectangle};
 use crate::scale::{BLOCK, PAD, Point, block_start};
 use fpga_bounds::PlacedProblem;
 use fpga_types::{Block, BlockKind, Grid, Net, PinRef, Place};
-use std::alloc::AllocError;
+use std::alloc::{AllocError, Global};
 
 /// A rectangle that a block is drawn as.
 #[derive(Clone, Copy, Debug)]
@@ -15,36 +20,69 @@ struct Area {
 }
 
 /// Appends the blocks, each at its place and by its kind.
-pub(crate) fn append_blocks(out: &mut String, problem: &PlacedProblem) -> Result<(), AllocError> {
-    let places = problem.placement().places.as_slice();
-    for (block, place) in problem.netlist().blocks.as_slice().iter().zip(places) {
-        append_block(out, problem, block, *place)?;
+pub(crate) fn append_blocks(
+    out: &mut String,
+    alloc: Global,
+    problem: &PlacedProblem,
+    blocks: &[Block],
+) -> Result<(), AllocError>
+    ensures { OnOk result
+        (Adds (AreParts IsBlock blocks.now) (string_bytes out.old) (string_bytes out.new)) }
+{
+    let mut number = 0usize;
+    for block in blocks {
+        append_block(out, alloc, problem, block, number)?;
+        number = number.saturating_add(1);
     }
     Ok(())
 }
 
 fn append_block(
     out: &mut String,
+    alloc: Global,
     problem: &PlacedProblem,
     block: &Block,
-    place: Place,
-) -> Result<(), AllocError> {
-    out.push_str(match block.kind {
-        BlockKind::Logic => "<g class=\"l\"><title>",
-        BlockKind::Input => "<g class=\"i\"><title>",
-        BlockKind::Output => "<g class=\"o\"><title>",
-    })?;
+    number: usize,
+) -> Result<(), AllocError>
+    ensures { OnOk result (Adds (IsBlock block.now) (string_bytes out.old) (string_bytes out.new)) }
+{
+    let drawn = block_drawn(alloc, problem, block, number)?;
+    let class = class_of(block.kind);
     let name = block.name.bytes.as_slice();
-    append_escaped(out, name)?;
-    out.push_str("</title><path d=\"")?;
-    let Area { at, width, height } = block_area(problem, block.kind, place);
-    append_rectangle(out, at, width, height)?;
+    append_group(out, class, "", name, drawn.as_str())?;
+    Ok(())
+}
+
+fn class_of(kind: BlockKind) -> &'static str
+    ensures { result.now ≡ block_class kind }
+{
+    match kind {
+        BlockKind::Logic => "l",
+        BlockKind::Input => "i",
+        BlockKind::Output => "o",
+    }
+}
+
+// The rectangle of the block with this number at its place, and the name in a logic block.
+fn block_drawn(
+    alloc: Global,
+    problem: &PlacedProblem,
+    block: &Block,
+    number: usize,
+) -> Result<String, AllocError> {
+    let mut out = String::new(alloc);
+    let Some(place) = problem.placement().places.as_slice().get(number) else {
+        return Ok(out);
+    };
+    let Area { at, width, height } = block_area(problem, block.kind, *place);
+    out.push_str("<path d=\"")?;
+    append_rectangle(&mut out, at, width, height)?;
     out.push_str("\"/>")?;
     if let BlockKind::Logic = block.kind {
-        append_label(out, at.moved(BLOCK / 2, BLOCK / 2 - 40), name)?;
+        let name = block.name.bytes.as_slice();
+        append_label(&mut out, at.moved(BLOCK / 2, BLOCK / 2 - 40), name)?;
     }
-    out.push_str("</g>\n")?;
-    Ok(())
+    Ok(out)
 }
 
 // A text around a point of a block, so small that it has room there.
@@ -110,32 +148,52 @@ fn start(place: Place) -> Point {
 /// Appends the global nets of the netlist: a dot on each block that they connect.
 pub(crate) fn append_global_nets(
     out: &mut String,
+    alloc: Global,
     problem: &PlacedProblem,
-) -> Result<(), AllocError> {
-    for net in problem.netlist().nets.as_slice() {
-        if net.global {
-            append_global_net(out, problem, net)?;
-        }
+    nets: &[Net],
+) -> Result<(), AllocError>
+    ensures { OnOk result
+        (Adds (AreParts IsGlobal nets.now) (string_bytes out.old) (string_bytes out.new)) }
+{
+    for net in nets {
+        append_global_net(out, alloc, problem, net)?;
     }
     Ok(())
 }
 
+// Appends a net if it is global.
 fn append_global_net(
     out: &mut String,
+    alloc: Global,
     problem: &PlacedProblem,
     net: &Net,
-) -> Result<(), AllocError> {
-    out.push_str("<g class=\"g\"><title>")?;
-    append_escaped(out, net.name.bytes.as_slice())?;
-    out.push_str("</title><path d=\"")?;
+) -> Result<(), AllocError>
+    ensures { OnOk result (Adds (IsGlobal net.now) (string_bytes out.old) (string_bytes out.new)) }
+{
+    if !net.global {
+        return Ok(());
+    }
+    let drawn = global_net_drawn(alloc, problem, net)?;
+    let name = net.name.bytes.as_slice();
+    append_group(out, "g", "", name, drawn.as_str())?;
+    Ok(())
+}
+
+fn global_net_drawn(
+    alloc: Global,
+    problem: &PlacedProblem,
+    net: &Net,
+) -> Result<String, AllocError> {
+    let mut out = String::new(alloc);
+    out.push_str("<path d=\"")?;
     if let Some(driver) = net.driver {
-        append_block_dot(out, problem, driver)?;
+        append_block_dot(&mut out, problem, driver)?;
     }
     for sink in net.sinks.as_slice() {
-        append_block_dot(out, problem, *sink)?;
+        append_block_dot(&mut out, problem, *sink)?;
     }
-    out.push_str("\"/></g>\n")?;
-    Ok(())
+    out.push_str("\"/>")?;
+    Ok(out)
 }
 
 // A dot on the block that has the pin: in a corner of a logic block, in the middle of a pad.

@@ -11,7 +11,7 @@ pub(crate) fn letter_size(grid: Grid) -> u64 {
     side(grid.nx).max(LEAST) / 60 + 20
 }
 
-/// Appends the head, for a caption of so many lines.
+/// Appends the head behind its first word, for a caption of so many lines.
 pub(crate) fn append_head(
     out: &mut String,
     grid: Grid,
@@ -32,7 +32,7 @@ pub(crate) fn append_head(
 
 fn append_root(out: &mut String, across: u64, down: u64) -> Result<(), AllocError> {
     let shown = (across / 15).max(700);
-    out.push_str("<svg xmlns=\"http://www.w3.org/2000/svg\" ")?;
+    out.push_str("xmlns=\"http://www.w3.org/2000/svg\" ")?;
     write!(
         out,
         "viewBox=\"-100 -100 {across} {down}\" width=\"{shown}\">\n"

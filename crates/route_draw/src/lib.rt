@@ -7,6 +7,7 @@ mod blocks;
 mod caption;
 mod colour;
 mod escape;
+mod group;
 mod head;
 mod lanes;
 mod nets;

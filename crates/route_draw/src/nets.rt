@@ -1,6 +1,10 @@
 //! The nets of a route.
+ghost use Rattle.std.specs.Prelude.{OnOk, string_bytes};
+ghost use Rattle.route_draw.specs.Parts.{Adds, AreParts};
+ghost use Rattle.route_draw.specs.Picture.{IsRouted};
+
 use crate::colour::append_colour;
-use crate::escape::append_escaped;
+use crate::group::append_group;
 use crate::lanes::Strand;
 use crate::path::{append_across, append_dot, append_line, append_up};
 use crate::pins::{pin_point, switch_point};
@@ -9,52 +13,80 @@ use crate::share::Share;
 use fpga_bounds::PlacedProblem;
 use fpga_fabric::meet;
 use fpga_types::{Arch, Axis, Cell, Grid, PinStep, RouteNet, RouteStep, Side, SwitchAt};
-use std::alloc::AllocError;
+use std::alloc::{AllocError, Global};
 
 /// Appends each net of the route that is not global, in a colour of its own.
 pub(crate) fn append_nets(
     out: &mut String,
+    alloc: Global,
     problem: &PlacedProblem,
     strands: &[Strand],
-) -> Result<(), AllocError> {
+    nets: &[RouteNet],
+) -> Result<(), AllocError>
+    ensures { OnOk result
+        (Adds (AreParts IsRouted nets.now) (string_bytes out.old) (string_bytes out.new)) }
+{
     let mut rest = Share {
         strands,
         steps: problem.steps(),
         pins: problem.pin_steps(),
     };
     let mut number = 0u32;
-    for net in problem.route().nets.as_slice() {
+    for net in nets {
         let (own, others) = rest.split(strands, number);
-        if !net.global {
-            append_net(out, problem, strands, net, number, own)?;
-        }
+        append_net(out, alloc, problem, strands, net, number, own)?;
         rest = others;
         number = number.saturating_add(1);
     }
     Ok(())
 }
 
+// Appends a net if it is not global.
 fn append_net(
     out: &mut String,
+    alloc: Global,
     problem: &PlacedProblem,
     all: &[Strand],
     net: &RouteNet,
     number: u32,
     own: Share<'_>,
-) -> Result<(), AllocError> {
-    out.push_str("<g class=\"n\" stroke=\"")?;
-    append_colour(out, number)?;
-    out.push_str("\"><title>")?;
-    append_escaped(out, net.name.bytes.as_slice())?;
-    out.push_str("</title><path d=\"")?;
-    append_wires(out, problem.route().grid, all, own)?;
-    append_ways(out, problem.arch(), all, own.pins)?;
-    out.push_str("\"/><path class=\"d\" d=\"")?;
-    append_switches(out, problem.arch(), all, own.pins)?;
-    out.push_str("\"/><path class=\"p\" d=\"")?;
-    append_driver(out, problem.arch(), all, own.pins)?;
-    out.push_str("\"/></g>\n")?;
+) -> Result<(), AllocError>
+    ensures { OnOk result (Adds (IsRouted net.now) (string_bytes out.old) (string_bytes out.new)) }
+{
+    if net.global {
+        return Ok(());
+    }
+    let colour = colour(alloc, number)?;
+    let drawn = net_drawn(alloc, problem, all, own)?;
+    let name = net.name.bytes.as_slice();
+    append_group(out, "n\" stroke=\"", colour.as_str(), name, drawn.as_str())?;
     Ok(())
+}
+
+// The colour of a net.
+fn colour(alloc: Global, number: u32) -> Result<String, AllocError> {
+    let mut out = String::new(alloc);
+    append_colour(&mut out, number)?;
+    Ok(out)
+}
+
+// The paths of a net: its wires, its switches, and the pin that drives it.
+fn net_drawn(
+    alloc: Global,
+    problem: &PlacedProblem,
+    all: &[Strand],
+    own: Share<'_>,
+) -> Result<String, AllocError> {
+    let mut out = String::new(alloc);
+    out.push_str("<path d=\"")?;
+    append_wires(&mut out, problem.route().grid, all, own)?;
+    append_ways(&mut out, problem.arch(), all, own.pins)?;
+    out.push_str("\"/><path class=\"d\" d=\"")?;
+    append_switches(&mut out, problem.arch(), all, own.pins)?;
+    out.push_str("\"/><path class=\"p\" d=\"")?;
+    append_driver(&mut out, problem.arch(), all, own.pins)?;
+    out.push_str("\"/>")?;
+    Ok(out)
 }
 
 // The wires of a net, and the joints between them.

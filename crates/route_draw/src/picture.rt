@@ -1,11 +1,16 @@
 //! A whole picture.
+ghost use Rattle.std.specs.Prelude.{IfOk, OnOk, string_bytes};
+ghost use Rattle.route_draw.specs.Parts.{Adds};
+ghost use Rattle.route_draw.specs.Picture.{IsBody, IsPicture};
+
 use crate::array::{append_array, append_crowded};
 use crate::blocks::{append_blocks, append_global_nets};
-use crate::caption::append_caption;
+use crate::caption::{append_counts, key};
 use crate::head::append_head;
-use crate::lanes::Lanes;
+use crate::lanes::{Lanes, Strand};
 use crate::nets::append_nets;
 use fpga_bounds::PlacedProblem;
+use fpga_types::Grid;
 use std::alloc::{AllocError, Global};
 
 // How many lines the caption has room for.
@@ -18,18 +23,49 @@ const LINES: u64 = 5;
 /// side. A cell with more nets, or with a higher track, than the width allows is red.
 ///
 /// Takes time and memory that grow with the array, the width, the blocks and the elements.
-pub fn draw(alloc: Global, problem: &PlacedProblem, width: u32) -> Result<String, AllocError> {
+pub fn draw(alloc: Global, problem: &PlacedProblem, width: u32) -> Result<String, AllocError>
+    ensures { IfOk result (λ text. IsPicture problem.now width (string_bytes text)) }
+{
     let grid = problem.route().grid;
     let lanes = Lanes::of(alloc, problem, width)?;
+    let head = head(alloc, grid, width)?;
+    let mut marks = String::new(alloc);
+    let crowded = append_crowded(&mut marks, grid, &lanes, width)?;
+    let key = key(alloc, grid, crowded)?;
+    let mut out = String::new(alloc);
+    out.push_str("<svg ")?;
+    out.push_str(head.as_str())?;
+    append_body(&mut out, alloc, problem, lanes.strands.as_slice())?;
+    out.push_str(marks.as_str())?;
+    out.push_str("</g>\n")?;
+    append_counts(&mut out, problem, width)?;
+    out.push_str(key.as_str())?;
+    out.push_str("</svg>\n")?;
+    Ok(out)
+}
+
+// The head behind its first word, and the array.
+fn head(alloc: Global, grid: Grid, width: u32) -> Result<String, AllocError> {
     let mut out = String::new(alloc);
     append_head(&mut out, grid, width, LINES)?;
     append_array(&mut out, grid, width)?;
-    append_blocks(&mut out, problem)?;
-    append_global_nets(&mut out, problem)?;
-    append_nets(&mut out, problem, lanes.strands.as_slice())?;
-    let crowded = append_crowded(&mut out, grid, &lanes, width)?;
-    out.push_str("</g>\n")?;
-    append_caption(&mut out, problem, width, crowded)?;
-    out.push_str("</svg>\n")?;
     Ok(out)
+}
+
+// Appends the blocks and the nets.
+fn append_body(
+    out: &mut String,
+    alloc: Global,
+    problem: &PlacedProblem,
+    strands: &[Strand],
+) -> Result<(), AllocError>
+    ensures { OnOk result
+        (Adds (IsBody problem.now) (string_bytes out.old) (string_bytes out.new)) }
+{
+    let netlist = problem.netlist();
+    let route = problem.route();
+    append_blocks(out, alloc, problem, netlist.blocks.as_slice())?;
+    append_global_nets(out, alloc, problem, netlist.nets.as_slice())?;
+    append_nets(out, alloc, problem, strands, route.nets.as_slice())?;
+    Ok(())
 }

@@ -1,4 +1,9 @@
 //! The words of the command.
+ghost use Rattle.std.specs.Prelude.{◌≡◌, map, string_bytes};
+ghost use Rattle.route_picture.specs.Files.{name_of};
+ghost use Rattle.route_picture.specs.Words.{AnswersWords, asked, width_said, words_said};
+
+use crate::source::Source;
 use crate::stop::Stop;
 use fpga_text::whole_number;
 use fpga_types::WIDTH_LIMIT;
@@ -15,6 +20,20 @@ pub(crate) struct Words<'a> {
     pub(crate) width: u32,
 }
 
+impl<'a> Words<'a> {
+    /// The name of a file.
+    pub(crate) fn name(self, file: Source) -> &'a str
+        ensures { result.now ≡ name_of (words_said self.entry) file }
+    {
+        match file {
+            Source::Architecture => self.arch,
+            Source::Netlist => self.net,
+            Source::Placement => self.place,
+            Source::Route => self.route,
+        }
+    }
+}
+
 /// The words after the program's name.
 pub(crate) fn given_words(rt: &(impl Env + AllocGlobal)) -> io::Result<Vec<String>> {
     let mut words = Vec::new(rt.alloc());
@@ -25,24 +44,28 @@ pub(crate) fn given_words(rt: &(impl Env + AllocGlobal)) -> io::Result<Vec<Strin
 }
 
 /// What the words ask for.
-pub(crate) fn read_words(words: &[String]) -> Result<Words<'_>, Stop> {
-    let [arch, net, place, route, width] = words else {
+pub(crate) fn read_words(words: &[String]) -> Result<Words<'_>, Stop>
+    ensures { AnswersWords (asked (map string_bytes words.entry.now)) result }
+{
+    let [arch, net, place, route, word] = words else {
         return Err(Stop::Usage);
     };
-    let Some(width) = width_of(width) else {
+    let Some(width) = width_of(word.as_str()) else {
         return Err(Stop::Usage);
     };
     Ok(Words {
-        arch,
-        net,
-        place,
-        route,
+        arch: arch.as_str(),
+        net: net.as_str(),
+        place: place.as_str(),
+        route: route.as_str(),
         width,
     })
 }
 
 // The width that a word says, if it is in its range.
-fn width_of(word: &str) -> Option<u32> {
+fn width_of(word: &str) -> Option<u32>
+    ensures { result ≡ width_said word.now }
+{
     let number = whole_number(word.as_bytes())?;
     if number < 1 || number > WIDTH_LIMIT as u64 {
         return None;
