@@ -4,7 +4,7 @@
     make_rings.py PREFIX PARTS NETS SEED
 
 writes PREFIX.arch, PREFIX.net, PREFIX.place and PREFIX.route. The cells along the border of an array form a ring,
-which is cut into PARTS parts, from 3 to 15, an odd number. NETS nets, at most 8, go along each part, from the first
+which is cut into PARTS parts, from 3 to 199, an odd number. NETS nets, at most 8, go along each part, from the first
 cell of it to that of the next, so that each meets the nets of its own part and of the two beside it. A cell has at
 most twice NETS nets; but as the ring is odd, 2 * NETS + ceil(2 * NETS / (PARTS - 1)) tracks are needed, and one width
 less is refuted only by a search. SEED shuffles the nets; 0 leaves them in order.
@@ -49,8 +49,8 @@ def net(number, cells, start, end):
 
 def main():
     prefix, parts, nets, seed = sys.argv[1], *(int(word) for word in sys.argv[2:5])
-    if not (3 <= parts <= 15 and parts % 2 == 1 and 1 <= nets <= 8):
-        sys.exit("PARTS is odd and from 3 to 15, NETS from 1 to 8")
+    if not (3 <= parts <= 199 and parts % 2 == 1 and 1 <= nets <= 8):
+        sys.exit("PARTS is odd and from 3 to 199, NETS from 1 to 8")
     size = max(2, (2 * parts + 3) // 4)
     ring = border(size)
     order = list(range(parts * nets))

@@ -1,12 +1,13 @@
 #!/usr/bin/env python3
 """Compares the search of built programs on the same problems, beside that of `minisat`.
 
-    measure_search.py PROGRAM..
+    measure_search.py [--whole] PROGRAM..
 
-Prints for each problem what each program has learned and its seconds of user time, then the conflicts and the seconds
-of `minisat` without and with its preprocessing, and at the end the geometric means, and how they stand to those of the
-first program. Of the problems 18 are shuffled rings (make_rings.py), the others crowded cells and meshes. The time of a
-program is that of `route` less that of `encode`, so that neither has its files in it.
+Prints for each problem what each program has learned and its seconds of user and system time, then the conflicts and
+the seconds of `minisat` without and with its preprocessing, and at the end the geometric means, and how they stand to
+those of the first program. Of the problems 18 are shuffled rings (make_rings.py), the others crowded cells and meshes.
+The time of a program is that of `route` less that of `encode`, so that neither has its files in it; with `--whole` it
+is that of the whole run of `route`, reading and writing too, as that of `minisat` always is.
 """
 import math
 import os
@@ -31,10 +32,16 @@ MESHES = [
 
 
 def run(words):
-    """The seconds of user time of a run, and what it prints."""
-    before = resource.getrusage(resource.RUSAGE_CHILDREN).ru_utime
+    """The seconds of user and system time of a run, and what it prints."""
+    before = spent()
     said = subprocess.run(words, capture_output=True, text=True).stdout
-    return resource.getrusage(resource.RUSAGE_CHILDREN).ru_utime - before, said
+    return spent() - before, said
+
+
+def spent():
+    """The seconds of all runs so far."""
+    usage = resource.getrusage(resource.RUSAGE_CHILDREN)
+    return usage.ru_utime + usage.ru_stime
 
 
 def least(words, times=3):
@@ -47,13 +54,15 @@ def least(words, times=3):
     return seconds, said
 
 
-def searched(program, width):
+def searched(program, width, is_whole):
     files = [f"p.{ending}" for ending in ("arch", "net", "place", "route")]
     for name in ("found.route", "found.cnf", "found.lrat"):
         if os.path.exists(name):
             os.remove(name)
     whole, said = least([program, "route", *files, str(width), "found"])
     encoding, _ = least([program, "encode", *files, str(width), "p"])
+    if is_whole:
+        encoding = 0
     learned = -1
     if os.path.exists("found.lrat"):
         with open("found.lrat", "rb") as log:
@@ -72,17 +81,19 @@ def mean(values):
 
 
 def main():
-    programs = [os.path.abspath(word) for word in sys.argv[1:]]
+    is_whole = sys.argv[1] == "--whole"
+    programs = [os.path.abspath(word) for word in sys.argv[1 + is_whole :]]
     rows = {}
     with tempfile.TemporaryDirectory() as folder:
         os.chdir(folder)
         for maker, kind, width in RINGS + CROWDS + MESHES:
             subprocess.run([sys.executable, os.path.join(HERE, maker), "p", *kind], check=True)
-            found = [searched(program, width) for program in programs]
+            found = [searched(program, width, is_whole) for program in programs]
             found += [(*compared("-no-pre", "-no-elim"), ""), (*compared(), "")]
             name = f"{maker[5:-3]} {' '.join(kind)} at {width}"
             print(f"{name}: {found[0][2]}; " + "; ".join(f"{many} {seconds:.3f}" for many, seconds, _ in found), flush=True)
-            rows.setdefault("rings" if maker == "make_rings.py" else "others", []).append(found)
+            for kind_of in ("rings" if maker == "make_rings.py" else "others", "all"):
+                rows.setdefault(kind_of, []).append(found)
         os.chdir("/")
     for name, these in rows.items():
         for k in range(len(programs) + 2):
