@@ -1,19 +1,19 @@
 -- Steps of a walk follow each other, and a walk visits few clauses.
-use Rattle.std.proofs.Common.{◌≡◌, ◌≢◌, ℕ, zero, suc, ◌<◌, ◌≤◌, ◌==◌, Bool, true, false, inl, inr, List, [], ◌∷◌, ◌++◌, length, Option, None, refl, sym, ap, ◌∙◌, subst, arith, append_assoc}
+use Rattle.std.proofs.Common.{◌≡◌, ◌≢◌, ℕ, zero, suc, ◌+◌, ◌<◌, ◌≤◌, ◌==◌, Bool, true, false, inl, inr, List, [], ◌∷◌, ◌++◌, length, Option, None, refl, sym, ap, ◌∙◌, subst, arith, append_assoc}
 use Rattle.std.specs.Prelude.{IsPermutation, if◌then◌else◌}
 use Rattle.std.proofs.lemmas.Bool.{false_from_ne_true}
 use Rattle.std.proofs.lemmas.List.Sorted.{IsPermutation-sym, IsPermutation-trans, Contains-permutation}
 use Rattle.sat_clause.specs.declared.literal.Lit.{Lit}
 use Rattle.sat_clause.specs.Literal.{Clause, negation}
 use Rattle.sat_arena.specs.declared.clause_ref.ClauseRef.{ClauseRef}
-use Rattle.sat_arena.specs.Store.{Stored, is_held, stored_at}
+use Rattle.sat_arena.specs.Store.{ArePlaced, Stored, is_held, size_of, stored_at}
 use Rattle.sat_watch.specs.declared.entry.TrailEntry.{TrailEntry}
 use Rattle.sat_watch.specs.Trail.{falses}
 use Rattle.sat_watch.specs.Chains.{counted, AreOnce, IsCursor, IsPath, Next, is_in, next_on}
 use Rattle.sat_watch.specs.Watched.{AreImplied, Goes, Grows, IsImplied, IsReason, LitsGo, OtherIsTrue, chain_length, is_false}
 use Rattle.sat_arena.proofs.StoreLaws.{same_or_other}
 use Rattle.sat_watch.proofs.PathLemmas.{in_cases, in_here, in_more, not_in_cases, path_goes_on}
-use Rattle.sat_watch.proofs.StoredLemmas.{next_is_held}
+use Rattle.sat_watch.proofs.StoredLemmas.{behind_at, head_at, held_behind, next_is_held}
 use Rattle.sat_clause.proofs.LiteralLaws.{among_more}
 use Rattle.sat_watch.proofs.TrailLemmas.{never}
 
@@ -132,6 +132,13 @@ without_absent c (d ∷ ds) out = elim (same_or_other d c) [
   | inr other ↦ rw other.0 (ap (λ l. d ∷ l) (without_absent c ds (not_in_cases c d ds out).1))
 ]
 
+without_most : (c : ClauseRef) (ds : List ClauseRef) → length (without c ds) ≤ length ds
+without_most c [] = omega arith
+without_most c (d ∷ ds) = let rest = without_most c ds in elim (same_or_other d c) [
+  | inl same ↦ rw same.0 (omega arith)
+  | inr other ↦ rw other.0 (omega arith)
+]
+
 without_length : (c : ClauseRef) (ds : List ClauseRef) → AreOnce ds →
     length ds ≤ suc (length (without c ds))
 without_length c [] once = omega arith
@@ -194,6 +201,62 @@ few_refs p (k ∷ ks) refs once all =
             length refs ≤ counted p (k ∷ ks)
         by_test true e le = rw e (omega arith)
         by_test false e le = rw e le
+
+without_fewer : (c : ClauseRef) (ds : List ClauseRef) → is_in ds c ≡ true →
+    suc (length (without c ds)) ≤ length ds
+without_fewer c [] is = let clash : false ≡ true = is in cc
+without_fewer c (d ∷ ds) is = elim (same_or_other d c) [
+  | inl same ↦ let rest = without_most c ds in rw same.0 (omega arith)
+  | inr other ↦ let rest = without_fewer c ds (rw other.0 at is) in rw other.0 (omega arith)
+]
+
+without_keeps : (c d : ClauseRef) (ds : List ClauseRef) → d ≢ c → is_in ds d ≡ true →
+    is_in (without c ds) d ≡ true
+without_keeps c d [] ne is = is
+without_keeps c d (x ∷ xs) ne is = elim (in_cases d x xs is) [
+  | inl here ↦ elim (same_or_other x c) [
+    | inl same ↦ absurd (ne (sym here ∙ same.1))
+    | inr other ↦ rw other.0 (subst (λ r. is_in (x ∷ without c xs) r ≡ true) here
+        (in_here x (without c xs)))
+  ]
+  | inr later ↦ let rest = without_keeps c d xs ne later in elim (same_or_other x c) [
+    | inl same ↦ rw same.0 rest
+    | inr other ↦ rw other.0 (in_more d x (without c xs) rest)
+  ]
+]
+
+-- where the references of all clauses that pass a test are among these, there are no more of them
+pub few_passing : (p : Stored → Bool) (at : ℕ) (ks : List Stored) (refs : List ClauseRef) →
+    ArePlaced at ks →
+    ((d : ClauseRef) → is_held ks d ≡ true → p (stored_at ks d) ≡ true → is_in refs d ≡ true) →
+    counted p ks ≤ length refs
+few_passing p at [] refs placed all = omega arith
+few_passing p at (k ∷ ks) refs placed all =
+    let later : (d : ClauseRef) → is_held ks d ≡ true → p (stored_at ks d) ≡ true →
+    is_in refs d ≡ true =
+    λ d held passes.
+    let there = behind_at k ks d (held_behind at k ks d placed held) in
+    all d (there.0 ∙ held) (rw there.1 passes) in
+    by_test (p k) refl
+    (few_passing p (at + size_of k) ks (without k.place refs) placed.1
+    (λ d held passes. without_keeps k.place d refs
+    (λ e. held_behind at k ks d placed held (sym e)) (later d held passes)))
+    (few_passing p (at + size_of k) ks refs placed.1 later)
+  where
+    by_test : (b : Bool) → p k ≡ b → counted p ks ≤ length (without k.place refs) →
+        counted p ks ≤ length refs → counted p (k ∷ ks) ≤ length refs
+    by_test true is less all_behind =
+        let own = head_at k ks k.place refl in
+        let fewer = without_fewer k.place refs (all k.place own.0 (rw own.1 is)) in
+        rw is (omega arith)
+    by_test false is less all_behind = rw is all_behind
+
+pub counted_most : (p : Stored → Bool) (ks : List Stored) → counted p ks ≤ length ks
+counted_most p [] = omega arith
+counted_most p (k ∷ ks) = let rest = counted_most p ks in by_test (p k) refl rest where
+  by_test : (b : Bool) → p k ≡ b → counted p ks ≤ length ks → counted p (k ∷ ks) ≤ length (k ∷ ks)
+  by_test true is le = rw is (omega arith)
+  by_test false is le = rw is (omega arith)
 
 counted_all : (ks : List Stored) → counted (λ k. true) ks ≡ length ks
 counted_all [] = refl

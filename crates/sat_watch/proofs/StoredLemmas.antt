@@ -1,9 +1,9 @@
 -- Looking a clause up by its reference, where one clause changes.
-use Rattle.std.proofs.Common.{◌≡◌, ℕ, zero, suc, ◌+◌, ◌<◌, Bool, true, false, inl, inr, List, [], ◌∷◌, ◌++◌, length, get_or, Option, None, Some, refl, sym, ap, ◌∙◌, subst, arith}
+use Rattle.std.proofs.Common.{◌≡◌, ◌≢◌, ℕ, zero, suc, ◌+◌, ◌<◌, Bool, true, false, inl, inr, List, [], ◌∷◌, ◌++◌, length, get_or, Option, None, Some, refl, sym, ap, ◌∙◌, subst, arith}
 use Rattle.sat_arena.specs.declared.clause_ref.ClauseRef.{ClauseRef}
 use Rattle.sat_arena.specs.Store.{Stored, changed, is_held, stored_at, ArePlaced, size_of, with_link}
 use Rattle.sat_clause.specs.declared.literal.Lit.{Lit}
-use Rattle.sat_arena.proofs.LayoutLemmas.{unchanged}
+use Rattle.sat_arena.proofs.LayoutLemmas.{stands, unchanged}
 use Rattle.sat_watch.specs.Chains.{AreUnmarked, counted, next_on}
 use Rattle.sat_arena.proofs.StoreLaws.{Stays, not_held, same_or_other}
 
@@ -16,6 +16,28 @@ next_is_held ks l c a goes = by_test (is_held ks c) refl where
   by_test false e =
       let none : next_on ks l c ≡ None = rw (not_held ks c e) refl in
       let clash : None ≡ Some a = sym none ∙ goes in cc
+
+-- the first clause is looked up at its own place, and none behind it stands there
+pub head_at : (k : Stored) (ks : List Stored) (c : ClauseRef) → k.place ≡ c →
+    (is_held (k ∷ ks) c ≡ true) × (stored_at (k ∷ ks) c ≡ k)
+head_at k ks c is = elim (same_or_other k.place c) [
+  | inl same ↦ (rw same.0 refl, rw same.0 refl)
+  | inr other ↦ absurd (other.1 is)
+]
+
+pub behind_at : (k : Stored) (ks : List Stored) (c : ClauseRef) → k.place ≢ c →
+    (is_held (k ∷ ks) c ≡ is_held ks c) × (stored_at (k ∷ ks) c ≡ stored_at ks c)
+behind_at k ks c ne = elim (same_or_other k.place c) [
+  | inl same ↦ absurd (ne same.1)
+  | inr other ↦ (rw other.0 refl, rw other.0 refl)
+]
+
+pub held_behind : (at : ℕ) (k : Stored) (ks : List Stored) (c : ClauseRef) →
+    ArePlaced at (k ∷ ks) → is_held ks c ≡ true → k.place ≢ c
+held_behind at k ks c placed held = λ is.
+    let there = stands (at + size_of k) ks c placed.1 held in let place = there.place in
+    let word = ap (λ (r : ClauseRef). r.word) (sym placed.0 ∙ is) in
+    absurd (omega arith)
 
 -- within a list no default is read
 pub default_free : {X : Type 0} (xs : List X) (i : ℕ) (d d' : X) → i < length xs →

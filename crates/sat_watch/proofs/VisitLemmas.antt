@@ -1,5 +1,5 @@
 -- What a visit of a clause leaves.
-use Rattle.std.proofs.Common.{◌≡◌, ◌≢◌, ℕ, zero, suc, ◌-◌, ◌<◌, ◌≤◌, pos, true, false, ◌⊎◌, inl, inr, List, [], ◌∷◌, ◌++◌, length, get_or, slice_index_or, Option, None, Some, All, Contains, refl, sym, ap, ◌∙◌, subst, arith}
+use Rattle.std.proofs.Common.{◌≡◌, ◌≢◌, ℕ, zero, suc, ◌-◌, ◌<◌, ◌≤◌, pos, true, false, ◌⊎◌, inl, inr, List, [], ◌∷◌, ◌++◌, length, get_or, slice_index_or, Option, None, Some, All, Contains, refl, sym, ap, ◌∙◌, subst, arith, length-append}
 use Rattle.std.specs.List.{swap}
 use Rattle.std.proofs.lemmas.List.Sorted.{IsPermutation-refl, IsPermutation-swap}
 use Rattle.std.proofs.lemmas.List.Edits.{swap_is}
@@ -185,6 +185,7 @@ module _ (n : ℕ) (old : ChainsState) (f : Lit) (at : Place) (after : Option Cl
           | inr out ↦ inl (let clash : false ≡ true = out in cc)
         ]
       ];
+      more = omega (arith, length-append kept (at.clause ∷ []));
     };
   }
 
@@ -212,6 +213,7 @@ module _ (n : ℕ) (old : ChainsState) (f : Lit) (at : Place) (after : Option Cl
         kept_now = kept;
         is = moves_cursor kept rest cursor;
         were = λ d there. inl there;
+        more = omega arith;
       };
     }
 

@@ -1,5 +1,5 @@
 -- A walk along a chain: where it begins, goes on and ends.
-use Rattle.std.proofs.Common.{◌≡◌, ◌≢◌, ℕ, suc, ◌+◌, ◌<◌, ◌≤◌, Bool, true, false, inl, inr, List, [], ◌∷◌, ◌++◌, length, Option, None, Some, refl, sym, ap, ◌∙◌, subst, arith}
+use Rattle.std.proofs.Common.{◌≡◌, ◌≢◌, ℕ, suc, ◌+◌, ◌^◌, ◌<◌, ◌≤◌, Bool, true, false, inl, inr, List, [], ◌∷◌, ◌++◌, length, Option, None, Some, refl, sym, ap, ◌∙◌, subst, arith}
 use Rattle.std.proofs.lemmas.List.{append-nil}
 use Rattle.sat_clause.specs.declared.literal.Lit.{Lit}
 use Rattle.sat_clause.specs.Literal.{Clause, IsWithin, is_among}
@@ -7,9 +7,9 @@ use Rattle.sat_arena.specs.declared.clause_ref.ClauseRef.{ClauseRef}
 use Rattle.sat_arena.specs.Store.{Stored, is_held, stored_at}
 use Rattle.sat_watch.specs.declared.entry.TrailEntry.{TrailEntry}
 use Rattle.sat_watch.specs.declared.place.Place.{Place}
-use Rattle.sat_watch.specs.Chains.{ChainsState, GoesOn, HasCursor, IsChained, IsCursor, head_in, holders, is_in, next_by, next_on, watch_of}
+use Rattle.sat_watch.specs.Chains.{ChainsState, GoesOn, HasCursor, IsChained, IsCursor, head_in, holders, is_in, is_watched, next_by, next_on, watch_of, watchers}
 use Rattle.sat_watch.specs.Watched.{Goes, IsVisited, IsWalking, OtherIsTrue, chain_length}
-use Rattle.sat_watch.proofs.GoesLemmas.{few_refs, goes_trans, grows_true, rest_length}
+use Rattle.sat_watch.proofs.GoesLemmas.{counted_most, few_passing, few_refs, goes_trans, grows_true, rest_length}
 use Rattle.sat_watch.proofs.PathLemmas.{at_end, at_first, once_before, path_goes_on}
 use Rattle.sat_arena.proofs.StoreLaws.{not_held}
 use Rattle.sat_watch.proofs.StoredLemmas.{next_is_held}
@@ -30,6 +30,21 @@ next_among (l ∷ m ∷ ls) f x y a goes = elim (lit_tells l f) [
         (subst (λ z. is_among (m ∷ ls) z ≡ true) same.1 (among_here ls m))
     | inr other' ↦ let none : next_by (l ∷ m ∷ ls) f x y ≡ None = rw (other.0, other'.0) refl in
         let clash : None ≡ Some a = sym none ∙ goes in cc
+  ]
+]
+
+-- a clause that watches a literal is in its chain
+watched_goes : (lits : Clause) (f : Lit) (x y : Option ClauseRef) → is_watched lits f ≡ true →
+    (a : Option ClauseRef) × (next_by lits f x y ≡ Some a)
+watched_goes [] f x y is = let clash : false ≡ true = is in cc
+watched_goes (l ∷ []) f x y is = let clash : false ≡ true = is in cc
+watched_goes (l ∷ m ∷ ls) f x y is = elim (lit_tells l f) [
+  | inl same ↦ (x, rw same.0 refl)
+  | inr other ↦ elim (lit_tells m f) [
+    | inl same ↦ (y, rw (other.0, same.0) refl)
+    | inr other' ↦
+        let none : is_watched (l ∷ m ∷ ls) f ≡ false = rw (other.0, other'.0) refl in
+        let clash : false ≡ true = sym none ∙ is in cc
   ]
 ]
 
@@ -55,6 +70,7 @@ walk_begins entries level f s looks next chained within is =
       goes =
           goes_same entries level f s.clauses entries entries (grows_refl s.clauses level entries);
       few = omega (arith, few);
+      each = omega arith;
     }
 
 module _ (base : List TrailEntry) (level : ℕ) (f : Lit) (old : List Stored) (start : ℕ)
@@ -85,6 +101,12 @@ module _ (base : List TrailEntry) (level : ℕ) (f : Lit) (old : List Stored) (s
         let few = w.few in let long : length w.rest ≡ suc (length first.0) = ap length first.1 in
         omega arith
 
+    -- so the counter does not run over
+    pub counts_here : length s.clauses < 2 ^ 63 → looks + 1 ≤ start + 2 ^ 63
+    counts_here few =
+        let least = few_here in let count = w.goes.count in
+        let most = counted_most (λ k. is_among k.lits f) old in omega arith
+
     pub goes_here : GoesOn (next_on s.clauses f c)
     goes_here = let back = cursor_first.back in subst GoesOn (sym back.1.1) tt
 
@@ -108,11 +130,10 @@ module _ (base : List TrailEntry) (level : ℕ) (f : Lit) (old : List Stored) (s
           subst (λ r. IsCursor (next_on s.clauses f) (head_in s.heads f) w.kept (r ∷ first.0)
           before (Some r)) (sym same) cursor_first
 
-      pub walks_on : (looks' : ℕ) → looks' ≤ looks + 1 →
-          IsWalking base level f old start new now last after looks'
-      walks_on looks' le =
+      pub walks_on : IsWalking base level f old start new now last after (looks + 1)
+      walks_on =
           let moved = visited.cursor w.kept first.0 here in
-          let few = w.few in
+          let few = w.few in let each = w.each in let more = moved.more in
           let long : length w.rest ≡ suc (length first.0) = ap length first.1 in
           record {
             kept = moved.kept_now;
@@ -131,6 +152,7 @@ module _ (base : List TrailEntry) (level : ℕ) (f : Lit) (old : List Stored) (s
             ];
             goes = goes_trans base level f old s.clauses new.clauses entries now w.goes goes;
             few = omega arith;
+            each = omega arith;
           }
 
       pub walk_shorter : chain_length (length new.clauses) (next_on new.clauses f) after
@@ -144,19 +166,35 @@ module _ (base : List TrailEntry) (level : ℕ) (f : Lit) (old : List Stored) (s
           last after moved.is in
           rw (was, now_is, long) (omega arith)
 
-  -- at the end each clause that watches f was kept
+  -- at the end each clause of the chain was kept
+  all_kept : next ≡ None → (c : ClauseRef) (a : Option ClauseRef) →
+      next_on s.clauses f c ≡ Some a → is_in w.kept c ≡ true
+  all_kept is c a goes =
+      let none = at_end (next_on s.clauses f) (head_in s.heads f) w.kept w.rest before
+      (subst (λ x. IsCursor (next_on s.clauses f) (head_in s.heads f) w.kept w.rest
+      before x) is w.cursor) in
+      subst (λ l. is_in l c ≡ true) (ap (λ l. w.kept ++ l) none ∙ append-nil w.kept)
+      (w.cursor.whole c a goes)
+
+  -- each clause that still watches f was counted
+  pub walk_counts : next ≡ None → IsChained s.vars s.clauses s.heads →
+      start + watchers f s.clauses ≤ looks
+  walk_counts is chained =
+      let each = w.each in
+      let few = few_passing (λ k. is_watched k.lits f) 0 s.clauses w.kept chained.placed
+      (λ d held watches. let k = stored_at s.clauses d in
+      let goes = watched_goes k.lits f k.link0 k.link1 watches in
+      all_kept is d goes.0 goes.1) in
+      omega arith
+
+  -- the other watched literal of each clause that watches f is true
   pub walk_ends : next ≡ None → IsChained s.vars s.clauses s.heads → (c : ClauseRef) →
       OtherIsTrue entries (stored_at s.clauses c).lits f
   walk_ends is chained c = λ v o lt at at_o.
       let k = stored_at s.clauses c in
       let held : is_held s.clauses c ≡ true = by_test (is_held s.clauses c) refl v at in
       let goes = own_next s.vars k.lits v f k.link0 k.link1 (chained.simple c held) lt at in
-      let none = at_end (next_on s.clauses f) (head_in s.heads f) w.kept w.rest before
-      (subst (λ x. IsCursor (next_on s.clauses f) (head_in s.heads f) w.kept w.rest
-      before x) is w.cursor) in
-      let there = w.cursor.whole c (pick v k.link0 k.link1) goes in
-      w.kept_true c (subst (λ l. is_in l c ≡ true) (ap (λ l. w.kept ++ l) none ∙ append-nil w.kept)
-      there) v o lt at at_o
+      w.kept_true c (all_kept is c (pick v k.link0 k.link1) goes) v o lt at at_o
     where
       by_test : (b : Bool) → is_held s.clauses c ≡ b → (v : ℕ) →
           watch_of (stored_at s.clauses c).lits v ≡ Some f → is_held s.clauses c ≡ true

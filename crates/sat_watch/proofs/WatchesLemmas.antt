@@ -1,22 +1,24 @@
 -- The clauses as contracts see them, and what one step of propagation leaves of the state.
-use Rattle.std.proofs.Common.{◌≡◌, ℕ, zero, suc, pos, ◌+◌, ◌-◌, ◌<◌, ◌≤◌, Bool, true, false, List, [], ◌∷◌, ◌++◌, length, map, take, drop, get_or, slice_index_or, Option, None, Some, All, refl, sym, ap, ◌∙◌, subst, arith, inl, inr, length-append, drop-cons, append_assoc}
+use Rattle.std.proofs.Common.{◌≡◌, ℕ, zero, suc, pos, ◌+◌, ◌-◌, ◌<◌, ◌≤◌, ◌≢◌, Bool, true, false, List, [], ◌∷◌, ◌++◌, length, map, take, drop, get_or, slice_index_or, Option, None, Some, All, refl, sym, ap, ◌∙◌, subst, arith, inl, inr, length-append, drop-cons, append_assoc}
 use Rattle.std.specs.Prelude.{is_some}
-use Rattle.std.proofs.lemmas.List.Elements.{All-append, All-cons, All-nil}
-use Rattle.std.proofs.lemmas.List.Sorted.{IsPermutation-refl, IsPermutation-trans}
+use Rattle.std.proofs.lemmas.List.Elements.{All-append, All-cons, All-drop, All-head, All-nil, All-tail, All-take}
+use Rattle.std.proofs.lemmas.List.Sorted.{IsPermutation-refl, IsPermutation-trans, length_permutation}
 use Rattle.sat_clause.specs.declared.literal.Lit.{Lit}
-use Rattle.sat_clause.specs.Literal.{IsWithin, lit, negation, is_among}
+use Rattle.sat_clause.specs.Literal.{Clause, IsWithin, lit, negation, is_among}
 use Rattle.sat_arena.specs.declared.clause_ref.ClauseRef.{ClauseRef}
 use Rattle.sat_arena.specs.Store.{ArePlaced, Stored, behind_of, first_ref, is_held, size_of, stored_at}
 use Rattle.sat_watch.specs.declared.entry.TrailEntry.{TrailEntry}
-use Rattle.sat_watch.specs.Chains.{holders, ChainsState}
+use Rattle.sat_watch.specs.Chains.{ChainsState, counted, holders, is_watched, watch_of, watchers}
 use Rattle.std.proofs.Math.Seq.{drop-append-add}
 use Rattle.sat_watch.specs.Levels.{AreLeveled, IsLeveledBy, IsWatchStore}
 use Rattle.sat_watch.specs.Trail.{IsOpen, TrailState, falses}
 use Rattle.sat_watch.proofs.FewLemmas.{longer_trail}
 use Rattle.sat_watch.proofs.BackLemmas.{settled_below, settled_now}
-use Rattle.sat_watch.specs.Watched.{AreImplied, AreWhole, Goes, IsReason, is_false}
-use Rattle.sat_watch.specs.Watches.{AreInPlace, Attached, attached_behind, first_attached, HasCause, HasLevels, IsSettledState, IsWatches, IsWithinLooks, holder_count, holder_sum, left_queued, taken_between, Propagates, SameClauses, WatchState, attached, id_at, is_attached, lits_at, watch_state}
+use Rattle.sat_watch.specs.Watched.{AreImplied, AreWhole, Goes, HasCounted, IsReason, LitsGo, is_false}
+use Rattle.sat_watch.specs.Watches.{AreInPlace, Attached, attached_behind, first_attached, HasCause, HasLevels, HasLooked, IsSettledState, IsWatches, IsWithinLooks, count_of, holder_count, holder_sum, left_queued, taken_between, Propagates, SameClauses, WatchState, attached, id_at, is_attached, lits_at, watch_state, watcher_count, watcher_sum}
 use Rattle.sat_arena.proofs.StoreLaws.{same_or_other}
+use Rattle.sat_watch.proofs.StoredLemmas.{behind_at, default_free, head_at, held_behind}
+use Rattle.sat_watch.proofs.WatchLemmas.{lit_tells}
 use Rattle.sat_clause.proofs.LiteralLaws.{among_here, among_more}
 
 pub attached_held : (ks : List Stored) (c : ClauseRef) →
@@ -84,13 +86,21 @@ added_known ks level (e ∷ added) old are =
     All-cons (λ e. (e.level ≡ level) × (is_some e.reason ≡ true)) e added
     (are.0.at_level, ap is_some are.0.is) (added_known ks level added old are.1)
 
-holders_attached : (l : Lit) (ks : List Stored) → holder_count l (map attached ks) ≡ holders l ks
-holders_attached l [] = refl
-holders_attached l (k ∷ ks) = by_test (is_among k.lits l) refl (holders_attached l ks) where
-  by_test : (b : Bool) → is_among k.lits l ≡ b → holder_count l (map attached ks) ≡ holders l ks →
-      holder_count l (map attached (k ∷ ks)) ≡ holders l (k ∷ ks)
+count_attached : (p : Clause → Bool) (ks : List Stored) →
+    count_of p (map attached ks) ≡ counted (λ k. p k.lits) ks
+count_attached p [] = refl
+count_attached p (k ∷ ks) = by_test (p k.lits) refl (count_attached p ks) where
+  by_test : (b : Bool) → p k.lits ≡ b →
+      count_of p (map attached ks) ≡ counted (λ k. p k.lits) ks →
+      count_of p (map attached (k ∷ ks)) ≡ counted (λ k. p k.lits) (k ∷ ks)
   by_test true e rest = rw e (ap suc rest)
   by_test false e rest = rw e rest
+
+holders_attached : (l : Lit) (ks : List Stored) → holder_count l (map attached ks) ≡ holders l ks
+holders_attached l = count_attached (λ lits. is_among lits l)
+
+watchers_attached : (l : Lit) (ks : List Stored) → watcher_count l (map attached ks) ≡ watchers l ks
+watchers_attached l = count_attached (λ lits. is_watched lits l)
 
 pub same_clauses : (base : List TrailEntry) (level : ℕ) (f : Lit) (ks new : List Stored)
     (entries now : List TrailEntry) → ArePlaced 0 new → Goes base level f ks new entries now →
@@ -128,6 +138,22 @@ one_taken : (added old : List TrailEntry) (p : ℕ) (t : TrailEntry) (n m : ℕ)
 one_taken added old p t n m lt is en em =
     rw (en, em, drop-append-add added old p, drop-cons old p t lt, is) refl
 
+-- what one step takes from the queue
+step_taken : (c c' : ChainsState) (t t' : TrailState) (q q' level : ℕ) (due : Option ClauseRef)
+    (e : TrailEntry) (added : List TrailEntry) (result : Option ClauseRef) →
+    t'.entries ≡ added ++ t.entries → 1 ≤ q → q ≤ length t.entries →
+    slice_index_or t.entries (q - 1) e ≡ e →
+    left_queued (watch_state c' t' q' level due) result ≡ length added + (q - 1) →
+    taken_between (watch_state c t q level due) (watch_state c' t' q' level due) result ≡ e ∷ []
+step_taken c c' t t' q q' level due e added result grown some few is left =
+    let left_now = left_queued (watch_state c' t' q' level due) result in
+    let long = ap length grown ∙ length-append added t.entries in
+    let count : (length t'.entries - left_now) - (length t.entries - q) ≡ 1 =
+    omega (arith, long, left) in
+    ap (λ l. take ((length t'.entries - left_now) - (length t.entries - q)) (drop left_now l)) grown
+    ∙ one_taken added t.entries (q - 1) e left_now
+    ((length t'.entries - left_now) - (length t.entries - q)) (omega arith) is left count
+
 -- the looks of one step
 pub step_looks : (s : WatchState) (c c' : ChainsState) (t t' : TrailState) (q q' level : ℕ)
     (due : Option ClauseRef) (f : Lit) (e : TrailEntry) (added : List TrailEntry)
@@ -141,20 +167,109 @@ step_looks s c c' t t' q q' level due f e added result before after view grown s
     le =
     subst (λ (x : WatchState). IsWithinLooks x (watch_state c' t' q' level due) result before after)
     view
-    (let long = ap length grown ∙ length-append added t.entries in
-    let count : (length t'.entries - left_queued (watch_state c' t' q' level due) result)
-    - (length t.entries - q) ≡ 1 = omega (arith, long, left) in
-    let one : take ((length t'.entries - left_queued (watch_state c' t' q' level due) result)
-    - (length t.entries - q))
-    (drop (left_queued (watch_state c' t' q' level due) result) t'.entries) ≡ e ∷ [] =
-    ap (λ l. take ((length t'.entries - left_queued (watch_state c' t' q' level due) result)
-    - (length t.entries - q)) (drop (left_queued (watch_state c' t' q' level due) result) l)) grown
-    ∙ one_taken added t.entries (q - 1) e (left_queued (watch_state c' t' q' level due) result)
-    ((length t'.entries - left_queued (watch_state c' t' q' level due) result)
-    - (length t.entries - q)) (omega arith) is left count in
+    (let one = step_taken c c' t t' q q' level due e added result grown some few is left in
     let same : holder_count (negation e.lit) (map attached c.clauses) ≡ holders f c.clauses =
     holders_attached (negation e.lit) c.clauses ∙ ap (λ l. holders l c.clauses) (sym fis) in
     rw one (omega arith))
+
+-- those that still watch the literal were looked at
+pub step_each : (s : WatchState) (c c' : ChainsState) (t t' : TrailState) (q q' level : ℕ)
+    (due : Option ClauseRef) (f : Lit) (e : TrailEntry) (added : List TrailEntry)
+    (before after : ℕ) →
+    watch_state c t q level due ≡ s → t'.entries ≡ added ++ t.entries → 1 ≤ q →
+    q ≤ length t.entries → slice_index_or t.entries (q - 1) e ≡ e → f ≡ negation e.lit →
+    q' ≡ length added + (q - 1) → HasCounted before (watchers f c'.clauses) after →
+    HasLooked s (watch_state c' t' q' level due) before after
+step_each s c c' t t' q q' level due f e added before after view grown some few is fis left
+    each =
+    subst (λ (x : WatchState). HasLooked x (watch_state c' t' q' level due) before after) view
+    (let one = step_taken c c' t t' q q' level due e added None grown some few is left in
+    let same : watcher_sum (map attached c'.clauses) (e ∷ []) ≡ watchers f c'.clauses =
+    ap (λ n. n + 0) (watchers_attached (negation e.lit) c'.clauses)
+    ∙ (omega arith ∙ ap (λ l. watchers l c'.clauses) (sym fis)) in
+    rw (one, same) each)
+
+-- where a literal is watched
+watched_where : (lits : Clause) (l : Lit) → is_watched lits l ≡ true →
+    (w : ℕ) × (w < 2) × (watch_of lits w ≡ Some l)
+watched_where [] l is = let clash : false ≡ true = is in cc
+watched_where (a ∷ []) l is = let clash : false ≡ true = is in cc
+watched_where (a ∷ b ∷ ls) l is = elim (lit_tells a l) [
+  | inl same ↦ (0, omega arith, ap Some same.1)
+  | inr other ↦ elim (lit_tells b l) [
+    | inl same ↦ (1, omega arith, ap Some same.1)
+    | inr other' ↦
+        let none : is_watched (a ∷ b ∷ ls) l ≡ false = rw (other.0, other'.0) refl in
+        let clash : false ≡ true = sym none ∙ is in cc
+  ]
+]
+
+watch_is : (lits : Clause) (w : ℕ) (l : Lit) → watch_of lits w ≡ Some l → is_watched lits l ≡ true
+watch_is [] w l at = let clash : None ≡ Some l = at in cc
+watch_is (a ∷ []) w l at = let clash : None ≡ Some l = at in cc
+watch_is (a ∷ b ∷ ls) zero l at = elim (lit_tells a l) [
+  | inl same ↦ rw same.0 refl
+  | inr other ↦ absurd (other.1 cc)
+]
+watch_is (a ∷ b ∷ ls) (suc w) l at = elim (lit_tells a l) [
+  | inl same ↦ rw same.0 refl
+  | inr other ↦ elim (lit_tells b l) [
+    | inl same ↦ rw (other.0, same.0) refl
+    | inr ne ↦ absurd (ne.1 cc)
+  ]
+]
+
+-- no more clauses watch a literal that was false before a walk
+watchers_fall : (base : List TrailEntry) (f l : Lit) → is_false base l ≡ true → (at : ℕ)
+    (ks new : List Stored) → ArePlaced at ks → ArePlaced at new → length new ≡ length ks →
+    ((c : ClauseRef) → is_held ks c ≡ true →
+    LitsGo base f (stored_at ks c).lits (stored_at new c).lits) → watchers l new ≤ watchers l ks
+watchers_fall base f l out at [] [] placed placed' same go = omega arith
+watchers_fall base f l out at [] (n ∷ new) placed placed' same go = absurd (omega (arith, same))
+watchers_fall base f l out at (k ∷ ks) [] placed placed' same go = absurd (omega (arith, same))
+watchers_fall base f l out at (k ∷ ks) (n ∷ new) placed placed' same go =
+    let own = head_at k ks k.place refl in
+    let own' = head_at n new k.place (placed'.0 ∙ sym placed.0) in
+    let first : LitsGo base f k.lits n.lits =
+    rw (← own.1) (rw (← own'.1) (go k.place own.0)) in
+    let long : length n.lits ≡ length k.lits = length_permutation k.lits n.lits first.same in
+    let behind : ArePlaced (at + size_of k) new =
+    subst (λ m. ArePlaced (at + (m + 6)) new) long placed'.1 in
+    let rest = watchers_fall base f l out (at + size_of k) ks new placed.1 behind
+    (omega (arith, same)) (λ c held.
+    let ne = held_behind at k ks c placed held in
+    let there = behind_at k ks c ne in
+    let there' = behind_at n new c (subst (λ r. r ≢ c) (placed.0 ∙ sym placed'.0) ne) in
+    rw (← there.1) (rw (← there'.1) (go c (there.0 ∙ held)))) in
+    by_test (is_watched n.lits l) refl first rest
+  where
+    by_test : (b : Bool) → is_watched n.lits l ≡ b → LitsGo base f k.lits n.lits →
+        watchers l new ≤ watchers l ks → watchers l (n ∷ new) ≤ watchers l (k ∷ ks)
+    by_test true is first rest =
+        let w = watched_where n.lits l is in
+        let was : is_watched k.lits l ≡ true = elim (first.watch w.0 l w.1 w.2) [
+          | inl there ↦ watch_is k.lits w.0 l there
+          | inr moved ↦ let clash : true ≡ false = sym out ∙ moved.1 in cc
+        ] in
+        rw (is, was) (omega arith)
+    by_test false is first rest = by_old (is_watched k.lits l) refl where
+      by_old : (b : Bool) → is_watched k.lits l ≡ b →
+          watchers l (n ∷ new) ≤ watchers l (k ∷ ks)
+      by_old true was = rw (is, was) (omega arith)
+      by_old false was = rw (is, was) rest
+
+-- so it is in a step
+pub step_fewer : (s : WatchState) (c c' : ChainsState) (t t' : TrailState) (q level : ℕ)
+    (due : Option ClauseRef) (f : Lit) → watch_state c t q level due ≡ s → ArePlaced 0 c.clauses →
+    ArePlaced 0 c'.clauses → Goes t.entries level f c.clauses c'.clauses t.entries t'.entries →
+    (l : Lit) → is_false s.trail l ≡ true →
+    watcher_count l (map attached c'.clauses) ≤ watcher_count l s.clauses
+step_fewer s c c' t t' q level due f view placed placed' go =
+    subst (λ (x : WatchState). (l : Lit) → is_false x.trail l ≡ true →
+    watcher_count l (map attached c'.clauses) ≤ watcher_count l x.clauses) view
+    (λ l out. rw (watchers_attached l c.clauses, watchers_attached l c'.clauses)
+    (watchers_fall t.entries f l out 0 c.clauses c'.clauses placed placed' go.count
+    (λ r held. go.lits r)))
 
 -- each lower level is settled, and the current one where nothing is queued or due
 pub state_settled : (c : ChainsState) (t : TrailState) (q level : ℕ) (due : Option ClauseRef) →
@@ -241,15 +356,17 @@ looks_none s l =
     let none : (length s.trail - s.queued) - (length s.trail - s.queued) ≡ 0 = omega arith in
     rw none (omega arith)
 
--- the looks of a step are added to those before it
-pub looks_on : (a s b : WatchState) (result : Option ClauseRef) (added : List TrailEntry)
-    (start l l' : ℕ) → SameClauses a.clauses s.clauses → 1 ≤ s.queued → s.queued ≤ length s.trail →
-    b.trail ≡ added ++ s.trail →
+-- what is taken in a step behind others
+record IsTaken (a s b : WatchState) (result : Option ClauseRef) : Type 0 where
+  entry : TrailEntry
+  step : taken_between s b result ≡ entry ∷ []
+  whole : taken_between a b result ≡ entry ∷ taken_between a s None
+
+is_taken : (a s b : WatchState) (result : Option ClauseRef) (added : List TrailEntry) →
+    1 ≤ s.queued → s.queued ≤ length s.trail → b.trail ≡ added ++ s.trail →
     length b.trail + s.queued ≡ length s.trail + left_queued b result + 1 →
-    length a.trail - a.queued ≤ length s.trail - s.queued →
-    IsWithinLooks a s None start l → IsWithinLooks s b result l l' →
-    IsWithinLooks a b result start l'
-looks_on a s b result added start l l' same some few grown front later le le' =
+    length a.trail - a.queued ≤ length s.trail - s.queued → IsTaken a s b result
+is_taken a s b result added some few grown front later =
     let long = ap length grown ∙ length-append added s.trail in
     let p = s.queued - 1 in
     let t = get_or s.trail p no_entry in
@@ -265,12 +382,70 @@ looks_on a s b result added start l l' same some few grown front later le le' =
     omega arith in
     let more : (length b.trail - left_queued b result) - (length a.trail - a.queued) ≡ suc count =
     omega arith in
-    let step : taken_between s b result ≡ t ∷ [] = (λ x. take (one x) (begins x)) in
-    let whole : taken_between a b result ≡ t ∷ take count rest = (λ x. take (more x) (begins x)) in
-    let as_many = same.holders (negation t.lit) in
-    let now : l' ≤ l + holder_sum s.clauses (t ∷ []) =
-    subst (λ x. l' ≤ l + holder_sum s.clauses x) step le' in
-    subst (λ x. l' ≤ start + holder_sum a.clauses x) (sym whole) (omega (arith, as_many, now, le))
+    record {
+      entry = t;
+      step = λ x. take (one x) (begins x);
+      whole = λ x. take (more x) (begins x);
+    }
+
+-- the looks of a step are added to those before it
+pub looks_on : (a s b : WatchState) (result : Option ClauseRef) (added : List TrailEntry)
+    (start l l' : ℕ) → SameClauses a.clauses s.clauses → 1 ≤ s.queued → s.queued ≤ length s.trail →
+    b.trail ≡ added ++ s.trail →
+    length b.trail + s.queued ≡ length s.trail + left_queued b result + 1 →
+    length a.trail - a.queued ≤ length s.trail - s.queued →
+    IsWithinLooks a s None start l → IsWithinLooks s b result l l' →
+    IsWithinLooks a b result start l'
+looks_on a s b result added start l l' same some few grown front later le le' =
+    let taken = is_taken a s b result added some few grown front later in
+    let as_many = same.holders (negation taken.entry.lit) in
+    let now : l' ≤ l + holder_sum s.clauses (taken.entry ∷ []) =
+    subst (λ x. l' ≤ l + holder_sum s.clauses x) taken.step le' in
+    subst (λ x. l' ≤ start + holder_sum a.clauses x) (sym taken.whole)
+    (omega (arith, as_many, now, le))
+
+-- the entries that were taken are on the trail, so that their negations are false
+all_out : (a s : WatchState) →
+    All (λ (e : TrailEntry). is_false s.trail (negation e.lit) ≡ true) (taken_between a s None)
+all_out a s =
+    let Out = λ (e : TrailEntry). is_false s.trail (negation e.lit) ≡ true in
+    let own : All Out s.trail =
+    λ p d lt. at_false s.trail p (slice_index_or s.trail p d) lt
+    (default_free s.trail p (slice_index_or s.trail p d) d lt) in
+    All-take Out ((length s.trail - s.queued) - (length a.trail - a.queued))
+    (drop s.queued s.trail) (All-drop Out s.queued s.trail own)
+
+sums_fall : (ks new : List Attached) (entries xs : List TrailEntry) →
+    ((l : Lit) → is_false entries l ≡ true → watcher_count l new ≤ watcher_count l ks) →
+    All (λ (e : TrailEntry). is_false entries (negation e.lit) ≡ true) xs →
+    watcher_sum new xs ≤ watcher_sum ks xs
+sums_fall ks new entries [] fewer out = omega arith
+sums_fall ks new entries (e ∷ xs) fewer out =
+    let Out = λ (d : TrailEntry). is_false entries (negation d.lit) ≡ true in
+    let here = fewer (negation e.lit) (All-head Out e xs out) in
+    let rest = sums_fall ks new entries xs fewer (All-tail Out e xs out) in
+    omega arith
+
+pub each_none : (s : WatchState) (l : ℕ) → HasLooked s s l l
+each_none s l =
+    let none : (length s.trail - s.queued) - (length s.trail - s.queued) ≡ 0 = omega arith in
+    rw none (omega arith)
+
+-- what still watches was looked at in a step or before it
+pub each_on : (a s b : WatchState) (added : List TrailEntry) (start l l' : ℕ) →
+    1 ≤ s.queued → s.queued ≤ length s.trail → b.trail ≡ added ++ s.trail →
+    length b.trail + s.queued ≡ length s.trail + b.queued + 1 →
+    length a.trail - a.queued ≤ length s.trail - s.queued →
+    ((m : Lit) → is_false s.trail m ≡ true →
+    watcher_count m b.clauses ≤ watcher_count m s.clauses) →
+    HasLooked a s start l → HasLooked s b l l' → HasLooked a b start l'
+each_on a s b added start l l' some few grown front later fewer each each' =
+    let taken = is_taken a s b None added some few grown front later in
+    let fall = sums_fall s.clauses b.clauses s.trail (taken_between a s None) fewer (all_out a s) in
+    let now : HasCounted l (watcher_sum b.clauses (taken.entry ∷ [])) l' =
+    subst (λ x. HasCounted l (watcher_sum b.clauses x) l') taken.step each' in
+    subst (λ x. HasCounted start (watcher_sum b.clauses x) l') (sym taken.whole)
+    (omega (arith, fall, now, each))
 
 -- the trail's levels and reasons, by what contracts see of the clauses
 pub has_levels : (ks : List Stored) (level : ℕ) (entries : List TrailEntry) →

@@ -214,6 +214,16 @@ counted p (k ∷ ks) = if p k then suc (counted p ks) else counted p ks
 abbrev pub holders : Lit → List Stored → ℕ
 holders l ks = counted (λ k. is_among k.lits l) ks
 
+-- the literal is one of the first two of two or more
+abbrev pub is_watched : Clause → Lit → Bool
+is_watched [] l = false
+is_watched (a ∷ []) l = false
+is_watched (a ∷ b ∷ ls) l = if int_eq a.code l.code then true else int_eq b.code l.code
+
+-- how many of the clauses watch the literal
+abbrev pub watchers : Lit → List Stored → ℕ
+watchers l ks = counted (λ k. is_watched k.lits l) ks
+
 -- the clause stands behind the others, and was none of them
 pub record IsLast (ks all : List Stored) (k : Stored) (c : ClauseRef) : Type 0 where
   pub is : all ≡ ks ++ k ∷ []

@@ -1,5 +1,5 @@
 -- Which literals are true at which level, why, and when a clause can be left alone.
-use Rattle.std.specs.Prelude.{◌≡◌, ◌≢◌, ℕ, zero, suc, ◌+◌, ◌<◌, ◌≤◌, Bool, true, false, if◌then◌else◌, ⊤, ◌⊎◌, List, [], ◌∷◌, ◌++◌, length, Option, None, Some, All, Contains, IsPermutation}
+use Rattle.std.specs.Prelude.{◌≡◌, ◌≢◌, ℕ, zero, suc, ◌+◌, ◌-◌, ◌^◌, ◌<◌, ◌≤◌, min, Bool, true, false, if◌then◌else◌, ⊤, ◌⊎◌, List, [], ◌∷◌, ◌++◌, length, Option, None, Some, All, Contains, IsPermutation}
 use Rattle.std.specs.Ordering.{int_eq}
 use Rattle.sat_clause.specs.declared.literal.Lit.{Lit}
 use Rattle.sat_clause.specs.Literal.{Clause, is_among, negation}
@@ -123,6 +123,7 @@ pub record NextCursor
   pub is : IsCursor (next_on new.clauses f) (head_in new.heads f) kept_now rest before after
   pub were : (d : ClauseRef) → is_in kept_now d ≡ true →
       (is_in kept d ≡ true) ⊎ OtherIsTrue now (stored_at new.clauses d).lits f
+  pub more : length kept_now ≤ suc (length kept)
 
 -- what a visit of the clause at a place leaves: the clause behind which the next one stands
 pub record IsVisited
@@ -149,6 +150,11 @@ pub record IsWalking
       OtherIsTrue entries (stored_at now.clauses d).lits f
   pub goes : Goes base level f old now.clauses base entries
   pub few : looks + length rest ≤ looks_before + holders f old
+  pub each : looks_before + length kept ≤ looks
+
+-- a counter was raised by as many as these at least, as far as it goes
+abbrev pub HasCounted : (before many after : ℕ) → Type 0
+HasCounted before many after = min (before + many) (2 ^ 64 - 1) ≤ after
 
 -- where a chain goes on
 abbrev pub after_of : Option (Option ClauseRef) → Option ClauseRef

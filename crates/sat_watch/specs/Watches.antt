@@ -9,9 +9,9 @@ use Rattle.sat_arena.specs.Store.{Stored}
 use Rattle.sat_watch.specs.declared.entry.TrailEntry.{TrailEntry}
 use Rattle.sat_watch.specs.Levels.{IsWatchStore, due_without, upto}
 use Rattle.sat_clause.specs.Settled.{IsQuiet}
-use Rattle.sat_watch.specs.Chains.{ChainsState}
+use Rattle.sat_watch.specs.Chains.{ChainsState, is_watched}
 use Rattle.sat_watch.specs.Trail.{TrailState, falses}
-use Rattle.sat_watch.specs.Watched.{AreWhole, IsReason, is_false, true_at}
+use Rattle.sat_watch.specs.Watched.{AreWhole, HasCounted, IsReason, is_false, true_at}
 
 -- a clause with its reference, its id and its literals
 pub record Attached : Type 0 where
@@ -94,10 +94,18 @@ gone_back j s =
     if nat_lt j s.level then record s { trail = upto j s.trail; queued = 0; level = j; due = None }
     else s
 
+-- how many of the clauses pass the test
+abbrev pub count_of : (Clause → Bool) → List Attached → ℕ
+count_of p [] = 0
+count_of p (k ∷ ks) = if p k.lits then suc (count_of p ks) else count_of p ks
+
 -- how many of the clauses hold the literal
 abbrev pub holder_count : Lit → List Attached → ℕ
-holder_count l [] = 0
-holder_count l (k ∷ ks) = if is_among k.lits l then suc (holder_count l ks) else holder_count l ks
+holder_count l ks = count_of (λ lits. is_among lits l) ks
+
+-- how many of the clauses watch the literal
+abbrev pub watcher_count : Lit → List Attached → ℕ
+watcher_count l ks = count_of (λ lits. is_watched lits l) ks
 
 -- the clauses keep their references and ids, and as sets their literals; and where they stood one
 -- behind another, they still do
@@ -135,6 +143,17 @@ taken_between old new result =
 abbrev pub holder_sum : List Attached → List TrailEntry → ℕ
 holder_sum ks [] = 0
 holder_sum ks (e ∷ es) = holder_count (negation e.lit) ks + holder_sum ks es
+
+-- how many clauses watch the negations of the entries, in all
+abbrev pub watcher_sum : List Attached → List TrailEntry → ℕ
+watcher_sum ks [] = 0
+watcher_sum ks (e ∷ es) = watcher_count (negation e.lit) ks + watcher_sum ks es
+
+-- the looks in a call that finds no false clause are at least the clauses that still watch the
+-- negations of the literals taken, as far as the counter goes
+abbrev pub HasLooked : WatchState → WatchState → ℕ → ℕ → Type 0
+HasLooked old new before after =
+    HasCounted before (watcher_sum new.clauses (taken_between old new None)) after
 
 -- the looks in one call are at most the clauses that hold the negations of the literals taken
 abbrev pub IsWithinLooks : WatchState → WatchState → Option ClauseRef → ℕ → ℕ → Type 0

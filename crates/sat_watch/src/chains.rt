@@ -184,6 +184,7 @@ impl Chains {
         requires which { p.which < 2 }
         ensures value { result ≡ link_of (stored_at self.now.clauses p.clause) p.which }
         ensures near { IfSome result (λ c. c.word < 2 ^ 63) }
+        ensures few { length self.now.clauses < 2 ^ 63 }
     {
         self.arena.link(p.clause, p.which)
     }

@@ -4,8 +4,8 @@ ghost use Rattle.std.specs.Prelude.{◌≡◌, ◌+◌, ◌^◌, ◌<◌, ◌≤
 ghost use Rattle.sat_clause.specs.Literal.{IsWithin};
 ghost use Rattle.sat_arena.specs.declared.clause_ref.ClauseRef.{ClauseRef};
 ghost use Rattle.sat_arena.specs.Store.{is_held, link_of, stored_at};
-ghost use Rattle.sat_watch.specs.Chains.{holders, HasCursor, IsPlaceOf, head_in, next_on, literals};
-ghost use Rattle.sat_watch.specs.Watched.{AreWhole, GoesTo, IsVisited, OtherIsTrue, is_false, AreFalse};
+ghost use Rattle.sat_watch.specs.Chains.{holders, HasCursor, IsPlaceOf, head_in, next_on, literals, watchers};
+ghost use Rattle.sat_watch.specs.Watched.{AreWhole, GoesTo, HasCounted, IsVisited, OtherIsTrue, is_false, AreFalse};
 
 use crate::chains::Chains;
 use crate::entry::TrailEntry;
@@ -68,7 +68,8 @@ fn visit_clause(
 }
 
 /// Walks along the chain of `f`, which is false. Gives a clause that is false, or none; then the
-/// other watched literal of each clause that still watches `f` is true.
+/// other watched literal of each clause that still watches `f` is true, and each of these was
+/// looked at.
 pub(crate) fn walk(
     chains: &mut Chains,
     trail: &mut Trail,
@@ -89,14 +90,16 @@ pub(crate) fn walk(
         (λ c. AreFalse trail.new.entries (literals chains.new.clauses c)) }
     ensures looks { looks.new ≤ looks.old + holders f chains.old.clauses }
     ensures counted { looks.old ≤ looks.new }
+    ensures each { IfNone result
+        (HasCounted looks.old (watchers f chains.new.clauses) looks.new) }
 {
     let mut walked: u64 = 0;
     let mut before = Link::none();
     let mut next = chains.head(f);
     while let Some(clause) = next {
-        walked = walked.wrapping_add(1);
         let at = chains.place(clause, f);
         let after = chains.after(at);
+        walked += 1;
         let Some(last) = visit_clause(chains, trail, f, level, before, at, after) else {
             *looks = looks.saturating_add(walked);
             return Some(clause);

@@ -10,7 +10,7 @@ ghost use Rattle.sat_watch.specs.Forget.{IsNoReason, OthersMove, OthersStay, for
 ghost use Rattle.sat_watch.specs.Levels.{due_without as due_without_of};
 ghost use Rattle.sat_watch.specs.Trail.{AreWithin, IsOpen, IsOnce, place_in, value_in};
 ghost use Rattle.sat_watch.specs.Watched.{IsReason, is_false, true_at, AreFalse};
-ghost use Rattle.sat_watch.specs.Watches.{AreInPlace, Attaches, HasLevels, IsOnlyOne, MayAttach, highest, IsSettledAt, IsSettledState, IsWithinLooks, Propagates, assumed, attached_behind, first_attached, gone_back, id_at, implied, is_attached, left_queued, lits_at};
+ghost use Rattle.sat_watch.specs.Watches.{AreInPlace, Attaches, HasLevels, HasLooked, IsOnlyOne, MayAttach, highest, IsSettledAt, IsSettledState, IsWithinLooks, Propagates, assumed, attached_behind, first_attached, gone_back, id_at, implied, is_attached, left_queued, lits_at, watcher_count};
 
 use crate::chains::Chains;
 use crate::choice::{free_position, highest_position};
@@ -345,6 +345,9 @@ impl Watches {
             (λ c. AreFalse self.new.trail (lits_at self.new.clauses c)) }
         ensures looks { IsWithinLooks self.old self.new result looks.old looks.new }
         ensures counted { looks.old ≤ looks.new }
+        ensures each { IfNone result (HasLooked self.old self.new looks.old looks.new) }
+        ensures fewer { (l : Lit) → is_false self.old.trail l ≡ true
+            → watcher_count l self.new.clauses ≤ watcher_count l self.old.clauses }
         ensures front { length self.new.trail + self.old.queued
             ≡ length self.old.trail + left_queued self.new result + 1 }
         ensures few { length self.new.trail ≤ self.new.vars }
@@ -383,9 +386,10 @@ impl Watches {
     /// makes a literal true any more. No clause is due before.
     ///
     /// Each look at a clause adds one to `looks`, up to 2^64 - 1. For each literal that is taken
-    /// from the queue there are at most as many looks as clauses hold its negation, and only the
-    /// watched ones are looked at; a look costs the literals of the clause at most. A literal whose
-    /// walk ends in a false clause stays queued, and [`Watches::back_to`] drops it.
+    /// from the queue there are at most as many looks as clauses hold its negation, and, where no
+    /// clause is false, at least as many as still watch it; a look costs the literals of the clause
+    /// at most. A literal whose walk ends in a false clause stays queued, and [`Watches::back_to`]
+    /// drops it.
     pub fn propagate(&mut self, looks: &mut u64) -> Option<ClauseRef>
         requires quiet { self.old.due ≡ None }
         ensures propagates { Propagates self.old self.new }
@@ -396,6 +400,7 @@ impl Watches {
             (λ c. AreFalse self.new.trail (lits_at self.new.clauses c)) }
         ensures looks { IsWithinLooks self.old self.new result looks.old looks.new }
         ensures counted { looks.old ≤ looks.new }
+        ensures each { IfNone result (HasLooked self.old self.new looks.old looks.new) }
     {
         while self.has_queued() {
             if let Some(c) = self.take_queued(looks) {

@@ -1,7 +1,7 @@
-use Rattle.std.proofs.Common.{◌+◌, ◌%◌, ◌^◌, refl, sym, subst, ◌∙◌, arith}
+use Rattle.std.proofs.Common.{refl, sym, subst, ◌∙◌, arith}
 use Rattle.sat_watch.specs.Watched.{IsWalking}
 use Rattle.sat_watch.proofs.GoesLemmas.{goes_trans}
-use Rattle.sat_watch.proofs.WalkLemmas.{few_here, goes_here, walk_begins, walk_ends, walk_shorter, walks_on}
+use Rattle.sat_watch.proofs.WalkLemmas.{counts_here, few_here, goes_here, walk_begins, walk_counts, walk_ends, walk_shorter, walks_on}
 use Rattle.sat_watch.proofs.visit.walk.Goals as goal
 
 pub loop-next-init : goal.loop-next-init
@@ -17,6 +17,14 @@ loop-next-init c = record {
       c.head-next.result
       c.requires.whole.chained c.requires.within c.head-next.ensures);
 }
+
+pub overflow_add-walked : goal.overflow_add-walked
+overflow_add-walked c =
+    let l = c.loop-next in
+    let few = counts_here c.args.trail.now.entries c.args.level c.args.f
+    c.args.chains.now.clauses 0 l.chains l.trail.entries l.before l.next l.walked
+    l.invariant.walking c.in-Some.clause c.in-Some.is c.after-after.ensures.few in
+    record { fits = omega arith }
 
 pub place-at-requires : goal.place-at-requires
 place-at-requires c =
@@ -58,8 +66,7 @@ loop-next-preserved c =
           c.in-Some.clause c.in-Some.is c.place-at.result c.place-at.ensures.clause
           c.after-after.result c.visit_clause.new.chains c.visit_clause.new.trail.entries
           c.in-Some-visit_clause.last
-          c.in-Some-visit_clause.ensures.visited c.visit_clause.ensures.goes
-          ((l.walked + 1) % 2 ^ 64) (omega arith);
+          c.in-Some-visit_clause.ensures.visited c.visit_clause.ensures.goes;
     }
 
 pub returns-in_default-visit_clause-clause-looks : goal.returns-in_default-visit_clause-clause-looks
@@ -74,6 +81,14 @@ pub returns-clause-looks : goal.returns-clause-looks
 returns-clause-looks c =
     let l = c.loop-next in let few = l.invariant.walking.few in
     omega (arith, c.saturating_add-2.ensures, l.invariant.looks, few)
+
+pub returns-clause-each : goal.returns-clause-each
+returns-clause-each c =
+    let l = c.loop-next in
+    let each = walk_counts c.args.trail.now.entries c.args.level c.args.f c.args.chains.now.clauses
+    0 l.chains l.trail.entries l.before l.next l.walked l.invariant.walking c.in_default.is
+    l.invariant.whole.chained in
+    omega (arith, c.saturating_add-2.ensures, l.invariant.looks)
 
 pub returns-clause-none : goal.returns-clause-none
 returns-clause-none c =

@@ -1,5 +1,5 @@
 use Rattle.std.proofs.Common.{Some, None, arith}
-use Rattle.sat_watch.proofs.WatchesLemmas.{looks_none, looks_on, propagates_refl, propagates_trans}
+use Rattle.sat_watch.proofs.WatchesLemmas.{each_none, each_on, looks_none, looks_on, propagates_refl, propagates_trans}
 use Rattle.sat_watch.proofs.watches.Watches.propagate.Goals as goal
 
 pub returns-in-Some-clause-propagates : goal.returns-in-Some-clause-propagates
@@ -22,6 +22,7 @@ loop-self-init c = record {
   front = omega arith;
   looks = looks_none c.args.self.now c.args.looks.now;
   counted = omega arith;
+  each = each_none c.args.self.now c.args.looks.now;
 }
 
 pub loop-self-preserved : goal.loop-self-preserved
@@ -41,4 +42,8 @@ loop-self-preserved c =
           l.invariant.propagates.clauses some queue e.propagates.trail e.front l.invariant.front
           l.invariant.looks e.looks;
       counted = let now = l.invariant.counted in let more = e.counted in omega arith;
+      each =
+          each_on c.args.self.now l.self c.take_queued.new.self e.propagates.added
+          c.args.looks.now l.looks c.take_queued.new.looks some queue e.propagates.trail e.front
+          l.invariant.front e.fewer l.invariant.each e.each;
     }

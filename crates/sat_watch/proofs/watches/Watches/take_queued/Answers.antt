@@ -4,7 +4,7 @@ use Rattle.sat_arena.specs.declared.clause_ref.ClauseRef.{ClauseRef}
 use Rattle.sat_watch.specs.Levels.{IsWatchStore}
 use Rattle.sat_watch.specs.Watched.{is_false}
 use Rattle.sat_watch.proofs.LevelLemmas.{store_stopped, store_taken}
-use Rattle.sat_watch.proofs.WatchesLemmas.{at_false, at_queue, attached_held, attached_lits, step_looks, step_propagates}
+use Rattle.sat_watch.proofs.WatchesLemmas.{at_false, at_queue, attached_held, attached_lits, step_each, step_fewer, step_looks, step_propagates}
 use Rattle.sat_watch.proofs.watches.Watches.take_queued.Goals as goal
 
 pub negation-requires : goal.negation-requires
@@ -136,3 +136,32 @@ returns-clause-looks c =
     go.grows.added None c.args.looks.now c.walk-found.new.looks
     c.self.view_is go.grows.is some_queued few c.at-entry.ensures.value c.negation.ensures.value
     (omega arith) c.walk-found.ensures.looks
+
+pub returns-in-Some-clause-fewer : goal.returns-in-Some-clause-fewer
+returns-in-Some-clause-fewer c =
+    let i = c.self.inside in
+    step_fewer c.args.self.now i.chains c.walk-found.new.chains i.trail c.walk-found.new.trail
+    i.queued i.level i.due c.negation.result c.self.view_is c.self.invariant.whole.chained.placed
+    c.walk-found.ensures.whole.chained.placed c.walk-found.ensures.goes
+
+pub returns-clause-fewer : goal.returns-clause-fewer
+returns-clause-fewer c =
+    let i = c.self.inside in
+    step_fewer c.args.self.now i.chains c.walk-found.new.chains i.trail c.walk-found.new.trail
+    i.queued i.level i.due c.negation.result c.self.view_is c.self.invariant.whole.chained.placed
+    c.walk-found.ensures.whole.chained.placed c.walk-found.ensures.goes
+
+pub returns-clause-each : goal.returns-clause-each
+returns-clause-each c =
+    let i = c.self.inside in let t = c.at-entry.result in
+    let q = at_queue i.chains i.trail i.queued i.level i.due c.args.self.now c.self.invariant
+    c.self.view_is c.requires.quiet c.requires.some in
+    let some_queued = q.some in let few = q.few in
+    let go = c.walk-found.ensures.goes in
+    let len = c.len.ensures in let was = c.len-before.ensures in
+    let longer = ap length go.grows.is ∙ length-append go.grows.added i.trail.entries in
+    step_each c.args.self.now i.chains c.walk-found.new.chains i.trail c.walk-found.new.trail
+    i.queued (i.queued + (c.len.result - c.len-before.result) - 1) i.level i.due c.negation.result t
+    go.grows.added c.args.looks.now c.walk-found.new.looks c.self.view_is go.grows.is some_queued
+    few c.at-entry.ensures.value c.negation.ensures.value (omega arith)
+    c.in_default.ensures.each
