@@ -25,7 +25,8 @@ run-requires c =
     let k = stored_at c.args.self.now.clauses c.args.c in
     let there = lies c.block-block.ensures.clauses c.requires.held in let inside = there.inside in
     let long : c.unmarked_length.result ≡ length k.lits =
-    c.unmarked_length.ensures ∙ rw (c.word.ensures ∙ there.first) (head_length (length k.lits) k.mark) in
+    c.unmarked_length.ensures ∙ rw (c.word.ensures ∙ there.first)
+    (head_length (length k.lits) k.mark) in
     omega arith
 
 pub returns-clause-value : goal.returns-clause-value
@@ -33,7 +34,8 @@ returns-clause-value c =
     let k = stored_at c.args.self.now.clauses c.args.c in
     let there = lies c.block-block.ensures.clauses c.requires.held in
     let long : c.unmarked_length.result ≡ length k.lits =
-    c.unmarked_length.ensures ∙ rw (c.word.ensures ∙ there.first) (head_length (length k.lits) k.mark) in
+    c.unmarked_length.ensures ∙ rw (c.word.ensures ∙ there.first)
+    (head_length (length k.lits) k.mark) in
     c.run.ensures ∙ rw long there.run
 
 pub returns-clause-few : goal.returns-clause-few
@@ -42,7 +44,8 @@ returns-clause-few c =
     let known = c.block-block.ensures.clauses in
     let there = lies known c.requires.held in
     let long : c.unmarked_length.result ≡ length k.lits =
-    c.unmarked_length.ensures ∙ rw (c.word.ensures ∙ there.first) (head_length (length k.lits) k.mark) in
+    c.unmarked_length.ensures ∙ rw (c.word.ensures ∙ there.first)
+    (head_length (length k.lits) k.mark) in
     let same : c.run.result.now ≡ k.lits = c.run.ensures ∙ rw long there.run in
     let fits = storable_at _ c.args.c known.storable c.requires.held in let few = fits.few in
     rw same (omega arith)
