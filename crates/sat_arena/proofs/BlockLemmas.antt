@@ -1,14 +1,14 @@
 -- What is known of a block from its words, and what a write and a cut make of it.
-use Rattle.std.proofs.Common.{◌≡◌, ℕ, ◌+◌, ◌-◌, ◌<◌, ◌≤◌, [], ◌∷◌, ◌++◌, List, map, length, set, take, drop, Option, Some, refl, sym, ap, ◌∙◌, subst, arith, length-append, length-set, length-take}
+use Rattle.std.proofs.Common.{◌≡◌, ℕ, ◌+◌, ◌-◌, ◌<◌, ◌≤◌, ◌++◌, List, map, length, set, take, drop, Option, Some, refl, sym, ap, ◌∙◌, subst, arith, length-append, length-set, length-take}
 use Rattle.std.specs.Global.{Global}
 use Rattle.sat_clause.specs.declared.literal.Lit.{Lit}
-use Rattle.sat_arena.specs.Places.{IsHeld, IsRun}
+use Rattle.sat_arena.specs.Places.{Begins, IsHeld, IsRun}
 use Rattle.sat_arena.specs.Row.{IsWritten}
 use Rattle.sat_arena.specs.Block.{IsBlock, Words, no_word, word_at, words_in}
 use Rattle.sat_arena.specs.declared.places.Start.{Start}
 use Rattle.sat_arena.specs.declared.places.Places.{Places}
 use Rattle.sat_arena.specs.declared.places.Claim.{Claim}
-use Rattle.sat_arena.proofs.PlacesLemmas.{Begins, begins, begins_less, begins_more, begins_set, filled_at, full_again, length_full, run_at, words_are}
+use Rattle.sat_arena.proofs.PlacesLemmas.{begins, begins_less, begins_set, filled_at, full_again, length_full, run_at, words_are}
 
 -- a block with these words in these places
 pub record Holds (start : Start Lit) (places : Places Lit) (claim : Option (Claim Lit Global))
@@ -85,18 +85,23 @@ module _ {start : Start Lit} {places : Places Lit} {claim : Option (Claim Lit Gl
       (begins_set places.slots now.words index word front lt))
       (sym (length-set now.words index word ∙ count)) h.within
 
-  -- a word was written behind the others
-  pub word_behind : {new : Places Lit} (word : Lit) → 1 ≤ now.spare →
-      IsWritten places len word new →
-      Holds start new claim alloc (len + 1) capacity (now.words ++ word ∷ [])
-  word_behind {new} word room written =
+  -- words were written behind the others
+  pub words_behind : {new : Places Lit} (words : List Lit) → length words ≤ now.spare →
+      new.start ≡ places.start → length new.slots ≡ length places.slots →
+      ((front : List Lit) → len ≡ length front → Begins places.slots front →
+      Begins new.slots (front ++ words)) →
+      Holds start new claim alloc (len + length words) capacity (now.words ++ words)
+  words_behind {new} words room here size behind =
       let spare : capacity - len ≡ now.spare = ap (λ (v : Words). v.spare) view in
-      let all = h.row.1 in let n = count in let long = length-append now.words (word ∷ []) in
-      with_words new (len + 1) (now.words ++ word ∷ []) written.0
-      (ap length written.1 ∙ length-set places.slots len (Some word))
-      (subst (λ slots. Begins slots (now.words ++ word ∷ [])) (sym written.1)
-      (begins_more places.slots now.words len word front (sym count) (omega arith)))
-      (omega arith) (omega arith)
+      let n = count in let long = length-append now.words words in
+      with_words new (len + length words) (now.words ++ words) here size
+      (behind now.words (sym count) front) (omega arith) (omega arith)
+
+  -- so many words have room behind the others
+  pub room_behind : (n : ℕ) → n ≤ now.spare → len + n ≤ length places.slots
+  room_behind n room =
+      let spare : capacity - len ≡ now.spare = ap (λ (v : Words). v.spare) view in
+      let all = h.row.1 in let within = h.within in omega arith
 
   -- the words were cut off behind the first n
   pub words_cut : (n : ℕ) → n ≤ length now.words →

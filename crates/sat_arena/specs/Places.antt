@@ -1,5 +1,5 @@
 -- The places of a row, each empty or with a value.
-use Rattle.std.specs.Prelude.{◌≡◌, ℕ, ◌+◌, ◌≤◌, get_or, List, [], ◌∷◌, map, length, take, drop, Option, Some, None}
+use Rattle.std.specs.Prelude.{◌≡◌, ℕ, ◌+◌, ◌≤◌, get_or, List, [], ◌∷◌, ◌++◌, map, length, take, drop, Option, Some, None}
 
 module _ {X : Type 0} where
   -- the values in their order, without the empty places
@@ -16,3 +16,8 @@ module _ {X : Type 0} where
   abbrev pub IsRun : List (Option X) → ℕ → ℕ → Type 0
   IsRun slots from len =
       (from + len ≤ length slots) × ((xs : List X) × (take len (drop from slots) ≡ map Some xs))
+
+  -- the places begin with these values
+  pub record Begins (slots : List (Option X)) (values : List X) : Type 0 where
+    pub rest : List (Option X)
+    pub is : slots ≡ map Some values ++ rest

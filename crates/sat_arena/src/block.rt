@@ -1,8 +1,10 @@
 //! A row of words in one block of memory, which grows on request alone.
 
-ghost use Rattle.std.specs.Prelude.{◌≡◌, ◌+◌, ◌-◌, ◌^◌, ◌<◌, ◌≤◌, [], ◌∷◌, ◌++◌, length, take, drop, slice_set, IfOk, OnOk, Some};
+ghost use Rattle.std.specs.Prelude.{◌≡◌, ◌+◌, ◌-◌, ◌^◌, ◌<◌, ◌≤◌, [], ◌∷◌, ◌++◌, length, take, drop, slice_set, IfOk, List, OnOk, Some};
+ghost use Rattle.sat_clause.specs.declared.literal.Lit.{Lit};
 ghost use Rattle.sat_arena.specs.Block.{slid, word_at};
 ghost use Rattle.sat_arena.specs.Layout.{lower as lower_of, upper as upper_of, written_new};
+ghost use Rattle.sat_arena.specs.Places.{Begins};
 
 use crate::layout::{NO_LINK, head, lower, upper, word};
 use crate::places::{Claim, Places, Start, allocate, deallocate};
@@ -30,6 +32,21 @@ impl Model for Block {
     ghost view = { λ b. record { words = words_in b.places b.len; spare = b.capacity - b.len } };
 
     ghost invariant = { λ b. IsBlock b.start b.places b.claim b.alloc b.len b.capacity };
+}
+
+/// Writes words into the places from one on. What the places before it hold stays there.
+fn write_all(places: &mut Places<Lit>, start: Start<Lit>, from: usize, words: &[Lit])
+    requires row { start.address ≡ places.old.start }
+    requires room { from + length words.now ≤ length places.old.slots }
+    requires small { length places.old.slots < 2 ^ 63 }
+    ensures row { places.new.start ≡ places.old.start }
+    ensures size { length places.new.slots ≡ length places.old.slots }
+    ensures behind { (front : List Lit) → from ≡ length front → Begins places.old.slots front
+        → Begins places.new.slots (front ++ words.now) }
+{
+    for k in 0..words.len() {
+        places.write(start, from + k, words[k]);
+    }
 }
 
 impl Block {
@@ -140,25 +157,14 @@ impl Block {
         self.places.write(start, j, first);
     }
 
-    /// Writes one more word behind the others.
-    pub(crate) fn append(&mut self, word: Lit)
-        requires { 1 ≤ self.old.spare }
-        ensures words { self.new.words ≡ self.old.words ++ word ∷ [] }
-        ensures spare { self.new.spare ≡ self.old.spare - 1 }
-    {
-        self.places.write(self.start, self.len, word);
-        self.len += 1;
-    }
-
     /// Writes these words behind the others.
     pub(crate) fn extend(&mut self, words: &[Lit])
         requires { length words.now ≤ self.old.spare }
         ensures words { self.new.words ≡ self.old.words ++ words.now }
         ensures spare { self.new.spare ≡ self.old.spare - length words.now }
     {
-        for word in words {
-            self.append(*word);
-        }
+        write_all(&mut self.places, self.start, self.len, words);
+        self.len += words.len();
     }
 
     /// The same words in another block, with room for so many in all.
@@ -183,22 +189,15 @@ impl Block {
         ensures words { self.new.words ≡ self.old.words ++ written_new id lits.now }
         ensures spare { self.new.spare ≡ self.old.spare - (length lits.now + 6) }
     {
-        self.append(head(lits.len() as u32, false));
-        self.append(word(id));
-        self.append_link();
-        self.append_link();
+        self.extend(&[
+            head(lits.len() as u32, false),
+            word(id),
+            lower(NO_LINK),
+            upper(NO_LINK),
+            lower(NO_LINK),
+            upper(NO_LINK),
+        ]);
         self.extend(lits);
-    }
-
-    /// Writes the two words of no link.
-    fn append_link(&mut self)
-        requires { 2 ≤ self.old.spare }
-        ensures words { self.new.words
-            ≡ self.old.words ++ lower_of NO_LINK ∷ upper_of NO_LINK ∷ [] }
-        ensures spare { self.new.spare ≡ self.old.spare - 2 }
-    {
-        self.append(lower(NO_LINK));
-        self.append(upper(NO_LINK));
     }
 
     /// Moves the `len` words from `from` on to an earlier place, word by word.
