@@ -12,8 +12,8 @@ use Rattle.fpga_types.specs.declared.route.Elem.{Elem}
 use Rattle.fpga_types.specs.declared.route.RouteNet.{RouteNet}
 use Rattle.fpga_types.specs.declared.route.RouteText.{RouteText}
 use Rattle.fpga_bounds.specs.Pairs.{AreDistinct}
-use Rattle.fpga_bounds.proofs.SlotTableLemmas.{same_slot-is, same_slot-itself}
-use Rattle.fpga_bounds.proofs.SlotsOfLemmas.{any-first_seen, channel_slots, same_slot-swap}
+use Rattle.fpga_bounds.proofs.SlotTableLemmas.{same_slot-is, same_slot-itself, same_slot-swap}
+use Rattle.fpga_bounds.proofs.SlotsOfLemmas.{any-first_seen, channel_slots}
 
 -- the net of the slot of a channel line
 pub slot-net : (n : ℕ) (e : Elem) (s : Slot) → elem_slot n e ≡ Some s → s.net ≡ n

@@ -25,7 +25,7 @@ use Rattle.fpga_types.proofs.MeetingLemmas.{both_true}
 use Rattle.fpga_types.proofs.SlotLemmas.{first_seen-push}
 use Rattle.fpga_bounds.specs.SlotTable.{with_slot}
 use Rattle.fpga_bounds.specs.NetFit.{with_elem, slots_so_far}
-use Rattle.fpga_bounds.proofs.SlotTableLemmas.{same_slot-is, same_slot-itself}
+use Rattle.fpga_bounds.proofs.SlotTableLemmas.{same_slot-is, same_slot-itself, same_slot-swap}
 
 -- the slot of each channel line, as often as it stands there
 abbrev pub channel_slots : List RouteNet → List Slot
@@ -43,19 +43,6 @@ channel_slots-push nets net =
     )
     (ap (λ zs. channel_slots nets ++ zs)
     (append-nil (filter_map (elem_slot (length nets)) net.elems)))
-
-pub same_slot-swap : (a b : Slot) → same_slot a b ≡ same_slot b a
-same_slot-swap a b = go (same_slot a b) (same_slot b a) refl refl
-  where
-    go : (p q : Bool) → same_slot a b ≡ p → same_slot b a ≡ q → p ≡ q
-    go true true e f = refl
-    go false false e f = refl
-    go true false e f =
-        absurd (false≢true (sym f ∙ subst (λ (z : Slot). same_slot z a ≡ true) (same_slot-is a b e)
-        (same_slot-itself a)))
-    go false true e f =
-        absurd (false≢true (sym e ∙ subst (λ (z : Slot). same_slot z b ≡ true) (same_slot-is b a f)
-        (same_slot-itself b)))
 
 -- what is left out as seen already is no other slot
 any-filter : (s y : Slot) (xs : List Slot) → same_slot s y ≡ false

@@ -7,15 +7,17 @@ use Rattle.fpga_types.specs.Slots.{same_slot}
 use Rattle.fpga_types.specs.declared.limits.TheConstants.{SLOT_LIMIT}
 use Rattle.fpga_types.specs.declared.problem.Slot.{Slot}
 use Rattle.fpga_types.specs.contracts.problem.SlotOrd.TheImpl as slot_ord
+use Rattle.fpga_bounds.specs.Pairs.{AreDistinct}
 
 -- the order of slots
 abbrev pub slot_cmp : Slot → Slot → Ordering
 slot_cmp = (slot_ord.ghosts).cmp
 
--- each slot is found at the number of its first place, no other is found, and there are at most
--- 200,000
+-- each slot stands once and is found at the number of its place, no other is found, and there are at
+-- most 200,000
 pub record IsNumbered (all : List Slot) (numbers : BTreeMap Slot ℕ) : Type 0 where
   pub found : (s : Slot) → get slot_cmp numbers s ≡ position_from (same_slot s) 0 all
+  pub once : AreDistinct all
   pub limit : length all ≤ SLOT_LIMIT
 
 -- the slots with this one at their end, unless it is one of them

@@ -5,7 +5,7 @@ ghost use Rattle.fpga_types.specs.Legal.{route_of, with_track};
 ghost use Rattle.fpga_types.specs.Slots.{slots};
 
 use crate::slot_table::SlotTable;
-use crate::step_list::number_of_elem;
+use crate::step_list::number_behind;
 use fpga_types::{Elem, Items, NET_LIMIT, Name, RouteNet, RouteText};
 use std::alloc::{AllocError, Global};
 
@@ -40,24 +40,27 @@ fn copied_nets(
     ensures { IfOk result (λ copy. copy.items ≡ nets_with_tracks table.now tracks.now nets.now) }
 {
     let mut copy = Vec::with_capacity(alloc, nets.len())?;
+    let mut next = 0;
     for n in 0..nets.len() {
-        copy.push(copied_net(alloc, &nets[n], n as u32, table, tracks)?)?;
+        copy.push(copied_net(alloc, &nets[n], n as u32, table, tracks, &mut next)?)?;
     }
     Ok(copy)
 }
 
-/// A copy of the net at position `n` in which each channel line has the track of its slot.
+/// A copy of the net at position `n` in which each channel line has the track of its slot. The
+/// number of the slot that may come next is a guess, here and below.
 fn copied_net(
     alloc: Global,
     net: &RouteNet,
     n: u32,
     table: &SlotTable,
     tracks: &[u32],
+    next: &mut u32,
 ) -> Result<RouteNet, AllocError>
     ensures { IfOk result (λ copy. copy ≡ net_with_tracks table.now tracks.now n net.now) }
 {
     let name = copied_name(alloc, &net.name)?;
-    let elems = copied_elems(alloc, net.elems.as_slice(), n, table, tracks)?;
+    let elems = copied_elems(alloc, net.elems.as_slice(), n, table, tracks, next)?;
     let kept = copied_names(alloc, net.kept.as_slice())?;
     Ok(RouteNet {
         k: net.k,
@@ -76,21 +79,22 @@ fn copied_elems(
     n: u32,
     table: &SlotTable,
     tracks: &[u32],
+    next: &mut u32,
 ) -> Result<Vec<Elem>, AllocError>
     ensures { IfOk result (λ copy. copy.items ≡ map (with_track table.now tracks.now n) elems.now) }
 {
     let mut copy = Vec::with_capacity(alloc, elems.len())?;
     for e in elems {
-        copy.push(elem_with_track(*e, n, table, tracks))?;
+        copy.push(elem_with_track(*e, n, table, tracks, next))?;
     }
     Ok(copy)
 }
 
 /// The element with the track of its slot, if it is a channel.
-fn elem_with_track(e: Elem, n: u32, table: &SlotTable, tracks: &[u32]) -> Elem
+fn elem_with_track(e: Elem, n: u32, table: &SlotTable, tracks: &[u32], next: &mut u32) -> Elem
     ensures { result ≡ with_track table.now tracks.now n e }
 {
-    let Some(number) = number_of_elem(table, n, e) else {
+    let Some(number) = number_behind(table, n, e, next) else {
         return e;
     };
     Elem {

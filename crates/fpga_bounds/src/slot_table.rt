@@ -72,6 +72,18 @@ impl SlotTable {
         }
     }
 
+    /// The number of the slot, as `number_of` gives it, by one look where it is the guess.
+    pub(crate) fn number_near(&self, slot: Slot, guess: u32) -> u32
+        ensures { result ≡ slot_number self.now slot }
+    {
+        if let Some(there) = self.slots.get(guess as usize) {
+            if *there == slot {
+                return guess;
+            }
+        }
+        self.number_of(slot)
+    }
+
     /// Puts the slot at the end, unless the table has it. After an error the table is as it was.
     pub(crate) fn add(&mut self, slot: Slot) -> Result<(), AllocError>
         requires room { list_any (same_slot slot) self.old ≡ false → length self.old < SLOT_LIMIT }

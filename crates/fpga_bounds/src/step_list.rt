@@ -17,24 +17,28 @@ pub(crate) fn steps_of(
     ensures { IfOk result (λ found. found.items ≡ steps_in table.now nets.now) }
 {
     let mut found = Vec::new(alloc);
+    let mut next = 0;
     for n in 0..nets.len() {
-        add_steps(&mut found, table, n as u32, nets[n].elems.as_slice())?;
+        let elems = nets[n].elems.as_slice();
+        add_steps(&mut found, table, n as u32, elems, &mut next)?;
     }
     Ok(found)
 }
 
-/// Adds the steps of the net at position `net`, which has these elements.
+/// Adds the steps of the net at position `net`, which has these elements. The number of the slot
+/// that may come next is a guess.
 fn add_steps(
     found: &mut Vec<RouteStep>,
     table: &SlotTable,
     net: u32,
     elems: &[Elem],
+    next: &mut u32,
 ) -> Result<(), AllocError>
     ensures { OnOk result (found.new.items ≡ found.old.items ++ net_steps table.now net elems.now) }
 {
     let mut previous: Option<u32> = None;
     for e in elems {
-        let number = number_of_elem(table, net, *e);
+        let number = number_behind(table, net, *e, next);
         add_step(found, previous, number)?;
         previous = number;
     }
@@ -47,6 +51,17 @@ pub(crate) fn number_of_elem(table: &SlotTable, net: u32, e: Elem) -> Option<u32
 {
     let slot = e.slot(net)?;
     Some(table.number_of(slot))
+}
+
+/// The number of the element's slot, if it is a channel. The number is guessed, and the one behind
+/// it is the next guess: slots have their numbers in the order of the channels that come first.
+pub(crate) fn number_behind(table: &SlotTable, net: u32, e: Elem, next: &mut u32) -> Option<u32>
+    ensures { result ≡ elem_number table.now net e }
+{
+    let slot = e.slot(net)?;
+    let number = table.number_near(slot, *next);
+    *next = number.wrapping_add(1);
+    Some(number)
 }
 
 /// Adds the step between two slots, where there are two.

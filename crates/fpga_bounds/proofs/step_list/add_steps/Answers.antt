@@ -15,12 +15,12 @@ loop-e-preserved c =
     record {
       found = steps-more c.args.table.now c.args.net elems c.loop-e.e-index
           (get_or elems c.loop-e.e-index NO_ELEM) _ _ _ _ _ here c.loop-e.invariant.found
-          c.loop-e.invariant.previous c.number_of_elem-number.ensures c.in_ok-add_step.ensures;
+          c.loop-e.invariant.previous c.number_behind-number.ensures c.in_ok-add_step.ensures;
       previous =
           rw (
             add-one,
             take-get elems c.loop-e.e-index (get_or elems c.loop-e.e-index NO_ELEM) here,
             last-push None (take c.loop-e.e-index elems) (get_or elems c.loop-e.e-index NO_ELEM),
           )
-          c.number_of_elem-number.ensures;
+          c.number_behind-number.ensures;
     }

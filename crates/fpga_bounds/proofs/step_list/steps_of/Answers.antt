@@ -17,7 +17,7 @@ loop-n-preserved c =
     c.index-nets-n.result _ here below
     (c.in_ok-add_steps.ensures ∙ rw (
       c.loop-n.invariant,
-      c.as_slice.ensures,
+      c.as_slice-elems.ensures,
       ←
           c.index-nets-n.is,
     ) refl)
