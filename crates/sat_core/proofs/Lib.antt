@@ -1,6 +1,7 @@
 pub mod AnalysisLaws
 pub mod AttachLaws
 pub mod AttachedLaws
+pub mod ClashLaws
 pub mod DecideLaws
 pub mod DistinctLaws
 pub mod DoomedLaws
@@ -25,6 +26,7 @@ pub mod RelevantLaws
 pub mod SameLaws
 pub mod SearchLaws
 pub mod StartLaws
+pub mod TestLemmas
 pub mod TrailPlaces
 pub mod TurnLaws
 pub mod UnderwayLemmas

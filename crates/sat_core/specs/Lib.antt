@@ -17,4 +17,5 @@ pub mod SearchLog
 pub mod SearchStore
 pub mod Stands
 pub mod Start
+pub mod Tests
 pub mod Underway
