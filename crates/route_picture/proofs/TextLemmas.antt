@@ -1,5 +1,5 @@
 -- What the readers answer of four texts, each with the values before it, is what the texts say.
-use Rattle.std.proofs.Common.{◌≡◌, ◌⊎◌, inl, inr, subst, sym, refl, ◌∙◌}
+use Rattle.std.proofs.Common.{◌≡◌, inl, inr, subst, refl, ◌∙◌}
 use Rattle.fpga_net.specs.Codes.{net_faults}
 use Rattle.fpga_net.specs.Value.{net_value}
 use Rattle.fpga_place.specs.Codes.{place_faults}

@@ -2,3 +2,4 @@ pub mod Stop
 pub mod Words
 pub mod Files
 pub mod Texts
+pub mod Printed

@@ -1,5 +1,5 @@
 -- What four texts say together, or why they say nothing.
-use Rattle.std.specs.Prelude.{◌≡◌, ◌⊎◌, None}
+use Rattle.std.specs.Prelude.{◌⊎◌}
 use Rattle.fpga_arch.specs.Codes.{arch_faults}
 use Rattle.fpga_arch.specs.Value.{arch_value}
 use Rattle.fpga_net.specs.Codes.{net_faults}
@@ -16,6 +16,7 @@ use Rattle.fpga_types.specs.declared.arch.Arch.{Arch}
 use Rattle.fpga_types.specs.declared.netlist.Netlist.{Netlist}
 use Rattle.fpga_types.specs.declared.placement.Placement.{Placement}
 use Rattle.fpga_types.specs.declared.route.RouteText.{RouteText}
+use Rattle.route_picture.specs.declared.drawn.Texts.{Texts}
 use Rattle.route_picture.specs.declared.source.Source.TheVariants.{Architecture, Netlist as NetlistFile, Placement as PlacementFile, Route}
 use Rattle.route_picture.specs.declared.stop.Stop.{Stop}
 use Rattle.route_picture.specs.declared.stop.Stop.TheVariants.{Usage, Unread, TooLong, Faulty, Memory, Unprinted}
@@ -26,6 +27,15 @@ pub record FourTexts : Type 0 where
   pub net : Bytes
   pub place : Bytes
   pub route : Bytes
+
+-- what was read of the files
+abbrev pub texts_said : Texts → FourTexts
+texts_said texts = record {
+  arch = texts.arch.items;
+  net = texts.net.items;
+  place = texts.place.items;
+  route = texts.route.items;
+}
 
 -- the values that the texts say, each for those before it
 abbrev pub arch_said : FourTexts → Arch
@@ -78,7 +88,8 @@ IsRefused texts (Faulty Route fault) =
     IsFaultless (arch_text_faults texts) × IsFaultless (net_text_faults texts)
     × IsFaultless (place_text_faults texts)
     × (IsRefusal (route_text_faults texts) fault
-    ⊎ (IsFaultless (route_text_faults texts) × IsRefusal (problem_faults (problem_said texts)) fault))
+    ⊎ (IsFaultless (route_text_faults texts)
+    × IsRefusal (problem_faults (problem_said texts)) fault))
 IsRefused texts Memory = ⊥
 IsRefused texts (Unread file) = ⊥
 IsRefused texts (TooLong file) = ⊥

@@ -1,14 +1,14 @@
 //! From words to a picture on standard output.
-ghost use Rattle.std.specs.Prelude.{◌≡◌, IfErr, IfOk, MatchResult};
-ghost use Rattle.desk_io.specs.Reading.{IsWhole};
-ghost use Rattle.route_picture.specs.Files.{IsUnread, name_of};
-ghost use Rattle.route_picture.specs.Texts.{AreFaultless, FourTexts, IsRefused, problem_said};
+ghost use Rattle.std.specs.Prelude.{◌≡◌, IfErr, IfOk, MatchResult, OnOk, map, string_bytes};
+ghost use Rattle.route_picture.specs.Files.{AreRead, IsText, IsUnread, StopsAt, name_of};
+ghost use Rattle.route_picture.specs.Printed.{IsDrawn, IsPrinted, IsStopped, IsUndrawn};
+ghost use Rattle.route_picture.specs.Texts.{AreFaultless, FourTexts, IsRefused, problem_said, texts_said};
 ghost use Rattle.route_picture.specs.Words.{words_said};
 
 use crate::source::Source;
 use crate::stop::Stop;
 use crate::words::{Words, read_words};
-use desk_io::{Desk, FileDesk, ReadStop, read_file};
+use desk_io::{Desk, ReadStop, Shelf, read_file};
 use fpga_arch::read_arch;
 use fpga_bounds::{PlacedProblem, fit};
 use fpga_net::read_net;
@@ -16,7 +16,6 @@ use fpga_place::read_place;
 use fpga_route::read_route;
 use route_draw::draw;
 use std::alloc::Global;
-use std::rt::Files;
 
 // No file is longer.
 const LIMIT: u64 = 1 << 26;
@@ -30,32 +29,62 @@ struct Texts {
     route: Vec<u8>,
 }
 
-/// Prints the picture that the words ask for.
-pub(crate) fn print_picture<R: Files + AllocGlobal + Print>(
-    rt: &R,
+/// Prints the picture that the words ask for: reads their files at the desk, and says the picture
+/// to the shelf.
+///
+/// Where it gives no picture it says why, and the shelf is as it was, but where that failed.
+pub(crate) fn print_picture<D: Desk, S: Shelf>(
+    alloc: Global,
+    desk: &mut D,
+    shelf: &mut S,
     words: &[String],
-) -> Result<(), Stop> {
-    let words = read_words(words)?;
-    let texts = read_texts(rt.alloc(), &mut FileDesk::new(rt), words)?;
-    let problem = problem(
-        rt.alloc(),
-        &texts.arch,
-        &texts.net,
-        &texts.place,
-        &texts.route,
-    )?;
-    let Ok(text) = draw(rt.alloc(), &problem, words.width) else {
+) -> Result<(), Stop>
+    ensures printed { OnOk result (IsPrinted (map string_bytes words.entry.now) LIMIT
+        (D.state desk.old).files (S.state shelf.old) (S.state shelf.new)) }
+    ensures stopped { IfErr result (IsStopped (map string_bytes words.entry.now) LIMIT
+        (D.state desk.old) (D.state desk.new) (S.state shelf.old) (S.state shelf.new)) }
+{
+    let words = match read_words(words) {
+        Ok(words) => words,
+        Err(stop) => return Err(stop),
+    };
+    let picture = match picture(alloc, desk, words) {
+        Ok(picture) => picture,
+        Err(stop) => return Err(stop),
+    };
+    let Ok(()) = shelf.say(picture.as_bytes()) else {
+        return Err(Stop::Unprinted);
+    };
+    Ok(())
+}
+
+// The picture of the files that the words name.
+fn picture<D: Desk>(alloc: Global, desk: &mut D, words: Words<'_>) -> Result<String, Stop>
+    ensures { MatchResult result
+        (λ picture. IsDrawn (words_said words.entry) LIMIT (D.state desk.old).files
+        (string_bytes picture))
+        (IsUndrawn (words_said words.entry) LIMIT (D.state desk.old) (D.state desk.new)) }
+{
+    let texts = match read_texts(alloc, desk, words) {
+        Ok(texts) => texts,
+        Err(stop) => return Err(stop),
+    };
+    let problem = match problem(alloc, &texts.arch, &texts.net, &texts.place, &texts.route) {
+        Ok(problem) => problem,
+        Err(stop) => return Err(stop),
+    };
+    let Ok(picture) = draw(alloc, &problem, words.width) else {
         return Err(Stop::Memory);
     };
-    match rt.print(text.as_str()) {
-        Ok(()) => Ok(()),
-        Err(_) => Err(Stop::Unprinted),
-    }
+    Ok(picture)
 }
 
 // The bytes of the files that the words name.
 fn read_texts<D: Desk>(alloc: Global, desk: &mut D, words: Words<'_>) -> Result<Texts, Stop>
-    ensures stop { IfErr result (IsUnread (words_said words.entry) LIMIT (D.state desk.new)) }
+    ensures { MatchResult result
+        (λ texts. AreRead (words_said words.entry) LIMIT (D.state desk.old) (texts_said texts)
+        (D.state desk.new))
+        (IsUnread (words_said words.entry) LIMIT (D.state desk.old) (D.state desk.new)) }
 {
     let arch = match bytes(alloc, desk, words, Source::Architecture) {
         Ok(bytes) => bytes,
@@ -89,9 +118,11 @@ fn bytes<D: Desk>(
     file: Source,
 ) -> Result<Vec<u8>, Stop>
     ensures files { (D.state desk.new).files ≡ (D.state desk.old).files }
-    ensures bytes { IfOk result (λ bytes. IsWhole (D.state desk.old).files
-        (name_of (words_said words.entry) file) bytes.items) }
-    ensures stop { IfErr result (IsUnread (words_said words.entry) LIMIT (D.state desk.new)) }
+    ensures bytes { IfOk result (λ bytes. IsText (D.state desk.old).files
+        (name_of (words_said words.entry) file) LIMIT bytes.items) }
+    ensures faults { IfOk result (λ _. (D.state desk.new).faults ≡ (D.state desk.old).faults) }
+    ensures stop { IfErr result (StopsAt file (name_of (words_said words.entry) file) LIMIT
+        (D.state desk.old).files (D.state desk.old).faults (D.state desk.new)) }
 {
     match read_file(alloc, desk, words.name(file), LIMIT) {
         Ok(bytes) => Ok(bytes),

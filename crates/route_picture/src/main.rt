@@ -21,6 +21,7 @@ mod words;
 
 use crate::drawn::print_picture;
 use crate::words::given_words;
+use desk_io::{FileDesk, FileShelf};
 use std::process::ExitCode;
 
 // The status where the system does not give the words.
@@ -30,7 +31,9 @@ fn main(rt: HostRuntime) -> ExitCode {
     let Ok(words) = given_words(&rt) else {
         return ExitCode::from(NO_WORDS);
     };
-    match print_picture(&rt, &words) {
+    let mut desk = FileDesk::new(&rt);
+    let mut shelf = FileShelf::new(&rt);
+    match print_picture(rt.alloc(), &mut desk, &mut shelf, &words) {
         Ok(()) => ExitCode::SUCCESS,
         Err(stop) => {
             let _ = eprintln!(rt; "route_picture: {stop}");

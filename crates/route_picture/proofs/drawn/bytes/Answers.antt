@@ -1,7 +1,10 @@
-use Rattle.std.proofs.Common.{refl}
+use Rattle.std.proofs.Common.{refl, rules}
 use Rattle.route_picture.proofs.drawn.bytes.Goals as goal
 
 pub returns-in-Err-TooLong-clause-stop : goal.returns-in-Err-TooLong-clause-stop
-returns-in-Err-TooLong-clause-stop g c =
-    rw (c.read_file.ensures.files, ← c.name.ensures)
-    (c.in-Err-TooLong.ensures.too_long (rw c.in-Err-TooLong.field-0-is refl))
+returns-in-Err-TooLong-clause-stop g c = (
+  refl,
+  rw (← c.name.ensures)
+      (c.in-Err-TooLong.ensures.too_long (rw c.in-Err-TooLong.field-0-is refl)),
+  search rules,
+)

@@ -1,0 +1,71 @@
+-- What is printed of the words and the files, or why nothing is.
+use Rattle.std.specs.Prelude.{◌≡◌, ◌⊎◌, ℕ, List, Option, None, Some}
+use Rattle.desk_io.specs.DeskState.{DeskState}
+use Rattle.desk_io.specs.Files.{FileMap}
+use Rattle.desk_io.specs.ShelfState.{FailsToSay, ShelfState, after_say}
+use Rattle.fpga_text.specs.Bytes.{Bytes}
+use Rattle.route_draw.specs.Picture.{IsPicture}
+use Rattle.route_picture.specs.Files.{AreTexts, IsUnread}
+use Rattle.route_picture.specs.Texts.{AreFaultless, FourTexts, IsRefused, problem_said}
+use Rattle.route_picture.specs.Words.{Asked, asked}
+use Rattle.route_picture.specs.declared.stop.Stop.{Stop}
+use Rattle.route_picture.specs.declared.stop.Stop.TheVariants.{Memory, Unprinted, Usage}
+
+-- a picture of the problem that the files of the words say, in channels of the width that they say
+pub record IsDrawn (ask : Asked) (limit : ℕ) (files : Option FileMap) (picture : Bytes) :
+    Type 0 where
+  pub texts : FourTexts
+  pub are_texts : AreTexts ask limit files texts
+  pub faultless : AreFaultless texts
+  pub is_picture : IsPicture (problem_said texts) ask.width picture
+
+-- the texts of the files are refused with this stop
+pub record AreRefused (ask : Asked) (limit : ℕ) (files : Option FileMap) (stop : Stop) :
+    Type 0 where
+  pub texts : FourTexts
+  pub are_texts : AreTexts ask limit files texts
+  pub refused : IsRefused texts stop
+
+-- no picture is drawn: a file is not read, its text is refused, or there was no memory
+abbrev pub IsUndrawn : Asked → (limit : ℕ) → (before now : DeskState) → Stop → Type 0
+IsUndrawn ask limit before now stop =
+    IsUnread ask limit before now stop ⊎ AreRefused ask limit before.files stop
+    ⊎ (stop ≡ Memory)
+
+-- the picture that the words ask for was said, and nothing else
+pub record IsPrinted (words : List Bytes) (limit : ℕ) (files : Option FileMap)
+    (before now : ShelfState) : Type 0 where
+  pub ask : Asked
+  pub asks : asked words ≡ Some ask
+  pub picture : Bytes
+  pub drawn : IsDrawn ask limit files picture
+  pub said : now ≡ after_say before picture
+
+-- the words ask for no picture
+pub record IsUnasked (words : List Bytes) (stop : Stop) : Type 0 where
+  pub none : asked words ≡ None
+  pub usage : stop ≡ Usage
+
+-- the picture that the words ask for is not drawn
+pub record IsUnmade (words : List Bytes) (limit : ℕ) (before now : DeskState) (stop : Stop) :
+    Type 0 where
+  pub ask : Asked
+  pub asks : asked words ≡ Some ask
+  pub undrawn : IsUndrawn ask limit before now stop
+
+-- the picture that the words ask for was not taken to its end
+pub record IsUnsaid (words : List Bytes) (limit : ℕ) (files : Option FileMap)
+    (before now : ShelfState) (stop : Stop) : Type 0 where
+  pub ask : Asked
+  pub asks : asked words ≡ Some ask
+  pub picture : Bytes
+  pub drawn : IsDrawn ask limit files picture
+  pub fails : FailsToSay before picture now
+  pub unprinted : stop ≡ Unprinted
+
+-- why nothing is printed, and that nothing is; or that the picture was not taken to its end
+abbrev pub IsStopped : List Bytes → (limit : ℕ) → (before now : DeskState) →
+    (old new : ShelfState) → Stop → Type 0
+IsStopped words limit before now old new stop =
+    ((new ≡ old) × (IsUnasked words stop ⊎ IsUnmade words limit before now stop))
+    ⊎ IsUnsaid words limit before.files old new stop
