@@ -1,5 +1,6 @@
 -- What is said of an outcome that was not asked for.
-use Rattle.std.specs.Prelude.{◌≡◌, ℕ, ◌++◌, ◌==◌, ◌||◌, ⊤, List, [], codes, decimal, Option, Some, None, if◌then◌else◌}
+use Rattle.std.specs.Prelude.{◌≡◌, ℕ, ◌++◌, ◌==◌, ◌||◌, ⊤, IsTrue, List, [], codes, decimal, Option, Some, None, if◌then◌else◌}
+use Rattle.code_words.specs.Phrases.{is_phrase}
 use Rattle.router_says.specs.Names.{file_said, name_in}
 use Rattle.router_top.specs.declared.outcome.Outcome.{Outcome}
 use Rattle.router_top.specs.declared.outcome.Outcome.TheVariants.{NotAccepted, NotLegal, InputFault, Limit, ReadFault}
@@ -55,13 +56,17 @@ abbrev pub limit_gap : Option TextFile → List ℕ
 limit_gap (Some file) = codes ": "
 limit_gap None = []
 
--- a text says what is wrong, for some reason in words
+-- a text that says so with some phrase as the reason
+abbrev pub GivesWhy : ((why : List ℕ) → List ℕ) → List ℕ → Type 0
+GivesWhy said text = (why : List ℕ) × IsTrue (is_phrase why) × (text ≡ said why)
+
+-- a text says what is wrong, and why
 abbrev pub Means : Outcome → List ℕ → Type 0
-Means (NotAccepted step cause) text = (why : List ℕ) × (text ≡ step_said step cause why)
-Means (NotLegal line cause) text = (why : List ℕ) × (text ≡ line_said line cause why)
-Means (InputFault file line code) text = (why : List ℕ) × (text ≡ line_said line code why)
+Means (NotAccepted step cause) text = GivesWhy (step_said step cause) text
+Means (NotLegal line cause) text = GivesWhy (line_said line cause) text
+Means (InputFault file line code) text = GivesWhy (line_said line code) text
 Means (Limit code count) text =
-    (why : List ℕ) × (text ≡ limit_gap (limit_file code) ++ limit_said code count why)
+    GivesWhy (λ why. limit_gap (limit_file code) ++ limit_said code count why) text
 Means _ text = ⊤
 
 -- after what stood in a text comes the file that is meant, then what is wrong, and a newline

@@ -1,8 +1,9 @@
 //! The words for each outcome.
-ghost use Rattle.std.specs.Prelude.{◌≡◌, ◌++◌, IfOk, IsTrue, List, OnOk, false, string_bytes, ℕ};
+ghost use Rattle.std.specs.Prelude.{◌≡◌, ◌++◌, IfOk, IfSome, IsOk, IsTrue, List, OnOk, false, string_bytes};
+ghost use Rattle.code_words.specs.Phrases.{is_phrase};
 ghost use Rattle.router_says.specs.Names.{name_in, name_of};
 ghost use Rattle.router_says.specs.Quiet.{is_quiet};
-ghost use Rattle.router_says.specs.Said.{IsSaid, Means, about_said, file_about, limit_file, limit_gap, limit_said, line_said, step_said};
+ghost use Rattle.router_says.specs.Said.{GivesWhy, IsSaid, Means, about_said, file_about, limit_file, limit_gap, limit_said, line_said, step_said};
 ghost use Rattle.router_top.specs.declared.text_file.TextFile.{TextFile as AnyFile};
 ghost use Rattle.router_words.specs.Word.{Word, words_of};
 
@@ -28,7 +29,8 @@ pub fn append_words<R: Files + AllocGlobal>(
     words: &[String],
     outcome: &Outcome,
 ) -> Result<(), AllocError>
-    ensures quiet { IsTrue (is_quiet outcome.now) → string_bytes out.new ≡ string_bytes out.old }
+    ensures quiet { IsTrue (is_quiet outcome.now) →
+        IsOk result × (string_bytes out.new ≡ string_bytes out.old) }
     ensures said { OnOk result (is_quiet outcome.now ≡ false → IsSaid (words_of words.now)
         outcome.now (string_bytes out.old) (string_bytes out.new)) }
 {
@@ -129,9 +131,9 @@ fn meaning<R: Files + AllocGlobal>(
 
 // Which line is bad, and why.
 fn bad_line(alloc: Global, line: u64, code: u32) -> Result<String, AllocError>
-    ensures { IfOk result (λ text. (why : List ℕ) × (string_bytes text ≡ line_said line code why)) }
+    ensures { IfOk result (λ text. GivesWhy (line_said line code) (string_bytes text)) }
 {
-    let why = cause(code).unwrap_or("this line is not taken");
+    let why = words_or(cause(code), "this line is not taken");
     let mut text = String::new(alloc);
     append_line(&mut text, line, code, why)?;
     Ok(text)
@@ -139,9 +141,9 @@ fn bad_line(alloc: Global, line: u64, code: u32) -> Result<String, AllocError>
 
 // Which step is refused, and why.
 fn refused_step(alloc: Global, step: u64, code: u32) -> Result<String, AllocError>
-    ensures { IfOk result (λ text. (why : List ℕ) × (string_bytes text ≡ step_said step code why)) }
+    ensures { IfOk result (λ text. GivesWhy (step_said step code) (string_bytes text)) }
 {
-    let why = refusal(code).unwrap_or("it does not follow");
+    let why = words_or(refusal(code), "it does not follow");
     let mut text = String::new(alloc);
     append_step(&mut text, step, code, why)?;
     Ok(text)
@@ -149,13 +151,25 @@ fn refused_step(alloc: Global, step: u64, code: u32) -> Result<String, AllocErro
 
 // What passes its limit.
 fn passed_limit(alloc: Global, code: u32, count: u64) -> Result<String, AllocError>
-    ensures { IfOk result (λ text. (why : List ℕ) × (string_bytes text
-        ≡ limit_gap (limit_file code) ++ limit_said code count why)) }
+    ensures { IfOk result (λ text. GivesWhy
+        (λ why. limit_gap (limit_file code) ++ limit_said code count why) (string_bytes text)) }
 {
-    let why = cause(code).unwrap_or("a number passes its limit");
+    let why = words_or(cause(code), "a number passes its limit");
     let mut text = String::new(alloc);
     append_limit(&mut text, code, count, why)?;
     Ok(text)
+}
+
+// The words for a cause, or these where it has none.
+fn words_or(words: Option<&'static str>, others: &'static str) -> &'static str
+    requires words { IfSome words (λ words. IsTrue (is_phrase words.now)) }
+    requires others { IsTrue (is_phrase others.now) }
+    ensures { IsTrue (is_phrase result.now) }
+{
+    match words {
+        Some(words) => words,
+        None => others,
+    }
 }
 
 // What the outcome means, where that is no line, no step and no number, and what can be tried next.

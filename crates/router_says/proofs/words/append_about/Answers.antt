@@ -1,4 +1,4 @@
-use Rattle.std.proofs.Common.{List, ℕ, Option, ◌++◌, ap, ◌∙◌}
+use Rattle.std.proofs.Common.{Option, ◌++◌, ap, ◌∙◌}
 use Rattle.std.specs.Prelude.{string_bytes}
 use Rattle.router_says.specs.Names.{file_said}
 use Rattle.router_words.specs.Word.{Word}
