@@ -44,7 +44,8 @@ IsGlobal net text = IsGlobalIf net.global net.name text
 abbrev pub IsRoutedUnless : Bool → (name : List ℕ) → List ℕ → Type 0
 IsRoutedUnless true name text = text ≡ []
 IsRoutedUnless false name text =
-    (colour : List ℕ) × ((drawn : List ℕ) × (text ≡ group (codes "n\" stroke=\"") colour name drawn))
+    (colour : List ℕ) × ((drawn : List ℕ)
+    × (text ≡ group (codes "n\" stroke=\"") colour name drawn))
 
 abbrev pub IsRouted : RouteNet → List ℕ → Type 0
 IsRouted net text = IsRoutedUnless net.global net.name text

@@ -36,7 +36,8 @@ fn append_counted(
     blocks: usize,
     width: u32,
 ) -> Result<(), AllocError>
-    ensures { OnOk result (string_bytes out.new ≡ string_bytes out.old ++ counted nets blocks width) }
+    ensures { OnOk result
+        (string_bytes out.new ≡ string_bytes out.old ++ counted nets blocks width) }
 {
     write!(
         out,
