@@ -46,8 +46,8 @@ impl<'a> LogLines<'a> {
     /// Reads the next step, and answers whether there was one.
     ///
     /// # Errors
-    /// Those of [`crate::read_lrat`], of which the first in the text comes first. Nothing is said of
-    /// what is read behind one.
+    /// Those of [`crate::read_lrat`], of which the first in the text comes first. Nothing is said
+    /// of what is read behind one.
     pub fn read_next(&mut self) -> Result<bool, TextFault>
         ensures some { IfOk result (λ more. IsTrue more → ReadsNext self.old self.new) }
         ensures none { IfOk result (λ more. more ≡ false → IsReadOut self.old) }
