@@ -5,15 +5,10 @@
 mod clauses;
 mod decoded;
 mod printed;
-mod problem;
 mod row;
-mod stop;
-mod texts;
-mod width;
 
 use crate::row::print_row;
-use crate::stop::RowsError;
-use crate::texts::text;
+use rows_problem::{RowsError, text};
 
 fn main(rt: HostRuntime) -> Result<(), RowsError> {
     let rows = text(&rt, rt.alloc(), "encode.rows")?;

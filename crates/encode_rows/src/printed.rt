@@ -3,10 +3,10 @@ ghost use Rattle.std.specs.Prelude.{◌≤◌};
 
 use crate::clauses::{clause_line, head_line};
 use crate::decoded::{tracks_line, values_of};
-use crate::stop::RowsError;
 use fpga_bounds::PlacedProblem;
 use fpga_types::WIDTH_LIMIT;
 use route_encode::{Encoder, Strict};
+use rows_problem::RowsError;
 use sat_clause::{CLAUSE_LIMIT, holds};
 use std::alloc::Global;
 

@@ -1,8 +1,6 @@
 //! A row: an architecture, a design, a width, and truth values, if there are some.
 use crate::printed::print_problem;
-use crate::problem::read_problem;
-use crate::stop::RowsError;
-use crate::width::width_of;
+use rows_problem::{RowsError, read_problem, width_of};
 use std::alloc::Global;
 use std::rt::Files;
 

@@ -1,8 +1,8 @@
 //! The line that a row is answered by.
-use crate::fitted::fitted;
 use crate::texts::Texts;
 use fpga_bounds::PlacedProblem;
 use fpga_text::TextFault;
+use rows_problem::problem_of;
 use std::alloc::{AllocError, Global};
 
 /// The line that the four texts are answered by, where the route is this one.
@@ -10,7 +10,7 @@ pub(crate) fn answer(alloc: Global, texts: &Texts, route: &[u8]) -> Result<Strin
     let arch = texts.arch.as_bytes();
     let net = texts.net.as_bytes();
     let place = texts.place.as_bytes();
-    match fitted(alloc, arch, net, place, route) {
+    match problem_of(alloc, arch, net, place, route) {
         Ok(problem) => numbers(alloc, &problem),
         Err(fault) => fault_line(alloc, fault),
     }

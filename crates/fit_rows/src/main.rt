@@ -3,15 +3,13 @@
 #![tactic(auto)]
 
 mod answer;
-mod fitted;
 mod row;
-mod stop;
 mod texts;
 
 use crate::answer::answer;
 use crate::row::changed_route;
-use crate::stop::RowsError;
-use crate::texts::{Texts, text};
+use crate::texts::Texts;
+use rows_problem::{RowsError, text};
 
 fn main(rt: HostRuntime) -> Result<(), RowsError> {
     let texts = Texts {

@@ -1,6 +1,6 @@
 //! A route with one of its lines changed.
-use crate::stop::RowsError;
 use fpga_text::whole_number;
+use rows_problem::RowsError;
 use std::alloc::Global;
 
 /// The route as a row has it: the number of a line, counted from 1, and what stands there in its

@@ -1,9 +1,4 @@
 //! The four texts.
-use crate::stop::RowsError;
-use desk_io::{FileDesk, read_file};
-use std::alloc::Global;
-use std::rt::Files;
-use std::str;
 
 /// The text of each file.
 #[derive(Drop)]
@@ -12,14 +7,4 @@ pub(crate) struct Texts {
     pub(crate) net: String,
     pub(crate) place: String,
     pub(crate) route: String,
-}
-
-// No file is longer.
-const LIMIT: u64 = 1 << 26;
-
-/// The text of the file with this name.
-pub(crate) fn text<R: Files>(rt: &R, alloc: Global, name: &str) -> Result<String, RowsError> {
-    let bytes = read_file(alloc, &mut FileDesk::new(rt), name, LIMIT)?;
-    let text = str::from_utf8(&bytes)?;
-    Ok(String::from_str(alloc, text)?)
 }

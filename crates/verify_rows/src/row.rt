@@ -1,10 +1,7 @@
 //! A row: a name, an architecture, a design, a routing, a width, and which lines are changed.
 use crate::answer::answer;
 use crate::changed::{Change, changed};
-use crate::problem::read_problem;
-use crate::stop::RowsError;
-use crate::texts::text;
-use crate::width::width_of;
+use rows_problem::{RowsError, read_problem, text, width_of};
 use std::alloc::Global;
 use std::rt::Files;
 

@@ -1,5 +1,5 @@
 use Rattle.fpga_net.proofs.GivenLemmas.{readers-give}
-use Rattle.fit_rows.proofs.fitted.fitted.Goals as goal
+use Rattle.rows_problem.proofs.problem.problem_of.Goals as goal
 
 pub fit-requires : goal.fit-requires
 fit-requires c =

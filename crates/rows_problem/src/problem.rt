@@ -1,4 +1,7 @@
 //! The problem of an architecture and a design.
+ghost use Rattle.std.specs.Prelude.{IfOk};
+ghost use Rattle.rows_problem.specs.Problem.{SayProblem};
+
 use crate::stop::RowsError;
 use crate::texts::text;
 use fpga_arch::read_arch;
@@ -11,7 +14,8 @@ use std::alloc::Global;
 use std::rt::Files;
 
 /// The problem of ARCH.arch and of DESIGN.net, DESIGN.place and DESIGN.route, or the first fault.
-pub(crate) fn read_problem<R: Files>(
+/// The error is of a file that is not read, or of memory.
+pub fn read_problem<R: Files>(
     rt: &R,
     alloc: Global,
     arch: &str,
@@ -30,14 +34,17 @@ pub(crate) fn read_problem<R: Files>(
     ))
 }
 
-// The problem that four texts say.
-fn problem_of(
+/// The problem that four texts say, or the first fault of the first text that has one, or of the
+/// fit.
+pub fn problem_of(
     alloc: Global,
     arch: &[u8],
     net: &[u8],
     place: &[u8],
     route: &[u8],
-) -> Result<PlacedProblem, TextFault> {
+) -> Result<PlacedProblem, TextFault>
+    ensures { IfOk result (SayProblem arch.now net.now place.now route.now) }
+{
     let arch = read_arch(alloc, arch)?;
     let net = read_net(alloc, net, &arch)?;
     let place = read_place(alloc, place, &arch, &net)?;
