@@ -1,3 +1,4 @@
 pub mod Cut
+pub mod Parts
 pub mod Series
 pub mod Wanted

@@ -1,11 +1,12 @@
 -- What must come of a run, and when it has come.
-use Rattle.std.specs.Prelude.{◌≡◌, ◌++◌, Bool, true, Option, Some, None, All, is_some, if◌then◌else◌, nat_eq, option_map, string_bytes}
+use Rattle.std.specs.Prelude.{◌≡◌, ◌++◌, Bool, true, Option, Some, None, All, if◌then◌else◌, nat_eq, nat_lt, option_map, string_bytes}
 use Rattle.std.specs.List.{starts_with}
 use Rattle.std.specs.FinMap.{get}
 use Rattle.desk_io.specs.Files.{Bytes, FileMap}
 use Rattle.desk_io.specs.Memory.{MemShelfView}
+use Rattle.router_rows.specs.Parts.{places_of}
 use Rattle.router_rows.specs.declared.compare.Wanted.{Wanted}
-use Rattle.router_rows.specs.declared.compare.Wanted.TheVariants.{Whole, Begins, Holds, Lacks}
+use Rattle.router_rows.specs.declared.compare.Wanted.TheVariants.{Whole, Begins, Holds, Counts, Lacks}
 use Rattle.router_rows.specs.declared.compare.WantedFile.{WantedFile}
 use Rattle.router_rows.specs.declared.compare.Wants.{Wants}
 use Rattle.router_top.specs.Report.{line_of, report_of, status_of}
@@ -15,11 +16,12 @@ use Rattle.router_top.specs.declared.outcome.Outcome.{Outcome}
 abbrev pub said_of : (lead : Bytes) → (is_silent : Bool) → (line : Bytes) → Bytes
 said_of lead is_silent line = if is_silent then lead else lead ++ line
 
--- a file, where there is one, is as it must be; of one that must hold a text only that it is there
+-- a file, where there is one, is as it must be
 abbrev pub IsMet : Wanted → (text : Bytes) → (came : Option Bytes) → Type 0
 IsMet Whole text came = came ≡ Some text
 IsMet Begins text came = option_map (λ whole. starts_with nat_eq whole text) came ≡ Some true
-IsMet Holds text came = is_some came ≡ true
+IsMet Holds text came = option_map (λ whole. nat_lt 0 (places_of text whole)) came ≡ Some true
+IsMet (Counts count) text came = option_map (places_of text) came ≡ Some count
 IsMet Lacks text came = came ≡ None
 
 -- among these files is the one that must be, or is not the one that must not

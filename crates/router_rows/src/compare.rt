@@ -2,6 +2,7 @@
 ghost use Rattle.std.specs.Prelude.{◌≡◌, All, IfOk, IsErr, IsTrue, OnOk};
 ghost use Rattle.router_rows.specs.Wanted.{AreMet, IsMetBy, said_of};
 
+use crate::parts::places;
 use crate::stop::RowStop;
 use desk_io::MemShelf;
 use itoa::Buffer;
@@ -17,6 +18,8 @@ pub enum Wanted {
     Begins,
     /// With this text in it.
     Holds,
+    /// With this text at so many places in it, and no more.
+    Counts(u64),
     /// Not at all.
     Lacks,
 }
@@ -110,7 +113,8 @@ fn is_met(file: &WantedFile, shelf: &MemShelf) -> bool
     match file.how {
         Wanted::Whole => came == text,
         Wanted::Begins => came.starts_with(text),
-        Wanted::Holds => came.windows(text.len().max(1)).any(|part| part == text),
+        Wanted::Holds => places(came, text) > 0,
+        Wanted::Counts(count) => places(came, text) == count,
         Wanted::Lacks => false,
     }
 }

@@ -6,6 +6,7 @@ mod compare;
 mod cut;
 mod judge;
 mod numbers;
+mod parts;
 mod row;
 mod sections;
 mod series;

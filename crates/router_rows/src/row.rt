@@ -72,6 +72,7 @@ impl Row {
             "writes" => self.take_wanted(Wanted::Whole, rest),
             "begins" => self.take_wanted(Wanted::Begins, rest),
             "holds" => self.take_wanted(Wanted::Holds, rest),
+            "counts" => self.take_counted(rest),
             "lacks" => self.take_wanted(Wanted::Lacks, rest),
             "order" => self.series.take_order(self.alloc, rest),
             "each" => self.series.take_failing(rest),
@@ -137,6 +138,14 @@ impl Row {
         })?;
         self.target = Target::Wanted;
         Ok(())
+    }
+
+    // Takes a file that must come with its text at so many places.
+    fn take_counted(&mut self, rest: &str) -> Result<(), LineFault> {
+        let Some((name, count)) = rest.split_once(' ') else {
+            return Err(LineFault::NotUnderstood);
+        };
+        self.take_wanted(Wanted::Counts(number(count)?), name)
     }
 
     /// Runs, and compares what comes; gives the shelf then.
