@@ -3,11 +3,16 @@
 
     measure_search.py [--whole] PROGRAM..
 
-Prints for each problem what each program has learned and its seconds of user and system time, then the conflicts and
-the seconds of `minisat` without and with its preprocessing, and at the end the geometric means, and how they stand to
-those of the first program. Of the problems 18 are shuffled rings (make_rings.py), the others crowded cells and meshes.
+The problems are 10 shuffled rings (make_rings.py), crowded cells (make_crowd.py), and meshes of 8 to 100 cells a side
+(make_design.py, and `gen` of the first program), with a track too few, with just enough, and with many. Prints for
+each problem what each program came to, its conflicts and its seconds of user and system time, then those of `minisat`
+without and with its preprocessing. At the end come the geometric means, and how those of each program stand to those
+of `minisat`: conflicts where all refuted the clauses, seconds everywhere.
+
 The time of a program is that of `route` less that of `encode`, so that neither has its files in it; with `--whole` it
-is that of the whole run of `route`, reading and writing too, as that of `minisat` always is.
+is that of the whole run of `route`, reading and writing too, as that of `minisat` always is. All run in turn, three
+times, and nine times where they take less than 0.05 seconds; the least time counts. A run that has taken LIMIT seconds
+is stopped, and counts as so many.
 """
 import math
 import os
@@ -18,24 +23,30 @@ import sys
 import tempfile
 
 HERE = os.path.dirname(os.path.abspath(__file__))
+FOUR = [f"p.{ending}" for ending in ("arch", "net", "place", "route")]
+MINISAT = [["minisat", "-no-pre", "-no-elim", "p.cnf"], ["minisat", "p.cnf"]]
+LIMIT = 60  # seconds
 
-RINGS = [("make_rings.py", (str(parts), "3", str(seed)), 6) for parts in (5, 7, 9) for seed in range(1, 7)]
-CROWDS = [("make_crowd.py", (str(nets),), nets - 1) for nets in (8, 9, 10)]
+RINGS = [
+    ("make_rings.py", f"{parts} 3 {seed}", 6)
+    for parts, seeds in ((5, (1, 2, 3)), (7, (1, 2, 3)), (9, (1, 2, 3, 4)))
+    for seed in seeds
+]
+CROWDS = [("make_crowd.py", str(nets), nets - 1) for nets in (8, 9, 10)]
 MESHES = [
-    ("make_design.py", (str(size), pattern, fraction, "0.9", str(seed)), width)
-    for pattern, size, fraction, seed, width in (
-        ("subset", 8, "1", 2, 7), ("subset", 8, "1", 3, 7), ("subset", 10, "1", 1, 7), ("subset", 10, "1", 4, 8),
-        ("subset", 12, "1", 2, 8), ("subset", 12, "1", 3, 8), ("wilton", 10, "1", 1, 7), ("wilton", 10, "1", 2, 7),
-        ("wilton", 12, "1", 1, 9), ("subset", 10, "1", 7, 8), ("universal", 12, "0.8", 3, 8),
+    ("make_design.py", kind, width)
+    for kind, width in (
+        ("10 subset 1 0.9 1", 7), ("12 subset 1 0.9 2", 8), ("12 wilton 1 0.9 1", 9), ("12 universal 0.8 0.9 3", 8),
+        ("20 subset 1 0.9 1", 9), ("20 subset 1 0.9 1", 10), ("20 wilton 1 0.9 1", 20),
     )
 ]
-
-
-def run(words):
-    """The seconds of user and system time of a run, and what it prints."""
-    before = spent()
-    said = subprocess.run(words, capture_output=True, text=True).stdout
-    return spent() - before, said
+LARGE = [
+    ("gen", kind, width)
+    for kind, width in (
+        ("1 20 400", 6), ("1 20 400", 7), ("1 20 400", 32), ("2 20 400", 7), ("7 40 1600", 7), ("7 40 1600", 8),
+        ("1 100 10000", 7), ("1 100 10000", 8),
+    )
+]
 
 
 def spent():
@@ -44,63 +55,91 @@ def spent():
     return usage.ru_utime + usage.ru_stime
 
 
-def least(words, times=3):
-    """The least time of several runs, fewer where they take long."""
-    seconds, said = run(words)
-    for _ in range(times - 1):
-        if seconds > 5:
-            break
-        seconds = min(seconds, run(words)[0])
-    return seconds, said
+def limited():
+    resource.setrlimit(resource.RLIMIT_CPU, (LIMIT, LIMIT))
 
 
-def searched(program, width, is_whole):
-    files = [f"p.{ending}" for ending in ("arch", "net", "place", "route")]
-    for name in ("found.route", "found.cnf", "found.lrat"):
-        if os.path.exists(name):
-            os.remove(name)
-    whole, said = least([program, "route", *files, str(width), "found"])
-    encoding, _ = least([program, "encode", *files, str(width), "p"])
-    if is_whole:
-        encoding = 0
-    learned = -1
-    if os.path.exists("found.lrat"):
-        with open("found.lrat", "rb") as log:
-            learned = sum(1 for line in log if line.split(b" ", 2)[1] != b"d")
-    return learned, max(whole - encoding, 0.001), said.split("\n")[0]
+def run(words):
+    """The seconds of a run, and what it prints."""
+    before = spent()
+    said = subprocess.run(words, capture_output=True, text=True, preexec_fn=limited).stdout
+    return spent() - before, said
 
 
-def compared(*words):
-    seconds, said = least(["minisat", *words, "p.cnf"])
-    conflicts = re.search(r"conflicts\s*: (\d+)", said)
-    return int(conflicts.group(1)) if conflicts else 0, max(seconds, 0.001)
+def least(commands):
+    """The least time of each command, and what it printed then."""
+    best = [(math.inf, "")] * len(commands)
+    for turn in range(9):
+        for k, words in enumerate(commands):
+            if turn == 0 or best[k][0] < (5 if turn < 3 else 0.05):
+                best[k] = min(best[k], run(words))
+    return best
+
+
+def make(program, maker, kind):
+    """Makes the four files of a problem."""
+    words = [sys.executable, os.path.join(HERE, maker), "p", *kind.split()]
+    if maker == "gen":
+        words = [program, "gen", *kind.split(), "p"]
+    subprocess.run(words, stdout=subprocess.DEVNULL, check=True)
+
+
+def learned(name):
+    """How many clauses a log adds, and none where there is no log."""
+    if not os.path.exists(name):
+        return 0
+    with open(name, "rb") as log:
+        return sum(1 for line in log if line.split(b" ", 2)[1] != b"d")
+
+
+def measured(programs, width, is_whole):
+    """For each program and each `minisat` its conflicts and seconds; and what each program said."""
+    encode = [[program, "encode", *FOUR, str(width), "p"] for program in programs]
+    route = [[program, "route", *FOUR, str(width), f"found{k}"] for k, program in enumerate(programs)]
+    run(encode[0])
+    times = least(route + MINISAT + ([] if is_whole else encode))
+    found, encoding = times[: len(route) + 2], times[len(route) + 2 :]
+    seconds = [max(found[k][0] - (encoding[k][0] if k < len(encoding) else 0), 0.001) for k in range(len(found))]
+    conflicts = [learned(f"found{k}.lrat") for k in range(len(programs))]
+    for _, said in found[len(programs) :]:
+        told = re.search(r"conflicts\s*: (\d+)", said)
+        conflicts.append(int(told.group(1)) if told else 0)
+    return list(zip(conflicts, seconds)), [said.strip() for _, said in found[: len(programs)]]
 
 
 def mean(values):
-    return math.exp(sum(math.log(max(value, 1e-3)) for value in values) / len(values)) if values else 0
+    return math.exp(sum(math.log(value) for value in values) / len(values)) if values else math.nan
+
+
+def summed(name, rows, count):
+    """Prints the means of these rows, and how each program stands to `minisat`."""
+    refuted = [row for row in rows if all(many > 0 for many, _ in row)]
+    many = [mean([row[k][0] for row in refuted]) for k in range(count + 2)]
+    seconds = [mean([row[k][1] for row in rows]) for k in range(count + 2)]
+    print(f"{name}: {len(rows)} problems, " + "; ".join(f"{s:.3f} s" for s in seconds), end=", of which ")
+    print(f"{len(refuted)} were refuted with " + "; ".join(f"{m:.0f}" for m in many) + " conflicts")
+    for k in range(count):
+        print(
+            f"    program {k + 1}: {seconds[k] / seconds[-2]:.2f} of the time and {many[k] / many[-2]:.2f} of the conflicts "
+            f"of minisat without preprocessing, {seconds[k] / seconds[-1]:.2f} and {many[k] / many[-1]:.2f} with it"
+        )
 
 
 def main():
     is_whole = sys.argv[1] == "--whole"
     programs = [os.path.abspath(word) for word in sys.argv[1 + is_whole :]]
-    rows = {}
-    with tempfile.TemporaryDirectory() as folder:
-        os.chdir(folder)
-        for maker, kind, width in RINGS + CROWDS + MESHES:
-            subprocess.run([sys.executable, os.path.join(HERE, maker), "p", *kind], check=True)
-            found = [searched(program, width, is_whole) for program in programs]
-            found += [(*compared("-no-pre", "-no-elim"), ""), (*compared(), "")]
-            name = f"{maker[5:-3]} {' '.join(kind)} at {width}"
-            print(f"{name}: {found[0][2]}; " + "; ".join(f"{many} {seconds:.3f}" for many, seconds, _ in found), flush=True)
-            for kind_of in ("rings" if maker == "make_rings.py" else "others", "all"):
-                rows.setdefault(kind_of, []).append(found)
-        os.chdir("/")
-    for name, these in rows.items():
-        for k in range(len(programs) + 2):
-            refuted = [found for found in these if min(many for many, _, _ in found[: len(programs)]) > 0]
-            seconds = mean([found[k][1] for found in these])
-            many, first = mean([found[k][0] for found in refuted]), mean([found[0][0] for found in refuted])
-            print(f"{name} {k}: {len(refuted)} refuted, {many:.0f} conflicts ({many / max(first, 1e-3):.2f}); of {len(these)} {seconds:.3f} s ({seconds / mean([found[0][1] for found in these]):.2f})")
+    rows = {"rings": [], "others": []}
+    for maker, kind, width in RINGS + CROWDS + MESHES + LARGE:
+        with tempfile.TemporaryDirectory() as folder:
+            os.chdir(folder)
+            make(programs[0], maker, kind)
+            found, said = measured(programs, width, is_whole)
+            os.chdir("/")
+        name = f"{maker.removeprefix('make_').removesuffix('.py')} {kind} at {width}"
+        print(f"{name}: {said[0]}; " + "; ".join(f"{many} {seconds:.3f}" for many, seconds in found), flush=True)
+        rows["rings" if maker == "make_rings.py" else "others"].append(found)
+    for name, these in (*rows.items(), ("all", rows["rings"] + rows["others"])):
+        summed(name, these, len(programs))
 
 
 main()
