@@ -145,11 +145,6 @@ pub passes-then-fails_to_flush : {a b c : ShelfState} {w t x : Bytes} → Passes
 passes-then-fails_to_flush {a} {b} {c} {w} {t} {x} p f =
     subst (λ (l : Bytes). FailsToAppend a l c) (sym p.split) (fails-behind a p.sent p.passed f)
 
--- what is written leaves the file created
-pub passes-is_created : {a b : ShelfState} {w t x : Bytes} → PassesOn a w t b x
-    → b.is_created ≡ a.is_created
-passes-is_created p = ap (λ (s : ShelfState). s.is_created) p.passed
-
 -- what waited was appended, and then a text behind it was or was not
 pub flushes-then-appends : {T : Type 0} {b : ShelfState}
     (a : ShelfState) (w t : Bytes) (c : ShelfState) (y : Bytes) (r : Result T Failed)

@@ -1,5 +1,5 @@
 -- What the cuts of a line or a text are, and what a reader has before it after a cut.
-use Rattle.std.proofs.Common.{◌≡◌, ◌<◌, ◌≤◌, ◌+◌, ℕ, suc, Bool, true, false, List, [], ◌∷◌, length, take, drop, slice_index, refl, sym, ap, ◌∙◌, inl, inr, arith, add-one, one-add, drop-cons}
+use Rattle.std.proofs.Common.{◌≡◌, ◌<◌, ◌≤◌, ◌+◌, ℕ, suc, Bool, true, false, List, [], ◌∷◌, length, take, drop, refl, sym, ap, ◌∙◌, inl, inr, arith, one-add}
 use Rattle.std.specs.Prelude.{All, not, ◌==◌, filter, IsTrue}
 use Rattle.std.specs.List.{slice_split, before_first, after_first, position_or_len}
 use Rattle.std.proofs.lemmas.Bool.{cases_lt}
@@ -9,32 +9,12 @@ use Rattle.std.proofs.lemmas.List.Splits.{slice_split_first}
 use Rattle.fpga_text.specs.Bytes.{Bytes, is_blank, is_empty}
 use Rattle.fpga_text.specs.Words.{TextLine, words, begins_word}
 use Rattle.fpga_text.specs.Reading.{with_line}
-use Rattle.fpga_text.proofs.LineLemmas.{words-blank, words-last}
-
--- a blank in front says no word
-pub words-skip : (text : Bytes) (i : ℕ) → i < length text → is_blank (slice_index text i) ≡ true
-    → words (drop (i + 1) text) ≡ words (drop i text)
-words-skip text i within blank =
-    rw (add-one, drop-cons text i 0)
-    (sym (words-blank (slice_index text i) (drop (suc i) text) blank))
-
--- a byte that is no blank begins a word
-pub begins-drop : (text : Bytes) (i : ℕ) → i < length text → is_blank (slice_index text i) ≡ false
-    → IsTrue (begins_word (drop i text))
-begins-drop text i within said = rw (drop-cons text i 0) (go (is_blank (slice_index text i)) said)
-  where
-    go : (b : Bool) → b ≡ false → IsTrue (not b)
-    go b e = rw e refl
+use Rattle.fpga_text.proofs.LineLemmas.{words-last}
 
 -- an element that fails the test is passed by
 pub position_or_len-cons_no : {X : Type 0} (p : X → Bool) (x : X) (xs : List X) → p x ≡ false
     → position_or_len p (x ∷ xs) ≡ suc (position_or_len p xs)
 position_or_len-cons_no p x xs e = rw (e, one-add (position_or_len p xs)) refl
-
-filter-cons_word : (c : ℕ) (word : Bytes) (parts : List Bytes)
-    → filter (λ (part : Bytes). not (is_empty part)) ((c ∷ word) ∷ parts)
-    ≡ (c ∷ word) ∷ filter (λ (part : Bytes). not (is_empty part)) parts
-filter-cons_word c word parts = refl
 
 -- the first word is what stands before the first blank, and the others are those after it
 pub words-first : (c : ℕ) (more : Bytes) → is_blank c ≡ false → words (c ∷ more)
@@ -75,12 +55,6 @@ words-cut (c ∷ more) some begins = words-first c more (go (is_blank c) begins)
     go : (b : Bool) → IsTrue (not b) → b ≡ false
     go true clash = absurd (let e : false ≡ true = clash in cc)
     go false said = refl
-
--- a text that begins with a word has one, unless it is empty
-pub is_empty-words : (text : Bytes) → IsTrue (begins_word text) → is_empty (words text)
-    ≡ is_empty text
-is_empty-words [] begins = refl
-is_empty-words (c ∷ more) begins = rw (words-cut (c ∷ more) (omega arith) begins) refl
 
 -- the first line is one of those with words, if it has words
 pub filter-with_line : (line : TextLine) (all : List TextLine)

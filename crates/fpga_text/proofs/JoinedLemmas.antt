@@ -7,7 +7,7 @@ use Rattle.std.proofs.Math.Seq.{take-append_seam}
 use Rattle.std.proofs.lemmas.List.{length-append, length-drop}
 use Rattle.std.proofs.lemmas.List.Sums.{suffix_len_is}
 use Rattle.fpga_text.specs.declared.style.Style.{Style}
-use Rattle.fpga_text.specs.declared.style.Style.TheVariants.{Plain, Hash, Joined}
+use Rattle.fpga_text.specs.declared.style.Style.TheVariants.{Joined}
 use Rattle.fpga_text.specs.Bytes.{Bytes, is_newline, is_blank, is_hash, is_empty}
 use Rattle.fpga_text.specs.Joined.{bare, goes_on, is_backslash, said_part, trimmed}
 use Rattle.fpga_text.specs.Joining.{joined_from, end_of_first, EndsBehind, IsFirstLine}
@@ -56,11 +56,6 @@ pub goes_on-push : (raw before : Bytes) (last : ℕ) → bare raw ≡ before ++ 
 goes_on-push raw before last is =
     ap (λ (text : Bytes). option_map_or is_backslash (last_or None text) false) is
     ∙ ap (λ o. option_map_or is_backslash o false) (last_or-push None before last)
-
--- and a line without bytes does not
-pub goes_on-nothing : (raw : Bytes) → bare raw ≡ [] → goes_on raw ≡ false
-goes_on-nothing raw is =
-    ap (λ (text : Bytes). option_map_or is_backslash (last_or None text) false) is
 
 -- a line that does not go on
 pub said_part-alone : (raw : Bytes) → goes_on raw ≡ false → said_part raw ≡ before_first is_hash raw
@@ -136,14 +131,6 @@ pub record IsPassed (text : Bytes) (taken : ℕ) (rest : Bytes) : Type 0 where
   pub count : line_count text ≡ taken + line_count rest
   pub shorter : taken + length rest ≤ length text
 
-pub passed_none : (text : Bytes) → IsPassed text 0 text
-passed_none text = record {
-  others = λ n. rw (add-zero n) refl;
-  last = λ n. rw (add-zero n) refl;
-  count = omega arith;
-  shorter = omega arith;
-}
-
 joined-part : (n : ℕ) (text raw behind : Bytes) → IsPart text raw behind → joined_from n text
     ≡ put_before (goes_on raw) (part_line n raw) (joined_from (n + 1) behind)
 joined-part n text raw behind part =
@@ -197,17 +184,6 @@ passed_last text rest raw behind taken passed part ends = record {
     next : (n : ℕ) → n + taken + 1 ≡ n + (taken + 1)
     next n = omega arith
 
--- the end of the text ends the line too
-pub passed_all : (text rest : Bytes) (taken : ℕ) → IsPassed text taken rest → true
-    ≡ (length rest == 0) → EndsBehind text taken rest
-passed_all text [] taken passed none = record {
-  others = passed.others;
-  last = passed.last;
-  count = passed.count;
-  shorter = passed.shorter;
-}
-passed_all text (b ∷ rest) taken passed none = absurd (grind (arith, none))
-
 -- the words of the first of lines
 abbrev first_words : List TextLine → Words
 first_words [] = []
@@ -252,36 +228,6 @@ line_made n more raw words = record { number = n; last = n + more; raw = raw; wo
 -- those of lines that have words
 abbrev with_words : List TextLine → List TextLine
 with_words ls = filter (λ (l : TextLine). not (is_empty l.words)) ls
-
--- a line that is looked at whole
-pub first_plain : (raw text said later behind : Bytes) (more : ℕ) → said ≡ raw → later ≡ []
-    → behind ≡ text → more ≡ 0 → IsFirstLine Plain raw text said later behind more
-first_plain raw text said later behind more says ends at none = record {
-  made = λ n. rw (says, ends, at, none, add-zero n, append-nil (words raw)) refl;
-  count = rw (at, none) (omega arith);
-  shorter = rw (at, none) (omega arith);
-}
-
--- a line whose comment is cut
-pub first_hash : (raw text said later behind : Bytes) (more : ℕ) → said ≡ before_first is_hash raw
-    → later ≡ [] → behind ≡ text → more ≡ 0 → IsFirstLine Hash raw text said later behind more
-first_hash raw text said later behind more says ends at none = record {
-  made = λ n. rw (says, ends, at, none, add-zero n, append-nil (words (before_first is_hash raw)))
-      refl;
-  count = rw (at, none) (omega arith);
-  shorter = rw (at, none) (omega arith);
-}
-
--- a line that might go on and does not
-pub first_alone : (raw text said later behind : Bytes) (more : ℕ) → goes_on raw ≡ false → said
-    ≡ said_part raw → later ≡ [] → behind ≡ text → more ≡ 0
-    → IsFirstLine Joined raw text said later behind more
-first_alone raw text said later behind more alone says ends at none = record {
-  made = λ n. rw (says, ends, at, none, add-zero n, append-nil (words (said_part raw)))
-      (ap (λ b. put_before b (part_line n raw) (joined_from (n + 1) text)) alone);
-  count = rw (at, none) (omega arith);
-  shorter = rw (at, none) (omega arith);
-}
 
 -- a line that goes on
 pub first_going_on : (raw text said behind : Bytes) (more : ℕ) → goes_on raw ≡ true → said

@@ -6,7 +6,7 @@ use Rattle.std.specs.List.{after_first, before_first, list_all, position_or_len}
 use Rattle.std.specs.Char.{digit_value, is_ascii_digit}
 use Rattle.std.specs.Str.Parse.{digits_value, digits_value_after}
 use Rattle.std.proofs.lemmas.List.{take-append-drop, take_all, take_more}
-use Rattle.std.proofs.lemmas.List.Folds.{list_all-append, list_all_at, list_all_more}
+use Rattle.std.proofs.lemmas.List.Folds.{list_all-append, list_all_more}
 use Rattle.std.proofs.lemmas.Int.Digits.{digits_value_more}
 use Rattle.fpga_text.specs.Bytes.{Bytes, is_empty}
 use Rattle.fpga_text.specs.Numbers.{if_64_bits, is_point, millionths_of, negated_number, plain_number, signed_number_of, six_digits, whole_number_of, with_digits}
@@ -70,21 +70,6 @@ pub record IsFollowed (number : Option ℕ) (digits : Bytes) (i value : ℕ) : T
   pub says : digits_value_after 10 first (take i digits) ≡ value
   pub fits : value < 2 ^ 64
 
--- no digit so far
-pub followed-none : (number : Option ℕ) (digits : Bytes) (first : ℕ) → number ≡ Some first
-    → first < 2 ^ 64 → IsFollowed number digits 0 first
-followed-none number digits first was fits =
-    record { first = first; was = was; all = refl; says = refl; fits = fits }
-
--- a byte that is no digit
-pub followed-foreign : (number : Option ℕ) (digits : Bytes) (i value : ℕ)
-    → IsFollowed number digits i value → i < length digits
-    → is_ascii_digit (slice_index digits i) ≡ false → with_digits number digits ≡ None
-followed-foreign number digits i value so_far within foreign =
-    rw so_far.was (ap
-    (λ b. if b then if_64_bits (digits_value_after 10 so_far.first digits) else None)
-    (list_all_at is_ascii_digit digits i 0 within foreign))
-
 -- the value with one more digit
 pub followed-value : (number : Option ℕ) (digits : Bytes) (i value digit : ℕ)
     → (so_far : IsFollowed number digits i value) → i < length digits → digit
@@ -125,21 +110,6 @@ followed-more number digits i value digit next so_far within passes is more fits
   says = followed-value number digits i value digit so_far within is ∙ sym more;
   fits = fits;
 }
-
--- all digits were taken
-pub followed-all : (number : Option ℕ) (digits : Bytes) (i value : ℕ)
-    → IsFollowed number digits i value → length digits ≤ i → with_digits number digits ≡ Some value
-followed-all number digits i value so_far past =
-    let whole : take i digits ≡ digits = take_all i digits past in
-    let all : list_all is_ascii_digit digits ≡ true = (rw whole at so_far.all) in
-    let says : digits_value_after 10 so_far.first digits ≡ value = (rw whole at so_far.says) in
-    rw (so_far.was, all, says) (if_64_bits-small value so_far.fits)
-
--- the number that a word says, if it has a byte: its digits behind nothing
-pub whole_number_of-word : (word : Bytes) → false ≡ (length word == 0) → whole_number_of word
-    ≡ with_digits (Some 0) word
-whole_number_of-word [] some = absurd (let clash : false ≡ true = some in cc)
-whole_number_of-word (b ∷ more) some = refl
 
 -- digits that say no more than fits
 pub whole_number_of-digits : (word : Bytes) (value : ℕ) → false ≡ (length word == 0)
@@ -243,29 +213,6 @@ millionths-split : (word whole part : Bytes) → IsSplit word whole part → mil
     then if_64_bits (digits_value 10 (whole ++ six_digits part))
     else None)
 millionths-split word whole part split = rw (split.before, split.behind) refl
-
--- no digit
-pub millionths-nothing : (word whole part : Bytes) → IsSplit word whole part → whole ≡ [] → part
-    ≡ []
-    → millionths_of word ≡ None
-millionths-nothing word whole part split no_whole no_part =
-    millionths-split word whole part split ∙ rw (no_whole, no_part) refl
-
--- a byte behind the point that is no digit
-pub millionths-foreign : (word whole part : Bytes) → IsSplit word whole part
-    → list_all is_ascii_digit part ≡ false → millionths_of word ≡ None
-millionths-foreign word whole part split foreign =
-    millionths-split word whole part split
-    ∙ rw (list_all-append is_ascii_digit whole part, foreign)
-    (go (not (is_empty (whole ++ part))) (list_all is_ascii_digit whole))
-  where
-    go : (t u : Bool)
-        → (if t && (u && false) then if_64_bits
-        (digits_value 10 (whole ++ six_digits part)) else None)
-        ≡ None
-    go true true = refl
-    go true false = refl
-    go false u = refl
 
 -- digits before the point, and digits behind it
 pub millionths-digits : (word whole part kept : Bytes) → IsSplit word whole part

@@ -5,6 +5,7 @@ pub mod FitLemmas
 pub mod MeetingLemmas
 mod MeetingRows
 mod RowValues
+pub mod NameLaws
 pub mod SlotLemmas
 pub mod TrackLemmas
 mod FitsRows

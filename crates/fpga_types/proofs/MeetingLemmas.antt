@@ -1,13 +1,13 @@
 -- Two cells meet exactly where the search over all switch blocks finds the place, and at one place
 -- alone.
 use Rattle.std.proofs.Common.{◌≡◌, ℕ, ◌+◌, ◌≤◌, ◌⊎◌, ◌≢◌, Bool, true, false, List, [], ◌∷◌, Option, Some, None, refl, sym, ap, ◌∙◌, subst, inl, inr, arith}
-use Rattle.std.specs.Prelude.{◌↔◌, ◌==◌, ◌&&◌, map, flat_map, find}
+use Rattle.std.specs.Prelude.{◌==◌, ◌&&◌, map, flat_map, find}
 use Rattle.std.specs.List.{range_with_len}
 use Rattle.std.proofs.lemmas.Bool.{false≢true}
 use Rattle.std.proofs.lemmas.Bool.Decides.{Decides-eqb}
 use Rattle.fpga_types.specs.Size.{Size}
-use Rattle.fpga_types.specs.Fabric.{Meeting, MeetsAt, Meets, is_cell, same_axis, same_cell, cell_on, other_sides, switch_blocks, all_meetings, is_meeting_of, meeting}
-use Rattle.fpga_types.specs.Tracks.{TrackMap, AreJoined, subset_track, track_across}
+use Rattle.fpga_types.specs.Fabric.{Meeting, MeetsAt, is_cell, same_axis, same_cell, cell_on, other_sides, switch_blocks, all_meetings, is_meeting_of, meeting}
+use Rattle.fpga_types.specs.Tracks.{TrackMap, AreJoined, track_across}
 use Rattle.fpga_types.specs.declared.grid.Wire.{Wire}
 use Rattle.fpga_types.specs.declared.grid.Axis.{Axis}
 use Rattle.fpga_types.specs.declared.grid.Axis.TheVariants.{X, Y}
@@ -297,8 +297,3 @@ across-joined map grid u v h = go (meeting grid u.cell v.cell) refl
       meeting-is grid u.cell v.cell m e,
       (let k : Some (map m.from m.to u.track) ≡ Some v.track = rw e at h in cc),
     )
-
--- with subset switch blocks, wires are joined where their cells meet and their tracks are equal
-pub joined_subset : (grid : Size) (u v : Wire)
-    → AreJoined subset_track grid u v ↔ (Meets grid u.cell v.cell × (u.track ≡ v.track))
-joined_subset grid u v = (λ h. ((h.0, h.1), h.2), λ h. (h.0.0, h.0.1, h.1))

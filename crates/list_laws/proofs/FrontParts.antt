@@ -1,9 +1,9 @@
 -- What holds of the front part of a list that a loop has gone through.
-use Rattle.std.proofs.Common.{◌≡◌, ℕ, zero, suc, ◌+◌, ◌≤◌, List, [], ◌∷◌, ◌++◌, length, take, drop, ap, ◌∙◌, subst, refl, arith, add-one, append_assoc}
+use Rattle.std.proofs.Common.{◌≡◌, ℕ, zero, suc, ◌+◌, List, [], ◌∷◌, ◌++◌, length, take, drop, ap, ◌∙◌, subst, refl, add-one, append_assoc}
 use Rattle.std.specs.Prelude.{All, Some, flat_map, slice_get}
 use Rattle.std.proofs.Math.Seq.{take-length}
 use Rattle.std.proofs.lemmas.Grind.{flat_map-append}
-use Rattle.std.proofs.lemmas.List.{append-nil, take-append-le}
+use Rattle.std.proofs.lemmas.List.{append-nil}
 use Rattle.std.proofs.lemmas.List.Elements.{All-nil, All-push}
 use Rattle.list_laws.proofs.Places.{take-get}
 
@@ -45,10 +45,3 @@ made-parts {A} {B} f (x ∷ xs) (suc i) =
 pub made-whole : {A B : Type 0} (f : A → List B) (xs : List A) (i : ℕ) → i ≡ length xs →
     flat_map f (take i xs) ≡ flat_map f xs
 made-whole f xs i e = ap (λ (n : ℕ). flat_map f (take n xs)) e ∙ ap (flat_map f) (take-length xs)
-
--- what a vector has once its elements were lent, changed and given back
-pub given-back : {T : Type 0} (old new : List T) (n : ℕ) → n ≡ length new →
-    take n (new ++ drop (length new) old) ≡ new
-given-back old new n e =
-    let all : length new ≤ length new = omega arith in
-    rw (e, take-append-le (length new) new (drop (length new) old)) (take-length new)
