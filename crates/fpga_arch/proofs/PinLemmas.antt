@@ -2,12 +2,12 @@
 use Rattle.std.proofs.Common.{◌≡◌, Bool, true, false, [], ◌∷◌, drop, slice_get, Some, None, refl, sym, ap, ◌∙◌}
 use Rattle.std.specs.Prelude.{◌||◌, not}
 use Rattle.std.specs.List.{list_any}
-use Rattle.std.proofs.Math.Bool.{or_assoc, or-false}
+use Rattle.std.proofs.Math.Bool.{or_assoc}
 use Rattle.fpga_types.specs.ArchSound.{has_side}
 use Rattle.fpga_types.specs.declared.arch.SideSet.{SideSet}
 use Rattle.fpga_text.specs.Bytes.{Bytes}
 use Rattle.fpga_text.specs.Words.{Words}
-use Rattle.fpga_arch.specs.Pins.{NO_SIDES, is_no_side, lacks_sides, side_of, side_set, with_sides}
+use Rattle.fpga_arch.specs.Pins.{is_no_side, lacks_sides, side_of, side_set, with_sides}
 
 -- the sides of three sets
 pub sides_step : (a b c : SideSet) → with_sides (with_sides a b) c ≡ with_sides a (with_sides b c)
@@ -16,14 +16,6 @@ sides_step a b c = λ i. record {
   right = or_assoc a.right b.right c.right i;
   bottom = or_assoc a.bottom b.bottom c.bottom i;
   top = or_assoc a.top b.top c.top i;
-}
-
-pub sides_none : (a : SideSet) → with_sides a NO_SIDES ≡ a
-sides_none a = λ i. record {
-  left = or-false a.left i;
-  right = or-false a.right i;
-  bottom = or-false a.bottom i;
-  top = or-false a.top i;
 }
 
 -- a set with a side has one with another set too

@@ -1,5 +1,5 @@
 -- What a segment line says, pair by pair.
-use Rattle.std.proofs.Common.{◌≡◌, ◌<◌, Bool, List, [], ◌∷◌, drop, length, slice_get, Some, None, refl, sym, ap, ◌∙◌, arith}
+use Rattle.std.proofs.Common.{◌≡◌, Bool, List, [], ◌∷◌, drop, slice_get, Some, None, refl, sym, ap, ◌∙◌}
 use Rattle.std.specs.Prelude.{◌||◌}
 use Rattle.std.proofs.Math.Bool.{or_assoc, or-false}
 use Rattle.std.specs.List.{list_any}
@@ -15,18 +15,6 @@ pub pairs-first : (words : Words) (key : Bytes) → Some key ≡ slice_get words
 pairs-first [] key said = absurd (let clash : Some key ≡ None = said in cc)
 pairs-first (k ∷ []) key said = let same : key ≡ k = cc in rw same refl
 pairs-first (k ∷ value ∷ more) key said = let same : key ≡ k = cc in rw same refl
-
--- no pair
-pub pairs-none : (words : Words) → None ≡ slice_get words 0 → pairs words ≡ []
-pairs-none [] said = refl
-pairs-none (k ∷ more) said = absurd (let clash : None ≡ Some k = said in cc)
-
--- two words fewer
-pub pairs-shorter : (words : Words) (key : Bytes) → Some key ≡ slice_get words 0
-    → length (drop 1 (drop 1 words)) < length words
-pairs-shorter [] key said = absurd (let clash : Some key ≡ None = said in cc)
-pairs-shorter (k ∷ []) key said = omega arith
-pairs-shorter (k ∷ value ∷ more) key said = omega arith
 
 -- what was said so far, with what the words ahead say, is what all words say
 pub record IsSaid (all : Words) (said : SegmentSaid) (ahead : Words) : Type 0 where
@@ -60,18 +48,3 @@ said-more all said ahead behind pair so_far is = record {
   sparses = said-pair is_sparse said.is_sparse _ pair (pairs ahead) (pairs behind) is
       so_far.sparses;
 }
-
--- all pairs
-pub record IsAllSaid (all : Words) (said : SegmentSaid) : Type 0 where
-  pub lengths : said.has_length ≡ list_any is_length (pairs all)
-  pub longs : said.is_long ≡ list_any is_long (pairs all)
-  pub sparses : said.is_sparse ≡ list_any is_sparse (pairs all)
-
-pub said-all : (all : Words) (said : SegmentSaid) (ahead : Words) → IsSaid all said ahead
-    → None ≡ slice_get ahead 0 → IsAllSaid all said
-said-all all said ahead so_far none = let left = pairs-none ahead none in
-    record {
-      lengths = said-end is_length said.has_length _ (pairs ahead) left so_far.lengths;
-      longs = said-end is_long said.is_long _ (pairs ahead) left so_far.longs;
-      sparses = said-end is_sparse said.is_sparse _ (pairs ahead) left so_far.sparses;
-    }

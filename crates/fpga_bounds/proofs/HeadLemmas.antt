@@ -18,7 +18,8 @@ use Rattle.fpga_types.specs.declared.netlist.Net.{Net}
 use Rattle.fpga_types.specs.declared.route.RouteNet.{RouteNet}
 use Rattle.fpga_bounds.specs.Heads.{is_known_in}
 use Rattle.fpga_bounds.specs.NetTable.{HasNetLines, number_named}
-use Rattle.fpga_bounds.proofs.NameLemmas.{name-at, name_itself, named-at, number-within, same_name, unnamed}
+use Rattle.fpga_types.proofs.NameLaws.{name_itself, same_name}
+use Rattle.fpga_bounds.proofs.NameLemmas.{name-at, named-at, number-within, unnamed}
 
 -- what is read past the end of some nets
 abbrev NO_NET : Net

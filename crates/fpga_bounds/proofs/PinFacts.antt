@@ -157,7 +157,8 @@ pin-parts all (Some p) (Some q) s h = (p, q, refl, refl, some_is _ _ h)
     some_is : (u v : PinStep) → Some u ≡ Some v → u ≡ v
     some_is u v g = cc
 
-pub one-of : {T : Type 0} (x y : Option T) (z : T) → either x y ≡ Some z → (x ≡ Some z) ⊎ (y ≡ Some z)
+pub one-of : {T : Type 0} (x y : Option T) (z : T) → either x y ≡ Some z →
+    (x ≡ Some z) ⊎ (y ≡ Some z)
 one-of None y z h = inr h
 one-of (Some x) y z h = inl h
 

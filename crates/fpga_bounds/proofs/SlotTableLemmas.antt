@@ -86,8 +86,8 @@ same_slot-swap a b = go (same_slot a b) (same_slot b a) refl refl
         (same_slot-itself b)))
 
 -- one slot more stands once, where it was not found
-once-push : (all : List Slot) (slot : Slot) → AreDistinct all → list_any (same_slot slot) all ≡ false
-    → AreDistinct (all ++ slot ∷ [])
+once-push : (all : List Slot) (slot : Slot) → AreDistinct all →
+    list_any (same_slot slot) all ≡ false → AreDistinct (all ++ slot ∷ [])
 once-push all slot once new =
     all_pairs_push (λ a b. same_slot a b ≡ false) all slot once
     (λ k d lt. go (get_or all k d) (In-get all k d lt) (same_slot (get_or all k d) slot) refl)

@@ -13,8 +13,8 @@ use Rattle.fpga_bounds.specs.Pairs.{AreDistinct}
 abbrev pub slot_cmp : Slot → Slot → Ordering
 slot_cmp = (slot_ord.ghosts).cmp
 
--- each slot stands once and is found at the number of its place, no other is found, and there are at
--- most 200,000
+-- each slot stands once and is found at the number of its place, no other is found, and there are
+-- at most 200,000
 pub record IsNumbered (all : List Slot) (numbers : BTreeMap Slot ℕ) : Type 0 where
   pub found : (s : Slot) → get slot_cmp numbers s ≡ position_from (same_slot s) 0 all
   pub once : AreDistinct all

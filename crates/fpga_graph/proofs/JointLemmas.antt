@@ -1,5 +1,5 @@
 -- The wires that a wire is joined to lie in the cells round its own, in their order, each once.
-use Rattle.std.proofs.Common.{◌≡◌, ◌≢◌, ℕ, ◌+◌, ◌-◌, ◌≤◌, Bool, true, false, cond, Option, Some, None, List, [], ◌∷◌, ◌++◌, refl, sym, ap, ◌∙◌, subst, inl, inr, arith}
+use Rattle.std.proofs.Common.{◌≡◌, ◌≢◌, ◌⊎◌, ℕ, ◌+◌, ◌-◌, ◌≤◌, Bool, true, false, cond, Option, Some, None, List, [], ◌∷◌, ◌++◌, refl, sym, ap, ◌∙◌, subst, inl, inr, arith}
 use Rattle.std.specs.Prelude.{◌&&◌, filter, filter_map, find, flat_map, map, option_map}
 use Rattle.std.specs.List.{range_with_len}
 use Rattle.std.specs.Option.{option_to_list}
@@ -24,13 +24,13 @@ use Rattle.fpga_types.specs.declared.grid.Wire.{Wire}
 use Rattle.fpga_types.proofs.CellLemmas.{low-x, low-y}
 use Rattle.fpga_types.proofs.MeetingLemmas.{across-joined, joined-across, meeting-found, same_cell-is, same_cell-itself}
 use Rattle.fpga_fabric.proofs.EndLemmas.{lower, upper}
-use Rattle.fpga_fabric.specs.Ends.{lower_end, upper_end}
+use Rattle.fpga_fabric.specs.Ends.{lower_end, lower_side, upper_end, upper_side}
 use Rattle.fpga_graph.specs.Around.{cells_across, cells_around, joint_in}
 use Rattle.fpga_graph.specs.Cells.{column_cell, row_cell}
 use Rattle.fpga_graph.specs.GraphOf.{GraphOf}
 use Rattle.fpga_graph.specs.Wires.{AreJoints, is_meeting_from, joined_wires, wire_across, wire_in}
 use Rattle.fpga_graph.proofs.Apart.{IsApart, all_pairs-apart, apart-option, apart-rows, none-of}
-use Rattle.fpga_graph.proofs.Ranges.{rows-filter, rows-none, rows-one, rows-some, rows-two}
+use Rattle.fpga_graph.proofs.Ranges.{inside, rows-filter, rows-none, rows-one, rows-some, rows-two}
 
 abbrev block_at : ℕ → ℕ → SwitchAt
 block_at i j = record { i = i; j = j }
@@ -51,6 +51,11 @@ unmet true false o h = refl
 unmet false false o h = refl
 unmet true true o h = cc
 unmet false true o h = cc
+
+-- three rows that are alike
+three-rows : {A : Type 0} {a b c u v w : List A} → a ≡ u → b ≡ v → c ≡ w
+    → a ++ (b ++ (c ++ [])) ≡ u ++ (v ++ (w ++ []))
+three-rows p q r = λ i. p i ++ (q i ++ (r i ++ []))
 
 module _ (g : GraphOf) (w : Wire) where
   abbrev table : TrackMap
@@ -139,26 +144,14 @@ module _ (g : GraphOf) (w : Wire) where
 
     made_across : (from : Side) → w.cell ≡ cell_on from at →
         made_from at from ≡ flat_map made_in (cells_across at from)
-    made_across Left e =
-        let a = alike Left Right e (λ d. cc) in
-        let b = alike Left Bottom e (λ d. cc) in
-        let c = alike Left Top e (λ d. cc) in
-        λ i. a i ++ (b i ++ (c i ++ []))
-    made_across Right e =
-        let a = alike Right Left e (λ d. cc) in
-        let b = alike Right Bottom e (λ d. cc) in
-        let c = alike Right Top e (λ d. cc) in
-        λ i. a i ++ (b i ++ (c i ++ []))
-    made_across Bottom e =
-        let a = alike Bottom Left e (λ d. cc) in
-        let b = alike Bottom Right e (λ d. cc) in
-        let c = alike Bottom Top e (λ d. cc) in
-        λ i. a i ++ (b i ++ (c i ++ []))
-    made_across Top e =
-        let a = alike Top Left e (λ d. cc) in
-        let b = alike Top Right e (λ d. cc) in
-        let c = alike Top Bottom e (λ d. cc) in
-        λ i. a i ++ (b i ++ (c i ++ []))
+    made_across Left e = three-rows (alike Left Right e (λ d. cc)) (alike Left Bottom e (λ d. cc))
+        (alike Left Top e (λ d. cc))
+    made_across Right e = three-rows (alike Right Left e (λ d. cc)) (alike Right Bottom e (λ d. cc))
+        (alike Right Top e (λ d. cc))
+    made_across Bottom e = three-rows (alike Bottom Left e (λ d. cc))
+        (alike Bottom Right e (λ d. cc)) (alike Bottom Top e (λ d. cc))
+    made_across Top e = three-rows (alike Top Left e (λ d. cc)) (alike Top Right e (λ d. cc))
+        (alike Top Bottom e (λ d. cc))
 
 abbrev wire_at : Axis → (x y track : ℕ) → Wire
 wire_at axis x y track = record { cell = record { axis = axis; x = x; y = y }; track = track }
@@ -172,181 +165,128 @@ y_of e = ap (λ (c : Cell). c.y) e
 one_axis : {a b : Cell} → a ≡ b → a.axis ≡ b.axis
 one_axis e = ap (λ (c : Cell). c.axis) e
 
--- a cell of a row: the switch blocks at its ends make all
-module _ (g : GraphOf) (x y t : ℕ) (there : is_channel_place g.grid X x y ≡ true) where
-  abbrev along_row : Wire
-  along_row = wire_at X x y t
+i_of : {a b : SwitchAt} → a ≡ b → a.i ≡ b.i
+i_of e = ap (λ (at : SwitchAt). at.i) e
 
-  bottom_of : (i j : ℕ) → made_from g along_row (block_at i j) Bottom ≡ []
-  bottom_of i j = nothing_from g along_row (block_at i j) Bottom
-      (λ e. let k : X ≡ Y = one_axis e in cc)
+j_of : {a b : SwitchAt} → a ≡ b → a.j ≡ b.j
+j_of e = ap (λ (at : SwitchAt). at.j) e
 
-  top_of : (i j : ℕ) → made_from g along_row (block_at i j) Top ≡ []
-  top_of i j = nothing_from g along_row (block_at i j) Top
-      (λ e. let k : X ≡ Y = one_axis e in cc)
+-- the switch blocks at the ends of a cell
+abbrev lower_of : Cell → SwitchAt
+lower_of cell = lower_end cell.axis cell.x cell.y
 
-  left_of : (i j : ℕ) → (x ≡ i → y ≡ j → ⊥) → made_from g along_row (block_at i j) Left ≡ []
-  left_of i j apart = nothing_from g along_row (block_at i j) Left
-      (λ e. apart (x_of e) (y_of e))
+abbrev upper_of : Cell → SwitchAt
+upper_of cell = upper_end cell.x cell.y
 
-  right_of : (i j : ℕ) → (x ≡ i + 1 → y ≡ j → ⊥) →
-      made_from g along_row (block_at i j) Right ≡ []
-  right_of i j apart = nothing_from g along_row (block_at i j) Right
-      (λ e. apart (x_of e) (y_of e))
+-- a cell with this switch block at an end is on this side of it
+abbrev IsEnd : Side → SwitchAt → Cell → Type 0
+IsEnd side at cell = ((side ≡ lower_side cell.axis) × (lower_of cell ≡ at))
+    ⊎ ((side ≡ upper_side cell.axis) × (upper_of cell ≡ at))
 
-  row_none : (i j : ℕ) → (x ≡ i → y ≡ j → ⊥) → (x ≡ i + 1 → y ≡ j → ⊥) →
-      made_at g along_row i j ≡ []
-  row_none i j left right =
-      let a = left_of i j left in let b = right_of i j right in
-      let c = bottom_of i j in let d = top_of i j in
-      λ k. a k ++ (b k ++ (c k ++ (d k ++ [])))
+-- a switch block is an end of the cell on each of its sides
+is-end : (side : Side) (at : SwitchAt) → IsEnd side at (cell_on side at)
+is-end Left at = inr (refl, refl)
+is-end Right at =
+    let e : at.i + 1 - 1 ≡ at.i = omega arith in inl (refl, λ k. block_at (e k) at.j)
+is-end Bottom at = inr (refl, refl)
+is-end Top at =
+    let e : at.j + 1 - 1 ≡ at.j = omega arith in inl (refl, λ k. block_at at.i (e k))
 
-  row_low : made_at g along_row (x - 1) y
-      ≡ flat_map (made_in g along_row) (cells_across (lower_end X x y) Right)
-  row_low =
-      let place = low-x g.grid x y there in
-      let end = lower g.grid X x y there in
-      let a = left_of (x - 1) y (λ e f. absurd (omega (arith, e, place.0))) in
-      let c = bottom_of (x - 1) y in let d = top_of (x - 1) y in
-      let b = made_from g along_row (block_at (x - 1) y) Right in
-      (λ k. a k ++ (b ++ (c k ++ (d k ++ []))))
-      ∙ append-nil b
-      ∙ made_across g along_row there (block_at (x - 1) y) end.1 end.2 Right end.0
+-- the ends of a cell of the array differ
+ends-apart : (grid : Size) (axis : Axis) (x y : ℕ) → is_channel_place grid axis x y ≡ true →
+    upper_end x y ≢ lower_end axis x y
+ends-apart grid X x y h e = absurd (omega (arith, i_of e, (low-x grid x y h).0))
+ends-apart grid Y x y h e = absurd (omega (arith, j_of e, (low-y grid x y h).1))
 
-  row_high : made_at g along_row x y
-      ≡ flat_map (made_in g along_row) (cells_across (upper_end x y) Left)
-  row_high =
-      let end = upper g.grid X x y there in
-      let b = right_of x y (λ e f. absurd (omega (arith, e))) in
-      let c = bottom_of x y in let d = top_of x y in
-      let a = made_from g along_row (block_at x y) Left in
-      (λ k. a ++ (b k ++ (c k ++ (d k ++ []))))
-      ∙ append-nil a
-      ∙ made_across g along_row there (block_at x y) end.1 end.2 Left end.0
+-- where one side alone makes anything, that is all
+one_side : {A : Type 0} (f : Side → List A) (side : Side) →
+    ((other : Side) → other ≢ side → f other ≡ []) → flat_map f all_sides ≡ f side
+one_side f Left none =
+    rw (none Right (λ e. cc), none Bottom (λ e. cc), none Top (λ e. cc)) (append-nil (f Left))
+one_side f Right none =
+    rw (none Left (λ e. cc), none Bottom (λ e. cc), none Top (λ e. cc)) (append-nil (f Right))
+one_side f Bottom none =
+    rw (none Left (λ e. cc), none Right (λ e. cc), none Top (λ e. cc)) (append-nil (f Bottom))
+one_side f Top none =
+    rw (none Left (λ e. cc), none Right (λ e. cc), none Bottom (λ e. cc)) (append-nil (f Top))
 
-  abbrev row_blocks : ℕ → List Wire
-  row_blocks i = flat_map (made_at g along_row i) (range_with_len 0 (g.grid.ny + 1))
+-- the switch blocks at the ends of a wire's cell make all
+module _ (g : GraphOf) (w : Wire) (there : is_cell g.grid w.cell ≡ true) where
+  standing : (side : Side) (at : SwitchAt) → w.cell ≡ cell_on side at → IsEnd side at w.cell
+  standing side at e = subst (λ (c : Cell). IsEnd side at c) (sym e) (is-end side at)
 
-  row_only : (i : ℕ) → row_blocks i ≡ made_at g along_row i y
-  row_only i = let place = low-x g.grid x y there in
-      rows-one (made_at g along_row i) 0 (g.grid.ny + 1) y
-      (λ j low d. row_none i j (λ e f. d (sym f)) (λ e f. d (sym f)))
-      (λ o. elim o [
-        | inl before ↦ absurd (omega arith)
-        | inr behind ↦ absurd (omega (arith, behind, place.2))
-      ])
+  made_elsewhere : (i j : ℕ) → lower_of w.cell ≢ block_at i j → upper_of w.cell ≢ block_at i j →
+      made_at g w i j ≡ []
+  made_elsewhere i j low high = rows-none (made_from g w (block_at i j)) all_sides
+      (λ side h. nothing_from g w (block_at i j) side (λ e. elim (standing side (block_at i j) e) [
+        | inl lower ↦ low lower.1
+        | inr upper ↦ high upper.1
+      ]))
 
-  row_ends : flat_map row_blocks (range_with_len 0 (g.grid.nx + 1))
-      ≡ flat_map (made_in g along_row) (cells_around along_row.cell)
-  row_ends =
-      let place = low-x g.grid x y there in
-      let next : x - 1 + 1 ≡ x = omega (arith, place.0) in
-      let low = row_only (x - 1) ∙ row_low in
-      let high = ap row_blocks next ∙ row_only x ∙ row_high in
-      rows-two row_blocks 0 (g.grid.nx + 1) (x - 1)
-      (λ i from d e. row_only i ∙ row_none i y
-      (λ same f. e (sym same ∙ sym next)) (λ same f. d (omega (arith, same))))
-      (λ o. elim o [
-        | inl before ↦ absurd (omega arith)
-        | inr behind ↦ absurd (omega (arith, behind, place.1))
-      ])
-      (λ o. elim o [
-        | inl before ↦ absurd (omega arith)
-        | inr behind ↦ absurd (omega (arith, behind, next, place.1))
-      ])
-      ∙ (λ k. low k ++ high k)
-      ∙ sym (flat_map-append (made_in g along_row) (cells_across (lower_end X x y) Right)
-      (cells_across (upper_end x y) Left))
+  made_at_end : (side : Side) (at : SwitchAt)
+      → (w.cell ≡ cell_on side at) × (at.i ≤ g.grid.nx) × (at.j ≤ g.grid.ny)
+      → ((other : Side) → IsEnd other at w.cell → other ≡ side)
+      → made_at g w at.i at.j ≡ flat_map (made_in g w) (cells_across at side)
+  made_at_end side at end only =
+      one_side (made_from g w at) side
+      (λ other d. nothing_from g w at other (λ e. d (only other (standing other at e))))
+      ∙ made_across g w there at end.1 end.2 side end.0
 
--- and so of a column's
-module _ (g : GraphOf) (x y t : ℕ) (there : is_channel_place g.grid Y x y ≡ true) where
-  abbrev along_column : Wire
-  along_column = wire_at Y x y t
-
-  left_by : (i j : ℕ) → made_from g along_column (block_at i j) Left ≡ []
-  left_by i j = nothing_from g along_column (block_at i j) Left
-      (λ e. let k : Y ≡ X = one_axis e in cc)
-
-  right_by : (i j : ℕ) → made_from g along_column (block_at i j) Right ≡ []
-  right_by i j = nothing_from g along_column (block_at i j) Right
-      (λ e. let k : Y ≡ X = one_axis e in cc)
-
-  bottom_by : (i j : ℕ) → (x ≡ i → y ≡ j → ⊥) →
-      made_from g along_column (block_at i j) Bottom ≡ []
-  bottom_by i j apart = nothing_from g along_column (block_at i j) Bottom
-      (λ e. apart (x_of e) (y_of e))
-
-  top_by : (i j : ℕ) → (x ≡ i → y ≡ j + 1 → ⊥) →
-      made_from g along_column (block_at i j) Top ≡ []
-  top_by i j apart = nothing_from g along_column (block_at i j) Top
-      (λ e. apart (x_of e) (y_of e))
-
-  column_none : (i j : ℕ) → (x ≡ i → y ≡ j → ⊥) → (x ≡ i → y ≡ j + 1 → ⊥) →
-      made_at g along_column i j ≡ []
-  column_none i j bottom top =
-      let a = left_by i j in let b = right_by i j in
-      let c = bottom_by i j bottom in let d = top_by i j top in
-      λ k. a k ++ (b k ++ (c k ++ (d k ++ [])))
-
-  column_low : made_at g along_column x (y - 1)
-      ≡ flat_map (made_in g along_column) (cells_across (lower_end Y x y) Top)
-  column_low =
-      let place = low-y g.grid x y there in
-      let end = lower g.grid Y x y there in
-      let a = left_by x (y - 1) in let b = right_by x (y - 1) in
-      let c = bottom_by x (y - 1) (λ e f. absurd (omega (arith, f, place.1))) in
-      let d = made_from g along_column (block_at x (y - 1)) Top in
-      (λ k. a k ++ (b k ++ (c k ++ (d ++ []))))
-      ∙ append-nil d
-      ∙ made_across g along_column there (block_at x (y - 1)) end.1 end.2 Top end.0
-
-  column_high : made_at g along_column x y
-      ≡ flat_map (made_in g along_column) (cells_across (upper_end x y) Bottom)
-  column_high =
-      let end = upper g.grid Y x y there in
-      let a = left_by x y in let b = right_by x y in
-      let d = top_by x y (λ e f. absurd (omega (arith, f))) in
-      let c = made_from g along_column (block_at x y) Bottom in
-      (λ k. a k ++ (b k ++ (c ++ (d k ++ []))))
-      ∙ append-nil c
-      ∙ made_across g along_column there (block_at x y) end.1 end.2 Bottom end.0
-
-  abbrev column_blocks : ℕ → List Wire
-  column_blocks i = flat_map (made_at g along_column i) (range_with_len 0 (g.grid.ny + 1))
-
-  column_ends : flat_map column_blocks (range_with_len 0 (g.grid.nx + 1))
-      ≡ flat_map (made_in g along_column) (cells_around along_column.cell)
-  column_ends =
-      let place = low-y g.grid x y there in
-      let next : y - 1 + 1 ≡ y = omega (arith, place.1) in
-      let high = ap (made_at g along_column x) next ∙ column_high in
-      rows-one column_blocks 0 (g.grid.nx + 1) x
-      (λ i from d. rows-none (made_at g along_column i) (range_with_len 0 (g.grid.ny + 1))
-      (λ j h. column_none i j (λ e f. d (sym e)) (λ e f. d (sym e))))
-      (λ o. elim o [
-        | inl before ↦ absurd (omega arith)
-        | inr behind ↦ absurd (omega (arith, behind, place.0))
-      ])
-      ∙ rows-two (made_at g along_column x) 0 (g.grid.ny + 1) (y - 1)
-      (λ j from d e. column_none x j (λ f same. e (sym same ∙ sym next))
-      (λ f same. d (omega (arith, same))))
-      (λ o. elim o [
-        | inl before ↦ absurd (omega arith)
-        | inr behind ↦ absurd (omega (arith, behind, place.2))
-      ])
-      (λ o. elim o [
-        | inl before ↦ absurd (omega arith)
-        | inr behind ↦ absurd (omega (arith, behind, next, place.2))
-      ])
-      ∙ (λ k. column_low k ++ high k)
-      ∙ sym (flat_map-append (made_in g along_column) (cells_across (lower_end Y x y) Top)
-      (cells_across (upper_end x y) Bottom))
+  made_around : made_at g w (lower_of w.cell).i (lower_of w.cell).j
+      ++ made_at g w (upper_of w.cell).i (upper_of w.cell).j
+      ≡ flat_map (made_in g w) (cells_around w.cell)
+  made_around =
+      let apart = ends-apart g.grid w.cell.axis w.cell.x w.cell.y there in
+      let low = made_at_end (lower_side w.cell.axis) (lower_of w.cell)
+      (lower g.grid w.cell.axis w.cell.x w.cell.y there) (λ other o. elim o [
+        | inl lower ↦ lower.0
+        | inr upper ↦ absurd (apart upper.1)
+      ]) in
+      let high = made_at_end (upper_side w.cell.axis) (upper_of w.cell)
+      (upper g.grid w.cell.axis w.cell.x w.cell.y there) (λ other o. elim o [
+        | inl lower ↦ absurd (apart (sym lower.1))
+        | inr upper ↦ upper.0
+      ]) in
+      (λ k. low k ++ high k)
+      ∙ sym (flat_map-append (made_in g w) (cells_across (lower_of w.cell) (lower_side w.cell.axis))
+      (cells_across (upper_of w.cell) (upper_side w.cell.axis)))
 
 by_ends : (g : GraphOf) (axis : Axis) (x y t : ℕ) → is_channel_place g.grid axis x y ≡ true →
     joined_wires g (wire_at axis x y t)
     ≡ flat_map (made_in g (wire_at axis x y t)) (cells_around (wire_at axis x y t).cell)
-by_ends g X x y t h = by_blocks g (wire_at X x y t) ∙ row_ends g x y t h
-by_ends g Y x y t h = by_blocks g (wire_at Y x y t) ∙ column_ends g x y t h
+by_ends g X x y t h =
+    let w = wire_at X x y t in
+    let place = low-x g.grid x y h in
+    let next : x - 1 + 1 ≡ x = omega (arith, place.0) in
+    let column = λ (i : ℕ). flat_map (made_at g w i) (range_with_len 0 (g.grid.ny + 1)) in
+    let in_row = λ (i : ℕ). rows-one (made_at g w i) 0 (g.grid.ny + 1) y
+    (λ j from d. made_elsewhere g w h i j (λ e. d (sym (j_of e))) (λ e. d (sym (j_of e))))
+    (inside 0 (g.grid.ny + 1) y (omega arith) (omega (arith, place.2))) in
+    by_blocks g w
+    ∙ rows-two column 0 (g.grid.nx + 1) (x - 1)
+    (λ i from d e. in_row i ∙ made_elsewhere g w h i y
+    (λ k. d (sym (i_of k))) (λ k. e (sym (i_of k) ∙ sym next)))
+    (inside 0 (g.grid.nx + 1) (x - 1) (omega arith) (omega (arith, place.1)))
+    (inside 0 (g.grid.nx + 1) (x - 1 + 1) (omega arith) (omega (arith, place.1, next)))
+    ∙ (λ k. in_row (x - 1) k ++ (ap column next ∙ in_row x) k)
+    ∙ made_around g w h
+by_ends g Y x y t h =
+    let w = wire_at Y x y t in
+    let place = low-y g.grid x y h in
+    let next : y - 1 + 1 ≡ y = omega (arith, place.1) in
+    let rows = range_with_len 0 (g.grid.ny + 1) in
+    by_blocks g w
+    ∙ rows-one (λ i. flat_map (made_at g w i) rows) 0 (g.grid.nx + 1) x
+    (λ i from d. rows-none (made_at g w i) rows
+    (λ j k. made_elsewhere g w h i j (λ e. d (sym (i_of e))) (λ e. d (sym (i_of e)))))
+    (inside 0 (g.grid.nx + 1) x (omega arith) (omega (arith, place.0)))
+    ∙ rows-two (made_at g w x) 0 (g.grid.ny + 1) (y - 1)
+    (λ j from d e. made_elsewhere g w h x j
+    (λ k. d (sym (j_of k))) (λ k. e (sym (j_of k) ∙ sym next)))
+    (inside 0 (g.grid.ny + 1) (y - 1) (omega arith) (omega (arith, place.2)))
+    (inside 0 (g.grid.ny + 1) (y - 1 + 1) (omega arith) (omega (arith, place.2, next)))
+    ∙ ap (λ (j : ℕ). made_at g w x (y - 1) ++ made_at g w x j) next
+    ∙ made_around g w h
 
 -- the wires in the cells round the wire's own, in the order of the switch blocks and sides
 pub joined-around : (g : GraphOf) (w : Wire) → is_cell g.grid w.cell ≡ true →

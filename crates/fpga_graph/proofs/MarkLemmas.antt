@@ -7,7 +7,7 @@ use Rattle.std.proofs.lemmas.Bool.{false≢true}
 use Rattle.std.proofs.lemmas.Bool.Decides.{Decides-eqb}
 use Rattle.std.proofs.lemmas.List.{get_or-set_other, get_or-set_same}
 use Rattle.std.proofs.lemmas.List.Folds.{list_any-append}
-use Rattle.fpga_graph.proofs.Ranges.{range-push}
+use Rattle.list_laws.proofs.Ranges.{range-push}
 
 -- no place is marked
 pub unmarked : (n t : ℕ) → get_or (replicate n false) t false ≡ false

@@ -1,13 +1,15 @@
 -- Rows of what the elements of a list make: where a test passes, and where all but one or two
 -- numbers of a range make nothing.
-use Rattle.std.proofs.Common.{◌≡◌, ◌≢◌, ◌⊎◌, ℕ, zero, suc, ◌+◌, ◌<◌, ◌≤◌, Bool, true, false, cond, Option, Some, None, List, [], ◌∷◌, ◌++◌, refl, sym, ap, ◌∙◌, inl, inr, arith}
-use Rattle.std.specs.Prelude.{filter, filter_map, flat_map, map}
+use Rattle.std.proofs.Common.{◌≡◌, ◌≢◌, ◌⊎◌, ℕ, zero, suc, ◌+◌, ◌-◌, ◌<◌, ◌≤◌, Bool, true, false, cond, Option, Some, None, List, [], ◌∷◌, ◌++◌, refl, sym, ap, ◌∙◌, inl, inr, arith}
+use Rattle.std.specs.Prelude.{◌==◌, filter, filter_map, flat_map, map}
 use Rattle.std.specs.List.{cons_option, range_with_len}
-use Rattle.std.specs.Option.{option_to_list}
-use Rattle.std.proofs.lemmas.Bool.{cases_eq, cases_lt}
+use Rattle.std.specs.Option.{option_map_or, option_to_list}
+use Rattle.std.proofs.lemmas.Bool.{cases_eq, cases_lt, eqb-false}
+use Rattle.std.proofs.lemmas.Bool.Decides.{Decides-eqb}
 use Rattle.std.proofs.lemmas.List.{append-nil, map-append}
 use Rattle.std.proofs.lemmas.List.Elements.{filter-append}
 use Rattle.list_laws.proofs.Members.{In, from_In-range}
+use Rattle.list_laws.proofs.Ranges.{range-push}
 
 -- the rows of the elements that pass
 pub rows-filter : {A B : Type 0} (p : A → Bool) (f : A → List B) (xs : List A) →
@@ -116,13 +118,32 @@ rows-two {B} f a (suc n) k others first second = elim (cases_eq a k) [
   ])
 ]
 
--- one number more at the end of a range
-pub range-push : (a n : ℕ) → range_with_len a (suc n) ≡ range_with_len a n ++ (a + n) ∷ []
-range-push a zero = let e : a ≡ a + 0 = omega arith in λ i. e i ∷ []
-range-push a (suc n) =
-    let e : a + 1 + n ≡ a + suc n = omega arith in
-    ap (λ (t : List ℕ). a ∷ t) (range-push (a + 1) n
-    ∙ ap (λ (m : ℕ). range_with_len (a + 1) n ++ m ∷ []) e)
+-- a number of a range is not beyond it
+pub inside : {A : Type 0} (a n k : ℕ) → a ≤ k → k < a + n → (k < a) ⊎ (a + n ≤ k) → A
+inside a n k low high o = elim o [
+  | inl before ↦ absurd (omega (arith, before, low))
+  | inr behind ↦ absurd (omega (arith, behind, high))
+]
+
+-- where at most the element of a number and that of the number before it make anything
+pub rows-beside : {A B : Type 0} (f : A → List B) (element : ℕ → A) (n k : ℕ) →
+    ((i : ℕ) → i ≢ k → i + 1 ≢ k → f (element i) ≡ []) →
+    ((i : ℕ) → (i < 0) ⊎ (0 + n ≤ i) → f (element i) ≡ []) →
+    flat_map (λ i. f (element i)) (range_with_len 0 n)
+    ≡ option_map_or f (cond (k == 0) None (Some (element (k - 1)))) [] ++ f (element k)
+rows-beside f element n k others out = go (k == 0) refl
+  where
+    go : (b : Bool) → (k == 0) ≡ b → flat_map (λ i. f (element i)) (range_with_len 0 n)
+        ≡ option_map_or f (cond b None (Some (element (k - 1)))) [] ++ f (element k)
+    go true e = let first : k ≡ 0 = (Decides-eqb k 0).0 e in
+        rows-one (λ i. f (element i)) 0 n k
+        (λ i low d. others i d (λ under. absurd (omega (arith, under, first)))) (out k)
+    go false e = let some = eqb-false k 0 e in let next : k - 1 + 1 ≡ k = omega arith in
+        rows-two (λ i. f (element i)) 0 n (k - 1)
+        (λ i low d after. others i (λ same. after (same ∙ sym next))
+        (λ under. d (omega (arith, under))))
+        (out (k - 1)) (out (k - 1 + 1))
+        ∙ ap (λ (i : ℕ). f (element (k - 1)) ++ f (element i)) next
 
 -- the numbers up to one more that pass, changed
 pub kept-push : {B : Type 0} (f : ℕ → B) (p : ℕ → Bool) (n : ℕ) →

@@ -1,11 +1,11 @@
 -- The wires that a pin opens lie in the cells along the sides of its place, in the order of these
 -- cells, each once.
-use Rattle.std.proofs.Common.{◌≡◌, ◌⊎◌, ℕ, ◌+◌, ◌-◌, ◌*◌, ◌/◌, ◌<◌, ◌≤◌, Bool, true, false, cond, Option, Some, None, List, [], ◌++◌, refl, sym, ap, ◌∙◌, subst, inl, inr, append_assoc, arith}
+use Rattle.std.proofs.Common.{◌≡◌, ◌⊎◌, ℕ, ◌+◌, ◌*◌, ◌/◌, ◌<◌, ◌≤◌, Bool, true, cond, Option, Some, None, List, [], ◌++◌, refl, sym, ap, ◌∙◌, subst, inl, inr, append_assoc, arith}
 use Rattle.std.specs.Prelude.{◌==◌, flat_map, map, slice_get}
 use Rattle.std.specs.List.{range_with_len}
 use Rattle.std.specs.Option.{option_map_or}
 use Rattle.std.proofs.Math.Nat.{mod-lt}
-use Rattle.std.proofs.lemmas.Bool.{eqb-false, false_from_ne_true, false≢true}
+use Rattle.std.proofs.lemmas.Bool.{false_from_ne_true, false≢true}
 use Rattle.std.proofs.lemmas.Bool.Decides.{Decides-eqb}
 use Rattle.std.proofs.lemmas.Grind.{flat_map-append}
 use Rattle.list_laws.proofs.Members.{In, In-append_left, In-append_right, In-contains, In-filter, In-flat_map, In-map, In-range, contains-In, from_In-filter, from_In-flat_map, from_In-map}
@@ -32,7 +32,7 @@ use Rattle.fpga_graph.specs.Cells.{column_cell, row_cell}
 use Rattle.fpga_graph.specs.GraphOf.{GraphOf}
 use Rattle.fpga_graph.specs.Wires.{AreReached, Reaches, opened_tracks, opened_wires, touched_cells, wire_in}
 use Rattle.fpga_graph.proofs.Apart.{IsApart, all_pairs-apart, apart-append, apart-filter, apart-map, apart-range, apart-rows}
-use Rattle.fpga_graph.proofs.Ranges.{rows-filter, rows-none, rows-one, rows-two}
+use Rattle.fpga_graph.proofs.Ranges.{inside, rows-beside, rows-filter, rows-none, rows-one}
 
 -- the pin's place
 abbrev x_of : PinAt → ℕ
@@ -64,9 +64,6 @@ beside-along (PinOf x y pin) cell side = refl
 
 equal : (a b : ℕ) → (a == b) ≡ true → a ≡ b
 equal a b h = (Decides-eqb a b).0 h
-
-next-after : (n : ℕ) → (n == 0) ≡ false → n - 1 + 1 ≡ n
-next-after n h = let some = eqb-false n 0 h in omega arith
 
 module _ (g : GraphOf) (pin : PinAt) where
   abbrev touched : Cell → Bool
@@ -119,49 +116,29 @@ module _ (g : GraphOf) (pin : PinAt) where
   row_only y = rows-one (λ x. opened_in g pin (row_cell x y)) 1 g.grid.nx (x_of pin)
       (λ x low d. unopened (row_cell x y) (λ t. d (touched-row x y t).0))
       (λ o. unopened (row_cell (x_of pin) y) (λ t.
-      let place = low-x g.grid (x_of pin) y (touched-there (row_cell (x_of pin) y) t) in elim o [
-        | inl before ↦ omega (arith, before, place.0)
-        | inr behind ↦ omega (arith, behind, place.1)
-      ]))
+      let place = low-x g.grid (x_of pin) y (touched-there (row_cell (x_of pin) y) t) in
+      inside 1 g.grid.nx (x_of pin) place.0 (omega (arith, place.1)) o))
 
   abbrev in_own_column : ℕ → List Wire
   in_own_column y = opened_in g pin (row_cell (x_of pin) y)
 
   beyond_rows : (y : ℕ) → (y < 0) ⊎ (0 + (g.grid.ny + 1) ≤ y) → in_own_column y ≡ []
   beyond_rows y o = unopened (row_cell (x_of pin) y) (λ t.
-      let place = low-x g.grid (x_of pin) y (touched-there (row_cell (x_of pin) y) t) in elim o [
-        | inl before ↦ omega arith
-        | inr behind ↦ omega (arith, behind, place.2)
-      ])
+      let place = low-x g.grid (x_of pin) y (touched-there (row_cell (x_of pin) y) t) in
+      inside 0 (g.grid.ny + 1) y (omega arith) (omega (arith, place.2)) o)
 
   -- below and above the place
   above_and_below : flat_map in_own_column (range_with_len 0 (g.grid.ny + 1))
       ≡ option_map_or (opened_in g pin) (cell_along (x_of pin) (y_of pin) Bottom) []
       ++ in_own_column (y_of pin)
-  above_and_below = go (y_of pin == 0) refl
-    where
-      go : (b : Bool) → (y_of pin == 0) ≡ b →
-          flat_map in_own_column (range_with_len 0 (g.grid.ny + 1))
-          ≡ option_map_or (opened_in g pin)
-          (cond b None (Some (row_cell (x_of pin) (y_of pin - 1)))) [] ++ in_own_column (y_of pin)
-      go true e = let bottom : y_of pin ≡ 0 = equal (y_of pin) 0 e in
-          rows-one in_own_column 0 (g.grid.ny + 1) (y_of pin)
-          (λ y low d. unopened (row_cell (x_of pin) y) (λ t.
-          elim (touched-row (x_of pin) y t).1 [
-            | inl same ↦ d same
-            | inr under ↦ omega (arith, under, bottom)
-          ]))
-          (beyond_rows (y_of pin))
-      go false e =
-          let next : y_of pin - 1 + 1 ≡ y_of pin = next-after (y_of pin) e in
-          rows-two in_own_column 0 (g.grid.ny + 1) (y_of pin - 1)
-          (λ y low d f. unopened (row_cell (x_of pin) y) (λ t.
-          elim (touched-row (x_of pin) y t).1 [
-            | inl same ↦ f (same ∙ sym next)
-            | inr under ↦ d (let down : y ≡ y_of pin - 1 = omega (arith, under) in down)
-          ]))
-          (beyond_rows (y_of pin - 1)) (beyond_rows (y_of pin - 1 + 1))
-          ∙ ap (λ (y : ℕ). in_own_column (y_of pin - 1) ++ in_own_column y) next
+  above_and_below =
+      rows-beside (opened_in g pin) (row_cell (x_of pin)) (g.grid.ny + 1) (y_of pin)
+      (λ y same under. unopened (row_cell (x_of pin) y) (λ t.
+      elim (touched-row (x_of pin) y t).1 [
+        | inl here ↦ same here
+        | inr below ↦ under below
+      ]))
+      beyond_rows
 
   -- along a column the pin opens wires in the cells on the left and the right of its place
   abbrev in_own_row : ℕ → List Wire
@@ -169,38 +146,20 @@ module _ (g : GraphOf) (pin : PinAt) where
 
   beyond_columns : (x : ℕ) → (x < 0) ⊎ (0 + (g.grid.nx + 1) ≤ x) → in_own_row x ≡ []
   beyond_columns x o = unopened (column_cell x (y_of pin)) (λ t.
-      let place = low-y g.grid x (y_of pin) (touched-there (column_cell x (y_of pin)) t) in elim o [
-        | inl before ↦ omega arith
-        | inr behind ↦ omega (arith, behind, place.0)
-      ])
+      let place = low-y g.grid x (y_of pin) (touched-there (column_cell x (y_of pin)) t) in
+      inside 0 (g.grid.nx + 1) x (omega arith) (omega (arith, place.0)) o)
 
   left_and_right : flat_map in_own_row (range_with_len 0 (g.grid.nx + 1))
       ≡ option_map_or (opened_in g pin) (cell_along (x_of pin) (y_of pin) Left) []
       ++ in_own_row (x_of pin)
-  left_and_right = go (x_of pin == 0) refl
-    where
-      go : (b : Bool) → (x_of pin == 0) ≡ b →
-          flat_map in_own_row (range_with_len 0 (g.grid.nx + 1))
-          ≡ option_map_or (opened_in g pin)
-          (cond b None (Some (column_cell (x_of pin - 1) (y_of pin)))) [] ++ in_own_row (x_of pin)
-      go true e = let first : x_of pin ≡ 0 = equal (x_of pin) 0 e in
-          rows-one in_own_row 0 (g.grid.nx + 1) (x_of pin)
-          (λ x low d. unopened (column_cell x (y_of pin)) (λ t.
-          elim (touched-column x (y_of pin) t).1 [
-            | inl same ↦ d same
-            | inr under ↦ omega (arith, under, first)
-          ]))
-          (beyond_columns (x_of pin))
-      go false e =
-          let next : x_of pin - 1 + 1 ≡ x_of pin = next-after (x_of pin) e in
-          rows-two in_own_row 0 (g.grid.nx + 1) (x_of pin - 1)
-          (λ x low d f. unopened (column_cell x (y_of pin)) (λ t.
-          elim (touched-column x (y_of pin) t).1 [
-            | inl same ↦ f (same ∙ sym next)
-            | inr under ↦ d (let down : x ≡ x_of pin - 1 = omega (arith, under) in down)
-          ]))
-          (beyond_columns (x_of pin - 1)) (beyond_columns (x_of pin - 1 + 1))
-          ∙ ap (λ (x : ℕ). in_own_row (x_of pin - 1) ++ in_own_row x) next
+  left_and_right =
+      rows-beside (opened_in g pin) (λ x. column_cell x (y_of pin)) (g.grid.nx + 1) (x_of pin)
+      (λ x same under. unopened (column_cell x (y_of pin)) (λ t.
+      elim (touched-column x (y_of pin) t).1 [
+        | inl here ↦ same here
+        | inr left ↦ under left
+      ]))
+      beyond_columns
 
   -- of the columns' cells those of the pin's own row
   column_only : flat_map
@@ -215,10 +174,8 @@ module _ (g : GraphOf) (pin : PinAt) where
       (λ x i. unopened (column_cell x y) (λ t. d (touched-column x y t).0)))
       (λ o. rows-none in_own_row (range_with_len 0 (g.grid.nx + 1))
       (λ x i. unopened (column_cell x (y_of pin)) (λ t.
-      let place = low-y g.grid x (y_of pin) (touched-there (column_cell x (y_of pin)) t) in elim o [
-        | inl before ↦ omega (arith, before, place.1)
-        | inr behind ↦ omega (arith, behind, place.2)
-      ])))
+      let place = low-y g.grid x (y_of pin) (touched-there (column_cell x (y_of pin)) t) in
+      inside 1 g.grid.ny (y_of pin) place.1 (omega (arith, place.2)) o)))
 
   along : (side : Side) → option_map_or (opened_in g pin) (cell_along (x_of pin) (y_of pin) side) []
       ≡ opened_along g pin side

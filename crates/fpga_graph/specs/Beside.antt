@@ -1,5 +1,5 @@
 -- The wires that a pin opens in the cells along the sides of its place.
-use Rattle.std.specs.Prelude.{ℕ, ◌-◌, ◌==◌, List, [], ◌∷◌, map, Option, Some, None, if◌then◌else◌}
+use Rattle.std.specs.Prelude.{ℕ, ◌-◌, ◌==◌, List, [], map, Option, Some, None, if◌then◌else◌}
 use Rattle.std.specs.Option.{option_map_or}
 use Rattle.fpga_types.specs.Touching.{touches}
 use Rattle.fpga_types.specs.declared.grid.Cell.{Cell}
@@ -32,7 +32,3 @@ opened_in g pin cell =
 -- the wires that the pin opens along this side of its place
 abbrev pub opened_along : GraphOf → PinAt → Side → List Wire
 opened_along g pin side = option_map_or (opened_in g pin) (cell_beside pin side) []
-
--- the sides in the order of the numbers of the cells along them
-abbrev pub sides_by_number : List Side
-sides_by_number = Bottom ∷ Top ∷ Left ∷ Right ∷ []

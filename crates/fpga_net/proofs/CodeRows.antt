@@ -1,6 +1,6 @@
 -- Worked rows of netlist texts: the first fault of each, by computation.
-use Rattle.std.proofs.Common.{◌≡◌, ℕ, ◌-◌, [], ◌∷◌, ◌++◌, Some, None, refl}
-use Rattle.std.specs.Prelude.{codes, slice_set, Option}
+use Rattle.std.proofs.Common.{◌≡◌, ℕ, List, ◌-◌, [], ◌∷◌, ◌++◌, Some, None, refl}
+use Rattle.std.specs.Prelude.{codes, map, slice_set, Option}
 use Rattle.fpga_text.specs.Bytes.{Bytes}
 use Rattle.fpga_text.specs.FirstFault.{first_fault}
 use Rattle.fpga_text.specs.declared.fault.TextFault.{TextFault}
@@ -8,9 +8,14 @@ use Rattle.fpga_text.specs.declared.fault.TextFault.TheVariants.{Bad}
 use Rattle.fpga_net.specs.Codes.{net_faults}
 use Rattle.fpga_net.proofs.RowTexts.{arch, junction_lines, text_of}
 
--- the first fault of a text
-abbrev fault_of : Bytes → Option TextFault
-fault_of text = first_fault (net_faults arch text)
+-- the fault of this code on this line
+abbrev bad : ℕ → ℕ → Option TextFault
+bad line code = Some (Bad line code)
+
+-- each of these texts has the fault beside it first, or none
+abbrev HaveFaults : List (Bytes × Option TextFault) → Type 0
+HaveFaults rows =
+    map (λ row. first_fault (net_faults arch row.0)) rows ≡ map (λ row. row.1) rows
 
 -- the netlist with another line in this place
 abbrev changed : ℕ → Bytes → Bytes
@@ -20,159 +25,72 @@ changed number line = text_of (slice_set junction_lines (number - 1) line)
 abbrev added : Bytes → Bytes
 added line = text_of (junction_lines ++ line ∷ [])
 
-pub empty_row : fault_of ([]) ≡ None
-empty_row = refl
+pub whole_rows : HaveFaults (([], None) ∷ (text_of junction_lines, None) ∷ [])
+whole_rows = refl
 
-pub junction_row : fault_of (text_of junction_lines) ≡ None
-junction_row = refl
+pub line_form_rows : HaveFaults ((changed 1 (codes ".model m"), bad 1 201)
+    ∷ (changed 11 (codes "subblok: ca"), bad 11 201)
+    ∷ (added (codes "pinlist: a"), bad 14 201)
+    ∷ (changed 12 (codes ".clb"), bad 12 201)
+    ∷ (changed 12 (codes ".clb cb cc"), bad 12 201)
+    ∷ (changed 12 (codes ".clb ca cc"), bad 12 201) ∷ [])
+line_form_rows = refl
 
-pub block_at_end_row : fault_of (codes ".input i\npinlist: n\n.clb x\n") ≡ Some (Bad 4 208)
-block_at_end_row = refl
+-- subblocks stand behind the pins of a logic block alone
+pub subblock_rows : HaveFaults ((changed 8 (codes "pinlist: c\nsubblock: qc"), bad 9 201)
+    ∷ (changed 10 (codes "pinlist: a open open open open open\n.global g"), bad 12 201)
+    ∷ (changed 9 (codes ".clb ca\nsubblock: ca"), bad 10 201)
+    ∷ (changed 11 (codes "subblock:\nsubblock: more"), None)
+    ∷ (added (codes "subblock:"), None) ∷ [])
+subblock_rows = refl
 
-pub block_at_end_before_comment_row : fault_of (codes ".input i\npinlist: n\n.clb x\n\n# end")
-    ≡ Some (Bad 6 208)
-block_at_end_before_comment_row = refl
+pub pin_count_rows : HaveFaults ((changed 13 (codes "pinlist: b open open open open"), bad 13 202)
+    ∷ (changed 13 (codes "pinlist: b open open open open open open"), bad 13 202)
+    ∷ (changed 8 (codes "pinlist: open"), bad 8 202)
+    ∷ (changed 8 (codes "pinlist:"), bad 8 202)
+    ∷ (changed 8 (codes "pinlist: c c"), bad 8 202) ∷ [])
+pin_count_rows = refl
 
-pub strange_word_row : fault_of (changed 11 (codes "subblok: ca")) ≡ Some (Bad 11 201)
-strange_word_row = refl
+-- two blocks of any kinds may not have one name, but a block and a net may
+pub same_name_rows : HaveFaults ((changed 12 (codes ".clb ca"), bad 12 203)
+    ∷ (changed 7 (codes ".output pa"), bad 7 203)
+    ∷ (changed 12 (codes ".clb a"), None) ∷ [])
+same_name_rows = refl
 
-pub model_row : fault_of (changed 1 (codes ".model m")) ≡ Some (Bad 1 201)
-model_row = refl
+-- a net has one driver, and a sink that is not on its driver's own block alone
+pub driver_rows : HaveFaults ((changed 4 (codes "pinlist: a"), bad 4 204)
+    ∷ (changed 13 (codes "pinlist: b open open open a open"), bad 13 204)
+    ∷ (changed 13 (codes "pinlist: d open open open open open"), bad 14 204)
+    ∷ (changed 13 (codes "pinlist: open open open open open open"), bad 14 205)
+    ∷ (changed 13 (codes "pinlist: b open open open d open"), bad 14 205) ∷ [])
+driver_rows = refl
 
-pub pinlist_alone_row : fault_of (added (codes "pinlist: a")) ≡ Some (Bad 14 201)
-pinlist_alone_row = refl
+pub shared_pin_rows : HaveFaults
+    ((changed 13 (codes "pinlist: b open open open open b"), bad 13 206)
+    ∷ (changed 13 (codes "pinlist: b b open open open open"), bad 13 207)
+    ∷ (changed 13 (codes "pinlist: b b open open open b"), bad 13 206)
+    ∷ (changed 13 (codes "pinlist: open open open open a a"), bad 13 204)
+    ∷ (changed 13 (codes "pinlist: b b open open a open"), bad 13 204) ∷ [])
+shared_pin_rows = refl
 
-pub subblock_behind_pad_row : fault_of (changed 8 (codes "pinlist: c\nsubblock: qc"))
-    ≡ Some (Bad 9 201)
-subblock_behind_pad_row = refl
+pub open_block_rows : HaveFaults ((codes ".input i\npinlist: n\n.clb x\n", bad 4 208)
+    ∷ (codes ".input i\npinlist: n\n.clb x\n\n# end", bad 6 208)
+    ∷ (changed 9 (codes ".clb cc\n.clb ca"), bad 10 208)
+    ∷ (changed 9 (codes ".clb ca\n.global b"), bad 10 208)
+    ∷ (changed 9 (codes ".clb cc\n.clb pa"), bad 10 203)
+    ∷ (changed 13 (codes "pinlist: d open open open open open\n.clb x"), bad 15 208) ∷ [])
+open_block_rows = refl
 
-pub subblock_behind_global_row : fault_of (changed 10
-    (codes "pinlist: a open open open open open\n.global g")) ≡ Some (Bad 12 201)
-subblock_behind_global_row = refl
+-- a line makes nets global that it names, on the lines before it too
+pub global_rows : HaveFaults ((added (codes ".global"), None)
+    ∷ (added (codes ".global unused"), None)
+    ∷ (added (codes ".global a b c\n.clb x\npinlist: b b b open open b"), None)
+    ∷ (changed 13 (codes "pinlist: b b open open d b\n.global b d"), None)
+    ∷ (changed 13 (codes "pinlist: b open open open a open\n.global a"), None)
+    ∷ (changed 13 (codes "pinlist: g open open open open open\n.global g\n.global b"), None) ∷ [])
+global_rows = refl
 
-pub two_subblocks_row : fault_of (changed 11 (codes "subblock:\nsubblock: more")) ≡ None
-two_subblocks_row = refl
-
-pub subblock_at_end_row : fault_of (added (codes "subblock:")) ≡ None
-subblock_at_end_row = refl
-
-pub block_without_name_row : fault_of (changed 12 (codes ".clb")) ≡ Some (Bad 12 201)
-block_without_name_row = refl
-
-pub block_with_two_names_row : fault_of (changed 12 (codes ".clb cb cc")) ≡ Some (Bad 12 201)
-block_with_two_names_row = refl
-
-pub block_named_by_two_again_row : fault_of (changed 12 (codes ".clb ca cc")) ≡ Some (Bad 12 201)
-block_named_by_two_again_row = refl
-
-pub pin_missing_row : fault_of (changed 13 (codes "pinlist: b open open open open"))
-    ≡ Some (Bad 13 202)
-pin_missing_row = refl
-
-pub pin_too_many_row : fault_of (changed 13 (codes "pinlist: b open open open open open open"))
-    ≡ Some (Bad 13 202)
-pin_too_many_row = refl
-
-pub pad_open_row : fault_of (changed 8 (codes "pinlist: open")) ≡ Some (Bad 8 202)
-pad_open_row = refl
-
-pub pad_without_net_row : fault_of (changed 8 (codes "pinlist:")) ≡ Some (Bad 8 202)
-pad_without_net_row = refl
-
-pub pad_on_two_row : fault_of (changed 8 (codes "pinlist: c c")) ≡ Some (Bad 8 202)
-pad_on_two_row = refl
-
-pub name_again_row : fault_of (changed 12 (codes ".clb ca")) ≡ Some (Bad 12 203)
-name_again_row = refl
-
-pub name_again_of_other_kind_row : fault_of (changed 7 (codes ".output pa")) ≡ Some (Bad 7 203)
-name_again_of_other_kind_row = refl
-
-pub name_of_net_row : fault_of (changed 12 (codes ".clb a")) ≡ None
-name_of_net_row = refl
-
-pub driven_twice_row : fault_of (changed 4 (codes "pinlist: a")) ≡ Some (Bad 4 204)
-driven_twice_row = refl
-
-pub driven_by_logic_row : fault_of (changed 13 (codes "pinlist: b open open open a open"))
-    ≡ Some (Bad 13 204)
-driven_by_logic_row = refl
-
-pub no_driver_row : fault_of (changed 13 (codes "pinlist: d open open open open open"))
-    ≡ Some (Bad 14 204)
-no_driver_row = refl
-
-pub no_sink_row : fault_of (changed 13 (codes "pinlist: open open open open open open"))
-    ≡ Some (Bad 14 205)
-no_sink_row = refl
-
-pub own_driver_row : fault_of (changed 13 (codes "pinlist: b open open open d open"))
-    ≡ Some (Bad 14 205)
-own_driver_row = refl
-
-pub on_global_pin_row : fault_of (changed 13 (codes "pinlist: b open open open open b"))
-    ≡ Some (Bad 13 206)
-on_global_pin_row = refl
-
-pub twice_in_class_row : fault_of (changed 13 (codes "pinlist: b b open open open open"))
-    ≡ Some (Bad 13 207)
-twice_in_class_row = refl
-
-pub on_global_pin_and_twice_row : fault_of (changed 13 (codes "pinlist: b b open open open b"))
-    ≡ Some (Bad 13 206)
-on_global_pin_and_twice_row = refl
-
-pub driven_twice_and_on_global_pin_row : fault_of (changed 13
-    (codes "pinlist: open open open open a a")) ≡ Some (Bad 13 204)
-driven_twice_and_on_global_pin_row = refl
-
-pub driven_twice_and_twice_in_class_row : fault_of (changed 13
-    (codes "pinlist: b b open open a open")) ≡ Some (Bad 13 204)
-driven_twice_and_twice_in_class_row = refl
-
-pub block_behind_block_row : fault_of (changed 9 (codes ".clb cc\n.clb ca")) ≡ Some (Bad 10 208)
-block_behind_block_row = refl
-
-pub global_behind_block_row : fault_of (changed 9 (codes ".clb ca\n.global b")) ≡ Some (Bad 10 208)
-global_behind_block_row = refl
-
-pub subblock_behind_block_row : fault_of (changed 9 (codes ".clb ca\nsubblock: ca"))
-    ≡ Some (Bad 10 201)
-subblock_behind_block_row = refl
-
-pub name_again_behind_block_row : fault_of (changed 9 (codes ".clb cc\n.clb pa"))
-    ≡ Some (Bad 10 203)
-name_again_behind_block_row = refl
-
-pub global_on_two_of_class_row : fault_of (added
-    (codes ".global a b c\n.clb x\npinlist: b b b open open b")) ≡ None
-global_on_two_of_class_row = refl
-
-pub global_without_names_row : fault_of (added (codes ".global")) ≡ None
-global_without_names_row = refl
-
-pub unused_global_row : fault_of (added (codes ".global unused")) ≡ None
-unused_global_row = refl
-
-pub late_global_row : fault_of (changed 13 (codes "pinlist: b b open open d b\n.global b d")) ≡ None
-late_global_row = refl
-
-pub late_global_drives_twice_row : fault_of (changed 13
-    (codes "pinlist: b open open open a open\n.global a")) ≡ None
-late_global_drives_twice_row = refl
-
-pub late_global_without_pins_row : fault_of (changed 13
-    (codes "pinlist: g open open open open open\n.global g\n.global b")) ≡ None
-late_global_without_pins_row = refl
-
-pub no_driver_and_open_block_row : fault_of (changed 13
-    (codes "pinlist: d open open open open open\n.clb x")) ≡ Some (Bad 15 208)
-no_driver_and_open_block_row = refl
-
-pub joined_pinlist_row : fault_of (changed 13 (codes
-    "pinlist: b open \\ # three more\n open open\\\nopen\\\n open # end")) ≡ None
-joined_pinlist_row = refl
-
-pub joined_then_bad_row : fault_of (changed 10
-    (codes "pinlist: a open open open \\\n open open\nx \\\n y")) ≡ Some (Bad 12 201)
-joined_then_bad_row = refl
+pub joined_line_rows : HaveFaults
+    ((changed 13 (codes "pinlist: b open \\ # three more\n open open\\\nopen\\\n open # end"), None)
+    ∷ (changed 10 (codes "pinlist: a open open open \\\n open open\nx \\\n y"), bad 12 201) ∷ [])
+joined_line_rows = refl

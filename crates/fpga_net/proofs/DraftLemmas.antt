@@ -27,7 +27,7 @@ use Rattle.fpga_net.specs.Causes.{code_of}
 use Rattle.fpga_net.specs.Codes.{BegunBlock, Context, behind, drives_again, has_pair, is_begun_logic, is_global, listed, misses_pins, net_count, pinlist_uses, share_class, takes_ordinary, uses_before}
 use Rattle.fpga_net.specs.Drafts.{IsKept, ListsBlock, Progress, TakesForm, form_fault}
 use Rattle.fpga_net.specs.Entries.{Connects, Entry, IsRefusedUses, entries_of, uses_fault}
-use Rattle.fpga_net.specs.Forms.{Begins, Form, Pinlist}
+use Rattle.fpga_net.specs.Forms.{Begins, Pinlist}
 use Rattle.fpga_net.specs.Names.{AreApart}
 use Rattle.fpga_net.specs.Uses.{HasPins, ListedBlock, Use, block_uses, is_logic, is_open, pins_of, uses_of}
 use Rattle.fpga_net.proofs.ConnectLemmas.{refused_by}
@@ -50,12 +50,6 @@ block_refused again open_before last number =
     else if open_before then Some (Bad number (code_of NoPinlist))
     else option_or (option_map (λ n. Limit (code_of PastLimit) n)
     (if last then Some (BLOCK_LIMIT + 1) else None)) None
-
-pub block_fault : (context : Context) (number : ℕ) (kind : BlockKind) (name : Bytes)
-    → form_fault context number (Begins kind (name ∷ []))
-    ≡ block_refused (has_text context.names name) (is_some context.begun)
-    (length context.names == BLOCK_LIMIT) number
-block_fault context number kind name = refl
 
 -- a new name
 new_name : (names : List Bytes) (name : Bytes) → AreApart names → has_text names name ≡ false
@@ -98,34 +92,6 @@ takes-block old number kind name kept new closed few = record {
         (no_block old.context.begun closed)
         ∙ append-nil (map (λ (b : ListedBlock). b.name) old.context.blocks));
     apart = new_name old.context.names name kept.apart new;
-    pins = kept.pins;
-  };
-}
-
--- a line that is passed by
-pub takes-other : (old : Progress) (number : ℕ) (in_logic : Bool) (form : Form) → IsKept old
-    → is_some old.context.begun ≡ false → form_fault old.context number form ≡ None
-    → behind old.context form ≡ record old.context { begun = None; in_logic = in_logic }
-    → TakesForm old (record old {
-      context = record old.context {
-        in_logic =
-            in_logic;
-      };
-    }) number form
-takes-other old number in_logic form kept closed clean is = record {
-  clean = clean;
-  after = (λ i. record old.context {
-    begun = no_block old.context.begun closed i;
-    in_logic =
-        in_logic;
-  })
-      ∙ sym is;
-  kept = record {
-    entries = kept.entries;
-    net_count = kept.net_count;
-    block_count = kept.block_count;
-    names = kept.names;
-    apart = kept.apart;
     pins = kept.pins;
   };
 }

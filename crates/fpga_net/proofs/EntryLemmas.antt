@@ -270,11 +270,6 @@ module _ (entries : List Entry) (name : Bytes) (none : has_text (names_in entrie
         ∙ number_of-push (names_in entries) name none
         ∙ rw length-map refl
 
--- no pin was added
-pub takes-none : (is_global : Bytes → Bool) (entries : List Entry)
-    → TakesUses is_global entries entries []
-takes-none is_global entries = λ before is. is ∙ ap (entries_of is_global) (sym (append-nil before))
-
 -- one more pin was added
 pub takes-next : (is_global : Bytes → Bool) (old now new : List Entry) (uses : List NetUse) (i : ℕ)
     (d : NetUse) → i < length uses → TakesUses is_global old now (map use_said (take i uses))

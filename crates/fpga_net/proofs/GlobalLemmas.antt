@@ -1,5 +1,5 @@
 -- Names that are looked for, and those of them that are found among words.
-use Rattle.std.proofs.Common.{◌≡◌, ◌≤◌, ◌+◌, ◌∙◌, Bool, true, false, List, [], ◌∷◌, ◌++◌, drop, length, refl, sym, ap, arith, length-append}
+use Rattle.std.proofs.Common.{◌≡◌, ◌+◌, ◌∙◌, Bool, true, false, List, [], ◌∷◌, ◌++◌, drop, refl, sym, ap}
 use Rattle.std.specs.Prelude.{◌||◌, bytes_eq, slice_get, Some, None}
 use Rattle.std.proofs.Math.Bool.{or-false, or_assoc}
 use Rattle.std.proofs.lemmas.List.Folds.{list_any-append}
@@ -29,20 +29,6 @@ has_text-with names name other = go (has_text names name) (bytes_eq name other) 
     go false same among is =
         rw among (list_any-append (λ n. bytes_eq n other) names (name ∷ [])
         ∙ ap (λ b. has_text names other || b) (or-false (bytes_eq name other)))
-
--- there is one more name at most
-pub length-with : (names : List Bytes) (name : Bytes)
-    → length (names_with names name) ≤ length names + 1
-length-with names name = go (has_text names name) refl
-  where
-    go : (among : Bool) → has_text names name ≡ among
-        → length (names_with names name) ≤ length names + 1
-    go true among = rw among (omega arith)
-    go false among = rw among (omega (arith, length-append names (name ∷ [])))
-
--- no word was looked at
-pub finds-none : (sought found : List Bytes) → FindsMore sought found [] found
-finds-none sought found = λ name is. sym (or-false (has_text found name))
 
 -- a sought name is not one that is not sought
 not_sought : (sought : List Bytes) (word name : Bytes) → has_text sought word ≡ false

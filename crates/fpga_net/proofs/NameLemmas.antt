@@ -1,6 +1,6 @@
 -- Names in the order in which they first stand, one name more; and which name is which.
-use Rattle.std.proofs.Common.{append_assoc, ◌≡◌, ◌≢◌, ℕ, Bool, true, false, List, [], ◌∷◌, ◌++◌, length, refl, sym, ap, ◌∙◌, append-nil, arith, cond, ◌+◌, get_or, zero-add, add-zero}
-use Rattle.std.specs.Prelude.{fold, not, ◌||◌, filter, map, bytes_eq, position, Some, None, is_some, if◌then◌else◌}
+use Rattle.std.proofs.Common.{◌≡◌, ◌≢◌, ℕ, Bool, true, false, List, [], ◌∷◌, ◌++◌, length, refl, sym, ap, ◌∙◌, append-nil, arith, cond, ◌+◌, get_or, zero-add, add-zero}
+use Rattle.std.specs.Prelude.{not, ◌||◌, filter, map, bytes_eq, position, Some, None, is_some, if◌then◌else◌}
 use Rattle.std.specs.Borrow.{Bor}
 use Rattle.std.specs.List.{list_any, position_from, position_or_len}
 use Rattle.indexmap.specs.IndexSet.{insert_key}
@@ -114,15 +114,6 @@ first_seen-push [] name = refl
 first_seen-push (first ∷ more) name =
     ap (λ l. first ∷ without first l) (first_seen-push more name)
     ∙ with_first first name (first_seen more)
-
--- names that are added one by one
-pub fold-names_with : (done names : List Bytes)
-    → fold names_with (first_seen done) names ≡ first_seen (done ++ names)
-fold-names_with done [] = sym (ap first_seen (append-nil done))
-fold-names_with done (name ∷ more) =
-    ap (λ ns. fold names_with ns more) (sym (first_seen-push done name))
-    ∙ fold-names_with (done ++ name ∷ []) more
-    ∙ ap first_seen (append_assoc done (name ∷ []) more)
 
 -- a name is seen where it stands
 pub has_text-first_seen : (names : List Bytes) (name : Bytes)

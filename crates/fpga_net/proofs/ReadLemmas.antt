@@ -1,5 +1,5 @@
 -- What was read is what the text reads as.
-use Rattle.std.proofs.Common.{◌≡◌, ℕ, ◌+◌, [], refl, sym, ap, subst, ◌∙◌, arith, List, ◌∷◌}
+use Rattle.std.proofs.Common.{◌≡◌, ℕ, ◌+◌, [], refl, sym, ap, subst, ◌∙◌, List, ◌∷◌}
 use Rattle.std.specs.Prelude.{Result, Ok, Err, IfOk, fold}
 use Rattle.fpga_types.specs.declared.arch.Arch.{Arch}
 use Rattle.fpga_types.specs.declared.netlist.Netlist.{Netlist}
@@ -10,7 +10,7 @@ use Rattle.fpga_text.specs.FirstFault.{Answers, AnswersFault, IsFaultOf, IsRefus
 use Rattle.fpga_text.specs.Reading.{LinesAhead}
 use Rattle.fpga_text.specs.Words.{line_count, text_lines}
 use Rattle.fpga_net.specs.Codes.{Context, before_all, behind, forms_of, globals_of, net_faults}
-use Rattle.fpga_net.specs.Drafts.{IsKept, Progress, ReadsLines, faults_ahead, last_fault}
+use Rattle.fpga_net.specs.Drafts.{Progress, ReadsLines, faults_ahead, last_fault}
 use Rattle.fpga_net.specs.Forms.{Form, Begins, Pinlist, Subblock, Globals, Other}
 use Rattle.fpga_net.specs.Sound.{IsSound}
 use Rattle.fpga_net.specs.Value.{context_of, net_value, netlist_before}
@@ -25,16 +25,6 @@ whole_text bytes = record { ahead = text_lines Joined bytes; taken = 0; total = 
 abbrev pub no_lines : Arch → Bytes → Progress
 no_lines arch bytes =
     record { context = before_all arch (globals_of (text_lines Joined bytes)); entries = [] }
-
-pub no_lines-kept : (arch : Arch) (bytes : Bytes) → IsKept (no_lines arch bytes)
-no_lines-kept arch bytes = record {
-  entries = refl;
-  net_count = omega arith;
-  block_count = omega arith;
-  names = refl;
-  apart = λ i j d below within. absurd (omega (arith, within));
-  pins = λ k d within. absurd (omega (arith, within));
-}
 
 -- no line changes the architecture
 arch-behind : (context : Context) (form : Form) → (behind context form).arch ≡ context.arch

@@ -1,5 +1,5 @@
 -- A netlist that was read is sound.
-use Rattle.std.proofs.Common.{◌≡◌, ℕ, zero, suc, ◌<◌, ◌≤◌, Bool, true, false, cond, List, [], ◌∷◌, ◌++◌, length, refl, sym, ap, subst, ◌∙◌, append-nil, one-add, inl, inr, arith}
+use Rattle.std.proofs.Common.{◌≡◌, ℕ, zero, suc, ◌<◌, ◌≤◌, Bool, true, false, cond, List, [], ◌∷◌, ◌++◌, length, refl, sym, ap, subst, ◌∙◌, append-nil, one-add, inl, arith}
 use Rattle.std.specs.Prelude.{not, ◌&&◌, map, filter, bytes_eq, nat_lt, slice_get, Option, Some, None, IsSome, option_map, option_to_list}
 use Rattle.std.specs.List.{IsDistinct, AllByRecursion, enumerate_from, list_any, position_or_len, zip}
 use Rattle.std.specs.Option.{ForSome}

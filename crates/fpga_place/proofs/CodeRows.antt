@@ -1,6 +1,6 @@
 -- Worked rows of placement texts: the first fault of each, by computation.
-use Rattle.std.proofs.Common.{◌≡◌, ℕ, ◌-◌, [], ◌∷◌, ◌++◌, Some, None, refl}
-use Rattle.std.specs.Prelude.{codes, slice_set, Option}
+use Rattle.std.proofs.Common.{◌≡◌, ℕ, List, ◌-◌, [], ◌∷◌, ◌++◌, Some, None, refl}
+use Rattle.std.specs.Prelude.{codes, map, slice_set, Option}
 use Rattle.fpga_text.specs.Bytes.{Bytes}
 use Rattle.fpga_text.specs.FirstFault.{first_fault}
 use Rattle.fpga_text.specs.declared.fault.TextFault.{TextFault}
@@ -8,9 +8,19 @@ use Rattle.fpga_text.specs.declared.fault.TextFault.TheVariants.{Bad, Limit}
 use Rattle.fpga_place.specs.Codes.{place_faults}
 use Rattle.fpga_place.proofs.RowTexts.{arch, netlist, junction_lines, text_of}
 
--- the first fault of a text
-abbrev fault_of : Bytes → Option TextFault
-fault_of text = first_fault (place_faults arch netlist text)
+-- the fault of this code on this line
+abbrev bad : ℕ → ℕ → Option TextFault
+bad line code = Some (Bad line code)
+
+-- the fault of this code for a count past its limit
+abbrev past : ℕ → ℕ → Option TextFault
+past code count = Some (Limit code count)
+
+-- in each row the text that is made of the line has the fault beside it first, or none
+abbrev HaveFaults : (Bytes → Bytes) → List (Bytes × Option TextFault) → Type 0
+HaveFaults text_with rows =
+    map (λ row. first_fault (place_faults arch netlist (text_with row.0))) rows
+    ≡ map (λ row. row.1) rows
 
 -- the placement with another line in this place
 abbrev changed : ℕ → Bytes → Bytes
@@ -20,152 +30,70 @@ changed number line = text_of (slice_set junction_lines (number - 1) line)
 abbrev added : Bytes → Bytes
 added line = text_of (junction_lines ++ line ∷ [])
 
-pub empty_row : fault_of [] ≡ Some (Bad 1 301)
-empty_row = refl
+pub whole_rows : HaveFaults (λ text. text) (([], bad 1 301)
+    ∷ (codes "\n# Netlist\n", bad 3 301)
+    ∷ (codes "Netlist file: f Architecture file: g", bad 2 301)
+    ∷ (codes "Netlist file: f Architecture file: g\nArray size: 2 x 1 logic blocks.\n", bad 3 305)
+    ∷ (text_of junction_lines, None) ∷ [])
+whole_rows = refl
 
-pub comment_alone_row : fault_of (codes "\n# Netlist\n") ≡ Some (Bad 3 301)
-comment_alone_row = refl
+pub file_line_rows : HaveFaults (changed 1)
+    ((codes "Netlist file: Architecture file: j.arch", bad 1 301)
+    ∷ (codes "Netlist file: a Architecture file: b c", bad 1 301)
+    ∷ (codes "Array size: 2 x 1 logic blocks", bad 1 301)
+    ∷ (codes "Netlist file: Netlist Architecture file: file:", None) ∷ [])
+file_line_rows = refl
 
-pub junction_row : fault_of (text_of junction_lines) ≡ None
-junction_row = refl
+pub array_line_rows : HaveFaults (changed 2) ((codes "Array size: 2 x 1 logic", bad 2 301)
+    ∷ (codes "Array size: 2 x 1 logic #blocks", bad 2 301)
+    ∷ (codes "Array size: 2 x 1 logic blocks.", None)
+    ∷ (codes "Array size: 0 x 1 logic blocks", bad 2 302)
+    ∷ (codes "Array size: 2 x one logic blocks", bad 2 302)
+    ∷ (codes "Array size: 101 x 18446744073709551616 logic blocks", bad 2 302)
+    ∷ (codes "Array size: 101 x 102 logic blocks", past 308 101)
+    ∷ (codes "Array size: 100 x 4294967296 logic blocks", past 308 4294967296)
+    ∷ (codes "Array size: 100 x 1 logic blocks", None)
+    ∷ (codes "Array size: 2 x 100 logic blocks", None) ∷ [])
+array_line_rows = refl
 
-pub one_line_row : fault_of (codes "Netlist file: f Architecture file: g") ≡ Some (Bad 2 301)
-one_line_row = refl
+-- numbers are of 32 bits
+pub block_number_rows : HaveFaults (changed 9) ((codes "ca 1 1 4294967296", bad 9 302)
+    ∷ (codes "ca 1 1 4294967295", None) ∷ [])
+block_number_rows = refl
 
-pub two_lines_row : fault_of
-    (codes "Netlist file: f Architecture file: g\nArray size: 2 x 1 logic blocks.\n")
-    ≡ Some (Bad 3 305)
-two_lines_row = refl
+pub block_name_rows : HaveFaults added ((codes "cc 1 1 0", bad 11 303)
+    ∷ (codes "ca 1 1 0", bad 11 304)
+    ∷ (codes "ca 9 9 0", bad 11 304)
+    ∷ (codes "ca", bad 11 302) ∷ [])
+block_name_rows = refl
 
-pub file_missing_row : fault_of (changed 1 (codes "Netlist file: Architecture file: j.arch"))
-    ≡ Some (Bad 1 301)
-file_missing_row = refl
+-- pads stand around the array, but in no corner, and `io_rat` of them at a place
+pub pad_rows : HaveFaults (changed 5) ((codes "pa", bad 5 302)
+    ∷ (codes "pa 1 0", bad 5 302)
+    ∷ (codes "pa -1 0 0", bad 5 302)
+    ∷ (codes "p 1 0", bad 5 302)
+    ∷ (codes "p 1 0 0", bad 5 303)
+    ∷ (codes "pa 0 0 0", bad 5 306)
+    ∷ (codes "pa 3 2 0", bad 5 306)
+    ∷ (codes "pa 1 1 0", bad 5 306)
+    ∷ (codes "pa 4 1 0", bad 5 306)
+    ∷ (codes "pa 3 1 2", bad 5 306)
+    ∷ (codes "pa 3 1 1", None)
+    ∷ (codes "pa 0 1 0", None)
+    ∷ (codes "pa 2 2 0", None) ∷ [])
+pad_rows = refl
 
-pub word_behind_files_row : fault_of (changed 1 (codes "Netlist file: a Architecture file: b c"))
-    ≡ Some (Bad 1 301)
-word_behind_files_row = refl
+pub logic_rows : HaveFaults (changed 9) ((codes "ca 1 0 0", bad 9 306)
+    ∷ (codes "ca 0 1 0", bad 9 306)
+    ∷ (codes "ca 3 1 0", bad 9 306) ∷ [])
+logic_rows = refl
 
-pub words_in_place_of_files_row : fault_of
-    (changed 1 (codes "Netlist file: Netlist Architecture file: file:")) ≡ None
-words_in_place_of_files_row = refl
+pub shared_pad_rows : HaveFaults (changed 7) ((codes "pc 1 0 0", bad 7 307)
+    ∷ (codes "pc 01 00 001 0 0", None) ∷ [])
+shared_pad_rows = refl
 
-pub array_without_blocks_row : fault_of (changed 2 (codes "Array size: 2 x 1 logic"))
-    ≡ Some (Bad 2 301)
-array_without_blocks_row = refl
-
-pub array_with_point_row : fault_of (changed 2 (codes "Array size: 2 x 1 logic blocks.")) ≡ None
-array_with_point_row = refl
-
-pub array_with_comment_row : fault_of (changed 2 (codes "Array size: 2 x 1 logic #blocks"))
-    ≡ Some (Bad 2 301)
-array_with_comment_row = refl
-
-pub array_first_row : fault_of (changed 1 (codes "Array size: 2 x 1 logic blocks"))
-    ≡ Some (Bad 1 301)
-array_first_row = refl
-
-pub no_column_row : fault_of (changed 2 (codes "Array size: 0 x 1 logic blocks")) ≡ Some (Bad 2 302)
-no_column_row = refl
-
-pub rows_word_row : fault_of (changed 2 (codes "Array size: 2 x one logic blocks"))
-    ≡ Some (Bad 2 302)
-rows_word_row = refl
-
-pub columns_past_limit_row : fault_of (changed 2 (codes "Array size: 101 x 102 logic blocks"))
-    ≡ Some (Limit 308 101)
-columns_past_limit_row = refl
-
-pub rows_past_limit_row : fault_of (changed 2 (codes "Array size: 100 x 4294967296 logic blocks"))
-    ≡ Some (Limit 308 4294967296)
-rows_past_limit_row = refl
-
-pub rows_past_64_bits_row : fault_of
-    (changed 2 (codes "Array size: 101 x 18446744073709551616 logic blocks")) ≡ Some (Bad 2 302)
-rows_past_64_bits_row = refl
-
-pub columns_at_limit_row : fault_of (changed 2 (codes "Array size: 100 x 1 logic blocks")) ≡ None
-columns_at_limit_row = refl
-
-pub rows_at_limit_row : fault_of (changed 2 (codes "Array size: 2 x 100 logic blocks")) ≡ None
-rows_at_limit_row = refl
-
-pub no_sub_row : fault_of (changed 5 (codes "pa 1 0")) ≡ Some (Bad 5 302)
-no_sub_row = refl
-
-pub no_place_row : fault_of (changed 5 (codes "pa")) ≡ Some (Bad 5 302)
-no_place_row = refl
-
-pub sign_for_x_row : fault_of (changed 5 (codes "pa -1 0 0")) ≡ Some (Bad 5 302)
-sign_for_x_row = refl
-
-pub sub_past_32_bits_row : fault_of (changed 9 (codes "ca 1 1 4294967296")) ≡ Some (Bad 9 302)
-sub_past_32_bits_row = refl
-
-pub sub_at_32_bits_row : fault_of (changed 9 (codes "ca 1 1 4294967295")) ≡ None
-sub_at_32_bits_row = refl
-
-pub unknown_block_row : fault_of (changed 5 (codes "p 1 0 0")) ≡ Some (Bad 5 303)
-unknown_block_row = refl
-
-pub unknown_block_without_place_row : fault_of (changed 5 (codes "p 1 0")) ≡ Some (Bad 5 302)
-unknown_block_without_place_row = refl
-
-pub another_block_row : fault_of (added (codes "cc 1 1 0")) ≡ Some (Bad 11 303)
-another_block_row = refl
-
-pub block_again_row : fault_of (added (codes "ca 1 1 0")) ≡ Some (Bad 11 304)
-block_again_row = refl
-
-pub block_again_elsewhere_row : fault_of (added (codes "ca 9 9 0")) ≡ Some (Bad 11 304)
-block_again_elsewhere_row = refl
-
-pub block_again_without_place_row : fault_of (added (codes "ca")) ≡ Some (Bad 11 302)
-block_again_without_place_row = refl
-
-pub block_missing_row : fault_of (changed 10 (codes "#cb 2 1 0")) ≡ Some (Bad 11 305)
-block_missing_row = refl
-
-pub pad_in_corner_row : fault_of (changed 5 (codes "pa 0 0 0")) ≡ Some (Bad 5 306)
-pad_in_corner_row = refl
-
-pub pad_in_other_corner_row : fault_of (changed 5 (codes "pa 3 2 0")) ≡ Some (Bad 5 306)
-pad_in_other_corner_row = refl
-
-pub pad_inside_row : fault_of (changed 5 (codes "pa 1 1 0")) ≡ Some (Bad 5 306)
-pad_inside_row = refl
-
-pub pad_outside_row : fault_of (changed 5 (codes "pa 4 1 0")) ≡ Some (Bad 5 306)
-pad_outside_row = refl
-
-pub pad_left_row : fault_of (changed 5 (codes "pa 0 1 0")) ≡ None
-pad_left_row = refl
-
-pub pad_right_row : fault_of (changed 5 (codes "pa 3 1 1")) ≡ None
-pad_right_row = refl
-
-pub pad_above_row : fault_of (changed 5 (codes "pa 2 2 0")) ≡ None
-pad_above_row = refl
-
-pub sub_at_limit_row : fault_of (changed 5 (codes "pa 3 1 2")) ≡ Some (Bad 5 306)
-sub_at_limit_row = refl
-
-pub logic_below_row : fault_of (changed 9 (codes "ca 1 0 0")) ≡ Some (Bad 9 306)
-logic_below_row = refl
-
-pub logic_left_row : fault_of (changed 9 (codes "ca 0 1 0")) ≡ Some (Bad 9 306)
-logic_left_row = refl
-
-pub logic_right_row : fault_of (changed 9 (codes "ca 3 1 0")) ≡ Some (Bad 9 306)
-logic_right_row = refl
-
-pub pad_on_pad_row : fault_of (changed 7 (codes "pc 1 0 0")) ≡ Some (Bad 7 307)
-pad_on_pad_row = refl
-
-pub logic_on_logic_row : fault_of (changed 10 (codes "cb 1 1 7")) ≡ Some (Bad 10 307)
-logic_on_logic_row = refl
-
-pub same_block_on_its_spot_row : fault_of (changed 10 (codes "ca 1 1 0")) ≡ Some (Bad 10 304)
-same_block_on_its_spot_row = refl
-
-pub zeros_before_digits_row : fault_of (changed 7 (codes "pc 01 00 001 0 0")) ≡ None
-zeros_before_digits_row = refl
+-- the last line left out, on the spot of another block, or that of its spot's block again
+pub last_line_rows : HaveFaults (changed 10) ((codes "#cb 2 1 0", bad 11 305)
+    ∷ (codes "cb 1 1 7", bad 10 307)
+    ∷ (codes "ca 1 1 0", bad 10 304) ∷ [])
+last_line_rows = refl

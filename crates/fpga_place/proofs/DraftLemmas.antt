@@ -1,5 +1,5 @@
 -- What a block line does to the value as far as it was read, and why one is refused.
-use Rattle.std.proofs.Common.{◌≡◌, ◌≢◌, ℕ, ◌<◌, Bool, true, false, Option, Some, None, List, [], ◌∷◌, length, get_or, refl, sym, ap, ◌∙◌, arith}
+use Rattle.std.proofs.Common.{◌≡◌, ◌≢◌, ℕ, ◌<◌, Bool, true, false, Option, Some, None, List, length, get_or, refl, sym, ap, ◌∙◌, arith}
 use Rattle.std.specs.Prelude.{◌||◌, bytes_eq, is_some, option_and_then, slice_get, slice_set, unwrap_or, if◌then◌else◌}
 use Rattle.std.specs.BTreeSet.{BTreeSet, contains}
 use Rattle.std.specs.Option.{option_or}
@@ -11,15 +11,15 @@ use Rattle.fpga_types.specs.declared.netlist.Block.{Block}
 use Rattle.fpga_types.specs.declared.placement.Place.{Place}
 use Rattle.fpga_types.specs.declared.placement.Spot.{Spot}
 use Rattle.fpga_text.specs.Bytes.{Bytes}
-use Rattle.fpga_text.specs.Words.{Words}
 use Rattle.fpga_text.specs.declared.fault.TextFault.TheVariants.{Bad}
 use Rattle.fpga_place.specs.Blocks.{block_named, number_named}
 use Rattle.fpga_place.specs.Codes.{takes_spot}
 use Rattle.fpga_place.specs.Drafts.{FitsNamed, IsInOrder, Progress, TakesLine, next_fault, placed, with_place}
-use Rattle.fpga_place.specs.Lines.{Form, Block as BlockLine, block_form, form_place}
+use Rattle.fpga_place.specs.Lines.{Form, Block as BlockLine}
 use Rattle.fpga_types.specs.SpotOrder.{spot_cmp}
 use Rattle.fpga_place.specs.Spots.{has_spot}
-use Rattle.fpga_place.proofs.BlockLemmas.{name-at, name_itself, named-at, same_name, unnamed}
+use Rattle.fpga_types.proofs.NameLaws.{name_itself, same_name}
+use Rattle.fpga_place.proofs.BlockLemmas.{name-at, named-at, unnamed}
 use Rattle.fpga_place.proofs.PlaceLemmas.{get-set_other, get-set_same, get-some}
 use Rattle.fpga_place.proofs.SpotLemmas.{has_spot-put}
 
@@ -27,13 +27,6 @@ use Rattle.fpga_place.proofs.SpotLemmas.{has_spot-put}
 abbrev pub so_far : ℕ → Size → List Block → List (Option Place) → Progress
 so_far io_rat grid blocks places =
     record { setting = record { io_rat = io_rat; blocks = blocks }; grid = grid; places = places }
-
--- a line where a number is due and is none
-pub refused-number : (draft : Progress) (line : ℕ) (words : Words)
-    → form_place (block_form words) ≡ None
-    → next_fault draft line (block_form words) ≡ Some (Bad line 302)
-refused-number draft line [] none = refl
-refused-number draft line (name ∷ more) none = rw none refl
 
 -- a line with a name that no block has
 pub refused-unknown : (draft : Progress) (line : ℕ) (name : Bytes) (place : Place)

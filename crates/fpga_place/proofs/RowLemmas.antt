@@ -1,5 +1,5 @@
 -- How the first block with a name is found in a row of numbers by name.
-use Rattle.std.proofs.Common.{◌≡◌, ◌≢◌, ℕ, zero, suc, ◌+◌, ◌<◌, ◌≤◌, Bool, true, false, Option, Some, None, List, [], ◌∷◌, ◌++◌, length, get_or, refl, sym, ap, ◌∙◌, inl, inr, subst, arith}
+use Rattle.std.proofs.Common.{◌≡◌, ◌≢◌, ℕ, zero, suc, ◌+◌, ◌<◌, ◌≤◌, Bool, true, false, Option, Some, None, List, [], ◌∷◌, length, get_or, refl, sym, ap, ◌∙◌, inl, inr, subst, arith}
 use Rattle.std.specs.Prelude.{Contains, bytes_eq, nat_lt, not, slice_get}
 use Rattle.std.specs.Borrow.{Bor}
 use Rattle.std.specs.Cmp.{IsStrictWeakOrder, IsTotalOrder}
@@ -22,15 +22,9 @@ use Rattle.fpga_types.specs.declared.netlist.Block.{Block}
 use Rattle.fpga_text.specs.Bytes.{Bytes}
 use Rattle.fpga_place.specs.Blocks.{has_name, number_named}
 use Rattle.fpga_place.specs.BlockTables.{DifferAlong, StandByName, is_before, name_at, name_cmp, number_cmp}
-use Rattle.fpga_place.proofs.BlockLemmas.{name-at, name_itself, number-within, own_number, position-first, same_name}
-
--- one number more
-pub range-push : (a n : ℕ) → range_with_len a (suc n) ≡ range_with_len a n ++ (a + n) ∷ []
-range-push a zero = let e : a ≡ a + 0 = omega arith in ap (λ (m : ℕ). m ∷ []) e
-range-push a (suc n) =
-    let e : a + 1 + n ≡ a + suc n = omega arith in
-    ap (λ (rest : List ℕ). a ∷ rest)
-    (range-push (a + 1) n ∙ ap (λ (m : ℕ). range_with_len (a + 1) n ++ m ∷ []) e)
+use Rattle.list_laws.proofs.Searches.{position-first}
+use Rattle.fpga_types.proofs.NameLaws.{name_itself, same_name}
+use Rattle.fpga_place.proofs.BlockLemmas.{name-at, number-within, own_number}
 
 -- a list has a block at each number below its length
 block_at : (blocks : List Block) (n : ℕ) → n < length blocks

@@ -20,13 +20,6 @@ with_no_lines None = refl
 with_no_lines (Some net) =
     λ i. Some (record net { elems = append-nil net.elems i; kept = append-nil net.kept i })
 
--- at the end of the lines
-pub nets_with-end : (draft : Progress) → nets_with draft [] ≡ nets_begun draft
-nets_with-end draft = rw (
-  with_no_lines draft.open_net,
-  append-nil (draft.closed ++ option_to_list draft.open_net),
-) refl
-
 counted : (draft : Progress) → length (nets_begun draft) + 1 ≡ net_count draft + 1
 counted draft = omega (arith, length-append draft.closed (option_to_list draft.open_net))
 

@@ -16,7 +16,7 @@ use Rattle.fpga_route.specs.declared.head.Head.{Head}
 use Rattle.fpga_route.specs.Codes.{START, behind, forms, later_forms, lines_faults, route_codes}
 use Rattle.fpga_route.specs.Drafts.{Progress, TakesLine, standing_of}
 use Rattle.fpga_text.specs.ArrayLine.{SizeWords, size_words}
-use Rattle.fpga_route.specs.Forms.{Form, Array, OtherHead, array_form, later_form, routing_form}
+use Rattle.fpga_route.specs.Forms.{Form, Array, OtherHead, array_form, later_form}
 use Rattle.fpga_route.specs.Heads.{IsHead, array_fault, said_grid}
 use Rattle.fpga_route.specs.Nets.{faults_ahead}
 use Rattle.fpga_route.specs.Standings.{context_at, later_fault}
@@ -62,14 +62,6 @@ pub refused-short : (first : TextLine) (count : ℕ)
 refused-short first count clean =
     by_first (first ∷ []) count (Bad (count + 1) 401)
     (rw (clean, in_head (size_words first.words)) refl)
-
--- the second line is not `Routing:`
-pub refused-routing : (first second : TextLine) (more : List TextLine) (count : ℕ)
-    → array_fault first.number (array_form first.words) ≡ None
-    → routing_form second.words ≡ OtherHead
-    → IsRefusal (lines_faults (first ∷ second ∷ more) count) (Bad second.number 401)
-refused-routing first second more count clean other =
-    by_first (first ∷ second ∷ more) count (Bad second.number 401) (rw (clean, other) refl)
 
 -- behind an array line
 pub array-behind : (form : Form) (grid : Size) → said_grid form ≡ Some grid

@@ -46,9 +46,6 @@ said-take (a ∷ b ∷ c ∷ d ∷ e ∷ f ∷ []) = refl
 said-take (a ∷ b ∷ c ∷ d ∷ e ∷ f ∷ g ∷ []) = refl
 said-take (a ∷ b ∷ c ∷ d ∷ e ∷ f ∷ g ∷ h ∷ more) = refl
 
-pub is_routing-take : (words : Words) → is_routing (take 8 words) ≡ is_routing words
-is_routing-take words = λ i. (said-take words i).0
-
 pub later_form_take : (words : Words) → later_form (take 8 words) ≡ later_form words
 later_form_take words = λ i. (said-take words i).1
 

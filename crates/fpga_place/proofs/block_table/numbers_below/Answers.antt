@@ -1,5 +1,5 @@
 use Rattle.std.proofs.Common.{[], ◌∷◌, ◌++◌, sym, ◌∙◌, add-one, zero-add}
-use Rattle.fpga_place.proofs.RowLemmas.{range-push}
+use Rattle.list_laws.proofs.Ranges.{range-push}
 use Rattle.fpga_place.proofs.block_table.numbers_below.Goals as goal
 
 pub loop-number-preserved : goal.loop-number-preserved

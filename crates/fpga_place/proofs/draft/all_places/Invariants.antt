@@ -11,6 +11,7 @@ abbrev pub invariant-loop-i : goal.invariant-loop-i
 invariant-loop-i l = record {
   places : l.all.items ≡ map (place_of (placed (places_alone l.blocks l.places)))
       (take l.i l.named);
-  had_lines : list_any (λ (b : Block). not (is_some (placed (places_alone l.blocks l.places) b.name)))
+  had_lines : list_any
+      (λ (b : Block). not (is_some (placed (places_alone l.blocks l.places) b.name)))
       (take l.i l.named) ≡ false;
 }

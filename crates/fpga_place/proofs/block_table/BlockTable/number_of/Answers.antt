@@ -1,5 +1,5 @@
 use Rattle.std.proofs.Common.{sym, ◌∙◌}
-use Rattle.fpga_place.proofs.BlockLemmas.{same_name}
+use Rattle.fpga_types.proofs.NameLaws.{same_name}
 use Rattle.fpga_place.proofs.RowLemmas.{found-guess}
 use Rattle.fpga_place.proofs.block_table.BlockTable.number_of.Goals as goal
 
