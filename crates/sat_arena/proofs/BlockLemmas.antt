@@ -16,8 +16,9 @@ pub record Holds (start : Start Lit) (places : Places Lit) (claim : Option (Clai
   pub block : IsBlock start places claim alloc len capacity
   pub are : words_in places len ≡ words
 
-module _ {start : Start Lit} {places : Places Lit} {claim : Option (Claim Lit Global)} {alloc : Global}
-    {len capacity : ℕ} {now : Words} (h : IsBlock start places claim alloc len capacity)
+module _ {start : Start Lit} {places : Places Lit} {claim : Option (Claim Lit Global)}
+    {alloc : Global} {len capacity : ℕ} {now : Words}
+    (h : IsBlock start places claim alloc len capacity)
     (view : record { words = words_in places len; spare = capacity - len } ≡ now) where
   same : words_in places len ≡ now.words
   same = ap (λ (v : Words). v.words) view
@@ -113,8 +114,8 @@ module _ {start : Start Lit} {places : Places Lit} {claim : Option (Claim Lit Gl
       (omega arith) (omega arith)
 
 -- two words were written over, one after the other
-pub two_over : {start : Start Lit} {places new next : Places Lit} {claim : Option (Claim Lit Global)}
-    {alloc : Global} {len capacity : ℕ} {now : Words}
+pub two_over : {start : Start Lit} {places new next : Places Lit}
+    {claim : Option (Claim Lit Global)} {alloc : Global} {len capacity : ℕ} {now : Words}
     (h : IsBlock start places claim alloc len capacity) →
     record { words = words_in places len; spare = capacity - len } ≡ now →
     (i j : ℕ) (x y : Lit) → i < length now.words → j < length now.words →

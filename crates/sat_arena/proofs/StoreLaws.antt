@@ -68,14 +68,6 @@ held_push (x ∷ ks) k c held = elim (same_or_other x.place c) [
   | inr other ↦ rw other.0 (held_push ks k c (rw other.0 at held))
 ]
 
-pub push_before : (ks : List Stored) (k : Stored) (c : ClauseRef) → is_held ks c ≡ true →
-    stored_at (ks ++ k ∷ []) c ≡ stored_at ks c
-push_before [] k c held = cc
-push_before (x ∷ ks) k c held = elim (same_or_other x.place c) [
-  | inl same ↦ rw same.0 refl
-  | inr other ↦ rw other.0 (push_before ks k c (rw other.0 at held))
-]
-
 -- a clause that is added is held
 pub push_held : (ks : List Stored) (k : Stored) → is_held (ks ++ k ∷ []) k.place ≡ true
 push_held [] k = elim (same_or_other k.place k.place) [

@@ -122,14 +122,6 @@ length-push : (table : List (Option (Vec Lit Global))) (value : Option (Vec Lit 
 length-push [] value = refl
 length-push (cell ∷ table) value = omega (arith, length-push table value)
 
--- an empty map has nothing to lose
-pub none_to_lose : (id q : ℕ)
-    → ◌≡◌ {A = Option (Vec Lit Global)} (lookup (eqb q) []) (cond (eqb id q) None (lookup (eqb q) []))
-none_to_lose id q = by (eqb id q) where
-  by : (b : Bool) → ◌≡◌ {A = Option (Vec Lit Global)} None (cond b None None)
-  by true = refl
-  by false = refl
-
 -- an id that gets the next cell, and the clause that it had in the map
 module _ (first : ℕ) (table : List (Option (Vec Lit Global)))
     (others new : List (ℕ × Vec Lit Global)) (value : Option (Vec Lit Global)) where

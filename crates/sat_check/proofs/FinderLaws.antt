@@ -1,6 +1,6 @@
 -- What finders answer beside maps of live clauses.
-use Rattle.std.proofs.Common.{◌≡◌, ℕ, zero, suc, ◌<◌, ◌≤◌, ℤ, pos, negsuc, nat_abs, Bool, true, false, cond, eqb, List, length, take, drop, get_or, All, Option, None, Some, refl, sym, ap, ◌∙◌, arith}
-use Rattle.std.specs.Prelude.{is_some, ◌||◌, if◌then◌else◌}
+use Rattle.std.proofs.Common.{◌≡◌, ℕ, suc, ◌<◌, ℤ, pos, negsuc, nat_abs, Bool, true, false, cond, eqb, List, length, take, drop, get_or, All, Option, None, Some, refl, sym, ap, ◌∙◌, arith}
+use Rattle.std.specs.Prelude.{is_some, if◌then◌else◌}
 use Rattle.std.specs.Option.{option_or}
 use lib.Signed.{le_z}
 use Rattle.std.proofs.Math.Seq.{drop-cons, take-suc}
@@ -12,25 +12,11 @@ use Rattle.sat_clause.specs.Literal.{Clause, IsWithin}
 use Rattle.sat_clause.specs.Live.{Live, clause_at, named, put, without}
 use Rattle.sat_clause.specs.Judge.{erase, erase_fault, take_out}
 use Rattle.sat_clause.proofs.LiveLaws.{clause_at-without}
-use Rattle.sat_check.specs.Finder.{AllWithin, Changes, Finder, Finds, named_by}
+use Rattle.sat_check.specs.Finder.{AllWithin, Changes, Finder, Finds}
 use Rattle.sat_check.specs.LiveStore.{joined}
 
 eqb_sym : (a b : ℕ) → eqb a b ≡ eqb b a
 eqb_sym a b = grind (arith, nat_tests)
-
--- a hint names the same
-pub named_finds : (find : Finder) (live : Live) → Finds find live → (h : ℤ) → named_by find h
-    ≡ named live h
-named_finds find live finds (pos zero) = refl
-named_finds find live finds (pos (suc n)) = finds (suc n)
-named_finds find live finds (negsuc n) = refl
-
--- a positive number names the clause with that id
-pub named_positive : (find : Finder) (h : ℤ) → le_z h (pos 0) ≡ false → named_by find h
-    ≡ find (nat_abs h)
-named_positive find (pos zero) above = absurd (both_ways true above refl)
-named_positive find (pos (suc n)) above = refl
-named_positive find (negsuc n) above = absurd (both_ways true above refl)
 
 module _ (find new : Finder) (id : ℕ) (live : Live) (finds : Finds find live) where
   -- a clause that comes under an id is put in
@@ -61,13 +47,6 @@ joined_changes a b c d id value out changes q = rw (out q, changes q) (by (eqb i
       ≡ cond t value (option_or (a q) (c q))
   by true = refl
   by false = refl
-
-pub is_some-joined : (a c : Finder) (id : ℕ) → (is_some (a id) || is_some (c id))
-    ≡ is_some (joined a c id)
-is_some-joined a c id = by (a id) where
-  by : (o : Option Clause) → (is_some o || is_some (c id)) ≡ is_some (option_or o (c id))
-  by None = refl
-  by (Some clause) = refl
 
 -- one more deletion: the ids that are left have the fault that they had with this one, which was
 -- live
@@ -103,9 +82,3 @@ changes_same old mid new id value same changes q =
 pub finds_same : (old new : Finder) (live : Live) → ((q : ℕ) → new q ≡ old q) → Finds old live
     → Finds new live
 finds_same old new live same finds q = same q ∙ finds q
-
--- greater numbers hold the variables too
-pub within_more : (n m : ℕ) → n ≤ m → (lits : Clause) → All (IsWithin n) lits
-    → All (IsWithin m) lits
-within_more n m more lits within k d below =
-    let here = within k d below in (here.0, omega (arith, here.1))

@@ -21,8 +21,9 @@ module _ (formula : Cnf) (steps : List Step) (live : LiveState) (taken : ℕ)
   abbrev pub before : Live
   before = live_behind formula steps
 
-  judged_as : (f : Option Cause) (last : Bool) → fault before step ≡ f → is_empty_clause step ≡ last →
-      (more : List Step) → judge formula ((steps ++ step ∷ []) ++ more)
+  judged_as : (f : Option Cause) (last : Bool) → fault before step ≡ f →
+      is_empty_clause step ≡ last → (more : List Step) →
+      judge formula ((steps ++ step ∷ []) ++ more)
       ≡ judge_step (suc taken) f last (judge_from (suc (suc taken)) (after before step) more)
   judged_as f last is ends more =
       ap (judge formula) (append_assoc steps (step ∷ []) more)

@@ -5,12 +5,11 @@ use Rattle.std.proofs.lemmas.Bool.{both_ways}
 use Rattle.std.proofs.lemmas.List.Elements.{All-head, All-tail, All-cons, All-nil, All-weaker, All-contains}
 use Rattle.sat_clause.specs.declared.literal.Lit.{Lit}
 use Rattle.sat_clause.specs.declared.cause.Cause.{Cause}
-use Rattle.sat_clause.specs.declared.reading.Reading.{Reading}
 use Rattle.sat_clause.specs.declared.reading.Reading.TheVariants.{Conflict, Unit, Satisfied}
 use Rattle.sat_clause.specs.Literal.{Clause, negation, is_among}
 use Rattle.sat_clause.specs.Rup.{Reads, follow, open_literals, reading_by, reading_of}
 use Rattle.sat_clause.specs.Settled.{IsQuiet}
-use Rattle.sat_clause.proofs.LiteralLaws.{AreAlso, among_cases, among_here, among_more}
+use Rattle.sat_clause.proofs.LiteralLaws.{among_cases, among_here, among_more}
 
 -- the literal is false, or is this one
 abbrev pub IsFalseOr : List Lit → Lit → Lit → Type 0
@@ -141,25 +140,6 @@ open_is_unit s l c one not_true =
       | inr is ↦ rw (is, not_true) refl
     ]
 
--- where more is false, a false clause is false
-pub conflict_stays : (s t : List Lit) (c : Clause) → AreAlso s t → reading_of s c ≡ Conflict
-    → reading_of t c ≡ Conflict
-conflict_stays s t c also e =
-    all_conflict t c (All-weaker (λ (x : Lit). is_among s x ≡ true)
-    (λ (x : Lit). is_among t x ≡ true) also c (conflict_all s c e))
-
--- where more is false, but neither the literal nor its negation, a clause still makes it true
-pub unit_stays : (s t : List Lit) (l : Lit) (c : Clause) → AreAlso s t → is_among t l ≡ false →
-    is_among t (negation l) ≡ false → reading_of s c ≡ Unit l → reading_of t c ≡ Unit l
-unit_stays s t l c also free not_true e =
-    let one = (unit_is_open s l c e).0 in
-    open_is_unit t l c (record {
-      has = one.has;
-      free = free;
-      rest = All-weaker (IsFalseOr s l) (IsFalseOr t l)
-          (λ m is. elim is [ inl out ↦ inl (also m out) | inr same ↦ inr same ]) c one.rest;
-    }) not_true
-
 -- a clause with two open literals is quiet
 pub two_open : (s : List Lit) (p q : Lit) (c : Clause) → Contains c p → Contains c q → p ≢ q →
     is_among s p ≡ false → is_among s q ≡ false → IsQuiet (reading_of s c)
@@ -186,13 +166,6 @@ not_quiet s l c free not_true all quiet =
       | inl none ↦ quiet.no_conflict (rw none refl)
       | inr one ↦ quiet.no_unit l (rw (one, not_true) refl)
     ]
-
--- what each clause keeps saying, a clause that may be there does
-pub reads_stays : (s t : List Lit) (r : Reading)
-    → ((c : Clause) → reading_of s c ≡ r → reading_of t c ≡ r) →
-    (o : Option Clause) → Reads s o r → Reads t o r
-reads_stays s t r stays None reads = reads
-reads_stays s t r stays (Some c) reads = stays c reads
 
 -- hints go on behind a clause that makes a literal true, and end well with a false one
 pub follow_unit : (set : List Lit) (o : Option Clause) (l : Lit) (hints : List ℤ)

@@ -83,7 +83,7 @@ value_says trail l o is = by (is_false trail l) refl (is_false trail (negation l
 
 -- WHAT IS ATTACHED
 
-module _ (old new : WatchState) (lits : Clause) (id : ℕ) (c : ClauseRef)
+module _ {old new : WatchState} {lits : Clause} {id : ℕ} {c : ClauseRef}
     (does : Attaches old new lits id c) (stand : AreInPlace 0 old.clauses) where
   abbrev attached : Attached
   attached = record { place = c; id = id; lits = does.order }
@@ -125,7 +125,7 @@ implied_due s l c due = ap (due_without c) due ∙ rw (eq-eqb c.word c.word refl
 
 -- AT LEVEL 0
 
-module _ (old new : WatchState) (lits : Clause) (id : ℕ) (c : ClauseRef)
+module _ {old new : WatchState} {lits : Clause} {id : ℕ} {c : ClauseRef}
     (does : Attaches old new lits id c) (stand : AreInPlace 0 old.clauses) where
   pub taken_free : IsLeveled old → old.level ≡ 0 →
       HasTwoFree old.trail lits ⊎ HasOneTrue old.trail lits → IsTaken old new lits id
@@ -134,12 +134,12 @@ module _ (old new : WatchState) (lits : Clause) (id : ℕ) (c : ClauseRef)
     behind = does.place;
     order = does.order;
     same = does.same;
-    clauses = now_clauses old new lits id c does stand;
-    vars = now_vars old new lits id c does stand;
-    level = now_level old new lits id c does stand ∙ level;
-    leveled = now_leveled old new lits id c does stand leveled;
+    clauses = now_clauses does stand;
+    vars = now_vars does stand;
+    level = now_level does stand ∙ level;
+    leveled = now_leveled does stand leveled;
     due = does.not_due case;
-    values = λ m some. rw (now_trail old new lits id c does stand) some;
+    values = λ m some. rw (now_trail does stand) some;
   }
 
   pub taken_open : (l : Lit) → IsLeveled old → old.level ≡ 0 → HasOneOpen old.trail old.level lits
@@ -149,12 +149,12 @@ module _ (old new : WatchState) (lits : Clause) (id : ℕ) (c : ClauseRef)
     behind = does.place;
     order = does.order;
     same = does.same;
-    clauses = now_clauses old new lits id c does stand;
-    vars = now_vars old new lits id c does stand;
-    level = now_level old new lits id c does stand ∙ level;
-    leveled = leveled_implied new l c (now_leveled old new lits id c does stand leveled);
+    clauses = now_clauses does stand;
+    vars = now_vars does stand;
+    level = now_level does stand ∙ level;
+    leveled = leveled_implied new l c (now_leveled does stand leveled);
     due = implied_due new l c (does.due case);
     values = λ m some.
         let e : TrailEntry = record { lit = l; level = new.level; reason = Some c } in
-        value_stays (e ∷ []) new.trail m (rw (now_trail old new lits id c does stand) some);
+        value_stays (e ∷ []) new.trail m (rw (now_trail does stand) some);
   }

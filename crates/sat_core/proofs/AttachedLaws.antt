@@ -160,40 +160,34 @@ found at (k ∷ ks) c stand ids is =
 -- ONE MORE
 
 module _ (ks : List Attached) (k : Attached) where
-  pub added_attached : (c : ClauseRef) → is_attached ks c ≡ true
-      → is_attached (ks ++ k ∷ []) c ≡ true
-  added_attached c is = go ks is where
-    go : (ks : List Attached) → is_attached ks c ≡ true → is_attached (ks ++ k ∷ []) c ≡ true
+  -- an earlier one stays as it is
+  added_same : (c : ClauseRef) → is_attached ks c ≡ true → (is_attached (ks ++ k ∷ []) c ≡ true)
+      × (id_at (ks ++ k ∷ []) c ≡ id_at ks c) × (lits_at (ks ++ k ∷ []) c ≡ lits_at ks c)
+  added_same c is = go ks is where
+    go : (xs : List Attached) → is_attached xs c ≡ true → (is_attached (xs ++ k ∷ []) c ≡ true)
+        × (id_at (xs ++ k ∷ []) c ≡ id_at xs c) × (lits_at (xs ++ k ∷ []) c ≡ lits_at xs c)
     go [] is = absurd (both_ways false refl is)
     go (x ∷ xs) is = by (x.place.word == c.word) is (go xs) where
-      by : (b : Bool) → (if b then true else is_attached xs c) ≡ true → (is_attached xs c ≡ true
-          → is_attached (xs ++ k ∷ []) c ≡ true) →
-          (if b then true else is_attached (xs ++ k ∷ []) c) ≡ true
-      by true is rest = refl
+      by : (b : Bool) → (if b then true else is_attached xs c) ≡ true →
+          (is_attached xs c ≡ true → (is_attached (xs ++ k ∷ []) c ≡ true)
+          × (id_at (xs ++ k ∷ []) c ≡ id_at xs c) × (lits_at (xs ++ k ∷ []) c ≡ lits_at xs c)) →
+          ((if b then true else is_attached (xs ++ k ∷ []) c) ≡ true)
+          × ((if b then x.id else id_at (xs ++ k ∷ []) c) ≡ (if b then x.id else id_at xs c))
+          × ((if b then x.lits else lits_at (xs ++ k ∷ []) c)
+          ≡ (if b then x.lits else lits_at xs c))
+      by true is rest = (refl, refl, refl)
       by false is rest = rest is
 
+  pub added_attached : (c : ClauseRef) → is_attached ks c ≡ true
+      → is_attached (ks ++ k ∷ []) c ≡ true
+  added_attached c is = (added_same c is).0
+
   pub added_id : (c : ClauseRef) → is_attached ks c ≡ true → id_at (ks ++ k ∷ []) c ≡ id_at ks c
-  added_id c is = go ks is where
-    go : (ks : List Attached) → is_attached ks c ≡ true → id_at (ks ++ k ∷ []) c ≡ id_at ks c
-    go [] is = absurd (both_ways false refl is)
-    go (x ∷ xs) is = by (x.place.word == c.word) is (go xs) where
-      by : (b : Bool) → (if b then true else is_attached xs c) ≡ true → (is_attached xs c ≡ true
-          → id_at (xs ++ k ∷ []) c ≡ id_at xs c) →
-          (if b then x.id else id_at (xs ++ k ∷ []) c) ≡ (if b then x.id else id_at xs c)
-      by true is rest = refl
-      by false is rest = rest is
+  added_id c is = (added_same c is).1
 
   pub added_lits : (c : ClauseRef) → is_attached ks c ≡ true
       → lits_at (ks ++ k ∷ []) c ≡ lits_at ks c
-  added_lits c is = go ks is where
-    go : (ks : List Attached) → is_attached ks c ≡ true → lits_at (ks ++ k ∷ []) c ≡ lits_at ks c
-    go [] is = absurd (both_ways false refl is)
-    go (x ∷ xs) is = by (x.place.word == c.word) is (go xs) where
-      by : (b : Bool) → (if b then true else is_attached xs c) ≡ true → (is_attached xs c ≡ true
-          → lits_at (xs ++ k ∷ []) c ≡ lits_at xs c) →
-          (if b then x.lits else lits_at (xs ++ k ∷ []) c) ≡ (if b then x.lits else lits_at xs c)
-      by true is rest = refl
-      by false is rest = rest is
+  added_lits c is = (added_same c is).2
 
   -- the last one, where its reference is new
   pub record IsLast : Type 0 where

@@ -1,5 +1,5 @@
 -- Two steps that contradict each other are a log that a search may follow.
-use Rattle.std.proofs.Common.{◌≡◌, ◌≢◌, ℕ, pos, negsuc, true, false, cond, ◌==◌, List, [], ◌∷◌, Some, All, Contains, refl, sym, ap, subst, arith, drop, take, ℤ}
+use Rattle.std.proofs.Common.{◌≡◌, ◌≢◌, ℕ, pos, negsuc, true, false, cond, ◌==◌, List, [], ◌∷◌, Some, Contains, refl, sym, ap, subst, arith, drop, take, ℤ}
 use Rattle.std.specs.Prelude.{⊤}
 use Rattle.std.proofs.lemmas.List.Elements.{All-contains, All-cons, All-nil, Contains-push}
 use Rattle.sat_clause.specs.declared.literal.Lit.{Lit}

@@ -175,8 +175,8 @@ leveled_added old new added trail level all leveled =
 
 -- STEPS
 
-pub goes_propagated : (old new : WatchState) → Propagates old new → GoesOn old new
-goes_propagated old new step = record {
+pub goes_propagated : {old new : WatchState} → Propagates old new → GoesOn old new
+goes_propagated {old} {new} step = record {
   vars = step.vars;
   due = step.due;
   clauses = step.clauses;
@@ -190,8 +190,8 @@ leveled_assumed s l leveled = record {
   current = ap suc leveled.current;
 }
 
-pub goes_assumed : (old s : WatchState) (l : Lit) → GoesOn old s → GoesOn old (assumed l s)
-goes_assumed old s l goes = record {
+pub goes_assumed : {old s : WatchState} (l : Lit) → GoesOn old s → GoesOn old (assumed l s)
+goes_assumed {old} {s} l goes = record {
   vars = goes.vars;
   due = goes.due;
   clauses = goes.clauses;
@@ -224,8 +224,8 @@ goes_refl s due = record {
       λ leveled. leveled;
 }
 
-pub goes_then : (a b c : WatchState) → GoesOn a b → GoesOn b c → GoesOn a c
-goes_then a b c first second = record {
+pub goes_then : {a b c : WatchState} → GoesOn a b → GoesOn b c → GoesOn a c
+goes_then {a} {b} {c} first second = record {
   vars = second.vars ∙ first.vars;
   due = second.due;
   clauses = record {

@@ -56,7 +56,7 @@ all_below kept l rising last k d within =
           let step = rising k n d under inside in omega (arith, step, top)
     ]
 
-module _ (sorted kept : Clause) (i : ℕ) (l : Lit) (seen : HasSeen sorted kept i)
+module _ {sorted kept : Clause} {i : ℕ} {l : Lit} (seen : HasSeen sorted kept i)
     (at : slice_get sorted i ≡ Some l) where
   -- the next literal is kept where its variable is above that of the last
   pub seen_push : (now : Clause) → now ≡ kept ++ l ∷ [] →

@@ -228,7 +228,7 @@ added_count-erase [] own ids = refl
 added_count-erase (Added n c h ∷ log) own ids = ap suc (added_count-erase log own ids)
 added_count-erase (Erased n others ∷ log) own ids = added_count-erase log own ids
 
-module _ (search new : SearchValue) (formula : Cnf) (log : List Step) (own : ℕ) (ids : List ℤ)
+module _ {search new : SearchValue} {formula : Cnf} {log : List Step} {ids : List ℤ} (own : ℕ)
     (stands : StandsFor search formula log) (forgets : Forgets search new ids) where
   named_live : All (IsNamed (live_after formula log)) ids
   named_live k d within =

@@ -35,7 +35,6 @@ use Rattle.sat_core.proofs.ListLaws.{position_of}
 use Rattle.sat_core.proofs.RankingLaws.{ranked_more}
 use Rattle.sat_core.proofs.SearchLaws.{kept_settled, store_settled}
 use Rattle.sat_core.proofs.WatchLaws.{append_none, lits_in, single_found, value_found, value_origin}
-use Rattle.sat_core.proofs.WayBackLaws.{vars_back}
 use Rattle.sat_order.specs.Order.{OrderState}
 
 -- REFERENCES
@@ -172,8 +171,8 @@ named_at : (live : Live) (n : ℕ) (x : Clause) → 1 ≤ n → clause_at live n
 named_at live zero x some at = absurd (omega (arith, some))
 named_at live (suc n) x some at = (x, at)
 
-module _ (i a t above : ℕ) (s : ClauseListState) (w now : WatchState)
-    (store : IsSearchStore i a t s w) (refs : List ClauseRef) (may : MayGo w above refs)
+module _ {i a t above : ℕ} {s : ClauseListState} {w now : WatchState} {refs : List ClauseRef}
+    (store : IsSearchStore i a t s w) (may : MayGo w above refs)
     (is : now ≡ forgotten refs w) (moves : OthersMove refs w.clauses now.clauses)
     (trail : assigned_in now.clauses now.trail ≡ assigned_in w.clauses w.trail)
     (least : i ≤ above) (last : IsLast above s.clauses) where
@@ -310,7 +309,7 @@ module _ (i a t above : ℕ) (s : ClauseListState) (w now : WatchState)
   -- what was there goes, or is left
   goes_or_left : (n : ℕ) (x : Clause) → clause_at old n ≡ Some x →
       In ids (pos n) ⊎ ((y : Clause) × (clause_at new n ≡ Some y))
-  goes_or_left n x at = elim (value_origin w.vars s.clauses w.clauses store.keeps n x at) [
+  goes_or_left n x at = elim (value_origin store.keeps n x at) [
     | inl single ↦ inr (x, single_found s.clauses now.clauses n x single)
     | inr c ↦ by c.0 c.1 c.2 (is_in refs c.0) refl
   ]
@@ -322,7 +321,7 @@ module _ (i a t above : ℕ) (s : ClauseListState) (w now : WatchState)
           (In-map (λ r. pos (id_at w.clauses r)) refs c (in_refs refs c there)))
       by c c_is id false out =
           let m = moves c c_is out in
-          let y = value_found now.vars s.clauses now.clauses keeps_left m.to m.attached in
+          let y = value_found keeps_left m.to m.attached in
           inr (y.0, ap (clause_at new) (sym (m.id ∙ id)) ∙ y.1)
 
   clauses_left : SameLive (erase old ids) new
@@ -369,10 +368,10 @@ module _ (i a t above : ℕ) (s : ClauseListState) (w now : WatchState)
     none_due = ap (λ (x : WatchState). x.due) is ∙ store.none_due;
   }
 
-  pub ranked_forgotten : (order : OrderState) → IsRanked w.vars w.trail order →
+  pub ranked_forgotten : {order : OrderState} → IsRanked w.vars w.trail order →
       IsRanked now.vars now.trail order
-  ranked_forgotten order ranked =
-      rw vars_same (ranked_more w.vars w.trail now.trail order
+  ranked_forgotten ranked =
+      rw vars_same (ranked_more now.trail
       (λ l some. rw (value_same w.clauses now.clauses now.trail w.trail l trail) some) ranked)
 
   ids_apart : (rs : List ClauseRef) → All (λ c. is_attached w.clauses c ≡ true) rs →
@@ -403,7 +402,7 @@ module _ (i a t above : ℕ) (s : ClauseListState) (w now : WatchState)
     named = All-map (IsNamed old) (λ c. pos (id_at w.clauses c)) refs
         (λ k d within.
         let c : ClauseRef = get_or refs k d in
-        let x = value_found w.vars s.clauses w.clauses store.keeps c (may.attached k d within) in
+        let x = value_found store.keeps c (may.attached k d within) in
         let over = may.learned k d within in
         named_at old (id_at w.clauses c) x.0 (omega (arith, over)) x.1);
     added = All-map (IsAbove i) (λ c. pos (id_at w.clauses c)) refs
@@ -425,32 +424,29 @@ none_named ks [] some none = some refl
 none_named ks (c ∷ refs) some none = cc
 
 -- settled at level 0, and then clauses are forgotten
-module _ (i a t above : ℕ) (s : ClauseListState) (old w now : WatchState)
-    (before after : List Step) (store : IsSearchStore i a t s old)
+module _ {i a t above : ℕ} {s : ClauseListState} {old w now : WatchState}
+    {before after : List Step} (store : IsSearchStore i a t s old)
     (goes : GoesOn (gone_back 0 old) w) (level : w.level ≡ 0) (least : i ≤ above)
     (last : IsLast above s.clauses) (erased : HasErased w now before after above (i + a)) where
   pub store_left : IsSearchStore i a t s now
   store_left =
-      store_forgotten i a t above s w now (store_settled i a t s old w store goes level)
-      erased.refs erased.may erased.is erased.others erased.trail least last
+      store_forgotten (store_settled store goes level) erased.may erased.is erased.others
+      erased.trail least last
 
-  pub ranked_left : (order : OrderState) → IsRanked w.vars w.trail order →
+  pub ranked_left : {order : OrderState} → IsRanked w.vars w.trail order →
       IsRanked now.vars now.trail order
   ranked_left =
-      ranked_forgotten i a t above s w now (store_settled i a t s old w store goes level)
-      erased.refs erased.may erased.is erased.others erased.trail least last
-
-  pub vars_left : now.vars ≡ old.vars
-  vars_left = ap (λ (x : WatchState). x.vars) erased.is ∙ goes.vars ∙ vars_back 0 old
+      ranked_forgotten (store_settled store goes level) erased.may erased.is erased.others
+      erased.trail least last
 
   pub has_forgotten : HasForgotten (search_value i a s old) (search_value i a s now) before after
   has_forgotten = record {
     settled = search_value i a s w;
-    same = kept_settled i a t s old w store goes level;
+    same = kept_settled store goes level;
     ids = ids_of w.clauses erased.refs;
     some = none_named w.clauses erased.refs erased.some;
-    forgets = forgets i a t above s w now (store_settled i a t s old w store goes level)
-        erased.refs erased.may erased.is erased.others erased.trail least last;
+    forgets = forgets (store_settled store goes level) erased.may erased.is erased.others
+        erased.trail least last;
     step = erased.step;
   }
 

@@ -49,33 +49,6 @@ nil_from_none (l ∷ ls) none = absurd (none l (zero, omega arith, refl))
 -- MARKED ENTRIES
 
 module _ (ks : List Attached) (used : List Bool) where
-  pub marked_at : (trail : List TrailEntry) (p : ℕ) (e : TrailEntry) → IsAt trail p e →
-      get_or used p false ≡ true →
-      IsMarked (assigned_in ks trail) (marks_of used trail) (assigned ks e)
-  marked_at [] p e at is = absurd (omega (arith, at_within [] p e at))
-  marked_at (x ∷ older) p e at is = elim (at_cases x older p e at) [
-    | inl last ↦ (
-      zero,
-      ap (λ (y : TrailEntry). Some (assigned ks y)) last.1,
-      ap Some (subst (λ (n : ℕ). get_or used n false ≡ true) last.0 is),
-    )
-    | inr later ↦ (let rest = marked_at older p e later is in (suc rest.0, rest.1, rest.2))
-  ]
-
-  pub at_marked : (trail : List TrailEntry) (x : Assigned) →
-      IsMarked (assigned_in ks trail) (marks_of used trail) x →
-      (p : ℕ) × (e : TrailEntry) × IsAt trail p e × (get_or used p false ≡ true)
-      × (assigned ks e ≡ x)
-  at_marked [] x (k, at, mark) = cc
-  at_marked (e ∷ older) x (zero, at, mark) =
-      (length older, e, at_newest e older, some_is mark, some_is at)
-  at_marked (e ∷ older) x (suc k, at, mark) =
-      let rest = at_marked older x (k, at, mark) in
-      (rest.0, rest.1, at_older e older rest.0 rest.1 rest.2, rest.3, rest.4)
-
--- AND WHERE THEY STAND
-
-module _ (ks : List Attached) (used : List Bool) where
   marked_index : (trail : List TrailEntry) (p : ℕ) (e : TrailEntry) → IsAt trail p e →
       get_or used p false ≡ true → (k : ℕ) × (slice_get (assigned_in ks trail) k
       ≡ Some (assigned ks e)) × (slice_get (marks_of used trail) k ≡ Some true)
@@ -110,6 +83,18 @@ module _ (ks : List Attached) (used : List Bool) where
         omega (arith, rest.5),
       )
 
+  pub marked_at : (trail : List TrailEntry) (p : ℕ) (e : TrailEntry) → IsAt trail p e →
+      get_or used p false ≡ true →
+      IsMarked (assigned_in ks trail) (marks_of used trail) (assigned ks e)
+  marked_at trail p e at is = let k = marked_index trail p e at is in (k.0, k.1, k.2)
+
+  pub at_marked : (trail : List TrailEntry) (x : Assigned) →
+      IsMarked (assigned_in ks trail) (marks_of used trail) x →
+      (p : ℕ) × (e : TrailEntry) × IsAt trail p e × (get_or used p false ≡ true)
+      × (assigned ks e ≡ x)
+  at_marked trail x (k, at, mark) =
+      let p = index_marked trail x k at mark in (p.0, p.1, p.2, p.3, p.4)
+
 take_front : {X : Type 0} (xs : List X) (k n : ℕ) (x : X) → n < k → slice_get xs n ≡ Some x →
     slice_get (take k xs) n ≡ Some x
 take_front [] k n x lt at = cc
@@ -119,12 +104,11 @@ take_front (y ∷ ys) (suc k) (suc n) x lt at = take_front ys k n x (omega (arit
 
 -- WHAT IS FOUND
 
-module _ (i a t : ℕ) (s : ClauseListState) (w : WatchState) (store : IsSearchStore i a t s w)
-    (once : IsOnce w.trail) (within : AreWithin w.vars w.trail)
-    (levels : HasLevels w.clauses w.level w.trail)
+module _ {i a t id back : ℕ} {s : ClauseListState} {w : WatchState} {lits clause : Clause}
+    {hints : List ℤ} (store : IsSearchStore i a t s w) (once : IsOnce w.trail)
+    (within : AreWithin w.vars w.trail) (levels : HasLevels w.clauses w.level w.trail)
     (holds : IsSettledTrail (s.clauses ++ live_of w.clauses) w.vars
-    (assigned_in w.clauses w.trail)) (lits : Clause) (id : ℕ) (clause : Clause) (hints : List ℤ)
-    (back : ℕ) (found : IsFound w lits id clause hints back) where
+    (assigned_in w.clauses w.trail)) (found : IsFound w lits id clause hints back) where
   abbrev entries : List Assigned
   entries = assigned_in w.clauses w.trail
 
@@ -138,7 +122,7 @@ module _ (i a t : ℕ) (s : ClauseListState) (w : WatchState) (store : IsSearchS
   marks = marks_of (found.s).used w.trail
 
   on : (p : ℕ) → IsMet m p → p < length w.trail
-  on = analysis_on w lits m found.analysed.analysis
+  on = analysis_on found.analysed.analysis
 
   -- a literal of the clause is of the point or of a lower level
   literal_from : (l : Lit) → Contains clause l → (p : ℕ) × (e : TrailEntry) × IsAt w.trail p e
@@ -282,7 +266,7 @@ module _ (i a t : ℕ) (s : ClauseListState) (w : WatchState) (store : IsSearchS
           let cause : IsCaused w.clauses w.trail (length older) e (Some r) =
           subst (IsCaused w.clauses w.trail (length older) e) some
           (caused_at w.clauses w.level w.trail (length older) e levels once here) in
-          let x = value_found w.vars s.clauses w.clauses store.keeps r cause.0 in (
+          let x = value_found store.keeps r cause.0 in (
             (
               id_at w.clauses r,
               x.0,
@@ -349,7 +333,7 @@ module _ (i a t : ℕ) (s : ClauseListState) (w : WatchState) (store : IsSearchS
             let cause : IsCaused w.clauses w.trail p f (Some r) =
             subst (IsCaused w.clauses w.trail p f) some
             (caused_at w.clauses w.level w.trail p f levels once at_p) in
-            let c = value_found w.vars s.clauses w.clauses store.keeps r cause.0 in
+            let c = value_found store.keeps r cause.0 in
             let here : IsFalsePlace w.trail (lits_at w.clauses r) q =
             subst (λ (o : Option ClauseRef). IsFalsePlace w.trail (reason_lits w.clauses o) q) some
             from in
@@ -579,29 +563,28 @@ module _ (i a t : ℕ) (s : ClauseListState) (w : WatchState) (store : IsSearchS
     }
 
 -- a single clause that is false
-pub single_lesson : (i a t : ℕ) (s : ClauseListState) (w : WatchState) →
-    IsSearchStore i a t s w → (lits : Clause) (id : ℕ) (clause : Clause) (hints : List ℤ)
-    (back : ℕ) → IsFound w lits id clause hints back → clause_at s.clauses id ≡ Some lits →
+pub single_lesson : {i a t id back : ℕ} {s : ClauseListState} {w : WatchState}
+    {lits clause : Clause} {hints : List ℤ} → IsSearchStore i a t s w →
+    IsFound w lits id clause hints back → clause_at s.clauses id ≡ Some lits →
     AreFalse w.trail lits → IsLesson (search_value i a s w) clause hints back
-single_lesson i a t s w store lits id clause hints back found at false_all =
+single_lesson {id} {s} {w} {lits} store found at false_all =
     let known = found.analysed.known in
-    lesson_found i a t s w store known.once known.within known.levels
-    (settled_trail i a t s w store known.once known.within known.levels known.settled) lits id
-    clause hints back found lits (single_found s.clauses w.clauses id lits at) (same_itself lits)
-    false_all
+    lesson_found store known.once known.within known.levels
+    (settled_trail store known.once known.within known.levels known.settled) found lits
+    (single_found s.clauses w.clauses id lits at) (same_itself lits) false_all
 
 -- an attached one
-pub attached_lesson : (i a t : ℕ) (s : ClauseListState) (w : WatchState) →
-    IsSearchStore i a t s w → (c : ClauseRef) → is_attached w.clauses c ≡ true →
-    AreFalse w.trail (lits_at w.clauses c) → (clause : Clause) (hints : List ℤ) (back : ℕ) →
+pub attached_lesson : {i a t back : ℕ} {s : ClauseListState} {w : WatchState} {clause : Clause}
+    {hints : List ℤ} → IsSearchStore i a t s w → (c : ClauseRef) → is_attached w.clauses c ≡ true →
+    AreFalse w.trail (lits_at w.clauses c) →
     IsFound w (lits_at w.clauses c) (id_at w.clauses c) clause hints back →
     IsLesson (search_value i a s w) clause hints back
-attached_lesson i a t s w store c attached false_all clause hints back found =
+attached_lesson store c attached false_all found =
     let known = found.analysed.known in
-    let x = value_found w.vars s.clauses w.clauses store.keeps c attached in
-    lesson_found i a t s w store known.once known.within known.levels
-    (settled_trail i a t s w store known.once known.within known.levels known.settled)
-    (lits_at w.clauses c) (id_at w.clauses c) clause hints back found x.0 x.1 x.2 false_all
+    let x = value_found store.keeps c attached in
+    lesson_found store known.once known.within known.levels
+    (settled_trail store known.once known.within known.levels known.settled) found x.0 x.1 x.2
+    false_all
 
 -- A FALSE CLAUSE
 

@@ -24,7 +24,7 @@ use Rattle.sat_core.proofs.AttachLaws.{now_clauses, now_level, now_leveled, now_
 use Rattle.sat_core.proofs.AttachedLaws.{keeping_added, same_permuted, simple_permuted}
 use Rattle.sat_core.proofs.KeptLaws.{kept_alike, kept_nil, kept_put, kept_skip}
 use Rattle.sat_core.proofs.SameLaws.{same_back, same_itself, same_then}
-use Rattle.sat_core.proofs.SearchLaws.{level_zero}
+use Rattle.sat_core.proofs.SearchLaws.{below_alike, level_zero}
 use Rattle.sat_core.proofs.WatchLaws.{single_found, value_added, value_found}
 
 -- A CLAUSE UNDER A NEW ID
@@ -54,9 +54,6 @@ put_under id n live clause some low below k c at = by (k == n) refl at where
   )
   by false same at = below k c at
 
-below_alike : (id : ℕ) (live now : Live) → SameLive live now → AreBelow id live → AreBelow id now
-below_alike id live now same below n c at = below n c (same n ∙ at)
-
 module _ (m : ℕ) (s : ClauseListState) (w : WatchState) (lits : Clause) (id : ℕ)
     (store : IsSearchStore m 0 0 s w) (none_true : w.trail ≡ []) (some : 1 ≤ id) (most : id ≤ m)
     (new : clause_at (s.clauses ++ live_of w.clauses) id ≡ None) (simple : IsSimple w.vars lits)
@@ -67,7 +64,7 @@ module _ (m : ℕ) (s : ClauseListState) (w : WatchState) (lits : Clause) (id : 
     -- no attached clause has the id
     other_id : (c : ClauseRef) → is_attached w.clauses c ≡ true → id_at w.clauses c ≢ id
     other_id c is same =
-        let x = value_found w.vars s.clauses w.clauses store.keeps c is in
+        let x = value_found store.keeps c is in
         let bad : None ≡ Some x.0 = sym new
         ∙ ap (clause_at (s.clauses ++ live_of w.clauses)) (sym same) ∙ x.1 in
         cc
@@ -77,9 +74,8 @@ module _ (m : ℕ) (s : ClauseListState) (w : WatchState) (lits : Clause) (id : 
     attached_more now c does two =
         let stand = store.keeps.stand in
         let entry : Attached = record { place = c; id = id; lits = does.order } in
-        let clauses : now.clauses ≡ w.clauses ++ entry ∷ [] = now_clauses w now lits id c does stand
-        in
-        let vars : now.vars ≡ w.vars = now_vars w now lits id c does stand in
+        let clauses : now.clauses ≡ w.clauses ++ entry ∷ [] = now_clauses does stand in
+        let vars : now.vars ≡ w.vars = now_vars does stand in
         let alike : SameLive (put (s.clauses ++ live_of w.clauses) id does.order)
         (s.clauses ++ live_of now.clauses) =
         rw clauses (value_added s.clauses w.clauses entry new) in
@@ -103,12 +99,12 @@ module _ (m : ℕ) (s : ClauseListState) (w : WatchState) (lits : Clause) (id : 
             once = store.once;
             keeps = rw (clauses, vars) keeps;
             taken_are = λ k n x lt at. absurd (omega (arith, lt));
-            waiting = inr (now_level w now lits id c does stand ∙ level);
-            leveled = now_leveled w now lits id c does stand store.leveled;
+            waiting = inr (now_level does stand ∙ level);
+            leveled = now_leveled does stand store.leveled;
             none_due = does.not_due (inl two);
           };
           vars = vars;
-          trail = now_trail w now lits id c does stand;
+          trail = now_trail does stand;
           order = does.order;
           same = same_back lits does.order (same_permuted lits does.order does.same);
           once = (simple_permuted w.vars lits does.order does.same simple).once;
@@ -196,10 +192,10 @@ two_free w (a ∷ b ∷ ls) none once long = (
 -- ONE MORE CLAUSE OF THE FORMULA
 
 -- the different literals of a clause of the formula are simple
-pub simple_of : (formula : Cnf) (picks : ℕ → Clause → Bool) (s : ClauseListState) (w : WatchState)
+pub simple_of : {formula : Cnf} {picks : ℕ → Clause → Bool} {s : ClauseListState} {w : WatchState}
     (lits clause : Clause) → HasTaken formula picks s w → All (IsWithin formula.vars) clause →
     SameLiterals lits clause → HasOnce lits → IsSimple w.vars lits
-simple_of formula picks s w lits clause taken within same once = record {
+simple_of {formula} lits clause taken within same once = record {
   within = rw taken.vars (All-weaker (Contains clause) (IsWithin formula.vars)
       (λ l has. All-contains (IsWithin formula.vars) clause l within has) lits same.0);
   once = once;
@@ -225,10 +221,11 @@ taken_alike formula picks more s w same taken = record {
     by k None at = refl
     by k (Some c) at = rw (same k c at) refl
 
-module _ (formula : Cnf) (picks more : ℕ → Clause → Bool) (k : ℕ) (c : Clause)
+module _ {formula : Cnf} {picks : ℕ → Clause → Bool} {s : ClauseListState} {w : WatchState}
+    {c : Clause} (more : ℕ → Clause → Bool) (k : ℕ)
     (at : slice_get formula.clauses k ≡ Some c) (not_yet : picks k c ≡ false)
     (others : (j : ℕ) (d : Clause) → j ≢ k → more j d ≡ picks j d) (now : more k c ≡ true)
-    (s : ClauseListState) (w : WatchState) (taken : HasTaken formula picks s w) where
+    (taken : HasTaken formula picks s w) where
   not_live : clause_at taken.live (suc k) ≡ None
   not_live = taken.tells k ∙ ap (picked (picks k)) at ∙ rw not_yet refl
 
@@ -258,10 +255,10 @@ module _ (formula : Cnf) (picks more : ℕ → Clause → Bool) (k : ℕ) (c : C
       by None other = refl
       by (Some d) other = rw (others j d other) refl
 
-  pub taken_more : (now_s : ClauseListState) (now_w : WatchState) (lits : Clause) →
+  pub taken_more : {now_s : ClauseListState} {now_w : WatchState} {lits : Clause} →
       length s.clauses < length formula.clauses → SameLiterals lits c → IsSimple w.vars lits →
       Keeps s now_s w now_w lits (suc k) → HasTaken formula more now_s now_w
-  taken_more now_s now_w lits few same simple keeps =
+  taken_more {now_s} {now_w} {lits} few same simple keeps =
       let within = slice_get_within formula.clauses k c at in
       let one = one_more (length formula.clauses) s w lits (suc k) taken.store taken.none_true
       (omega arith) (omega (arith, within)) not_kept simple now_s now_w few
@@ -293,9 +290,9 @@ module _ (formula : Cnf) (picks more : ℕ → Clause → Bool) (k : ℕ) (c : C
     none_zero = rw (ne_eqb 0 (suc k) (omega arith)) taken.none_zero;
   }
 
-  pub may_keep : (lits : Clause) → length s.clauses < length formula.clauses →
+  pub may_keep : {lits : Clause} → length s.clauses < length formula.clauses →
       IsSimple w.vars lits → MayKeep s w lits (suc k)
-  may_keep lits few simple = record {
+  may_keep few simple = record {
     simple = simple;
     none_true = taken.none_true;
     quiet = taken.store.none_due;
@@ -442,19 +439,6 @@ pairs_all formula s w taken =
     by : (b : Bool) → (b || false) ≡ b
     by true = refl
     by false = refl
-
--- a pair is passed over
-pub others_pass : (formula : Cnf) (n : ℕ) (c : Clause) → slice_get formula.clauses n ≡ Some c →
-    is_pair c ≡ true → (s : ClauseListState) (w : WatchState) →
-    HasTaken formula (pairs_and_below n) s w → HasTaken formula (pairs_and_below (suc n)) s w
-others_pass formula n c at is s w taken =
-    taken_alike formula (pairs_and_below n) (pairs_and_below (suc n)) s w
-    (λ k d k_at. elim (cases_eq k n) [
-      | inl same ↦
-          let one : d ≡ c = some_is (sym k_at ∙ ap (slice_get formula.clauses) same ∙ at) in
-          rw (one, is) refl
-      | inr other ↦ others_next n k d other
-    ]) taken
 
 -- another is not yet picked, and then it is
 pub other_not_yet : (n : ℕ) (c : Clause) → is_pair c ≡ false → pairs_and_below n n c ≡ false

@@ -239,10 +239,6 @@ put_below id live clause some below n c at = by (n == id) refl at where
   by true same at = let one = eqb-true n id same in (omega (arith, one, some), omega (arith, one))
   by false same at = let old = below n c at in (old.0, omega (arith, old.1))
 
--- one more id
-pub more_below : (id : ℕ) (live : Live) → AreBelow id live → AreBelow (suc id) live
-more_below id live below n c at = let old = below n c at in (old.0, omega (arith, old.1))
-
 -- maps with the same clauses
 pub kept_alike : (kept more live now : Live) → SameLive kept more → SameLive live now →
     AreKept kept live → AreKept more now

@@ -1,6 +1,6 @@
 -- The way back behind a lesson, and what one more clause makes of a search.
 use Rattle.std.specs.Prelude.{max, nat_le, unwrap_or}
-use Rattle.std.proofs.Common.{inl, inr, ◌≡◌, ◌≢◌, ◌<◌, ◌≤◌, ◌+◌, ◌-◌, ℕ, zero, suc, ℤ, true, List, [], ◌∷◌, ◌++◌, length, Option, None, Some, slice_get, get_or, Contains, refl, sym, ap, ◌∙◌, subst, arith}
+use Rattle.std.proofs.Common.{inl, inr, ◌≡◌, ◌≢◌, ◌<◌, ◌≤◌, ◌+◌, ◌-◌, ℕ, zero, suc, add-one, ℤ, true, List, [], ◌∷◌, ◌++◌, length, Option, None, Some, slice_get, get_or, Contains, refl, sym, ap, ◌∙◌, subst, arith}
 use Rattle.std.proofs.Math.Nat.{le-max_left, le-max_right}
 use Rattle.std.proofs.lemmas.Bool.{cases_eq, le-leb, lt-ltb}
 use Rattle.std.proofs.lemmas.List.{length-append}
@@ -8,6 +8,7 @@ use Rattle.std.proofs.lemmas.Option.{slice_get-get_or, slice_get_within}
 use Rattle.list_laws.proofs.Places.{get-cases, some_is}
 use Rattle.std.proofs.lemmas.List.Elements.{All-contains, All-contains_itself, All-filter}
 use Rattle.sat_clause.specs.declared.literal.Lit.{Lit}
+use Rattle.sat_clause.specs.Learned.{IsSimple}
 use Rattle.sat_clause.specs.Literal.{Clause, IsWithin, is_among, negation, variable}
 use Rattle.sat_clause.specs.Live.{clause_at, put}
 use Rattle.sat_clause.specs.Trail.{IsOpen as IsOpenOn}
@@ -23,17 +24,18 @@ use Rattle.sat_watch.specs.Watched.{IsReason, is_false, true_at}
 use Rattle.sat_watch.specs.Watches.{Attached, Attaches, HasCause, HasLevels, HasOneOpen, MayAttach, WatchState, gone_back, highest, implied, is_attached, lits_at}
 use Rattle.sat_watch.proofs.LevelLemmas.{true_level}
 use Rattle.sat_core.specs.ClauseList.{ClauseListState}
-use Rattle.sat_core.specs.Levels.{AreLevels, Assigned, IsAsserting, level_of, lits_of, made_false, up_to}
+use Rattle.sat_core.specs.Levels.{Assigned, IsAsserting, level_of, lits_of, made_false, up_to}
 use Rattle.sat_core.specs.Ranking.{IsRanked}
 use Rattle.sat_core.specs.SearchStore.{EndsAsserting, IsLesson, IsLeveled, IsSearchStore, Learns, SameKept, assigned, assigned_in, live_of, search_value}
+use Rattle.sat_core.specs.Stands.{SearchValue}
 use Rattle.sat_core.proofs.AttachLaws.{contains_assigned, implied_due, now_attached, now_clauses, now_leveled, now_reason, now_trail, now_vars, true_entry, true_none}
 use Rattle.sat_core.proofs.AttachedLaws.{same_permuted, simple_permuted}
 use Rattle.sat_core.proofs.DecideLaws.{leveled_implied, value_stays}
 use Rattle.sat_core.proofs.LessonLaws.{all_false_or, first_is_open}
-use Rattle.sat_core.proofs.LevelLaws.{in_made_false, level_back, levels_back, none_above, only_entry}
+use Rattle.sat_core.proofs.LevelLaws.{in_made_false, none_above, only_entry}
 use Rattle.sat_core.proofs.RankingLaws.{ranked_more}
-use Rattle.sat_core.proofs.SameLaws.{same_back, same_itself}
-use Rattle.sat_core.proofs.SearchLaws.{attached_alike, store_attached, store_once}
+use Rattle.sat_core.proofs.SameLaws.{same_back}
+use Rattle.sat_core.proofs.SearchLaws.{attached_alike, kept_lower, lower_leveled, store_attached, store_lower}
 use Rattle.sat_core.proofs.WatchLaws.{falses_in, lits_in, up_to_in}
 
 -- THE HIGHEST LEVEL
@@ -62,28 +64,51 @@ highest_least trail (x ∷ xs) l (suc k, within, is) =
     let up = le-max_right (unwrap_or (true_at trail (negation x)) 0) (highest trail xs) in
     omega (arith, rest, up)
 
+-- THE LAST LITERAL
+
+pub last_literal : (xs front : Clause) (first l : Lit) → xs ≡ front ++ first ∷ []
+    → slice_get xs (length xs - 1) ≡ Some l → l ≡ first
+last_literal xs front first l is at =
+    let there = subst (λ (ys : Clause). slice_get ys (length ys - 1) ≡ Some l) is at in
+    elim (get-cases front first l (length (front ++ first ∷ []) - 1) there) [
+      | inl last ↦ sym last.1
+      | inr earlier ↦
+          let within = slice_get_within front (length (front ++ first ∷ []) - 1) l earlier in
+          absurd (omega (arith, within, length-append front (first ∷ [])))
+    ]
+
+pub has_last : (xs : Clause) → xs ≢ [] → slice_get xs (length xs - 1) ≢ None
+has_last [] some none = some refl
+has_last (x ∷ xs) some none =
+    let at = slice_get-get_or (x ∷ xs) (length (x ∷ xs) - 1) x (omega arith) in
+    let bad : None ≡ Some (get_or (x ∷ xs) (length (x ∷ xs) - 1) x) = sym none ∙ at in cc
+
 -- THE WAY BACK
 
-module _ (i a t : ℕ) (s : ClauseListState) (w : WatchState) (store : IsSearchStore i a t s w)
-    (clause : Clause) (hints : List ℤ) (back : ℕ) (lesson : IsLesson
-    (search_value i a s w) clause hints back)
-    (some : clause ≢ []) where
+-- a lesson is learned: it went back, and attaches the clause
+module _ {i a t back : ℕ} {s : ClauseListState} {w after : WatchState} {value : SearchValue}
+    {clause : Clause} {hints : List ℤ} (store : IsSearchStore i a t s w)
+    (view : search_value i a s w ≡ value) (known : IsLesson value clause hints back)
+    (some : clause ≢ []) (goes : after ≡ gone_back back w) where
+  lesson : IsLesson (search_value i a s w) clause hints back
+  lesson = subst (λ (v : SearchValue). IsLesson v clause hints back) (sym view) known
+
   abbrev entries : List Assigned
   entries = assigned_in w.clauses w.trail
 
-  abbrev pub gone : WatchState
+  abbrev gone : WatchState
   gone = record w { trail = upto back w.trail; queued = 0; level = back; due = None }
 
-  pub begun : 1 ≤ level_of entries
+  begun : 1 ≤ level_of entries
   begun = elim (cases_eq (level_of entries) 0) [
     | inl none ↦ absurd (some (lesson.none none))
     | inr other ↦ omega (arith, other)
   ]
 
-  pub ending : EndsAsserting entries back clause
+  ending : EndsAsserting entries back clause
   ending = lesson.asserts begun
 
-  abbrev pub first : Lit
+  abbrev first : Lit
   first = ending.1
 
   asserts : IsAsserting entries (level_of entries) back first clause
@@ -92,30 +117,14 @@ module _ (i a t : ℕ) (s : ClauseListState) (w : WatchState) (store : IsSearchS
   back_below : back < w.level
   back_below = let below = asserts.below in omega (arith, below, store.leveled.current)
 
-  -- it is the last literal
-  pub ends_in_first : clause ≡ ending.0 ++ first ∷ []
-  ends_in_first = ending.2
-
-  -- it is of the variables of the search
-  pub first_inside : IsWithin w.vars first
-  first_inside =
-      let has : Contains clause first = asserts.has in
-      All-contains (IsWithin w.vars) clause first lesson.simple.within has
-
-  pub gone_is : gone_back back w ≡ gone
-  gone_is = rw (lt-ltb back w.level back_below) refl
+  after_is : after ≡ gone
+  after_is = goes ∙ rw (lt-ltb back w.level back_below) refl
 
   gone_trail : up_to back entries ≡ assigned_in w.clauses gone.trail
   gone_trail = up_to_in w.clauses back w.trail
 
   gone_leveled : IsLeveled gone
-  gone_leveled = record {
-    levels = subst AreLevels gone_trail (levels_back back entries store.leveled.levels);
-    current =
-        sym (level_back back entries store.leveled.levels (omega
-        (arith, back_below, store.leveled.current)))
-        ∙ ap level_of gone_trail;
-  }
+  gone_leveled = lower_leveled back store (omega (arith, back_below))
 
   all_taken : t ≡ length s.clauses
   all_taken = elim store.waiting [
@@ -124,31 +133,20 @@ module _ (i a t : ℕ) (s : ClauseListState) (w : WatchState) (store : IsSearchS
         (arith, low, back_below))
   ]
 
-  pub store_gone : IsSearchStore i a t s gone
-  store_gone = record {
-    few_ids = store.few_ids;
-    few = store.few;
-    few_vars = store.few_vars;
-    same_vars = store.same_vars;
-    below = store.below;
-    few_taken = store.few_taken;
-    once = store.once;
-    keeps = store.keeps;
-    taken_are = store.taken_are;
-    waiting = inl all_taken;
-    leveled = gone_leveled;
-    none_due = refl;
-  }
+  store_gone : IsSearchStore i a t s gone
+  store_gone = store_lower back store (omega (arith, back_below)) (inl all_taken)
 
-  pub kept_gone : SameKept (search_value i a s w) (search_value i a s gone)
-  kept_gone = record {
-    vars = refl;
-    inputs = refl;
-    added = refl;
-    among = λ n x at. (x, at, same_itself x);
-    back = λ n x at. (x, at, same_itself x);
-    once = λ n x at. store_once i a t s w store n x at;
-  }
+  pub store_back : IsSearchStore i a t s after
+  store_back = subst (IsSearchStore i a t s) (sym after_is) store_gone
+
+  pub vars_back : after.vars ≡ w.vars
+  vars_back = ap (λ (x : WatchState). x.vars) after_is
+
+  pub kept_back : SameKept value (search_value i a s after)
+  kept_back =
+      subst (λ (v : SearchValue). SameKept v (search_value i a s after)) view
+      (subst (λ (x : WatchState). SameKept (search_value i a s w) (search_value i a s x))
+      (sym after_is) (kept_lower back store (omega (arith, back_below))))
 
   first_open : IsOpenOn (watch_lits gone.trail) first
   first_open =
@@ -238,49 +236,63 @@ module _ (i a t : ℕ) (s : ClauseListState) (w : WatchState) (store : IsSearchS
     highest_back,
   )
 
-  pub learn_may : MayAttach gone clause
-  learn_may = inr (inr one_open)
+  pub learn_may : MayAttach after clause
+  learn_may = rw after_is (inr (inr one_open))
+
+  pub learn_simple : IsSimple after.vars clause
+  learn_simple = rw vars_back lesson.simple
 
   -- WITH THE CLAUSE
 
-  module _ (now : WatchState) (id : ℕ) (c : ClauseRef) (does : Attaches gone now clause id c)
-      (next : id ≡ suc (i + a)) where
-    pub learn_open : IsOpenOn (watch_lits now.trail) first
-    learn_open = rw (now_trail gone now clause id c does store.keeps.stand) first_open
+  module _ {now : WatchState} {id : ℕ} {c : ClauseRef} {l : Lit}
+      (attaches : Attaches after now clause id c) (next : id ≡ suc (i + a))
+      (last : slice_get clause (length clause - 1) ≡ Some l) where
+    does : Attaches gone now clause id c
+    does = subst (λ (x : WatchState). Attaches x now clause id c) after_is attaches
+
+    l_is : l ≡ first
+    l_is = last_literal clause ending.0 first l ending.2 last
+
+    pub learn_inside : IsWithin now.vars l
+    learn_inside =
+        let has : Contains clause first = asserts.has in
+        rw (now_vars does store.keeps.stand, l_is)
+        (All-contains (IsWithin w.vars) clause first lesson.simple.within has)
+
+    pub learn_open : IsOpenOn (watch_lits now.trail) l
+    learn_open = rw (now_trail does store.keeps.stand, l_is) first_open
 
     pub learn_attached : is_attached now.clauses c ≡ true
-    learn_attached = now_attached gone now clause id c does store.keeps.stand
+    learn_attached = now_attached does store.keeps.stand
 
-    pub learn_reason : IsReason now.trail (lits_at now.clauses c) first
-    learn_reason = now_reason gone now clause id c does store.keeps.stand first (record {
-      has =
-          asserts.has;
-      others = others_false;
-    })
+    pub learn_reason : IsReason now.trail (lits_at now.clauses c) l
+    learn_reason =
+        now_reason does store.keeps.stand l (record {
+          has = rw l_is asserts.has;
+          others = rw l_is
+              others_false;
+        })
 
-    pub store_learned : suc (i + a) ≤ 4294967295 → IsSearchStore i (suc a) t s (implied first c now)
+    pub store_learned : suc (i + a) ≤ 4294967295 → IsSearchStore i (a + 1) t s (implied l c now)
     store_learned few =
-        store_attached i a t s gone id clause does.order c does.same does.place store_gone next
-        lesson.simple (implied first c now) (omega (arith, few))
-        (now_clauses gone now clause id c does store.keeps.stand)
-        (now_vars gone now clause id c does store.keeps.stand) (inl all_taken)
-        (leveled_implied now first c (now_leveled gone now clause id c does store.keeps.stand
-        gone_leveled))
-        (implied_due now first c (does.due one_open))
+        rw add-one (store_attached does.order c does.same does.place store_gone next lesson.simple
+        (implied l c now) (omega (arith, few)) (now_clauses does store.keeps.stand)
+        (now_vars does store.keeps.stand) (inl all_taken)
+        (leveled_implied now l c (now_leveled does store.keeps.stand gone_leveled))
+        (implied_due now l c (does.due one_open)))
 
-    pub ranked_learned : (order : OrderState) → IsRanked w.vars gone.trail order →
-        IsRanked now.vars (record { lit = first; level = now.level; reason = Some c } ∷ now.trail)
-        order
-    ranked_learned order ranked =
-        let e : TrailEntry = record { lit = first; level = now.level; reason = Some c } in
-        rw (now_vars gone now clause id c does store.keeps.stand)
-        (ranked_more w.vars gone.trail (e ∷ now.trail) order (λ l some. value_stays (e ∷ [])
-        now.trail l (rw (now_trail gone now clause id c does store.keeps.stand) some)) ranked)
+    pub ranked_learned : {order : OrderState} → IsRanked after.vars after.trail order →
+        IsRanked now.vars (implied l c now).trail order
+    ranked_learned {order} ranked =
+        let e : TrailEntry = record { lit = l; level = now.level; reason = Some c } in
+        rw (now_vars does store.keeps.stand)
+        (ranked_more (e ∷ now.trail) (λ l some. value_stays (e ∷ [])
+        now.trail l (rw (now_trail does store.keeps.stand) some))
+        (subst (λ (x : WatchState). IsRanked x.vars x.trail order) after_is ranked))
 
-    pub learns : Learns (search_value i a s w) (search_value i (suc a) s
-        (implied first c now)) clause
-    learns = record {
-      vars = now_vars gone now clause id c does store.keeps.stand;
+    pub learns : Learns value (search_value i (a + 1) s (implied l c now)) clause
+    learns = rw (← view, add-one) (record {
+      vars = now_vars does store.keeps.stand;
       inputs = refl;
       added = refl;
       order = does.order;
@@ -288,11 +300,10 @@ module _ (i a t : ℕ) (s : ClauseListState) (w : WatchState) (store : IsSearchS
       once = (simple_permuted w.vars clause does.order does.same lesson.simple).once;
       clauses = λ n.
           ap (λ (j : ℕ). clause_at (put (s.clauses ++ live_of w.clauses) j does.order) n) (sym next)
-          ∙ attached_alike i a t s gone id clause does.order c does.same does.place store_gone next
-          lesson.simple n
+          ∙ attached_alike does.order c does.same does.place store_gone next lesson.simple n
           ∙ ap (λ (ks : List Attached). clause_at (s.clauses ++ live_of ks) n) (sym
-          (now_clauses gone now clause id c does store.keeps.stand));
-    }
+          (now_clauses does store.keeps.stand));
+    })
 
 -- REASONS
 
@@ -321,22 +332,3 @@ reason_attached ks level (x ∷ older) e c levels (suc k, within, is) some =
         → ((n : ℕ) → HasLevels ks n older → is_attached ks c ≡ true) → is_attached ks c ≡ true
     by None cause deeper = deeper cause.0 cause.2
     by (Some r) cause deeper = deeper level cause.2
-
--- THE LAST LITERAL
-
-pub last_literal : (xs front : Clause) (first l : Lit) → xs ≡ front ++ first ∷ []
-    → slice_get xs (length xs - 1) ≡ Some l → l ≡ first
-last_literal xs front first l is at =
-    let there = subst (λ (ys : Clause). slice_get ys (length ys - 1) ≡ Some l) is at in
-    elim (get-cases front first l (length (front ++ first ∷ []) - 1) there) [
-      | inl last ↦ sym last.1
-      | inr earlier ↦
-          let within = slice_get_within front (length (front ++ first ∷ []) - 1) l earlier in
-          absurd (omega (arith, within, length-append front (first ∷ [])))
-    ]
-
-pub has_last : (xs : Clause) → xs ≢ [] → slice_get xs (length xs - 1) ≢ None
-has_last [] some none = some refl
-has_last (x ∷ xs) some none =
-    let at = slice_get-get_or (x ∷ xs) (length (x ∷ xs) - 1) x (omega arith) in
-    let bad : None ≡ Some (get_or (x ∷ xs) (length (x ∷ xs) - 1) x) = sym none ∙ at in cc

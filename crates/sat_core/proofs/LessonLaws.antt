@@ -101,8 +101,9 @@ module _ (live : Live) (none : clause_at live 0 ≡ None) (clause : Clause) wher
   named_is (suc n) c is = is
 
   -- a marked reason makes its entry true behind the marked older ones
-  pub reason_reads : (older : List Assigned) (marks : List Bool) (e : Assigned) (id : ℕ) (c : Clause) →
-      IsOpen (lits_of older) e.lit → IsOpen clause e.lit → clause_at live id ≡ Some c →
+  pub reason_reads : (older : List Assigned) (marks : List Bool) (e : Assigned) (id : ℕ)
+      (c : Clause) → IsOpen (lits_of older) e.lit → IsOpen clause e.lit →
+      clause_at live id ≡ Some c →
       reading_of (made_false older) c ≡ Unit e.lit →
       All (λ m. (m ≡ e.lit) ⊎ IsAccounted clause older marks m) c →
       Reads (known_by clause older marks) (named live (pos id)) (Unit e.lit)

@@ -9,23 +9,24 @@ use Rattle.sat_order.specs.Order.{IsEmpty, IsVariable, IsWhole, OrderState, acti
 use Rattle.sat_watch.specs.declared.entry.TrailEntry.{TrailEntry}
 use Rattle.sat_watch.specs.Trail.{lits_of, value_in}
 use Rattle.sat_watch.specs.Watches.{Propagates, WatchState, assumed}
-use Rattle.sat_core.specs.Ranking.{AreDrawn, IsRanked, SameHeld, drawn, held_count, next_draw}
+use Rattle.sat_core.specs.Ranking.{IsRanked, SameHeld, drawn, held_count, next_draw}
 use Rattle.sat_core.proofs.DecideLaws.{closed_values, value_assumed, value_stays}
 
 -- values stay where the trail changes
-pub ranked_more : (vars : ℕ) (trail now : List TrailEntry) (order : OrderState) →
+pub ranked_more : {vars : ℕ} {trail : List TrailEntry} {order : OrderState}
+    (now : List TrailEntry) →
     ((l : Lit) → value_in trail l ≢ None → value_in now l ≢ None) →
     IsRanked vars trail order → IsRanked vars now order
-ranked_more vars trail now order more ranked = record {
+ranked_more now more ranked = record {
   vars = ranked.vars;
   many = ranked.many;
   valued = λ v known out. more (positive v) (ranked.valued v known out);
 }
 
 -- the same variables are held
-pub ranked_held : (vars : ℕ) (trail : List TrailEntry) (old new : OrderState) → SameHeld old new →
+pub ranked_held : {vars : ℕ} {trail : List TrailEntry} {old new : OrderState} → SameHeld old new →
     IsRanked vars trail old → IsRanked vars trail new
-ranked_held vars trail old new same ranked = record {
+ranked_held same ranked = record {
   vars = same.vars ∙ ranked.vars;
   many = ap length same.held ∙ ranked.many;
   valued = λ v known out. ranked.valued v (record {
@@ -35,8 +36,8 @@ ranked_held vars trail old new same ranked = record {
       (subst (λ (held : List Bool). get_or held (v - 1) false ≡ false) same.held out);
 }
 
-pub held_then : (a b c : OrderState) → SameHeld a b → SameHeld b c → SameHeld a c
-held_then a b c first second = record {
+pub held_then : {a b c : OrderState} → SameHeld a b → SameHeld b c → SameHeld a c
+held_then first second = record {
   vars = second.vars ∙ first.vars;
   held = second.held ∙ first.held;
 }
@@ -75,12 +76,11 @@ ranked_taken vars trail order v some value ranked = record {
 }
 
 -- the trail grows
-pub ranked_propagated : (old new : WatchState) (order : OrderState) → Propagates old new →
+pub ranked_propagated : {old new : WatchState} {order : OrderState} → Propagates old new →
     IsRanked old.vars old.trail order → IsRanked new.vars new.trail order
-ranked_propagated old new order step ranked =
+ranked_propagated {old} {new} step ranked =
     rw (step.vars, step.trail)
-    (ranked_more old.vars old.trail (step.added ++ old.trail) order
-    (value_stays step.added old.trail) ranked)
+    (ranked_more (step.added ++ old.trail) (value_stays step.added old.trail) ranked)
 
 pub ranked_decided : (w : WatchState) (order : OrderState) (v : ℕ) → 1 ≤ v →
     IsRanked w.vars w.trail order →
@@ -89,7 +89,7 @@ pub ranked_decided : (w : WatchState) (order : OrderState) (v : ℕ) → 1 ≤ v
 ranked_decided w order v some ranked =
     let e : TrailEntry = record { lit = positive v; level = suc w.level; reason = None } in
     ranked_taken w.vars (e ∷ w.trail) order v some (value_assumed w.trail e)
-    (ranked_more w.vars w.trail (e ∷ w.trail) order (value_stays (e ∷ []) w.trail) ranked)
+    (ranked_more (e ∷ w.trail) (value_stays (e ∷ []) w.trail) ranked)
 
 -- one is held fewer
 pub held_fewer : (held : List Bool) (i : ℕ) → get_or held i false ≡ true →
@@ -130,18 +130,6 @@ pub record AreDrawnTo (seed next draw : ℕ) (order : OrderState) : Type 0 where
   pub before : (w : ℕ) → 1 ≤ w → w < next → w ≤ order.vars →
       activity_of order w ≡ drawn seed w / 65536 % 1024
   pub behind : (w : ℕ) → next ≤ w → w ≤ order.vars → activity_of order w ≡ 0
-
-pub drawn_none : (seed vars : ℕ) (order : OrderState) → seed < 2 ^ 32 → order.vars ≡ vars →
-    order.activities ≡ replicate vars 0 → AreDrawnTo seed 1 seed order
-drawn_none seed vars order small many zero_is = record {
-  many = ap length zero_is ∙ length-replicate vars 0 ∙ sym many;
-  draw_is = refl;
-  small = small;
-  before = λ w some below within. absurd (omega (arith, some, below));
-  behind = λ w some within.
-      ap (λ (xs : List ℕ). get_or xs (w - 1) 0) zero_is
-      ∙ get_or-replicate vars (w - 1) 0 0 (omega (arith, some, within, many));
-}
 
 drawn_step : (seed next : ℕ) → 1 ≤ next → drawn seed next ≡ next_draw (drawn seed (next - 1))
 drawn_step seed zero some = absurd (omega (arith, some))
@@ -185,15 +173,3 @@ drawn_next seed next draw order some within so_far =
           (omega (arith, above, some))
           ∙ so_far.behind w (omega (arith, above)) most;
     }
-
-pub drawn_all : (seed next draw : ℕ) (order : OrderState) → seed ≢ 0 → order.vars < next →
-    AreDrawnTo seed next draw order → AreDrawn seed order
-drawn_all zero next draw order some past so_far v known = absurd (some refl)
-drawn_all (suc seed) next draw order some past so_far v known =
-    so_far.before v known.first (omega (arith, known.last, past)) known.last
-
-pub drawn_zero : (vars : ℕ) (order : OrderState) → order.vars ≡ vars →
-    order.activities ≡ replicate vars 0 → AreDrawn 0 order
-drawn_zero vars order many zero_is v known =
-    ap (λ (xs : List ℕ). get_or xs (v - 1) 0) zero_is
-    ∙ get_or-replicate vars (v - 1) 0 0 (omega (arith, known.first, known.last, many))

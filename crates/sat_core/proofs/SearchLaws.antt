@@ -8,54 +8,55 @@ use Rattle.std.proofs.lemmas.List.Elements.{All-cons, All-head, All-nil, All-tai
 use Rattle.std.proofs.lemmas.Option.{slice_get_within}
 use Rattle.list_laws.proofs.Places.{get-cases, some_is}
 use Rattle.sat_clause.specs.declared.literal.Lit.{Lit}
-use Rattle.sat_clause.specs.declared.reading.Reading.TheVariants.{Conflict}
 use Rattle.sat_clause.specs.Learned.{IsSimple, SameLiterals}
 use Rattle.sat_clause.specs.Literal.{Clause, IsWithin, is_among}
 use Rattle.sat_clause.specs.Live.{Live, clause_at, put}
-use Rattle.sat_clause.specs.Rup.{Reads, reading_of}
-use Rattle.sat_clause.proofs.ReadingLaws.{all_conflict}
 use Rattle.sat_clause.specs.Trail.{IsClosed}
 use Rattle.sat_arena.specs.declared.clause_ref.ClauseRef.{ClauseRef}
+use Rattle.sat_order.specs.Order.{OrderState}
 use Rattle.sat_watch.specs.declared.entry.TrailEntry.{TrailEntry}
 use Rattle.sat_watch.specs.Levels.{upto}
-use Rattle.sat_watch.specs.Trail.{AreWithin, IsOnce, falses}
-use Rattle.sat_watch.specs.Watched.{AreFalse}
+use Rattle.sat_watch.specs.Trail.{AreWithin, IsOnce}
 use Rattle.sat_watch.specs.Watches.{Attached, HasLevels, IsSettledAt, IsSettledState, WatchState, gone_back, id_at, is_attached, words_in}
 use Rattle.sat_core.specs.ClauseList.{ClauseListState}
 use Rattle.sat_core.specs.Deciding.{AreValuesOf, GoesOn}
 use Rattle.sat_core.specs.Kept.{AreAmong, AreBelow, HasOnce, SameLive}
 use Rattle.sat_core.specs.Levels.{AreLevels, AreSettled, Assigned, IsSettledTrail, level_of, lits_of, made_false, up_to}
-use Rattle.sat_core.specs.SearchStore.{AreTaken, AreTrue, IsKeeping, IsLeveled, IsSearchStore, Learns, SameKept, assigned, assigned_in, live_of, search_value}
+use Rattle.sat_core.specs.Marks.{IsReady, MarkState}
+use Rattle.sat_core.specs.Ranking.{IsRanked, SameHeld}
+use Rattle.sat_core.specs.SearchStore.{AreTaken, AreTrue, IsKeeping, IsLeveled, IsSearchStore, IsSearching, Learns, SameKept, assigned, assigned_in, live_of, search_value}
 use Rattle.sat_core.specs.Start.{IsTaken}
 use Rattle.sat_core.specs.Stands.{SearchValue}
 use Rattle.sat_core.proofs.AttachedLaws.{added_attached, added_id, keeping_added, last_is, new_place, same_permuted, simple_permuted}
 use Rattle.sat_core.proofs.KeptLaws.{none_next, put_below}
 use Rattle.sat_core.proofs.LevelLaws.{level_back, levels_back}
 use Rattle.sat_core.proofs.ModelLemmas.{quiet_is_true}
+use Rattle.sat_core.proofs.RankingLaws.{ranked_held}
 use Rattle.sat_core.proofs.SameLaws.{same_back, same_itself, same_then}
 use Rattle.sat_core.proofs.WatchLaws.{among_same, caused_here, falses_in, keeping_same, lits_in, same_among, settled_here, settled_in, single_found, up_to_in, value_added, value_again, value_found, value_origin}
 
 -- IDS
 
 -- an attached clause has an id below the next
-attached_below : (vars id : ℕ) (singles : Live) (ks : List Attached) (c : ClauseRef)
+attached_below : {vars : ℕ} {singles : Live} {ks : List Attached} (id : ℕ) (c : ClauseRef)
     → IsKeeping vars singles ks → AreBelow id (singles ++ live_of ks) →
     is_attached ks c ≡ true → id_at ks c < id
-attached_below vars id singles ks c keeps below is =
-    let x = value_found vars singles ks keeps c is in (below (id_at ks c) x.0 x.1).1
+attached_below {ks} id c keeps below is =
+    let x = value_found keeps c is in (below (id_at ks c) x.0 x.1).1
 
-below_alike : (id : ℕ) (live now : Live) → SameLive live now → AreBelow id live → AreBelow id now
+pub below_alike : (id : ℕ) (live now : Live) → SameLive live now → AreBelow id live
+    → AreBelow id now
 below_alike id live now same below n c at = below n c (same n ∙ at)
 
 below_among : (id : ℕ) (live now : Live) → AreAmong now live → AreBelow id live → AreBelow id now
 below_among id live now among below n c at = let x = among n c at in below n x.0 x.1
 
 -- the clauses have no variable twice
-pub store_once : (i a t : ℕ) (s : ClauseListState) (w : WatchState) → IsSearchStore i a t s w
+pub store_once : {i a t : ℕ} {s : ClauseListState} {w : WatchState} → IsSearchStore i a t s w
     → (id : ℕ) (x : Clause) →
     clause_at (s.clauses ++ live_of w.clauses) id ≡ Some x → HasOnce x
-store_once i a t s w store id x at =
-    elim (value_origin w.vars s.clauses w.clauses store.keeps id x at) [
+store_once store id x at =
+    elim (value_origin store.keeps id x at) [
       | inl single ↦ store.once id x single
       | inr from ↦ subst HasOnce from.3 (store.keeps.simple from.0 from.1).once
     ]
@@ -65,7 +66,7 @@ pub level_zero : (w : WatchState) → IsLeveled w → assigned_in w.clauses w.tr
 level_zero w leveled none = leveled.current ∙ ap level_of none
 
 -- a clause that is attached, under the next id
-module _ (i a t : ℕ) (s : ClauseListState) (w : WatchState) (id : ℕ) (lits order : Clause)
+module _ {i a t id : ℕ} {s : ClauseListState} {w : WatchState} {lits : Clause} (order : Clause)
     (c : ClauseRef) (same : IsPermutation lits order) (behind : c.word ≡ words_in w.clauses)
     (store : IsSearchStore i a t s w) (next : id ≡ suc (i + a)) (simple : IsSimple w.vars lits)
   where
@@ -84,8 +85,8 @@ module _ (i a t : ℕ) (s : ClauseListState) (w : WatchState) (id : ℕ) (lits o
         keeping_added w.vars s.clauses w.clauses entry store.keeps behind
         (simple_permuted w.vars lits order same simple)
         (λ alone d d_is one.
-        let low = attached_below w.vars (suc (i + a)) s.clauses w.clauses d store.keeps store.below
-        d_is in omega (arith, low, one, next))
+        let low = attached_below (suc (i + a)) d store.keeps store.below d_is in
+        omega (arith, low, one, next))
         (λ x at.
         let bad : None ≡ Some x = sym no_single ∙ single_found s.clauses w.clauses id x at in cc)
 
@@ -125,7 +126,7 @@ module _ (i a t : ℕ) (s : ClauseListState) (w : WatchState) (id : ℕ) (lits o
 
 -- A CLAUSE IS LAID ASIDE
 
-module _ (i a t : ℕ) (s : ClauseListState) (w : WatchState) (id : ℕ) (lits : Clause)
+module _ {i a t id : ℕ} {s : ClauseListState} {w : WatchState} (lits : Clause)
     (store : IsSearchStore i a t s w) (next : id ≡ suc (i + a)) (once : HasOnce lits) where
   abbrev pub aside : ClauseListState
   aside = record s { clauses = put s.clauses id lits }
@@ -145,8 +146,8 @@ module _ (i a t : ℕ) (s : ClauseListState) (w : WatchState) (id : ℕ) (lits :
       clause_at (put s.clauses id lits) (id_at w.clauses c)
       ≡ clause_at s.clauses (id_at w.clauses c)
   other c is =
-      let low = attached_below w.vars (suc (i + a)) s.clauses w.clauses c store.keeps store.below is
-      in rw (ne_eqb (id_at w.clauses c) id (omega (arith, low, next))) refl
+      let low = attached_below (suc (i + a)) c store.keeps store.below is in
+      rw (ne_eqb (id_at w.clauses c) id (omega (arith, low, next))) refl
 
   aside_once : (n : ℕ) (x : Clause) (b : Bool) → cond b (Some lits) (clause_at s.clauses n)
       ≡ Some x → HasOnce x
@@ -207,19 +208,26 @@ module _ (i a t : ℕ) (s : ClauseListState) (w : WatchState) (id : ℕ) (lits :
 
 -- A CLAUSE THAT WAS LAID ASIDE IS ATTACHED
 
-pub kept_refl : (i a t : ℕ) (s : ClauseListState) (w : WatchState) → IsSearchStore i a t s w
-    → SameKept (search_value i a s w) (search_value i a s w)
-kept_refl i a t s w store = record {
-  vars = refl;
+-- by other watches of the same clauses
+pub kept_by : {i a t : ℕ} {s : ClauseListState} {w : WatchState} (now : WatchState)
+    → IsSearchStore i a t s w → now.vars ≡ w.vars → now.clauses ≡ w.clauses
+    → SameKept (search_value i a s w) (search_value i a s now)
+kept_by {s} now store vars clauses = record {
+  vars = vars;
   inputs = refl;
   added = refl;
-  among = λ n x at. (x, at, same_itself x);
-  back = λ n x at. (x, at, same_itself x);
-  once = λ n x at. store_once i a t s w store n x at;
+  among = λ n x at. (x, rw clauses at, same_itself x);
+  back = λ n x at. (x, rw clauses at at, same_itself x);
+  once = λ n x at. store_once store n x (rw clauses at at);
 }
 
-pub kept_then : (old mid new : SearchValue) → SameKept old mid → SameKept mid new → SameKept old new
-kept_then old mid new first second = record {
+pub kept_refl : {i a t : ℕ} {s : ClauseListState} {w : WatchState} → IsSearchStore i a t s w
+    → SameKept (search_value i a s w) (search_value i a s w)
+kept_refl {w} store = kept_by w store refl refl
+
+pub kept_then : {old mid new : SearchValue} → SameKept old mid → SameKept mid new
+    → SameKept old new
+kept_then first second = record {
   vars = second.vars ∙ first.vars;
   inputs = second.inputs ∙ first.inputs;
   added = second.added ∙ first.added;
@@ -230,7 +238,7 @@ kept_then old mid new first second = record {
   once = second.once;
 }
 
-module _ (i a t : ℕ) (s : ClauseListState) (w now : WatchState) (id : ℕ) (lits : Clause)
+module _ {i a t id : ℕ} {s : ClauseListState} {w now : WatchState} {lits : Clause}
     (taken : IsTaken w now lits id) (store : IsSearchStore i a t s w) (at : slice_get
     (reverse s.clauses) t ≡ Some (id, lits)) (is : clause_at s.clauses id
     ≡ Some lits) (simple : IsSimple w.vars lits) where
@@ -297,18 +305,18 @@ module _ (i a t : ℕ) (s : ClauseListState) (w now : WatchState) (id : ℕ) (li
     added = refl;
     among = λ n x x_at. (x, sym (taken_alike n) ∙ x_at, same_itself x);
     back = λ n x x_at. (x, taken_alike n ∙ x_at, same_itself x);
-    once = λ n x x_at. store_once i a t s w store n x (taken_alike n ∙ x_at);
+    once = λ n x x_at. store_once store n x (taken_alike n ∙ x_at);
   }
 
 -- A CLAUSE OF ANOTHER SEARCH IS ATTACHED
 
-module _ (i a t : ℕ) (s : ClauseListState) (w now : WatchState) (id : ℕ) (lits : Clause)
+module _ {i a t id : ℕ} {s : ClauseListState} {w now : WatchState} {lits : Clause}
     (taken : IsTaken w now lits id) (store : IsSearchStore i a t s w) (next : id ≡ suc (i + a))
     (simple : IsSimple w.vars lits) where
   pub store_foreign : i + suc a ≤ 4294967295 → IsSearchStore i (suc a) t s now
   store_foreign few =
-      store_attached i a t s w id lits taken.order taken.place taken.same taken.behind store next
-      simple now few taken.clauses taken.vars (inr taken.level) taken.leveled taken.due
+      store_attached taken.order taken.place taken.same taken.behind store next simple now few
+      taken.clauses taken.vars (inr taken.level) taken.leveled taken.due
 
   pub learns_foreign : Learns (search_value i a s w) (search_value i (suc a) s now) lits
   learns_foreign = record {
@@ -320,33 +328,22 @@ module _ (i a t : ℕ) (s : ClauseListState) (w now : WatchState) (id : ℕ) (li
     once = (simple_permuted w.vars lits taken.order taken.same simple).once;
     clauses = λ n.
         ap (λ (j : ℕ). clause_at (put (s.clauses ++ live_of w.clauses) j taken.order) n) (sym next)
-        ∙ attached_alike i a t s w id lits taken.order taken.place taken.same taken.behind store
-        next simple n
+        ∙ attached_alike taken.order taken.place taken.same taken.behind store next simple n
         ∙ ap (λ (ks : List Attached). clause_at (s.clauses ++ live_of ks) n) (sym taken.clauses);
   }
 
 -- the clause of a position, where its literals are simple
-pub single_simple : (i a t : ℕ) (s : ClauseListState) (w : WatchState) (id : ℕ) (lits : Clause)
+pub single_simple : {i a t : ℕ} {s : ClauseListState} {w : WatchState} {lits : Clause} (id : ℕ)
     → IsSearchStore i a t s w → clause_at s.clauses id ≡ Some lits →
     All (IsWithin s.vars) lits → IsSimple w.vars lits
-single_simple i a t s w id lits store is within = record {
+single_simple {lits} id store is within = record {
   within = subst (λ (n : ℕ). All (IsWithin n) lits) store.same_vars within;
   once = store.once id lits is;
 }
 
--- a single clause that is false
-pub single_false : (s : ClauseListState) (w : WatchState) (id : ℕ) (lits : Clause)
-    → clause_at s.clauses id ≡ Some lits → AreFalse w.trail lits →
-    Reads (made_false (assigned_in w.clauses w.trail)) (clause_at
-    (s.clauses ++ live_of w.clauses) id) Conflict
-single_false s w id lits is all =
-    let reads : reading_of (falses w.trail) lits ≡ Conflict =
-    all_conflict (falses w.trail) lits all in
-    rw (single_found s.clauses w.clauses id lits is, falses_in w.clauses w.trail) reads
-
 -- BEHIND DECISIONS
 
-module _ (i a t : ℕ) (s : ClauseListState) (w now : WatchState) (store : IsSearchStore i a t s w)
+module _ {i a t : ℕ} {s : ClauseListState} {w now : WatchState} (store : IsSearchStore i a t s w)
     (goes : GoesOn w now) (waiting : (t ≡ length s.clauses) ⊎ (now.level ≡ 0)) where
   pub store_decided : IsSearchStore i a t s now
   store_decided = record {
@@ -376,7 +373,7 @@ module _ (i a t : ℕ) (s : ClauseListState) (w now : WatchState) (store : IsSea
     added = refl;
     among = among_same w.vars s.clauses w.clauses now.clauses goes.clauses store.keeps;
     back = same_among w.vars s.clauses w.clauses now.clauses goes.clauses store.keeps;
-    once = λ n x at. store_once i a t s now store_decided n x at;
+    once = λ n x at. store_once store_decided n x at;
   }
 
   pub settled_now : t ≡ length s.clauses → IsSettledAt now now.level
@@ -385,79 +382,82 @@ module _ (i a t : ℕ) (s : ClauseListState) (w now : WatchState) (store : IsSea
   settled_now all settled = settled_here s.clauses t now store_decided.keeps
       store_decided.taken_are all store_decided.leveled settled
 
--- AT LEVEL 0 AGAIN
+-- AT A LOWER LEVEL
 
-module _ (i a t : ℕ) (s : ClauseListState) (w : WatchState) (store : IsSearchStore i a t s w) where
-  abbrev dropped : WatchState
-  dropped = record w { trail = upto 0 w.trail; queued = 0; level = 0; due = None }
+module _ {i a t : ℕ} {s : ClauseListState} {w : WatchState} (j : ℕ)
+    (store : IsSearchStore i a t s w) (low : j ≤ w.level) where
+  abbrev lower : WatchState
+  lower = record w { trail = upto j w.trail; queued = 0; level = j; due = None }
 
-  dropped_trail : up_to 0 (assigned_in w.clauses w.trail) ≡ assigned_in w.clauses dropped.trail
-  dropped_trail = up_to_in w.clauses 0 w.trail
+  lower_trail : up_to j (assigned_in w.clauses w.trail) ≡ assigned_in w.clauses lower.trail
+  lower_trail = up_to_in w.clauses j w.trail
 
-  dropped_leveled : IsLeveled dropped
-  dropped_leveled = record {
-    levels = subst AreLevels dropped_trail (levels_back 0 (assigned_in w.clauses w.trail)
+  pub lower_leveled : IsLeveled lower
+  lower_leveled = record {
+    levels = subst AreLevels lower_trail (levels_back j (assigned_in w.clauses w.trail)
         store.leveled.levels);
-    current = sym (level_back 0 (assigned_in w.clauses w.trail) store.leveled.levels (omega arith))
-        ∙ ap level_of dropped_trail;
+    current =
+        sym (level_back j (assigned_in w.clauses w.trail) store.leveled.levels
+        (omega (arith, low, store.leveled.current)))
+        ∙ ap level_of lower_trail;
   }
 
+  pub store_lower : (t ≡ length s.clauses) ⊎ (j ≡ 0) → IsSearchStore i a t s lower
+  store_lower waiting = record {
+    few_ids = store.few_ids;
+    few = store.few;
+    few_vars = store.few_vars;
+    same_vars = store.same_vars;
+    below = store.below;
+    few_taken = store.few_taken;
+    once = store.once;
+    keeps = store.keeps;
+    taken_are = store.taken_are;
+    waiting = waiting;
+    leveled = lower_leveled;
+    none_due = refl;
+  }
+
+  pub kept_lower : SameKept (search_value i a s w) (search_value i a s lower)
+  kept_lower = kept_by lower store refl refl
+
+-- AT LEVEL 0 AGAIN
+
+module _ {i a t : ℕ} {s : ClauseListState} {w : WatchState} (store : IsSearchStore i a t s w) where
   pub store_begun : IsSearchStore i a t s (gone_back 0 w)
   store_begun = by (nat_lt 0 w.level)
     where
-      by : (b : Bool) → IsSearchStore i a t s (if b then dropped else w)
-      by true = record {
-        few_ids = store.few_ids;
-        few = store.few;
-        few_vars = store.few_vars;
-        same_vars = store.same_vars;
-        below = store.below;
-        few_taken = store.few_taken;
-        once = store.once;
-        keeps = store.keeps;
-        taken_are = store.taken_are;
-        waiting = inr refl;
-        leveled = dropped_leveled;
-        none_due = refl;
-      }
+      by : (b : Bool) → IsSearchStore i a t s
+          (if b then record w { trail = upto 0 w.trail; queued = 0; level = 0; due = None } else w)
+      by true = store_lower 0 store (omega arith) (inr refl)
       by false = store
 
   pub kept_begun : SameKept (search_value i a s w) (search_value i a s (gone_back 0 w))
   kept_begun = by (nat_lt 0 w.level)
     where
-      by : (b : Bool) → SameKept (search_value i a s w)
-          (search_value i a s (if b then dropped else w))
-      by true = record {
-        vars = refl;
-        inputs = refl;
-        added = refl;
-        among = λ n x at. (x, at, same_itself x);
-        back = λ n x at. (x, at, same_itself x);
-        once = λ n x at. store_once i a t s w store n x at;
-      }
-      by false = kept_refl i a t s w store
+      by : (b : Bool) → SameKept (search_value i a s w) (search_value i a s
+          (if b then record w { trail = upto 0 w.trail; queued = 0; level = 0; due = None } else w))
+      by true = kept_lower 0 store (omega arith)
+      by false = kept_refl store
 
 -- and the clauses have been propagated there
-module _ (i a t : ℕ) (s : ClauseListState) (w now : WatchState) (store : IsSearchStore i a t s w)
+module _ {i a t : ℕ} {s : ClauseListState} {w now : WatchState} (store : IsSearchStore i a t s w)
     (goes : GoesOn (gone_back 0 w) now) (level : now.level ≡ 0) where
   pub store_settled : IsSearchStore i a t s now
-  store_settled = store_decided i a t s (gone_back 0 w) now (store_begun i a t s w store) goes
-      (inr level)
+  store_settled = store_decided (store_begun store) goes (inr level)
 
   pub kept_settled : SameKept (search_value i a s w) (search_value i a s now)
   kept_settled =
-      kept_then (search_value i a s w) (search_value i a s (gone_back 0 w))
-      (search_value i a s now) (kept_begun i a t s w store)
-      (kept_decided i a t s (gone_back 0 w) now (store_begun i a t s w store) goes (inr level))
+      kept_then (kept_begun store) (kept_decided (store_begun store) goes (inr level))
 
 -- WHAT IS LEARNED
 
 -- a trail by ids is one of settled levels
-pub settled_trail : (i a t : ℕ) (s : ClauseListState) (w : WatchState) → IsSearchStore i a t s w
+pub settled_trail : {i a t : ℕ} {s : ClauseListState} {w : WatchState} → IsSearchStore i a t s w
     → IsOnce w.trail → AreWithin w.vars w.trail →
     HasLevels w.clauses w.level w.trail → IsSettledState w
     → IsSettledTrail (s.clauses ++ live_of w.clauses) w.vars (assigned_in w.clauses w.trail)
-settled_trail i a t s w store once within levels settled = record {
+settled_trail {t} {s} {w} store once within levels settled = record {
   once = rw (lits_in w.clauses w.trail) once;
   within = all_in w.trail within;
   caused = caused_here w.vars w.level s.clauses w.clauses w.trail store.keeps levels once;
@@ -492,4 +492,26 @@ true_values i a s w values many truth settled closed = record {
       (lits_in w.clauses w.trail) closed) l inside
       (subst (λ (set : List Lit). is_among set l ≡ false) (falses_in w.clauses w.trail) not_false))
       (subst (λ (n : ℕ). All (IsWithin n) c) many within) (settled id c at);
+}
+
+-- WITH THE MARKS AND THE VARIABLES
+
+-- it lies so with other watches over as many variables
+pub searching_by : {i a t b u : ℕ} {s : ClauseListState} {w now : WatchState} {marks : MarkState}
+    {before after : OrderState} → IsSearching i a t s w marks before → IsSearchStore i b u s now →
+    IsRanked now.vars now.trail after → IsSearching i b u s now marks after
+searching_by {marks} is store ranked = record {
+  store = store;
+  ready = subst (λ (n : ℕ). IsReady n marks) (sym is.store.same_vars ∙ store.same_vars) is.ready;
+  ranked = ranked;
+}
+
+-- and with other marks, where the same variables are held
+pub searching_held : {i a t : ℕ} {s : ClauseListState} {w : WatchState} {old new : MarkState}
+    {before after : OrderState} → IsSearching i a t s w old before → IsReady w.vars new →
+    SameHeld before after → IsSearching i a t s w new after
+searching_held is ready held = record {
+  store = is.store;
+  ready = ready;
+  ranked = ranked_held held is.ranked;
 }

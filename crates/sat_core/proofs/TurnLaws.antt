@@ -16,27 +16,27 @@ use Rattle.sat_core.proofs.LogLemmas.{added_count-push, added_front, deletions_n
 use Rattle.sat_core.proofs.UnderwayLemmas.{stands_along, stands_next}
 
 -- whatever stands on the trail
-pub follow_along : (taken : ℕ) (old new : SearchValue) (formula : Cnf) (log : List Step) →
+pub follow_along : {taken : ℕ} {old new : SearchValue} {formula : Cnf} {log : List Step} →
     SameKept old new → MayFollow (record { taken = taken; value = old }) formula log →
     MayFollow (record { taken = taken; value = new }) formula log
-follow_along taken old new formula log same follows = record {
+follow_along same follows = record {
   stands = record {
     reached = follows.stands.reached;
-    stands = stands_along old new formula (take taken log) same follows.stands.stands;
+    stands = stands_along same follows.stands.stands;
   };
   none_deleted = follows.none_deleted;
 }
 
-pub may_along : (taken : ℕ) (old new : SearchValue) (formula : Cnf) (log : List Step) →
+pub may_along : {taken : ℕ} {old new : SearchValue} {formula : Cnf} {log : List Step} →
     SameKept old new → MayTurn (record { taken = taken; value = old }) formula log →
     MayTurn (record { taken = taken; value = new }) formula log
-may_along taken old new formula log same may = record {
-  follows = follow_along taken old new formula log same may.follows;
+may_along same may = record {
+  follows = follow_along same may.follows;
   open_log = may.open_log;
   few = may.few;
 }
 
-module _ (search : SearchAt) (formula : Cnf) (log : List Step) (may : MayTurn search formula log)
+module _ {search : SearchAt} {formula : Cnf} {log : List Step} (may : MayTurn search formula log)
     (erase : Bool) (id : ℕ) (clause : Clause) (hints : List ℤ) (is : slice_get log search.taken
     ≡ Some (if erase then Erased id hints else Added id clause hints)) where
   -- the step adds a clause
@@ -72,9 +72,9 @@ module _ (search : SearchAt) (formula : Cnf) (log : List Step) (may : MayTurn se
       omega (arith, most, one, may.few, stands.inputs, stands.added)
 
   -- the step is taken
-  pub may_next : (new : SearchValue) → Learns search.value new clause →
+  pub may_next : {new : SearchValue} → Learns search.value new clause →
       MayTurn (record { taken = suc search.taken; value = new }) formula log
-  may_next new learns =
+  may_next {new} learns =
       let next : id ≡ suc (search.value.inputs + search.value.added) =
       (let at = step_id (suc (length formula.clauses)) search.taken log id clause hints
       may.open_log.numbered step_adds in
@@ -84,8 +84,7 @@ module _ (search : SearchAt) (formula : Cnf) (log : List Step) (may : MayTurn se
           stands = record {
             reached = slice_get_within log search.taken (Added id clause hints) step_adds;
             stands = subst (StandsFor new formula) (sym front)
-                (stands_next search.value new formula (take search.taken log) id clause hints
-                may.follows.stands.stands next learns);
+                (stands_next hints may.follows.stands.stands next learns);
           };
           none_deleted = let fewer = deletions_next search.taken log in
               omega (arith, fewer, may.follows.none_deleted);

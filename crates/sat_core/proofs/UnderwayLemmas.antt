@@ -31,9 +31,9 @@ use Rattle.sat_core.proofs.LogLemmas.{added_count-push, added_from_push, deletio
 -- WHAT A SEARCH STANDS FOR
 
 -- whatever stands on the trail, and in whatever orders the literals
-pub stands_along : (old new : SearchValue) (formula : Cnf) (log : List Step) → SameKept old new →
+pub stands_along : {old new : SearchValue} {formula : Cnf} {log : List Step} → SameKept old new →
     StandsFor old formula log → StandsFor new formula log
-stands_along old new formula log same stands = record {
+stands_along {old} {new} {formula} {log} same stands = record {
   vars = same.vars ∙ stands.vars;
   inputs = same.inputs ∙ stands.inputs;
   added = same.added ∙ stands.added;
@@ -43,11 +43,11 @@ stands_along old new formula log same stands = record {
 }
 
 -- with the clause of one more step
-pub stands_next : (search new : SearchValue) (formula : Cnf) (log : List Step) (id : ℕ)
-    (clause : Clause) (hints : List ℤ) → StandsFor search formula log →
+pub stands_next : {search new : SearchValue} {formula : Cnf} {log : List Step} {id : ℕ}
+    {clause : Clause} (hints : List ℤ) → StandsFor search formula log →
     id ≡ suc (search.inputs + search.added) → Learns search new clause →
     StandsFor new formula (log ++ Added id clause hints ∷ [])
-stands_next search new formula log id clause hints stands is learns =
+stands_next {search} {new} {formula} {log} {id} {clause} hints stands is learns =
     let live : Live = live_after formula log in
     let order : Clause = learns.order in
     let are : AreKept (put search.clauses id order) (put live id clause) =
@@ -65,9 +65,9 @@ stands_next search new formula log id clause hints stands is learns =
     }
 
 -- behind all steps
-pub follow_end : (value : SearchValue) (formula : Cnf) (log : List Step) →
+pub follow_end : {value : SearchValue} {formula : Cnf} {log : List Step} →
     StandsFor value formula log → MayFollow (at_end value log) formula log
-follow_end value formula log stands = record {
+follow_end {value} {formula} {log} stands = record {
   stands = record {
     reached = omega arith;
     stands = subst (StandsFor value formula) (sym (take-length log)) stands;
@@ -82,10 +82,10 @@ stands_all search formula log stands all =
     stands.stands
 
 -- another search beside, with one more step
-pub follow_next : (other : SearchAt) (formula : Cnf) (log now : List Step) (id : ℕ)
+pub follow_next : {other : SearchAt} {formula : Cnf} {log now : List Step} (id : ℕ)
     (clause : Clause) (hints : List ℤ) → now ≡ log ++ Added id clause hints ∷ [] →
     MayFollow other formula log → MayFollow other formula now
-follow_next other formula log now id clause hints step follows =
+follow_next {other} {formula} {log} id clause hints step follows =
     let last : List Step = Added id clause hints ∷ [] in
     let reached = follows.stands.reached in
     let front : take other.taken (log ++ last) ≡ take other.taken log =
@@ -103,16 +103,16 @@ follow_next other formula log now id clause hints step follows =
 
 -- A TURN
 
-module _ (search : SearchValue) (formula : Cnf) (log : List Step)
+module _ {search : SearchValue} {formula : Cnf} {log : List Step}
     (stands : StandsFor search formula log) (open_log : IsOpenLog formula log) where
   -- the next id, by what the search knows
   pub next_is : suc (search.inputs + search.added) ≡ next_id formula log
   next_is = omega (arith, stands.inputs, stands.added)
 
-  pub turn_adds : (id : ℕ) (clause : Clause) (hints : List ℤ) (back : ℕ) (now : List Step) →
+  pub turn_adds : {id back : ℕ} {clause : Clause} {hints : List ℤ} {now : List Step} →
       id ≡ suc (search.inputs + search.added) → IsLesson search clause hints back →
       now ≡ log ++ Added id clause hints ∷ [] → AddsRelevant formula log now clause
-  turn_adds id clause hints back now is lesson step = record {
+  turn_adds {clause} {hints} is lesson step = record {
     hints = hints;
     step = step ∙ ap (λ (n : ℕ). log ++ Added n clause hints ∷ []) (is ∙ next_is);
     good = rup_kept search.clauses (live_after formula log) stands.clauses.are_live clause hints
@@ -144,12 +144,12 @@ module _ (search : SearchValue) (formula : Cnf) (log : List Step)
       }
 
   -- one more learned clause
-  pub turn_learned : (new : SearchValue) (id : ℕ) (clause : Clause) (hints : List ℤ) (back : ℕ)
-      (now : List Step) → id ≡ suc (search.inputs + search.added) →
+  pub turn_learned : {new : SearchValue} {id back : ℕ} {clause : Clause} {hints : List ℤ}
+      {now : List Step} → id ≡ suc (search.inputs + search.added) →
       IsLesson search clause hints back → clause ≢ [] → Learns search new clause →
       now ≡ log ++ Added id clause hints ∷ [] → HasLearned (at_end new now) formula log now
-  turn_learned new id clause hints back now is lesson some learns step =
-      let adds = turn_adds id clause hints back now is lesson step in
+  turn_learned {new} {id} {back} {clause} {hints} {now} is lesson some learns step =
+      let adds = turn_adds is lesson step in
       let opens : IsOpenLog formula now = subst (IsOpenLog formula) (sym step)
       (open_next id clause hints back (is ∙ next_is) lesson some
       (rup_kept search.clauses (live_after formula log) stands.clauses.are_live clause hints
@@ -160,20 +160,20 @@ module _ (search : SearchValue) (formula : Cnf) (log : List Step)
         adds = adds;
         good = good_so_far 1 (inputs formula) now opens.good;
         open_log = opens;
-        follows = follow_end new formula now (subst (StandsFor new formula) (sym step)
-            (stands_next search new formula log id clause hints stands is learns));
+        follows = follow_end (subst (StandsFor new formula) (sym step)
+            (stands_next hints stands is learns));
         all_taken = refl;
         others = λ other follows.
-            follow_next other formula log now id clause hints step follows;
+            follow_next id clause hints step follows;
       }
 
   -- the empty clause
-  pub turn_refuted : (id : ℕ) (clause : Clause) (hints : List ℤ) (back : ℕ) (now : List Step) →
+  pub turn_refuted : {id back : ℕ} {clause : Clause} {hints : List ℤ} {now : List Step} →
       id ≡ suc (search.inputs + search.added) → IsLesson search clause hints back → clause ≡ [] →
       now ≡ log ++ Added id clause hints ∷ [] → HasRefuted formula log now
-  turn_refuted id clause hints back now is lesson none step =
+  turn_refuted {now} is lesson none step =
       let adds : AddsRelevant formula log now [] = subst (AddsRelevant formula log now) none
-      (turn_adds id clause hints back now is lesson step) in
+      (turn_adds is lesson step) in
       let last = Added (next_id formula log) [] adds.hints in
       let good : AreGood (inputs formula) (log ++ last ∷ []) = good_behind (inputs formula) log
       (last ∷ []) open_log.good (adds.good, tt) in
@@ -184,61 +184,42 @@ module _ (search : SearchValue) (formula : Cnf) (log : List Step)
       }
 
   -- values that make the kept clauses true satisfy the formula
-  pub turn_model : (values : List Bool) → All (All (IsWithin formula.vars)) formula.clauses →
+  pub turn_model : {values : List Bool} → All (All (IsWithin formula.vars)) formula.clauses →
       AreTrue search values → HasModel (at_end search log) formula log log values
-  turn_model values within are = record {
+  turn_model {values} within are = record {
     satisfies =
         model_kept search.clauses (live_after formula log) stands.clauses formula values
         (are.many ∙ stands.vars) within
         (inputs_live formula log open_log.numbered open_log.spares) are.each;
     same = refl;
-    follows = follow_end search formula log stands;
+    follows = follow_end stands;
     all_taken = refl;
   }
 
--- with an id left, another turn may come behind a learned clause
-pub may_learned : (search : SearchAt) (formula : Cnf) (log now : List Step) →
-    HasLearned search formula log now → next_id formula log < 4294967295 →
-    MayTurn search formula now × (added_count now ≡ suc (added_count log))
-may_learned search formula log now learned few =
-    let adds = learned.adds in
-    let more : added_count now ≡ suc (added_count log) = ap added_count adds.step
-    ∙ added_count-push log (next_id formula log) learned.clause adds.hints in (
-      record {
-        follows = learned.follows;
-        open_log = learned.open_log;
-        few = omega (arith, few, more);
-      },
-      more,
-    )
-
 -- A DELETION
 
-none_added_forgot : (old new : SearchValue) (log now : List Step) → HasForgotten old new log now →
+none_added_forgot : {old new : SearchValue} {log now : List Step} → HasForgotten old new log now →
     added_count now ≡ added_count log
-none_added_forgot old new log now forgot =
+none_added_forgot {old} {log} forgot =
     ap added_count forgot.step ∙ added_count-erase log (old.inputs + old.added) forgot.ids
 
-module _ (search : SearchAt) (formula : Cnf) (log : List Step)
-    (before : StandsFor search.value formula log) (new : SearchValue) (now : List Step)
-    (forgot : HasForgotten search.value new log now) where
+module _ {value new : SearchValue} {formula : Cnf} {log now : List Step}
+    (before : StandsFor value formula log) (forgot : HasForgotten value new log now) where
   abbrev own : ℕ
-  own = search.value.inputs + search.value.added
+  own = value.inputs + value.added
 
   stands_settled : StandsFor forgot.settled formula log
-  stands_settled =
-      stands_along search.value forgot.settled formula log forgot.same before
+  stands_settled = stands_along forgot.same before
 
   pub follow_forgot : MayFollow (at_end new now) formula now
   follow_forgot =
       subst (λ (l : List Step). MayFollow (at_end new l) formula l) (sym forgot.step)
-      (follow_end new formula (log ++ Erased own forgot.ids ∷ [])
-      (stands_erased forgot.settled new formula log own forgot.ids stands_settled forgot.forgets))
+      (follow_end (stands_erased own stands_settled forgot.forgets))
 
   pub open_forgot : IsOpenLog formula log → IsOpenLog formula now
   open_forgot is =
       subst (IsOpenLog formula) (sym forgot.step)
-      (open_erased forgot.settled new formula log own forgot.ids stands_settled forgot.forgets is)
+      (open_erased own stands_settled forgot.forgets is)
 
 -- a search that has taken all steps forgets clauses at any time, or does not
 module _ (search : SearchAt) (log : List Step) (all : search.taken ≡ length log)
@@ -254,30 +235,28 @@ module _ (search : SearchAt) (log : List Step) (all : search.taken ≡ length lo
       let before = stands_all search formula log may.follows.stands all in
       let follows : MayFollow new formula now =
       subst (λ (n : ℕ). MayFollow (record { taken = n; value = new.value }) formula now)
-      (sym all_now) (follow_forgot search formula log before new.value now forgot) in
+      (sym all_now) (follow_forgot before forgot) in
       record {
         follows = follows;
         open_log =
-            open_forgot search formula log before new.value now forgot may.open_log;
+            open_forgot before forgot may.open_log;
         few = subst (λ (n : ℕ). suc (length formula.clauses + n) ≤ 4294967295)
-            (sym (none_added_forgot search.value new.value log now forgot)) may.few;
+            (sym (none_added_forgot forgot)) may.few;
       })
       (λ is_not.
       let kept = same_log is_not in
       subst (MayTurn new formula) (sym kept) (record {
         follows = subst (λ (n : ℕ). MayFollow (record { taken = n; value = new.value }) formula log)
             (sym (all_now ∙ ap length kept))
-            (follow_end new.value formula log
-            (stands_along search.value new.value formula log (same is_not)
-            (stands_all search formula log may.follows.stands all)));
+            (follow_end
+            (stands_along (same is_not) (stands_all search formula log may.follows.stands all)));
         open_log = may.open_log;
         few = may.few;
       }))
 
   pub none_added_after : added_count now ≡ added_count log
   none_added_after = whether result
-      (λ is_so. none_added_forgot search.value new.value log now (forgotten is_so))
-      (λ is_not. ap added_count (same_log is_not))
+      (λ is_so. none_added_forgot (forgotten is_so)) (λ is_not. ap added_count (same_log is_not))
 
 -- UNDER WAY
 
@@ -305,13 +284,13 @@ underway_start search formula stands none = record {
 }
 
 -- whatever stands on the trail
-pub underway_along : (search new : SearchAt) (formula : Cnf) (log : List Step) →
+pub underway_along : {search new : SearchAt} {formula : Cnf} {log : List Step} →
     SameKept search.value new.value → new.taken ≡ length log → IsUnderway search formula log →
     IsUnderway new formula log
-underway_along search new formula log same all on = record {
+underway_along {search} {new} {formula} {log} same all on = record {
   stands = record {
     reached = omega (arith, all);
-    stands = stands_along search.value new.value formula (take new.taken log) same
+    stands = stands_along same
         (subst (λ (k : ℕ). StandsFor search.value formula (take k log)) (on.all_taken ∙ sym all)
         on.stands.stands);
   };
@@ -322,7 +301,7 @@ underway_along search new formula log same all on = record {
   sparse = on.sparse;
 }
 
-module _ (search : SearchAt) (formula : Cnf) (log : List Step)
+module _ {search : SearchAt} {formula : Cnf} {log : List Step}
     (on : IsUnderway search formula log) where
   pub underway_may : next_id formula log ≤ 4294967295 → MayTurn search formula log
   underway_may few = record {
@@ -335,9 +314,9 @@ module _ (search : SearchAt) (formula : Cnf) (log : List Step)
   }
 
   -- one more learned clause
-  pub underway_next : (new : SearchAt) (now : List Step) → HasLearned new formula log now →
+  pub underway_next : {new : SearchAt} {now : List Step} → HasLearned new formula log now →
       IsUnderway new formula now × (added_count now ≡ suc (added_count log))
-  underway_next new now learned =
+  underway_next learned =
       let adds = learned.adds in
       let id : ℕ = next_id formula log in
       let clause : Clause = learned.clause in
@@ -360,23 +339,22 @@ module _ (search : SearchAt) (formula : Cnf) (log : List Step)
       )
 
   -- learned clauses are forgotten when the log may have another deletion
-  pub underway_forgot : (new : SearchValue) (now : List Step) (d : DeletionState) →
+  pub underway_forgot : {new : SearchValue} {now : List Step} {d : DeletionState} →
       AreDeletions log d → d.added + 1000 * suc d.count ≤ search.value.added →
       HasForgotten search.value new log now →
       IsUnderway (at_end new now) formula now
       × AreDeletions now (record { count = suc d.count; added = search.value.added })
       × (added_count now ≡ added_count log)
-  underway_forgot new now d are due forgot =
+  underway_forgot {new} {now} {d} are due forgot =
       let before = stands_all search formula log on.stands on.all_taken in
-      let stands : StandsFor forgot.settled formula log =
-      stands_along search.value forgot.settled formula log forgot.same before in
+      let stands = stands_along forgot.same before in
       let m : ℕ = length formula.clauses in
       let own : ℕ = search.value.inputs + search.value.added in
       let ids : List ℤ = forgot.ids in
       let more : List Step = log ++ Erased own ids ∷ [] in
       let late : 1000 * suc (deletions log) ≤ added_since 0 log =
       omega (arith, are.count, are.added, due, before.added) in
-      let follows = follow_forgot search formula log before new now forgot in
+      let follows = follow_forgot before forgot in
       let numbered : AreNumbered (suc m) more = numbered_erase (suc m) own log ids on.numbered
       (omega (arith, due)) (omega (arith, before.inputs, before.added)) in
       let then : AreDeletions more (record { count = suc d.count; added = search.value.added }) =
@@ -385,24 +363,23 @@ module _ (search : SearchAt) (formula : Cnf) (log : List Step)
         record {
           stands = follows.stands;
           all_taken = refl;
-          open_log = open_forgot search formula log before new now forgot on.open_log;
+          open_log = open_forgot before forgot on.open_log;
           numbered = subst (AreNumbered (suc m)) (sym forgot.step) numbered;
           relevant = subst (Relevant formula) (sym forgot.step)
               (each_added_erase IsRelevant formula log own ids on.relevant);
           sparse = subst Sparse (sym forgot.step)
-              (sparse_erased forgot.settled new formula log own ids stands forgot.forgets
-              on.sparse late);
+              (sparse_erased own stands forgot.forgets on.sparse late);
         },
         subst (λ (l : List Step).
             AreDeletions l (record { count = suc d.count; added = search.value.added }))
             (sym forgot.step) then,
-        none_added_forgot search.value new log now forgot,
+        none_added_forgot forgot,
       )
 
-  pub searched : (budget : ℕ) (keep : Bool) (result : Result Answer AllocError) →
+  pub searched : {budget : ℕ} {keep : Bool} {result : Result Answer AllocError} →
       added_count log ≤ budget → (IsTrue keep → deletions log ≡ 0) →
       IfOk result (IsAnswer formula budget log) → HasSearched formula budget keep log result
-  searched budget keep result few kept answer = record {
+  searched few kept answer = record {
     answer = answer;
     logged = record {
       good = good_so_far 1 (inputs formula) log on.open_log.good;
@@ -417,13 +394,13 @@ module _ (search : SearchAt) (formula : Cnf) (log : List Step)
     kept = kept;
   }
 
-  pub spent : (budget : ℕ) → added_count log ≡ budget → SpendsAll budget log
-  spent budget many = record { all = many; none_empty = on.open_log.none_empty }
+  pub spent : {budget : ℕ} → added_count log ≡ budget → SpendsAll budget log
+  spent many = record { all = many; none_empty = on.open_log.none_empty }
 
-  pub refuted : (budget : ℕ) (keep : Bool) (now : List Step) → added_count log < budget →
+  pub refuted : {budget : ℕ} {keep : Bool} {now : List Step} → added_count log < budget →
       (IsTrue keep → deletions log ≡ 0) → HasRefuted formula log now →
       HasSearched formula budget keep now (Ok Refuted)
-  refuted budget keep now few kept done =
+  refuted {budget} {keep} few kept done =
       let id : ℕ = next_id formula log in
       let hints : List ℤ = done.adds.hints in
       let more : List Step = log ++ Added id [] hints ∷ [] in
@@ -456,10 +433,10 @@ module _ (search : SearchAt) (formula : Cnf) (log : List Step)
       })
 
 -- a learned clause deletes nothing
-pub tracked_next : (search : SearchAt) (formula : Cnf) (log now : List Step) (d : DeletionState) →
+pub tracked_next : {search : SearchAt} {formula : Cnf} {log now : List Step} {d : DeletionState} →
     AreDeletions log d → HasLearned search formula log now →
     AreDeletions now d × (deletions now ≡ deletions log)
-tracked_next search formula log now d are learned =
+tracked_next {formula} {log} {d} are learned =
     let adds = learned.adds in
     let id : ℕ = next_id formula log in (
       subst (λ (l : List Step). AreDeletions l d) (sym adds.step)

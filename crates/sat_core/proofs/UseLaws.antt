@@ -15,7 +15,7 @@ use Rattle.sat_core.proofs.MarksLaws.{mark_cases, mark_stays}
 use Rattle.sat_watch.proofs.PlaceLemmas.{place_entry}
 use Rattle.sat_core.proofs.TrailPlaces.{at_within, later_current, later_reason, level_one, level_rises, reason_below}
 
-module _ (w : WatchState) (p : ℕ) (old new : MarkState) (uses : Uses w p old new) where
+module _ {w : WatchState} {p : ℕ} {old new : MarkState} (uses : Uses w p old new) where
   between : MarkState
   between = uses.between
 
@@ -58,10 +58,10 @@ module _ (w : WatchState) (p : ℕ) (old new : MarkState) (uses : Uses w p old n
     ],
   )
 
-  pub analysis_uses : (conflict : Clause) → IsMet old p → HasReason w.trail p →
+  pub analysis_uses : {conflict : Clause} → IsMet old p → HasReason w.trail p →
       (1 ≤ w.level → HasLevel w.trail w.level p → IsNoPoint w conflict old p) →
       IsAnalysis w conflict old → IsAnalysis w conflict new
-  analysis_uses conflict met reason no_point a = record {
+  analysis_uses {conflict} met reason no_point a = record {
     size = omega (arith, a.size, uses_size);
     begun = λ q is. uses_met q (a.begun q is);
     whole = λ r q used is. elim (uses_cases r used) [
@@ -93,18 +93,19 @@ module _ (w : WatchState) (p : ℕ) (old new : MarkState) (uses : Uses w p old n
 
 -- THE WAY DOWN
 
-module _ (w : WatchState) (levels : HasLevels w.clauses w.level w.trail) (once : IsOnce w.trail)
-    (within : AreWithin w.vars w.trail) (place least : ℕ) (old : MarkState)
-    (walk : IsWalk w old place least) (below : least < place) (lt : place < length w.trail) where
+module _ {w : WatchState} {place least : ℕ} {old : MarkState}
+    (levels : HasLevels w.clauses w.level w.trail) (once : IsOnce w.trail)
+    (within : AreWithin w.vars w.trail) (walk : IsWalk w old place least) (below : least < place)
+    (lt : place < length w.trail) where
   pub pass_reason : HasReason w.trail place
   pass_reason = later_reason w levels once least place walk.current below lt
 
   pub pass_current : HasLevel w.trail w.level place
   pass_current = later_current w levels once least place walk.current (omega (arith, below)) lt
 
-  pub pass_no_point : (conflict : Clause) → IsAnalysis w conflict old →
+  pub pass_no_point : {conflict : Clause} → IsAnalysis w conflict old →
       IsNoPoint w conflict old place
-  pass_no_point conflict a = (
+  pass_no_point a = (
     least,
     below,
     walk.current,
@@ -128,31 +129,30 @@ module _ (w : WatchState) (levels : HasLevels w.clauses w.level w.trail) (once :
   }
 
   -- one whose reason is used
-  pub walk_on : (new : MarkState) (now : ℕ) → Uses w place old new →
+  pub walk_on : {new : MarkState} {now : ℕ} → Uses w place old new →
       IsLeast w.trail w.level (IsReasonPlace w place) least now →
       IsWalk w new (place - 1) now
-  walk_on new now uses lower = record {
+  walk_on {new} {now} uses lower = record {
     met = elim lower.is [
-      | inl same ↦ subst (IsMet new) (sym same) (uses_met w place old new uses least walk.met)
-      | inr found ↦ uses_reason w place old new uses now found.0
+      | inl same ↦ subst (IsMet new) (sym same) (uses_met uses least walk.met)
+      | inr found ↦ uses_reason uses now found.0
     ];
     current = elim lower.is [
       | inl same ↦ subst (HasLevel w.trail w.level) (sym same) walk.current
       | inr found ↦ found.1
     ];
-    lowest = λ p is current. elim (uses_only w place old new uses p is) [
+    lowest = λ p is current. elim (uses_only uses p is) [
       | inl before ↦ (let low = walk.lowest p before current in omega (arith, low, lower.down))
       | inr from ↦ lower.lowest p from current
     ];
-    above = λ p is. elim (uses_cases w place old new uses p is) [
+    above = λ p is. elim (uses_cases uses p is) [
       | inl before ↦ (let up = walk.above p before in omega (arith, up))
       | inr here ↦ omega (arith, here, below)
     ];
     passed = λ p up is current. elim (cases_eq p place) [
       | inl same ↦ subst (IsUsed new) (sym same) uses.here
-      | inr other ↦ elim (uses_only w place old new uses p is) [
-        | inl before ↦ uses_used w place old new uses p
-            (walk.passed p (omega (arith, up, other)) before current)
+      | inr other ↦ elim (uses_only uses p is) [
+        | inl before ↦ uses_used uses p (walk.passed p (omega (arith, up, other)) before current)
         | inr from ↦ (let down = reason_below w levels once within place p from in
             absurd (omega (arith, up, down, other)))
       ]
@@ -171,34 +171,27 @@ walk_ends w s least walk = record {
       walk.passed p (omega (arith, low, other)) is current;
 }
 
--- where it begins
-pub walk_starts : (w : WatchState) (s : MarkState) (least : ℕ) → IsMet s least →
-    HasLevel w.trail w.level least →
-    ((p : ℕ) → IsMet s p → HasLevel w.trail w.level p → least ≤ p) → AreOn w.trail s →
-    ((p : ℕ) → IsUsed s p → ⊥) →
-    IsWalk w s (length w.trail - 1) least
-walk_starts w s least met current lowest inside none = record {
-  met = met;
-  current = current;
-  lowest = lowest;
-  above = λ p is. absurd (none p is);
-  passed = λ p up is current. let lt = inside p is in absurd (omega (arith, up, lt));
-}
-
 -- AT A LOWER LEVEL
 
-module _ (w : WatchState) (levels : HasLevels w.clauses w.level w.trail) (once : IsOnce w.trail)
-    (within : AreWithin w.vars w.trail) (p n : ℕ) (lower : HasLevel w.trail n p)
-    (reason : HasReason w.trail p) (low : 1 ≤ w.level → n < w.level)
-    (old new : MarkState) (met : IsMet old p) (uses : Uses w p old new) where
+-- the entry at the place has a reason, and is of a level below the current one
+pub record IsLow (w : WatchState) (p : ℕ) : Type 0 where
+  pub level : ℕ
+  pub here : HasLevel w.trail level p
+  pub reason : HasReason w.trail p
+  pub under : 1 ≤ w.level → level < w.level
+
+module _ {w : WatchState} {p : ℕ} {old new : MarkState}
+    (levels : HasLevels w.clauses w.level w.trail) (once : IsOnce w.trail)
+    (within : AreWithin w.vars w.trail) (low : IsLow w p) (met : IsMet old p)
+    (uses : Uses w p old new) where
   pub lower_kept : (conflict : Clause) → IsAnalysis w conflict old → IsAnalysis w conflict new
   lower_kept conflict a =
-      analysis_uses w p old new uses conflict met reason
-      (λ some current. let same = level_one w.trail n w.level p lower current in
-      let under = low some in absurd (omega (arith, under, same))) a
+      analysis_uses uses met low.reason
+      (λ some current. let same = level_one w.trail low.level w.level p low.here current in
+      let under = low.under some in absurd (omega (arith, under, same))) a
 
   pub lower_on : AreOn w.trail old → AreOn w.trail new
-  lower_on on q is = elim (uses_only w p old new uses q is) [
+  lower_on on q is = elim (uses_only uses q is) [
     | inl before ↦ on q before
     | inr from ↦ (let below = reason_below w levels once within p q from in
         let lt = on p met in omega (arith, below, lt))
@@ -208,23 +201,23 @@ module _ (w : WatchState) (levels : HasLevels w.clauses w.level w.trail) (once :
   lower_below : (q : ℕ) → IsReasonPlace w p q → 1 ≤ w.level → HasLevel w.trail w.level q → ⊥
   lower_below q from some (f, at, is) =
       let below = reason_below w levels once within p q from in
-      let rise = level_rises w.clauses w.level w.trail q p f lower.0 levels
-      (omega (arith, below)) at lower.1 in
-      let under = low some in
-      omega (arith, rise, under, is, lower.2)
+      let rise = level_rises w.clauses w.level w.trail q p f low.here.0 levels
+      (omega (arith, below)) at low.here.1 in
+      let under = low.under some in
+      omega (arith, rise, under, is, low.here.2)
 
   pub lower_point : (point : ℕ) → 1 ≤ w.level → IsPoint w old point → IsPoint w new point
   lower_point point some is = record {
-    met = uses_met w p old new uses point is.met;
+    met = uses_met uses point is.met;
     current = is.current;
-    kept = λ used. elim (uses_cases w p old new uses point used) [
+    kept = λ used. elim (uses_cases uses point used) [
       | inl before ↦ is.kept before
-      | inr here ↦ (let same = level_one w.trail n w.level p lower
+      | inr here ↦ (let same = level_one w.trail low.level w.level p low.here
           (subst (HasLevel w.trail w.level) here is.current) in
-          let under = low some in omega (arith, under, same))
+          let under = low.under some in omega (arith, under, same))
     ];
-    others = λ q q_met current other. elim (uses_only w p old new uses q q_met) [
-      | inl before ↦ uses_used w p old new uses q (is.others q before current other)
+    others = λ q q_met current other. elim (uses_only uses q q_met) [
+      | inl before ↦ uses_used uses q (is.others q before current other)
       | inr from ↦ absurd (lower_below q from some current)
     ];
   }
@@ -250,9 +243,9 @@ module _ (w : WatchState) (i p : ℕ) (old : MarkState) (at : slice_get old.plac
 
 -- THE BEGINNING
 
-pub analysis_on : (w : WatchState) (conflict : Clause) (s : MarkState) → IsAnalysis w conflict s →
+pub analysis_on : {w : WatchState} {conflict : Clause} {s : MarkState} → IsAnalysis w conflict s →
     AreOn w.trail s
-analysis_on w conflict s a place is = elim (a.sources place is) [
+analysis_on {w} {conflict} a place is = elim (a.sources place is) [
   | inl here ↦ on conflict here
   | inr from ↦ on (reason_lits w.clauses (from.2.0).reason) from.2.2
 ]
@@ -261,7 +254,7 @@ analysis_on w conflict s a place is = elim (a.sources place is) [
     on lits (l, has, false_is, at) =
         let e = place_entry w.trail l place at in at_within w.trail place e.0 e.1
 
-module _ (w : WatchState) (conflict : Clause) (old new : MarkState) (clean : IsClean old)
+module _ {old new : MarkState} (w : WatchState) (conflict : Clause) (clean : IsClean old)
     (meets : Meets (IsFalsePlace w.trail conflict) old new) where
   pub none_used : (p : ℕ) → IsUsed new p → ⊥
   none_used p is = both_ways _ (clean.none_used p)
@@ -285,7 +278,7 @@ module _ (w : WatchState) (conflict : Clause) (old new : MarkState) (clean : IsC
   }
 
   -- the least place of the current level, where there is one
-  module _ (least : ℕ) (lower : IsLeast w.trail w.level (IsFalsePlace w.trail conflict)
+  module _ {least : ℕ} (lower : IsLeast w.trail w.level (IsFalsePlace w.trail conflict)
       (length w.trail) least) (p : ℕ) (from : IsFalsePlace w.trail conflict p)
       (current : HasLevel w.trail w.level p) where
     least_found : IsFalsePlace w.trail conflict least × HasLevel w.trail w.level least

@@ -8,19 +8,19 @@ use Rattle.std.proofs.lemmas.List.{append_assoc, length-reverse, map-append}
 use Rattle.std.proofs.lemmas.List.Elements.{All-contains_itself, All-weaker}
 use Rattle.std.proofs.lemmas.Option.{slice_get_within}
 use Rattle.sat_clause.specs.declared.literal.Lit.{Lit}
-use Rattle.sat_clause.specs.declared.reading.Reading.TheVariants.{Conflict, Unit}
+use Rattle.sat_clause.specs.declared.reading.Reading.TheVariants.{Unit}
 use Rattle.sat_clause.specs.Learned.{SameLiterals}
 use Rattle.sat_clause.specs.Literal.{Clause, lit, negation}
 use Rattle.sat_clause.specs.Live.{Live, clause_at, put}
-use Rattle.sat_clause.specs.Rup.{Reads, reading_of}
+use Rattle.sat_clause.specs.Rup.{reading_of}
 use Rattle.sat_clause.specs.Settled.{IsQuiet}
-use Rattle.sat_clause.proofs.ReadingLaws.{IsFalseOr, all_conflict, open_is_unit}
+use Rattle.sat_clause.proofs.ReadingLaws.{IsFalseOr, open_is_unit}
 use Rattle.sat_clause.proofs.TrailLaws.{open_not_false, open_not_true}
 use Rattle.sat_arena.specs.declared.clause_ref.ClauseRef.{ClauseRef}
 use Rattle.sat_watch.specs.declared.entry.TrailEntry.{TrailEntry}
 use Rattle.sat_watch.specs.Levels.{upto}
 use Rattle.sat_watch.specs.Trail.{IsOnce, falses, lits_of as watch_lits}
-use Rattle.sat_watch.specs.Watched.{AreFalse, IsReason}
+use Rattle.sat_watch.specs.Watched.{IsReason}
 use Rattle.sat_watch.specs.Watches.{Attached, HasCause, HasLevels, IsSettledAt, SameClauses, WatchState, id_at, is_attached, lits_at}
 use Rattle.sat_core.specs.Kept.{AreAmong, SameLive}
 use Rattle.sat_core.specs.Levels.{AreCaused, AreSettled, Assigned, HasCause as HasCauseById, IsSettledAt as IsSettledAtById, lits_of, made_false, up_to}
@@ -28,7 +28,7 @@ use Rattle.sat_core.specs.SearchStore.{AreTaken, IsKeeping, IsLeveled, assigned,
 use Rattle.sat_core.proofs.AttachedLaws.{found, origin, same_permuted, simple_permuted}
 use Rattle.sat_core.proofs.LevelLaws.{up_to_current}
 use Rattle.sat_core.proofs.ListLaws.{position_of}
-use Rattle.sat_core.proofs.SameLaws.{same_back, same_conflict, same_itself, same_quiet, same_then, same_unit}
+use Rattle.sat_core.proofs.SameLaws.{same_back, same_itself, same_quiet, same_then, same_unit}
 
 -- THE TRAIL
 
@@ -109,12 +109,12 @@ pub single_found : (singles : Live) (ks : List Attached) (id : ℕ) (x : Clause)
 single_found singles ks id x at = append_some singles (live_of ks) id x at
 
 -- what stands under an id
-pub value_origin : (vars : ℕ) (singles : Live) (ks : List Attached) → IsKeeping vars singles ks
+pub value_origin : {vars : ℕ} {singles : Live} {ks : List Attached} → IsKeeping vars singles ks
     → (id : ℕ) (x : Clause) →
     clause_at (singles ++ live_of ks) id ≡ Some x →
     (clause_at singles id ≡ Some x) ⊎ ((c : ClauseRef) × (is_attached ks c ≡ true) × (id_at ks c
     ≡ id) × (lits_at ks c ≡ x))
-value_origin vars singles ks keeps id x at = by (clause_at singles id) refl
+value_origin {singles} {ks} keeps id x at = by (clause_at singles id) refl
   where
     by : (o : Option Clause) → clause_at singles id ≡ o →
         (clause_at singles id ≡ Some x) ⊎ ((c : ClauseRef) × (is_attached ks c ≡ true) × (id_at ks c
@@ -124,11 +124,11 @@ value_origin vars singles ks keeps id x at = by (clause_at singles id) refl
     by (Some y) some = inl (some ∙ sym (append_some singles (live_of ks) id y some) ∙ at)
 
 -- an attached clause is found by its id, as a set of literals
-pub value_found : (vars : ℕ) (singles : Live) (ks : List Attached) → IsKeeping vars singles ks
+pub value_found : {vars : ℕ} {singles : Live} {ks : List Attached} → IsKeeping vars singles ks
     → (c : ClauseRef) → is_attached ks c ≡ true →
     (x : Clause) × (clause_at (singles ++ live_of ks) (id_at ks c)
     ≡ Some x) × SameLiterals x (lits_at ks c)
-value_found vars singles ks keeps c is = by (clause_at singles (id_at ks c)) refl
+value_found {singles} {ks} keeps c is = by (clause_at singles (id_at ks c)) refl
   where
     by : (o : Option Clause) → clause_at singles (id_at ks c) ≡ o →
         (x : Clause) × (clause_at (singles ++ live_of ks) (id_at ks c)
@@ -170,11 +170,11 @@ module _ (vars : ℕ) (singles : Live) (ks now : List Attached) (same : SameClau
     (keeps : IsKeeping vars singles ks) where
   pub among_same : AreAmong (singles ++ live_of ks) (singles ++ live_of now)
   among_same id x at =
-      elim (value_origin vars singles ks keeps id x at) [
+      elim (value_origin keeps id x at) [
         | inl single ↦ (x, append_some singles (live_of now) id x single, same_itself x)
         | inr from ↦
             let c : ClauseRef = from.0 in
-            let y = value_found vars singles now (keeping_same vars singles ks now same keeps) c
+            let y = value_found (keeping_same vars singles ks now same keeps) c
             (same.attached c ∙ from.1) in (
               y.0,
               ap (clause_at (singles ++ live_of now)) (sym (same.ids c ∙ from.2)) ∙ y.1,
@@ -186,11 +186,11 @@ module _ (vars : ℕ) (singles : Live) (ks now : List Attached) (same : SameClau
 
   pub same_among : AreAmong (singles ++ live_of now) (singles ++ live_of ks)
   same_among id x at =
-      elim (value_origin vars singles now (keeping_same vars singles ks now same keeps) id x at) [
+      elim (value_origin (keeping_same vars singles ks now same keeps) id x at) [
         | inl single ↦ (x, append_some singles (live_of ks) id x single, same_itself x)
         | inr from ↦
             let c : ClauseRef = from.0 in
-            let y = value_found vars singles ks keeps c (sym (same.attached c) ∙ from.1) in (
+            let y = value_found keeps c (sym (same.attached c) ∙ from.1) in (
               y.0,
               ap (clause_at (singles ++ live_of ks)) (sym (sym (same.ids c) ∙ from.2)) ∙ y.1,
               same_back y.0 x (same_then y.0 (lits_at ks c) x y.2 (subst (SameLiterals
@@ -214,7 +214,7 @@ caused_in vars level singles ks (e ∷ older) keeps levels once =
         (id_at ks) r) × AreCaused (singles ++ live_of ks) (assigned_in ks older)
     by None cause deeper = (tt, deeper cause.0 cause.2)
     by (Some c) cause deeper =
-        let x = value_found vars singles ks keeps c cause.0 in
+        let x = value_found keeps c cause.0 in
         let reads : reading_of (falses older) (lits_at ks c) ≡ Unit e.lit =
         reason_reads older (lits_at ks c) e.lit cause.1 once in
         let reads_x : reading_of (falses older) x.0 ≡ Unit e.lit =
@@ -228,7 +228,7 @@ module _ (singles : Live) (taken : ℕ) (w : WatchState) (keeps : IsKeeping w.va
   attached_for : (id : ℕ) (x : Clause) → clause_at (singles ++ live_of w.clauses) id ≡ Some x →
       (c : ClauseRef) × (is_attached w.clauses c ≡ true) × SameLiterals (lits_at w.clauses c) x
   attached_for id x at =
-      elim (value_origin w.vars singles w.clauses keeps id x at) [
+      elim (value_origin keeps id x at) [
         | inl single ↦
             let place = position_of singles id x single in
             let within = slice_get_within (reverse singles) place.0 (id, x) place.1 in
@@ -262,19 +262,6 @@ module _ (singles : Live) (taken : ℕ) (w : WatchState) (keeps : IsKeeping w.va
       (up_to_current w.level (assigned_in w.clauses w.trail) leveled.levels (omega
       (arith, leveled.current)))
       (settled_in w.level settled)
-
--- a false clause is false by its id
-pub false_in : (vars : ℕ) (singles : Live) (ks : List Attached) (trail : List TrailEntry)
-    (c : ClauseRef) → IsKeeping vars singles ks → is_attached ks c ≡ true →
-    AreFalse trail (lits_at ks c)
-    → Reads (made_false (assigned_in ks trail)) (clause_at (singles ++ live_of ks)
-    (id_at ks c)) Conflict
-false_in vars singles ks trail c keeps is all =
-    let x = value_found vars singles ks keeps c is in
-    let reads : reading_of (falses trail) x.0 ≡ Conflict =
-    same_conflict (falses trail) (lits_at ks c) x.0 (same_back x.0 (lits_at ks c) x.2)
-    (all_conflict (falses trail) (lits_at ks c) all) in
-    rw (x.1, falses_in ks trail) reads
 
 pub caused_here : (vars level : ℕ) (singles : Live) (ks : List Attached) (trail : List TrailEntry)
     → IsKeeping vars singles ks → HasLevels ks level trail → IsOnce trail →

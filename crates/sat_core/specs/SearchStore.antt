@@ -2,13 +2,11 @@
 use Rattle.std.specs.Prelude.{◌≡◌, ◌≢◌, ◌⊎◌, ℕ, suc, ◌+◌, ◌<◌, ◌≤◌, ℤ, pos, true, List, [], ◌∷◌, ◌++◌, length, map, reverse, slice_get, All, Bool, None, Some, option_map}
 use Rattle.sat_clause.specs.declared.literal.Lit.{Lit}
 use Rattle.sat_clause.specs.declared.limits.TheConstants.{ID_LIMIT, VARIABLE_LIMIT}
-use Rattle.sat_clause.specs.declared.reading.Reading.{Reading}
-use Rattle.sat_clause.specs.declared.reading.Reading.TheVariants.{Conflict}
 use Rattle.sat_clause.specs.Formula.{IsTrueClause}
 use Rattle.sat_clause.specs.Learned.{IsFresh, IsRelevant, IsSimple, SameLiterals}
 use Rattle.sat_clause.specs.Literal.{Clause, IsLiteral, IsWithin}
 use Rattle.sat_clause.specs.Live.{Live, clause_at, put}
-use Rattle.sat_clause.specs.Rup.{Reads, rup}
+use Rattle.sat_clause.specs.Rup.{rup}
 use Rattle.sat_arena.specs.declared.clause_ref.ClauseRef.{ClauseRef}
 use Rattle.sat_watch.specs.declared.entry.TrailEntry.{TrailEntry}
 use Rattle.sat_watch.specs.Watches.{Attached, AreInPlace, WatchState, id_at, is_attached, lits_at}
@@ -97,14 +95,6 @@ pub record SameKept (old new : SearchValue) : Type 0 where
   pub among : AreAmong old.clauses new.clauses
   pub back : AreAmong new.clauses old.clauses
   pub once : (id : ℕ) (c : Clause) → clause_at new.clauses id ≡ Some c → HasOnce c
-
--- what the clause with this id says
-abbrev pub ReadsAt : SearchValue → ℕ → Reading → Type 0
-ReadsAt search id reading = Reads (made_false search.trail) (clause_at search.clauses id) reading
-
--- it is false
-abbrev pub IsFalseAt : SearchValue → ℕ → Type 0
-IsFalseAt search id = ReadsAt search id Conflict
 
 -- no clause is false and none makes a literal true
 abbrev pub IsSettledState : SearchValue → Type 0

@@ -48,7 +48,8 @@ module _ (n : ℕ) (ws : List ℕ) (x w : ℕ) (b : Bool) (in_x : x < n) (many :
 
   pub members-written : members n (set ws (x / 64) w) ≡ set (members n ws) x b
   members-written =
-      let long : length (members n (set ws (x / 64) w)) ≡ n = length-members n (set ws (x / 64) w) in
+      let long : length (members n (set ws (x / 64) w)) ≡ n =
+      length-members n (set ws (x / 64) w) in
       let short : length (members n ws) ≡ n = length-members n ws in
       ext_get_or false (members n (set ws (x / 64) w)) (set (members n ws) x b)
       (long ∙ sym (length-set (members n ws) x b ∙ short))
@@ -70,12 +71,27 @@ module _ (n : ℕ) (ws : List ℕ) (x w : ℕ) (b : Bool) (in_x : x < n) (many :
       (λ off. within y (sym (has-other y off) ∙ there))
       (which y x)
 
+-- what was read of a list of numbers
+pub read-is : (ws : List ℕ) (k read : ℕ) → k < length ws → read ≡ get_or ws k read →
+    get_or ws k 0 ≡ read
+read-is ws k read in_k is = sym (get_or_default_zero ws k read in_k) ∙ sym is
+
+-- a number within the set is below its size
+pub below-size : (n : ℕ) (ws : List ℕ) (s : List Bool) (x : ℕ) → members n ws ≡ s →
+    x < length s → x < n
+below-size n ws s x is in_s =
+    omega (arith, in_s, ap (λ (l : List Bool). length l) is, length-members n ws)
+
 -- a number comes in
-pub inserted : (n : ℕ) (ws : List ℕ) (low x w : ℕ) → IsBitSet n ws low → x < n →
-    w ≡ bit_or (get_or ws (x / 64) 0) (1 * 2 ^ (x % 64) % 2 ^ 64) →
+pub inserted : (n : ℕ) (ws : List ℕ) (low x read : ℕ) → IsBitSet n ws low → x < n →
+    read ≡ get_or ws (x / 64) read → let w : ℕ = bit_or read (1 * 2 ^ (x % 64) % 2 ^ 64) in
     (members n (set ws (x / 64) w) ≡ set (members n ws) x true)
     × ((m : ℕ) → m ≤ low → m ≤ x / 64 → IsBitSet n (set ws (x / 64) w) m)
-inserted n ws low x w h in_x is =
+inserted n ws low x read h in_x at =
+    let w : ℕ = bit_or read (1 * 2 ^ (x % 64) % 2 ^ 64) in
+    let is : w ≡ bit_or (get_or ws (x / 64) 0) (1 * 2 ^ (x % 64) % 2 ^ 64) =
+    ap (λ v. bit_or v (1 * 2 ^ (x % 64) % 2 ^ 64))
+    (sym (read-is ws (x / 64) read (omega (arith, in_x, h.many)) at)) in
     let told : (bit_at w (x % 64) == 1) ≡ true =
     ap (λ v. bit_at v (x % 64) == 1) is
     ∙ ap (λ v. v == 1) (bit_at_set_same w64 (get_or ws (x / 64) 0) (x % 64) (omega arith)) in
@@ -94,11 +110,16 @@ inserted n ws low x w h in_x is =
     )
 
 -- a number goes out
-pub removed : (n : ℕ) (ws : List ℕ) (low x w : ℕ) → IsBitSet n ws low → x < n →
-    w ≡ bit_and (get_or ws (x / 64) 0) (bit_not w64 (1 * 2 ^ (x % 64) % 2 ^ 64)) →
+pub removed : (n : ℕ) (ws : List ℕ) (low x read : ℕ) → IsBitSet n ws low → x < n →
+    read ≡ get_or ws (x / 64) read →
+    let w : ℕ = bit_and read (bit_not w64 (1 * 2 ^ (x % 64) % 2 ^ 64)) in
     (members n (set ws (x / 64) w) ≡ set (members n ws) x false)
     × IsBitSet n (set ws (x / 64) w) low
-removed n ws low x w h in_x is =
+removed n ws low x read h in_x at =
+    let w : ℕ = bit_and read (bit_not w64 (1 * 2 ^ (x % 64) % 2 ^ 64)) in
+    let is : w ≡ bit_and (get_or ws (x / 64) 0) (bit_not w64 (1 * 2 ^ (x % 64) % 2 ^ 64)) =
+    ap (λ v. bit_and v (bit_not w64 (1 * 2 ^ (x % 64) % 2 ^ 64)))
+    (sym (read-is ws (x / 64) read (omega (arith, in_x, h.many)) at)) in
     let told : (bit_at w (x % 64) == 1) ≡ false =
     ap (λ v. bit_at v (x % 64) == 1) is
     ∙ ap (λ v. v == 1) (bit_at_clear_same w64 (get_or ws (x / 64) 0) (x % 64) (omega arith)) in
@@ -127,7 +148,8 @@ pub in_size : (n : ℕ) (ws : List ℕ) (x : ℕ) → get_or (members n ws) x fa
     (x < n) × (has ws x ≡ true)
 in_size n ws x there = ⊎_elim
     (λ past. absurd (both_ways true
-    (sym there ∙ get_or_past (members n ws) x false (omega (arith, past, length-members n ws))) refl))
+    (sym there
+    ∙ get_or_past (members n ws) x false (omega (arith, past, length-members n ws))) refl))
     (λ in_x. (in_x, sym (member-at n ws x in_x) ∙ there))
     (at_most n x)
 
@@ -207,7 +229,8 @@ empty-words n ws few is =
   where
     zeros : (m k : ℕ) → get_or (replicate {A = ℕ} m 0) k 0 ≡ 0
     zeros m k = ⊎_elim
-        (λ past. get_or_past (replicate {A = ℕ} m 0) k 0 (omega (arith, past, length-replicate {A = ℕ} m 0)))
+        (λ past. get_or_past (replicate {A = ℕ} m 0) k 0
+        (omega (arith, past, length-replicate {A = ℕ} m 0)))
         (λ in_k. get_or-replicate {A = ℕ} m k 0 0 in_k)
         (at_most m k)
 
@@ -218,8 +241,3 @@ all-true n s long each =
     ext_get_or false s (replicate n true) (long ∙ sym (length-replicate n true))
     (λ x in_x. let in_n : x < n = omega (arith, in_x, long) in
     each x in_n ∙ sym (get_or-replicate n x true false in_n))
-
--- what was read of a list of numbers
-pub read-is : (ws : List ℕ) (k read : ℕ) → k < length ws → read ≡ get_or ws k read →
-    get_or ws k 0 ≡ read
-read-is ws k read in_k is = sym (get_or_default_zero ws k read in_k) ∙ sym is

@@ -17,7 +17,7 @@ use Rattle.sat_text.specs.CnfText.{ReadsCnf, but_last, clause_parts, cnf_codes, 
 use Rattle.sat_text.specs.Drafts.{TakesNumbers}
 use Rattle.sat_text.specs.Numbers.{numbers_of}
 use Rattle.sat_text.specs.ToldLines.{told_lines}
-use Rattle.sat_text.proofs.DraftLemmas.{but_last-push, last_part-append, takes_more, takes_none}
+use Rattle.sat_text.proofs.DraftLemmas.{but_last-push, last_part-append, takes_more}
 
 -- the lines behind a head line, and the end
 pub faults_split : (first : Words) (before : List Words) (body : List TextLine) (end : ℕ)
@@ -119,10 +119,6 @@ pub record IsReadTo (first now : Draft) (all ahead : List TextLine) : Type 0 whe
   pub split : flat_map numbers_of (line_words all) ≡ done ++ flat_map numbers_of (line_words ahead)
   pub taken : TakesNumbers first now done
 
--- no line was taken
-pub read_none : (draft : Draft) (all : List TextLine) → IsReadTo draft draft all all
-read_none draft all = record { done = []; split = refl; taken = takes_none draft }
-
 -- one more line was taken
 pub read_line : (first now new : Draft) (all ahead more : List TextLine) (line : TextLine)
     → IsReadTo first now all ahead → ahead ≡ line ∷ more
@@ -135,9 +131,3 @@ read_line first now new all ahead more line so_far is taken = record {
       (flat_map numbers_of (line_words more)));
   taken = takes_more so_far.done (numbers_of line.words) so_far.taken taken;
 }
-
--- all lines were taken
-pub read_all : (first now : Draft) (all ahead : List TextLine) → IsReadTo first now all ahead
-    → ahead ≡ [] → TakesNumbers first now (flat_map numbers_of (line_words all))
-read_all first now all ahead so_far none =
-    rw (so_far.split, none, append-nil so_far.done) so_far.taken

@@ -17,11 +17,7 @@ use Rattle.sat_text.specs.declared.head.Head.{Head}
 use Rattle.sat_text.specs.CnfText.{but_last, clause_parts, has_strange_variable, last_part, whole_clauses}
 use Rattle.sat_text.specs.Drafts.{TakesLineFront, TakesNumbers, clauses_with, head_in, parts_with}
 use Rattle.sat_text.specs.Numbers.{is_zero}
-use Rattle.sat_text.proofs.FrontLemmas.{front_more, front_none}
-
--- no number was taken
-pub takes_none : (draft : Draft) → TakesNumbers draft draft []
-takes_none draft = record { head = refl; clauses = λ ahead. refl }
+use Rattle.sat_text.proofs.FrontLemmas.{front_more}
 
 -- more numbers are taken
 pub takes_more : {first now new : Draft} (done more : List ℤ) → TakesNumbers first now done
@@ -222,18 +218,6 @@ clauses_read old new head numbers whole same none none_open excess taken known =
 neither : (a b : Bool) → (a || b) ≡ false → (a ≡ false) × (b ≡ false)
 neither true b clash = absurd (let no : true ≡ false = clash in cc)
 neither false b clean = (refl, clean)
-
--- no number of a line was taken
-pub line_none : (draft : Draft) (line : Words) → TakesLineFront draft draft line line false
-line_none draft line =
-    record {
-      numbers = [];
-      front = front_none line;
-      found = refl;
-      head = refl;
-      taken =
-          λ clean. takes_none draft;
-    }
 
 -- one more was taken
 pub line_more : (old now new : Draft) (line rest after : Words) (strange found : Bool) (n : ℤ)

@@ -1,6 +1,6 @@
 -- Numbers are taken from the front of a line, one after another.
-use Rattle.std.proofs.Common.{◌≡◌, ◌<◌, ◌≤◌, zero, suc, ℤ, pos, negsuc, Bool, false, true, List, [], ◌∷◌, ◌++◌, length, drop, slice_get, Option, None, Some, refl, sym, ap, ◌∙◌, arith, append_assoc, append-nil, w32, w64, to_z, of_z, FitsSigned}
-use Rattle.std.specs.Prelude.{All, nat_abs, not, bytes_eq, option_and_then}
+use Rattle.std.proofs.Common.{◌≡◌, ◌≤◌, zero, suc, ℤ, pos, negsuc, Bool, false, true, List, [], ◌∷◌, ◌++◌, drop, slice_get, Option, None, Some, refl, sym, ap, ◌∙◌, arith, append_assoc, w32, w64, to_z, of_z, FitsSigned}
+use Rattle.std.specs.Prelude.{All, nat_abs, bytes_eq, option_and_then}
 use Rattle.std.specs.Int.Signed.{lt_z}
 use Rattle.std.proofs.lemmas.Int.{to_z-of_z}
 use Rattle.std.proofs.lemmas.List.Elements.{All-append}
@@ -10,7 +10,7 @@ use Rattle.fpga_text.specs.Numbers.{signed_number_of}
 use Rattle.fpga_text.specs.Words.{Words}
 use Rattle.fpga_text.proofs.NumberLemmas.{signed_fits}
 use Rattle.sat_clause.specs.Literal.{IsWithin, lit}
-use Rattle.sat_text.specs.FrontNumbers.{TakesFront, IsAtNoNumber, PushesFront}
+use Rattle.sat_text.specs.FrontNumbers.{TakesFront}
 use Rattle.sat_text.specs.Numbers.{lacks_number, numbers_of}
 use Rattle.sat_text.specs.ReadBack.{IsIdNumber}
 
@@ -43,46 +43,9 @@ front_both {old} {now} {new} {first} {second} one two = record {
       ∙ sym (append_assoc first second (numbers_of new));
 }
 
--- and fewer words are left
-pub front_fewer : (now new : Words) (n : ℤ) → Some n
-    ≡ option_and_then signed_number_of (slice_get now 0) → new ≡ drop 1 now
-    → length new < length now
-front_fewer [] new n said rest = absurd (let clash : Some n ≡ None = said in cc)
-front_fewer (word ∷ words) new n said rest = rw rest (omega arith)
-
--- no number is next
-pub front_end : (words : Words) → None ≡ option_and_then signed_number_of (slice_get words 0)
-    → IsAtNoNumber words
-front_end [] said = refl
-front_end (word ∷ words) said = rw (← said) refl
-
 no_words : (words : Words) → is_empty words ≡ true → words ≡ []
 no_words [] none = refl
 no_words (word ∷ more) none = absurd (let clash : false ≡ true = none in cc)
-
--- all words were taken, which say these numbers
-pub front_whole : (words rest : Words) (numbers : List ℤ) → TakesFront words rest numbers
-    → is_empty rest ≡ true → numbers_of words ≡ numbers
-front_whole words rest numbers front none =
-    front.said ∙ ap (λ (ws : Words). numbers ++ numbers_of ws) (no_words rest none)
-    ∙ append-nil numbers
-
--- and none of them says no number
-pub front_lacks : (words rest : Words) (numbers : List ℤ) (empty : Bool)
-    → TakesFront words rest numbers → IsAtNoNumber rest → is_empty rest ≡ empty → lacks_number words
-    ≡ not empty
-front_lacks words rest numbers empty front end is = front.lacks ∙ end ∙ ap not is
-
--- one more number is pushed
-pub push_more : (old now new : List ℤ) (words rest after : Words) (n : ℤ)
-    → PushesFront old now words rest → Some n ≡ option_and_then signed_number_of (slice_get rest 0)
-    → after ≡ drop 1 rest → new ≡ now ++ n ∷ [] → PushesFront old new words after
-push_more old now new words rest after n so_far said behind is = record {
-  numbers = so_far.numbers ++ n ∷ [];
-  front = front_more words rest after so_far.numbers n so_far.front said behind;
-  pushed = is ∙ ap (λ (l : List ℤ). l ++ n ∷ []) so_far.pushed
-      ∙ append_assoc old so_far.numbers (n ∷ []);
-}
 
 -- a word that is a letter says no number, so a line of numbers has none
 pub not_letter : (word letter : Bytes) (more : Words) → signed_number_of letter ≡ None

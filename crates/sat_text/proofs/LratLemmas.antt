@@ -1,6 +1,6 @@
 -- The numbers of a line of an LRAT text, and the step that they say.
-use Rattle.std.proofs.Common.{◌≡◌, ◌<◌, ◌≤◌, ◌+◌, ℕ, zero, suc, ℤ, pos, negsuc, Bool, false, true, List, [], ◌∷◌, ◌++◌, length, take, drop, slice_get, Option, None, Some, Result, refl, sym, ap, subst, ◌∙◌, arith, add-one}
-use Rattle.std.specs.Prelude.{All, fold, map, nat_abs, slice_index_or, if◌then◌else◌, nat_le, nat_lt, ◌==◌, ◌||◌, is_none, option_and_then, option_map}
+use Rattle.std.proofs.Common.{◌≡◌, ◌<◌, ◌≤◌, ◌+◌, ℕ, zero, suc, ℤ, pos, negsuc, Bool, false, true, List, [], ◌∷◌, ◌++◌, length, take, drop, Option, None, Some, Result, refl, sym, ap, subst, ◌∙◌, arith, add-one}
+use Rattle.std.specs.Prelude.{All, fold, map, nat_abs, slice_index_or, if◌then◌else◌, nat_le, nat_lt, ◌==◌, ◌||◌, is_none, option_map}
 use Rattle.std.specs.List.{list_any, slice_split, onto_first, cons_option}
 use Rattle.std.proofs.lemmas.List.Splits.{slice_split_at, slice_split_none, length-slice_split}
 use Rattle.std.specs.Option.{option_or}
@@ -9,7 +9,6 @@ use Rattle.fpga_text.specs.declared.fault.TextFault.TheVariants.{Bad, Limit}
 use Rattle.fpga_text.specs.Bytes.{Bytes}
 use Rattle.fpga_text.specs.FirstFault.{AnswersFault, Faults}
 use Rattle.fpga_text.specs.Codes.{line_fault, numbered_words}
-use Rattle.fpga_text.specs.Numbers.{signed_number_of}
 use Rattle.fpga_text.specs.Words.{TextLine, Words, line_count, line_words}
 use Rattle.fpga_text.proofs.CodeLemmas.{faults_behind-from}
 use Rattle.fpga_text.proofs.FaultLemmas.{IsPast, past-line}
@@ -18,10 +17,9 @@ use Rattle.sat_clause.specs.Literal.{lit, IsLiteral}
 use Rattle.sat_clause.specs.Step.{Step, Added, Erased}
 use Rattle.sat_text.specs.ByNumbers.{numbers_fault, step_fault, step_line_fault}
 use Rattle.sat_text.specs.CnfText.{but_last}
-use Rattle.sat_text.specs.FrontNumbers.{TakesFront}
 use Rattle.sat_text.specs.Numbers.{is_zero, numbers_of, lacks_number}
 use Rattle.sat_text.specs.ToldLines.{told_lines}
-use Rattle.sat_text.specs.LratText.{added_by, added_limit, begins_with_d, deleted_ids, due_words, ends_with_zero, erased_limit, faults_above, first_past, has_negative_hint, has_no_id, is_below_zero, is_deletion, is_out_of_order, lrat_codes, lrat_faults, past_number_limit, raised, raised_by, said_step, step_of, steps_of}
+use Rattle.sat_text.specs.LratText.{added_by, added_limit, deleted_ids, due_words, ends_with_zero, erased_limit, faults_above, first_past, has_negative_hint, has_no_id, is_below_zero, is_deletion, is_out_of_order, lrat_codes, lrat_faults, past_number_limit, raised, raised_by, said_step, step_of, steps_of}
 
 -- the front numbers are not 0
 pub all_before : (numbers : List ℤ) (i : ℕ)
@@ -248,24 +246,3 @@ pub step_taken : (ahead more : List TextLine) (line : TextLine) (step : Step) �
 step_taken ahead more line step is said =
     ap (λ (l : List TextLine). steps_of (line_words l)) is
     ∙ ap (λ (o : Option Step). cons_option o (steps_of (line_words more))) said
-
--- the numbers of a line were taken: the first, and those behind it or behind a `d`
-pub due_front : (words behind rest : Words) (n : ℤ) (more : List ℤ) (d : Bool) → Some n
-    ≡ option_and_then signed_number_of (slice_get words 0) → d ≡ begins_with_d (drop 1 words)
-    → behind ≡ (if d then drop 1 (drop 1 words) else drop 1 words) → TakesFront behind rest more
-    → TakesFront (due_words words) rest (n ∷ more)
-due_front [] behind rest n more d first is from front =
-    absurd (let clash : Some n ≡ None = first in cc)
-due_front (word ∷ words) behind rest n more d first is from front =
-    let same : behind ≡ (if begins_with_d words then drop 1 words else words) = (rw is at from) in
-    record {
-      lacks = rw (← same, ← first) front.lacks;
-      said = rw (← same, ← first) (ap (λ (ns : List ℤ). n ∷ ns) front.said);
-    }
-
--- a line that begins with this number deletes clauses where a `d` is next
-pub deletes_by : (words : Words) (n : ℤ) → Some n
-    ≡ option_and_then signed_number_of (slice_get words 0) → begins_with_d (drop 1 words)
-    ≡ is_deletion words
-deletes_by [] n first = absurd (let clash : Some n ≡ None = first in cc)
-deletes_by (word ∷ words) n first = refl

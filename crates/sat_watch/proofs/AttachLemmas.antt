@@ -1,7 +1,6 @@
 -- The chains stay whole where a clause is put behind the others and first in its two chains.
 use Rattle.std.proofs.Common.{◌≡◌, ◌≢◌, ℕ, ◌+◌, ◌*◌, ◌<◌, ◌≤◌, pos, true, false, inl, inr, List, [], ◌∷◌, ◌++◌, length, set, Option, None, Some, refl, sym, ap, ◌∙◌, subst, arith, length-set}
 use Rattle.std.specs.List.{swap}
-use Rattle.std.proofs.lemmas.Bool.{both_ways}
 use Rattle.sat_clause.specs.declared.literal.Lit.{Lit}
 use Rattle.sat_clause.specs.Learned.{IsSimple}
 use Rattle.sat_clause.specs.Literal.{Clause, IsWithin, lit, variable}
@@ -42,16 +41,20 @@ push_other (x ∷ ks) k d ne = elim (same_or_other x.place d) [
   | inr other ↦ rw other.0 (push_other ks k d ne)
 ]
 
-pub push_same : (ks : List Stored) (k : Stored) → is_held ks k.place ≡ false →
-    stored_at (ks ++ k ∷ []) k.place ≡ k
-push_same [] k out = elim (same_or_other k.place k.place) [
+pub found_behind : (ks : List Stored) (k : Stored) (more : List Stored) →
+    is_held ks k.place ≡ false → stored_at (ks ++ k ∷ more) k.place ≡ k
+found_behind [] k more out = elim (same_or_other k.place k.place) [
   | inl same ↦ rw same.0 refl
   | inr other ↦ absurd (other.1 refl)
 ]
-push_same (x ∷ ks) k out = elim (same_or_other x.place k.place) [
-  | inl same ↦ absurd (both_ways true (rw same.0 at out) refl)
-  | inr other ↦ rw other.0 (push_same ks k (rw other.0 at out))
+found_behind (x ∷ ks) k more out = elim (same_or_other x.place k.place) [
+  | inl same ↦ (let clash : true ≡ false = rw same.0 at out in cc)
+  | inr other ↦ rw other.0 (found_behind ks k more (rw other.0 at out))
 ]
+
+pub push_same : (ks : List Stored) (k : Stored) → is_held ks k.place ≡ false →
+    stored_at (ks ++ k ∷ []) k.place ≡ k
+push_same ks k out = found_behind ks k [] out
 
 pub held_push_other : (ks : List Stored) (k : Stored) (d : ClauseRef) → d ≢ k.place →
     is_held (ks ++ k ∷ []) d ≡ is_held ks d
@@ -178,16 +181,26 @@ module _ (n : ℕ) (ks : List Stored) (heads : List (Option ClauseRef)) (k : Sto
         | inr other ↦ ap (λ (x : Stored). next_in x l) (push_other ks k d other.1)
       ]
 
--- a change of the last clause
-pub changed_last : (f : Stored → Stored) (ks : List Stored) (k : Stored) →
-    is_held ks k.place ≡ false → changed f k.place (ks ++ k ∷ []) ≡ ks ++ f k ∷ []
-changed_last f [] k out = elim (same_or_other k.place k.place) [
-  | inl same ↦ rw same.0 refl
+-- a change of one clause among others
+changed_absent : (f : Stored → Stored) (c : ClauseRef) (ks : List Stored) → is_held ks c ≡ false →
+    changed f c ks ≡ ks
+changed_absent f c [] out = refl
+changed_absent f c (k ∷ ks) out = elim (same_or_other k.place c) [
+  | inl same ↦ (let clash : true ≡ false = rw same.0 at out in cc)
+  | inr other ↦ rw other.0 (ap (λ l. k ∷ l) (changed_absent f c ks (rw other.0 at out)))
+]
+
+pub changed_behind : (f : Stored → Stored) (ks : List Stored) (k : Stored) (more : List Stored) →
+    is_held ks k.place ≡ false → is_held more k.place ≡ false →
+    changed f k.place (ks ++ k ∷ more) ≡ ks ++ f k ∷ more
+changed_behind f [] k more out later = elim (same_or_other k.place k.place) [
+  | inl same ↦ rw same.0 (ap (λ l. f k ∷ l) (changed_absent f k.place more later))
   | inr other ↦ absurd (other.1 refl)
 ]
-changed_last f (x ∷ ks) k out = elim (same_or_other x.place k.place) [
-  | inl same ↦ absurd (both_ways true (rw same.0 at out) refl)
-  | inr other ↦ rw other.0 (ap (λ l. x ∷ l) (changed_last f ks k (rw other.0 at out)))
+changed_behind f (x ∷ ks) k more out later = elim (same_or_other x.place k.place) [
+  | inl same ↦ (let clash : true ≡ false = rw same.0 at out in cc)
+  | inr other ↦ rw other.0
+      (ap (λ l. x ∷ l) (changed_behind f ks k more (rw other.0 at out) later))
 ]
 
 pub last_pushed : (ks all : List Stored) (k : Stored) (c : ClauseRef) → ArePlaced 0 ks →
@@ -213,8 +226,8 @@ pub last_changed : (f : Stored → Stored) (ks all new : List Stored) (k : Store
     IsLast ks new (f k) c
 last_changed f ks all new k c stays h is = record {
   is =
-      is ∙ ((λ x. changed f (sym h.place x) (h.is x)) ∙ changed_last f ks k
-      (subst (λ r. is_held ks r ≡ false) (sym h.place) h.fresh));
+      is ∙ ((λ x. changed f (sym h.place x) (h.is x)) ∙ changed_behind f ks k []
+      (subst (λ r. is_held ks r ≡ false) (sym h.place) h.fresh) refl);
   place = stays k ∙ h.place;
   fresh = h.fresh;
 }
@@ -260,40 +273,40 @@ module _ (n : ℕ) (ks all new : List Stored) (heads now : List (Option ClauseRe
         subst (λ (p : List Stored × List (Option ClauseRef)). IsChained n p.0 p.1)
         (λ x. (sym last_linked.is x, sym heads_are x)) whole
 
--- what is known once a clause was put behind the others, with its literals in order
-module _ (n : ℕ) (ks reserved all : List Stored) (heads : List (Option ClauseRef)) (lits : Clause)
-    (id i j : ℕ) (c : ClauseRef) (h : IsChained n ks heads) (given : IsSimple n lits)
-    (li : i < length lits) (lj : j < length lits) (two : 2 ≤ length lits) (same : reserved ≡ ks)
-    (pushed : IsLast reserved all
-    (with_order i j (new_clause (ref (size_all reserved)) id lits)) c)
-    (at : c ≡ ref (size_all reserved)) where
+-- a clause was put behind the others, with its literals in order
+pub record IsPutLast (n : ℕ) (ks all : List Stored) (heads : List (Option ClauseRef))
+    (lits : Clause) (id i j : ℕ) (c : ClauseRef) : Type 0 where
+  pub chained : IsChained n ks heads
+  pub simple : IsSimple n lits
+  pub i_in : i < length lits
+  pub j_in : j < length lits
+  pub two : 2 ≤ length lits
+  pub last : IsLast ks all (with_order i j (new_clause (ref (size_all ks)) id lits)) c
+  pub place : c ≡ ref (size_all ks)
+
+-- what is known then
+module _ {n : ℕ} {ks all : List Stored} {heads : List (Option ClauseRef)} {lits : Clause}
+    {id i j : ℕ} {c : ClauseRef} (put : IsPutLast n ks all heads lits id i j c) where
   abbrev pub ordered : Stored
   ordered = with_order i j (new_clause (ref (size_all ks)) id lits)
 
-  ordered_last : IsLast ks all ordered c
-  ordered_last =
-      subst (λ l. IsLast l all (with_order i j (new_clause (ref (size_all l)) id lits)) c) same
-      pushed
-
-  ordered_place : c ≡ ref (size_all ks)
-  ordered_place = at ∙ ap (λ l. ref (size_all l)) same
-
   stored : stored_at all c ≡ ordered
-  stored = last_stored ks all ordered c ordered_last
+  stored = last_stored ks all ordered c put.last
 
   once : length (swap lits 0 i) ≡ length lits
   once = length_swap lits 0 i
 
   simple_ordered : IsSimple n ordered.lits
   simple_ordered =
-      simple_swap n (swap lits 0 i) 1 j (rw once (omega arith)) (rw once lj)
-      (simple_swap n lits 0 i (omega arith) li given)
+      let two = put.two in
+      simple_swap n (swap lits 0 i) 1 j (rw once (omega arith)) (rw once put.j_in)
+      (simple_swap n lits 0 i (omega arith) put.i_in put.simple)
 
   long : 2 ≤ length ordered.lits
-  long = let twice = length_swap (swap lits 0 i) 1 j in omega (arith, once, twice)
+  long = let twice = length_swap (swap lits 0 i) 1 j in omega (arith, once, twice, put.two)
 
   pub ordered_held : is_held all c ≡ true
-  ordered_held = last_held ks all ordered c ordered_last
+  ordered_held = last_held ks all ordered c put.last
 
   pub ordered_two : 2 ≤ length (stored_at all c).lits
   ordered_two = rw stored long
@@ -302,14 +315,16 @@ module _ (n : ℕ) (ks reserved all : List Stored) (heads : List (Option ClauseR
   ordered_head k lt =
       let within : IsWithin n (lit_at ordered.lits k) =
       simple_ordered.within k (lit (pos 0)) (omega (arith, long)) in
-      let below = index_within n (lit_at ordered.lits k) within in let many = h.many in
+      let below = index_within n (lit_at ordered.lits k) within in
+      let many = put.chained.many in
       record {
         some = subst (λ (x : Stored). 1 ≤ variable (lit_at x.lits k)) (sym stored) within.0;
         within =
             subst (λ (x : Stored). index_of (lit_at x.lits k) < length heads) (sym stored)
             (omega arith);
-        held = λ d e. subst (λ l. is_held l d ≡ true) (sym ordered_last.is)
-            (held_push ks ordered d (head_held n ks heads (lit_at ordered.lits k) d h within
+        held = λ d e. subst (λ l. is_held l d ≡ true) (sym put.last.is)
+            (held_push ks ordered d
+            (head_held n ks heads (lit_at ordered.lits k) d put.chained within
             (ap (λ (x : Stored). head_in heads (lit_at x.lits k)) (sym stored) ∙ e)));
       }
 
@@ -331,8 +346,8 @@ module _ (n : ℕ) (ks reserved all : List Stored) (heads : List (Option ClauseR
 
     pub ordered_chained : IsChained n new now
     ordered_chained =
-        linked_chained n ks all new heads now ordered c h simple_ordered refl long ordered_last
-        ordered_place links_are fronts_are
+        linked_chained n ks all new heads now ordered c put.chained simple_ordered refl long
+        put.last put.place links_are fronts_are
 
     pub ordered_added : (spare spare' : ℕ) →
         IsAdded (record { vars = n; clauses = ks; spare = spare; heads = heads })
@@ -340,12 +355,12 @@ module _ (n : ℕ) (ks reserved all : List Stored) (heads : List (Option ClauseR
         (swap (swap lits 0 i) 1 j) id c
     ordered_added spare spare' = record {
       clause =
-          linked_clause n ks all new heads now ordered c h simple_ordered refl long ordered_last
-          ordered_place links_are fronts_are;
+          linked_clause n ks all new heads now ordered c put.chained simple_ordered refl long
+          put.last put.place links_are fronts_are;
       last =
-          last_linked n ks all new heads now ordered c h simple_ordered refl long ordered_last
-          ordered_place links_are fronts_are;
-      place = ordered_place;
+          last_linked n ks all new heads now ordered c put.chained simple_ordered refl long
+          put.last put.place links_are fronts_are;
+      place = put.place;
       lits = refl;
       is_id = refl;
       vars = refl;

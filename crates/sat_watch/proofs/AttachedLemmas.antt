@@ -15,7 +15,7 @@ use Rattle.sat_watch.specs.Choice.{FreeSays, IsAhead, IsAttachedAs, IsTrueAt}
 use Rattle.sat_watch.specs.Levels.{IsDueAt, IsWatchStore, IsWatched}
 use Rattle.sat_watch.specs.Trail.{IsOnce, TrailState}
 use Rattle.sat_watch.specs.Watched.{AreWhole, is_false, true_at}
-use Rattle.sat_watch.specs.Watches.{Attached, Attaches, HasOneOpen, HasOneTrue, HasTwoFree, IsOnlyOne, IsWatches, WatchState, attached, highest, watch_state, words_in}
+use Rattle.sat_watch.specs.Watches.{Attached, Attaches, HasOneOpen, HasOneTrue, HasTwoFree, IsOnlyOne, IsWatches, MayAttach, WatchState, attached, highest, watch_state, words_in}
 use Rattle.sat_arena.proofs.StoreLaws.{push_held}
 use Rattle.sat_watch.proofs.AttachStoreLemmas.{one_open, one_true, store_attached, store_due, two_free, unit_true}
 use Rattle.sat_watch.proofs.ChoiceLemmas.{at_contains, contained_at, free_level, other_at, single_highest}
@@ -73,29 +73,26 @@ words_same : (ks : List Stored) → size_all ks ≡ words_in (map attached ks)
 words_same [] = refl
 words_same (k ∷ ks) = ap (λ n. length k.lits + 6 + n) (words_same ks)
 
-module _ (c c' : ChainsState) (t : TrailState) (q level : ℕ) (lits : Clause) (id i j : ℕ)
-    (r : ClauseRef) (a : IsAhead c c' lits id i j r) where
+module _ {c c' : ChainsState} {lits : Clause} {id i j : ℕ} {r : ClauseRef} (t : TrailState)
+    (q level : ℕ) (a : IsAhead c c' lits id i j r) where
   -- what contracts see of it
-  pub added_state : (s : WatchState) (due due' : Option ClauseRef) →
-      watch_state c t q level due ≡ s →
-      IsAttachedAs s (watch_state c' t q level due') lits id due' r
-  added_state s due due' view =
-      subst (λ (x : WatchState). IsAttachedAs x (watch_state c' t q level due') lits id due' r) view
-      (record {
-        place = ap (λ (x : ClauseRef). x.word) a.added.place ∙ words_same c.clauses;
-        order = a.order;
-        same = a.same;
-        is =
-            λ x. record {
-              vars = a.added.vars x;
-              clauses = clauses_are x;
-              trail =
-                  t.entries;
-              queued = q;
-              level = level;
-              due = due';
-            };
-      })
+  pub added_state : {now due' : Option ClauseRef} (due : Option ClauseRef) → now ≡ due' →
+      IsAttachedAs (watch_state c t q level due) (watch_state c' t q level now) lits id due' r
+  added_state due is_due = record {
+    place = ap (λ (x : ClauseRef). x.word) a.added.place ∙ words_same c.clauses;
+    order = a.order;
+    same = a.same;
+    is =
+        λ x. record {
+          vars = a.added.vars x;
+          clauses = clauses_are x;
+          trail =
+              t.entries;
+          queued = q;
+          level = level;
+          due = is_due x;
+        };
+  }
     where
       clause_is : ◌≡◌ {A = Attached} (attached a.added.clause)
           (record { place = r; id = id; lits = a.order })
@@ -115,7 +112,11 @@ module _ (c c' : ChainsState) (t : TrailState) (q level : ℕ) (lits : Clause) (
   fresh : is_held c.clauses a.added.clause.place ≡ false
   fresh = subst (λ x. is_held c.clauses x ≡ false) (sym a.added.last.place) a.added.last.fresh
 
-  module _ (chained : AreChained c') (h : IsWatches c t q level None) where
+  module _ {due : Option ClauseRef} (chained : AreChained c') (given : IsWatches c t q level due)
+      (none : due ≡ None) where
+    h : IsWatches c t q level None
+    h = subst (IsWatches c t q level) none given
+
     whole_now : AreWhole c' t
     whole_now = record {
       vars = h.whole.vars ∙ sym a.added.vars;
@@ -123,16 +124,16 @@ module _ (c c' : ChainsState) (t : TrailState) (q level : ℕ) (lits : Clause) (
       trail = h.whole.trail;
     }
 
-    left_alone : IsWatched (drop q t.entries) t.entries a.order → IsWatches c' t q level None
-    left_alone w = record {
+    left_alone : IsWatched (drop q t.entries) t.entries a.order → IsWatches c' t q level due
+    left_alone w = subst (IsWatches c' t q level) (sym none) (record {
       whole = whole_now;
       store = subst (λ ks. IsWatchStore ks t.entries q level None) (sym a.added.last.is)
           (store_attached c.clauses a.added.clause fresh t.entries q level h.store
           (subst (λ ls. IsWatched (drop q t.entries) t.entries ls) (sym a.added.lits) w));
-    }
+    })
 
     pub free_watches : 2 ≤ length lits → is_false t.entries (lit_at lits i) ≡ false →
-        is_false t.entries (lit_at lits j) ≡ false → IsWatches c' t q level None
+        is_false t.entries (lit_at lits j) ≡ false → IsWatches c' t q level due
     free_watches two free_i free_j =
         left_alone (free_watched q t.entries a.order (omega (arith, long))
         (subst (λ l. is_false t.entries l ≡ false) (sym a.first) free_i)
@@ -141,7 +142,7 @@ module _ (c c' : ChainsState) (t : TrailState) (q level : ℕ) (lits : Clause) (
     pub true_watches : i < length lits →
         is_false t.entries (lit_at lits i) ≡ false → IsTrueAt t.entries lits i →
         (2 ≤ length lits → true_at t.entries (negation (lit_at lits j)) ≡ Some
-        (highest t.entries lits)) → IsWatches c' t q level None
+        (highest t.entries lits)) → IsWatches c' t q level due
     true_watches li free is second =
         left_alone (true_watched c.vars q t.entries a.order is.0 (highest t.entries lits) a.simple
         h.whole.trail.once (omega (arith, long))
@@ -156,7 +157,7 @@ module _ (c c' : ChainsState) (t : TrailState) (q level : ℕ) (lits : Clause) (
         (2 ≤ length lits → true_at t.entries (negation (lit_at lits j)) ≡ Some
         (highest t.entries lits)) → IsWatches c' t q level (Some r)
     due_watches li only is at second =
-        let due : IsDueAt t.entries level a.order =
+        let due_now : IsDueAt t.entries level a.order =
         due_watched c.vars t.entries level a.order a.simple (omega (arith, long))
         (subst (λ l. true_at t.entries l ≡ None) (sym a.first) is)
         (subst (λ l. true_at t.entries (negation l) ≡ None) (sym a.first)
@@ -175,184 +176,167 @@ module _ (c c' : ChainsState) (t : TrailState) (q level : ℕ) (lits : Clause) (
               (λ x. (sym a.added.last.is x, a.added.last.place x))
               (store_due c.clauses a.added.clause fresh t.entries q level h.store
               (push_held c.clauses a.added.clause)
-              (subst (λ ls. IsDueAt t.entries level ls) (sym a.added.lits) due));
+              (subst (λ ls. IsDueAt t.entries level ls) (sym a.added.lits) due_now));
         }
 
+-- the first literal that is not false stands at this position
+pub record HasFree (s : WatchState) (lits : Clause) (i : ℕ) : Type 0 where
+  pub simple : IsSimple s.vars lits
+  pub at : FreeSays s.trail lits 0 (Some i)
+
+module _ (s : WatchState) (lits : Clause) where
+  none_free : FreeSays s.trail lits 0 None → (l : Lit) → Contains lits l →
+      is_false s.trail l ≡ false → ⊥
+  none_free none l has free =
+      let at = contained_at lits l has in
+      never _ (subst (λ x. is_false s.trail x ≡ true) at.2 (none at.0 (omega arith) at.1)) free
+
+  -- one literal is not false
+  pub some_free : MayAttach s lits → FreeSays s.trail lits 0 None → ⊥
+  some_free may none = elim may [
+    | inl two ↦ none_free none two.0 two.2 two.5
+    | inr one ↦ elim one [
+      | inl one_true ↦ none_free none one_true.0 one_true.2.0 one_true.2.1
+      | inr one_open ↦ none_free none one_open.0 one_open.1.0 one_open.1.1
+    ]
+  ]
+
 -- which case it is
-module _ (n : ℕ) (entries : List TrailEntry) (level : ℕ) (lits : Clause) (simple : IsSimple n lits)
-  where
-    abbrev MayBe : Type 0
-    MayBe = HasTwoFree entries lits ⊎ (HasOneTrue entries lits ⊎ HasOneOpen entries level lits)
+module _ {s : WatchState} {lits : Clause} {i : ℕ} (first : HasFree s lits i) where
+  only_here : (l : Lit) → IsOnlyOne s.trail lits l → lit_at lits i ≡ l
+  only_here l only = elim (lit_tells (lit_at lits i) l) [
+    | inl same ↦ same.1
+    | inr other ↦
+        let out = only.2 (lit_at lits i) (at_contains lits i first.at.1) other.1 in
+        absurd (never _ out first.at.2)
+  ]
 
-    none_free : FreeSays entries lits 0 None → (l : Lit) → Contains lits l →
-        is_false entries l ≡ false → ⊥
-    none_free none l has free =
+  -- with two that are not false
+  pub two_not_one : (j : ℕ) → j < length lits → j ≢ i → is_false s.trail (lit_at lits j) ≡ false
+      →
+      (l : Lit) → IsOnlyOne s.trail lits l → ⊥
+  two_not_one j lj ne free_j l only =
+      other_at s.vars lits i j first.simple first.at.1 lj ne (elim (lit_tells (lit_at lits j) l) [
+        | inl same ↦ same.1 ∙ sym (only_here l only)
+        | inr other ↦ absurd
+            (never _ (only.2 (lit_at lits j) (at_contains lits j lj) other.1) free_j)
+      ])
+
+  true_here : (is : HasOneTrue s.trail lits) → true_at s.trail (lit_at lits i) ≡ Some is.1
+  true_here is = subst (λ l. true_at s.trail l ≡ Some is.1) (sym (only_here is.0 is.2)) is.3
+
+  open_here : HasOneOpen s.trail s.level lits → true_at s.trail (lit_at lits i) ≡ None
+  open_here is = subst (λ l. true_at s.trail l ≡ None) (sym (only_here is.0 is.1)) is.2
+
+  pub true_not_open : is_false s.trail (negation (lit_at lits i)) ≡ true →
+      HasOneOpen s.trail s.level lits → ⊥
+  true_not_open now is =
+      let known = true_level s.trail (lit_at lits i) now in
+      let clash : None ≡ Some known.0 = sym (open_here is) ∙ known.1 in cc
+
+  pub open_not_true : is_false s.trail (negation (lit_at lits i)) ≡ false →
+      HasOneTrue s.trail lits → ⊥
+  open_not_true not_true is =
+      never _ (true_is_false s.trail (lit_at lits i) is.1 (true_here is)) not_true
+
+  pub two_not_open : (j : ℕ) → j < length lits → j ≢ i →
+      is_false s.trail (lit_at lits j) ≡ false → HasOneOpen s.trail s.level lits → ⊥
+  two_not_open j lj ne free_j is = two_not_one j lj ne free_j is.0 is.1
+
+  module _ (after : FreeSays s.trail lits (i + 1) None) where
+    here : (l : Lit) → Contains lits l → is_false s.trail l ≡ false → lit_at lits i ≡ l
+    here l has l_free =
         let at = contained_at lits l has in
-        never _ (subst (λ x. is_false entries x ≡ true) at.2 (none at.0 (omega arith) at.1)) free
+        let same : at.0 ≡ i =
+        by_order (at.0) at.1 (subst (λ x. is_false s.trail x ≡ false) (sym at.2) l_free) in
+        ap (lit_at lits) (sym same) ∙ at.2
+      where
+        order : (p m : ℕ) → (p ≡ m) ⊎ ((p < m) ⊎ (m < p))
+        order zero zero = inl refl
+        order zero (suc m) = inr (inl (omega arith))
+        order (suc p) zero = inr (inr (omega arith))
+        order (suc p) (suc m) = elim (order p m) [
+          | inl same ↦ inl (ap suc same)
+          | inr other ↦ elim other
+              [ inl lt ↦ inr (inl (omega arith)) | inr gt ↦ inr (inr (omega arith)) ]
+        ]
 
-    -- one literal is not false
-    pub some_free : MayBe → FreeSays entries lits 0 None → ⊥
-    some_free may none = elim may [
-      | inl two ↦ none_free none two.0 two.2 two.5
+        by_order : (p : ℕ) → p < length lits → is_false s.trail (lit_at lits p) ≡ false → p ≡ i
+        by_order p lp p_free = elim (order p i) [
+          | inl same ↦ same
+          | inr other ↦ elim other [
+            | inl lt ↦ absurd (never _ (first.at.3 p (omega arith) lt) p_free)
+            | inr gt ↦ absurd (never _ (after p (omega arith) lp) p_free)
+          ]
+        ]
+
+    not_two : HasTwoFree s.trail lits → ⊥
+    not_two two = two.4 (sym (here two.0 two.2 two.5) ∙ here two.1 two.3 two.6)
+
+    pub only_one : MayAttach s lits → IsOnlyOne s.trail lits (lit_at lits i)
+    only_one may = elim may [
+      | inl two ↦ absurd (not_two two)
       | inr one ↦ elim one [
-        | inl one_true ↦ none_free none one_true.0 one_true.2.0 one_true.2.1
-        | inr one_open ↦ none_free none one_open.0 one_open.1.0 one_open.1.1
+        | inl is ↦ subst (IsOnlyOne s.trail lits) (sym (only_here is.0 is.2)) is.2
+        | inr is ↦ subst (IsOnlyOne s.trail lits) (sym (only_here is.0 is.1)) is.1
       ]
     ]
 
-    module _ (i : ℕ) (li : i < length lits) (free : is_false entries (lit_at lits i) ≡ false) where
-      only_here : (l : Lit) → IsOnlyOne entries lits l → lit_at lits i ≡ l
-      only_here l only = elim (lit_tells (lit_at lits i) l) [
-        | inl same ↦ same.1
-        | inr other ↦ absurd (never _ (only.2 (lit_at lits i) (at_contains lits i li) other.1) free)
+    pub is_true_here : MayAttach s lits → is_false s.trail (negation (lit_at lits i)) ≡ true →
+        IsTrueAt s.trail lits i
+    is_true_here may true_now = elim may [
+      | inl two ↦ absurd (not_two two)
+      | inr one ↦ elim one [
+        | inl is ↦ (is.1, true_here is, is.4)
+        | inr is ↦ absurd (true_not_open true_now is)
       ]
+    ]
 
-      -- with two that are not false
-      pub two_not_one : (j : ℕ) → j < length lits → j ≢ i → is_false entries (lit_at lits j) ≡ false
-          →
-          (l : Lit) → IsOnlyOne entries lits l → ⊥
-      two_not_one j lj ne free_j l only =
-          other_at n lits i j simple li lj ne (elim (lit_tells (lit_at lits j) l) [
-            | inl same ↦ same.1 ∙ sym (only_here l only)
-            | inr other ↦ absurd
-                (never _ (only.2 (lit_at lits j) (at_contains lits j lj) other.1) free_j)
-          ])
+    pub is_open_here : MayAttach s lits → is_false s.trail (negation (lit_at lits i)) ≡ false →
+        (true_at s.trail (lit_at lits i) ≡ None) × (s.level ≡ highest s.trail lits)
+    is_open_here may not_true = elim may [
+      | inl two ↦ absurd (not_two two)
+      | inr one ↦ elim one [
+        | inl is ↦ absurd (open_not_true not_true is)
+        | inr is ↦ (open_here is, is.3)
+      ]
+    ]
 
-      true_here : (is : HasOneTrue entries lits) → true_at entries (lit_at lits i) ≡ Some is.1
-      true_here is = subst (λ l. true_at entries l ≡ Some is.1) (sym (only_here is.0 is.2)) is.3
+    pub open_alone : is_false s.trail (negation (lit_at lits i)) ≡ false →
+        HasTwoFree s.trail lits ⊎ HasOneTrue s.trail lits → ⊥
+    open_alone not_true other =
+        elim other [ inl two ↦ not_two two | inr is ↦ open_not_true not_true is ]
 
-      open_here : HasOneOpen entries level lits → true_at entries (lit_at lits i) ≡ None
-      open_here is = subst (λ l. true_at entries l ≡ None) (sym (only_here is.0 is.1)) is.2
+-- the clause is due in the third case, and not in the first two
+module _ {old new : WatchState} {lits : Clause} {id : ℕ} {due : Option ClauseRef} {c : ClauseRef}
+    (a : IsAttachedAs old new lits id due c) where
+  due_is : new.due ≡ due
+  due_is = ap (λ (s : WatchState). s.due) a.is
 
-      pub true_not_open : is_false entries (negation (lit_at lits i)) ≡ true →
-          HasOneOpen entries level lits → ⊥
-      true_not_open now is =
-          let known = true_level entries (lit_at lits i) now in
-          let clash : None ≡ Some known.0 = sym (open_here is) ∙ known.1 in cc
-
-      pub open_not_true : is_false entries (negation (lit_at lits i)) ≡ false →
-          HasOneTrue entries lits → ⊥
-      open_not_true not_true is =
-          never _ (true_is_false entries (lit_at lits i) is.1 (true_here is)) not_true
-
-      pub two_not_open : (j : ℕ) → j < length lits → j ≢ i →
-          is_false entries (lit_at lits j) ≡ false → HasOneOpen entries level lits → ⊥
-      two_not_open j lj ne free_j is = two_not_one j lj ne free_j is.0 is.1
-
-      module _ (before : (p : ℕ) → 0 ≤ p → p < i → is_false entries (lit_at lits p) ≡ true)
-          (after : FreeSays entries lits (i + 1) None) where
-        here : (l : Lit) → Contains lits l → is_false entries l ≡ false → lit_at lits i ≡ l
-        here l has l_free =
-            let at = contained_at lits l has in
-            let same : at.0 ≡ i =
-            by_order (at.0) at.1 (subst (λ x. is_false entries x ≡ false) (sym at.2) l_free) in
-            ap (lit_at lits) (sym same) ∙ at.2
-          where
-            order : (p m : ℕ) → (p ≡ m) ⊎ ((p < m) ⊎ (m < p))
-            order zero zero = inl refl
-            order zero (suc m) = inr (inl (omega arith))
-            order (suc p) zero = inr (inr (omega arith))
-            order (suc p) (suc m) = elim (order p m) [
-              | inl same ↦ inl (ap suc same)
-              | inr other ↦ elim other
-                  [ inl lt ↦ inr (inl (omega arith)) | inr gt ↦ inr (inr (omega arith)) ]
-            ]
-
-            by_order : (p : ℕ) → p < length lits → is_false entries (lit_at lits p) ≡ false → p ≡ i
-            by_order p lp p_free = elim (order p i) [
-              | inl same ↦ same
-              | inr other ↦ elim other [
-                | inl lt ↦ absurd (never _ (before p (omega arith) lt) p_free)
-                | inr gt ↦ absurd (never _ (after p (omega arith) lp) p_free)
-              ]
-            ]
-
-        not_two : HasTwoFree entries lits → ⊥
-        not_two two = two.4 (sym (here two.0 two.2 two.5) ∙ here two.1 two.3 two.6)
-
-        pub only_one : MayBe → IsOnlyOne entries lits (lit_at lits i)
-        only_one may = elim may [
-          | inl two ↦ absurd (not_two two)
-          | inr one ↦ elim one [
-            | inl is ↦ subst (IsOnlyOne entries lits) (sym (only_here is.0 is.2)) is.2
-            | inr is ↦ subst (IsOnlyOne entries lits) (sym (only_here is.0 is.1)) is.1
-          ]
-        ]
-
-        pub is_true_here : MayBe → is_false entries (negation (lit_at lits i)) ≡ true →
-            IsTrueAt entries lits i
-        is_true_here may true_now = elim may [
-          | inl two ↦ absurd (not_two two)
-          | inr one ↦ elim one [
-            | inl is ↦ (is.1, true_here is, is.4)
-            | inr is ↦ absurd (true_not_open true_now is)
-          ]
-        ]
-
-        pub is_open_here : MayBe → is_false entries (negation (lit_at lits i)) ≡ false →
-            (true_at entries (lit_at lits i) ≡ None) × (level ≡ highest entries lits)
-        is_open_here may not_true = elim may [
-          | inl two ↦ absurd (not_two two)
-          | inr one ↦ elim one [
-            | inl is ↦ absurd (open_not_true not_true is)
-            | inr is ↦ (open_here is, is.3)
-          ]
-        ]
-
-        pub open_alone : is_false entries (negation (lit_at lits i)) ≡ false →
-            HasTwoFree entries lits ⊎ HasOneTrue entries lits → ⊥
-        open_alone not_true other =
-            elim other [ inl two ↦ not_two two | inr is ↦ open_not_true not_true is ]
-
--- the clause is not due in the first two cases
-pub attaches_plain : (old new : WatchState) (lits : Clause) (id : ℕ) (c : ClauseRef) →
-    IsAttachedAs old new lits id None c → (HasOneOpen old.trail old.level lits → ⊥) →
-    Attaches old new lits id c
-attaches_plain old new lits id c a not_open = record {
-  place = a.place;
-  order = a.order;
-  same = a.same;
-  is =
-      a.is ∙ (λ x. record old {
-        clauses = old.clauses ++ record { place = c; id = id; lits = a.order } ∷ [];
-        due =
-            sym due_is x;
-      });
-  due = λ h. absurd (not_open h);
-  not_due = λ h. due_is;
-}
-  where
-    due_is : new.due ≡ None
-    due_is = ap (λ (s : WatchState). s.due) a.is
-
--- and is in the third
-pub attaches_due : (old new : WatchState) (lits : Clause) (id : ℕ) (c : ClauseRef) →
-    IsAttachedAs old new lits id (Some c) c →
-    (HasTwoFree old.trail lits ⊎ HasOneTrue old.trail lits → ⊥) →
-    Attaches old new lits id c
-attaches_due old new lits id c a no_other = record {
-  place = a.place;
-  order = a.order;
-  same = a.same;
-  is =
-      a.is ∙ (λ x. record old {
-        clauses = old.clauses ++ record { place = c; id = id; lits = a.order } ∷ [];
-        due =
-            sym due_is x;
-      });
-  due = λ h. due_is;
-  not_due = λ h. absurd (no_other h);
-}
-  where
-    due_is : new.due ≡ Some c
-    due_is = ap (λ (s : WatchState). s.due) a.is
+  pub attaches : (HasOneOpen old.trail old.level lits → due ≡ Some c) →
+      (HasTwoFree old.trail lits ⊎ HasOneTrue old.trail lits → due ≡ None) →
+      Attaches old new lits id c
+  attaches open_due other_not = record {
+    place = a.place;
+    order = a.order;
+    same = a.same;
+    is =
+        a.is ∙ (λ x. record old {
+          clauses = old.clauses ++ record { place = c; id = id; lits = a.order } ∷ [];
+          due =
+              sym due_is x;
+        });
+    due = λ h. due_is ∙ open_due h;
+    not_due = λ h. due_is ∙ other_not h;
+  }
 
 -- a clause of the watches' variables has not too many literals
-pub few_lits : (c : ChainsState) (t : TrailState) (q level : ℕ) (due : Option ClauseRef)
-    (s : WatchState) (lits : Clause) → IsWatches c t q level due →
-    watch_state c t q level due ≡ s → IsSimple s.vars lits → length lits ≤ LITERAL_LIMIT
-few_lits c t q level due s lits h view simple =
-    let few = simple_few c.vars lits (subst (λ (x : WatchState). IsSimple x.vars lits) (sym view)
-    simple) in
-    let most = h.whole.chained.few in
-    omega arith
+module _ {c : ChainsState} {t : TrailState} {q level : ℕ} {due : Option ClauseRef}
+    {s : WatchState} {lits : Clause} where
+  pub few_lits : IsWatches c t q level due → watch_state c t q level due ≡ s →
+      IsSimple s.vars lits → length lits ≤ LITERAL_LIMIT
+  few_lits h view simple =
+      let few = simple_few c.vars lits (subst (λ (x : WatchState). IsSimple x.vars lits) (sym view)
+      simple) in
+      let most = h.whole.chained.few in
+      omega arith

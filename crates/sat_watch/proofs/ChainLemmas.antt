@@ -12,7 +12,7 @@ use Rattle.sat_watch.specs.Chains.{holders, AreUnmarked, ChainsState, AreOnce, H
 use Rattle.sat_arena.proofs.StoreLaws.{same_or_other}
 use Rattle.sat_watch.proofs.PathLemmas.{at_first, last_in_all, once_before, PutsFirst, TakesOut, head_behind, put_first, same_chain, take_out, whole_chain}
 use Rattle.sat_arena.proofs.StoreLaws.{changed_other, changed_same, held_changed}
-use Rattle.sat_watch.proofs.StoredLemmas.{counted_changed, link_mark, placed_changed, unmarked_changed, ids_changed, length_changed, next_is_held}
+use Rattle.sat_watch.proofs.StoredLemmas.{counted_changed, link_id, link_lits, link_mark, link_place, placed_changed, unmarked_changed, ids_changed, length_changed, next_is_held}
 use Rattle.sat_watch.proofs.WatchLemmas.{among_swap, length_swap, Moves, link_other, link_own, lit_tells, moves, simple_swap, goes_on}
 use Rattle.sat_watch.proofs.TrailLemmas.{never}
 
@@ -58,17 +58,13 @@ pub rewatched_is : (ks : List Stored) (before : Option Place) (at : Place) (i : 
     IsRewatched ks (changed (with_link at.which head) at.clause
     (changed (with_swap at.which i) at.clause (unlinked before after ks))) before at i after head
 rewatched_is ks before at i after head held placed = of_before before placed where
-  link_stays : (w : ℕ) (o : Option ClauseRef) (k : Stored) → (with_link w o k).place ≡ k.place
-  link_stays zero o k = refl
-  link_stays (suc w) o k = refl
-
   twice : (l : List Stored) → is_held l at.clause ≡ true →
       stored_at (changed (with_link at.which head) at.clause
       (changed (with_swap at.which i) at.clause l)) at.clause ≡ with_watch at.which i head
       (stored_at l at.clause)
   twice l h =
       changed_same (with_link at.which head) at.clause (changed (with_swap at.which i) at.clause l)
-      (link_stays at.which head)
+      (link_place at.which head)
       (held_changed (with_swap at.which i) at.clause at.clause l (λ k. refl) ∙ h)
       ∙ ap (with_link at.which head) (changed_same (with_swap at.which i) at.clause l (λ k. refl) h)
 
@@ -77,7 +73,7 @@ rewatched_is ks before at i after head held placed = of_before before placed whe
       (changed (with_swap at.which i) at.clause l)) d ≡ stored_at l d
   twice_other l d ne =
       changed_other (with_link at.which head) at.clause d
-      (changed (with_swap at.which i) at.clause l) (link_stays at.which head) ne
+      (changed (with_swap at.which i) at.clause l) (link_place at.which head) ne
       ∙ changed_other (with_swap at.which i) at.clause d l (λ k. refl) ne
 
   twice_held : (l : List Stored) (d : ClauseRef) →
@@ -85,19 +81,15 @@ rewatched_is ks before at i after head held placed = of_before before placed whe
       (changed (with_swap at.which i) at.clause l)) d ≡ is_held l d
   twice_held l d =
       held_changed (with_link at.which head) at.clause d
-      (changed (with_swap at.which i) at.clause l) (link_stays at.which head)
+      (changed (with_swap at.which i) at.clause l) (link_place at.which head)
       ∙ held_changed (with_swap at.which i) at.clause d l (λ k. refl)
-
-  link_id : (w : ℕ) (o : Option ClauseRef) (k : Stored) → (with_link w o k).id ≡ k.id
-  link_id zero o k = refl
-  link_id (suc w) o k = refl
 
   twice_ids : (l : List Stored) (d : ClauseRef) →
       (stored_at (changed (with_link at.which head) at.clause
       (changed (with_swap at.which i) at.clause l)) d).id ≡ (stored_at l d).id
   twice_ids l d =
       ids_changed (with_link at.which head) at.clause d (changed (with_swap at.which i) at.clause l)
-      (link_stays at.which head) (link_id at.which head)
+      (link_place at.which head) (link_id at.which head)
       ∙ ids_changed (with_swap at.which i) at.clause d l (λ k. refl) (λ k. refl)
 
   twice_count : (l : List Stored) →
@@ -126,26 +118,26 @@ rewatched_is ks before at i after head held placed = of_before before placed whe
       record {
         moved =
             twice l (held_changed (with_link p.which after) p.clause at.clause ks
-            (link_stays p.which after) ∙ held)
+            (link_place p.which after) ∙ held)
             ∙ ap (with_watch at.which i head)
             (changed_other (with_link p.which after) p.clause at.clause ks
-            (link_stays p.which after) (λ e. this.1 (sym e)));
+            (link_place p.which after) (λ e. this.1 (sym e)));
         relinked = λ q e. let same : p ≡ q = cc in
             subst (λ r. stored_at
             (changed (with_link at.which head) at.clause
             (changed (with_swap at.which i) at.clause l)) r.clause ≡ with_link r.which after
             (stored_at ks r.clause)) same
             (twice_other l p.clause this.1 ∙ changed_same (with_link p.which after) p.clause ks
-            (link_stays p.which after) this.0);
+            (link_place p.which after) this.0);
         others =
             λ d ne nb. twice_other l d ne ∙ changed_other (with_link p.which after) p.clause d ks
-            (link_stays p.which after) (λ e. nb (ap Some (sym e)));
+            (link_place p.which after) (λ e. nb (ap Some (sym e)));
         held =
             λ d. twice_held l d ∙ held_changed (with_link p.which after) p.clause d ks
-            (link_stays p.which after);
+            (link_place p.which after);
         ids =
             λ d. twice_ids l d ∙ ids_changed (with_link p.which after) p.clause d ks
-            (link_stays p.which after) (link_id p.which after);
+            (link_place p.which after) (link_id p.which after);
         count = twice_count l ∙ length_changed (with_link p.which after) p.clause ks;
       }
 
@@ -225,10 +217,6 @@ module _ (n : ℕ) (ks new : List Stored) (f : Lit) (before : Option Place) (at 
   goes_after =
       goes_on n after (stored_at ks at.clause) f (simple at.clause place.held) at.which place.which
       place.watch
-
-  link_lits : (w : ℕ) (o : Option ClauseRef) (k : Stored) → (with_link w o k).lits ≡ k.lits
-  link_lits zero o k = refl
-  link_lits (suc w) o k = refl
 
   pub lits_moved : (stored_at new at.clause).lits ≡ swap (stored_at ks at.clause).lits at.which i
   lits_moved =
@@ -348,10 +336,6 @@ pub head_held : (n : ℕ) (ks : List Stored) (heads : List (Option ClauseRef)) (
 head_held n ks heads l d h within e =
     let chain = h.chains l within in path_held ks l (head_in heads l) chain.refs d chain.is.back e
 
-pub place_held : (ks : List Stored) (f : Lit) (head before at : Option ClauseRef) (d : ClauseRef) →
-    HasCursor (next_on ks f) head before at → at ≡ Some d → is_held ks d ≡ true
-place_held ks f head before at d cursor e = path_held ks f at cursor.rest d cursor.is.back e
-
 pub after_held : (n : ℕ) (ks : List Stored) (f : Lit) (head before after : Option ClauseRef)
     (at : Place) →
     ((c : ClauseRef) → is_held ks c ≡ true → IsSimple n (stored_at ks c).lits) → IsPlaceOf ks f at →
@@ -391,20 +375,14 @@ pub unlinked_at : (ks : List Stored) (before : Option Place) (after : Option Cla
     stored_at (unlinked before after ks) at ≡ stored_at ks at
 unlinked_at ks None after at apart = refl
 unlinked_at ks (Some p) after at apart =
-    changed_other (with_link p.which after) p.clause at ks (stays p.which)
-    (λ e. apart p refl (sym e)) where
-      stays : (w : ℕ) (k : Stored) → (with_link w after k).place ≡ k.place
-      stays zero k = refl
-      stays (suc w) k = refl
+    changed_other (with_link p.which after) p.clause at ks (link_place p.which after)
+    (λ e. apart p refl (sym e))
 
 pub unlinked_held : (ks : List Stored) (before : Option Place) (after : Option ClauseRef)
     (d : ClauseRef) → is_held (unlinked before after ks) d ≡ is_held ks d
 unlinked_held ks None after d = refl
 unlinked_held ks (Some p) after d =
-    held_changed (with_link p.which after) p.clause d ks (stays p.which) where
-      stays : (w : ℕ) (k : Stored) → (with_link w after k).place ≡ k.place
-      stays zero k = refl
-      stays (suc w) k = refl
+    held_changed (with_link p.which after) p.clause d ks (link_place p.which after)
 
 -- what moving a watch asks for
 pub record CanRewatch (n : ℕ) (ks : List Stored) (heads : List (Option ClauseRef)) (f : Lit)
@@ -418,8 +396,8 @@ pub record CanRewatch (n : ℕ) (ks : List Stored) (heads : List (Option ClauseR
   pub cursor : HasCursor (next_on ks f) (head_in heads f) (clause_of before) (Some at.clause)
   pub goes : link_of (stored_at ks at.clause) at.which ≡ after
 
-module _ (n : ℕ) (ks : List Stored) (heads : List (Option ClauseRef)) (f : Lit)
-    (before : Option Place) (at : Place) (i : ℕ) (after : Option ClauseRef)
+module _ {n : ℕ} {ks : List Stored} {heads : List (Option ClauseRef)} {f : Lit}
+    {before : Option Place} {at : Place} {i : ℕ} {after : Option ClauseRef}
     (can : CanRewatch n ks heads f before at i after) where
   abbrev pub target : Lit
   target = lit_at (stored_at ks at.clause).lits i
@@ -474,19 +452,11 @@ module _ (n : ℕ) (ks : List Stored) (heads : List (Option ClauseRef)) (f : Lit
     of_option None = length-set heads (index_of f) after ∙ can.chained.many
     of_option (Some p) = can.chained.many
 
-  link_stays : (w : ℕ) (o : Option ClauseRef) (k : Stored) → (with_link w o k).place ≡ k.place
-  link_stays zero o k = refl
-  link_stays (suc w) o k = refl
-
-  link_same : (w : ℕ) (o : Option ClauseRef) (k : Stored) → (with_link w o k).lits ≡ k.lits
-  link_same zero o k = refl
-  link_same (suc w) o k = refl
-
   placed_unlinked : (b : Option Place) → ArePlaced 0 (unlinked b after ks)
   placed_unlinked None = can.chained.placed
   placed_unlinked (Some p) =
-      placed_changed (with_link p.which after) p.clause 0 ks (link_stays p.which after)
-      (λ k. ap length (link_same p.which after k)) can.chained.placed
+      placed_changed (with_link p.which after) p.clause 0 ks (link_place p.which after)
+      (λ k. ap length (link_lits p.which after k)) can.chained.placed
 
   placed_swapped : ArePlaced 0 (changed (with_swap at.which i) at.clause (unlinked before after ks))
   placed_swapped =
@@ -497,8 +467,8 @@ module _ (n : ℕ) (ks : List Stored) (heads : List (Option ClauseRef)) (f : Lit
   now_placed =
       placed_changed (with_link at.which (head_in heads target)) at.clause 0
       (changed (with_swap at.which i) at.clause (unlinked before after ks))
-      (link_stays at.which (head_in heads target))
-      (λ k. ap length (link_same at.which (head_in heads target) k)) placed_swapped
+      (link_place at.which (head_in heads target))
+      (λ k. ap length (link_lits at.which (head_in heads target) k)) placed_swapped
 
   held_unlinked : is_held (unlinked before after ks) at.clause ≡ true
   held_unlinked = unlinked_held ks before after at.clause ∙ can.place.held
@@ -512,7 +482,7 @@ module _ (n : ℕ) (ks : List Stored) (heads : List (Option ClauseRef)) (f : Lit
       (held_changed (with_swap at.which i) at.clause at.clause (unlinked before after ks)
       (λ k. refl) ∙ held_unlinked)
       (ap (λ x. is_among x l)
-      (link_same at.which (head_in heads target)
+      (link_lits at.which (head_in heads target)
       (stored_at (changed (with_swap at.which i) at.clause (unlinked before after ks)) at.clause)))
       ∙ (counted_changed (λ (k : Stored). is_among k.lits l) (with_swap at.which i) at.clause 0
       (unlinked before after ks) (placed_unlinked before) held_unlinked
@@ -526,7 +496,7 @@ module _ (n : ℕ) (ks : List Stored) (heads : List (Option ClauseRef)) (f : Lit
       of_before (Some p) ok =
           counted_changed (λ (k : Stored). is_among k.lits l) (with_link p.which after) p.clause 0
           ks can.chained.placed ok.held
-          (ap (λ x. is_among x l) (link_same p.which after (stored_at ks p.clause)))
+          (ap (λ x. is_among x l) (link_lits p.which after (stored_at ks p.clause)))
 
   now_unmarked : AreUnmarked clauses_after
   now_unmarked =

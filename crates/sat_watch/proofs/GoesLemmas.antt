@@ -96,30 +96,31 @@ lits_trans base later f a b c weaker x y = record {
 }
 
 -- a step after a walk
-pub goes_trans : (base : List TrailEntry) (level : ℕ) (f : Lit) (a b c : List Stored)
-    (now later : List TrailEntry) →
-    Goes base level f a b base now → Goes now level f b c now later →
-    Goes base level f a c base later
-goes_trans base level f a b c now later x y =
-    let front = x.grows in let back = y.grows in record {
-      count = y.count ∙ x.count;
-      held = λ r. y.held r ∙ x.held r;
-      ids = λ r. y.ids r ∙ x.ids r;
-      holders_same = λ l. y.holders_same l ∙ x.holders_same l;
-      lits =
-          λ r. lits_trans base now f (stored_at a r).lits (stored_at b r).lits (stored_at c r).lits
-          (λ l out. grows_not_false b level base now l front out) (x.lits r) (y.lits r);
-      grows = record {
-        added = back.added ++ front.added;
-        is =
-            back.is ∙ (ap (λ t. back.added ++ t) front.is ∙ sym
-            (append_assoc back.added front.added base));
-        implied = implied_append c level back.added front.added base
-            (subst (λ t. AreImplied c level back.added t) front.is back.implied)
-            (all_implied_move b c level front.added base y.held (λ r. (y.lits r).same)
-            front.implied);
-      };
-    }
+module _ {base : List TrailEntry} {level : ℕ} {f : Lit} {a b c : List Stored}
+    {now later : List TrailEntry} where
+  pub goes_trans : Goes base level f a b base now → Goes now level f b c now later →
+      Goes base level f a c base later
+  goes_trans x y =
+      let front = x.grows in let back = y.grows in record {
+        count = y.count ∙ x.count;
+        held = λ r. y.held r ∙ x.held r;
+        ids = λ r. y.ids r ∙ x.ids r;
+        holders_same = λ l. y.holders_same l ∙ x.holders_same l;
+        lits =
+            λ r. lits_trans base now f (stored_at a r).lits (stored_at b r).lits
+            (stored_at c r).lits (λ l out. grows_not_false b level base now l front out) (x.lits r)
+            (y.lits r);
+        grows = record {
+          added = back.added ++ front.added;
+          is =
+              back.is ∙ (ap (λ t. back.added ++ t) front.is ∙ sym
+              (append_assoc back.added front.added base));
+          implied = implied_append c level back.added front.added base
+              (subst (λ t. AreImplied c level back.added t) front.is back.implied)
+              (all_implied_move b c level front.added base y.held (λ r. (y.lits r).same)
+              front.implied);
+        };
+      }
 
 abbrev without : ClauseRef → List ClauseRef → List ClauseRef
 without c [] = []

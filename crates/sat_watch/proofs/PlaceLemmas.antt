@@ -1,5 +1,5 @@
 -- The places of variables on a trail.
-use Rattle.std.proofs.Common.{◌≡◌, ◌≢◌, ◌<◌, ◌≤◌, ◌-◌, ℕ, inl, inr, List, [], ◌∷◌, length, reverse, Option, None, Some, get_or, slice_get, refl, sym, ap, ◌∙◌, subst, arith}
+use Rattle.std.proofs.Common.{◌≡◌, ◌≢◌, ◌<◌, ◌-◌, ℕ, inl, inr, List, [], ◌∷◌, length, reverse, Option, None, Some, get_or, slice_get, refl, sym, ap, ◌∙◌, arith}
 use Rattle.std.proofs.lemmas.Bool.{eq-eqb, ne_eqb}
 use Rattle.std.proofs.lemmas.Bool.Decides.{eqb_tells}
 use Rattle.std.proofs.lemmas.List.{get_or_default, length-reverse, reverse-append, reverse-reverse}
@@ -138,12 +138,3 @@ module _ (vars : ℕ) (items : List TrailEntry) (places : List ℕ) (many : leng
             ∙ ap (λ (xs : List TrailEntry). slice_get xs at.0) (sym (reverse-reverse items)) ∙ at.3,
         at.4,
       )
-
-  pub level_read_false : (l : Lit) (v r level : ℕ) → IsOnce (reverse items) → IsWithin vars l →
-      v ≡ variable l → r ≡ get_or places (v - 1) r →
-      true_at (reverse items) (negation l) ≡ Some level →
-      (e : TrailEntry) × (slice_get items r ≡ Some e) × (e.level ≡ level)
-  level_read_false l v r level once within v_is r_is is =
-      level_read (negation l) v r level once
-      (subst (λ (n : ℕ). (1 ≤ n) × (n ≤ vars)) (sym (variable_negation l)) within)
-      (v_is ∙ sym (variable_negation l)) r_is is

@@ -12,7 +12,7 @@ use Rattle.sat_arena.proofs.StoreLaws.{same_or_other}
 use Rattle.sat_watch.specs.Chains.{AreUnmarked, HasHead, IsChained, head_in, index_of, is_in, lit_at, literals}
 use Rattle.sat_watch.specs.Relinking.{AreRefsOf, AreUnlinked, IsRelinking, heads_with, linked, marked}
 use Rattle.sat_watch.specs.Watches.{Attached, attached, is_attached, lits_at}
-use Rattle.sat_watch.proofs.AttachLemmas.{absent, long_attached, short_attached}
+use Rattle.sat_watch.proofs.AttachLemmas.{absent, changed_behind, found_behind, long_attached, short_attached}
 use Rattle.sat_watch.proofs.ChainLemmas.{empty_chained, head_held, index_within}
 use Rattle.sat_watch.proofs.PathLemmas.{in_back, in_here}
 use Rattle.sat_watch.proofs.StoredLemmas.{placed_changed, unmarked_changed}
@@ -114,34 +114,12 @@ heads_short (a ∷ []) c heads short = refl
 heads_short (a ∷ b ∷ ls) c heads short = absurd (omega arith)
 
 -- linking changes the links alone
-module _ (lits : Clause) (heads : List (Option ClauseRef)) where
-  linked_place : (k : Stored) → (linked lits heads k).place ≡ k.place
-  linked_place k = by_lits lits where
-    by_lits : (ls : Clause) → (linked ls heads k).place ≡ k.place
-    by_lits [] = refl
-    by_lits (a ∷ []) = refl
-    by_lits (a ∷ b ∷ ls) = refl
-
-  linked_lits : (k : Stored) → (linked lits heads k).lits ≡ k.lits
-  linked_lits k = by_lits lits where
-    by_lits : (ls : Clause) → (linked ls heads k).lits ≡ k.lits
-    by_lits [] = refl
-    by_lits (a ∷ []) = refl
-    by_lits (a ∷ b ∷ ls) = refl
-
-  linked_mark : (k : Stored) → (linked lits heads k).mark ≡ k.mark
-  linked_mark k = by_lits lits where
-    by_lits : (ls : Clause) → (linked ls heads k).mark ≡ k.mark
-    by_lits [] = refl
-    by_lits (a ∷ []) = refl
-    by_lits (a ∷ b ∷ ls) = refl
-
-  linked_attached : (k : Stored) → attached (linked lits heads k) ≡ attached k
-  linked_attached k = by_lits lits where
-    by_lits : (ls : Clause) → attached (linked ls heads k) ≡ attached k
-    by_lits [] = refl
-    by_lits (a ∷ []) = refl
-    by_lits (a ∷ b ∷ ls) = refl
+linked_same : {A : Type 0} (lits : Clause) (heads : List (Option ClauseRef)) (f : Stored → A) →
+    ((k : Stored) (x y : Option ClauseRef) → f (with_link 1 x (with_link 0 y k)) ≡ f k) →
+    (k : Stored) → f (linked lits heads k) ≡ f k
+linked_same [] heads f stays k = refl
+linked_same (a ∷ []) heads f stays k = refl
+linked_same (a ∷ b ∷ ls) heads f stays k = stays k (head_in heads b) (head_in heads a)
 
 attached_changed : (f : Stored → Stored) (c : ClauseRef) (ks : List Stored) →
     ((k : Stored) → attached (f k) ≡ attached k) →
@@ -184,17 +162,6 @@ append_held (k ∷ ks) more d held = elim (same_or_other k.place d) [
   | inr other ↦ rw other.0 (append_held ks more d (rw other.0 at held))
 ]
 
-found_behind : (ks : List Stored) (k : Stored) (more : List Stored) → is_held ks k.place ≡ false →
-    stored_at (ks ++ k ∷ more) k.place ≡ k
-found_behind [] k more out = elim (same_or_other k.place k.place) [
-  | inl same ↦ rw same.0 refl
-  | inr other ↦ absurd (other.1 refl)
-]
-found_behind (x ∷ ks) k more out = elim (same_or_other x.place k.place) [
-  | inl same ↦ (let clash : true ≡ false = rw same.0 at out in cc)
-  | inr other ↦ rw other.0 (found_behind ks k more (rw other.0 at out))
-]
-
 held_behind : (ks : List Stored) (k : Stored) (more : List Stored) →
     is_held (ks ++ k ∷ more) k.place ≡ true
 held_behind [] k more = elim (same_or_other k.place k.place) [
@@ -206,29 +173,8 @@ held_behind (x ∷ ks) k more = elim (same_or_other x.place k.place) [
   | inr other ↦ rw other.0 (held_behind ks k more)
 ]
 
-changed_absent : (f : Stored → Stored) (c : ClauseRef) (ks : List Stored) → is_held ks c ≡ false →
-    changed f c ks ≡ ks
-changed_absent f c [] out = refl
-changed_absent f c (k ∷ ks) out = elim (same_or_other k.place c) [
-  | inl same ↦ (let clash : true ≡ false = rw same.0 at out in cc)
-  | inr other ↦ rw other.0 (ap (λ l. k ∷ l) (changed_absent f c ks (rw other.0 at out)))
-]
-
-changed_behind : (f : Stored → Stored) (ks : List Stored) (k : Stored) (more : List Stored) →
-    is_held ks k.place ≡ false → is_held more k.place ≡ false →
-    changed f k.place (ks ++ k ∷ more) ≡ ks ++ f k ∷ more
-changed_behind f [] k more out later = elim (same_or_other k.place k.place) [
-  | inl same ↦ rw same.0 (ap (λ l. f k ∷ l) (changed_absent f k.place more later))
-  | inr other ↦ absurd (other.1 refl)
-]
-changed_behind f (x ∷ ks) k more out later = elim (same_or_other x.place k.place) [
-  | inl same ↦ (let clash : true ≡ false = rw same.0 at out in cc)
-  | inr other ↦ rw other.0
-      (ap (λ l. x ∷ l) (changed_behind f ks k more (rw other.0 at out) later))
-]
-
-module _ (n : ℕ) (done : List Stored) (k : Stored) (todo : List Stored)
-    (heads : List (Option ClauseRef)) (h : IsChained n done heads)
+module _ {n : ℕ} {done : List Stored} {heads : List (Option ClauseRef)} (k : Stored)
+    (todo : List Stored) (h : IsChained n done heads)
     (placed : ArePlaced 0 (done ++ k ∷ todo)) (simple : IsSimple n k.lits)
     (unmarked : k.mark ≡ false) where
   place : k.place ≡ ref (size_all done)
@@ -301,9 +247,9 @@ relinking_begins n base heads u = record {
   chained = empty_chained n [] heads u.few refl u.empty;
 }
 
-module _ (n : ℕ) (base : List Stored) (u : (c : ClauseRef) → is_held base c ≡ true →
-    IsSimple n (stored_at base c).lits) (p : ℕ) (now : List Stored)
-    (heads : List (Option ClauseRef)) (r : IsRelinking n base p now heads) (lt : p < length now)
+module _ {n : ℕ} {base : List Stored} {p : ℕ} {now : List Stored}
+    {heads : List (Option ClauseRef)} (u : (c : ClauseRef) → is_held base c ≡ true →
+    IsSimple n (stored_at base c).lits) (r : IsRelinking n base p now heads) (lt : p < length now)
   where
     abbrev next : Stored
     next = get_or now p no_clause
@@ -349,7 +295,7 @@ module _ (n : ℕ) (base : List Stored) (u : (c : ClauseRef) → is_held base c 
     placed_now : ArePlaced 0 (done ++ next ∷ todo)
     placed_now = subst (ArePlaced 0) cut r.placed
 
-    module _ (c : ClauseRef) (at : c ≡ next.place) where
+    module _ {c : ClauseRef} (at : c ≡ next.place) where
       pub relink_held : is_held now c ≡ true
       relink_held = subst (λ d. is_held now d ≡ true) (sym at) next_held
 
@@ -360,7 +306,7 @@ module _ (n : ℕ) (base : List Stored) (u : (c : ClauseRef) → is_held base c 
       relink_head x lx two =
           subst (λ (y : List Stored × ClauseRef). HasHead y.0 heads y.1 x)
           (λ i. (sym cut i, sym at i))
-          (middle_head n done next todo heads r.chained placed_now next_simple next_unmarked x lx
+          (middle_head next todo r.chained placed_now next_simple next_unmarked x lx
           (subst (λ (l : Clause). 2 ≤ length l) lits_are two))
 
       -- one more is linked
@@ -371,7 +317,7 @@ module _ (n : ℕ) (base : List Stored) (u : (c : ClauseRef) → is_held base c 
           let f = linked (literals now c) heads in
           let moved : new ≡ done ++ linked next.lits heads next ∷ todo =
           is ∙ ((λ i. changed (linked (lits_are i) heads) (at i) (cut i)) ∙
-          middle_changed n done next todo heads r.chained placed_now next_simple next_unmarked
+          middle_changed next todo r.chained placed_now next_simple next_unmarked
           (linked next.lits heads)) in
           let taken : take (suc p) new ≡ done ++ linked next.lits heads next ∷ [] =
           ap (take (suc p)) moved ∙ taken_is in
@@ -379,20 +325,22 @@ module _ (n : ℕ) (base : List Stored) (u : (c : ClauseRef) → is_held base c 
           front_is ∙ (λ i. heads_with (lits_are i) (at i) heads) in
           record {
             same =
-                ap (map attached) is ∙
-                (attached_changed f c now (linked_attached (literals now c) heads) ∙ r.same);
+                ap (map attached) is ∙ (attached_changed f c now
+                (linked_same (literals now c) heads attached (λ k x y. refl)) ∙ r.same);
             placed =
                 subst (ArePlaced 0) (sym is)
-                (placed_changed f c 0 now (linked_place (literals now c) heads)
-                (λ k. ap length (linked_lits (literals now c) heads k)) r.placed);
+                (placed_changed f c 0 now
+                (linked_same (literals now c) heads (λ k. k.place) (λ k x y. refl))
+                (linked_same (literals now c) heads (λ k. length k.lits) (λ k x y. refl))
+                r.placed);
             unmarked =
                 subst AreUnmarked (sym is)
-                (unmarked_changed f c now (linked_mark (literals now c) heads) r.unmarked);
+                (unmarked_changed f c now
+                (linked_same (literals now c) heads (λ k. k.mark) (λ k x y. refl)) r.unmarked);
             chained =
                 subst (λ (y : List Stored × List (Option ClauseRef)). IsChained n y.0 y.1)
                 (λ i. (sym taken i, sym fronts_are i))
-                (middle_chained n done next todo heads r.chained placed_now next_simple
-                next_unmarked);
+                (middle_chained next todo r.chained placed_now next_simple next_unmarked);
           }
         where
           long : length done ≡ p
@@ -410,17 +358,14 @@ module _ (n : ℕ) (base : List Stored) (u : (c : ClauseRef) → is_held base c 
               (λ i. take (sym size i) (sym (append_assoc done (x ∷ []) todo) i)) ∙
               take-append_seam (done ++ x ∷ []) todo
 
-pub relinking_ends : (n : ℕ) (base : List Stored) (p : ℕ) (now : List Stored)
-    (heads : List (Option ClauseRef)) → IsRelinking n base p now heads → p ≡ length now →
-    IsChained n now heads
-relinking_ends n base p now heads r end =
-    subst (λ l. IsChained n l heads) (ap (λ m. take m now) end ∙ take-length now) r.chained
+module _ {n : ℕ} {base : List Stored} {p : ℕ} {now : List Stored}
+    {heads : List (Option ClauseRef)} (r : IsRelinking n base p now heads) where
+  pub relinking_ends : p ≡ length now → IsChained n now heads
+  relinking_ends end =
+      subst (λ l. IsChained n l heads) (ap (λ m. take m now) end ∙ take-length now) r.chained
 
-pub count_same : (n : ℕ) (base : List Stored) (p : ℕ) (now : List Stored)
-    (heads : List (Option ClauseRef)) → IsRelinking n base p now heads →
-    length now ≡ length base
-count_same n base p now heads r =
-    sym (length-map now attached) ∙ (ap length r.same ∙ length-map base attached)
+  pub count_same : length now ≡ length base
+  count_same = sym (length-map now attached) ∙ (ap length r.same ∙ length-map base attached)
 
 pub count_of_moves : (base : List Stored) (moves : List Move) → AreRefsOf base moves →
     length moves ≡ length base
@@ -428,20 +373,21 @@ count_of_moves base moves refs =
     sym (length-map moves (λ m. m.after)) ∙ (ap length refs ∙ length-map base (λ k. k.place))
 
 -- the pair at the position leads to the next clause
-pub pair_leads : (n : ℕ) (base : List Stored) (p : ℕ) (now : List Stored)
-    (heads : List (Option ClauseRef)) (moves : List Move) (d : Move) →
-    IsRelinking n base p now heads → AreRefsOf base moves → p < length moves →
-    (get_or moves p d).after ≡ (get_or now p no_clause).place
-pair_leads n base p now heads moves d r refs lt =
-    let places : map (λ (k : Stored). k.place) now ≡ map (λ (k : Stored). k.place) base =
-    sym (places_of now) ∙ (ap (map (λ (a : Attached). a.place)) r.same ∙ places_of base) in
-    let few : p < length now =
-    omega (arith, count_of_moves base moves refs, count_same n base p now heads r) in
-    sym (get_or-map (λ (x : Move). x.after) moves p d (ref 0) lt) ∙
-    (ap (λ l. get_or l p (ref 0)) (refs ∙ sym places) ∙
-    get_or-map (λ (k : Stored). k.place) now p no_clause (ref 0) few)
-  where
-    places_of : (ks : List Stored) →
-        map (λ (a : Attached). a.place) (map attached ks) ≡ map (λ (k : Stored). k.place) ks
-    places_of [] = refl
-    places_of (k ∷ ks) = ap (λ l. k.place ∷ l) (places_of ks)
+module _ {n : ℕ} {base : List Stored} {p : ℕ} {now : List Stored}
+    {heads : List (Option ClauseRef)} (moves : List Move) (d : Move)
+    (r : IsRelinking n base p now heads) (refs : AreRefsOf base moves) (lt : p < length moves) where
+  pub pair_few : p < length now
+  pair_few = omega (arith, lt, count_of_moves base moves refs, count_same r)
+
+  pub pair_leads : (get_or moves p d).after ≡ (get_or now p no_clause).place
+  pair_leads =
+      let places : map (λ (k : Stored). k.place) now ≡ map (λ (k : Stored). k.place) base =
+      sym (places_of now) ∙ (ap (map (λ (a : Attached). a.place)) r.same ∙ places_of base) in
+      sym (get_or-map (λ (x : Move). x.after) moves p d (ref 0) lt) ∙
+      (ap (λ l. get_or l p (ref 0)) (refs ∙ sym places) ∙
+      get_or-map (λ (k : Stored). k.place) now p no_clause (ref 0) pair_few)
+    where
+      places_of : (ks : List Stored) →
+          map (λ (a : Attached). a.place) (map attached ks) ≡ map (λ (k : Stored). k.place) ks
+      places_of [] = refl
+      places_of (k ∷ ks) = ap (λ l. k.place ∷ l) (places_of ks)

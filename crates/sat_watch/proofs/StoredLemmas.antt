@@ -127,6 +127,19 @@ pub unmarked_append : (ks more : List Stored) → AreUnmarked ks → AreUnmarked
 unmarked_append [] more un un' = un'
 unmarked_append (k ∷ ks) more un un' = (un.0, unmarked_append ks more un.1 un')
 
+-- a link changes nothing else
 pub link_mark : (w : ℕ) (o : Option ClauseRef) (k : Stored) → (with_link w o k).mark ≡ k.mark
 link_mark zero o k = refl
 link_mark (suc w) o k = refl
+
+pub link_place : (w : ℕ) (o : Option ClauseRef) (k : Stored) → (with_link w o k).place ≡ k.place
+link_place zero o k = refl
+link_place (suc w) o k = refl
+
+pub link_id : (w : ℕ) (o : Option ClauseRef) (k : Stored) → (with_link w o k).id ≡ k.id
+link_id zero o k = refl
+link_id (suc w) o k = refl
+
+pub link_lits : (w : ℕ) (o : Option ClauseRef) (k : Stored) → (with_link w o k).lits ≡ k.lits
+link_lits zero o k = refl
+link_lits (suc w) o k = refl

@@ -52,11 +52,6 @@ watch_second (l ∷ m ∷ ls) f x y a goes ne = elim (lit_tells l f) [
   ]
 ]
 
-pub two_long : (lits : Clause) (w : ℕ) (f : Lit) → watch_of lits w ≡ Some f → 2 ≤ length lits
-two_long [] w f is = let clash : None ≡ Some f = is in cc
-two_long (l ∷ []) w f is = let clash : None ≡ Some f = is in cc
-two_long (l ∷ m ∷ ls) w f is = omega arith
-
 pub watch_within : (n : ℕ) (lits : Clause) (w : ℕ) (l : Lit) → IsSimple n lits →
     watch_of lits w ≡ Some l → IsWithin n l
 watch_within n [] w l simple is = let clash : None ≡ Some l = is in cc

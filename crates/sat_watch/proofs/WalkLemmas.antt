@@ -73,11 +73,10 @@ walk_begins entries level f s looks next chained within is =
       each = omega arith;
     }
 
-module _ (base : List TrailEntry) (level : ℕ) (f : Lit) (old : List Stored) (start : ℕ)
-    (s : ChainsState) (entries : List TrailEntry)
-    (before next : Option ClauseRef) (looks : ℕ)
+module _ {base : List TrailEntry} {level : ℕ} {f : Lit} {old : List Stored} {start : ℕ}
+    {s : ChainsState} {entries : List TrailEntry} {before next : Option ClauseRef} {looks : ℕ}
     (w : IsWalking base level f old start s entries before next looks) where
-  module _ (c : ClauseRef) (is : next ≡ Some c) where
+  module _ {c : ClauseRef} (is : next ≡ Some c) where
     cursor_here : IsCursor (next_on s.clauses f) (head_in s.heads f) w.kept w.rest
         before (Some c)
     cursor_here =
@@ -120,8 +119,8 @@ module _ (base : List TrailEntry) (level : ℕ) (f : Lit) (old : List Stored) (s
           before (Some r)) (sym same) cursor_first;
     }
 
-    module _ (at : Place) (same : at.clause ≡ c) (after : Option ClauseRef) (new : ChainsState)
-        (now : List TrailEntry) (last : Option ClauseRef)
+    module _ {at : Place} {after last : Option ClauseRef} {new : ChainsState}
+        {now : List TrailEntry} (same : at.clause ≡ c)
         (visited : IsVisited f before at after s new now last)
         (goes : Goes entries level f s.clauses new.clauses entries now) where
       here : IsCursor (next_on s.clauses f) (head_in s.heads f) w.kept (at.clause ∷ first.0)
@@ -150,7 +149,7 @@ module _ (base : List TrailEntry) (level : ℕ) (f : Lit) (old : List Stored) (s
                   goes.grows (w.kept_true d was))
               | inr is_true ↦ is_true
             ];
-            goes = goes_trans base level f old s.clauses new.clauses entries now w.goes goes;
+            goes = goes_trans w.goes goes;
             few = omega arith;
             each = omega arith;
           }

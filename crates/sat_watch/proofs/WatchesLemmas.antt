@@ -4,7 +4,7 @@ use Rattle.std.specs.Prelude.{is_some}
 use Rattle.std.proofs.lemmas.List.Elements.{All-append, All-cons, All-drop, All-head, All-nil, All-tail, All-take}
 use Rattle.std.proofs.lemmas.List.Sorted.{IsPermutation-refl, IsPermutation-trans, length_permutation}
 use Rattle.sat_clause.specs.declared.literal.Lit.{Lit}
-use Rattle.sat_clause.specs.Literal.{Clause, IsWithin, lit, negation, is_among}
+use Rattle.sat_clause.specs.Literal.{Clause, IsWithin, lit, negation, is_among, variable}
 use Rattle.sat_arena.specs.declared.clause_ref.ClauseRef.{ClauseRef}
 use Rattle.sat_arena.specs.Store.{ArePlaced, Stored, behind_of, first_ref, is_held, size_of, stored_at}
 use Rattle.sat_watch.specs.declared.entry.TrailEntry.{TrailEntry}
@@ -14,9 +14,10 @@ use Rattle.sat_watch.specs.Levels.{AreLeveled, IsLeveledBy, IsWatchStore}
 use Rattle.sat_watch.specs.Trail.{IsOpen, TrailState, falses}
 use Rattle.sat_watch.proofs.FewLemmas.{longer_trail}
 use Rattle.sat_watch.proofs.BackLemmas.{settled_below, settled_now}
-use Rattle.sat_watch.specs.Watched.{AreImplied, AreWhole, Goes, HasCounted, IsReason, LitsGo, is_false}
+use Rattle.sat_watch.specs.Watched.{AreImplied, AreWhole, Goes, HasCounted, IsReason, LitsGo, OtherIsTrue, is_false}
 use Rattle.sat_watch.specs.Watches.{AreInPlace, Attached, attached_behind, first_attached, HasCause, HasLevels, HasLooked, IsSettledState, IsWatches, IsWithinLooks, count_of, holder_count, holder_sum, left_queued, taken_between, Propagates, SameClauses, WatchState, attached, id_at, is_attached, lits_at, watch_state, watcher_count, watcher_sum}
 use Rattle.sat_arena.proofs.StoreLaws.{same_or_other}
+use Rattle.sat_watch.proofs.LevelLemmas.{store_stopped, store_taken}
 use Rattle.sat_watch.proofs.StoredLemmas.{behind_at, default_free, head_at, held_behind}
 use Rattle.sat_watch.proofs.WatchLemmas.{lit_tells}
 use Rattle.sat_clause.proofs.LiteralLaws.{among_here, among_more}
@@ -114,22 +115,25 @@ same_clauses base level f ks new entries now placed go = record {
   holders = λ l. holders_attached l new ∙ (go.holders_same l ∙ sym (holders_attached l ks));
 }
 
--- one step of propagation
-pub step_propagates : (s : WatchState) (c c' : ChainsState) (t t' : TrailState) (q q' level : ℕ)
-    (due : Option ClauseRef) (f : Lit) →
-    watch_state c t q level due ≡ s → due ≡ None → c'.vars ≡ c.vars → ArePlaced 0 c'.clauses →
-    Goes t.entries level f c.clauses c'.clauses t.entries t'.entries →
-    Propagates s (watch_state c' t' q' level due)
-step_propagates s c c' t t' q q' level due f view none vars placed go =
-    subst (λ (x : WatchState). Propagates x (watch_state c' t' q' level due)) view (record {
-      vars = vars;
-      level = refl;
-      due = none;
-      clauses = same_clauses t.entries level f c.clauses c'.clauses t.entries t'.entries placed go;
-      added = go.grows.added;
-      trail = go.grows.is;
-      added_level = added_known c'.clauses level go.grows.added t.entries go.grows.implied;
-    })
+-- where something is queued and nothing is due
+pub record AtQueue (c : ChainsState) (t : TrailState) (q level : ℕ) (due : Option ClauseRef) :
+    Type 0 where
+  pub none : due ≡ None
+  pub some : 1 ≤ q
+  pub few : q ≤ length t.entries
+  pub store : IsWatchStore c.clauses t.entries q level None
+
+pub at_queue : {c : ChainsState} {t : TrailState} {q level : ℕ} {due : Option ClauseRef}
+    {s : WatchState} → IsWatches c t q level due → watch_state c t q level due ≡ s →
+    s.due ≡ None → 1 ≤ s.queued → AtQueue c t q level due
+at_queue h view quiet some =
+    let none = ap (λ (x : WatchState). x.due) view ∙ quiet in
+    record {
+      none = none;
+      some = subst (λ (x : WatchState). 1 ≤ x.queued) (sym view) some;
+      few = h.store.few;
+      store = subst (IsWatchStore _ _ _ _) none h.store;
+    }
 
 -- the entry whose negation is walked is the one that is taken
 one_taken : (added old : List TrailEntry) (p : ℕ) (t : TrailEntry) (n m : ℕ) → p < length old →
@@ -138,56 +142,107 @@ one_taken : (added old : List TrailEntry) (p : ℕ) (t : TrailEntry) (n m : ℕ)
 one_taken added old p t n m lt is en em =
     rw (en, em, drop-append-add added old p, drop-cons old p t lt, is) refl
 
--- what one step takes from the queue
-step_taken : (c c' : ChainsState) (t t' : TrailState) (q q' level : ℕ) (due : Option ClauseRef)
-    (e : TrailEntry) (added : List TrailEntry) (result : Option ClauseRef) →
-    t'.entries ≡ added ++ t.entries → 1 ≤ q → q ≤ length t.entries →
-    slice_index_or t.entries (q - 1) e ≡ e →
-    left_queued (watch_state c' t' q' level due) result ≡ length added + (q - 1) →
-    taken_between (watch_state c t q level due) (watch_state c' t' q' level due) result ≡ e ∷ []
-step_taken c c' t t' q q' level due e added result grown some few is left =
-    let left_now = left_queued (watch_state c' t' q' level due) result in
-    let long = ap length grown ∙ length-append added t.entries in
-    let count : (length t'.entries - left_now) - (length t.entries - q) ≡ 1 =
-    omega (arith, long, left) in
-    ap (λ l. take ((length t'.entries - left_now) - (length t.entries - q)) (drop left_now l)) grown
-    ∙ one_taken added t.entries (q - 1) e left_now
-    ((length t'.entries - left_now) - (length t.entries - q)) (omega arith) is left count
+-- one step of propagation: the negation of the oldest queued entry was walked, and n were added
+pub record IsStep (c c' : ChainsState) (t t' : TrailState) (q level : ℕ) (due : Option ClauseRef)
+    (f : Lit) (e : TrailEntry) (n : ℕ) : Type 0 where
+  pub queue : AtQueue c t q level due
+  pub entry : slice_index_or t.entries (q - 1) e ≡ e
+  pub literal : f ≡ negation e.lit
+  pub some : 1 ≤ variable f
+  pub vars : c'.vars ≡ c.vars
+  pub whole : AreWhole c' t'
+  pub goes : Goes t.entries level f c.clauses c'.clauses t.entries t'.entries
+  pub more : n ≡ length goes.grows.added
 
--- the looks of one step
-pub step_looks : (s : WatchState) (c c' : ChainsState) (t t' : TrailState) (q q' level : ℕ)
-    (due : Option ClauseRef) (f : Lit) (e : TrailEntry) (added : List TrailEntry)
-    (result : Option ClauseRef) (before after : ℕ) →
-    watch_state c t q level due ≡ s → t'.entries ≡ added ++ t.entries → 1 ≤ q →
-    q ≤ length t.entries → slice_index_or t.entries (q - 1) e ≡ e → f ≡ negation e.lit →
-    left_queued (watch_state c' t' q' level due) result ≡ length added + (q - 1) →
-    after ≤ before + holders f c.clauses →
-    IsWithinLooks s (watch_state c' t' q' level due) result before after
-step_looks s c c' t t' q q' level due f e added result before after view grown some few is fis left
-    le =
-    subst (λ (x : WatchState). IsWithinLooks x (watch_state c' t' q' level due) result before after)
-    view
-    (let one = step_taken c c' t t' q q' level due e added result grown some few is left in
-    let same : holder_count (negation e.lit) (map attached c.clauses) ≡ holders f c.clauses =
-    holders_attached (negation e.lit) c.clauses ∙ ap (λ l. holders l c.clauses) (sym fis) in
-    rw one (omega arith))
+module _ {c c' : ChainsState} {t t' : TrailState} {q level : ℕ} {due : Option ClauseRef} {f : Lit}
+    {e : TrailEntry} {n : ℕ} (step : IsStep c c' t t' q level due f e n) where
+  abbrev added : List TrailEntry
+  added = step.goes.grows.added
 
--- those that still watch the literal were looked at
-pub step_each : (s : WatchState) (c c' : ChainsState) (t t' : TrailState) (q q' level : ℕ)
-    (due : Option ClauseRef) (f : Lit) (e : TrailEntry) (added : List TrailEntry)
-    (before after : ℕ) →
-    watch_state c t q level due ≡ s → t'.entries ≡ added ++ t.entries → 1 ≤ q →
-    q ≤ length t.entries → slice_index_or t.entries (q - 1) e ≡ e → f ≡ negation e.lit →
-    q' ≡ length added + (q - 1) → HasCounted before (watchers f c'.clauses) after →
-    HasLooked s (watch_state c' t' q' level due) before after
-step_each s c c' t t' q q' level due f e added before after view grown some few is fis left
-    each =
-    subst (λ (x : WatchState). HasLooked x (watch_state c' t' q' level due) before after) view
-    (let one = step_taken c c' t t' q q' level due e added None grown some few is left in
-    let same : watcher_sum (map attached c'.clauses) (e ∷ []) ≡ watchers f c'.clauses =
-    ap (λ n. n + 0) (watchers_attached (negation e.lit) c'.clauses)
-    ∙ (omega arith ∙ ap (λ l. watchers l c'.clauses) (sym fis)) in
-    rw (one, same) each)
+  pub step_propagates : (q' : ℕ) →
+      Propagates (watch_state c t q level due) (watch_state c' t' q' level due)
+  step_propagates q' = record {
+    vars = step.vars;
+    level = refl;
+    due = step.queue.none;
+    clauses =
+        same_clauses t.entries level f c.clauses c'.clauses t.entries t'.entries
+        step.whole.chained.placed step.goes;
+    added = added;
+    trail = step.goes.grows.is;
+    added_level = added_known c'.clauses level added t.entries step.goes.grows.implied;
+  }
+
+  -- what it takes from the queue
+  step_taken : (q' : ℕ) (result : Option ClauseRef) →
+      left_queued (watch_state c' t' q' level due) result ≡ q + n - 1 →
+      taken_between (watch_state c t q level due) (watch_state c' t' q' level due) result ≡ e ∷ []
+  step_taken q' result left_is =
+      let left_now = left_queued (watch_state c' t' q' level due) result in
+      let some = step.queue.some in let few = step.queue.few in let more = step.more in
+      let long = ap length step.goes.grows.is ∙ length-append added t.entries in
+      let left : left_now ≡ length added + (q - 1) = omega (arith, left_is, more, some) in
+      let count : (length t'.entries - left_now) - (length t.entries - q) ≡ 1 =
+      omega (arith, long, left) in
+      ap (λ l. take ((length t'.entries - left_now) - (length t.entries - q)) (drop left_now l))
+      step.goes.grows.is
+      ∙ one_taken added t.entries (q - 1) e left_now
+      ((length t'.entries - left_now) - (length t.entries - q)) (omega arith) step.entry left count
+
+  -- its looks
+  pub step_looks : (q' : ℕ) (result : Option ClauseRef) (before after : ℕ) →
+      left_queued (watch_state c' t' q' level due) result ≡ q + n - 1 →
+      after ≤ before + holders f c.clauses →
+      IsWithinLooks (watch_state c t q level due) (watch_state c' t' q' level due) result before
+      after
+  step_looks q' result before after left le =
+      let one = step_taken q' result left in
+      let same : holder_count (negation e.lit) (map attached c.clauses) ≡ holders f c.clauses =
+      holders_attached (negation e.lit) c.clauses ∙ ap (λ l. holders l c.clauses)
+      (sym step.literal) in
+      rw one (omega arith)
+
+  -- those that still watch the literal were looked at
+  pub step_each : (q' before after : ℕ) → q' ≡ q + n - 1 →
+      HasCounted before (watchers f c'.clauses) after →
+      HasLooked (watch_state c t q level due) (watch_state c' t' q' level due) before after
+  step_each q' before after left each =
+      let one = step_taken q' None left in
+      let same : watcher_sum (map attached c'.clauses) (e ∷ []) ≡ watchers f c'.clauses =
+      ap (λ n. n + 0) (watchers_attached (negation e.lit) c'.clauses)
+      ∙ (omega arith ∙ ap (λ l. watchers l c'.clauses) (sym step.literal)) in
+      rw (one, same) each
+
+  -- what is known after it, where a clause was found to be false
+  out : is_false t.entries f ≡ true
+  out =
+      let some = step.queue.some in let few = step.queue.few in
+      rw step.literal (at_false t.entries (q - 1) e (omega arith) step.entry)
+
+  stays : (q' : ℕ) → IsWatchStore c'.clauses t'.entries q' level None →
+      IsWatches c' t' q' level due
+  stays q' store = record {
+    whole = step.whole;
+    store = subst (IsWatchStore c'.clauses t'.entries q' level) (sym step.queue.none) store;
+  }
+
+  pub step_stopped : IsWatches c' t' (q + n) level due
+  step_stopped =
+      let count : length added + q ≡ q + n = let more = step.more in omega arith in
+      stays (q + n) (subst (λ m. IsWatchStore c'.clauses t'.entries m level None) count
+      (store_stopped c.clauses c'.clauses t.entries t'.entries q level f step.queue.store step.goes
+      step.whole.trail.once step.some out))
+
+  -- and where none was
+  pub step_ended : ((r : ClauseRef) → OtherIsTrue t'.entries (stored_at c'.clauses r).lits f) →
+      IsWatches c' t' (q + n - 1) level due
+  step_ended is_true =
+      let more = step.more in let some = step.queue.some in
+      let before : q ≡ suc (q - 1) = omega arith in
+      let count : length added + (q - 1) ≡ q + n - 1 = omega arith in
+      stays (q + n - 1) (subst (λ m. IsWatchStore c'.clauses t'.entries m level None) count
+      (store_taken c.clauses c'.clauses t.entries t'.entries q level f step.queue.store step.goes
+      step.whole.trail.once step.some out (q - 1) e before step.entry step.literal is_true))
 
 -- where a literal is watched
 watched_where : (lits : Clause) (l : Lit) → is_watched lits l ≡ true →
@@ -259,17 +314,13 @@ watchers_fall base f l out at (k ∷ ks) (n ∷ new) placed placed' same go =
       by_old false was = rw (is, was) rest
 
 -- so it is in a step
-pub step_fewer : (s : WatchState) (c c' : ChainsState) (t t' : TrailState) (q level : ℕ)
-    (due : Option ClauseRef) (f : Lit) → watch_state c t q level due ≡ s → ArePlaced 0 c.clauses →
-    ArePlaced 0 c'.clauses → Goes t.entries level f c.clauses c'.clauses t.entries t'.entries →
-    (l : Lit) → is_false s.trail l ≡ true →
-    watcher_count l (map attached c'.clauses) ≤ watcher_count l s.clauses
-step_fewer s c c' t t' q level due f view placed placed' go =
-    subst (λ (x : WatchState). (l : Lit) → is_false x.trail l ≡ true →
-    watcher_count l (map attached c'.clauses) ≤ watcher_count l x.clauses) view
-    (λ l out. rw (watchers_attached l c.clauses, watchers_attached l c'.clauses)
-    (watchers_fall t.entries f l out 0 c.clauses c'.clauses placed placed' go.count
-    (λ r held. go.lits r)))
+module _ {c c' : ChainsState} {t t' : TrailState} {q level : ℕ} {due : Option ClauseRef} {f : Lit}
+    {e : TrailEntry} {n : ℕ} (step : IsStep c c' t t' q level due f e n) where
+  pub step_fewer : ArePlaced 0 c.clauses → (l : Lit) → is_false t.entries l ≡ true →
+      watcher_count l (map attached c'.clauses) ≤ watcher_count l (map attached c.clauses)
+  step_fewer placed l out = rw (watchers_attached l c.clauses, watchers_attached l c'.clauses)
+      (watchers_fall t.entries f l out 0 c.clauses c'.clauses placed step.whole.chained.placed
+      step.goes.count (λ r held. step.goes.lits r))
 
 -- each lower level is settled, and the current one where nothing is queued or due
 pub state_settled : (c : ChainsState) (t : TrailState) (q level : ℕ) (due : Option ClauseRef) →
@@ -475,23 +526,3 @@ longer_whole c old new e whole vars is within free = record {
       longer_trail old new e vars is
       (subst (λ n. IsWithin n e.lit) (sym whole.vars) within) free whole.trail;
 }
-
--- where something is queued and nothing is due
-pub record AtQueue (c : ChainsState) (t : TrailState) (q level : ℕ) (due : Option ClauseRef) :
-    Type 0 where
-  pub none : due ≡ None
-  pub some : 1 ≤ q
-  pub few : q ≤ length t.entries
-  pub store : IsWatchStore c.clauses t.entries q level None
-
-pub at_queue : (c : ChainsState) (t : TrailState) (q level : ℕ) (due : Option ClauseRef)
-    (s : WatchState) → IsWatches c t q level due → watch_state c t q level due ≡ s →
-    s.due ≡ None → 1 ≤ s.queued → AtQueue c t q level due
-at_queue c t q level due s h view quiet some =
-    let none : due ≡ None = ap (λ (x : WatchState). x.due) view ∙ quiet in
-    record {
-      none = none;
-      some = subst (λ (x : WatchState). 1 ≤ x.queued) (sym view) some;
-      few = h.store.few;
-      store = subst (IsWatchStore c.clauses t.entries q level) none h.store;
-    }

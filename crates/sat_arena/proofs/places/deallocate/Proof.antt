@@ -112,7 +112,8 @@ module _ (E : El) (Z : Al) {M : Type 1} {𝓤 : Ura M} (𝓛 : Logic 𝓤) (at_m
       ) $
       let locals : Env 𝓤 H = env (function E Z).locals l in
       rewrite ! 0 (λ (p : Ptr). ‵ (owns_row (R E) p slots)) asked.0 refl $
-      in_a_block ! start.address (λ p. owns_row (R E) p slots) (none_there 𝓛 (length slots) (omega (arith, asked.1, asked.5))) (λ b o e.
+      in_a_block ! start.address (λ p. owns_row (R E) p slots)
+      (none_there 𝓛 (length slots) (omega (arith, asked.1, asked.5))) (λ b o e.
       fsplit ! $ flt_l ! (λ fit.
       let small : count * w < 2 ^ 63 = subst (λ k. k * w < 2 ^ 63) asked.1 fit in
       let bytes : count * w < 2 ^ 64 = omega arith in let row = block_ty E count in

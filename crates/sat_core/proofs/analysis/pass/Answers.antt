@@ -15,7 +15,7 @@ unreachable-requires c =
     let w = c.args.watches.now in
     let told = c.trail.ensures in
     read_some w c.trail.result.now told.value told.levels c.args.place c.requires.within
-    (pass_reason w told.levels told.once told.within c.args.place c.args.least c.args.marks.now
+    (pass_reason told.levels told.once told.within
     c.requires.walk c.requires.below c.requires.within) c.in_default.is
 
 pub use_entry-requires-clause-reason : goal.use_entry-requires-clause-reason
@@ -35,17 +35,14 @@ returns-clause-kept c conflict a =
     let w = c.args.watches.now in
     let told = c.trail.ensures in
     let old = c.args.marks.now in
-    analysis_uses w c.args.place old c.use_entry.new.marks c.use_entry.ensures.uses conflict
-    (sym c.is_met.ensures ∙ c.if-not-is_met.false)
-    (pass_reason w told.levels told.once told.within c.args.place c.args.least old c.requires.walk
-    c.requires.below c.requires.within)
-    (λ some current. pass_no_point w told.levels told.once told.within c.args.place c.args.least
-    old c.requires.walk c.requires.below c.requires.within conflict a) a
+    analysis_uses c.use_entry.ensures.uses (sym c.is_met.ensures ∙ c.if-not-is_met.false)
+    (pass_reason told.levels told.once told.within c.requires.walk c.requires.below
+    c.requires.within) (λ some current. pass_no_point told.levels told.once told.within
+    c.requires.walk c.requires.below c.requires.within a) a
 
 pub returns-clause-walk : goal.returns-clause-walk
 returns-clause-walk c =
     let w = c.args.watches.now in
     let told = c.trail.ensures in
-    walk_on w told.levels told.once told.within c.args.place c.args.least c.args.marks.now
-    c.requires.walk c.requires.below c.requires.within c.use_entry.new.marks c.use_entry.result
+    walk_on told.levels told.once told.within c.requires.walk c.requires.below c.requires.within
     c.use_entry.ensures.uses c.use_entry.ensures.least

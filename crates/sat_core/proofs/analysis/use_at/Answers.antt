@@ -6,8 +6,36 @@ use Rattle.sat_core.specs.Implied.{IsLeftOut}
 use Rattle.sat_core.specs.Marks.{MarkState}
 use Rattle.sat_core.proofs.ImpliedLaws.{implied_more, left_out_covers, left_out_low, left_out_reason, read_left_out, read_needed}
 use Rattle.sat_core.proofs.TrailPlaces.{read_at, read_attached, read_entry, read_reason, read_some}
-use Rattle.sat_core.proofs.UseLaws.{lower_kept, lower_on, lower_point, used_front, uses_met, uses_only, uses_used}
+use Rattle.sat_core.proofs.UseLaws.{IsLow, lower_kept, lower_on, lower_point, used_front, uses_met, uses_only, uses_used}
 use Rattle.sat_core.proofs.analysis.use_at.Goals as goal
+use Rattle.sat_core.proofs.analysis.use_at.Goals.{After-use_entry}
+
+-- the place is left out, and so it lies low
+module _ (c : After-use_entry) where
+  out : IsLeftOut c.args.watches.now.trail c.args.implied.now.marks.used c.place-place.result
+  out =
+      read_left_out c.args.watches.now.trail c.trail.result.now c.args.implied.now.marks.used
+      c.place-place.result c.trail.ensures.value
+      (c.requires.within c.place-place.result c.place-place.ensures.met)
+      (c.is_left_out.ensures.yes c.if-not-is_left_out.false)
+
+  low : IsLow c.args.watches.now c.place-place.result
+  low =
+      let w = c.args.watches.now in
+      let told = c.trail.ensures in
+      let p = c.place-place.result in
+      let lt = c.requires.within p c.place-place.ensures.met in
+      let e = read_entry w c.trail.result.now told.value told.levels p lt in
+      let here : HasLevel w.trail e.level p =
+      (e, read_at c.trail.result.now w.trail p told.value lt, refl) in
+      record {
+        level = e.level;
+        here = here;
+        reason = left_out_reason w told.levels told.once told.within c.args.marks.now
+            c.args.implied.now.marks.used c.requires.implied p out;
+        under = left_out_low w told.levels told.once told.within c.args.marks.now
+            c.args.implied.now.marks.used c.requires.implied p out e.level here;
+      }
 
 pub is_left_out-requires : goal.is_left_out-requires
 is_left_out-requires c =
@@ -60,97 +88,46 @@ returns-then-not-is_left_out-clause-used c =
 
 pub returns-clause-kept : goal.returns-clause-kept
 returns-clause-kept c =
-    let w = c.args.watches.now in
     let told = c.trail.ensures in
-    let p = c.place-place.result in
-    let lt = c.requires.within p c.place-place.ensures.met in
-    let items = c.trail.result.now in
-    let old = c.args.marks.now in
-    let found = c.args.implied.now.marks.used in
-    let out = read_left_out w.trail items found p told.value lt
-    (c.is_left_out.ensures.yes c.if-not-is_left_out.false) in
-    let e = read_entry w items told.value told.levels p lt in
-    let here : HasLevel w.trail e.level p = (e, read_at items w.trail p told.value lt, refl) in
-    let reason = left_out_reason w told.levels told.once told.within old found c.requires.implied p
-    out in
-    let low = left_out_low w told.levels told.once told.within old found c.requires.implied p out
-    e.level here in
-    lower_kept w told.levels told.once told.within p e.level here reason low old
-    c.use_entry.new.marks c.place-place.ensures.met c.use_entry.ensures.uses
+    lower_kept told.levels told.once told.within
+    (low (goal.at.returns-clause-kept c).After-use_entry) c.place-place.ensures.met
+    c.use_entry.ensures.uses
 
 pub returns-clause-within : goal.returns-clause-within
 returns-clause-within c =
-    let w = c.args.watches.now in
     let told = c.trail.ensures in
-    let p = c.place-place.result in
-    let lt = c.requires.within p c.place-place.ensures.met in
-    let items = c.trail.result.now in
-    let old = c.args.marks.now in
-    let found = c.args.implied.now.marks.used in
-    let out = read_left_out w.trail items found p told.value lt
-    (c.is_left_out.ensures.yes c.if-not-is_left_out.false) in
-    let e = read_entry w items told.value told.levels p lt in
-    let here : HasLevel w.trail e.level p = (e, read_at items w.trail p told.value lt, refl) in
-    let reason = left_out_reason w told.levels told.once told.within old found c.requires.implied p
-    out in
-    let low = left_out_low w told.levels told.once told.within old found c.requires.implied p out
-    e.level here in
-    lower_on w told.levels told.once told.within p e.level here reason low old
-    c.use_entry.new.marks c.place-place.ensures.met c.use_entry.ensures.uses c.requires.within
+    lower_on told.levels told.once told.within
+    (low (goal.at.returns-clause-within c).After-use_entry) c.place-place.ensures.met
+    c.use_entry.ensures.uses c.requires.within
 
 pub returns-clause-point : goal.returns-clause-point
 returns-clause-point c =
-    let w = c.args.watches.now in
     let told = c.trail.ensures in
-    let p = c.place-place.result in
-    let lt = c.requires.within p c.place-place.ensures.met in
-    let items = c.trail.result.now in
-    let old = c.args.marks.now in
-    let found = c.args.implied.now.marks.used in
-    let out = read_left_out w.trail items found p told.value lt
-    (c.is_left_out.ensures.yes c.if-not-is_left_out.false) in
-    let e = read_entry w items told.value told.levels p lt in
-    let here : HasLevel w.trail e.level p = (e, read_at items w.trail p told.value lt, refl) in
-    let reason = left_out_reason w told.levels told.once told.within old found c.requires.implied p
-    out in
-    let low = left_out_low w told.levels told.once told.within old found c.requires.implied p out
-    e.level here in
-    lower_point w told.levels told.once told.within p e.level here reason low old
-    c.use_entry.new.marks c.place-place.ensures.met c.use_entry.ensures.uses
+    lower_point told.levels told.once told.within
+    (low (goal.at.returns-clause-point c).After-use_entry) c.place-place.ensures.met
+    c.use_entry.ensures.uses
 
 pub returns-clause-implied : goal.returns-clause-implied
 returns-clause-implied c =
-    let w = c.args.watches.now in
-    let old = c.args.marks.now in
-    let new = c.use_entry.new.marks in
-    implied_more w old new c.args.implied.now.marks.used
-    (uses_met w c.place-place.result old new c.use_entry.ensures.uses) c.requires.implied
+    implied_more c.args.watches.now c.args.marks.now c.use_entry.new.marks
+    c.args.implied.now.marks.used (uses_met c.use_entry.ensures.uses) c.requires.implied
 
 pub returns-clause-used : goal.returns-clause-used
 returns-clause-used c =
     let w = c.args.watches.now in
     let p = c.place-place.result in
-    let old = c.args.marks.now in
-    let new = c.use_entry.new.marks in
     let uses = c.use_entry.ensures.uses in
-    used_front w c.args.i p old c.place-place.ensures.value
-    (IsLeftOut w.trail c.args.implied.now.marks.used) new uses.meets.added
-    (ap (λ (s : MarkState). s.places) uses.is ∙ uses.meets.places) (uses_used w p old new uses)
+    used_front w c.args.i p c.args.marks.now c.place-place.ensures.value
+    (IsLeftOut w.trail c.args.implied.now.marks.used) c.use_entry.new.marks uses.meets.added
+    (ap (λ (s : MarkState). s.places) uses.is ∙ uses.meets.places) (uses_used uses)
     (λ out. uses.here)
 
 pub returns-clause-no_more : goal.returns-clause-no_more
 returns-clause-no_more c q is =
-    let w = c.args.watches.now in
     let told = c.trail.ensures in
-    let p = c.place-place.result in
-    let lt = c.requires.within p c.place-place.ensures.met in
-    let items = c.trail.result.now in
-    let old = c.args.marks.now in
-    let found = c.args.implied.now.marks.used in
-    let out = read_left_out w.trail items found p told.value lt
-    (c.is_left_out.ensures.yes c.if-not-is_left_out.false) in
-    elim (uses_only w p old c.use_entry.new.marks c.use_entry.ensures.uses q is) [
+    elim (uses_only c.use_entry.ensures.uses q is) [
       | inl before ↦ inl before
-      | inr from ↦ left_out_covers w told.levels told.once told.within old found
-          c.requires.implied p out q from
+      | inr from ↦ left_out_covers c.args.watches.now told.levels told.once told.within
+          c.args.marks.now c.args.implied.now.marks.used c.requires.implied c.place-place.result
+          (out (goal.at.returns-clause-no_more c).After-use_entry) q from
     ]

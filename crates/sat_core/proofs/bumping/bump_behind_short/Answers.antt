@@ -16,8 +16,7 @@ bump_behind-requires-clause-vars c =
 
 pub loop-k-preserved : goal.loop-k-preserved
 loop-k-preserved c =
-    held_then c.is_short.new.self c.loop-k.ranking c.bump_behind.new.ranking c.loop-k.invariant
-    c.bump_behind.ensures
+    held_then c.loop-k.invariant c.bump_behind.ensures
 
 pub returns : goal.returns
 returns c =

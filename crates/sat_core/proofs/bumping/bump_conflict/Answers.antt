@@ -8,5 +8,4 @@ bump_behind_short-requires-clause-vars c = c.bump_met.ensures.vars ∙ c.require
 pub returns : goal.returns
 returns c =
     rw c.grow_step.ensures
-    (held_then c.args.ranking.now c.bump_met.new.ranking c.bump_behind_short.new.ranking
-    c.bump_met.ensures c.bump_behind_short.ensures)
+    (held_then c.bump_met.ensures c.bump_behind_short.ensures)

@@ -10,5 +10,4 @@ bump_at-requires-clause-vars c = c.loop-k.invariant.vars ∙ c.requires.vars
 
 pub loop-k-preserved : goal.loop-k-preserved
 loop-k-preserved c =
-    held_then c.args.ranking.now c.loop-k.ranking c.bump_at.new.ranking c.loop-k.invariant
-    c.bump_at.ensures
+    held_then c.loop-k.invariant c.bump_at.ensures

@@ -10,5 +10,4 @@ bump_literal-requires-clause-vars c = c.loop-l.invariant.vars ∙ c.requires.var
 
 pub loop-l-preserved : goal.loop-l-preserved
 loop-l-preserved c =
-    held_then c.args.ranking.now c.loop-l.ranking c.bump_literal.new.ranking c.loop-l.invariant
-    c.bump_literal.ensures
+    held_then c.loop-l.invariant c.bump_literal.ensures

@@ -15,18 +15,15 @@ loop-c-init c = record {
 
 pub returns-in-Some-clause-goes : goal.returns-in-Some-clause-goes
 returns-in-Some-clause-goes c =
-    goes_then c.args.watches.now c.loop-c.watches c.propagate.new.self c.loop-c.invariant.goes
-    (goes_propagated c.loop-c.watches c.propagate.new.self c.in-Some.ensures.propagates)
+    goes_then c.loop-c.invariant.goes (goes_propagated c.in-Some.ensures.propagates)
 
 pub returns-in-Some-clause-ranked : goal.returns-in-Some-clause-ranked
 returns-in-Some-clause-ranked c =
-    ranked_propagated c.loop-c.watches c.propagate.new.self c.loop-c.ranking
-    c.in-Some.ensures.propagates c.loop-c.invariant.ranked
+    ranked_propagated c.in-Some.ensures.propagates c.loop-c.invariant.ranked
 
 pub decide-requires-clause-ranked : goal.decide-requires-clause-ranked
 decide-requires-clause-ranked c =
-    ranked_propagated c.loop-c.watches c.propagate.new.self c.loop-c.ranking
-    c.in_default.ensures.propagates c.loop-c.invariant.ranked
+    ranked_propagated c.in_default.ensures.propagates c.loop-c.invariant.ranked
 
 pub decide-requires-clause-few : goal.decide-requires-clause-few
 decide-requires-clause-few c =
@@ -35,8 +32,7 @@ decide-requires-clause-few c =
 pub returns-then-not-decide-clause-goes : goal.returns-then-not-decide-clause-goes
 returns-then-not-decide-clause-goes c =
     subst (GoesOn c.args.watches.now) (sym (c.decide.ensures.same c.if-not-decide.true))
-    (goes_then c.args.watches.now c.loop-c.watches c.propagate.new.self c.loop-c.invariant.goes
-    (goes_propagated c.loop-c.watches c.propagate.new.self c.in_default.ensures.propagates))
+    (goes_then c.loop-c.invariant.goes (goes_propagated c.in_default.ensures.propagates))
 
 pub returns-then-not-decide-clause-settled : goal.returns-then-not-decide-clause-settled
 returns-then-not-decide-clause-settled c =
@@ -54,11 +50,9 @@ loop-c-preserved c =
     let s = c.propagate.new.self in
     let decided = c.decide.ensures.decided c.if-not-decide.false in
     let goes : GoesOn c.args.watches.now s =
-    goes_then c.args.watches.now c.loop-c.watches s c.loop-c.invariant.goes
-    (goes_propagated c.loop-c.watches s c.in_default.ensures.propagates) in
+    goes_then c.loop-c.invariant.goes (goes_propagated c.in_default.ensures.propagates) in
     record {
-      goes = subst (GoesOn c.args.watches.now) (sym decided.1)
-          (goes_assumed c.args.watches.now s decided.0 goes);
+      goes = subst (GoesOn c.args.watches.now) (sym decided.1) (goes_assumed decided.0 goes);
       ranked = c.decide.ensures.ranked;
     }
 

@@ -4,6 +4,22 @@ use Rattle.sat_clause.specs.declared.literal.Lit.{Lit}
 use Rattle.sat_clause.specs.Literal.{lit, variable}
 use Rattle.sat_core.proofs.DistinctLaws.{other_lit, same_lit, seen_all, seen_opposite, seen_push, seen_skip, seen_start}
 use Rattle.sat_core.proofs.distinct.take_sorted.Goals as goal
+use Rattle.sat_core.proofs.distinct.take_sorted.Goals.{In-Some}
+
+-- the last literal that was kept
+module _ (c : In-Some) where
+  last : Some c.in-Some.last.now
+      ≡ slice_get c.loop-l.distinct.items (length c.loop-l.distinct.items - 1)
+  last = rw c.deref.ensures.value at c.in-Some.ensures.value
+
+  has_last : Contains c.loop-l.distinct.items c.in-Some.last.now
+  has_last =
+      let kept = c.loop-l.distinct.items in
+      let m : Lit = c.in-Some.last.now in (
+        length kept - 1,
+        slice_get_within kept (length kept - 1) m (sym last),
+        get_or_from_slice_get kept (length kept - 1) m m (sym last),
+      )
 
 pub loop-l-init : goal.loop-l-init
 loop-l-init c = rw c.clear.ensures.items (seen_start c.args.sorted.now)
@@ -14,22 +30,20 @@ loop-l-preserved-in_default c =
     let none : None ≡ slice_get kept (length kept - 1) = rw c.deref.ensures.value at
     c.in_default.ensures.value in
     rw add-one
-    (seen_push c.args.sorted.now kept c.loop-l.l-index _ c.loop-l.invariant
+    (seen_push c.loop-l.invariant
     (slice_get-get_or c.args.sorted.now c.loop-l.l-index _ c.loop-l-test.true)
     c.push.new.self.items c.in_ok-push.ensures.items
     (λ m at. let bad : None ≡ Some m = none ∙ at in cc))
 
 pub loop-l-preserved-then-variable : goal.loop-l-preserved-then-variable
 loop-l-preserved-then-variable c =
-    let kept = c.loop-l.distinct.items in
-    let last : Some c.in-Some.last.now ≡ slice_get kept (length kept - 1) = rw c.deref.ensures.value
-    at c.in-Some.ensures.value in
+    let is = last (goal.at.loop-l-preserved-then-variable c).In-Some in
     rw add-one
-    (seen_push c.args.sorted.now kept c.loop-l.l-index _ c.loop-l.invariant
+    (seen_push c.loop-l.invariant
     (slice_get-get_or c.args.sorted.now c.loop-l.l-index _ c.loop-l-test.true)
     c.push-then-variable.new.self.items c.in_ok-push-2.ensures.items
     (λ m at.
-    let both : Some c.in-Some.last.now ≡ Some m = last ∙ at in
+    let both : Some c.in-Some.last.now ≡ Some m = is ∙ at in
     let one : c.in-Some.last.now ≡ m = cc in
     omega (
       arith,
@@ -43,39 +57,20 @@ loop-l-preserved-then-variable c =
 pub loop-l-preserved : goal.loop-l-preserved
 loop-l-preserved c =
     let kept = c.loop-l.distinct.items in
-    let m : Lit = c.in-Some.last.now in
     let l : Lit = get_or c.args.sorted.now c.loop-l.l-index (lit (pos 0)) in
-    let last : Some m ≡ slice_get kept (length kept - 1) = rw c.deref.ensures.value at
-    c.in-Some.ensures.value in
-    let within = slice_get_within kept (length kept - 1) m (sym last) in
-    let has : Contains kept m = (
-      length kept - 1,
-      within,
-      get_or_from_slice_get kept
-          (length kept - 1) m m (sym last),
-    ) in
     rw add-one
-    (seen_skip c.args.sorted.now kept c.loop-l.l-index l c.loop-l.invariant
+    (seen_skip c.loop-l.invariant
     (slice_get-get_or c.args.sorted.now c.loop-l.l-index (lit (pos 0)) c.loop-l-test.true)
-    (subst (Contains kept) (same_lit m l c.if-ne.ensures) has))
+    (subst (Contains kept) (same_lit c.in-Some.last.now l c.if-ne.ensures)
+    (has_last (goal.at.loop-l-preserved c).In-Some)))
 
 pub returns-then-ne : goal.returns-then-ne
 returns-then-ne c =
-    let kept = c.loop-l.distinct.items in
     let m : Lit = c.in-Some.last.now in
     let l : Lit = get_or c.args.sorted.now c.loop-l.l-index (lit (pos 0)) in
-    let last : Some m ≡ slice_get kept (length kept - 1) = rw c.deref.ensures.value at
-    c.in-Some.ensures.value in
-    let within = slice_get_within kept (length kept - 1) m (sym last) in
-    let has : Contains kept m = (
-      length kept - 1,
-      within,
-      get_or_from_slice_get kept
-          (length kept - 1) m m (sym last),
-    ) in
-    seen_opposite c.args.sorted.now kept c.loop-l.l-index l c.loop-l.invariant
+    seen_opposite c.loop-l.invariant
     (slice_get-get_or c.args.sorted.now c.loop-l.l-index (lit (pos 0)) c.loop-l-test.true)
-    m c.requires has (omega (
+    m c.requires (has_last (goal.at.returns-then-ne c).In-Some) (omega (
       arith,
       c.if-variable.false,
       c.variable.ensures,

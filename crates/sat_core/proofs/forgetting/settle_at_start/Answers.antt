@@ -15,7 +15,7 @@ propagate-requires c = record {
 pub returns-clause-goes : goal.returns-clause-goes
 returns-clause-goes c =
     subst (λ (w : WatchState). GoesOn w c.propagate.new.self) c.go_back.ensures.back
-    (goes_propagated c.go_back.new.watches c.propagate.new.self c.propagate.ensures.propagates)
+    (goes_propagated c.propagate.ensures.propagates)
 
 pub returns-clause-level : goal.returns-clause-level
 returns-clause-level c =
@@ -24,5 +24,4 @@ returns-clause-level c =
 
 pub returns-clause-ranked : goal.returns-clause-ranked
 returns-clause-ranked c =
-    ranked_propagated c.go_back.new.watches c.propagate.new.self c.go_back.new.ranking
-    c.propagate.ensures.propagates c.go_back.ensures.ranked
+    ranked_propagated c.propagate.ensures.propagates c.go_back.ensures.ranked

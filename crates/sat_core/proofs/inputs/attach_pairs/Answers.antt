@@ -13,8 +13,7 @@ loop-i-preserved-then-not-is_pair c =
 pub attach-requires-clause-simple : goal.attach-requires-clause-simple
 attach-requires-clause-simple c =
     let lits = c.clause-lits.result.now in
-    simple_of c.args.formula.now.cnf (pairs_below c.loop-i.i) (no_singles c.args.formula.now.cnf)
-    c.loop-i.watches lits lits c.loop-i.invariant c.clause-lits.ensures.within (same_itself lits)
+    simple_of lits lits c.loop-i.invariant c.clause-lits.ensures.within (same_itself lits)
     (pair_once lits (sym c.is_pair.ensures ∙ c.if-not-is_pair.false))
 
 pub attach-requires-clause-may : goal.attach-requires-clause-may
@@ -26,17 +25,14 @@ attach-requires-clause-may c =
 
 pub loop-i-preserved : goal.loop-i-preserved
 loop-i-preserved c =
-    let cnf = c.args.formula.now.cnf in
     let n = c.loop-i.i in
     let lits = c.clause-lits.result.now in
     let is = sym c.is_pair.ensures ∙ c.if-not-is_pair.false in
     let long = pair_long lits is in
-    let none = no_singles cnf in
-    let simple = simple_of cnf (pairs_below n) none c.loop-i.watches lits lits c.loop-i.invariant
-    c.clause-lits.ensures.within (same_itself lits) (pair_once lits is) in
-    rw add-one (taken_more cnf (pairs_below n) (pairs_below (suc n)) n lits
-    c.clause-lits.ensures.value (pair_not_yet n lits) (pairs_next n) (pair_now n lits is) none
-    c.loop-i.watches c.loop-i.invariant none c.attach.new.self lits
+    let simple = simple_of lits lits c.loop-i.invariant c.clause-lits.ensures.within
+    (same_itself lits) (pair_once lits is) in
+    rw add-one (taken_more (pairs_below (suc n)) n c.clause-lits.ensures.value (pair_not_yet n lits)
+    (pairs_next n) (pair_now n lits is) c.loop-i.invariant
     (omega (arith, c.loop-i-test.true, c.len-i-end.ensures)) (same_itself lits) simple
-    (keeps_attached none c.loop-i.watches c.attach.new.self lits (suc n) c.in_ok-attach.field-0 long
-    (rw add-one at c.in_ok-attach.ensures.ok)))
+    (keeps_attached (no_singles c.args.formula.now.cnf) c.loop-i.watches c.attach.new.self lits
+    (suc n) c.in_ok-attach.field-0 long (rw add-one at c.in_ok-attach.ensures.ok)))

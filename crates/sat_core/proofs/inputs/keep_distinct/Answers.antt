@@ -9,32 +9,24 @@ use Rattle.sat_core.proofs.inputs.keep_distinct.Goals as goal
 
 pub keep-requires : goal.keep-requires
 keep-requires c =
-    let cnf = c.args.formula.now.cnf in
     let n = c.args.i in
     let lits = c.clause-lits.result.now in
-    let taken = c.requires.taken in
     let is = sym c.is_pair.ensures ∙ c.if-is_pair.false in
-    rw add-one (may_keep cnf (pairs_and_below n) (pairs_and_below (suc n)) n lits
-    c.clause-lits.ensures.value (other_not_yet n lits is) (others_next n) (other_now n lits is)
-    c.args.singles.now c.args.watches.now taken lits
-    (omega (arith, c.requires.within, c.requires.few))
-    (simple_of cnf (pairs_and_below n) c.args.singles.now c.args.watches.now lits lits taken
+    rw add-one (may_keep (pairs_and_below (suc n)) n c.clause-lits.ensures.value
+    (other_not_yet n lits is) (others_next n) (other_now n lits is) c.requires.taken
+    (omega (arith, c.requires.within, c.requires.few)) (simple_of lits lits c.requires.taken
     c.clause-lits.ensures.within (same_itself lits) (c.is_rising.ensures c.if-is_rising.true)))
 
 pub returns-then-is_rising-clause-taken : goal.returns-then-is_rising-clause-taken
 returns-then-is_rising-clause-taken c =
-    let cnf = c.args.formula.now.cnf in
     let n = c.args.i in
     let lits = c.clause-lits.result.now in
-    let taken = c.requires.taken in
     let is = sym c.is_pair.ensures ∙ c.if-is_pair.false in
-    let simple = simple_of cnf (pairs_and_below n) c.args.singles.now c.args.watches.now lits lits
-    taken c.clause-lits.ensures.within (same_itself lits)
-    (c.is_rising.ensures c.if-is_rising.true) in
+    let simple = simple_of lits lits c.requires.taken c.clause-lits.ensures.within
+    (same_itself lits) (c.is_rising.ensures c.if-is_rising.true) in
     on_ok_weaker c.keep.result (λ keeps.
-    taken_more cnf (pairs_and_below n) (pairs_and_below (suc n)) n lits
-    c.clause-lits.ensures.value (other_not_yet n lits is) (others_next n) (other_now n lits is)
-    c.args.singles.now c.args.watches.now taken c.keep.new.singles c.keep.new.watches lits
+    taken_more (pairs_and_below (suc n)) n c.clause-lits.ensures.value (other_not_yet n lits is)
+    (others_next n) (other_now n lits is) c.requires.taken
     (omega (arith, c.requires.within, c.requires.few)) (same_itself lits) simple
     (rw add-one at keeps)) c.keep.ensures
 
@@ -45,43 +37,35 @@ returns-then-not-branch-clause-taken c =
     let is = sym c.is_pair.ensures ∙ c.if-is_pair.false in
     let answer = subst (IsDistinct lits c.take_distinct.new.distinct.items) c.if-not-branch.true
     c.in_ok-take_distinct.ensures in
-    taken_skip c.args.formula.now.cnf (pairs_and_below n) (pairs_and_below (suc n)) n lits
-    c.clause-lits.ensures.value (other_not_yet n lits is) (others_next n) (other_now n lits is)
-    c.args.singles.now c.args.watches.now c.requires.taken answer
+    taken_skip (pairs_and_below (suc n)) n c.clause-lits.ensures.value (other_not_yet n lits is)
+    (others_next n) (other_now n lits is) c.requires.taken answer
 
 pub keep-requires-2 : goal.keep-requires-2
 keep-requires-2 c =
-    let cnf = c.args.formula.now.cnf in
     let n = c.args.i in
     let lits = c.clause-lits.result.now in
     let kept : Clause = c.take_distinct.new.distinct.items in
-    let taken = c.requires.taken in
     let is = sym c.is_pair.ensures ∙ c.if-is_pair.false in
     let answer = subst (IsDistinct lits kept) c.if-not-branch.false
     c.in_ok-take_distinct.ensures in
     rw (add-one, c.deref.ensures.value)
-    (may_keep cnf (pairs_and_below n) (pairs_and_below (suc n)) n lits
-    c.clause-lits.ensures.value (other_not_yet n lits is) (others_next n) (other_now n lits is)
-    c.args.singles.now c.args.watches.now taken kept
+    (may_keep (pairs_and_below (suc n)) n c.clause-lits.ensures.value (other_not_yet n lits is)
+    (others_next n) (other_now n lits is) c.requires.taken
     (omega (arith, c.requires.within, c.requires.few))
-    (simple_of cnf (pairs_and_below n) c.args.singles.now c.args.watches.now kept lits taken
-    c.clause-lits.ensures.within answer.0 answer.1))
+    (simple_of kept lits c.requires.taken c.clause-lits.ensures.within answer.0 answer.1))
 
 pub returns-clause-taken : goal.returns-clause-taken
 returns-clause-taken c =
-    let cnf = c.args.formula.now.cnf in
     let n = c.args.i in
     let lits = c.clause-lits.result.now in
     let kept : Clause = c.take_distinct.new.distinct.items in
-    let taken = c.requires.taken in
     let is = sym c.is_pair.ensures ∙ c.if-is_pair.false in
     let answer = subst (IsDistinct lits kept) c.if-not-branch.false
     c.in_ok-take_distinct.ensures in
-    let simple = simple_of cnf (pairs_and_below n) c.args.singles.now c.args.watches.now kept lits
-    taken c.clause-lits.ensures.within answer.0 answer.1 in
+    let simple = simple_of kept lits c.requires.taken c.clause-lits.ensures.within answer.0
+    answer.1 in
     on_ok_weaker c.keep-2.result (λ keeps.
-    taken_more cnf (pairs_and_below n) (pairs_and_below (suc n)) n lits
-    c.clause-lits.ensures.value (other_not_yet n lits is) (others_next n) (other_now n lits is)
-    c.args.singles.now c.args.watches.now taken c.keep-2.new.singles c.keep-2.new.watches kept
+    taken_more (pairs_and_below (suc n)) n c.clause-lits.ensures.value (other_not_yet n lits is)
+    (others_next n) (other_now n lits is) c.requires.taken
     (omega (arith, c.requires.within, c.requires.few)) answer.0 simple
     (rw (add-one, c.deref.ensures.value) at keeps)) c.keep-2.ensures

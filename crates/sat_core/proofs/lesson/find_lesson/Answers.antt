@@ -11,8 +11,7 @@ pub read-lesson-requires-clause-on : goal.read-lesson-requires-clause-on
 read-lesson-requires-clause-on c =
     let w = c.args.watches.now in
     subst (λ (s : MarkState). AreOn w.trail s) (sym c.sort.ensures.same)
-    (analysis_on w c.args.lits.now c.analyse-point.new.marks
-    c.analyse-point.ensures.analysed.analysis)
+    (analysis_on c.analyse-point.ensures.analysed.analysis)
 
 pub read-lesson-requires-clause-point : goal.read-lesson-requires-clause-point
 read-lesson-requires-clause-point c some =

@@ -16,7 +16,7 @@ is_used-requires c =
     let s = c.args.marks.now in
     let items = c.places-place-items.result.now in
     mark_within s.met (get_or items c.loop-place.place-index 0)
-    (listed_met s c.places-place-items.ensures.marks items c.loop-place.place-index
+    (listed_met c.places-place-items.ensures.marks items c.loop-place.place-index
     c.places-place-items.ensures.value c.loop-place-test.true)
 
 pub loop-place-preserved-then-is_used : goal.loop-place-preserved-then-is_used
@@ -42,7 +42,7 @@ bounds-trail-place c =
     let s = c.args.marks.now in
     let items = c.places-place-items.result.now in
     let lt = c.requires.on (get_or items c.loop-place.place-index 0)
-    (listed_met s c.places-place-items.ensures.marks items c.loop-place.place-index
+    (listed_met c.places-place-items.ensures.marks items c.loop-place.place-index
     c.places-place-items.ensures.value c.loop-place-test.true) in
     omega (arith, lt, length-reverse c.trail.result.now, ap length c.trail.ensures.value)
 
@@ -52,7 +52,7 @@ negation-requires c =
     let s = c.args.marks.now in
     let items = c.places-place-items.result.now in
     let p = get_or items c.loop-place.place-index 0 in
-    let lt = c.requires.on p (listed_met s c.places-place-items.ensures.marks items
+    let lt = c.requires.on p (listed_met c.places-place-items.ensures.marks items
     c.loop-place.place-index c.places-place-items.ensures.value c.loop-place-test.true) in
     let e = get_or c.trail.result.now p no_entry in
     let at = read_at c.trail.result.now w.trail p c.trail.ensures.value lt in
@@ -67,7 +67,7 @@ loop-place-preserved c =
     let items = c.places-place-items.result.now in
     let i = c.loop-place.place-index in
     let p = get_or items i 0 in
-    let lt = c.requires.on p (listed_met s c.places-place-items.ensures.marks items i
+    let lt = c.requires.on p (listed_met c.places-place-items.ensures.marks items i
     c.places-place-items.ensures.value c.loop-place-test.true) in
     let e = get_or c.trail.result.now p no_entry in
     let at = read_at c.trail.result.now w.trail p c.trail.ensures.value lt in

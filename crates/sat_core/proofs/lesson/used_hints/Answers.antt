@@ -8,7 +8,7 @@ is_used-requires c =
     let s = c.args.marks.now in
     let items = c.places-place-items.result.now in
     mark_within s.met (get_or items c.loop-place.place-index 0)
-    (listed_met s c.places-place-items.ensures.marks items c.loop-place.place-index
+    (listed_met c.places-place-items.ensures.marks items c.loop-place.place-index
     c.places-place-items.ensures.value c.loop-place-test.true)
 
 pub id-requires : goal.id-requires
@@ -17,7 +17,7 @@ id-requires c =
     let s = c.args.marks.now in
     let items = c.places-place-items.result.now in
     let p = get_or items c.loop-place.place-index 0 in
-    let lt = c.requires.on p (listed_met s c.places-place-items.ensures.marks items
+    let lt = c.requires.on p (listed_met c.places-place-items.ensures.marks items
     c.loop-place.place-index c.places-place-items.ensures.value c.loop-place-test.true) in
     record {
       attached = read_attached w c.trail.result.now c.trail.ensures.value c.trail.ensures.levels p

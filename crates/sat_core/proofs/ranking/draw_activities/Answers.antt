@@ -10,7 +10,7 @@ pub loop-v-preserved : goal.loop-v-preserved
 loop-v-preserved c =
     let order = c.loop-v.order in
     record {
-      held = held_then c.args.order.now order c.bump.new.self c.loop-v.invariant.held
+      held = held_then c.loop-v.invariant.held
           (subst (SameHeld order) (sym c.bump.ensures) (record { vars = refl; held = refl }));
       so_far = rw (add-one, c.bump.ensures, c.next_draw-draw.ensures)
           (drawn_next c.args.seed c.loop-v.v c.loop-v.draw order

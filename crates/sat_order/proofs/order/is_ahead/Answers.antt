@@ -4,7 +4,8 @@ use Rattle.sat_order.proofs.OrderLaws.{before-first, behind-all}
 use Rattle.sat_order.proofs.order.is_ahead.Goals as goal
 
 pub returns-then-count-eq0-clause-behind : goal.returns-then-count-eq0-clause-behind
-returns-then-count-eq0-clause-behind c = λ is i in_i. absurd (omega (arith, in_i, c.if-count-eq0.true))
+returns-then-count-eq0-clause-behind c =
+    λ is i in_i. absurd (omega (arith, in_i, c.if-count-eq0.true))
 
 pub returns-clause-behind : goal.returns-clause-behind
 returns-clause-behind c =

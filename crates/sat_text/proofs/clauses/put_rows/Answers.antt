@@ -19,7 +19,8 @@ loop-i-init c =
       long = search (rules, c.told-room);
       put = drop_all 1538 c.args.room.now (search (rules, c.told-room))
           ∙ ap (flat_map clause_text) (sym none);
-      within = subst (All (All (IsWithin c.args.formula.now.cnf.vars))) (sym none) (All-nil (All (IsWithin c.args.formula.now.cnf.vars)));
+      within = subst (All (All (IsWithin c.args.formula.now.cnf.vars))) (sym none)
+          (All-nil (All (IsWithin c.args.formula.now.cnf.vars)));
     }
 
 pub loop-i-preserved : goal.loop-i-preserved

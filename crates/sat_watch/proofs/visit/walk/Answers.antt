@@ -20,37 +20,19 @@ loop-next-init c = record {
 
 pub overflow_add-walked : goal.overflow_add-walked
 overflow_add-walked c =
-    let l = c.loop-next in
-    let few = counts_here c.args.trail.now.entries c.args.level c.args.f
-    c.args.chains.now.clauses 0 l.chains l.trail.entries l.before l.next l.walked
-    l.invariant.walking c.in-Some.clause c.in-Some.is c.after-after.ensures.few in
+    let few = counts_here c.loop-next.invariant.walking c.in-Some.is c.after-after.ensures.few in
     record { fits = omega arith }
 
 pub place-at-requires : goal.place-at-requires
-place-at-requires c =
-    let l = c.loop-next in
-    record {
-      goes = goes_here c.args.trail.now.entries c.args.level c.args.f
-          c.args.chains.now.clauses 0 l.chains l.trail.entries l.before l.next
-          l.walked
-          l.invariant.walking c.in-Some.clause c.in-Some.is;
-    }
+place-at-requires c = record { goes = goes_here c.loop-next.invariant.walking c.in-Some.is }
 
 pub returns-in_default-visit_clause-clause-goes : goal.returns-in_default-visit_clause-clause-goes
 returns-in_default-visit_clause-clause-goes c =
-    let l = c.loop-next in
-    goes_trans c.args.trail.now.entries c.args.level c.args.f c.args.chains.now.clauses
-    l.chains.clauses c.visit_clause.new.chains.clauses l.trail.entries
-    c.visit_clause.new.trail.entries
-    l.invariant.walking.goes c.visit_clause.ensures.goes
+    goes_trans c.loop-next.invariant.walking.goes c.visit_clause.ensures.goes
 
 pub loop-next-smaller : goal.loop-next-smaller
 loop-next-smaller c =
-    let l = c.loop-next in
-    walk_shorter c.args.trail.now.entries c.args.level c.args.f c.args.chains.now.clauses
-    0 l.chains l.trail.entries l.before l.next l.walked l.invariant.walking
-    c.in-Some.clause c.in-Some.is c.place-at.result c.place-at.ensures.clause c.after-after.result
-    c.visit_clause.new.chains c.visit_clause.new.trail.entries c.in-Some-visit_clause.last
+    walk_shorter c.loop-next.invariant.walking c.in-Some.is c.place-at.ensures.clause
     c.in-Some-visit_clause.ensures.visited c.visit_clause.ensures.goes
 
 pub loop-next-preserved : goal.loop-next-preserved
@@ -61,20 +43,13 @@ loop-next-preserved c =
       whole = c.visit_clause.ensures.whole;
       looks = l.invariant.looks;
       walking =
-          walks_on c.args.trail.now.entries c.args.level c.args.f c.args.chains.now.clauses
-          0 l.chains l.trail.entries l.before l.next l.walked l.invariant.walking
-          c.in-Some.clause c.in-Some.is c.place-at.result c.place-at.ensures.clause
-          c.after-after.result c.visit_clause.new.chains c.visit_clause.new.trail.entries
-          c.in-Some-visit_clause.last
+          walks_on l.invariant.walking c.in-Some.is c.place-at.ensures.clause
           c.in-Some-visit_clause.ensures.visited c.visit_clause.ensures.goes;
     }
 
 pub returns-in_default-visit_clause-clause-looks : goal.returns-in_default-visit_clause-clause-looks
 returns-in_default-visit_clause-clause-looks c =
-    let l = c.loop-next in
-    let few = few_here c.args.trail.now.entries c.args.level c.args.f c.args.chains.now.clauses 0
-    l.chains l.trail.entries l.before l.next l.walked l.invariant.walking c.in-Some.clause
-    c.in-Some.is in
+    let l = c.loop-next in let few = few_here l.invariant.walking c.in-Some.is in
     omega (arith, c.saturating_add.ensures, l.invariant.looks, few)
 
 pub returns-clause-looks : goal.returns-clause-looks
@@ -85,14 +60,9 @@ returns-clause-looks c =
 pub returns-clause-each : goal.returns-clause-each
 returns-clause-each c =
     let l = c.loop-next in
-    let each = walk_counts c.args.trail.now.entries c.args.level c.args.f c.args.chains.now.clauses
-    0 l.chains l.trail.entries l.before l.next l.walked l.invariant.walking c.in_default.is
-    l.invariant.whole.chained in
+    let each = walk_counts l.invariant.walking c.in_default.is l.invariant.whole.chained in
     omega (arith, c.saturating_add-2.ensures, l.invariant.looks)
 
 pub returns-clause-none : goal.returns-clause-none
 returns-clause-none c =
-    let l = c.loop-next in
-    walk_ends c.args.trail.now.entries c.args.level c.args.f c.args.chains.now.clauses
-    0 l.chains l.trail.entries l.before l.next l.walked l.invariant.walking
-    c.in_default.is l.invariant.whole.chained
+    walk_ends c.loop-next.invariant.walking c.in_default.is c.loop-next.invariant.whole.chained

@@ -89,7 +89,8 @@ module _ (E : El) {M : Type 1} {𝓤 : Ura M} (𝓛 : Logic 𝓤) (C : Calls �
       ((tt, tt), (word-Good [] start.address, ((tt, record { fits = fits }), tt))) $
       let locals : Env 𝓤 H = env (function E).locals l in
       unhide ! $ fsplit ! $ drop ! $
-      in_a_block ! places.start (λ p. lends_row (R E) p slots κ) (none_there 𝓛 (length slots) (omega (arith, inside))) (λ b o e.
+      in_a_block ! places.start (λ p. lends_row (R E) p slots κ)
+      (none_there 𝓛 (length slots) (omega (arith, inside))) (λ b o e.
       fsplit ! $ flt_l ! (λ small.
       let tiny : w < 2 ^ 64 =
       omega (arith, one_below (length slots) w (2 ^ 63) (omega arith) small) in

@@ -114,7 +114,8 @@ module _ (E : El) {M : Type 1} {𝓤 : Ura M} (𝓛 : Logic 𝓤) (C : Calls �
       ) $
       let locals : Env 𝓤 H = env (function E).locals l in
       unhide ! $ fsplit ! $ drop ! $
-      in_a_block ! places.start (λ p. lends_row (R E) p slots κ) (none_there 𝓛 (length slots) asked.1) (λ b o e.
+      in_a_block ! places.start (λ p. lends_row (R E) p slots κ)
+      (none_there 𝓛 (length slots) asked.1) (λ b o e.
       fsplit ! $ flt_l ! (λ small.
       let far : from * w < 2 ^ 64 =
       omega (arith, times_below from (length slots) w (2 ^ 63) (omega arith) small) in

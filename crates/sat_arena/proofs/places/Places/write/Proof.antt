@@ -114,7 +114,8 @@ module _ (E : El) {M : Type 1} {𝓤 : Ura M} (𝓛 : Logic 𝓤) (C : Calls �
       let locals : Env 𝓤 H = env (function E).locals l in
       opens ! tt (PlacesType E) {h = places} rb ro
       (λ vs. move ! (1 ∷ []) $ fsplit ! $ move ! (1 ∷ []) $
-      in_a_block ! places.start (λ p. owns_row (R E) p slots) (none_there 𝓛 (length slots) (omega (arith, inside))) (λ b o e.
+      in_a_block ! places.start (λ p. owns_row (R E) p slots)
+      (none_there 𝓛 (length slots) (omega (arith, inside))) (λ b o e.
       fsplit ! $ flt_l ! (λ small.
       let tiny : w < 2 ^ 64 =
       omega (arith, one_below (length slots) w (2 ^ 63) (omega arith) small) in

@@ -1,10 +1,8 @@
-use Rattle.std.proofs.Common.{[], replicate}
-use Rattle.sat_order.specs.Order.{OrderState}
+use Rattle.std.proofs.Common.{replicate}
 use Rattle.sat_core.proofs.RankingLaws.{ranked_held, ranked_new}
 use Rattle.sat_core.proofs.ranking.Ranking.new.Goals as goal
 
 pub returns-clause-ranked : goal.returns-clause-ranked
 returns-clause-ranked c =
-    let before : OrderState = c.in_ok-order.order in
-    ranked_held c.args.vars [] before c.draw_activities.new.order c.draw_activities.ensures.held
+    ranked_held c.draw_activities.ensures.held
     (rw c.in_ok-order.ensures (ranked_new c.args.vars (replicate c.args.vars 0)))

@@ -10,7 +10,7 @@ take_steps-requires-clause-may c =
     let log = c.args.log.now.steps in
     let formula = c.requires.0 in (
       formula,
-      may_along p.taken p.state c.start_anew.new.self formula log c.start_anew.ensures.same
+      may_along c.start_anew.ensures.same
           (subst (λ (s : SearchAt). MayTurn s formula log) (sym c.self.view_is) c.requires.1),
     )
 
@@ -19,5 +19,5 @@ returns-clause-may c formula before =
     let p = c.self.inside in
     let log = c.args.log.now.steps in
     c.take_steps.ensures.may formula
-    (may_along p.taken p.state c.start_anew.new.self formula log c.start_anew.ensures.same
+    (may_along c.start_anew.ensures.same
     (subst (λ (s : SearchAt). MayTurn s formula log) (sym c.self.view_is) before))

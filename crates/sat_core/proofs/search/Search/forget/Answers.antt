@@ -3,40 +3,39 @@ use Rattle.sat_core.specs.Stands.{SearchAt}
 use Rattle.sat_core.specs.Underway.{MayTurn}
 use Rattle.sat_core.proofs.UnderwayLemmas.{may_after, none_added_after}
 use Rattle.sat_core.proofs.search.Search.forget.Goals as goal
+use Rattle.sat_core.proofs.search.Search.forget.Goals.{After-forget}
+
+all : (c : After-forget) → c.self.inside.taken ≡ length c.args.log.now.steps
+all c = ap (λ (s : SearchAt). s.taken) c.self.view_is ∙ c.requires
 
 pub returns-in_err-gone-clause-may : goal.returns-in_err-gone-clause-may
 returns-in_err-gone-clause-may c formula before =
     let p = c.self.inside in
     let steps = c.args.log.now.steps in
-    let was = subst (λ (s : SearchAt). MayTurn s formula steps) (sym c.self.view_is) before in
-    let all : p.taken ≡ length steps =
-    ap (λ (s : SearchAt). s.taken) c.self.view_is ∙ c.requires in
+    let is = all (goal.at.returns-in_err-gone-clause-may c).After-forget in
     let says = c.in_err-gone.ensures in
-    may_after (record { taken = p.taken; value = p.state }) steps all
+    may_after (record { taken = p.taken; value = p.state }) steps is
     (record { taken = p.taken; value = c.forget.new.self }) c.forget.new.log.steps
-    (all ∙ ap length (sym (says.same_log (λ e. cc))))
-    (Err c.in_err-gone.field-0.0) says.forgotten says.same says.same_log formula was
+    (is ∙ ap length (sym (says.same_log (λ e. cc))))
+    (Err c.in_err-gone.field-0.0) says.forgotten says.same says.same_log formula
+    (subst (λ (s : SearchAt). MayTurn s formula steps) (sym c.self.view_is) before)
 
 pub returns-clause-may : goal.returns-clause-may
 returns-clause-may c formula before =
     let p = c.self.inside in
     let steps = c.args.log.now.steps in
-    let was = subst (λ (s : SearchAt). MayTurn s formula steps) (sym c.self.view_is) before in
-    let all : p.taken ≡ length steps =
-    ap (λ (s : SearchAt). s.taken) c.self.view_is ∙ c.requires in
     let says = c.in_ok-gone.ensures in
-    may_after (record { taken = p.taken; value = p.state }) steps all
+    may_after (record { taken = p.taken; value = p.state }) steps
+    (all (goal.at.returns-clause-may c).After-forget)
     (record { taken = c.len-self-inside.result; value = c.forget.new.self }) c.forget.new.log.steps
     c.len-self-inside.ensures (Ok c.in_ok-gone.gone) says.forgotten says.same says.same_log formula
-    was
+    (subst (λ (s : SearchAt). MayTurn s formula steps) (sym c.self.view_is) before)
 
 pub returns-clause-none_added : goal.returns-clause-none_added
 returns-clause-none_added c =
     let p = c.self.inside in
-    let steps = c.args.log.now.steps in
-    let all : p.taken ≡ length steps =
-    ap (λ (s : SearchAt). s.taken) c.self.view_is ∙ c.requires in
     let says = c.in_ok-gone.ensures in
-    none_added_after (record { taken = p.taken; value = p.state }) steps all
+    none_added_after (record { taken = p.taken; value = p.state }) c.args.log.now.steps
+    (all (goal.at.returns-clause-none_added c).After-forget)
     (record { taken = c.len-self-inside.result; value = c.forget.new.self }) c.forget.new.log.steps
     c.len-self-inside.ensures (Ok c.in_ok-gone.gone) says.forgotten says.same says.same_log

@@ -11,32 +11,26 @@ take-requires-clause-level c =
 
 pub take-requires-clause-simple : goal.take-requires-clause-simple
 take-requires-clause-simple c =
-    let p = c.self.inside in
     let log = c.args.log.now.steps in
     let step = c.step-step.result in
     let formula = c.requires.may.0 in
     let may = subst (λ (s : SearchAt). MayTurn s formula log) (sym c.self.view_is)
     c.requires.may.1 in
-    step_simple (record { taken = p.taken; value = p.state }) formula log may step.erase step.id
-    step.lits.now step.hints.now c.step-step.ensures.value
+    step_simple may step.erase step.id step.lits.now step.hints.now c.step-step.ensures.value
 
 pub take-requires-clause-few : goal.take-requires-clause-few
 take-requires-clause-few c =
-    let p = c.self.inside in
     let log = c.args.log.now.steps in
     let step = c.step-step.result in
     let formula = c.requires.may.0 in
     let may = subst (λ (s : SearchAt). MayTurn s formula log) (sym c.self.view_is)
     c.requires.may.1 in
-    step_few (record { taken = p.taken; value = p.state }) formula log may step.erase step.id
-    step.lits.now step.hints.now c.step-step.ensures.value
+    step_few may step.erase step.id step.lits.now step.hints.now c.step-step.ensures.value
 
 pub returns-clause-may : goal.returns-clause-may
 returns-clause-may c formula before =
-    let p = c.self.inside in
     let log = c.args.log.now.steps in
     let step = c.step-step.result in
     let may = subst (λ (s : SearchAt). MayTurn s formula log) (sym c.self.view_is) before in
-    rw add-one (may_next (record { taken = p.taken; value = p.state }) formula log may step.erase
-    step.id step.lits.now step.hints.now c.step-step.ensures.value c.take.new.self
-    c.in_ok-take.ensures.ok)
+    rw add-one (may_next may step.erase step.id step.lits.now step.hints.now
+    c.step-step.ensures.value c.in_ok-take.ensures.ok)

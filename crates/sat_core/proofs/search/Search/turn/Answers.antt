@@ -17,4 +17,4 @@ returns-in_err-turn-clause-follows c =
     on_err_anyway c.from_residual-in_err-turn.result
     (subst (MayFollow (record { taken = p.taken; value = state }) formula)
     (sym c.in_err-turn.ensures.err)
-    (follow_along p.taken p.state state formula before c.in_err-turn.ensures.same follows))
+    (follow_along c.in_err-turn.ensures.same follows))

@@ -1,22 +1,23 @@
-use Rattle.std.proofs.Common.{◌≡◌, ◌<◌, ◌/◌, ◌%◌, ℕ, Bool, false, List, length, get_or, nat_eq, sym, ap, ◌∙◌, arith}
+use Rattle.std.proofs.Common.{◌≡◌, ◌/◌, ◌%◌, ℕ, Bool, false, List, get_or, nat_eq, sym, ap, ◌∙◌, arith}
 use Rattle.std.specs.Int.{bit_at}
 use Rattle.std.proofs.lemmas.Nat.Bits.{shr_and_one}
-use Rattle.sat_order.proofs.BitLaws.{length-members, member-at, read-is}
+use Rattle.sat_order.proofs.BitLaws.{below-size, member-at, read-is}
 use Rattle.sat_order.proofs.bit_set.BitSet.has.Goals as goal
 
 pub index-requires : goal.index-requires
 index-requires c =
     let o = c.self.inside in
-    let long : length c.args.self.now ≡ o.size =
-    ap (λ (l : List Bool). length l) (sym c.self.view_is) ∙ length-members o.size o.words.items in
-    omega (arith, long, c.requires, c.self.invariant.many)
+    omega (
+      arith,
+      below-size o.size o.words.items c.args.self.now c.args.number c.self.view_is
+          c.requires,
+      c.self.invariant.many,
+    )
 
 pub returns : goal.returns
 returns c =
     let o = c.self.inside in let x : ℕ = c.args.number in
-    let long : length c.args.self.now ≡ o.size =
-    ap (λ (l : List Bool). length l) (sym c.self.view_is) ∙ length-members o.size o.words.items in
-    let in_x : x < o.size = omega (arith, long, c.requires) in
+    let in_x = below-size o.size o.words.items c.args.self.now x c.self.view_is c.requires in
     let word : ℕ = c.index.result.now in
     let is : get_or o.words.items (x / 64) 0 ≡ word =
     read-is o.words.items (x / 64) word (omega (arith, in_x, c.self.invariant.many))

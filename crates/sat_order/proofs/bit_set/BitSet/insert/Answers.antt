@@ -1,39 +1,30 @@
-use Rattle.std.proofs.Common.{◌≡◌, ◌<◌, ◌*◌, ◌/◌, ◌%◌, ◌^◌, ℕ, Bool, true, List, length, get_or, set, bit_or, sym, ap, ◌∙◌, arith}
-use Rattle.sat_order.proofs.BitLaws.{inserted, length-members, read-is}
+use Rattle.std.proofs.Common.{Bool, true, List, set, ap, ◌∙◌, arith}
+use Rattle.sat_order.proofs.BitLaws.{below-size, inserted}
 use Rattle.sat_order.proofs.bit_set.BitSet.insert.Goals as goal
 
 pub index_mut-requires : goal.index_mut-requires
 index_mut-requires c =
     let o = c.self.inside in
-    let long : length c.args.self.now ≡ o.size =
-    ap (λ (l : List Bool). length l) (sym c.self.view_is) ∙ length-members o.size o.words.items in
-    omega (arith, long, c.requires, c.self.invariant.many)
+    omega (
+      arith,
+      below-size o.size o.words.items c.args.self.now c.args.number c.self.view_is
+          c.requires,
+      c.self.invariant.many,
+    )
 
 pub invariant_of-self : goal.invariant_of-self
 invariant_of-self c =
-    let o = c.self.inside in let x : ℕ = c.args.number in
-    let long : length c.args.self.now ≡ o.size =
-    ap (λ (l : List Bool). length l) (sym c.self.view_is) ∙ length-members o.size o.words.items in
-    let in_x : x < o.size = omega (arith, long, c.requires) in
-    let read : ℕ = c.index_mut.result.now in
-    let is : get_or o.words.items (x / 64) 0 ≡ read =
-    read-is o.words.items (x / 64) read (omega (arith, in_x, c.self.invariant.many))
-    c.index_mut.ensures.value in
-    (inserted o.size o.words.items o.low x (bit_or read (1 * 2 ^ (x % 64) % 18446744073709551616))
-    c.self.invariant in_x (ap (λ v. bit_or v (1 * 2 ^ (x % 64) % 18446744073709551616)) (sym is))).1
+    let o = c.self.inside in let x = c.args.number in
+    (inserted o.size o.words.items o.low x c.index_mut.result.now c.self.invariant
+    (below-size o.size o.words.items c.args.self.now x c.self.view_is c.requires)
+    c.index_mut.ensures.value).1
     c.min-self-inside.result (omega (arith, c.min-self-inside.ensures))
     (omega (arith, c.min-self-inside.ensures))
 
 pub returns : goal.returns
 returns c =
-    let o = c.self.inside in let x : ℕ = c.args.number in
-    let long : length c.args.self.now ≡ o.size =
-    ap (λ (l : List Bool). length l) (sym c.self.view_is) ∙ length-members o.size o.words.items in
-    let in_x : x < o.size = omega (arith, long, c.requires) in
-    let read : ℕ = c.index_mut.result.now in
-    let is : get_or o.words.items (x / 64) 0 ≡ read =
-    read-is o.words.items (x / 64) read (omega (arith, in_x, c.self.invariant.many))
-    c.index_mut.ensures.value in
-    (inserted o.size o.words.items o.low x (bit_or read (1 * 2 ^ (x % 64) % 18446744073709551616))
-    c.self.invariant in_x (ap (λ v. bit_or v (1 * 2 ^ (x % 64) % 18446744073709551616)) (sym is))).0
+    let o = c.self.inside in let x = c.args.number in
+    (inserted o.size o.words.items o.low x c.index_mut.result.now c.self.invariant
+    (below-size o.size o.words.items c.args.self.now x c.self.view_is c.requires)
+    c.index_mut.ensures.value).0
     ∙ ap (λ (l : List Bool). set l x true) c.self.view_is

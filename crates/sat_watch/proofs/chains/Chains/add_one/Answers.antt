@@ -1,57 +1,42 @@
-use Rattle.std.proofs.Common.{◌≡◌, [], ◌∷◌, ◌++◌, refl, sym, ap, ◌∙◌, subst, arith}
-use Rattle.sat_clause.specs.Learned.{IsSimple}
+use Rattle.std.proofs.Common.{◌∷◌, [], ◌++◌, refl, sym, ap, ◌∙◌, subst, arith}
 use Rattle.sat_arena.specs.Store.{Stored, new_clause, ref, size_all}
-use Rattle.sat_watch.specs.Chains.{ChainsState, IsAdded, IsChained}
+use Rattle.sat_watch.specs.Chains.{IsChained, IsLast}
 use Rattle.sat_watch.proofs.AttachLemmas.{last_pushed, short_attached}
 use Rattle.sat_watch.proofs.chains.Chains.add_one.Goals as goal
+use Rattle.sat_watch.proofs.chains.Chains.add_one.Goals.{After-push}
+
+abbrev given : After-push → Stored
+given c = new_clause (ref (size_all c.self.inside.arena.clauses)) c.args.id c.args.lits.now
+
+-- the clause stands last
+last : (c : After-push) →
+    IsLast c.self.inside.arena.clauses c.push.new.self.clauses (given c) c.push.result
+last c =
+    let ks = c.self.inside.arena.clauses in
+    last_pushed ks c.push.new.self.clauses (given c) c.push.result c.self.invariant.placed refl
+    (c.push.ensures.result ∙ ap (λ l. ref (size_all l)) c.reserve.ensures.clauses)
+    (c.push.ensures.clauses
+    ∙ ap (λ l. l ++ new_clause (ref (size_all l)) c.args.id c.args.lits.now ∷ [])
+    c.reserve.ensures.clauses)
 
 pub invariant_of-self-2 : goal.invariant_of-self-2
 invariant_of-self-2 c =
-    let i = c.self.inside in let a = c.args in let ks = i.arena.clauses in
-    let heads = i.heads.items in let h = c.self.invariant in
-    let all = c.push.new.self.clauses in
-    let k : Stored = new_clause (ref (size_all ks)) a.id a.lits.now in
-    let is : all ≡ ks ++ k ∷ [] =
-    c.push.ensures.clauses ∙ ap (λ l. l ++ new_clause (ref (size_all l)) a.id a.lits.now ∷ [])
-    c.reserve.ensures.clauses in
-    let given : IsSimple i.vars a.lits.now = subst (λ (s : ChainsState). IsSimple s.vars a.lits.now)
-    (sym c.self.view_is) c.requires.simple in
-    subst (λ l. IsChained i.vars l heads) (sym is)
-    (short_attached i.vars ks heads k h given refl refl (omega (arith, c.requires.one)))
+    let at = (goal.at.invariant_of-self-2 c).After-push in let i = c.self.inside in
+    let given_simple = rw (← c.self.view_is) at c.requires.simple in
+    subst (λ l. IsChained i.vars l i.heads.items) (sym (last at).is)
+    (short_attached i.vars i.arena.clauses i.heads.items (given at) c.self.invariant given_simple
+    refl refl (omega (arith, c.requires.one)))
 
 pub returns-clause-chained : goal.returns-clause-chained
-returns-clause-chained c =
-    let i = c.self.inside in let a = c.args in let ks = i.arena.clauses in
-    let heads = i.heads.items in let h = c.self.invariant in
-    let all = c.push.new.self.clauses in
-    let k : Stored = new_clause (ref (size_all ks)) a.id a.lits.now in
-    let is : all ≡ ks ++ k ∷ [] =
-    c.push.ensures.clauses ∙ ap (λ l. l ++ new_clause (ref (size_all l)) a.id a.lits.now ∷ [])
-    c.reserve.ensures.clauses in
-    let given : IsSimple i.vars a.lits.now = subst (λ (s : ChainsState). IsSimple s.vars a.lits.now)
-    (sym c.self.view_is) c.requires.simple in
-    subst (λ l. IsChained i.vars l heads) (sym is)
-    (short_attached i.vars ks heads k h given refl refl (omega (arith, c.requires.one)))
+returns-clause-chained c = invariant_of-self-2 c
 
 pub returns-clause-ok : goal.returns-clause-ok
 returns-clause-ok c =
-    let i = c.self.inside in let a = c.args in let ks = i.arena.clauses in
-    let heads = i.heads.items in let h = c.self.invariant in
-    let all = c.push.new.self.clauses in let r = c.push.result in
-    let k : Stored = new_clause (ref (size_all ks)) a.id a.lits.now in
-    let is : all ≡ ks ++ k ∷ [] =
-    c.push.ensures.clauses ∙ ap (λ l. l ++ new_clause (ref (size_all l)) a.id a.lits.now ∷ [])
-    c.reserve.ensures.clauses in
-    let place : r ≡ ref (size_all ks) = c.push.ensures.result ∙ ap (λ l. ref (size_all l))
-    c.reserve.ensures.clauses in
-    let now : ChainsState =
-    record { vars = i.vars; clauses = all; spare = c.push.new.self.spare; heads = heads } in
-    subst (λ (s : ChainsState). IsAdded s now a.lits.now a.id r) c.self.view_is
-    (record {
-      clause = k;
-      last = last_pushed ks all k r h.placed refl place is;
-      place =
-          place;
+    let at = (goal.at.returns-clause-ok c).After-push in
+    rw (← c.self.view_is) (record {
+      clause = given at;
+      last = last at;
+      place = sym (last at).place;
       lits = refl;
       is_id = refl;
       vars = refl;

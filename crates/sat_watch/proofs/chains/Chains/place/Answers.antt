@@ -5,21 +5,19 @@ use Rattle.std.proofs.lemmas.Bool.Decides.{Decides-int_eq}
 use Rattle.sat_clause.specs.declared.literal.Lit.{Lit}
 use Rattle.sat_clause.specs.Literal.{lit}
 use Rattle.sat_arena.specs.Store.{stored_at}
-use Rattle.sat_watch.specs.Chains.{ChainsState, GoesOn, IsPlaceOf, next_on}
+use Rattle.sat_watch.specs.Chains.{ChainsState, IsPlaceOf}
 use Rattle.sat_watch.proofs.VisitLemmas.{in_chain, in_chain_held, watch_first, watch_second}
 use Rattle.sat_watch.proofs.chains.Chains.place.Goals as goal
 
 pub lits-requires : goal.lits-requires
 lits-requires c =
-    let goes = subst (λ (s : ChainsState). GoesOn (next_on s.clauses c.args.f c.args.clause))
-    (sym c.self.view_is) c.requires.goes in
+    let goes = rw (← c.self.view_is) at c.requires.goes in
     record { held = in_chain_held c.self.inside.arena.clauses c.args.f c.args.clause goes }
 
 pub returns-then-eq-clause-place : goal.returns-then-eq-clause-place
 returns-then-eq-clause-place c =
     let ks = c.self.inside.arena.clauses in
-    let goes = subst (λ (s : ChainsState). GoesOn (next_on s.clauses c.args.f c.args.clause))
-    (sym c.self.view_is) c.requires.goes in
+    let goes = rw (← c.self.view_is) at c.requires.goes in
     let k = stored_at ks c.args.clause in
     let a = in_chain ks c.args.f c.args.clause goes in
     let first : (get_or k.lits 0 (lit (pos 0))).code ≡ c.args.f.code =
@@ -38,8 +36,7 @@ returns-then-eq-clause-place c =
 pub returns-clause-place : goal.returns-clause-place
 returns-clause-place c =
     let ks = c.self.inside.arena.clauses in
-    let goes = subst (λ (s : ChainsState). GoesOn (next_on s.clauses c.args.f c.args.clause))
-    (sym c.self.view_is) c.requires.goes in
+    let goes = rw (← c.self.view_is) at c.requires.goes in
     let k = stored_at ks c.args.clause in
     let a = in_chain ks c.args.f c.args.clause goes in
     let first : (get_or k.lits 0 (lit (pos 0))).code ≢ c.args.f.code =

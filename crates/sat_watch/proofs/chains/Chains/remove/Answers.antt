@@ -1,53 +1,47 @@
-use Rattle.std.proofs.Common.{◌≡◌, ◌*◌, rules, List, None, All, true, false, vec_len, replicate, sym, ap, ◌∙◌, subst, arith}
+use Rattle.std.proofs.Common.{◌≡◌, ◌*◌, rules, List, None, true, false, vec_len, replicate, sym, ap, ◌∙◌, subst, arith}
 use Rattle.sat_arena.specs.declared.moves.Move.{Move}
 use Rattle.sat_arena.specs.Compact.{compacted, moves_of}
-use Rattle.sat_arena.specs.Store.{Store, Stored, is_held}
-use Rattle.sat_watch.specs.Chains.{ChainsState, IsChained}
+use Rattle.sat_arena.specs.Store.{Store, Stored}
+use Rattle.sat_watch.specs.Chains.{IsChained}
 use Rattle.sat_watch.specs.Relinking.{AreRefsOf, AreUnlinked, marked}
 use Rattle.sat_watch.proofs.ForgetLemmas.{refs_without, unlinked_without, unmarked_again}
 use Rattle.sat_watch.proofs.RelinkLemmas.{marked_held}
 use Rattle.sat_watch.proofs.chains.Chains.remove.Goals as goal
+use Rattle.sat_watch.proofs.chains.Chains.remove.Goals.{After-mark_all-in_default}
 
 pub mark_all-requires-in_default : goal.mark_all-requires-in_default
 mark_all-requires-in_default c =
     let ks = c.self.inside.arena.clauses in let refs = c.args.clauses.now in
-    let held : All (λ r. is_held ks r ≡ true) refs =
-    subst (λ (s : ChainsState). All (λ r. is_held s.clauses r ≡ true) refs) (sym c.self.view_is)
-    c.requires.held in
+    let held = rw (← c.self.view_is) at c.requires.held in
     record {
       held =
           λ k d lt. rw (c.in_default.ensures.err, c.mark_all.ensures.clauses)
           (marked_held true refs ks _ ∙ held k d lt);
     }
 
+-- where there is no memory all marks are taken off again
+same : (c : After-mark_all-in_default) →
+    c.mark_all-in_default.new.arena.clauses ≡ c.self.inside.arena.clauses
+same c =
+    let refs = c.args.clauses.now in
+    c.mark_all-in_default.ensures.clauses ∙
+    (ap (λ (s : Store). marked false refs s.clauses) c.in_default.ensures.err ∙
+    (ap (marked false refs) c.mark_all.ensures.clauses ∙ unmarked_again refs
+    c.self.inside.arena.clauses c.self.invariant.unmarked))
+
 pub invariant_of-self : goal.invariant_of-self
 invariant_of-self c =
-    let i = c.self.inside in let ks = i.arena.clauses in let refs = c.args.clauses.now in
-    let same : c.mark_all-in_default.new.arena.clauses ≡ ks =
-    c.mark_all-in_default.ensures.clauses ∙
-    (ap (λ (s : Store). marked false refs s.clauses) c.in_default.ensures.err ∙
-    (ap (marked false refs) c.mark_all.ensures.clauses ∙ unmarked_again refs ks
-    c.self.invariant.unmarked)) in
-    subst (λ l. IsChained i.vars l i.heads.items) (sym same) c.self.invariant
+    let i = c.self.inside in
+    subst (λ l. IsChained i.vars l i.heads.items)
+    (sym (same (goal.at.invariant_of-self c).After-mark_all-in_default)) c.self.invariant
 
 pub returns-in_default-clause-chained : goal.returns-in_default-clause-chained
-returns-in_default-clause-chained c =
-    let i = c.self.inside in let ks = i.arena.clauses in let refs = c.args.clauses.now in
-    let same : c.mark_all-in_default.new.arena.clauses ≡ ks =
-    c.mark_all-in_default.ensures.clauses ∙
-    (ap (λ (s : Store). marked false refs s.clauses) c.in_default.ensures.err ∙
-    (ap (marked false refs) c.mark_all.ensures.clauses ∙ unmarked_again refs ks
-    c.self.invariant.unmarked)) in
-    subst (λ l. IsChained i.vars l i.heads.items) (sym same) c.self.invariant
+returns-in_default-clause-chained c = invariant_of-self c
 
 pub returns-in_default-clause-err : goal.returns-in_default-clause-err
 returns-in_default-clause-err c =
-    let i = c.self.inside in let ks = i.arena.clauses in let refs = c.args.clauses.now in
-    let same : c.mark_all-in_default.new.arena.clauses ≡ ks =
-    c.mark_all-in_default.ensures.clauses ∙
-    (ap (λ (s : Store). marked false refs s.clauses) c.in_default.ensures.err ∙
-    (ap (marked false refs) c.mark_all.ensures.clauses ∙ unmarked_again refs ks
-    c.self.invariant.unmarked)) in
+    let i = c.self.inside in
+    let same = same (goal.at.returns-in_default-clause-err c).After-mark_all-in_default in
     let spare : c.mark_all-in_default.new.arena.spare ≡ i.arena.spare =
     c.mark_all-in_default.ensures.spare ∙
     (ap (λ (s : Store). s.spare) c.in_default.ensures.err ∙ c.mark_all.ensures.spare) in

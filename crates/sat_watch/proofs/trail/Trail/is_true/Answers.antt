@@ -1,5 +1,5 @@
-use Rattle.std.proofs.Common.{◌≡◌, ◌∙◌, ◌==◌, ap, get_or, reverse, slice_index_or, subst, sym, arith}
-use Rattle.sat_clause.specs.Literal.{IsWithin, is_among, negation}
+use Rattle.std.proofs.Common.{◌≡◌, ◌∙◌, ◌==◌, ap, get_or, reverse, slice_index_or, subst, arith}
+use Rattle.sat_clause.specs.Literal.{is_among, negation}
 use Rattle.sat_watch.specs.Trail.{TrailState, falses}
 use Rattle.sat_watch.specs.TrailStore.{place_of}
 use Rattle.sat_watch.proofs.StoredLemmas.{default_free}
@@ -10,7 +10,7 @@ pub returns : goal.returns
 returns c =
     let p = c.self.inside in let l = c.args.l in let read = c.index.result.now in
     let store = c.self.invariant in
-    let within = subst (λ (t : TrailState). IsWithin t.vars l) (sym c.self.view_is) c.requires in
+    let within = rw (← c.self.view_is) at c.requires in
     let below = place_within p.vars l within in
     let there : read ≡ slice_index_or p.truths.items (place_of p.vars l) 0 =
     c.index.ensures ∙ (ap (λ n. get_or p.truths.items n read) c.place.ensures ∙

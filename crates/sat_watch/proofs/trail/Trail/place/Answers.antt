@@ -1,6 +1,5 @@
-use Rattle.std.proofs.Common.{◌≡◌, ◌≢◌, ◌∙◌, None, Some, ap, subst, sym, arith}
-use Rattle.sat_clause.specs.Literal.{IsWithin}
-use Rattle.sat_watch.specs.Trail.{TrailState, place_in, value_in}
+use Rattle.std.proofs.Common.{◌≡◌, ◌∙◌, Some, ap, subst, arith}
+use Rattle.sat_watch.specs.Trail.{TrailState, place_in}
 use Rattle.sat_watch.proofs.PlaceLemmas.{place_read, placed}
 use Rattle.sat_watch.proofs.trail.Trail.place.Goals as goal
 
@@ -8,10 +7,8 @@ pub returns : goal.returns
 returns c =
     let p = c.self.inside in
     let store = c.self.invariant in
-    let valued = subst (λ (t : TrailState). value_in t.entries c.args.l ≢ None) (sym c.self.view_is)
-    c.requires.valued in
-    let within = subst (λ (t : TrailState). IsWithin t.vars c.args.l) (sym c.self.view_is)
-    c.requires.within in
+    let valued = rw (← c.self.view_is) at c.requires.valued in
+    let within = rw (← c.self.view_is) at c.requires.within in
     let at = placed _ c.args.l valued in
     let same = place_read p.vars p.entries.items p.places.items
     (omega (arith, store.many, p.places.ok.0)) store.placed

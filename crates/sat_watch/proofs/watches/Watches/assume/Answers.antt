@@ -3,7 +3,6 @@ use Rattle.sat_arena.specs.declared.clause_ref.ClauseRef.{ClauseRef}
 use Rattle.sat_watch.specs.declared.entry.TrailEntry.{TrailEntry}
 use Rattle.sat_clause.specs.Literal.{IsWithin}
 use Rattle.sat_watch.specs.Levels.{IsWatchStore}
-use Rattle.sat_watch.specs.Trail.{IsOpen}
 use Rattle.sat_watch.specs.Watches.{WatchState}
 use Rattle.sat_watch.proofs.BackLemmas.{few_levels}
 use Rattle.sat_watch.proofs.SettledLemmas.{store_assume}
@@ -30,8 +29,7 @@ invariant_of-self c =
     let none : i.due ≡ None = ap (λ (s : WatchState). s.due) c.self.view_is ∙ c.requires.quiet in
     let empty : i.queued ≡ 0 =
     ap (λ (s : WatchState). s.queued) c.self.view_is ∙ c.requires.empty in
-    let free : IsOpen i.trail.entries c.args.l = subst (λ (s : WatchState). IsOpen s.trail c.args.l)
-    (sym c.self.view_is) c.requires.open in
+    let free = rw (← c.self.view_is) at c.requires.open in
     let h : IsWatchStore i.chains.clauses i.trail.entries 0 i.level None =
     subst (λ (p : ℕ × Option ClauseRef). IsWatchStore i.chains.clauses i.trail.entries p.0 i.level
     p.1) (λ x. (empty x, none x)) c.self.invariant.store in

@@ -1,175 +1,117 @@
-use Rattle.std.proofs.Common.{◌≡◌, ◌+◌, true, false, None, Some, sym, ◌∙◌, subst, arith, ◌⊎◌}
+use Rattle.std.proofs.Common.{◌≡◌, ◌+◌, ℕ, Option, None, Some, refl, sym, ◌∙◌, subst, arith}
 use Rattle.std.proofs.lemmas.Result.{IfOk-weaker}
-use Rattle.sat_clause.specs.declared.literal.Lit.{Lit}
-use Rattle.sat_clause.specs.Learned.{IsSimple}
 use Rattle.sat_clause.specs.Literal.{negation}
 use Rattle.sat_watch.specs.Chains.{lit_at}
-use Rattle.sat_watch.specs.Choice.{FreeSays, IsAttachedAs, IsTrueAt}
-use Rattle.sat_watch.specs.Watched.{is_false, true_at}
-use Rattle.sat_watch.specs.Watches.{Attaches, HasOneOpen, HasOneTrue, HasTwoFree, IsOnlyOne, MayAttach, WatchState, highest, watch_state}
-use Rattle.sat_watch.proofs.AttachedLemmas.{attaches_due, attaches_plain, few_lits, is_open_here, is_true_here, only_one, open_alone, some_free, true_not_open, two_not_open}
+use Rattle.sat_watch.specs.Choice.{FreeSays, IsAttachedAs}
+use Rattle.sat_watch.specs.Watched.{is_false}
+use Rattle.sat_watch.specs.Watches.{Attaches, WatchState}
+use Rattle.sat_watch.proofs.AttachedLemmas.{HasFree, attaches, few_lits, is_open_here, is_true_here, only_one, open_alone, some_free, true_not_open, two_not_open}
 use Rattle.sat_watch.proofs.watches.Watches.attach.Goals as goal
+use Rattle.sat_watch.proofs.watches.Watches.attach.Goals.{In-Some, In_default-free_position, After-is_false}
+
+-- the first literal that is not false, and that there is no other
+first : (c : In-Some) → HasFree c.args.self.now c.args.lits.now c.in-Some.i
+first c = record {
+  simple = c.requires.simple;
+  at = subst (λ (p : WatchState × Option ℕ). FreeSays p.0.trail c.args.lits.now 0 p.1)
+      (λ x. (c.self.view_is x, c.in-Some.is x)) c.free_position.ensures;
+}
+
+no_other : (c : In_default-free_position) →
+    FreeSays c.args.self.now.trail c.args.lits.now (c.in-Some.i + 1) None
+no_other c =
+    subst (λ (p : WatchState × Option ℕ). FreeSays p.0.trail c.args.lits.now (c.in-Some.i + 1) p.1)
+    (λ x. (c.self.view_is x, c.in_default-free_position.is x)) c.free_position-2.ensures
+
+-- whether it is true is tested
+tested : (c : After-is_false) →
+    is_false c.args.self.now.trail (negation (lit_at c.args.lits.now c.in-Some.i))
+    ≡ c.is_false.result
+tested c =
+    (λ x. is_false (sym c.self.view_is x).trail (sym c.negation.ensures.value x))
+    ∙ sym c.is_false.ensures
 
 pub free_position-requires-clause-few : goal.free_position-requires-clause-few
 free_position-requires-clause-few c =
-    let i = c.self.inside in
-    few_lits i.chains i.trail i.queued i.level i.due c.args.self.now c.args.lits.now
-    c.self.invariant c.self.view_is c.requires.simple
+    few_lits c.self.invariant c.self.view_is c.requires.simple
 
 pub free_position-requires-2-clause-few : goal.free_position-requires-2-clause-few
 free_position-requires-2-clause-few c =
-    let i = c.self.inside in
-    few_lits i.chains i.trail i.queued i.level i.due c.args.self.now c.args.lits.now
-    c.self.invariant c.self.view_is c.requires.simple
+    few_lits c.self.invariant c.self.view_is c.requires.simple
 
 pub attach_free-requires-clause-few : goal.attach_free-requires-clause-few
-attach_free-requires-clause-few c =
-    let i = c.self.inside in
-    few_lits i.chains i.trail i.queued i.level i.due c.args.self.now c.args.lits.now
-    c.self.invariant c.self.view_is c.requires.simple
+attach_free-requires-clause-few c = few_lits c.self.invariant c.self.view_is c.requires.simple
 
 pub unreachable-requires : goal.unreachable-requires
 unreachable-requires c =
-    let i = c.self.inside in let lits = c.args.lits.now in let e = i.trail.entries in
-    let n = i.chains.vars in
-    let simple : IsSimple n lits =
-    subst (λ (s : WatchState). IsSimple s.vars lits) (sym c.self.view_is) c.requires.simple in
-    let may : MayAttach (watch_state i.chains i.trail i.queued i.level i.due) lits =
-    subst (λ (s : WatchState). MayAttach s lits) (sym c.self.view_is) c.requires.may in
-    let none : FreeSays e lits 0 None =
-    subst (λ o. FreeSays e lits 0 o) c.in_default.is c.free_position.ensures in
-    some_free n e i.level lits simple may none
+    some_free c.args.self.now c.args.lits.now c.requires.may
+    (subst (λ (p : WatchState × Option ℕ). FreeSays p.0.trail c.args.lits.now 0 p.1)
+    (λ x. (c.self.view_is x, c.in_default.is x)) c.free_position.ensures)
 
 pub overflow_add-i : goal.overflow_add-i
 overflow_add-i c =
-    let i = c.self.inside in let lits = c.args.lits.now in let e = i.trail.entries in
-    let few = few_lits i.chains i.trail i.queued i.level i.due c.args.self.now c.args.lits.now
-    c.self.invariant c.self.view_is c.requires.simple in
-    let at : FreeSays e lits 0 (Some c.in-Some.i) =
-    subst (λ o. FreeSays e lits 0 o) c.in-Some.is c.free_position.ensures in
-    let below = at.1 in record { fits = omega arith }
+    let few = few_lits c.self.invariant c.self.view_is c.requires.simple in
+    let below = (first (goal.at.overflow_add-i c).In-Some).at.1 in record { fits = omega arith }
 
 pub returns-in-Some-free_position-clause-ok : goal.returns-in-Some-free_position-clause-ok
 returns-in-Some-free_position-clause-ok c =
-    let i = c.self.inside in let lits = c.args.lits.now in let e = i.trail.entries in
-    let n = i.chains.vars in
-    let simple : IsSimple n lits =
-    subst (λ (s : WatchState). IsSimple s.vars lits) (sym c.self.view_is) c.requires.simple in
-    let k = c.in-Some.i in
-    let at : FreeSays e lits 0 (Some k) =
-    subst (λ o. FreeSays e lits 0 o) c.in-Some.is c.free_position.ensures in
+    let old = c.args.self.now in let new = c.attach_free.new.self in let lits = c.args.lits.now in
     let j = c.in-Some-free_position.j in
-    let next : FreeSays e lits (k + 1) (Some j) =
-    subst (λ o. FreeSays e lits (k + 1) o) c.in-Some-free_position.is c.free_position-2.ensures in
+    let next : FreeSays old.trail lits (c.in-Some.i + 1) (Some j) =
+    subst (λ (p : WatchState × Option ℕ). FreeSays p.0.trail lits (c.in-Some.i + 1) p.1)
+    (λ x. (c.self.view_is x, c.in-Some-free_position.is x)) c.free_position-2.ensures in
+    let first = first (goal.at.returns-in-Some-free_position-clause-ok c).In-Some in
     let low = next.0 in
-    IfOk-weaker c.attach_free.result
-    (λ r. IsAttachedAs c.args.self.now c.attach_free.new.self lits c.args.id None r)
-    (λ r. Attaches c.args.self.now c.attach_free.new.self lits c.args.id r)
-    (λ r as_is. attaches_plain c.args.self.now c.attach_free.new.self lits c.args.id r as_is
-    (λ is. two_not_open n e i.level lits simple k at.1 at.2 j next.1 (λ same. omega arith) next.2
-    (subst (λ (s : WatchState). HasOneOpen s.trail s.level lits) (sym c.self.view_is) is)))
+    IfOk-weaker c.attach_free.result (λ r. IsAttachedAs old new lits c.args.id None r)
+    (λ r. Attaches old new lits c.args.id r) (λ r as_is. attaches as_is
+    (λ is. absurd (two_not_open first j next.1 (λ same. omega arith) next.2 is)) (λ is. refl))
     c.attach_free.ensures.ok
 
 pub attach_true-requires : goal.attach_true-requires
 attach_true-requires c =
-    let i = c.self.inside in let lits = c.args.lits.now in let e = i.trail.entries in
-    let n = i.chains.vars in
-    let simple : IsSimple n lits =
-    subst (λ (s : WatchState). IsSimple s.vars lits) (sym c.self.view_is) c.requires.simple in
-    let may : MayAttach (watch_state i.chains i.trail i.queued i.level i.due) lits =
-    subst (λ (s : WatchState). MayAttach s lits) (sym c.self.view_is) c.requires.may in
-    let k = c.in-Some.i in
-    let at : FreeSays e lits 0 (Some k) =
-    subst (λ o. FreeSays e lits 0 o) c.in-Some.is c.free_position.ensures in
-    let after : FreeSays e lits (k + 1) None =
-    subst (λ o. FreeSays e lits (k + 1) o) c.in_default-free_position.is
-    c.free_position-2.ensures in
-    let now : is_false e (negation (lit_at lits k)) ≡ true =
-    subst (λ (l : Lit). is_false e l ≡ true) c.negation.ensures.value
-    (sym c.is_false.ensures ∙ c.if-is_false.true) in
+    let at = goal.at.attach_true-requires c in let first = first at.In-Some in
+    let after = no_other at.In_default-free_position in
     record {
       simple = c.requires.simple;
-      few = few_lits i.chains i.trail i.queued i.level i.due c.args.self.now c.args.lits.now
-          c.self.invariant c.self.view_is c.requires.simple;
+      few = few_lits c.self.invariant c.self.view_is c.requires.simple;
       quiet = c.requires.quiet;
-      i = at.1;
-      only = subst (λ (s : WatchState). IsOnlyOne s.trail lits (lit_at lits k)) c.self.view_is
-          (only_one n e i.level lits simple k at.1 at.2 at.3 after may);
-      is_true = subst (λ (s : WatchState). IsTrueAt s.trail lits k) c.self.view_is
-          (is_true_here n e i.level lits simple k at.1 at.2 at.3 after may now);
+      i = first.at.1;
+      only = only_one first after c.requires.may;
+      is_true = is_true_here first after c.requires.may
+          (tested at.After-is_false ∙ c.if-is_false.true);
     }
 
 pub attach_due-requires : goal.attach_due-requires
 attach_due-requires c =
-    let i = c.self.inside in let lits = c.args.lits.now in let e = i.trail.entries in
-    let n = i.chains.vars in
-    let simple : IsSimple n lits =
-    subst (λ (s : WatchState). IsSimple s.vars lits) (sym c.self.view_is) c.requires.simple in
-    let may : MayAttach (watch_state i.chains i.trail i.queued i.level i.due) lits =
-    subst (λ (s : WatchState). MayAttach s lits) (sym c.self.view_is) c.requires.may in
-    let k = c.in-Some.i in
-    let at : FreeSays e lits 0 (Some k) =
-    subst (λ o. FreeSays e lits 0 o) c.in-Some.is c.free_position.ensures in
-    let after : FreeSays e lits (k + 1) None =
-    subst (λ o. FreeSays e lits (k + 1) o) c.in_default-free_position.is
-    c.free_position-2.ensures in
-    let now : is_false e (negation (lit_at lits k)) ≡ false =
-    subst (λ (l : Lit). is_false e l ≡ false) c.negation.ensures.value
-    (sym c.is_false.ensures ∙ c.if-is_false.false) in
-    let is = is_open_here n e i.level lits simple k at.1 at.2 at.3 after may now in
+    let at = goal.at.attach_due-requires c in let first = first at.In-Some in
+    let after = no_other at.In_default-free_position in
+    let is = is_open_here first after c.requires.may
+    (tested at.After-is_false ∙ c.if-is_false.false) in
     record {
       simple = c.requires.simple;
-      few = few_lits i.chains i.trail i.queued i.level i.due c.args.self.now c.args.lits.now
-          c.self.invariant c.self.view_is c.requires.simple;
+      few = few_lits c.self.invariant c.self.view_is c.requires.simple;
       quiet = c.requires.quiet;
-      i = at.1;
-      only = subst (λ (s : WatchState). IsOnlyOne s.trail lits (lit_at lits k)) c.self.view_is
-          (only_one n e i.level lits simple k at.1 at.2 at.3 after may);
-      is_open = subst (λ (s : WatchState). true_at s.trail (lit_at lits k) ≡ None) c.self.view_is
-          is.0;
-      level = subst (λ (s : WatchState). s.level ≡ highest s.trail lits) c.self.view_is is.1;
+      i = first.at.1;
+      only = only_one first after c.requires.may;
+      is_open = is.0;
+      level = is.1;
     }
 
 pub returns-then-is_false-clause-ok : goal.returns-then-is_false-clause-ok
 returns-then-is_false-clause-ok c =
-    let i = c.self.inside in let lits = c.args.lits.now in let e = i.trail.entries in
-    let n = i.chains.vars in
-    let simple : IsSimple n lits =
-    subst (λ (s : WatchState). IsSimple s.vars lits) (sym c.self.view_is) c.requires.simple in
-    let k = c.in-Some.i in
-    let at : FreeSays e lits 0 (Some k) =
-    subst (λ o. FreeSays e lits 0 o) c.in-Some.is c.free_position.ensures in
-    let now : is_false e (negation (lit_at lits k)) ≡ true =
-    subst (λ (l : Lit). is_false e l ≡ true) c.negation.ensures.value
-    (sym c.is_false.ensures ∙ c.if-is_false.true) in
-    IfOk-weaker c.attach_true.result
-    (λ r. IsAttachedAs c.args.self.now c.attach_true.new.self lits c.args.id None r)
-    (λ r. Attaches c.args.self.now c.attach_true.new.self lits c.args.id r)
-    (λ r as_is. attaches_plain c.args.self.now c.attach_true.new.self lits c.args.id r as_is
-    (λ is. true_not_open n e i.level lits simple k at.1 at.2 now
-    (subst (λ (s : WatchState). HasOneOpen s.trail s.level lits) (sym c.self.view_is) is)))
+    let at = goal.at.returns-then-is_false-clause-ok c in let now = tested at.After-is_false in
+    let old = c.args.self.now in let new = c.attach_true.new.self in let lits = c.args.lits.now in
+    IfOk-weaker c.attach_true.result (λ r. IsAttachedAs old new lits c.args.id None r)
+    (λ r. Attaches old new lits c.args.id r) (λ r as_is. attaches as_is
+    (λ is. absurd (true_not_open (first at.In-Some) (now ∙ c.if-is_false.true) is)) (λ is. refl))
     c.attach_true.ensures.ok
 
 pub returns-clause-ok : goal.returns-clause-ok
 returns-clause-ok c =
-    let i = c.self.inside in let lits = c.args.lits.now in let e = i.trail.entries in
-    let n = i.chains.vars in
-    let simple : IsSimple n lits =
-    subst (λ (s : WatchState). IsSimple s.vars lits) (sym c.self.view_is) c.requires.simple in
-    let k = c.in-Some.i in
-    let at : FreeSays e lits 0 (Some k) =
-    subst (λ o. FreeSays e lits 0 o) c.in-Some.is c.free_position.ensures in
-    let after : FreeSays e lits (k + 1) None =
-    subst (λ o. FreeSays e lits (k + 1) o) c.in_default-free_position.is
-    c.free_position-2.ensures in
-    let now : is_false e (negation (lit_at lits k)) ≡ false =
-    subst (λ (l : Lit). is_false e l ≡ false) c.negation.ensures.value
-    (sym c.is_false.ensures ∙ c.if-is_false.false) in
-    IfOk-weaker c.attach_due.result
-    (λ r. IsAttachedAs c.args.self.now c.attach_due.new.self lits c.args.id (Some r) r)
-    (λ r. Attaches c.args.self.now c.attach_due.new.self lits c.args.id r)
-    (λ r as_is. attaches_due c.args.self.now c.attach_due.new.self lits c.args.id r as_is
-    (λ is. open_alone n e i.level lits simple k at.1 at.2 at.3 after now
-    (subst (λ (s : WatchState). HasTwoFree s.trail lits ⊎ HasOneTrue s.trail lits)
-    (sym c.self.view_is) is)))
+    let at = goal.at.returns-clause-ok c in let now = tested at.After-is_false in
+    let old = c.args.self.now in let new = c.attach_due.new.self in let lits = c.args.lits.now in
+    IfOk-weaker c.attach_due.result (λ r. IsAttachedAs old new lits c.args.id (Some r) r)
+    (λ r. Attaches old new lits c.args.id r) (λ r as_is. attaches as_is (λ is. refl)
+    (λ is. absurd (open_alone (first at.In-Some) (no_other at.In_default-free_position)
+    (now ∙ c.if-is_false.false) is)))
     c.attach_due.ensures.ok

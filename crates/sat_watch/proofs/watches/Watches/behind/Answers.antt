@@ -1,17 +1,14 @@
-use Rattle.std.proofs.Common.{◌≡◌, true, sym, ap, ◌∙◌, subst}
-use Rattle.sat_arena.specs.Store.{behind_of, is_held}
-use Rattle.sat_watch.specs.Watches.{WatchState, attached_behind, first_attached, is_attached}
+use Rattle.std.proofs.Common.{sym, ap, ◌∙◌}
+use Rattle.sat_arena.specs.Store.{behind_of}
+use Rattle.sat_watch.specs.Watches.{WatchState, attached_behind, first_attached}
 use Rattle.sat_watch.proofs.WatchesLemmas.{attached_first, attached_held, attached_next}
 use Rattle.sat_watch.proofs.watches.Watches.behind.Goals as goal
 
 pub behind-requires : goal.behind-requires
-behind-requires c =
-    let ks = c.self.inside.chains.clauses in
-    let held : is_held ks c.args.c ≡ true =
-    sym (attached_held ks c.args.c) ∙ subst
-    (λ (s : WatchState). is_attached s.clauses c.args.c ≡ true) (sym c.self.view_is)
-    c.requires.attached in
-    record { held = held }
+behind-requires c = record {
+  held = sym (attached_held c.self.inside.chains.clauses c.args.c)
+      ∙ (rw (← c.self.view_is) at c.requires.attached);
+}
 
 pub returns : goal.returns
 returns c =

@@ -1,9 +1,9 @@
-use Rattle.std.proofs.Common.{◌≡◌, ℕ, List, map, Option, None, All, true, sym, ap, ◌∙◌, subst}
+use Rattle.std.proofs.Common.{◌≡◌, ℕ, List, map, Option, None, sym, ap, ◌∙◌, subst}
 use Rattle.sat_arena.specs.declared.clause_ref.ClauseRef.{ClauseRef}
 use Rattle.sat_arena.specs.declared.moves.Move.{Move}
 use Rattle.sat_arena.specs.Compact.{moved_by}
-use Rattle.sat_watch.specs.Forget.{IsNoReason, OthersMove, OthersStay, forgotten}
-use Rattle.sat_watch.specs.Watches.{IsWatches, WatchState, attached, is_attached}
+use Rattle.sat_watch.specs.Forget.{OthersMove, OthersStay, forgotten}
+use Rattle.sat_watch.specs.Watches.{IsWatches, WatchState, attached}
 use Rattle.sat_watch.proofs.ForgetLemmas.{others_move, others_stay, state_forgotten, watches_forgotten}
 use Rattle.sat_watch.proofs.WatchesLemmas.{attached_held}
 use Rattle.sat_watch.proofs.watches.Watches.forget.Goals as goal
@@ -11,9 +11,7 @@ use Rattle.sat_watch.proofs.watches.Watches.forget.Goals as goal
 pub remove-requires : goal.remove-requires
 remove-requires c =
     let i = c.self.inside in let refs = c.args.clauses.now in
-    let all : All (λ r. is_attached (map attached i.chains.clauses) r ≡ true) refs =
-    subst (λ (s : WatchState). All (λ r. is_attached s.clauses r ≡ true) refs) (sym c.self.view_is)
-    c.requires.attached in
+    let all = rw (← c.self.view_is) at c.requires.attached in
     record { held = λ k d lt. sym (attached_held i.chains.clauses _) ∙ all k d lt }
 
 pub invariant_of-self-2 : goal.invariant_of-self-2
@@ -28,9 +26,7 @@ invariant_of-self-2 c =
     let h : IsWatches i.chains i.trail 0 0 None =
     subst (λ (p : ℕ × ℕ × Option ClauseRef). IsWatches i.chains i.trail p.0 p.1 p.2)
     (λ x. (queued x, level x, none x)) c.self.invariant in
-    let free : All (IsNoReason i.trail.entries) refs =
-    subst (λ (s : WatchState). All (IsNoReason s.trail) refs) (sym c.self.view_is)
-    c.requires.no_reason in
+    let free = rw (← c.self.view_is) at c.requires.no_reason in
     subst (λ (p : ℕ × ℕ × Option ClauseRef).
     IsWatches c.remove.new.self c.move_reasons.new.self p.0 p.1 p.2)
     (λ x. (sym queued x, sym level x, sym none x))

@@ -4,7 +4,6 @@ use Rattle.sat_arena.specs.Store.{is_held, stored_at}
 use Rattle.sat_watch.specs.declared.entry.TrailEntry.{TrailEntry}
 use Rattle.sat_clause.specs.Literal.{IsWithin}
 use Rattle.sat_watch.specs.Levels.{IsWatchStore}
-use Rattle.sat_watch.specs.Trail.{IsOpen}
 use Rattle.sat_watch.specs.Watched.{IsReason}
 use Rattle.sat_watch.specs.Watches.{WatchState, is_attached, lits_at}
 use Rattle.sat_watch.proofs.SettledLemmas.{store_imply}
@@ -20,8 +19,7 @@ overflow_add-self c =
 pub invariant_of-self : goal.invariant_of-self
 invariant_of-self c =
     let i = c.self.inside in let a = c.args in let ks = i.chains.clauses in
-    let free : IsOpen i.trail.entries a.l =
-    subst (λ (s : WatchState). IsOpen s.trail a.l) (sym c.self.view_is) c.requires.open in
+    let free = rw (← c.self.view_is) at c.requires.open in
     let held : is_held ks a.reason ≡ true =
     sym (attached_held ks a.reason) ∙ subst
     (λ (s : WatchState). is_attached s.clauses a.reason ≡ true) (sym c.self.view_is)

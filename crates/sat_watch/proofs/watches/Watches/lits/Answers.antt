@@ -1,17 +1,13 @@
-use Rattle.std.proofs.Common.{◌≡◌, true, sym, ap, ◌∙◌, subst}
-use Rattle.sat_arena.specs.Store.{is_held}
-use Rattle.sat_watch.specs.Watches.{AreInPlace, WatchState, is_attached, lits_at}
+use Rattle.std.proofs.Common.{sym, ap, ◌∙◌, subst}
+use Rattle.sat_watch.specs.Watches.{AreInPlace, WatchState, lits_at}
 use Rattle.sat_watch.proofs.WatchesLemmas.{attached_held, attached_lits, in_place}
 use Rattle.sat_watch.proofs.watches.Watches.lits.Goals as goal
 
 pub lits-requires : goal.lits-requires
-lits-requires c =
-    let ks = c.self.inside.chains.clauses in
-    let held : is_held ks c.args.c ≡ true =
-    sym (attached_held ks c.args.c) ∙ subst
-    (λ (s : WatchState). is_attached s.clauses c.args.c ≡ true) (sym c.self.view_is)
-    c.requires.attached in
-    record { held = held }
+lits-requires c = record {
+  held = sym (attached_held c.self.inside.chains.clauses c.args.c)
+      ∙ (rw (← c.self.view_is) at c.requires.attached);
+}
 
 pub returns-clause-value : goal.returns-clause-value
 returns-clause-value c =
