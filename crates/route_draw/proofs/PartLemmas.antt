@@ -1,10 +1,10 @@
 -- What a loop over the elements that a text has parts for adds to it.
-use Rattle.std.proofs.Common.{◌≡◌, ℕ, zero, suc, ◌+◌, List, [], ◌∷◌, ◌++◌, length, take, ap, sym, subst, ◌∙◌, refl, add-one, append_assoc}
+use Rattle.std.proofs.Common.{◌≡◌, ℕ, ◌+◌, List, [], ◌∷◌, ◌++◌, length, take, ap, sym, subst, ◌∙◌, refl, add-one, append_assoc}
 use Rattle.std.specs.Prelude.{Some, slice_get}
 use Rattle.std.proofs.Math.Seq.{take-length}
 use Rattle.std.proofs.lemmas.List.{append-nil}
 use Rattle.list_laws.proofs.Places.{take-get}
-use Rattle.route_draw.specs.Parts.{Adds, AreParts, IsJoined}
+use Rattle.route_draw.specs.Parts.{Adds, AreParts}
 
 -- no element has no part
 pub added-none : {T : Type 0} (IsPart : T → List ℕ → Type 0) (xs : List T) (old : List ℕ) →

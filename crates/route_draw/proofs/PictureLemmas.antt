@@ -1,7 +1,6 @@
 -- What each part of a picture adds to its text.
 use Rattle.std.proofs.Common.{◌≡◌, ℕ, Bool, true, false, List, [], ◌++◌, length, ap, ap₂, sym, subst, ◌∙◌, refl, append_assoc}
 use Rattle.std.specs.Prelude.{codes}
-use Rattle.std.proofs.lemmas.List.{append-nil}
 use Rattle.fpga_types.specs.Problem.{RoutingProblem}
 use Rattle.fpga_types.specs.declared.netlist.Block.{Block}
 use Rattle.fpga_types.specs.declared.netlist.Net.{Net}
@@ -18,13 +17,6 @@ block-added block class name drawn old new kind named added = record {
   added = added;
 }
 
-pub global-skipped : (net : Net) (old : List ℕ) → net.global ≡ false → Adds (IsGlobal net) old old
-global-skipped net old other = record {
-  part = [];
-  is_part = subst (λ (b : Bool). IsGlobalIf b net.name []) (sym other) refl;
-  added = sym (append-nil old);
-}
-
 pub global-added : (net : Net) (name drawn old new : List ℕ) → net.global ≡ true →
     name ≡ net.name → new ≡ old ++ group (codes "g") [] name drawn → Adds (IsGlobal net) old new
 global-added net name drawn old new global named added = record {
@@ -32,13 +24,6 @@ global-added net name drawn old new global named added = record {
   is_part = subst (λ (b : Bool). IsGlobalIf b net.name (group (codes "g") [] name drawn))
       (sym global) (drawn, ap (λ (n : List ℕ). group (codes "g") [] n drawn) named);
   added = added;
-}
-
-pub net-skipped : (net : RouteNet) (old : List ℕ) → net.global ≡ true → Adds (IsRouted net) old old
-net-skipped net old global = record {
-  part = [];
-  is_part = subst (λ (b : Bool). IsRoutedUnless b net.name []) (sym global) refl;
-  added = sym (append-nil old);
 }
 
 pub net-added : (net : RouteNet) (colour name drawn old new : List ℕ) → net.global ≡ false →
@@ -97,7 +82,8 @@ pub picture-made : (problem : RoutingProblem) (width : ℕ) (head marks key : Li
     Adds (IsBody problem) s2 s3 → s4 ≡ s3 ++ marks → s5 ≡ s4 ++ codes "</g>\n" →
     Adds (AreCounts problem width) s5 s6 → s7 ≡ s6 ++ key → s8 ≡ s7 ++ codes "</svg>\n" →
     IsPicture problem width s8
-picture-made problem width head marks key s0 s1 s2 s3 s4 s5 s6 s7 s8 e0 e1 e2 body e4 e5 line e7 e8 =
+picture-made problem width head marks key
+    s0 s1 s2 s3 s4 s5 s6 s7 s8 e0 e1 e2 body e4 e5 line e7 e8 =
     record {
       head = head;
       body = body.part;

@@ -4,17 +4,12 @@ use Rattle.std.specs.Prelude.{All}
 use Rattle.std.proofs.lemmas.List.Elements.{All-map}
 use Rattle.list_laws.proofs.Members.{all-from_In, from_In-range}
 use Rattle.sat_clause.specs.Literal.{IsWithin}
-use Rattle.route_encode.specs.Encoding.{below, has, lacks, some_track}
+use Rattle.route_encode.specs.Encoding.{below, has, some_track}
 use Rattle.route_encode.proofs.BitLemmas.{place-inside}
 
 pub has-within : (count width s t : ℕ) → s < count → t < width
     → IsWithin (count * width) (has width s t)
 has-within count width s t low inside = let h =
-    place-inside count width s t low inside in (omega arith, omega (arith, h))
-
-pub lacks-within : (count width s t : ℕ) → s < count → t < width
-    → IsWithin (count * width) (lacks width s t)
-lacks-within count width s t low inside = let h =
     place-inside count width s t low inside in (omega arith, omega (arith, h))
 
 pub some_track-within : (count width s : ℕ) → s < count

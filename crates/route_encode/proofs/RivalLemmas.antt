@@ -79,19 +79,6 @@ pub record IsWalked (all : List Slot) (slot : ℕ) (next : Option ℕ) (done : L
   pub next_is : next ≡ find (share_cell all slot) (slots_from all at)
   pub done_is : done ≡ filter (share_cell all slot) (range_with_len (slot + 1) (at - (slot + 1)))
 
-pub walk-start : (all : List Slot) (slot : ℕ) → slot < length all
-    → IsWalked all slot (next_rival all slot) []
-walk-start all slot h =
-    let none : slot + 1 - (slot + 1) ≡ 0 = omega arith in
-    record {
-      at = slot + 1;
-      above = omega arith;
-      within = omega arith;
-      next_is = refl;
-      done_is =
-          rw none refl;
-    }
-
 -- the slots from one place on, up to another and from there
 slots-split : (all : List Slot) (a b : ℕ) → a ≤ b → b ≤ length all → slots_from all a
     ≡ range_with_len a (b - a) ++ slots_from all b

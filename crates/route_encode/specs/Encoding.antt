@@ -1,6 +1,6 @@
 -- The clauses of a route at a width: connectivity and exclusivity constraints as in Nam, Sakallah
 -- and Rutenbar, in an order of this project. A variable says that a slot has a track.
-use Rattle.std.specs.Prelude.{ℕ, suc, ◌+◌, ◌-◌, ◌*◌, Bool, true, not, pos, negsuc, List, [], ◌∷◌, ◌++◌, length, map, filter, flat_map, Option, option_map, option_to_list}
+use Rattle.std.specs.Prelude.{ℕ, suc, ◌+◌, ◌-◌, ◌*◌, Bool, not, pos, negsuc, List, [], ◌∷◌, ◌++◌, length, map, filter, flat_map, Option, option_map, option_to_list}
 use Rattle.std.specs.List.{range_with_len}
 use Rattle.fpga_types.specs.Slots.{pairs, pin_steps, slot_at, slots, steps}
 use Rattle.fpga_types.specs.Boxes.{opens}

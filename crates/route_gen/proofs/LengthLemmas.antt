@@ -22,7 +22,7 @@ use Rattle.fpga_types.specs.declared.route.Label.{Label}
 use Rattle.fpga_types.specs.declared.route.Label.TheVariants.{Class, Pin, Pad, Track}
 use Rattle.fpga_types.proofs.MeetingLemmas.{both_true}
 use Rattle.fpga_route.specs.Forms.{kind_word, label_word}
-use Rattle.fpga_route.specs.Printed.{in_six_places, printed, printed_elem, printed_net}
+use Rattle.fpga_route.specs.Printed.{in_six_places, printed_elem, printed_net}
 use Rattle.fpga_route.proofs.PrintedLemmas.{IsPrintableElem}
 use Rattle.route_gen.specs.Draws.{input_table, location_of, nets_into, sinks_of}
 use Rattle.route_gen.specs.Generated.{generated}

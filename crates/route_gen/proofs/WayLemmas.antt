@@ -101,10 +101,6 @@ towards-step from to k within = go (nat_lt to from) refl
     go true falls = let down = ltb-true to from falls in Down (omega arith)
     go false rises = Up (omega arith)
 
-off_last : (a b : Bool) → b ≡ false → (a && b) ≡ false
-off_last true b h = h
-off_last false b h = refl
-
 module _ (side : ℕ) where
   -- a meeting is found
   meets-at : (a b : Cell) (m : Meeting) → MeetsAt (square_of side) a b m →

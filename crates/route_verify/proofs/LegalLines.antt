@@ -32,7 +32,7 @@ use Rattle.fpga_types.specs.declared.route.RouteText.{RouteText}
 use Rattle.fpga_types.proofs.FitsLemmas.{Fits-line}
 use Rattle.fpga_bounds.specs.NetFit.{head_line}
 use Rattle.fpga_bounds.proofs.LineLemmas.{elem_line}
-use Rattle.fpga_bounds.proofs.NameLemmas.{name_itself}
+use Rattle.fpga_types.proofs.NameLaws.{name_itself}
 use Rattle.route_verify.specs.Judged.{array_cause, causes, end_cause, graph_of, judged, judgement_by, line_cause, line_causes}
 use Rattle.route_verify.specs.Lines.{JudgedLine, is_stray_in, is_too_high, is_unconnected, is_unfit, repeats_cell, is_trace_named, judged_line, trace_named}
 use Rattle.route_verify.specs.Wiring.{are_parted, are_unconnected, elem_wire, misses, pin_on}
@@ -117,8 +117,8 @@ uncaused g at n c =
     else if c.new i then Some (Bad n 805) else if c.whole i then Some (Bad n 806)
     else if c.fitting i then Some (Bad n 807) else None
 
-module _ (p : RoutingProblem) (sound : IsSound p.route) (fits : Fits p) (width : ℕ) (tracks : List ℕ)
-    (legal : IsLegalFor p.arch width p.route tracks) where
+module _ (p : RoutingProblem) (sound : IsSound p.route) (fits : Fits p) (width : ℕ)
+    (tracks : List ℕ) (legal : IsLegalFor p.arch width p.route tracks) where
   abbrev all : List Slot
   all = slots p.route
 

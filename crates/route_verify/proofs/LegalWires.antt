@@ -69,8 +69,8 @@ no_step : (all : List Slot) (o : Option Slot) → pin_step_of all None o ≡ Non
 no_step all None = refl
 no_step all (Some s) = refl
 
-module _ (p : RoutingProblem) (sound : IsSound p.route) (fits : Fits p) (width : ℕ) (tracks : List ℕ)
-    (legal : IsLegalFor p.arch width p.route tracks) where
+module _ (p : RoutingProblem) (sound : IsSound p.route) (fits : Fits p) (width : ℕ)
+    (tracks : List ℕ) (legal : IsLegalFor p.arch width p.route tracks) where
   abbrev all : List Slot
   all = slots p.route
 

@@ -2,7 +2,7 @@
 use Rattle.std.proofs.Common.{◌≡◌, ℕ, Option, Some, None, List, [], ap, ◌∙◌}
 use Rattle.std.specs.Prelude.{option_and_then, slice_get}
 use Rattle.std.specs.Option.{option_map_or}
-use Rattle.fpga_bounds.proofs.NameLemmas.{find-position}
+use Rattle.list_laws.proofs.Searches.{find-position}
 use Rattle.fpga_text.specs.Bytes.{Bytes}
 use Rattle.fpga_types.specs.declared.route.RouteNet.{RouteNet}
 use Rattle.route_verify.specs.Lines.{is_trace_named, trace_named}

@@ -10,11 +10,12 @@ loop-block-init c = added-none IsBlock c.args.blocks.now (string_bytes c.args.ou
 
 pub loop-block-preserved : goal.loop-block-preserved
 loop-block-preserved c =
-    let at = get-there c.args.blocks.now c.loop-block.block-index c.block-item.result c.block-item.result
-    (search rules) (search rules) in
+    let at = get-there c.args.blocks.now c.loop-block.block-index c.block-item.result
+    c.block-item.result (search rules) (search rules) in
     added-next IsBlock c.args.blocks.now c.loop-block.block-index c.block-item.result _ _ _
     at c.loop-block.invariant c.in_ok-append_block.ensures
 
 pub returns : goal.returns
 returns c =
-    added-whole IsBlock c.args.blocks.now c.loop-block.block-index _ _ (omega arith) c.loop-block.invariant
+    added-whole IsBlock c.args.blocks.now c.loop-block.block-index _ _ (omega arith)
+    c.loop-block.invariant

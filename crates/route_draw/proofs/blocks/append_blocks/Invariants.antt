@@ -6,4 +6,5 @@ use Rattle.route_draw.proofs.blocks.append_blocks.Given as goal
 -- the parts so far were added
 abbrev pub invariant-loop-block : goal.invariant-loop-block
 invariant-loop-block l =
-    Adds (AreParts IsBlock (take l.block-index l.blocks)) (string_bytes l.initial.out) (string_bytes l.out)
+    Adds (AreParts IsBlock (take l.block-index l.blocks)) (string_bytes l.initial.out)
+    (string_bytes l.out)

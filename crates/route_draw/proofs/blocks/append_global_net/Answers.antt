@@ -1,6 +1,6 @@
-use Rattle.std.proofs.Common.{rules, ◌≡◌, Bool, true, ap, sym, ◌∙◌}
+use Rattle.std.proofs.Common.{rules, ap, sym, ◌∙◌}
 use Rattle.fpga_types.specs.declared.netlist.Net.{Net}
-use Rattle.route_draw.proofs.PictureLemmas.{global-added, global-skipped}
+use Rattle.route_draw.proofs.PictureLemmas.{global-added}
 use Rattle.route_draw.proofs.blocks.append_global_net.Goals as goal
 
 pub returns : goal.returns

@@ -1,6 +1,6 @@
 use Rattle.std.proofs.Common.{ap, sym, ◌∙◌}
 use Rattle.fpga_types.specs.declared.route.RouteNet.{RouteNet}
-use Rattle.route_draw.proofs.PictureLemmas.{net-added, net-skipped}
+use Rattle.route_draw.proofs.PictureLemmas.{net-added}
 use Rattle.route_draw.proofs.nets.append_net.Goals as goal
 
 pub returns : goal.returns
