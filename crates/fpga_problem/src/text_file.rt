@@ -1,0 +1,35 @@
+//! The files that a problem is read from.
+ghost use Rattle.std.specs.Prelude.{◌≡◌};
+
+use crate::refusal::Refusal;
+use fpga_text::TextFault;
+use std::fmt;
+
+/// A file that a problem is read from.
+#[derive(Clone, Copy, Debug, PartialEq, Eq)]
+pub enum TextFile {
+    Architecture,
+    Netlist,
+    Placement,
+    Route,
+}
+
+impl TextFile {
+    /// The text of this file is refused for this fault.
+    pub(crate) fn refused(self, fault: TextFault) -> Refusal
+        ensures { result ≡ record { file = self; fault = fault } }
+    {
+        Refusal { file: self, fault }
+    }
+}
+
+impl fmt::Display for TextFile {
+    fn fmt<W: fmt::Write>(&self, f: &mut fmt::Formatter<W>) -> fmt::Result {
+        match self {
+            TextFile::Architecture => write!(f, "architecture"),
+            TextFile::Netlist => write!(f, "netlist"),
+            TextFile::Placement => write!(f, "placement"),
+            TextFile::Route => write!(f, "route"),
+        }
+    }
+}
