@@ -91,9 +91,9 @@ pub(crate) enum Written<'a> {
 /// The files of a job that searches.
 pub(crate) fn files_written(job: Option<Job<'_>>) -> Option<Written<'_>> {
     match job? {
-        Job::Route(job) => Some(Written::One(job.prefix)),
-        Job::Sweep(job) => Some(Written::Each(job.prefix)),
-        Job::Trial(job) => Some(Written::Each(job.prefix)),
+        Job::Route(job) => Some(Written::One(job.search.prefix)),
+        Job::Sweep(job) => Some(Written::Each(job.search.prefix)),
+        Job::Trial(job) => Some(Written::Each(job.search.prefix)),
         Job::Encode(_) | Job::Check(_) | Job::Verify(_) | Job::Gen(_) => None,
     }
 }

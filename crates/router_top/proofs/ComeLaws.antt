@@ -1,16 +1,13 @@
 -- A search that comes to a width: the files of lower widths, and what is found there.
-use Rattle.std.proofs.Common.{◌≡◌, ◌∙◌, ◌⊎◌, ℕ, zero, suc, ◌+◌, ◌-◌, ◌≤◌, List, [], ◌∷◌, ◌++◌, Option, Ok, Err, Result, refl, sym, ap, subst, inl, inr, arith}
+use Rattle.std.proofs.Common.{◌≡◌, ◌∙◌, ◌⊎◌, ℕ, ◌+◌, ◌-◌, ◌≤◌, List, [], ◌∷◌, ◌++◌, Ok, Result, refl, sym, ap, subst, inl, inr, arith}
 use Rattle.std.specs.Prelude.{Some, flat_map}
 use Rattle.std.specs.List.{range_with_len}
-use Rattle.desk_io.specs.Files.{Bytes, FileMap}
-use Rattle.desk_io.specs.ShelfState.{ShelfState}
+use Rattle.desk_io.specs.ShelfState.{ShelfState, after_say}
 use Rattle.fpga_types.specs.Problem.{RoutingProblem}
 use Rattle.fpga_types.specs.declared.limits.TheConstants.{WIDTH_LIMIT}
 use Rattle.fpga_types.specs.declared.route.RouteText.{RouteText}
 use Rattle.route_encode.specs.Encoding.{cnf_of}
 use Rattle.route_encode.specs.Good.{IsRoutingOf}
-use Rattle.route_sweep.specs.Asked.{Asked}
-use Rattle.route_sweep.specs.Climb.{AreRefuted}
 use Rattle.route_sweep.specs.Found.{FindsAt}
 use Rattle.route_sweep.specs.declared.found.Climbed.{Climbed}
 use Rattle.route_sweep.specs.declared.found.Found.{Found}
@@ -18,19 +15,22 @@ use Rattle.route_sweep.specs.declared.found.Found.TheVariants.{Refuted}
 use Rattle.route_sweep.specs.declared.found.Stop.{Stop}
 use Rattle.sat_clause.specs.Step.{Step}
 use Rattle.router_words.specs.Command.{job_of}
-use Rattle.router_words.specs.Job.{JobAsked, RouteAsked, Routes, SweepAsked}
+use Rattle.router_words.specs.Job.{JobAsked, RouteAsked, Routes, SweepAsked, TrialAsked, Tries}
 use Rattle.router_words.specs.Word.{Word}
 use Rattle.router_top.specs.Comes.{ComesTo, lower_files}
 use Rattle.router_top.specs.FourFiles.{Poses}
+use Rattle.router_top.specs.Generated.{Makes}
 use Rattle.router_top.specs.JobFiles.{IsClimb}
 use Rattle.router_top.specs.Outcomes.{climbed_outcome, found_outcome}
 use Rattle.router_top.specs.Run.{Scene}
-use Rattle.router_top.specs.Search.{files_of, route_search, search_asked, sweep_search}
+use Rattle.router_top.specs.Search.{files_of, route_search, search_asked, sweep_of, sweep_search}
 use Rattle.router_top.specs.SearchFiles.{proof_files, route_file}
+use Rattle.router_top.specs.Trial.{trial_line}
 use Rattle.router_top.specs.Work.{Searches, Sweeps}
 use Rattle.router_top.specs.Written.{NamedText, with_files}
 use Rattle.router_top.specs.declared.outcome.Outcome.{Outcome}
 use Rattle.router_top.proofs.ClimbLaws.{EndsAt, climb-ends, climbed-logs, climbed-said}
+use Rattle.router_top.proofs.GeneratedLaws.{made-poses}
 use Rattle.router_top.proofs.NameLaws.{proof-apart, proofs-then-proof, proofs-then-route, route-apart}
 use Rattle.router_top.proofs.WrittenLaws.{AreApart}
 
@@ -60,8 +60,8 @@ less-itself n = omega arith
 module _ (words : List Word) (at : Scene) where
   -- a search at one width
   module _ (job : RouteAsked) (p : RoutingProblem) (asked : job_of words ≡ Ok (Routes job))
-      (poses : Poses at.desk.files job.files p) (narrow : job.width ≤ WIDTH_LIMIT) where
-    abbrev comes-alone : ComesTo words at.desk.files job.width
+      (poses : Poses at.desk.files job.files p) (narrow : job.search.width ≤ WIDTH_LIMIT) where
+    abbrev comes-alone : ComesTo words at.desk.files job.search.width
     comes-alone = record {
       job = Routes job;
       asked = asked;
@@ -77,14 +77,14 @@ module _ (words : List Word) (at : Scene) where
 
     none-lower : lower_files comes-alone ≡ []
     none-lower = ap (λ (count : ℕ). flat_map (λ k. proof_files (route_search job) p k [])
-        (range_with_len job.width count)) (less-itself job.width)
+        (range_with_len job.search.width count)) (less-itself job.search.width)
 
     alone : (more : List NamedText) → AreApart more → AreApart (lower_files comes-alone ++ more)
     alone more = subst (λ (fs : List NamedText). AreApart (fs ++ more)) (sym none-lower)
 
     pub route-comes : (o : Outcome) → Searches job p at.shelf at.shelf_now o → HasCome words at o
     route-comes o did = record {
-      width = job.width;
+      width = job.search.width;
       comes = comes-alone;
       narrow = narrow;
       between = at.shelf;
@@ -93,8 +93,8 @@ module _ (words : List Word) (at : Scene) where
       climbs = inl refl;
       route_apart = λ found. alone (route_file (route_search job) found ∷ [])
           (route-apart (route_search job) p found);
-      proof_apart = λ log. alone (proof_files (route_search job) p job.width log)
-          (proof-apart (route_search job) p job.width log);
+      proof_apart = λ log. alone (proof_files (route_search job) p job.search.width log)
+          (proof-apart (route_search job) p job.search.width log);
       came = did.came;
       finds = did.finds;
       last = λ same. refl;
@@ -105,53 +105,66 @@ module _ (words : List Word) (at : Scene) where
   module _ (which : JobAsked) (job : SweepAsked) (p : RoutingProblem)
       (asked : job_of words ≡ Ok which) (searches : search_asked which ≡ Some (sweep_search job))
       (climb : IsClimb words)
-      (poses : Poses (files_of which at.desk.files) job.files p) (narrow : job.most ≤ WIDTH_LIMIT)
-    where
-      ends-come : (came : Result Climbed Stop) (o : Outcome) → o ≡ climbed_outcome came
-          → EndsAt (sweep_search job).ask job.most (λ width. cnf_of width p)
-          (λ width. IsRoutingOf width p) at.shelf at.shelf_now came
-          → HasCome words at o
-      ends-come came o is end =
-          let search = sweep_search job in
-          let below = end.comes.below in
-          let lower = climbed-logs search p poses.fits below at.shelf end.comes.between
-          end.comes.refuted in
-          let low : end.width ≤ 64 = omega (arith, end.comes.next, end.comes.within, narrow) in
-          let count : below ≡ end.width - 1 = omega (arith, end.comes.next) in
-          let few : 1 + (end.width - 1) ≤ end.width = omega (arith, end.comes.next) in
-          record {
-            width = end.width;
-            comes = record {
-              job = which;
-              asked = asked;
-              search = search;
-              searches = searches;
-              p = p;
-              poses = poses;
-              from = omega (arith, end.comes.next);
-              to = omega (arith, end.comes.next, end.comes.within);
-              logs = lower.logs;
-              lower = λ k from high. lower.refuted k from (omega (arith, high, end.comes.next));
-            };
-            narrow = low;
-            between = end.comes.between;
-            lower = lower.files ∙ ap (λ (n : ℕ). with_files
-                (flat_map (λ k. proof_files search p k (lower.logs k)) (range_with_len 1 n))
-                at.shelf.files) count;
-            silent = climbed-said search p poses.fits below at.shelf end.comes.between
-                end.comes.refuted;
-            climbs = inr climb;
-            route_apart = λ found. proofs-then-route search p refl lower.logs 1 (end.width - 1)
-                found (omega (arith, few, low));
-            proof_apart = λ log. proofs-then-proof search p refl lower.logs 1 (end.width - 1)
-                end.width log few low;
-            came = end.found;
-            finds = end.comes.then;
-            last = end.last;
-            is = is ∙ end.is;
-          }
+      (poses : Poses (files_of which at.desk.files) job.files p)
+      (narrow : job.search.width ≤ WIDTH_LIMIT) where
+    ends-come : (came : Result Climbed Stop) (o : Outcome) → o ≡ climbed_outcome came
+        → EndsAt (sweep_search job).ask job.search.width (λ width. cnf_of width p)
+        (λ width. IsRoutingOf width p) at.shelf at.shelf_now came
+        → HasCome words at o
+    ends-come came o is end =
+        let search = sweep_search job in
+        let below = end.comes.below in
+        let lower = climbed-logs search p poses.fits below at.shelf end.comes.between
+        end.comes.refuted in
+        let low : end.width ≤ 64 = omega (arith, end.comes.next, end.comes.within, narrow) in
+        let count : below ≡ end.width - 1 = omega (arith, end.comes.next) in
+        let few : 1 + (end.width - 1) ≤ end.width = omega (arith, end.comes.next) in
+        record {
+          width = end.width;
+          comes = record {
+            job = which;
+            asked = asked;
+            search = search;
+            searches = searches;
+            p = p;
+            poses = poses;
+            from = omega (arith, end.comes.next);
+            to = omega (arith, end.comes.next, end.comes.within);
+            logs = lower.logs;
+            lower = λ k from high. lower.refuted k from (omega (arith, high, end.comes.next));
+          };
+          narrow = low;
+          between = end.comes.between;
+          lower = lower.files ∙ ap (λ (n : ℕ). with_files
+              (flat_map (λ k. proof_files search p k (lower.logs k)) (range_with_len 1 n))
+              at.shelf.files) count;
+          silent = climbed-said search p poses.fits below at.shelf end.comes.between
+              end.comes.refuted;
+          climbs = inr climb;
+          route_apart = λ found. proofs-then-route search p refl lower.logs 1 (end.width - 1)
+              found (omega (arith, few, low));
+          proof_apart = λ log. proofs-then-proof search p refl lower.logs 1 (end.width - 1)
+              end.width log few low;
+          came = end.found;
+          finds = end.comes.then;
+          last = end.last;
+          is = is ∙ end.is;
+        }
 
-      pub sweep-comes : (o : Outcome) → Sweeps job p at.shelf at.shelf_now o → HasCome words at o
-      sweep-comes o did = ends-come did.came o did.is
-          (climb-ends (sweep_search job).ask job.most (λ width. cnf_of width p)
-          (λ width. IsRoutingOf width p) at.shelf at.shelf_now did.some did.came did.climbs)
+    pub sweep-comes : (o : Outcome) → Sweeps job p at.shelf at.shelf_now o → HasCome words at o
+    sweep-comes o did = ends-come did.came o did.is
+        (climb-ends (sweep_search job).ask job.search.width (λ width. cnf_of width p)
+        (λ width. IsRoutingOf width p) at.shelf at.shelf_now did.some did.came did.climbs)
+
+-- the scene behind the trial line
+abbrev pub behind_line : Scene → RoutingProblem → Scene
+behind_line at p = record at { shelf = after_say at.shelf (trial_line p) }
+
+-- the climb of a trial
+pub trial-comes : (words : List Word) (at : Scene) (job : TrialAsked) (p : RoutingProblem)
+    → job_of words ≡ Ok (Tries job) → Makes job.recipe p → (o : Outcome)
+    → Sweeps (sweep_of job) p (after_say at.shelf (trial_line p)) at.shelf_now o
+    → HasCome words (behind_line at p) o
+trial-comes words at job p asked makes o did =
+    sweep-comes words (behind_line at p) (Tries job) (sweep_of job) p asked refl (inr (job, asked))
+    (made-poses job.recipe job.search.prefix p makes) did.narrow o did

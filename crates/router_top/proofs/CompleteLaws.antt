@@ -38,7 +38,7 @@ use Rattle.router_top.specs.Files.{FailsAmong, WritesFiles, problem_slots}
 use Rattle.router_top.specs.Generated.{generated_files}
 use Rattle.router_top.specs.Outcomes.{climbed_outcome, found_outcome, written_outcome}
 use Rattle.router_top.specs.Report.{line_of}
-use Rattle.router_top.specs.Run.{Leaves, LeavesJob, LeavesMade, LeavesWork, Runs, Scene, TriesGenerated}
+use Rattle.router_top.specs.Run.{Leaves, LeavesJob, LeavesMade, LeavesWork, Runs, Scene, TriesGenerated, scene}
 use Rattle.router_top.specs.Search.{Search, route_search, sweep_of, sweep_search}
 use Rattle.router_top.specs.Sources.{IsHalted, IsStopped, ReadsThen}
 use Rattle.router_top.specs.Trial.{Tries, trial_line}
@@ -149,7 +149,7 @@ settles-before first before now says o same h = record {
 
 -- a search at one width
 module _ (job : RouteAsked) (p : RoutingProblem) (fits : Fits p) (before now : ShelfState) where
-  reached-alone : IsReached (route_search job) p job.width
+  reached-alone : IsReached (route_search job) p job.search.width
   reached-alone = record {
     from = omega arith;
     to = omega arith;
@@ -160,13 +160,13 @@ module _ (job : RouteAsked) (p : RoutingProblem) (fits : Fits p) (before now : S
       → Settles before now (IsTrueOfSearch (route_search job) p) o
   search-settles o h =
       subst (Settles before now (IsTrueOfSearch (route_search job) p)) (sym h.is)
-      (found-settles (route_search job) p fits job.width reached-alone before now h.came h.finds
-      (λ same. refl))
+      (found-settles (route_search job) p fits job.search.width reached-alone before now h.came
+      h.finds (λ same. refl))
 
 -- a climb through the widths
 module _ (job : SweepAsked) (p : RoutingProblem) (fits : Fits p) (before now : ShelfState) where
   ends-settle : (came : Result Climbed Stop)
-      → EndsAt (sweep_search job).ask job.most (λ width. cnf_of width p)
+      → EndsAt (sweep_search job).ask job.search.width (λ width. cnf_of width p)
       (λ width. IsRoutingOf width p) before now came
       → Settles before now (IsTrueOfSearch (sweep_search job) p) (climbed_outcome came)
   ends-settle came end =
@@ -188,8 +188,8 @@ module _ (job : SweepAsked) (p : RoutingProblem) (fits : Fits p) (before now : S
       → Settles before now (IsTrueOfSearch (sweep_search job) p) o
   sweep-settles o h =
       subst (Settles before now (IsTrueOfSearch (sweep_search job) p)) (sym h.is)
-      (ends-settle h.came (climb-ends (sweep_search job).ask job.most (λ width. cnf_of width p)
-      (λ width. IsRoutingOf width p) before now h.some h.came h.climbs))
+      (ends-settle h.came (climb-ends (sweep_search job).ask job.search.width
+      (λ width. cnf_of width p) (λ width. IsRoutingOf width p) before now h.some h.came h.climbs))
 
 module _ (job : EncodeAsked) (p : RoutingProblem) (before now : ShelfState) where
   abbrev SaysClauses : Outcome → Type 0
@@ -343,8 +343,8 @@ module _ (at : Scene) (calm : ¬ HasRisen at.desk.faults at.desk_now.faults) whe
       calm-verify job o (inr (p, poses, h)) =
           let judges = λ (found : RouteText) (outcome : Outcome).
           outcome ≡ judged_outcome (judged job.width p found) in
-          elim (calm-reads at.desk at.desk_now (routed_source job.routed) route_value judges judges o
-          calm (λ found. inl) h) [
+          elim (calm-reads at.desk at.desk_now (routed_source job.routed) route_value judges judges
+          o calm (λ found. inl) h) [
             | inl told ↦ inl (inr (p, poses, told))
             | inr spent ↦ inr spent
           ]
@@ -400,12 +400,7 @@ pub runs-complete : (words : List Word) (desk desk_now : DeskState) (shelf now :
     (answer : Outcome) → Runs words desk desk_now shelf now answer
     → IsComplete words desk desk_now shelf now answer
 runs-complete words desk desk_now shelf now answer r = λ o files told true_of calm quiet.
-    let at : Scene = record {
-      desk = desk;
-      desk_now = desk_now;
-      shelf = shelf;
-      shelf_now = r.between;
-    } in
+    let at = scene desk desk_now shelf r.between in
     let settles = words-settle at calm words r.outcome r.leaves in
     let done = said words desk desk_now shelf now answer r settles.kept quiet in
     let faults = ap (λ (s : ShelfState). s.faults) done.1 in

@@ -2,6 +2,8 @@
 -- with its text; and what is left where they are written one after the other.
 use Rattle.std.proofs.Common.{◌≡◌, ◌≢◌, ◌∙◌, ◌+◌, ◌<◌, ◌≤◌, List, [], ◌∷◌, ◌++◌, codes, get_or, length, Option, Some, refl, sym, ap, subst, inl, inr, arith}
 use Rattle.std.specs.FinMap.{empty}
+use Rattle.std.specs.Prelude.{◌==◌, false}
+use Rattle.std.proofs.lemmas.Bool.{eq-eqb, false≢true}
 use Rattle.std.proofs.lemmas.List.{append_cancel_left}
 use Rattle.desk_io.specs.Files.{Bytes, FileMap, HasRisen}
 use Rattle.desk_io.specs.ShelfState.{ShelfState}
@@ -40,35 +42,31 @@ use Rattle.router_top.proofs.WrittenLaws.{AreApart, told-behind, written-stand}
 -- ---- names
 
 -- endings whose second bytes differ make different names
-endings-differ : (prefix xs ys : Bytes) → get_or xs 1 0 ≢ get_or ys 1 0 →
+endings-differ : (prefix xs ys : Bytes) → (get_or xs 1 0 == get_or ys 1 0) ≡ false →
     prefix ++ xs ≢ prefix ++ ys
 endings-differ prefix xs ys differ same =
-    differ (ap (λ (bytes : Bytes). get_or bytes 1 0) (append_cancel_left prefix xs ys same))
+    let second : get_or xs 1 0 ≡ get_or ys 1 0 =
+    ap (λ (bytes : Bytes). get_or bytes 1 0) (append_cancel_left prefix xs ys same) in
+    false≢true (sym differ ∙ eq-eqb (get_or xs 1 0) (get_or ys 1 0) second)
 
 module _ (prefix : Bytes) where
   arch-net : prefix ++ codes ".arch" ≢ prefix ++ codes ".net"
-  arch-net = endings-differ prefix (codes ".arch") (codes ".net")
-      (λ (same : 97 ≡ 110). omega (arith, same))
+  arch-net = endings-differ prefix (codes ".arch") (codes ".net") refl
 
   arch-place : prefix ++ codes ".arch" ≢ prefix ++ codes ".place"
-  arch-place = endings-differ prefix (codes ".arch") (codes ".place")
-      (λ (same : 97 ≡ 112). omega (arith, same))
+  arch-place = endings-differ prefix (codes ".arch") (codes ".place") refl
 
   arch-route : prefix ++ codes ".arch" ≢ prefix ++ codes ".route"
-  arch-route = endings-differ prefix (codes ".arch") (codes ".route")
-      (λ (same : 97 ≡ 114). omega (arith, same))
+  arch-route = endings-differ prefix (codes ".arch") (codes ".route") refl
 
   net-place : prefix ++ codes ".net" ≢ prefix ++ codes ".place"
-  net-place = endings-differ prefix (codes ".net") (codes ".place")
-      (λ (same : 110 ≡ 112). omega (arith, same))
+  net-place = endings-differ prefix (codes ".net") (codes ".place") refl
 
   net-route : prefix ++ codes ".net" ≢ prefix ++ codes ".route"
-  net-route = endings-differ prefix (codes ".net") (codes ".route")
-      (λ (same : 110 ≡ 114). omega (arith, same))
+  net-route = endings-differ prefix (codes ".net") (codes ".route") refl
 
   place-route : prefix ++ codes ".place" ≢ prefix ++ codes ".route"
-  place-route = endings-differ prefix (codes ".place") (codes ".route")
-      (λ (same : 112 ≡ 114). omega (arith, same))
+  place-route = endings-differ prefix (codes ".place") (codes ".route") refl
 
   module _ (texts : Texts) where
     pub problem-apart : AreApart (problem_files (generated_names prefix) texts)

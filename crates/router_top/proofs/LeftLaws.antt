@@ -1,21 +1,20 @@
 -- What a run leaves of the files of its job, whatever fails.
-use Rattle.std.proofs.Common.{◌≡◌, ◌≢◌, ◌∙◌, ◌⊎◌, ℕ, ◌<◌, List, [], ◌∷◌, ◌++◌, length, take, Option, Some, None, Ok, Err, Result, refl, sym, ap, subst, inl, inr, append_assoc}
+use Rattle.std.proofs.Common.{◌≡◌, ◌≢◌, ◌∙◌, ◌⊎◌, ℕ, List, [], ◌∷◌, ◌++◌, length, take, Option, Some, None, Ok, Err, Result, refl, sym, ap, subst, inl, inr, append_assoc}
 use Rattle.std.specs.Prelude.{MatchResult, flat_map}
 use Rattle.std.specs.List.{All}
-use Rattle.std.specs.Option.{ForSome}
 use Rattle.std.specs.FinMap.{get, insert}
 use Rattle.std.proofs.lemmas.List.{append-nil, map-append}
 use Rattle.std.proofs.lemmas.List.Elements.{All-cons, All-nil}
 use Rattle.desk_io.specs.DeskState.{DeskState}
 use Rattle.desk_io.specs.Files.{Bytes, FileMap}
-use Rattle.desk_io.specs.ShelfState.{OthersStay, ShelfState, after_say}
+use Rattle.desk_io.specs.ShelfState.{ShelfState}
 use Rattle.desk_io.specs.WholeFile.{FailsToWrite, after_writing}
 use Rattle.fpga_types.specs.Problem.{RoutingProblem}
 use Rattle.fpga_types.specs.declared.route.RouteText.{RouteText}
 use Rattle.list_laws.proofs.Places.{some_is}
 use Rattle.route_encode.specs.Encoding.{cnf_of}
 use Rattle.route_encode.specs.Good.{IsRoutingOf}
-use Rattle.route_sweep.specs.Found.{FailsOn, FindsAt, HasFew, IsLeftOpenBy, IsLogOf, IsRefutedBy}
+use Rattle.route_sweep.specs.Found.{FindsAt, HasFew, IsLeftOpenBy, IsLogOf, IsRefutedBy}
 use Rattle.route_sweep.specs.Names.{cnf_name, lrat_name}
 use Rattle.route_sweep.specs.Written.{after_clauses}
 use Rattle.route_sweep.specs.declared.found.FileSlot.{FileSlot}
@@ -33,31 +32,30 @@ use Rattle.sat_text.specs.LratText.{lrat_said}
 use Rattle.sat_text.specs.Printed.{cnf_text, log_text}
 use Rattle.router_words.specs.Command.{job_of}
 use Rattle.router_words.specs.Refusal.{code_of}
-use Rattle.router_words.specs.Job.{CheckAsked, Checks, EncodeAsked, Encodes as EncodesJob, FilesAsked, GenAsked, Generates, JobAsked, RecipeAsked, Routes, Sweeps as SweepsJob, TrialAsked, Tries as TriesJob, Verifies}
+use Rattle.router_words.specs.Job.{Checks, EncodeAsked, Encodes as EncodesJob, FilesAsked, GenAsked, Generates, JobAsked, RecipeAsked, Routes, Sweeps as SweepsJob, TrialAsked, Tries as TriesJob, Verifies}
 use Rattle.router_words.specs.Word.{Word}
 use Rattle.router_words.specs.declared.fault.Refusal.{Refusal}
-use Rattle.router_top.specs.Check.{ChecksTo, cnf_source, judgement_outcome, lrat_source}
-use Rattle.router_top.specs.Comes.{ComesTo, lower_files}
+use Rattle.router_top.specs.Check.{cnf_source, judgement_outcome, lrat_source}
+use Rattle.router_top.specs.Comes.{lower_files}
 use Rattle.router_top.specs.Files.{FailsAmong, WritesFiles, problem_slots}
 use Rattle.router_top.specs.FourFiles.{Poses}
-use Rattle.router_top.specs.Generated.{HasRoom, generated_desk, generated_files, generated_names, texts_of}
-use Rattle.router_top.specs.JobFiles.{AreFilesOf, IsBegun, IsClimb, JobFile, LeavesFiles, LeavesPart, LeavesWhole, OnlyChanges, clauses_and_log, files_in, held, in_slots, lower_job_files, routing_file}
+use Rattle.router_top.specs.Generated.{HasRoom, generated_files, texts_of}
+use Rattle.router_top.specs.JobFiles.{AreFilesOf, IsBegun, JobFile, LeavesFiles, LeavesPart, LeavesWhole, OnlyChanges, clauses_and_log, files_in, held, in_slots, lower_job_files, routing_file}
 use Rattle.router_top.specs.Outcomes.{found_outcome, written_outcome}
 use Rattle.router_top.specs.Report.{unsaid}
-use Rattle.router_top.specs.Run.{Leaves, LeavesJob, LeavesMade, LeavesWork, Runs, Scene, TriesGenerated}
-use Rattle.router_top.specs.Search.{Search, lower_widths, sweep_of}
+use Rattle.router_top.specs.Run.{Leaves, LeavesJob, LeavesMade, LeavesWork, Runs, Scene, TriesGenerated, scene}
+use Rattle.router_top.specs.Search.{Search, lower_widths}
 use Rattle.router_top.specs.SearchFiles.{proof_files, route_file}
 use Rattle.router_top.specs.Sources.{HasBytes, IsStopped, ReadsThen}
-use Rattle.router_top.specs.Trial.{Tries, trial_line}
 use Rattle.router_top.specs.Verify.{judged_outcome}
 use Rattle.router_top.specs.Work.{Encodes, Searches, Sweeps, WritesClauses, clauses_name}
 use Rattle.router_top.specs.Written.{NamedText, with_file, with_files}
 use Rattle.router_top.specs.declared.outcome.Outcome.{Outcome}
-use Rattle.router_top.specs.declared.outcome.Outcome.TheVariants.{InputFault, Limit, ReadFault, Usage, WriteFault, OutOfMemory}
+use Rattle.router_top.specs.declared.outcome.Outcome.TheVariants.{InputFault, Limit, ReadFault, Usage, WriteFault}
 use Rattle.router_top.specs.declared.slot.Slot.{Slot}
 use Rattle.router_top.specs.declared.slot.Slot.TheVariants.{Said, File}
-use Rattle.router_top.proofs.ComeLaws.{HasCome, route-comes, sweep-comes}
-use Rattle.router_top.proofs.GeneratedLaws.{files-after, made-poses, problem-apart}
+use Rattle.router_top.proofs.ComeLaws.{HasCome, behind_line, route-comes, sweep-comes, trial-comes}
+use Rattle.router_top.proofs.GeneratedLaws.{files-after, problem-apart}
 use Rattle.router_top.proofs.StopLaws.{HoldsOfStops, IsHeard, among-heard, lacks-hold, reads-hold, verdict-holds}
 use Rattle.router_top.proofs.WrittenLaws.{AreApart, NoneHas, Stand, all-stand, are-written, get-other, with_files-append, written-stand}
 
@@ -71,11 +69,6 @@ Each P (file ∷ more) = P file × Each P more
 all-each : (P : NamedText → Type 0) (files : List NamedText) → Each P files → All P files
 all-each P [] each = All-nil P
 all-each P (file ∷ more) each = All-cons P file more each.0 (all-each P more each.1)
-
-each-of : (P Q : NamedText → Type 0) → ((file : NamedText) → P file → Q file)
-    → (files : List NamedText) → Each P files → Each Q files
-each-of P Q to [] each = tt
-each-of P Q to (file ∷ more) each = (to file each.0, each-of P Q to more each.1)
 
 none-behind : (name : Bytes) (front back : List NamedText) → NoneHas name (front ++ back)
     → NoneHas name back
@@ -580,16 +573,6 @@ module _ (words : List Word) (at : Scene) where
 -- the trial of a generated problem
 module _ (words : List Word) (at : Scene) (job : TrialAsked)
     (asked : job_of words ≡ Ok (TriesJob job)) where
-  tries-left : (p : RoutingProblem)
-      → Poses (generated_desk job.recipe job.prefix).files (generated_names job.prefix) p
-      → (o : Outcome) → Tries job p at.shelf at.shelf_now o → LeftHere words at o
-  tries-left p poses o (inl h) =
-      let behind : Scene = record at { shelf = after_say at.shelf (trial_line p) } in
-      come-left words behind o (sweep-comes words behind (TriesJob job) (sweep_of job) p asked refl
-      (inr (job, asked)) poses h.narrow o h)
-  tries-left p poses o (inr h) = subst (LeftHere words at) (sym h.1)
-      (none-left words at.desk.files at.shelf.files at.shelf_now.files h.0.failed.files)
-
   trial-left : (o : Outcome) → TriesGenerated job at.shelf at.shelf_now o → LeftHere words at o
   trial-left o (inl (inl (inl many), same)) =
       subst (LeftHere words at) (sym many.1) (inl (files-same words at same))
@@ -597,7 +580,10 @@ module _ (words : List Word) (at : Scene) (job : TrialAsked)
       (none-left words at.desk.files at.shelf.files at.shelf_now.files (files-same words at same))
   trial-left o (inl (inr large, same)) =
       subst (LeftHere words at) (sym large.3) (inl (files-same words at same))
-  trial-left o (inr h) = tries-left h.0 (made-poses job.recipe job.prefix h.0 h.1) o h.2
+  trial-left o (inr (p, makes, inl h)) =
+      come-left words (behind_line at p) o (trial-comes words at job p asked makes o h)
+  trial-left o (inr (p, makes, inr h)) = subst (LeftHere words at) (sym h.1)
+      (none-left words at.desk.files at.shelf.files at.shelf_now.files h.0.failed.files)
 
 module _ (words : List Word) (at : Scene) where
   job-left : (job : JobAsked) (o : Outcome) → job_of words ≡ Ok job → LeavesJob job at o
@@ -666,12 +652,7 @@ pub runs-leave : (words : List Word) (desk desk_now : DeskState) (shelf now : Sh
     (answer : Outcome) → Runs words desk desk_now shelf now answer
     → LeavesFiles words desk.files shelf.files now.files answer
 runs-leave words desk desk_now shelf now answer r =
-    let at : Scene = record {
-      desk = desk;
-      desk_now = desk_now;
-      shelf = shelf;
-      shelf_now = r.between;
-    } in
+    let at = scene desk desk_now shelf r.between in
     let left = left-files words at r.outcome r.leaves in
     elim r.reports [
       | inl h ↦ subst (LeavesFiles words desk.files shelf.files now.files) (sym h.0)

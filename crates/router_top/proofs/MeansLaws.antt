@@ -1,10 +1,9 @@
 -- What the answer of a run means.
-use Rattle.std.proofs.Common.{◌≡◌, ◌∙◌, ℕ, ◌+◌, ◌-◌, ◌≤◌, List, [], ◌∷◌, ◌++◌, length, Option, Ok, Err, Result, refl, sym, ap, subst, inl, inr, arith}
-use Rattle.std.specs.Prelude.{MatchResult, Some, flat_map}
-use Rattle.std.specs.List.{range_with_len}
+use Rattle.std.proofs.Common.{◌≡◌, ◌∙◌, ℕ, ◌≤◌, List, [], ◌∷◌, ◌++◌, length, Option, Ok, Err, Result, refl, sym, ap, subst, inl, inr, arith}
+use Rattle.std.specs.Prelude.{MatchResult}
 use Rattle.desk_io.specs.DeskState.{DeskState}
 use Rattle.desk_io.specs.Files.{Bytes, FileMap}
-use Rattle.desk_io.specs.ShelfState.{ShelfState, after_say}
+use Rattle.desk_io.specs.ShelfState.{ShelfState}
 use Rattle.fpga_route.specs.ReadBack.{ReadsBack, ReadsBackWithTracks}
 use Rattle.fpga_arch.specs.Value.{arch_value}
 use Rattle.fpga_net.specs.Value.{net_value}
@@ -19,7 +18,6 @@ use Rattle.fpga_types.specs.declared.route.RouteText.{RouteText}
 use Rattle.route_encode.specs.Encoding.{cnf_of}
 use Rattle.route_encode.specs.Good.{IsRoutingOf}
 use Rattle.route_sweep.specs.Found.{FindsAt}
-use Rattle.route_sweep.specs.declared.found.Climbed.{Climbed}
 use Rattle.route_sweep.specs.declared.found.Found.{Found}
 use Rattle.route_sweep.specs.declared.found.Found.TheVariants.{Routed as IsRoutedThere, Refuted, Spent}
 use Rattle.route_sweep.specs.declared.found.Stop.{Stop}
@@ -35,22 +33,20 @@ use Rattle.sat_text.specs.CnfText.{cnf_said}
 use Rattle.sat_text.specs.LratText.{lrat_said}
 use Rattle.router_words.specs.Command.{job_of}
 use Rattle.router_words.specs.Refusal.{code_of}
-use Rattle.router_words.specs.Job.{CheckAsked, Checks, EncodeAsked, Encodes as EncodesJob, FilesAsked, GenAsked, Generates, JobAsked, RecipeAsked, RouteAsked, Routes, SweepAsked, Sweeps as SweepsJob, TrialAsked, Tries as TriesJob, Verifies, VerifyAsked}
+use Rattle.router_words.specs.Job.{CheckAsked, Checks, EncodeAsked, Encodes as EncodesJob, FilesAsked, GenAsked, Generates, JobAsked, RecipeAsked, Routes, Sweeps as SweepsJob, TrialAsked, Tries as TriesJob, Verifies, VerifyAsked}
 use Rattle.router_words.specs.Word.{Word}
 use Rattle.router_words.specs.declared.fault.Refusal.{Refusal}
 use Rattle.router_top.specs.Check.{cnf_source, judgement_outcome, lrat_source}
 use Rattle.router_top.specs.FourFiles.{GivesNone, IsUnfit, Poses, arch_source, net_source, place_source, route_source}
 use Rattle.router_top.specs.Comes.{ComesTo, lower_files}
 use Rattle.router_top.specs.Files.{WritesFiles, problem_slots}
-use Rattle.router_top.specs.Generated.{HasRoom, generated_desk, generated_files, generated_names, texts_of}
+use Rattle.router_top.specs.Generated.{HasRoom, generated_files, texts_of}
 use Rattle.router_top.specs.Means.{IsJudged, Means}
-use Rattle.router_top.specs.Outcomes.{climbed_outcome, found_outcome, stop_outcome, written_outcome}
+use Rattle.router_top.specs.Outcomes.{found_outcome, stop_outcome, written_outcome}
 use Rattle.router_top.specs.Report.{unsaid}
-use Rattle.router_top.specs.Run.{Leaves, LeavesJob, LeavesMade, LeavesWork, Runs, Scene, TriesGenerated}
-use Rattle.router_top.specs.Search.{files_of, route_search, search_asked, sweep_of, sweep_search}
+use Rattle.router_top.specs.Run.{Leaves, LeavesJob, LeavesMade, LeavesWork, Runs, Scene, TriesGenerated, scene}
 use Rattle.router_top.specs.SearchFiles.{proof_files, route_file}
 use Rattle.router_top.specs.Sources.{IsStopped, ReadsThen, Says, Source, fault_outcome}
-use Rattle.router_top.specs.Trial.{Tries, trial_line}
 use Rattle.router_top.specs.Verify.{VerifiesTo, judged_outcome, routed_source}
 use Rattle.router_top.specs.Work.{Encodes, Searches, Sweeps, WritesClauses}
 use Rattle.router_top.specs.Written.{AreWritten, NamedText, with_files}
@@ -58,9 +54,9 @@ use Rattle.router_top.specs.declared.outcome.Outcome.{Outcome}
 use Rattle.router_top.specs.declared.outcome.Outcome.TheVariants.{Usage, WriteFault}
 use Rattle.router_top.specs.declared.text_file.TextFile.{TextFile}
 use Rattle.router_top.specs.declared.text_file.TextFile.TheVariants.{Route}
-use Rattle.router_top.proofs.ComeLaws.{HasCome, route-comes, sweep-comes}
+use Rattle.router_top.proofs.ComeLaws.{HasCome, behind_line, route-comes, sweep-comes, trial-comes}
 use Rattle.router_top.proofs.FourLaws.{AfterArch, AfterNetlist, AfterPlacement}
-use Rattle.router_top.proofs.GeneratedLaws.{files-after, made-poses, problem-apart}
+use Rattle.router_top.proofs.GeneratedLaws.{files-after, problem-apart}
 use Rattle.router_top.proofs.UnroutableLaws.{none-legal}
 use Rattle.router_top.proofs.WrittenLaws.{AreApart, are-written, with_files-append}
 
@@ -295,21 +291,13 @@ module _ (words : List Word) (at : Scene) where
 -- the trial of a generated problem
 module _ (words : List Word) (at : Scene) (job : TrialAsked)
     (asked : job_of words ≡ Ok (TriesJob job)) where
-  tries-mean : (p : RoutingProblem)
-      → Poses (generated_desk job.recipe job.prefix).files (generated_names job.prefix) p
-      → (o : Outcome) → Tries job p at.shelf at.shelf_now o → MeansHere words at o
-  tries-mean p poses o (inl h) =
-      let behind : Scene = record at { shelf = after_say at.shelf (trial_line p) } in
-      come-means words behind o (sweep-comes words behind (TriesJob job) (sweep_of job) p asked refl
-      (inr (job, asked)) poses h.narrow o h)
-  tries-mean p poses o (inr h) = subst (MeansHere words at) (sym h.1) tt
-
   trial-means : (o : Outcome) → TriesGenerated job at.shelf at.shelf_now o → MeansHere words at o
   trial-means o (inl (inl (inl many), same)) = subst (MeansHere words at) (sym many.1) tt
   trial-means o (inl (inl (inr spent), same)) = subst (MeansHere words at) (sym spent) tt
   trial-means o (inl (inr large, same)) = subst (MeansHere words at) (sym large.3) tt
-  trial-means o (inr h) =
-      tries-mean h.0 (made-poses job.recipe job.prefix h.0 h.1) o h.2
+  trial-means o (inr (p, makes, inl h)) =
+      come-means words (behind_line at p) o (trial-comes words at job p asked makes o h)
+  trial-means o (inr (p, makes, inr h)) = subst (MeansHere words at) (sym h.1) tt
 
 module _ (words : List Word) (at : Scene) where
   job-means : (job : JobAsked) (o : Outcome) → job_of words ≡ Ok job → LeavesJob job at o
@@ -359,12 +347,7 @@ pub runs-mean : (words : List Word) (desk desk_now : DeskState) (shelf now : She
     (answer : Outcome) → Runs words desk desk_now shelf now answer
     → Means words desk.files shelf.files now.files answer
 runs-mean words desk desk_now shelf now answer r =
-    let at : Scene = record {
-      desk = desk;
-      desk_now = desk_now;
-      shelf = shelf;
-      shelf_now = r.between;
-    } in
+    let at = scene desk desk_now shelf r.between in
     elim r.reports [
       | inl h ↦ subst (Means words desk.files shelf.files now.files) (sym h.0)
           (subst (λ (f : Option FileMap). Means words desk.files shelf.files f r.outcome)

@@ -4,7 +4,7 @@ use Rattle.std.specs.Prelude.{MatchResult}
 use Rattle.std.proofs.lemmas.List.{append-nil}
 use Rattle.desk_io.specs.DeskState.{DeskState}
 use Rattle.desk_io.specs.Files.{Bytes}
-use Rattle.desk_io.specs.ShelfState.{ShelfState, after_say}
+use Rattle.desk_io.specs.ShelfState.{ShelfState}
 use Rattle.desk_io.specs.WholeFile.{FailsToWrite, after_writing}
 use Rattle.fpga_types.specs.Problem.{RoutingProblem}
 use Rattle.fpga_types.specs.declared.route.RouteText.{RouteText}
@@ -33,23 +33,21 @@ use Rattle.router_words.specs.declared.fault.Refusal.{Refusal}
 use Rattle.router_top.specs.Check.{cnf_source, judgement_outcome, lrat_source}
 use Rattle.router_top.specs.Files.{FailsAmong, WritesFiles, after_files, problem_slots}
 use Rattle.router_top.specs.FourFiles.{Poses}
-use Rattle.router_top.specs.Generated.{HasRoom, Makes, PosesNone, generated_files}
+use Rattle.router_top.specs.Generated.{PosesNone, generated_files}
 use Rattle.router_top.specs.Outcomes.{found_outcome, written_outcome}
 use Rattle.router_top.specs.Report.{line_of, unsaid}
-use Rattle.router_top.specs.Run.{Leaves, LeavesJob, LeavesMade, LeavesWork, Reports, Runs, Scene, TriesGenerated}
-use Rattle.router_top.specs.Saying.{CutsLead, IsLead, IsTrialLine, IsWriteFault, SaysAll, SaysPart, Speaks, more_said}
-use Rattle.router_top.specs.Search.{sweep_of}
+use Rattle.router_top.specs.Run.{Leaves, LeavesJob, LeavesMade, LeavesWork, Reports, Runs, Scene, TriesGenerated, scene}
+use Rattle.router_top.specs.Saying.{IsLead, IsTrialLine, Speaks, more_said}
 use Rattle.router_top.specs.Sources.{IsStopped, ReadsThen}
-use Rattle.router_top.specs.Trial.{Tries, trial_line}
+use Rattle.router_top.specs.Trial.{trial_line}
 use Rattle.router_top.specs.Verify.{judged_outcome}
 use Rattle.router_top.specs.Work.{Encodes, Searches, Sweeps, WritesClauses}
 use Rattle.router_top.specs.Written.{NamedText}
 use Rattle.router_top.specs.declared.outcome.Outcome.{Outcome}
-use Rattle.router_top.specs.declared.outcome.Outcome.TheVariants.{Usage, WriteFault, OutOfMemory}
+use Rattle.router_top.specs.declared.outcome.Outcome.TheVariants.{Usage, WriteFault}
 use Rattle.router_top.specs.declared.slot.Slot.{Slot}
 use Rattle.router_top.specs.declared.slot.Slot.TheVariants.{Said}
-use Rattle.router_top.proofs.ComeLaws.{HasCome, route-comes, sweep-comes}
-use Rattle.router_top.proofs.GeneratedLaws.{made-poses}
+use Rattle.router_top.proofs.ComeLaws.{HasCome, behind_line, route-comes, sweep-comes, trial-comes}
 use Rattle.router_top.proofs.StopLaws.{HoldsOfStops, IsHeard, among-heard, lacks-hold, reads-hold, verdict-holds}
 
 -- ---- texts behind texts
@@ -229,9 +227,8 @@ module _ (words : List Word) (at : Scene) (job : TrialAsked)
       no-lead words at o (none-posed o (inr large))
       (stays-quiet words at o (subst IsHeard (sym large.3) tt) same)
   trial-led o (inr (p, makes, inl h)) =
-      let behind : Scene = record at { shelf = after_say at.shelf (trial_line p) } in
-      let quiet = come-quiet words behind o (sweep-comes words behind (TriesJob job) (sweep_of job)
-      p asked refl (inr (job, asked)) (made-poses job.recipe job.prefix p makes) h.narrow o h) in
+      let quiet =
+      come-quiet words (behind_line at p) o (trial-comes words at job p asked makes o h) in
       inl (
         trial_line p,
         inl (record { job = job; asked = asked; p = p; makes = makes; is = refl }),
@@ -330,7 +327,7 @@ module _ (words : List Word) (before now : Option Bytes) (lead : Bytes) where
 module _ (words : List Word) (desk desk_now : DeskState) (shelf now : ShelfState)
     (answer : Outcome) (r : Runs words desk desk_now shelf now answer) where
   abbrev at : Scene
-  at = record { desk = desk; desk_now = desk_now; shelf = shelf; shelf_now = r.between }
+  at = scene desk desk_now shelf r.between
 
   -- two texts, one behind the other
   both-said : (first second : Bytes) → r.between.said ≡ more_said shelf.said first

@@ -1,5 +1,5 @@
 -- Where a fit is refused for its slots, the route has more of them than may be.
-use Rattle.std.proofs.Common.{◌≡◌, ◌≢◌, ◌∙◌, ℕ, ◌+◌, ◌<◌, ◌≤◌, Bool, true, false, Option, Some, None, List, [], ◌∷◌, ◌++◌, length, refl, sym, ap, subst, inl, inr, arith, append_assoc, length-append}
+use Rattle.std.proofs.Common.{◌≡◌, ◌∙◌, ℕ, ◌+◌, ◌<◌, ◌≤◌, Bool, true, false, Option, Some, None, List, [], ◌∷◌, ◌++◌, length, refl, sym, ap, subst, inl, inr, arith, append_assoc, length-append}
 use Rattle.std.specs.Prelude.{◌&&◌, ◌||◌, ◌==◌, not, filter_map, flat_map, map, option_map, if◌then◌else◌}
 use Rattle.std.specs.List.{cons_option, enumerate_from, list_any}
 use Rattle.std.specs.Option.{option_or}
@@ -17,6 +17,7 @@ use Rattle.fpga_types.specs.Fits.{device_of, end_fault, is_other_pin, is_other_s
 use Rattle.fpga_types.specs.Kinds.{is_channel, same_kind, same_label}
 use Rattle.fpga_types.specs.Problem.{RoutingProblem}
 use Rattle.fpga_types.specs.Slots.{channel_at, elem_cell, elem_slot, first_seen, same_slot, slots, slots_of}
+use Rattle.fpga_types.specs.declared.grid.Axis.{Axis}
 use Rattle.fpga_types.specs.declared.grid.Axis.TheVariants.{X, Y}
 use Rattle.fpga_types.specs.declared.grid.Cell.{Cell}
 use Rattle.fpga_types.specs.declared.limits.TheConstants.{SLOT_LIMIT}
@@ -30,9 +31,9 @@ use Rattle.fpga_types.specs.declared.route.RouteText.{RouteText}
 use Rattle.fpga_bounds.specs.SlotTable.{with_slot}
 use Rattle.fpga_bounds.proofs.SlotTableLemmas.{same_slot-is}
 use Rattle.fpga_bounds.proofs.SlotsOfLemmas.{any-first_seen, channel_slots, channel_slots-push, first_seen-with}
-use Rattle.list_laws.proofs.Members.{In, In-append_cases, In-append_left, In-append_right, from_In-flat_map, from_In-map}
+use Rattle.list_laws.proofs.Members.{In, In-append_cases, In-append_left, from_In-flat_map, from_In-map}
 use Rattle.list_laws.proofs.Places.{some_is}
-use Rattle.route_gen.proofs.WalkLemmas.{Place}
+use Rattle.route_gen.proofs.WalkLemmas.{Place, place-in}
 
 -- each channel line has a track
 abbrev pub AreTracks : List Elem → Type 0
@@ -104,64 +105,60 @@ nets-other s first (net ∷ nets) within =
     (elems-other s first net.elems (omega arith))
     ∙ nets-other s (first + 1) nets (omega arith)
 
--- two channels on one cell
-record OnOneCell (k m : ElemKind) (a b c d : ℕ) : Type 0 where
-  pub kind : same_kind k m ≡ true
-  pub x : a ≡ c
-  pub y : b ≡ d
-  pub first : is_channel k ≡ true
-  pub second : is_channel m ≡ true
+-- the channels of an axis
+abbrev along : Axis → ElemKind
+along X = ChanX
+along Y = ChanY
 
-one-cell : (k m : ElemKind) (a b c d : ℕ) (cell : Cell) → channel_at k a b ≡ Some cell →
-    channel_at m c d ≡ Some cell → OnOneCell k m a b c d
-one-cell ChanX ChanX a b c d cell h g =
-    let same = some_is (h ∙ sym g) in
-    record {
-      kind = refl;
-      x = ap (λ (z : Cell). z.x) same;
-      y = ap (λ (z : Cell). z.y) same;
-      first = refl;
-      second = refl;
-    }
-one-cell ChanY ChanY a b c d cell h g =
-    let same = some_is (h ∙ sym g) in
-    record {
-      kind = refl;
-      x = ap (λ (z : Cell). z.x) same;
-      y = ap (λ (z : Cell). z.y) same;
-      first = refl;
-      second = refl;
-    }
-one-cell ChanX ChanY a b c d cell h g = absurd (let same = some_is (h ∙ sym g) in
-    let axes : X ≡ Y = ap (λ (z : Cell). z.axis) same in cc)
-one-cell ChanY ChanX a b c d cell h g = absurd (let same = some_is (h ∙ sym g) in
-    let axes : Y ≡ X = ap (λ (z : Cell). z.axis) same in cc)
-one-cell Source m a b c d cell h g = absurd (let clash : None ≡ Some cell = h in cc)
-one-cell Opin m a b c d cell h g = absurd (let clash : None ≡ Some cell = h in cc)
-one-cell Ipin m a b c d cell h g = absurd (let clash : None ≡ Some cell = h in cc)
-one-cell Sink m a b c d cell h g = absurd (let clash : None ≡ Some cell = h in cc)
-one-cell ChanX Source a b c d cell h g = absurd (let clash : None ≡ Some cell = g in cc)
-one-cell ChanX Opin a b c d cell h g = absurd (let clash : None ≡ Some cell = g in cc)
-one-cell ChanX Ipin a b c d cell h g = absurd (let clash : None ≡ Some cell = g in cc)
-one-cell ChanX Sink a b c d cell h g = absurd (let clash : None ≡ Some cell = g in cc)
-one-cell ChanY Source a b c d cell h g = absurd (let clash : None ≡ Some cell = g in cc)
-one-cell ChanY Opin a b c d cell h g = absurd (let clash : None ≡ Some cell = g in cc)
-one-cell ChanY Ipin a b c d cell h g = absurd (let clash : None ≡ Some cell = g in cc)
-one-cell ChanY Sink a b c d cell h g = absurd (let clash : None ≡ Some cell = g in cc)
+along-itself : (a : Axis) → same_kind (along a) (along a) ≡ true
+along-itself X = refl
+along-itself Y = refl
+
+along-channel : (a : Axis) → is_channel (along a) ≡ true
+along-channel X = refl
+along-channel Y = refl
+
+-- a line of a channel stands on the cell of its axis and place
+record StandsOn (k : ElemKind) (a b : ℕ) (cell : Cell) : Type 0 where
+  pub kind : k ≡ along cell.axis
+  pub x : a ≡ cell.x
+  pub y : b ≡ cell.y
+
+stands-itself : (c cell : Cell) → c ≡ cell → StandsOn (along c.axis) c.x c.y cell
+stands-itself c cell same = record {
+  kind = ap (λ (z : Cell). along z.axis) same;
+  x = ap (λ (z : Cell). z.x) same;
+  y = ap (λ (z : Cell). z.y) same;
+}
+
+stands-on : (k : ElemKind) (a b : ℕ) (cell : Cell) → channel_at k a b ≡ Some cell
+    → StandsOn k a b cell
+stands-on ChanX a b cell h = stands-itself (record { axis = X; x = a; y = b }) cell (some_is h)
+stands-on ChanY a b cell h = stands-itself (record { axis = Y; x = a; y = b }) cell (some_is h)
+stands-on Source a b cell h = absurd (let clash : None ≡ Some cell = h in cc)
+stands-on Opin a b cell h = absurd (let clash : None ≡ Some cell = h in cc)
+stands-on Ipin a b cell h = absurd (let clash : None ≡ Some cell = h in cc)
+stands-on Sink a b cell h = absurd (let clash : None ≡ Some cell = h in cc)
 
 -- channel lines with tracks on one cell are equal
 equal-lines : (e x : Elem) (cell : Cell) → elem_cell e ≡ Some cell → elem_cell x ≡ Some cell →
     (is_channel e.kind ≡ true → e.label ≡ Track) → (is_channel x.kind ≡ true → x.label ≡ Track) →
     same_elem e x ≡ true
 equal-lines e x cell h g track other =
-    let at = one-cell e.kind x.kind e.x e.y x.x x.y cell h g in
+    let p = stands-on e.kind e.x e.y cell h in
+    let q = stands-on x.kind x.x x.y cell g in
+    let first : is_channel e.kind ≡ true = ap is_channel p.kind ∙ along-channel cell.axis in
+    let second : is_channel x.kind ≡ true = ap is_channel q.kind ∙ along-channel cell.axis in
+    let alike : same_kind e.kind x.kind ≡ same_kind (along cell.axis) (along cell.axis) =
+    (λ i. same_kind (p.kind i) (q.kind i)) in
     let labels : same_label e.label x.label ≡ true =
-    (λ i. same_label (track at.first i) (other at.second i)) in
+    (λ i. same_label (track first i) (other second i)) in
     let place = and_from (e.x == x.x && e.y == x.y) (same_label e.label x.label)
-    (and_from (e.x == x.x) (e.y == x.y) (eq-eqb e.x x.x at.x) (eq-eqb e.y x.y at.y)) labels in
+    (and_from (e.x == x.x) (e.y == x.y) (eq-eqb e.x x.x (p.x ∙ sym q.x))
+    (eq-eqb e.y x.y (p.y ∙ sym q.y))) labels in
     and_from (same_kind e.kind x.kind && same_place e x) (is_channel e.kind || e.number == x.number)
-    (and_from (same_kind e.kind x.kind) (same_place e x) at.kind place)
-    (ap (λ (b : Bool). b || e.number == x.number) at.first)
+    (and_from (same_kind e.kind x.kind) (same_place e x) (alike ∙ along-itself cell.axis) place)
+    (ap (λ (b : Bool). b || e.number == x.number) first)
 
 module _ (n : ℕ) (e : Elem) (cell : Cell) (at : elem_cell e ≡ Some cell)
     (track : is_channel e.kind ≡ true → e.label ≡ Track) where
@@ -376,14 +373,12 @@ module _ (route : RouteText)
             let u : Place Elem = t.0 in
             let whole = splits-whole s.1.elems u t.1 in
             let nets = splits-whole route.nets s r.1 in
-            let own = tracks s.1 (subst (λ (ns : List RouteNet). In ns s.1) nets
-            (In-append_right s.0 (s.1 ∷ s.2) s.1 (inl refl))) in
+            let own = tracks s.1 (place-in route.nets s r.1) in
             subst (λ (ns : List RouteNet). SLOT_LIMIT < length (slots_of ns)) nets
             (past-more s.0 s.1 s.2 u.0 u.1 u.2 whole
             (λ x j. own x (subst (λ (es : List Elem). In es x) whole
             (In-append_left u.0 (u.1 ∷ u.2) x j)))
-            (own u.1 (subst (λ (es : List Elem). In es u.1) whole
-            (In-append_right u.0 (u.1 ∷ u.2) u.1 (inl refl)))) n
+            (own u.1 (place-in s.1.elems u t.1)) n
             (subst (λ (l : RouteLine). slots_past (context_of l) ≡ Some n) (sym t.2) past))
       ]
 

@@ -74,6 +74,12 @@ module _ (files : FileMap) where
 
 -- ---- of a desk that is read
 
+-- what a text says on a later state of the desk it says on an earlier one that tells the same files
+pub says-before : {T : Type 0} {now before : Option FileMap} {source : Source} {value : Bytes → T}
+    {said : T} → now ≡ before → Says now source value said → Says before source value said
+says-before {source = source} {value = value} {said = said} same =
+    subst (λ (files : Option FileMap). Says files source value said) same
+
 module _ (desk now : DeskState) where
   -- where the desk has not failed, a text that was not read is halted, or memory ran out
   stop-halts : (source : Source) (a : Outcome) → ¬ HasRisen desk.faults now.faults →

@@ -1,8 +1,8 @@
 -- Problems that are made from a number: their files, and the desk on which these stand alone.
-use Rattle.std.specs.Prelude.{◌≡◌, ◌⊎◌, ℕ, ◌*◌, ◌<◌, ◌≤◌, ◌++◌, ◌+◌, false, List, [], ◌∷◌, length, codes, Option, Some, None}
+use Rattle.std.specs.Prelude.{◌≡◌, ◌⊎◌, ◌*◌, ◌<◌, ◌≤◌, ◌++◌, ◌+◌, false, List, [], ◌∷◌, length, codes, Option, Some, None}
 use Rattle.std.specs.FinMap.{empty}
 use Rattle.desk_io.specs.DeskState.{DeskState}
-use Rattle.desk_io.specs.Files.{FileMap}
+use Rattle.desk_io.specs.Files.{Bytes, FileMap}
 use Rattle.fpga_types.specs.FitCauses.{code_of}
 use Rattle.fpga_types.specs.Problem.{RoutingProblem}
 use Rattle.fpga_types.specs.Slots.{slots}
@@ -35,6 +35,15 @@ MakesNone recipe outcome = IsTooMany recipe outcome ⊎ (outcome ≡ OutOfMemory
 -- the texts of the problem
 abbrev pub texts_of : RecipeAsked → Texts
 texts_of recipe = generated recipe.seed recipe.side recipe.nets
+
+-- four texts, each given by itself
+abbrev pub texts_with : (architecture netlist placement route : Bytes) → Texts
+texts_with architecture netlist placement route = record {
+  architecture = architecture;
+  netlist = netlist;
+  placement = placement;
+  route = route;
+}
 
 -- the names of its files
 abbrev pub generated_names : (prefix : Word) → FilesAsked

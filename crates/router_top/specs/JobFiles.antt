@@ -1,6 +1,6 @@
 -- The files of a job in the order in which they are written, and what a run leaves of them,
 -- whatever fails.
-use Rattle.std.specs.Prelude.{◌≡◌, ◌≢◌, ◌⊎◌, ℕ, ◌≤◌, ◌++◌, List, [], ◌∷◌, flat_map, length, map, take, Ok, Option, None, option_and_then}
+use Rattle.std.specs.Prelude.{◌≡◌, ◌⊎◌, ℕ, ◌≤◌, ◌++◌, List, [], ◌∷◌, flat_map, length, map, take, Ok, Option, None, option_and_then}
 use Rattle.std.specs.List.{All}
 use Rattle.std.specs.Option.{ForSome}
 use Rattle.std.specs.FinMap.{get}

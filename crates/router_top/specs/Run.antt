@@ -26,6 +26,10 @@ pub record Scene : Type 0 where
   pub shelf : ShelfState
   pub shelf_now : ShelfState
 
+abbrev pub scene : (desk desk_now : DeskState) (shelf shelf_now : ShelfState) → Scene
+scene desk desk_now shelf shelf_now =
+    record { desk = desk; desk_now = desk_now; shelf = shelf; shelf_now = shelf_now }
+
 -- nothing was written, since the four files give no problem; or they pose one, and this is what the
 -- work on it leaves
 abbrev pub LeavesWork : FilesAsked
@@ -92,12 +96,7 @@ pub record Runs
     (answer : Outcome) : Type 0 where
   pub outcome : Outcome
   pub between : ShelfState
-  pub leaves : Leaves words (record {
-    desk = desk;
-    desk_now = desk_now;
-    shelf = shelf;
-    shelf_now = between;
-  }) outcome
+  pub leaves : Leaves words (scene desk desk_now shelf between) outcome
   pub files_stay : desk_now.files ≡ desk.files
   pub quiet : ¬ IsReadFault outcome → desk_now.faults ≡ desk.faults
   pub reports : Reports between outcome shelf_now answer

@@ -1,9 +1,9 @@
 -- The searches that jobs ask for: for a routing at one width, or at the least width that has one.
-use Rattle.std.specs.Prelude.{ℕ, ◌-◌, true, false, List, Option, None, Some}
+use Rattle.std.specs.Prelude.{ℕ, ◌-◌, Bool, true, false, List, Option, None, Some}
 use Rattle.std.specs.List.{range_with_len}
 use Rattle.desk_io.specs.Files.{FileMap}
 use Rattle.route_sweep.specs.Asked.{Asked}
-use Rattle.router_words.specs.Job.{FilesAsked, JobAsked, RouteAsked, Routes, SweepAsked, Sweeps, TrialAsked, Tries}
+use Rattle.router_words.specs.Job.{FilesAsked, JobAsked, RouteAsked, Routes, SearchAsked, SweepAsked, Sweeps, TrialAsked, Tries}
 use Rattle.router_top.specs.Generated.{generated_desk, generated_names}
 
 -- a search of the problem of these files at the widths from the first on, one after the other,
@@ -14,43 +14,37 @@ pub record Search : Type 0 where
   pub last : ℕ
   pub ask : Asked
 
+-- what is asked of a search at each width; the names of clauses and logs have the width in them, or
+-- not
+abbrev pub ask_of : (numbered : Bool) → SearchAsked → Asked
+ask_of numbered search = record {
+  budget = search.conflicts;
+  keep = search.keep;
+  prefix = search.prefix;
+  numbered = numbered;
+}
+
 -- `route` searches at its width alone
 abbrev pub route_search : RouteAsked → Search
 route_search job = record {
   files = job.files;
-  first = job.width;
-  last = job.width;
-  ask = record {
-    budget = job.conflicts;
-    keep = job.keep;
-    prefix = job.prefix;
-    numbered = false;
-  };
+  first = job.search.width;
+  last = job.search.width;
+  ask = ask_of false job.search;
 }
 
--- `sweep` searches from width 1 on, and the names of clauses and logs have the width in them
+-- `sweep` searches from width 1 on
 abbrev pub sweep_search : SweepAsked → Search
 sweep_search job = record {
   files = job.files;
   first = 1;
-  last = job.most;
-  ask = record {
-    budget = job.conflicts;
-    keep = job.keep;
-    prefix = job.prefix;
-    numbered = true;
-  };
+  last = job.search.width;
+  ask = ask_of true job.search;
 }
 
 -- `trial` searches as `sweep` does, over the files that the generated problem would be written to
 abbrev pub sweep_of : TrialAsked → SweepAsked
-sweep_of job = record {
-  files = generated_names job.prefix;
-  most = job.most;
-  prefix = job.prefix;
-  conflicts = job.conflicts;
-  keep = job.keep;
-}
+sweep_of job = record { files = generated_names job.search.prefix; search = job.search }
 
 -- the search that a job asks for
 abbrev pub search_asked : JobAsked → Option Search
@@ -61,7 +55,7 @@ search_asked job = None
 
 -- the files that a job reads its problem from: those of the desk, or else those that it makes
 abbrev pub files_of : JobAsked → (desk : Option FileMap) → Option FileMap
-files_of (Tries job) desk = (generated_desk job.recipe job.prefix).files
+files_of (Tries job) desk = (generated_desk job.recipe job.search.prefix).files
 files_of job desk = desk
 
 -- the widths of the search that are lower than this one

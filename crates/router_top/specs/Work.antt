@@ -28,11 +28,11 @@ use Rattle.router_top.specs.declared.outcome.Outcome.{Outcome}
 pub record Searches
     (job : RouteAsked) (p : RoutingProblem) (before now : ShelfState) (outcome : Outcome)
     : Type 0 where
-  pub narrow : job.width ≤ WIDTH_LIMIT
+  pub narrow : job.search.width ≤ WIDTH_LIMIT
   pub came : Result Found Stop
-  pub finds : FindsAt (route_search job).ask job.width (cnf_of job.width p)
-      (IsRoutingOf job.width p) before now came
-  pub is : outcome ≡ found_outcome job.width came
+  pub finds : FindsAt (route_search job).ask job.search.width (cnf_of job.search.width p)
+      (IsRoutingOf job.search.width p) before now came
+  pub is : outcome ≡ found_outcome job.search.width came
 
 -- a climb through the widths of the problem up to the greatest, which is at most 64
 pub record Climbs
@@ -47,7 +47,8 @@ pub record Climbs
 
 -- the climb that a sweep asks for
 abbrev pub Sweeps : SweepAsked → RoutingProblem → (before now : ShelfState) → Outcome → Type 0
-Sweeps job p before now outcome = Climbs (sweep_search job).ask job.most p before now outcome
+Sweeps job p before now outcome =
+    Climbs (sweep_search job).ask job.search.width p before now outcome
 
 -- the name of the file that clauses are written to
 abbrev pub clauses_name : EncodeAsked → Bytes

@@ -3,15 +3,13 @@ ghost use Rattle.std.specs.Prelude.{◌≡◌};
 ghost use Rattle.route_encode.specs.Encoding.{cnf_of};
 ghost use Rattle.router_words.specs.Job.{encode_said};
 ghost use Rattle.router_top.specs.Outcomes.{written_outcome};
-ghost use Rattle.router_top.specs.Report.{IsReadFault};
-ghost use Rattle.router_top.specs.Run.{LeavesWork};
-ghost use Rattle.router_top.specs.Work.{Encodes, WritesClauses};
+ghost use Rattle.router_top.specs.Work.{WritesClauses};
 
 use crate::file_name::file_name;
-use crate::four_files::pose_problem;
 use crate::outcome::Outcome;
+use crate::problem_work::ProblemWork;
 use crate::stopping::stopped;
-use desk_io::{Desk, Shelf, write_file};
+use desk_io::{Shelf, write_file};
 use fpga_bounds::PlacedProblem;
 use route_encode::{Encoder, Strict};
 use route_sweep::{FileSlot, Stop};
@@ -58,26 +56,14 @@ fn written(came: Result<(), Stop>) -> Outcome
     }
 }
 
-/// Reads the four files, builds the clauses and writes them.
-pub fn encode<D: Desk, S: Shelf>(
-    alloc: Global,
-    job: &EncodeJob<'_>,
-    desk: &mut D,
-    shelf: &mut S,
-) -> Outcome
-    ensures leaves { LeavesWork (encode_said job.now).files (Encodes (encode_said job.now))
-        (record {
-          desk = D.state desk.old;
-          desk_now = D.state desk.new;
-          shelf = S.state shelf.old;
-          shelf_now = S.state shelf.new;
-        }) result }
-    ensures files { (D.state desk.new).files ≡ (D.state desk.old).files }
-    ensures quiet { ¬ IsReadFault result → (D.state desk.new).faults ≡ (D.state desk.old).faults }
-{
-    let problem = match pose_problem(alloc, desk, &job.files) {
-        Ok(problem) => problem,
-        Err(outcome) => return outcome,
-    };
-    written(write_clauses(alloc, job, &problem, shelf))
+// Builds the clauses and writes them.
+impl<'a> ProblemWork for EncodeJob<'a> {
+    ghost use Rattle.router_words.specs.Job.{encode_said};
+    ghost use Rattle.router_top.specs.Work.{Encodes};
+
+    ghost leaves = { λ job. Encodes (encode_said job) };
+
+    fn work<S: Shelf>(&self, alloc: Global, problem: &PlacedProblem, shelf: &mut S) -> Outcome {
+        written(write_clauses(alloc, self, problem, shelf))
+    }
 }

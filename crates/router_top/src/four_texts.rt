@@ -8,7 +8,7 @@ ghost use Rattle.fpga_route.specs.Value.{route_value};
 ghost use Rattle.fpga_types.specs.Placements.{IsSoundPlacement};
 ghost use Rattle.fpga_types.specs.Sound.{IsSound as IsSoundRoute};
 ghost use Rattle.router_top.specs.FourFiles.{arch_source, net_source, place_source, route_source};
-ghost use Rattle.router_top.specs.Generated.{GivesNoneAnywhere, PosesAnywhere};
+ghost use Rattle.router_top.specs.Generated.{GivesNoneAnywhere, PosesAnywhere, texts_with};
 ghost use Rattle.router_top.specs.Sources.{IsTooLong, SaysAnywhere, StopsAnywhere};
 ghost use Rattle.router_top.specs.declared.limits.TheConstants.{TEXT_BYTES};
 
@@ -116,25 +116,32 @@ fn global_route(alloc: Global, text: &[u8]) -> Result<RouteText, Outcome>
     }
 }
 
-/// The problem that four texts pose, as if they were read from files. The error is what the run
-/// comes to: the first refusal ends it.
-pub fn pose_texts(alloc: Global, texts: &FourTexts) -> Result<PlacedProblem, Outcome>
-    ensures poses { IfOk result (PosesAnywhere texts.now) }
-    ensures stop { IfErr result (GivesNoneAnywhere texts.now) }
+// The problem that four texts pose, each lent by itself.
+fn pose_lent(
+    alloc: Global,
+    arch_text: &[u8],
+    net_text: &[u8],
+    place_text: &[u8],
+    route_text: &[u8],
+) -> Result<PlacedProblem, Outcome>
+    ensures poses { IfOk result (PosesAnywhere
+        (texts_with arch_text.now net_text.now place_text.now route_text.now)) }
+    ensures stop { IfErr result (GivesNoneAnywhere
+        (texts_with arch_text.now net_text.now place_text.now route_text.now)) }
 {
-    let arch = match architecture(alloc, &texts.architecture) {
+    let arch = match architecture(alloc, arch_text) {
         Ok(arch) => arch,
         Err(outcome) => return Err(outcome),
     };
-    let netlist = match netlist(alloc, &texts.netlist, &arch) {
+    let netlist = match netlist(alloc, net_text, &arch) {
         Ok(netlist) => netlist,
         Err(outcome) => return Err(outcome),
     };
-    let placement = match placement(alloc, &texts.placement, &arch, &netlist) {
+    let placement = match placement(alloc, place_text, &arch, &netlist) {
         Ok(placement) => placement,
         Err(outcome) => return Err(outcome),
     };
-    let route = match global_route(alloc, &texts.route) {
+    let route = match global_route(alloc, route_text) {
         Ok(route) => route,
         Err(outcome) => return Err(outcome),
     };
@@ -142,4 +149,19 @@ pub fn pose_texts(alloc: Global, texts: &FourTexts) -> Result<PlacedProblem, Out
         Ok(problem) => Ok(problem),
         Err(fault) => Err(refused(TextFile::Route, fault)),
     }
+}
+
+/// The problem that four texts pose, as if they were read from files. The error is what the run
+/// comes to: the first refusal ends it.
+pub fn pose_texts(alloc: Global, texts: &FourTexts) -> Result<PlacedProblem, Outcome>
+    ensures poses { IfOk result (PosesAnywhere texts.now) }
+    ensures stop { IfErr result (GivesNoneAnywhere texts.now) }
+{
+    pose_lent(
+        alloc,
+        &texts.architecture,
+        &texts.netlist,
+        &texts.placement,
+        &texts.route,
+    )
 }

@@ -13,6 +13,7 @@ mod four_texts;
 mod generating;
 mod limits;
 mod outcome;
+mod problem_work;
 mod route_text;
 mod routing;
 mod running;

@@ -4,17 +4,15 @@ ghost use Rattle.router_words.specs.Word.{words_of};
 ghost use Rattle.router_top.specs.JobFiles.{LeavesFiles};
 ghost use Rattle.router_top.specs.Means.{Means};
 ghost use Rattle.router_top.specs.Report.{IsReadFault, unsaid};
-ghost use Rattle.router_top.specs.Run.{Leaves, Reports, Runs};
+ghost use Rattle.router_top.specs.Run.{Leaves, Reports, Runs, scene};
 ghost use Rattle.router_top.specs.Saying.{Speaks};
 ghost use Rattle.router_top.specs.Truth.{IsComplete};
 
 use crate::checking::check_files;
-use crate::encoding::encode;
 use crate::generating::generate_files;
 use crate::outcome::{Outcome, report};
-use crate::routing::route;
+use crate::problem_work::work_on;
 use crate::slot::Slot;
-use crate::sweeping::sweep;
 use crate::trying::trial;
 use crate::verifying::verify_file;
 use desk_io::{Desk, Shelf};
@@ -24,19 +22,15 @@ use std::alloc::Global;
 // The work that the words ask for, but for the report.
 fn work<D: Desk, S: Shelf>(alloc: Global, words: &[String], desk: &mut D, shelf: &mut S) -> Outcome
     ensures leaves { Leaves (words_of words.now)
-        (record {
-          desk = D.state desk.old;
-          desk_now = D.state desk.new;
-          shelf = S.state shelf.old;
-          shelf_now = S.state shelf.new;
-        }) result }
+        (scene (D.state desk.old) (D.state desk.new) (S.state shelf.old) (S.state shelf.new))
+        result }
     ensures files { (D.state desk.new).files ≡ (D.state desk.old).files }
     ensures quiet { ¬ IsReadFault result → (D.state desk.new).faults ≡ (D.state desk.old).faults }
 {
     match read_words(alloc, words) {
-        Ok(Job::Route(job)) => route(alloc, &job, desk, shelf),
-        Ok(Job::Sweep(job)) => sweep(alloc, &job, desk, shelf),
-        Ok(Job::Encode(job)) => encode(alloc, &job, desk, shelf),
+        Ok(Job::Route(job)) => work_on(alloc, &job.files, &job, desk, shelf),
+        Ok(Job::Sweep(job)) => work_on(alloc, &job.files, &job, desk, shelf),
+        Ok(Job::Encode(job)) => work_on(alloc, &job.files, &job, desk, shelf),
         Ok(Job::Check(job)) => check_files(alloc, &job, desk),
         Ok(Job::Verify(job)) => verify_file(alloc, &job, desk),
         Ok(Job::Gen(job)) => generate_files(alloc, &job, shelf),

@@ -1,7 +1,7 @@
 //! The bytes of the files that a command reads, and what the run comes to without them.
 ghost use Rattle.std.specs.Prelude.{◌≡◌, ◌≤◌, ◌<◌, ◌^◌, vec_len, IfErr, IfOk};
 ghost use Rattle.router_top.specs.Report.{IsReadFaultErr};
-ghost use Rattle.router_top.specs.Sources.{HasBytes, IsStopped, Source, any_text, fault_outcome};
+ghost use Rattle.router_top.specs.Sources.{HasBytes, IsStopped, any_text, fault_outcome};
 
 use crate::outcome::Outcome;
 use crate::text_file::TextFile;

@@ -15,7 +15,6 @@ use crate::sweeping::search_widths;
 use arrayvec::ArrayString;
 use desk_io::Shelf;
 use fpga_bounds::PlacedProblem;
-use route_sweep::Ask;
 use router_words::{Recipe, TrialJob};
 use std::alloc::Global;
 
@@ -57,11 +56,5 @@ pub fn trial<S: Shelf>(alloc: Global, job: &TrialJob<'_>, shelf: &mut S) -> Outc
     let Ok(()) = shelf.say(size_line(&problem).as_bytes()) else {
         return Outcome::WriteFault { slot: Slot::Said };
     };
-    let ask = Ask {
-        budget: job.conflicts,
-        keep: job.keep,
-        prefix: job.prefix,
-        numbered: true,
-    };
-    search_widths(alloc, &problem, job.most, &ask, shelf)
+    search_widths(alloc, &problem, &job.search, shelf)
 }

@@ -30,11 +30,14 @@ record StandsAt (name : Word) (args : List Arg) (place : ℕ) : Type 0 where
   within : place < length args
   named : (d : Arg) → (slice_index_or args place d).id.now ≡ name
   wanted : (d : Arg) → wants_value (rule_of (slice_index_or args place d)) ≡ true
-  alone : (j : ℕ) (e : Arg) → j < length args → bytes_eq (slice_index_or args j e).id.now name ≡ true → j ≡ place
+  alone : (j : ℕ) (e : Arg) → j < length args
+      → bytes_eq (slice_index_or args j e).id.now name ≡ true → j ≡ place
 
 -- where no rule has the name, no argument has it
-none_named : (name : Word) (args : List Arg) → list_any (λ (other : Rule). bytes_eq other.id name) (map rule_of args) ≡ false
-    → (j : ℕ) (e : Arg) → j < length args → bytes_eq (slice_index_or args j e).id.now name ≡ true → ⊥
+none_named : (name : Word) (args : List Arg) → list_any (λ (other : Rule). bytes_eq other.id name)
+    (map rule_of args) ≡ false
+    → (j : ℕ) (e : Arg) → j < length args → bytes_eq (slice_index_or args j e).id.now name ≡ true
+    → ⊥
 none_named name args none j e lt same =
     let some = list_any_at (λ (a : Arg). bytes_eq a.id.now name) args j e lt same in
     let rules = list_any-map (λ (other : Rule). bytes_eq other.id name) rule_of args in
@@ -42,7 +45,8 @@ none_named name args none j e lt same =
 
 -- the first argument has the name alone
 first_stands : (name : Word) (x : Arg) (xs : List Arg) → bytes_eq x.id.now name ≡ true
-    → (wants_value (rule_of x) && not (list_any (λ (other : Rule). bytes_eq other.id name) (map rule_of xs))) ≡ true
+    → (wants_value (rule_of x)
+    && not (list_any (λ (other : Rule). bytes_eq other.id name) (map rule_of xs))) ≡ true
     → StandsAt name (x ∷ xs) 0
 first_stands name x xs same wanted = record {
   arg = x;
@@ -52,12 +56,15 @@ first_stands name x xs same wanted = record {
   alone = first;
 }
   where
-    first : (j : ℕ) (e : Arg) → j < length (x ∷ xs) → bytes_eq (slice_index_or (x ∷ xs) j e).id.now name ≡ true → j ≡ 0
+    first : (j : ℕ) (e : Arg) → j < length (x ∷ xs)
+        → bytes_eq (slice_index_or (x ∷ xs) j e).id.now name ≡ true → j ≡ 0
     first zero e lt is = refl
-    first (suc j) e lt is = absurd (none_named name xs (is_false _ (both _ _ wanted).1) j e (omega arith) is)
+    first (suc j) e lt is =
+        absurd (none_named name xs (is_false _ (both _ _ wanted).1) j e (omega arith) is)
 
 -- the first argument has another name
-later_stands : (name : Word) (x : Arg) (xs : List Arg) (place : ℕ) → bytes_eq x.id.now name ≡ false → StandsAt name xs place
+later_stands : (name : Word) (x : Arg) (xs : List Arg) (place : ℕ) → bytes_eq x.id.now name ≡ false
+    → StandsAt name xs place
     → StandsAt name (x ∷ xs) (suc place)
 later_stands name x xs place other at = record {
   arg = at.arg;
@@ -67,19 +74,24 @@ later_stands name x xs place other at = record {
   alone = later;
 }
   where
-    later : (j : ℕ) (e : Arg) → j < length (x ∷ xs) → bytes_eq (slice_index_or (x ∷ xs) j e).id.now name ≡ true → j ≡ suc place
+    later : (j : ℕ) (e : Arg) → j < length (x ∷ xs)
+        → bytes_eq (slice_index_or (x ∷ xs) j e).id.now name ≡ true → j ≡ suc place
     later zero e lt is = cc
     later (suc j) e lt is = ap suc (at.alone j e (omega arith) is)
 
 -- an argument that the rules want has a place
-stands : (name : Word) (args : List Arg) → wants name (map rule_of args) ≡ true → (place : ℕ) × StandsAt name args place
+stands : (name : Word) (args : List Arg) → wants name (map rule_of args) ≡ true
+    → (place : ℕ) × StandsAt name args place
 stands name [] wanted = cc
 stands name (x ∷ xs) wanted = go (bytes_eq x.id.now name) refl (stands name xs)
   where
-    go : (t : Bool) → bytes_eq x.id.now name ≡ t → (wants name (map rule_of xs) ≡ true → (place : ℕ) × StandsAt name xs place)
+    go : (t : Bool) → bytes_eq x.id.now name ≡ t
+        → (wants name (map rule_of xs) ≡ true → (place : ℕ) × StandsAt name xs place)
         → (place : ℕ) × StandsAt name (x ∷ xs) place
     go true t rest = (0, first_stands name x xs t (rw t at wanted))
-    go false t rest = let later = rest (rw t at wanted) in (suc later.0, later_stands name x xs later.0 t later.1)
+    go false t rest =
+        let later = rest (rw t at wanted) in
+        (suc later.0, later_stands name x xs later.0 t later.1)
 
 action_is : (action : Option ArgAction) → is_set action ≡ true → action ≡ Some Set
 action_is None e = cc
@@ -94,15 +106,18 @@ least_at : (n : ℕ) → nat_le 1 n ≡ true → 1 ≤ n
 least_at n e = grind (arith, nat_tests)
 
 -- what a simple argument without rules on others leaves out
-plain_arg : (a : Arg) → is_simple_arg a ≡ true → is_free_arg a ≡ true → IsPlainArg a × (a.val_delim ≡ None)
+plain_arg : (a : Arg) → is_simple_arg a ≡ true → is_free_arg a ≡ true
+    → IsPlainArg a × (a.val_delim ≡ None)
 plain_arg a simple free =
     let overrides = both _ _ simple in
     let ifs = both _ _ overrides.1 in
     let groups = both _ _ ifs.1 in
     let delim = both _ _ groups.1 in
     let exclusive = both _ _ free in
-    let conflicts = both _ _ exclusive.1 in
-    ((is_false _ exclusive.0, is_nil _ conflicts.0, is_nil _ overrides.0, is_nil _ groups.0), is_none _ delim.0)
+    let conflicts = both _ _ exclusive.1 in (
+      (is_false _ exclusive.0, is_nil _ conflicts.0, is_nil _ overrides.0, is_nil _ groups.0),
+      is_none _ delim.0,
+    )
 
 -- what a form leaves out
 record IsBare (c : Command) : Type 0 where
@@ -121,7 +136,9 @@ is_bare c form =
     let shape = both (shape_of c).is_plain _ rules.0 in
     let fields = plain_fields c shape.0 in
     let each = λ (k : ℕ) (d : Arg) (lt : k < length (args_of c)).
-    plain_arg (slice_index_or (args_of c) k d) (each_rule (λ a. a.is_simple) (args_of c) shape.1 k d lt) (each_rule (λ a. a.is_free) (args_of c) free.0 k d lt) in
+    plain_arg (slice_index_or (args_of c) k d)
+    (each_rule (λ a. a.is_simple) (args_of c) shape.1 k d lt)
+    (each_rule (λ a. a.is_free) (args_of c) free.0 k d lt) in
     record {
       plain = ((λ k d lt. (each k d lt).0), fields.groups);
       globals = fields.globals;
@@ -139,29 +156,35 @@ not_empty : (name : Word) → not (is_empty name) ≡ true → name ≡ [] → �
 not_empty name some empty = let none : is_empty name ≡ true = rw empty refl in cc
 
 -- the word for an argument that stands so is there
-stands_there : (c : Command) (m : ArgMatches) → IsParsedFrom c m → IsBare c → (name : Word) → (name ≡ [] → ⊥)
-    → (name ≡ codes "help" → ⊥) → (name ≡ codes "version" → ⊥) → (place : ℕ) → StandsAt name (args_of c) place
+stands_there : (c : Command) (m : ArgMatches) → IsParsedFrom c m → IsBare c → (name : Word)
+    → (name ≡ [] → ⊥) → (name ≡ codes "help" → ⊥) → (name ≡ codes "version" → ⊥)
+    → (place : ℕ) → StandsAt name (args_of c) place
     → is_some (first_of name (rows_of (found_of m))) ≡ true
 stands_there c m parsed bare name some help version place at =
     let arg = slice_index_or (args_of c) place at.arg in
     let named = at.named at.arg in
     let wants = both _ _ (at.wanted at.arg) in
     let value = both _ _ wants.1 in
-    let there = required_has_value c m parsed bare.plain bare.globals bare.negates place at.arg at.within wants.0
-    (action_is arg.action value.0) (bare.delims place at.arg at.within) (least_at (least_values arg) value.1)
-    (λ j e lt same. at.alone j e lt (subst (λ (id : Word). bytes_eq (slice_index_or (args_of c) j e).id.now id ≡ true) named same))
+    let there = required_has_value c m parsed bare.plain bare.globals bare.negates place at.arg
+    at.within wants.0 (action_is arg.action value.0) (bare.delims place at.arg at.within)
+    (least_at (least_values arg) value.1)
+    (λ j e lt same. at.alone j e lt
+    (subst (λ (id : Word). bytes_eq (slice_index_or (args_of c) j e).id.now id ≡ true) named
+    same))
     (λ empty. some (sym named ∙ empty))
     (λ auto. elim auto [ inl is ↦ help (sym named ∙ is) | inr is ↦ version (sym named ∙ is) ]) in
     subst (λ (id : Word). is_some (first_of id (rows_of (found_of m))) ≡ true) named
     (subst (λ (o : Option Word). is_some o ≡ true) (first_value-rows (found_of m) arg.id.now) there)
 
 -- each word that the form requires is there
-pub required_is_there : (c : Command) (m : ArgMatches) → IsParsedFrom c m → is_form (app_of c) ≡ true
+pub required_is_there : (c : Command) (m : ArgMatches) → IsParsedFrom c m
+    → is_form (app_of c) ≡ true
     → HasRequired (app_of c) (rows_of (found_of m))
 required_is_there c m parsed form name requires =
     let parts = both (is_own_name name) _ requires in
     let own = both _ _ parts.0 in
     let flags = both _ _ own.1 in
     let found = stands name (args_of c) parts.1 in
-    stands_there c m parsed (is_bare c form) name (not_empty name own.0) (not_named name (codes "help") flags.0)
+    stands_there c m parsed (is_bare c form) name (not_empty name own.0)
+    (not_named name (codes "help") flags.0)
     (not_named name (codes "version") flags.1) found.0 found.1

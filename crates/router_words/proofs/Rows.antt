@@ -3,7 +3,7 @@ use Rattle.std.proofs.Common.{◌≡◌, ℕ, Bool, true, false, List, [], ◌�
 use Rattle.std.specs.Prelude.{Result, Ok, Err}
 use Rattle.clap.proofs.OnLiterals.{clap_on_literals}
 use Rattle.router_words.specs.Command.{job_of}
-use Rattle.router_words.specs.Job.{Checks, Generates, JobAsked, Routes, Sweeps, Tries, Verifies}
+use Rattle.router_words.specs.Job.{Checks, FilesAsked, Generates, JobAsked, Routes, Sweeps, Tries, Verifies}
 use Rattle.router_words.specs.Word.{Word}
 use Rattle.router_words.specs.declared.fault.Refusal.{Refusal}
 use Rattle.router_words.specs.declared.fault.Refusal.TheVariants.{Command, Form, Number}
@@ -11,14 +11,19 @@ use Rattle.router_words.specs.declared.fault.Refusal.TheVariants.{Command, Form,
 abbrev Asked : Type 0
 Asked = Result JobAsked Refusal
 
+abbrev four_files : FilesAsked
+four_files = record {
+  architecture = codes "a";
+  netlist = codes "n";
+  placement = codes "p";
+  route = codes "r";
+}
+
 -- a route of the files a, n, p and r
 abbrev routes : ℕ → Word → ℕ → Bool → Asked
 routes width prefix conflicts keep = Ok (Routes (record {
-  files = record { architecture = codes "a"; netlist = codes "n"; placement = codes "p"; route = codes "r" };
-  width = width;
-  prefix = prefix;
-  conflicts = conflicts;
-  keep = keep;
+  files = four_files;
+  search = record { width = width; prefix = prefix; conflicts = conflicts; keep = keep };
 }))
 
 -- `route a n p r` and more words
@@ -52,8 +57,9 @@ unfolding clap_on_literals
 signed = refl
 
 -- options stand anywhere, with a value behind them or behind `=`
-pub options : job_of (codes "route" ∷ codes "--conflicts=5" ∷ codes "a" ∷ codes "n" ∷ codes "--keep" ∷ codes "p"
-    ∷ codes "r" ∷ codes "005" ∷ codes "out" ∷ []) ≡ routes 5 (codes "out") 5 true
+pub options : job_of (codes "route" ∷ codes "--conflicts=5" ∷ codes "a" ∷ codes "n"
+    ∷ codes "--keep" ∷ codes "p" ∷ codes "r" ∷ codes "005" ∷ codes "out" ∷ [])
+    ≡ routes 5 (codes "out") 5 true
 unfolding clap_on_literals
 options = refl
 
@@ -62,7 +68,8 @@ unfolding clap_on_literals
 no_budget = refl
 
 -- behind `--` no word is an option; a word may be empty
-pub dashes : route (codes "5" ∷ codes "--" ∷ codes "--keep" ∷ []) ≡ routes 5 (codes "--keep") 1_000_000 false
+pub dashes : route (codes "5" ∷ codes "--" ∷ codes "--keep" ∷ [])
+    ≡ routes 5 (codes "--keep") 1_000_000 false
 unfolding clap_on_literals
 dashes = refl
 
@@ -92,11 +99,8 @@ sweep more = job_of (codes "sweep" ∷ codes "a" ∷ codes "n" ∷ codes "p" ∷
 
 pub sweeps : sweep (codes "8" ∷ codes "out" ∷ codes "--conflicts" ∷ codes "7" ∷ [])
     ≡ Ok (Sweeps (record {
-      files = record { architecture = codes "a"; netlist = codes "n"; placement = codes "p"; route = codes "r" };
-      most = 8;
-      prefix = codes "out";
-      conflicts = 7;
-      keep = false;
+      files = four_files;
+      search = record { width = 8; prefix = codes "out"; conflicts = 7; keep = false };
     }))
 unfolding clap_on_literals
 sweeps = refl
@@ -109,8 +113,8 @@ pub no_prefix : sweep (codes "8" ∷ []) ≡ Err Form
 unfolding clap_on_literals
 no_prefix = refl
 
-pub encode_keeps : job_of (codes "encode" ∷ codes "a" ∷ codes "n" ∷ codes "p" ∷ codes "r" ∷ codes "5" ∷ codes "out"
-    ∷ codes "--keep" ∷ []) ≡ Err Form
+pub encode_keeps : job_of (codes "encode" ∷ codes "a" ∷ codes "n" ∷ codes "p" ∷ codes "r"
+    ∷ codes "5" ∷ codes "out" ∷ codes "--keep" ∷ []) ≡ Err Form
 unfolding clap_on_literals
 encode_keeps = refl
 
@@ -125,7 +129,7 @@ verify more = job_of (codes "verify" ∷ codes "a" ∷ codes "n" ∷ codes "p" �
 
 pub verifies : verify (codes "64" ∷ codes "f" ∷ [])
     ≡ Ok (Verifies (record {
-      files = record { architecture = codes "a"; netlist = codes "n"; placement = codes "p"; route = codes "r" };
+      files = four_files;
       width = 64;
       routed = codes "f";
     }))
@@ -168,10 +172,7 @@ pub tries : job_of (codes "trial" ∷ codes "1" ∷ codes "6" ∷ codes "30" ∷
     ∷ codes "--conflicts" ∷ codes "200" ∷ [])
     ≡ Ok (Tries (record {
       recipe = record { seed = 1; side = 6; nets = 30 };
-      most = 10;
-      prefix = codes "t";
-      conflicts = 200;
-      keep = false;
+      search = record { width = 10; prefix = codes "t"; conflicts = 200; keep = false };
     }))
 unfolding clap_on_literals
 tries = refl

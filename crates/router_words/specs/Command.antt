@@ -1,12 +1,12 @@
 -- The commands, and the job that the words of one ask for.
-use Rattle.std.specs.Prelude.{◌≡◌, ℕ, nat_le, ◌&&◌, Bool, false, List, [], ◌∷◌, codes, find, Result, Ok, Err, Option, None, Some, option_and_then, unwrap_or, IfSome, ⊤, if◌then◌else◌}
+use Rattle.std.specs.Prelude.{◌≡◌, ℕ, nat_le, ◌&&◌, Bool, false, List, [], ◌∷◌, codes, find, Result, Ok, Err, Option, None, Some, option_and_then, option_map, unwrap_or, IfSome, ⊤, if◌then◌else◌}
 use Rattle.std.specs.Option.{option_map_or}
 use Rattle.std.specs.Str.{bytes_eq}
 use Rattle.clap.specs.Words.{App, Row, first_of, matches_of}
 use Rattle.fpga_text.specs.Numbers.{whole_number_of}
 use Rattle.fpga_types.specs.declared.limits.TheConstants.{SIDE_LIMIT, WIDTH_LIMIT}
 use Rattle.router_words.specs.Form.{check_form, encode_form, gen_form, route_form, sweep_form, trial_form, verify_form}
-use Rattle.router_words.specs.Job.{Checks, Encodes, FilesAsked, Generates, JobAsked, RecipeAsked, Routes, Sweeps, Tries, Verifies, job_said}
+use Rattle.router_words.specs.Job.{Checks, Encodes, FilesAsked, Generates, JobAsked, RecipeAsked, Routes, SearchAsked, Sweeps, Tries, Verifies, job_said}
 use Rattle.router_words.specs.Taken.{HasRequired, is_taken}
 use Rattle.router_words.specs.Word.{Word}
 use Rattle.router_words.specs.declared.command_name.CommandName.{CommandName}
@@ -53,6 +53,20 @@ conflicts_asked rows =
     option_map_or (number_within 1 BUDGET_LIMIT) (first_of (codes "conflicts") rows)
     (Some BUDGET_DEFAULT)
 
+-- what a search is told: these numbers, where both are there, and what else stands in the words
+abbrev pub search_with : List Row → (width conflicts : Option ℕ) → Option SearchAsked
+search_with rows (Some width) (Some conflicts) = Some (record {
+  width = width;
+  prefix = word_in (codes "prefix") rows;
+  conflicts = conflicts;
+  keep = has_flag (codes "keep") rows;
+})
+search_with rows _ _ = None
+
+-- WIDTH PREFIX [--conflicts N] [--keep], or with MAX
+abbrev pub search_asked : List Row → Option SearchAsked
+search_asked rows = search_with rows (width_asked rows) (conflicts_asked rows)
+
 -- SEED
 abbrev pub seed_asked : List Row → Option ℕ
 seed_asked rows = number_within 0 SEED_LIMIT (word_in (codes "seed") rows)
@@ -84,89 +98,52 @@ pub record CommandRow : Type 0 where
   pub form : App
   pub job : List Row → Option JobAsked
 
--- what `route` is asked for: with these numbers, where both are there
-abbrev pub route_with : List Row → Option ℕ → Option ℕ → Option JobAsked
-route_with rows (Some width) (Some conflicts) = Some (Routes (record {
-  files = files_asked rows;
-  width = width;
-  prefix = word_in (codes "prefix") rows;
-  conflicts = conflicts;
-  keep = has_flag (codes "keep") rows;
-}))
-route_with rows _ _ = None
-
+-- what `route` is asked for
 abbrev pub route_asked : List Row → Option JobAsked
-route_asked rows = route_with rows (width_asked rows) (conflicts_asked rows)
+route_asked rows =
+    option_map (λ search. Routes (record { files = files_asked rows; search = search }))
+    (search_asked rows)
 
--- what `sweep` is asked for: with these numbers, where both are there
-abbrev pub sweep_with : List Row → Option ℕ → Option ℕ → Option JobAsked
-sweep_with rows (Some most) (Some conflicts) = Some (Sweeps (record {
-  files = files_asked rows;
-  most = most;
-  prefix = word_in (codes "prefix") rows;
-  conflicts = conflicts;
-  keep = has_flag (codes "keep") rows;
-}))
-sweep_with rows _ _ = None
-
+-- what `sweep` is asked for
 abbrev pub sweep_asked : List Row → Option JobAsked
-sweep_asked rows = sweep_with rows (width_asked rows) (conflicts_asked rows)
+sweep_asked rows =
+    option_map (λ search. Sweeps (record { files = files_asked rows; search = search }))
+    (search_asked rows)
 
--- what `encode` is asked for: with this width, where it is there
-abbrev pub encode_with : List Row → Option ℕ → Option JobAsked
-encode_with rows (Some width) = Some (Encodes (record {
+-- what `encode` is asked for
+abbrev pub encode_asked : List Row → Option JobAsked
+encode_asked rows = option_map (λ width. Encodes (record {
   files = files_asked rows;
   width = width;
   prefix = word_in (codes "prefix") rows;
-}))
-encode_with rows None = None
-
-abbrev pub encode_asked : List Row → Option JobAsked
-encode_asked rows = encode_with rows (width_asked rows)
+})) (width_asked rows)
 
 -- what `check` is asked for
 abbrev pub check_asked : List Row → Option JobAsked
 check_asked rows =
     Some (Checks (record { cnf = word_in (codes "cnf") rows; lrat = word_in (codes "lrat") rows }))
 
--- what `verify` is asked for: with this width, where it is there
-abbrev pub verify_with : List Row → Option ℕ → Option JobAsked
-verify_with rows (Some width) = Some (Verifies (record {
+-- what `verify` is asked for
+abbrev pub verify_asked : List Row → Option JobAsked
+verify_asked rows = option_map (λ width. Verifies (record {
   files = files_asked rows;
   width = width;
   routed = word_in (codes "routed") rows;
-}))
-verify_with rows None = None
+})) (width_asked rows)
 
-abbrev pub verify_asked : List Row → Option JobAsked
-verify_asked rows = verify_with rows (width_asked rows)
-
--- what `gen` is asked for: with this recipe, where it is there
-abbrev pub gen_with : List Row → Option RecipeAsked → Option JobAsked
-gen_with rows (Some recipe) = Some (Generates (record {
-  recipe = recipe;
-  prefix = word_in (codes "prefix") rows;
-}))
-gen_with rows None = None
-
+-- what `gen` is asked for
 abbrev pub gen_asked : List Row → Option JobAsked
-gen_asked rows = gen_with rows (recipe_asked rows)
+gen_asked rows = option_map
+    (λ recipe. Generates (record { recipe = recipe; prefix = word_in (codes "prefix") rows }))
+    (recipe_asked rows)
 
--- what `trial` is asked for: with this recipe and these numbers, where all are there
-abbrev pub trial_with : List Row → Option RecipeAsked → (most conflicts : Option ℕ)
-    → Option JobAsked
-trial_with rows (Some recipe) (Some most) (Some conflicts) = Some (Tries (record {
-  recipe = recipe;
-  most = most;
-  prefix = word_in (codes "prefix") rows;
-  conflicts = conflicts;
-  keep = has_flag (codes "keep") rows;
-}))
-trial_with rows _ _ _ = None
+-- what `trial` is asked for: with this recipe and this search, where both are there
+abbrev pub trial_with : Option RecipeAsked → Option SearchAsked → Option JobAsked
+trial_with (Some recipe) (Some search) = Some (Tries (record { recipe = recipe; search = search }))
+trial_with _ _ = None
 
 abbrev pub trial_asked : List Row → Option JobAsked
-trial_asked rows =
-    trial_with rows (recipe_asked rows) (width_asked rows) (conflicts_asked rows)
+trial_asked rows = trial_with (recipe_asked rows) (search_asked rows)
 
 abbrev pub route_row : CommandRow
 route_row = record { name = codes "route"; form = route_form; job = route_asked }

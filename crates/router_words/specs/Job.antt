@@ -9,6 +9,7 @@ use Rattle.router_words.specs.declared.job.Job.{Job}
 use Rattle.router_words.specs.declared.job.Job.TheVariants.{Check, Encode, Gen, Route, Sweep, Trial, Verify}
 use Rattle.router_words.specs.declared.job.Recipe.{Recipe}
 use Rattle.router_words.specs.declared.job.RouteJob.{RouteJob}
+use Rattle.router_words.specs.declared.job.SearchJob.{SearchJob}
 use Rattle.router_words.specs.declared.job.SweepJob.{SweepJob}
 use Rattle.router_words.specs.declared.job.TrialJob.{TrialJob}
 use Rattle.router_words.specs.declared.job.VerifyJob.{VerifyJob}
@@ -20,23 +21,23 @@ pub record FilesAsked : Type 0 where
   pub placement : Word
   pub route : Word
 
--- to look for a routing: the files, the width, what the names of written files begin with, how many
--- clauses may be learned, and whether none is forgotten
-pub record RouteAsked : Type 0 where
-  pub files : FilesAsked
+-- what a search is told: the width, or the greatest one that is tried; what the names of written
+-- files begin with; how many clauses may be learned at each width, and whether none is forgotten
+pub record SearchAsked : Type 0 where
   pub width : ℕ
   pub prefix : Word
   pub conflicts : ℕ
   pub keep : Bool
 
--- to look for the least width that has a routing: the files, the greatest width that is tried, and
--- what is asked of the search at each width, as above
+-- to look for a routing: the files, and what the search is told
+pub record RouteAsked : Type 0 where
+  pub files : FilesAsked
+  pub search : SearchAsked
+
+-- to look for the least width that has a routing: the same
 pub record SweepAsked : Type 0 where
   pub files : FilesAsked
-  pub most : ℕ
-  pub prefix : Word
-  pub conflicts : ℕ
-  pub keep : Bool
+  pub search : SearchAsked
 
 -- to write the clauses: the files, the width, and what the name of the written file begins with
 pub record EncodeAsked : Type 0 where
@@ -68,13 +69,10 @@ pub record GenAsked : Type 0 where
   pub prefix : Word
 
 -- to look for the least width that has a routing of a generated problem: what that is made from,
--- and the rest as of a sweep
+-- and what the searches are told
 pub record TrialAsked : Type 0 where
   pub recipe : RecipeAsked
-  pub most : ℕ
-  pub prefix : Word
-  pub conflicts : ℕ
-  pub keep : Bool
+  pub search : SearchAsked
 
 -- what is asked for
 pub data JobAsked : Type 0 where
@@ -96,23 +94,19 @@ files_said files = record {
   route = files.route.now;
 }
 
-abbrev pub route_said : RouteJob → RouteAsked
-route_said job = record {
-  files = files_said job.files;
-  width = job.width;
-  prefix = job.prefix.now;
-  conflicts = job.conflicts;
-  keep = job.keep;
+abbrev pub search_said : SearchJob → SearchAsked
+search_said search = record {
+  width = search.width;
+  prefix = search.prefix.now;
+  conflicts = search.conflicts;
+  keep = search.keep;
 }
 
+abbrev pub route_said : RouteJob → RouteAsked
+route_said job = record { files = files_said job.files; search = search_said job.search }
+
 abbrev pub sweep_said : SweepJob → SweepAsked
-sweep_said job = record {
-  files = files_said job.files;
-  most = job.most;
-  prefix = job.prefix.now;
-  conflicts = job.conflicts;
-  keep = job.keep;
-}
+sweep_said job = record { files = files_said job.files; search = search_said job.search }
 
 abbrev pub encode_said : EncodeJob → EncodeAsked
 encode_said job = record {
@@ -138,13 +132,7 @@ abbrev pub gen_said : GenJob → GenAsked
 gen_said job = record { recipe = recipe_said job.recipe; prefix = job.prefix.now }
 
 abbrev pub trial_said : TrialJob → TrialAsked
-trial_said job = record {
-  recipe = recipe_said job.recipe;
-  most = job.most;
-  prefix = job.prefix.now;
-  conflicts = job.conflicts;
-  keep = job.keep;
-}
+trial_said job = record { recipe = recipe_said job.recipe; search = search_said job.search }
 
 abbrev pub job_said : Job → JobAsked
 job_said (Route job) = Routes (route_said job)

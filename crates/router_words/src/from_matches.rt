@@ -1,15 +1,16 @@
 //! The job that the matches of a command's form say.
 ghost use Rattle.std.specs.Prelude.{◌≡◌, ◌≤◌, IfSome, codes, is_some, option_map, true};
 ghost use Rattle.clap.specs.Words.{first_of, found_of, rows_of};
-ghost use Rattle.fpga_types.specs.declared.limits.TheConstants.{SIDE_LIMIT, WIDTH_LIMIT};
-ghost use Rattle.router_words.specs.Command.{check_asked, conflicts_asked, encode_asked, files_asked, gen_asked, nets_asked, recipe_asked, route_asked, seed_asked, side_asked, sweep_asked, trial_asked, verify_asked, width_asked};
+ghost use Rattle.fpga_types.specs.declared.limits.TheConstants.{WIDTH_LIMIT};
+ghost use Rattle.router_words.specs.Command.{check_asked, conflicts_asked, encode_asked, files_asked, gen_asked, number_within, recipe_asked, route_asked, search_asked, sweep_asked, trial_asked, verify_asked, width_asked, word_in};
 ghost use Rattle.router_words.specs.Form.{check_form, encode_form, gen_form, route_form, sweep_form, trial_form, verify_form};
-ghost use Rattle.router_words.specs.Job.{files_said, job_said, recipe_said};
+ghost use Rattle.router_words.specs.Job.{files_said, job_said, recipe_said, search_said};
 ghost use Rattle.router_words.specs.Taken.{HasFiles, HasRecipe, HasRequired};
-ghost use Rattle.router_words.specs.declared.limits.TheConstants.{BUDGET_LIMIT, GENERATED_NETS_LIMIT, SEED_LIMIT};
+ghost use Rattle.router_words.specs.declared.limits.TheConstants.{BUDGET_LIMIT};
 
 use crate::job::{
-    CheckJob, EncodeJob, FourNames, GenJob, Job, Recipe, RouteJob, SweepJob, TrialJob, VerifyJob,
+    CheckJob, EncodeJob, FourNames, GenJob, Job, Recipe, RouteJob, SearchJob, SweepJob, TrialJob,
+    VerifyJob,
 };
 use crate::limits::{BUDGET_DEFAULT, BUDGET_LIMIT, GENERATED_NETS_LIMIT, SEED_LIMIT};
 use crate::matched::{first_word, is_given, number_within, required_word};
@@ -29,6 +30,20 @@ fn file_names<'a>(matches: &ArgMatches<'a>) -> FourNames<'a>
     }
 }
 
+// The number that the word for a name says, where it is in this range.
+fn number_for(matches: &ArgMatches, name: &str, least: u32, greatest: u32) -> Option<u32>
+    requires { is_some (first_of name.now (rows_of (found_of matches.now))) ≡ true }
+    ensures number { result
+        ≡ number_within least greatest (word_in name.now (rows_of (found_of matches.now))) }
+    ensures within { IfSome result (λ number. (least ≤ number) × (number ≤ greatest)) }
+{
+    let word = required_word(matches, name);
+    let Some(number) = number_within(word, u64::from(least), u64::from(greatest)) else {
+        return None;
+    };
+    Some(number as u32)
+}
+
 // How many tracks each channel has, or the most of them that are tried, where what the words say
 // is in range.
 fn width(matches: &ArgMatches) -> Option<u32>
@@ -36,11 +51,7 @@ fn width(matches: &ArgMatches) -> Option<u32>
     ensures number { result ≡ width_asked (rows_of (found_of matches.now)) }
     ensures within { IfSome result (λ number. (1 ≤ number) × (number ≤ WIDTH_LIMIT)) }
 {
-    let word = required_word(matches, "width");
-    let Some(width) = number_within(word, 1, u64::from(WIDTH_LIMIT)) else {
-        return None;
-    };
-    Some(width as u32)
+    number_for(matches, "width", 1, WIDTH_LIMIT)
 }
 
 // How many clauses the search may learn, where what the words say is in range.
@@ -54,66 +65,28 @@ fn conflicts(matches: &ArgMatches) -> Option<u64>
     number_within(word, 1, BUDGET_LIMIT)
 }
 
-// What a generated problem is drawn by, where what the words say is in range.
-fn seed(matches: &ArgMatches) -> Option<u32>
-    requires { is_some (first_of (codes "seed") (rows_of (found_of matches.now))) ≡ true }
-    ensures number { result ≡ seed_asked (rows_of (found_of matches.now)) }
-    ensures within { IfSome result (λ number. number ≤ SEED_LIMIT) }
-{
-    let word = required_word(matches, "seed");
-    let Some(seed) = number_within(word, 0, u64::from(SEED_LIMIT)) else {
-        return None;
-    };
-    Some(seed as u32)
-}
-
-// How many logic blocks each side of its array has, where what the words say is in range.
-fn side(matches: &ArgMatches) -> Option<u32>
-    requires { is_some (first_of (codes "side") (rows_of (found_of matches.now))) ≡ true }
-    ensures number { result ≡ side_asked (rows_of (found_of matches.now)) }
-    ensures within { IfSome result (λ number. (1 ≤ number) × (number ≤ SIDE_LIMIT)) }
-{
-    let word = required_word(matches, "side");
-    let Some(side) = number_within(word, 1, u64::from(SIDE_LIMIT)) else {
-        return None;
-    };
-    Some(side as u32)
-}
-
-// How many nets it has, where what the words say is in range.
-fn nets(matches: &ArgMatches) -> Option<u32>
-    requires { is_some (first_of (codes "nets") (rows_of (found_of matches.now))) ≡ true }
-    ensures number { result ≡ nets_asked (rows_of (found_of matches.now)) }
-    ensures within { IfSome result (λ number. (1 ≤ number) × (number ≤ GENERATED_NETS_LIMIT)) }
-{
-    let word = required_word(matches, "nets");
-    let Some(nets) = number_within(word, 1, u64::from(GENERATED_NETS_LIMIT)) else {
-        return None;
-    };
-    Some(nets as u32)
-}
-
 // What a generated problem is made from, where its numbers are in range.
 fn recipe(matches: &ArgMatches) -> Option<Recipe>
     requires { HasRecipe (rows_of (found_of matches.now)) }
     ensures { option_map recipe_said result ≡ recipe_asked (rows_of (found_of matches.now)) }
 {
-    let Some(seed) = seed(matches) else {
+    let Some(seed) = number_for(matches, "seed", 0, SEED_LIMIT) else {
         return None;
     };
-    let Some(side) = side(matches) else {
+    let Some(side) = number_for(matches, "side", 1, SIDE_LIMIT) else {
         return None;
     };
-    let Some(nets) = nets(matches) else {
+    let Some(nets) = number_for(matches, "nets", 1, GENERATED_NETS_LIMIT) else {
         return None;
     };
     Some(Recipe { seed, side, nets })
 }
 
-/// What `route` is asked for, where its numbers are in range.
-pub fn route_job<'a>(matches: &ArgMatches<'a>) -> Option<Job<'a>>
-    requires { HasRequired route_form (rows_of (found_of matches.now)) }
-    ensures { option_map job_said result ≡ route_asked (rows_of (found_of matches.now)) }
+// What a search is told, where its numbers are in range.
+fn search<'a>(matches: &ArgMatches<'a>) -> Option<SearchJob<'a>>
+    requires width { is_some (first_of (codes "width") (rows_of (found_of matches.now))) ≡ true }
+    requires prefix { is_some (first_of (codes "prefix") (rows_of (found_of matches.now))) ≡ true }
+    ensures { option_map search_said result ≡ search_asked (rows_of (found_of matches.now)) }
 {
     let Some(width) = width(matches) else {
         return None;
@@ -121,12 +94,25 @@ pub fn route_job<'a>(matches: &ArgMatches<'a>) -> Option<Job<'a>>
     let Some(conflicts) = conflicts(matches) else {
         return None;
     };
-    Some(Job::Route(RouteJob {
-        files: file_names(matches),
+    Some(SearchJob {
         width,
         prefix: required_word(matches, "prefix"),
         conflicts,
         keep: is_given(matches, "keep"),
+    })
+}
+
+/// What `route` is asked for, where its numbers are in range.
+pub fn route_job<'a>(matches: &ArgMatches<'a>) -> Option<Job<'a>>
+    requires { HasRequired route_form (rows_of (found_of matches.now)) }
+    ensures { option_map job_said result ≡ route_asked (rows_of (found_of matches.now)) }
+{
+    let Some(search) = search(matches) else {
+        return None;
+    };
+    Some(Job::Route(RouteJob {
+        files: file_names(matches),
+        search,
     }))
 }
 
@@ -135,18 +121,12 @@ pub fn sweep_job<'a>(matches: &ArgMatches<'a>) -> Option<Job<'a>>
     requires { HasRequired sweep_form (rows_of (found_of matches.now)) }
     ensures { option_map job_said result ≡ sweep_asked (rows_of (found_of matches.now)) }
 {
-    let Some(most) = width(matches) else {
-        return None;
-    };
-    let Some(conflicts) = conflicts(matches) else {
+    let Some(search) = search(matches) else {
         return None;
     };
     Some(Job::Sweep(SweepJob {
         files: file_names(matches),
-        most,
-        prefix: required_word(matches, "prefix"),
-        conflicts,
-        keep: is_given(matches, "keep"),
+        search,
     }))
 }
 
@@ -213,17 +193,8 @@ pub fn trial_job<'a>(matches: &ArgMatches<'a>) -> Option<Job<'a>>
     let Some(recipe) = recipe(matches) else {
         return None;
     };
-    let Some(most) = width(matches) else {
+    let Some(search) = search(matches) else {
         return None;
     };
-    let Some(conflicts) = conflicts(matches) else {
-        return None;
-    };
-    Some(Job::Trial(TrialJob {
-        recipe,
-        most,
-        prefix: required_word(matches, "prefix"),
-        conflicts,
-        keep: is_given(matches, "keep"),
-    }))
+    Some(Job::Trial(TrialJob { recipe, search }))
 }

@@ -16,21 +16,28 @@ pub struct FourNames<'a> {
     pub route: &'a str,
 }
 
+/// What a search is told, whatever its problem.
+#[derive(Clone, Copy, Debug)]
+pub struct SearchJob<'a> {
+    /// How many tracks each channel has, or the most of them that are tried, from 1 to 64.
+    pub width: u32,
+    /// What the names of the files that are written begin with.
+    pub prefix: &'a str,
+    /// How many clauses the search at each width may learn, from 1 to 100,000,000.
+    pub conflicts: u64,
+    /// Whether no clause is forgotten.
+    pub keep: bool,
+    ghost in_range: { (1 ≤ width) × (width ≤ WIDTH_LIMIT) },
+    ghost affordable: { (1 ≤ conflicts) × (conflicts ≤ BUDGET_LIMIT) },
+}
+
 /// To look for a routing.
 #[derive(Clone, Copy, Debug)]
 pub struct RouteJob<'a> {
     /// The files of the problem.
     pub files: FourNames<'a>,
-    /// How many tracks each channel has, from 1 to 64.
-    pub width: u32,
-    /// What the names of the files that are written begin with.
-    pub prefix: &'a str,
-    /// How many clauses the search may learn, from 1 to 100,000,000.
-    pub conflicts: u64,
-    /// Whether the search forgets no clause.
-    pub keep: bool,
-    ghost in_range: { (1 ≤ width) × (width ≤ WIDTH_LIMIT) },
-    ghost affordable: { (1 ≤ conflicts) × (conflicts ≤ BUDGET_LIMIT) },
+    /// The width, and what else the search is told.
+    pub search: SearchJob<'a>,
 }
 
 /// To look for the least width that has a routing.
@@ -38,16 +45,8 @@ pub struct RouteJob<'a> {
 pub struct SweepJob<'a> {
     /// The files of the problem.
     pub files: FourNames<'a>,
-    /// The greatest width that is tried, from 1 to 64.
-    pub most: u32,
-    /// What the names of the files that are written begin with.
-    pub prefix: &'a str,
-    /// How many clauses the search at each width may learn, from 1 to 100,000,000.
-    pub conflicts: u64,
-    /// Whether the searches forget no clause.
-    pub keep: bool,
-    ghost in_range: { (1 ≤ most) × (most ≤ WIDTH_LIMIT) },
-    ghost affordable: { (1 ≤ conflicts) × (conflicts ≤ BUDGET_LIMIT) },
+    /// The greatest width that is tried, and what else the searches are told.
+    pub search: SearchJob<'a>,
 }
 
 /// To write the clauses of a routing.
@@ -111,16 +110,8 @@ pub struct GenJob<'a> {
 pub struct TrialJob<'a> {
     /// What the problem is made from.
     pub recipe: Recipe,
-    /// The greatest width that is tried, from 1 to 64.
-    pub most: u32,
-    /// What the names of the files that are written begin with.
-    pub prefix: &'a str,
-    /// How many clauses the search at each width may learn, from 1 to 100,000,000.
-    pub conflicts: u64,
-    /// Whether the searches forget no clause.
-    pub keep: bool,
-    ghost in_range: { (1 ≤ most) × (most ≤ WIDTH_LIMIT) },
-    ghost affordable: { (1 ≤ conflicts) × (conflicts ≤ BUDGET_LIMIT) },
+    /// The greatest width that is tried, and what else the searches are told.
+    pub search: SearchJob<'a>,
 }
 
 /// What the words ask for. It lends them.

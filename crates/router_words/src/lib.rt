@@ -41,7 +41,8 @@ mod tests;
 
 pub use fault::{Refusal, WordsFault};
 pub use job::{
-    CheckJob, EncodeJob, FourNames, GenJob, Job, Recipe, RouteJob, SweepJob, TrialJob, VerifyJob,
+    CheckJob, EncodeJob, FourNames, GenJob, Job, Recipe, RouteJob, SearchJob, SweepJob, TrialJob,
+    VerifyJob,
 };
 pub use limits::{BUDGET_DEFAULT, BUDGET_LIMIT, GENERATED_NETS_LIMIT, SEED_LIMIT};
 pub use read::read_words;

@@ -1,6 +1,8 @@
 //! The limits of the numbers among the words.
 
 /// How many clauses a search may learn at the most.
+// The search has such a limit of its own (`BUDGET_LIMIT` of `route_sweep`), since words and search
+// know nothing of each other. Were this one greater, no proof could hand a job to the search.
 pub const BUDGET_LIMIT: u64 = 100_000_000;
 
 /// How many clauses a search may learn where the words do not say it.

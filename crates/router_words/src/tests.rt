@@ -104,10 +104,8 @@ fn has_route(rt: &impl Abort, job: &RouteJob, conflicts: u64, keep: bool) {
     assert_eq!(rt; job.files.netlist, "n");
     assert_eq!(rt; job.files.placement, "p");
     assert_eq!(rt; job.files.route, "r");
-    assert_eq!(rt; job.width, 5u32);
-    assert_eq!(rt; job.prefix, "out");
-    assert_eq!(rt; job.conflicts, conflicts);
-    assert_eq!(rt; job.keep, keep);
+    assert_eq!(rt; (job.search.width, job.search.prefix), (5u32, "out"));
+    assert_eq!(rt; (job.search.conflicts, job.search.keep), (conflicts, keep));
 }
 
 #[test]
@@ -132,8 +130,12 @@ fn sweep_has_its_words(rt: HostRuntime) -> Result<(), Fail> {
     let Ok(Job::Sweep(job)) = read_words(rt.alloc(), &words) else {
         return Err("no job of sweeping".into());
     };
-    assert_eq!(rt; (job.files.route, job.most, job.prefix), ("r", 5u32, "out"));
-    assert_eq!(rt; (job.conflicts, job.keep), (7, true));
+    let search = job.search;
+    assert_eq!(rt;
+        (job.files.route, search.width, search.prefix),
+        ("r", 5u32, "out")
+    );
+    assert_eq!(rt; (search.conflicts, search.keep), (7, true));
     Ok(())
 }
 
@@ -174,7 +176,8 @@ fn gen_and_trial_have_their_words(rt: HostRuntime) -> Result<(), Fail> {
     };
     let recipe = job.recipe;
     assert_eq!(rt; (recipe.seed, recipe.side, recipe.nets), (1u32, 2u32, 3u32));
-    assert_eq!(rt; (job.most, job.prefix), (5u32, "out"));
-    assert_eq!(rt; (job.conflicts, job.keep), (7, true));
+    let search = job.search;
+    assert_eq!(rt; (search.width, search.prefix), (5u32, "out"));
+    assert_eq!(rt; (search.conflicts, search.keep), (7, true));
     Ok(())
 }

@@ -1,5 +1,5 @@
--- no line so far has a fault, the steps so far were taken, and with those that are left they are all
--- steps
+-- no line so far has a fault, the steps so far were taken, and with those that are left they are
+-- all steps
 use Rattle.std.proofs.Common.{◌≡◌, ◌++◌, List, length}
 use Rattle.fpga_text.specs.FirstFault.{first_fault}
 use Rattle.sat_clause.specs.Step.{Step}
@@ -9,7 +9,8 @@ use Rattle.router_top.proofs.checking.replay_text.Given as goal
 
 abbrev pub invariant-loop-more : goal.invariant-loop-more
 invariant-loop-more l = record {
-  past : first_fault (lrat_faults (length l.formula.cnf.clauses) l.text) ≡ first_fault l.lines.faults;
+  past : first_fault (lrat_faults (length l.formula.cnf.clauses) l.text)
+      ≡ first_fault l.lines.faults;
   taken : (steps : List Step) × HasReplayed l.formula.cnf steps l.replay
       × (steps ++ l.lines.steps ≡ lrat_said l.text);
 }

@@ -4,17 +4,17 @@ use Rattle.router_top.proofs.running.work.Goals as goal
 pub returns-in-Ok-Route-clause-leaves : goal.returns-in-Ok-Route-clause-leaves
 returns-in-Ok-Route-clause-leaves g c =
     let asked = rw c.in-Ok-Route.field-0-is at c.in-Ok-Route.ensures.answers in
-    inr (rw asked c.route.ensures.leaves)
+    inr (rw asked c.work_on.ensures.leaves)
 
 pub returns-in-Ok-Encode-clause-leaves : goal.returns-in-Ok-Encode-clause-leaves
 returns-in-Ok-Encode-clause-leaves g c =
     let asked = rw c.in-Ok-Encode.field-0-is at c.in-Ok-Encode.ensures.answers in
-    inr (rw asked c.encode.ensures.leaves)
+    inr (rw asked c.work_on-in-Ok-Encode.ensures.leaves)
 
 pub returns-in-Ok-Sweep-clause-leaves : goal.returns-in-Ok-Sweep-clause-leaves
 returns-in-Ok-Sweep-clause-leaves g c =
     let asked = rw c.in-Ok-Sweep.field-0-is at c.in-Ok-Sweep.ensures.answers in
-    inr (rw asked c.sweep.ensures.leaves)
+    inr (rw asked c.work_on-in-Ok-Sweep.ensures.leaves)
 
 pub returns-in-Ok-Verify-clause-leaves : goal.returns-in-Ok-Verify-clause-leaves
 returns-in-Ok-Verify-clause-leaves g c =

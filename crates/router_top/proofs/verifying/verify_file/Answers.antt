@@ -1,13 +1,11 @@
-use Rattle.std.proofs.Common.{Option, subst, inl, inr}
-use Rattle.desk_io.specs.Files.{FileMap}
-use Rattle.fpga_route.specs.Value.{route_value}
+use Rattle.std.proofs.Common.{inl, inr}
 use Rattle.router_words.specs.Job.{verify_said}
-use Rattle.router_top.specs.Sources.{Says}
 use Rattle.router_top.specs.Verify.{routed_source}
-use Rattle.router_top.proofs.SourceLaws.{stop-before}
+use Rattle.router_top.proofs.SourceLaws.{says-before, stop-before}
 use Rattle.router_top.proofs.verifying.verify_file.Goals as goal
 
-pub returns-in-Err-read_route_text-clause-verifies : goal.returns-in-Err-read_route_text-clause-verifies
+pub returns-in-Err-read_route_text-clause-verifies :
+    goal.returns-in-Err-read_route_text-clause-verifies
 returns-in-Err-read_route_text-clause-verifies g c =
     inr (
       c.in-Ok.problem,
@@ -22,9 +20,7 @@ returns-in-Err-read_route_text-clause-verifies g c =
 
 pub returns-clause-verifies : goal.returns-clause-verifies
 returns-clause-verifies g c =
-    let says = subst (λ (f : Option FileMap).
-    Says f (routed_source (verify_said c.args.job.now).routed) route_value
-    c.in-Ok-read_route_text.found) c.in-Ok.ensures.files c.in-Ok-read_route_text.ensures.says in
+    let says = says-before c.in-Ok.ensures.files c.in-Ok-read_route_text.ensures.says in
     elim c.judge.ensures [
       | inl spent ↦ inl (inl (inl spent))
       | inr is ↦ inr (

@@ -27,6 +27,8 @@ pub returns-clause-there : goal.returns-clause-there
 returns-clause-there c =
     let words = words_of c.args.words.now in
     let taken = c.in-Ok-take.ensures in
-    let there = subst (λ (rows : List Row). HasRequired (app_of c.in-Ok.form) rows) taken.found taken.there in
-    subst (λ (named : Option CommandRow). IfSome named (λ command. HasItsWords command words)) c.in-Some.ensures
+    let there = subst (λ (rows : List Row). HasRequired (app_of c.in-Ok.form) rows) taken.found
+    taken.there in
+    subst (λ (named : Option CommandRow). IfSome named (λ command. HasItsWords command words))
+    c.in-Some.ensures
     (subst (λ (form : App). HasRequired form (matches_of form words)) c.in-Ok.ensures there)

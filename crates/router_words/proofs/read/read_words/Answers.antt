@@ -7,19 +7,23 @@ use Rattle.router_words.specs.Word.{Word, words_of}
 use Rattle.router_words.proofs.read.read_words.Goals as goal
 
 -- the first word and the others
-parted : (words : List (String Global)) (first : String Global) (word : Word) → 1 ≤ length words → first ≡ get_or words 0 first
-    → word ≡ string_bytes first → words_of words ≡ word ∷ words_of (take (length words - 1) (drop 1 words))
+parted : (words : List (String Global)) (first : String Global) (word : Word) → 1 ≤ length words
+    → first ≡ get_or words 0 first
+    → word ≡ string_bytes first
+    → words_of words ≡ word ∷ words_of (take (length words - 1) (drop 1 words))
 parted [] first word some is bytes = absurd (omega arith)
 parted (x ∷ xs) first word some is bytes =
     let others : take (length (x ∷ xs) - 1) (drop 1 (x ∷ xs)) ≡ xs = grind (arith, common_steps) in
-    ap₂ (λ (y : Word) (ys : List (String Global)). y ∷ words_of ys) (sym (bytes ∙ ap string_bytes is)) (sym others)
+    ap₂ (λ (y : Word) (ys : List (String Global)). y ∷ words_of ys)
+    (sym (bytes ∙ ap string_bytes is)) (sym others)
 
-pub returns-clause-answers : goal.returns-clause-answers
-returns-clause-answers c =
-    let words = parted c.args.words.now c.name-item.result c.as_str.result.now c.in-len1-up.len_at_least c.name-item.is c.as_str.ensures.value in
-    subst (λ (ws : List Word). Answers (job_of ws) c.read_command.result) (sym words) c.read_command.ensures.answers
-
-pub returns-clause-there : goal.returns-clause-there
-returns-clause-there c =
-    let words = parted c.args.words.now c.name-item.result c.as_str.result.now c.in-len1-up.len_at_least c.name-item.is c.as_str.ensures.value in
-    IfOk-weaker c.read_command.result _ _ (λ job there. subst AreThere (sym words) there) c.read_command.ensures.there
+pub returns : goal.returns
+returns c =
+    let words = parted c.args.words.now c.name-item.result c.as_str.result.now
+    c.in-len1-up.len_at_least c.name-item.is c.as_str.ensures.value in
+    record {
+      answers = subst (λ (ws : List Word). Answers (job_of ws) c.read_command.result) (sym words)
+          c.read_command.ensures.answers;
+      there = IfOk-weaker c.read_command.result _ _
+          (λ job there. subst AreThere (sym words) there) c.read_command.ensures.there;
+    }

@@ -1,0 +1,48 @@
+//! Work on the problem that four files pose.
+ghost use Rattle.std.specs.Prelude.{◌≡◌};
+ghost use Rattle.router_words.specs.Job.{files_said};
+ghost use Rattle.router_top.specs.Report.{IsReadFault};
+ghost use Rattle.router_top.specs.Run.{LeavesWork, scene};
+
+use crate::four_files::pose_problem;
+use crate::outcome::Outcome;
+use desk_io::{Desk, Shelf};
+use fpga_bounds::PlacedProblem;
+use router_words::FourNames;
+use std::alloc::Global;
+
+/// What a command does with a problem.
+pub trait ProblemWork {
+    ghost use Rattle.desk_io.specs.ShelfState.{ShelfState};
+    ghost use Rattle.fpga_types.specs.Problem.{RoutingProblem};
+    ghost use Rattle.router_top.specs.declared.outcome.Outcome.{Outcome};
+
+    /// What the work on a problem leaves, by the shelf before and after it and what it comes to.
+    ghost leaves: { Self → RoutingProblem → ShelfState → ShelfState → Outcome → Type 0 };
+
+    /// Does the work, and gives what it comes to.
+    fn work<S: Shelf>(&self, alloc: Global, problem: &PlacedProblem, shelf: &mut S) -> Outcome
+        ensures { leaves self.now problem.now (S.state shelf.old) (S.state shelf.new) result };
+}
+
+/// Reads the four files and does the work on their problem. Where they give none, nothing is
+/// written.
+pub fn work_on<D: Desk, S: Shelf, W: ProblemWork>(
+    alloc: Global,
+    names: &FourNames<'_>,
+    work: &W,
+    desk: &mut D,
+    shelf: &mut S,
+) -> Outcome
+    ensures leaves { LeavesWork (files_said names.now) (W.leaves work.now)
+        (scene (D.state desk.old) (D.state desk.new) (S.state shelf.old) (S.state shelf.new))
+        result }
+    ensures files { (D.state desk.new).files ≡ (D.state desk.old).files }
+    ensures quiet { ¬ IsReadFault result → (D.state desk.new).faults ≡ (D.state desk.old).faults }
+{
+    let problem = match pose_problem(alloc, desk, names) {
+        Ok(problem) => problem,
+        Err(outcome) => return outcome,
+    };
+    work.work(alloc, &problem, shelf)
+}
