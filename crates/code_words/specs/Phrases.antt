@@ -1,5 +1,5 @@
 -- What stands in a line that goes on behind it.
-use Rattle.std.specs.Prelude.{ℕ, Bool, true, false, List, [], ◌∷◌, ◌&&◌, ◌||◌, nat_le}
+use Rattle.std.specs.Prelude.{ℕ, Bool, false, List, [], ◌∷◌, ◌&&◌, ◌||◌, nat_le}
 
 -- a letter or a digit
 abbrev pub is_letter : ℕ → Bool

@@ -44,7 +44,7 @@ fn architecture_cause(code: u32) -> Option<&'static str>
         103 => Some(
             "a pin line has another form: inpin or outpin, class: N, then one or more sides",
         ),
-        104 => Some("a segment has no length, or one that is not 1"),
+        104 => Some("a segment has no length: word, or a length that is not 1"),
         105 => Some("a channel width is not uniform"),
         106 => Some("this channel width differs from an earlier one"),
         107 => Some("the switch blocks are neither subset, nor wilton, nor universal"),
@@ -64,8 +64,10 @@ fn netlist_cause(code: u32) -> Option<&'static str>
         201 => Some("a line of no form, or one that may not stand here"),
         202 => Some("a pinlist without exactly one word for each pin, or a pad on open"),
         203 => Some("an earlier block has this name"),
-        204 => Some("a net with two drivers, or with none"),
-        205 => Some("a net with no sink"),
+        204 => Some(
+            "this pinlist gives a net a second driver, or the file ends and a net has none",
+        ),
+        205 => Some("the file ends, and a net has no sink"),
         206 => Some("an ordinary net on a pin that takes global nets alone"),
         207 => Some("one net on two pins of a class"),
         208 => Some("a block without its pinlist"),
@@ -84,7 +86,9 @@ fn placement_cause(code: u32) -> Option<&'static str>
         303 => Some("the netlist has no block of this name"),
         304 => Some("the block of this name was placed on an earlier line"),
         305 => Some("the file ends, and a block of the netlist has no place"),
-        306 => Some("a block of this kind may not stand here"),
+        306 => Some(
+            "no place for this block: logic blocks go inside, pads on the edge and below io_rat",
+        ),
         307 => Some("an earlier block stands here"),
         308 => Some("an array that is larger than is taken"),
         _ => None,
@@ -113,7 +117,7 @@ fn fit_cause(code: u32) -> Option<&'static str>
 {
     match code {
         501 => Some("the array has another size than in the placement"),
-        502 => Some("the route ends, and a net of the netlist is missing"),
+        502 => Some("the route ends, and an ordinary net of the netlist has no Net line"),
         503 => Some(
             "the netlist has no such net, or it is global in one file and ordinary in the other",
         ),
@@ -123,7 +127,9 @@ fn fit_cause(code: u32) -> Option<&'static str>
         507 => Some(
             "this sink was reached before, or the net ends before it has reached each sink",
         ),
-        508 => Some("this pin is not the net's, or not the one that the line after it needs"),
+        508 => Some(
+            "no OPIN of the driver, no input for ordinary nets, or a SINK that is not its IPIN's",
+        ),
         509 => Some("the pin does not touch the channel cell that stands next to it"),
         510 => Some("the cells of this channel and the one before it do not meet"),
         511 => Some("the net has been here before"),
@@ -176,7 +182,9 @@ fn judge_cause(code: u32) -> Option<&'static str>
         804 => Some("the global route does not take the net through this cell"),
         805 => Some("the net has another wire of this cell"),
         806 => Some("the net, or the file, ends before each sink is reached"),
-        807 => Some("the line does not fit the netlist and its placement"),
+        807 => Some(
+            "the netlist and its placement give the net no such line, or no such order of lines",
+        ),
         _ => None,
     }
 }
