@@ -8,12 +8,14 @@ mod printed;
 mod row;
 
 use crate::row::print_row;
+use desk_io::FileDesk;
 use rows_problem::{RowsError, text};
 
 fn main(rt: HostRuntime) -> Result<(), RowsError> {
-    let rows = text(&rt, rt.alloc(), "encode.rows")?;
+    let mut desk = FileDesk::new(&rt);
+    let rows = text(rt.alloc(), &mut desk, "encode.rows")?;
     for row in rows.lines() {
-        print_row(&rt, rt.alloc(), row)?;
+        print_row(&rt, rt.alloc(), &mut desk, row)?;
     }
     Ok(())
 }

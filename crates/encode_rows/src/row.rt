@@ -1,13 +1,14 @@
 //! A row: an architecture, a design, a width, and truth values, if there are some.
 use crate::printed::print_problem;
-use rows_problem::{RowsError, read_problem, width_of};
+use desk_io::Desk;
+use rows_problem::{RowsError, problem_of_files, width_of};
 use std::alloc::Global;
-use std::rt::Files;
 
 /// Prints what a row asks for, behind the row.
-pub(crate) fn print_row<R: Files + Print>(
-    rt: &R,
+pub(crate) fn print_row<D: Desk>(
+    rt: &impl Print,
     alloc: Global,
+    desk: &mut D,
     row: &str,
 ) -> Result<(), RowsError> {
     println!(rt; "{row}")?;
@@ -20,7 +21,7 @@ pub(crate) fn print_row<R: Files + Print>(
         println!(rt; "no width")?;
         return Ok(());
     };
-    let Ok(problem) = read_problem(rt, alloc, arch, design)? else {
+    let Ok(problem) = problem_of_files(alloc, desk, arch, design)? else {
         println!(rt; "no problem")?;
         return Ok(());
     };

@@ -1,32 +1,49 @@
 //! The line that a row is answered by.
-use crate::texts::Texts;
+ghost use Rattle.std.specs.Prelude.{◌≡◌, IfOk, string_bytes};
+ghost use Rattle.fit_rows.specs.Line.{IsAnswered, counts_line, counts_text, fault_line as fault_words};
+
 use fpga_bounds::PlacedProblem;
+use fpga_problem::{FourTexts, read_problem};
 use fpga_text::TextFault;
-use rows_problem::problem_of;
 use std::alloc::{AllocError, Global};
 
-/// The line that the four texts are answered by, where the route is this one.
-pub(crate) fn answer(alloc: Global, texts: &Texts, route: &[u8]) -> Result<String, AllocError> {
-    let arch = texts.arch.as_bytes();
-    let net = texts.net.as_bytes();
-    let place = texts.place.as_bytes();
-    match problem_of(alloc, arch, net, place, route) {
-        Ok(problem) => numbers(alloc, &problem),
-        Err(fault) => fault_line(alloc, fault),
+/// The line that the four texts are answered by.
+pub(crate) fn answer(alloc: Global, texts: &FourTexts<'_>) -> Result<String, AllocError>
+    ensures { IfOk result (λ line. IsAnswered texts.now (string_bytes line)) }
+{
+    match read_problem(alloc, texts) {
+        Ok(problem) => counts(alloc, &problem),
+        Err(refusal) => fault_line(alloc, refusal.fault),
     }
 }
 
 // How many parts of each kind the problem has.
-fn numbers(alloc: Global, problem: &PlacedProblem) -> Result<String, AllocError> {
+fn counts(alloc: Global, problem: &PlacedProblem) -> Result<String, AllocError>
+    ensures { IfOk result (λ line. string_bytes line ≡ counts_line problem.now) }
+{
     let slots = problem.slots().len();
     let steps = problem.steps().len();
     let pins = problem.pin_steps().len();
-    let pairs = problem.pairs();
+    told_counts(alloc, slots, steps, pins, problem.pairs())
+}
+
+// The line of so many parts of each kind.
+fn told_counts(
+    alloc: Global,
+    slots: usize,
+    steps: usize,
+    pins: usize,
+    pairs: u64,
+) -> Result<String, AllocError>
+    ensures { IfOk result (λ line. string_bytes line ≡ counts_text slots steps pins pairs) }
+{
     format!(in alloc; "{slots} slots, {steps} steps, {pins} pin steps, {pairs} pairs")
 }
 
 // The line of a fault.
-fn fault_line(alloc: Global, fault: TextFault) -> Result<String, AllocError> {
+fn fault_line(alloc: Global, fault: TextFault) -> Result<String, AllocError>
+    ensures { IfOk result (λ line. string_bytes line ≡ fault_words fault) }
+{
     match fault {
         TextFault::Bad { line, code } => format!(in alloc; "line {line}: {code}"),
         TextFault::Limit { code, count } => format!(in alloc; "{code} by {count}"),

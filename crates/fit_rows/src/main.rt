@@ -4,24 +4,30 @@
 
 mod answer;
 mod row;
-mod texts;
 
 use crate::answer::answer;
 use crate::row::changed_route;
-use crate::texts::Texts;
+use desk_io::FileDesk;
+use fpga_problem::FourTexts;
 use rows_problem::{RowsError, text};
 
 fn main(rt: HostRuntime) -> Result<(), RowsError> {
-    let texts = Texts {
-        arch: text(&rt, rt.alloc(), "arch.txt")?,
-        net: text(&rt, rt.alloc(), "net.txt")?,
-        place: text(&rt, rt.alloc(), "place.txt")?,
-        route: text(&rt, rt.alloc(), "route.txt")?,
-    };
-    let rows = text(&rt, rt.alloc(), "fit.rows")?;
+    let alloc = rt.alloc();
+    let mut desk = FileDesk::new(&rt);
+    let architecture = text(alloc, &mut desk, "arch.txt")?;
+    let netlist = text(alloc, &mut desk, "net.txt")?;
+    let placement = text(alloc, &mut desk, "place.txt")?;
+    let route = text(alloc, &mut desk, "route.txt")?;
+    let rows = text(alloc, &mut desk, "fit.rows")?;
     for row in rows.lines() {
-        let route = changed_route(rt.alloc(), texts.route.as_str(), row)?;
-        let line = answer(rt.alloc(), &texts, route.as_bytes())?;
+        let route = changed_route(alloc, route.as_str(), row)?;
+        let texts = FourTexts {
+            architecture: architecture.as_bytes(),
+            netlist: netlist.as_bytes(),
+            placement: placement.as_bytes(),
+            route: route.as_bytes(),
+        };
+        let line = answer(alloc, &texts)?;
         println!(rt; "{line}")?;
     }
     Ok(())

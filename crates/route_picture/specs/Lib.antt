@@ -1,5 +1,4 @@
 pub mod Stop
 pub mod Words
 pub mod Files
-pub mod Texts
 pub mod Printed

@@ -3,28 +3,32 @@ use Rattle.std.specs.Prelude.{◌≡◌, ◌⊎◌, ℕ, List, Option, None, Som
 use Rattle.desk_io.specs.DeskState.{DeskState}
 use Rattle.desk_io.specs.Files.{FileMap}
 use Rattle.desk_io.specs.ShelfState.{FailsToSay, ShelfState, after_say}
+use Rattle.fpga_problem.specs.Refused.{IsRefused}
+use Rattle.fpga_problem.specs.Texts.{AreFaultless, Texts, problem_said}
+use Rattle.fpga_problem.specs.declared.refusal.Refusal.{Refusal}
 use Rattle.fpga_text.specs.Bytes.{Bytes}
 use Rattle.route_draw.specs.Picture.{IsPicture}
 use Rattle.route_picture.specs.Files.{AreTexts, IsUnread}
-use Rattle.route_picture.specs.Texts.{AreFaultless, FourTexts, IsRefused, problem_said}
 use Rattle.route_picture.specs.Words.{Asked, asked}
 use Rattle.route_picture.specs.declared.stop.Stop.{Stop}
-use Rattle.route_picture.specs.declared.stop.Stop.TheVariants.{Memory, Unprinted, Usage}
+use Rattle.route_picture.specs.declared.stop.Stop.TheVariants.{Faulty, Memory, Unprinted, Usage}
 
 -- a picture of the problem that the files of the words say, in channels of the width that they say
 pub record IsDrawn (ask : Asked) (limit : ℕ) (files : Option FileMap) (picture : Bytes) :
     Type 0 where
-  pub texts : FourTexts
+  pub texts : Texts
   pub are_texts : AreTexts ask limit files texts
   pub faultless : AreFaultless texts
   pub is_picture : IsPicture (problem_said texts) ask.width picture
 
--- the texts of the files are refused with this stop
+-- one of the texts of the files is refused, and the stop says which and why
 pub record AreRefused (ask : Asked) (limit : ℕ) (files : Option FileMap) (stop : Stop) :
     Type 0 where
-  pub texts : FourTexts
+  pub texts : Texts
   pub are_texts : AreTexts ask limit files texts
-  pub refused : IsRefused texts stop
+  pub refusal : Refusal
+  pub refused : IsRefused texts refusal
+  pub told : stop ≡ Faulty refusal
 
 -- no picture is drawn: a file is not read, its text is refused, or there was no memory
 abbrev pub IsUndrawn : Asked → (limit : ℕ) → (before now : DeskState) → Stop → Type 0

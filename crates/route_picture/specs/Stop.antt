@@ -6,16 +6,16 @@ use Rattle.route_picture.specs.declared.stop.Stop.{Stop}
 use Rattle.route_picture.specs.declared.stop.Stop.TheVariants.{Usage, Unread, TooLong, Faulty, Memory, Unprinted}
 
 -- the status of a fault of a text: 3 where the text is bad, 7 for want of memory
-abbrev pub fault_status : TextFault → ℕ
-fault_status (Bad _ _) = 3
-fault_status (Limit _ _) = 3
-fault_status NoMemory = 7
+abbrev pub status_of_fault : TextFault → ℕ
+status_of_fault (Bad _ _) = 3
+status_of_fault (Limit _ _) = 3
+status_of_fault NoMemory = 7
 
 -- the exit status, by its cause
 abbrev pub status_of : Stop → ℕ
 status_of Usage = 4
 status_of (Unread _) = 5
 status_of (TooLong _) = 3
-status_of (Faulty _ fault) = fault_status fault
+status_of (Faulty refusal) = status_of_fault refusal.fault
 status_of Memory = 7
 status_of Unprinted = 6

@@ -2,32 +2,18 @@
 ghost use Rattle.std.specs.Prelude.{◌≡◌, IfErr, IfOk, MatchResult, OnOk, map, string_bytes};
 ghost use Rattle.route_picture.specs.Files.{AreRead, IsText, IsUnread, StopsAt, name_of};
 ghost use Rattle.route_picture.specs.Printed.{IsDrawn, IsPrinted, IsStopped, IsUndrawn};
-ghost use Rattle.route_picture.specs.Texts.{AreFaultless, FourTexts, IsRefused, problem_said, texts_said};
 ghost use Rattle.route_picture.specs.Words.{words_said};
 
-use crate::source::Source;
+use crate::file_texts::FileTexts;
 use crate::stop::Stop;
 use crate::words::{Words, read_words};
 use desk_io::{Desk, ReadStop, Shelf, read_file};
-use fpga_arch::read_arch;
-use fpga_bounds::{PlacedProblem, fit};
-use fpga_net::read_net;
-use fpga_place::read_place;
-use fpga_route::read_route;
+use fpga_problem::{TextFile, read_problem};
 use route_draw::draw;
 use std::alloc::Global;
 
 // No file is longer.
 const LIMIT: u64 = 1 << 26;
-
-/// The bytes of the four files.
-#[derive(Drop)]
-struct Texts {
-    arch: Vec<u8>,
-    net: Vec<u8>,
-    place: Vec<u8>,
-    route: Vec<u8>,
-}
 
 /// Prints the picture that the words ask for: reads their files at the desk, and says the picture
 /// to the shelf.
@@ -69,9 +55,9 @@ fn picture<D: Desk>(alloc: Global, desk: &mut D, words: Words<'_>) -> Result<Str
         Ok(texts) => texts,
         Err(stop) => return Err(stop),
     };
-    let problem = match problem(alloc, &texts.arch, &texts.net, &texts.place, &texts.route) {
+    let problem = match read_problem(alloc, &texts.lent()) {
         Ok(problem) => problem,
-        Err(stop) => return Err(stop),
+        Err(refusal) => return Err(Stop::Faulty(refusal)),
     };
     let Ok(picture) = draw(alloc, &problem, words.width) else {
         return Err(Stop::Memory);
@@ -80,32 +66,32 @@ fn picture<D: Desk>(alloc: Global, desk: &mut D, words: Words<'_>) -> Result<Str
 }
 
 // The bytes of the files that the words name.
-fn read_texts<D: Desk>(alloc: Global, desk: &mut D, words: Words<'_>) -> Result<Texts, Stop>
+fn read_texts<D: Desk>(alloc: Global, desk: &mut D, words: Words<'_>) -> Result<FileTexts, Stop>
     ensures { MatchResult result
-        (λ texts. AreRead (words_said words.entry) LIMIT (D.state desk.old) (texts_said texts)
+        (λ texts. AreRead (words_said words.entry) LIMIT (D.state desk.old) texts
         (D.state desk.new))
         (IsUnread (words_said words.entry) LIMIT (D.state desk.old) (D.state desk.new)) }
 {
-    let arch = match bytes(alloc, desk, words, Source::Architecture) {
+    let architecture = match bytes(alloc, desk, words, TextFile::Architecture) {
         Ok(bytes) => bytes,
         Err(stop) => return Err(stop),
     };
-    let net = match bytes(alloc, desk, words, Source::Netlist) {
+    let netlist = match bytes(alloc, desk, words, TextFile::Netlist) {
         Ok(bytes) => bytes,
         Err(stop) => return Err(stop),
     };
-    let place = match bytes(alloc, desk, words, Source::Placement) {
+    let placement = match bytes(alloc, desk, words, TextFile::Placement) {
         Ok(bytes) => bytes,
         Err(stop) => return Err(stop),
     };
-    let route = match bytes(alloc, desk, words, Source::Route) {
+    let route = match bytes(alloc, desk, words, TextFile::Route) {
         Ok(bytes) => bytes,
         Err(stop) => return Err(stop),
     };
-    Ok(Texts {
-        arch,
-        net,
-        place,
+    Ok(FileTexts {
+        architecture,
+        netlist,
+        placement,
         route,
     })
 }
@@ -115,7 +101,7 @@ fn bytes<D: Desk>(
     alloc: Global,
     desk: &mut D,
     words: Words<'_>,
-    file: Source,
+    file: TextFile,
 ) -> Result<Vec<u8>, Stop>
     ensures files { (D.state desk.new).files ≡ (D.state desk.old).files }
     ensures bytes { IfOk result (λ bytes. IsText (D.state desk.old).files
@@ -129,43 +115,5 @@ fn bytes<D: Desk>(
         Err(ReadStop::Fault) => Err(Stop::Unread(file)),
         Err(ReadStop::TooLong) => Err(Stop::TooLong(file)),
         Err(ReadStop::Memory) => Err(Stop::Memory),
-    }
-}
-
-// The problem that the texts say.
-fn problem(
-    alloc: Global,
-    arch: &[u8],
-    net: &[u8],
-    place: &[u8],
-    route: &[u8],
-) -> Result<PlacedProblem, Stop>
-    ensures { let texts : FourTexts = record {
-      arch = arch.now;
-      net = net.now;
-      place = place.now;
-      route = route.now;
-    } in MatchResult result
-        (λ problem. AreFaultless texts × (problem ≡ problem_said texts)) (IsRefused texts) }
-{
-    let arch = match read_arch(alloc, arch) {
-        Ok(arch) => arch,
-        Err(fault) => return Err(Stop::Faulty(Source::Architecture, fault)),
-    };
-    let net = match read_net(alloc, net, &arch) {
-        Ok(net) => net,
-        Err(fault) => return Err(Stop::Faulty(Source::Netlist, fault)),
-    };
-    let place = match read_place(alloc, place, &arch, &net) {
-        Ok(place) => place,
-        Err(fault) => return Err(Stop::Faulty(Source::Placement, fault)),
-    };
-    let route = match read_route(alloc, route) {
-        Ok(route) => route,
-        Err(fault) => return Err(Stop::Faulty(Source::Route, fault)),
-    };
-    match fit(alloc, arch, net, place, route) {
-        Ok(problem) => Ok(problem),
-        Err(fault) => Err(Stop::Faulty(Source::Route, fault)),
     }
 }

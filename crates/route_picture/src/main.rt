@@ -15,7 +15,7 @@
 #![tactic(auto)]
 
 mod drawn;
-mod source;
+mod file_texts;
 mod stop;
 mod words;
 

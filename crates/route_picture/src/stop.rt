@@ -1,8 +1,8 @@
 //! Why no picture is printed.
 ghost use Rattle.std.specs.Prelude.{◌≡◌};
-ghost use Rattle.route_picture.specs.Stop.{status_of};
+ghost use Rattle.route_picture.specs.Stop.{status_of, status_of_fault};
 
-use crate::source::Source;
+use fpga_problem::{Refusal, TextFile};
 use fpga_text::TextFault;
 use thiserror::Error;
 
@@ -13,11 +13,11 @@ pub(crate) enum Stop {
         with WIDTH from 1 to 64")]
     Usage,
     #[error("{0} file: it is not there, or can't be read")]
-    Unread(Source),
+    Unread(TextFile),
     #[error("{0} file: it has more than 67,108,864 bytes")]
-    TooLong(Source),
-    #[error("{0} file: {1}")]
-    Faulty(Source, TextFault),
+    TooLong(TextFile),
+    #[error(transparent)]
+    Faulty(Refusal),
     #[error("out of memory")]
     Memory,
     #[error("standard output takes no more")]
@@ -30,12 +30,22 @@ impl Stop {
         ensures { result ≡ status_of self }
     {
         match self {
-            Stop::TooLong(_) | Stop::Faulty(_, TextFault::Bad { .. } | TextFault::Limit { .. }) =>
-                3,
+            Stop::Faulty(refusal) => fault_status(refusal.fault),
+            Stop::TooLong(_) => 3,
             Stop::Usage => 4,
             Stop::Unread(_) => 5,
             Stop::Unprinted => 6,
-            Stop::Memory | Stop::Faulty(_, TextFault::Memory) => 7,
+            Stop::Memory => 7,
         }
+    }
+}
+
+// The exit status where a text has this fault.
+fn fault_status(fault: TextFault) -> u8
+    ensures { result ≡ status_of_fault fault }
+{
+    match fault {
+        TextFault::Bad { .. } | TextFault::Limit { .. } => 3,
+        TextFault::Memory => 7,
     }
 }

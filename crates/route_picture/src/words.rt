@@ -3,8 +3,8 @@ ghost use Rattle.std.specs.Prelude.{◌≡◌, map, string_bytes};
 ghost use Rattle.route_picture.specs.Files.{name_of};
 ghost use Rattle.route_picture.specs.Words.{AnswersWords, asked, width_said, words_said};
 
-use crate::source::Source;
 use crate::stop::Stop;
+use fpga_problem::TextFile;
 use fpga_text::whole_number;
 use fpga_types::WIDTH_LIMIT;
 use std::rt::Env;
@@ -22,14 +22,14 @@ pub(crate) struct Words<'a> {
 
 impl<'a> Words<'a> {
     /// The name of a file.
-    pub(crate) fn name(self, file: Source) -> &'a str
+    pub(crate) fn name(self, file: TextFile) -> &'a str
         ensures { result.now ≡ name_of (words_said self.entry) file }
     {
         match file {
-            Source::Architecture => self.arch,
-            Source::Netlist => self.net,
-            Source::Placement => self.place,
-            Source::Route => self.route,
+            TextFile::Architecture => self.arch,
+            TextFile::Netlist => self.net,
+            TextFile::Placement => self.place,
+            TextFile::Route => self.route,
         }
     }
 }

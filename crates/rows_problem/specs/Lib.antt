@@ -1,2 +1,3 @@
-pub mod Problem
+pub mod Files
+pub mod Unread
 pub mod Width

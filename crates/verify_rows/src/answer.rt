@@ -1,8 +1,10 @@
 //! How a routed text is judged, as a row is answered.
-ghost use Rattle.std.specs.Prelude.{◌≤◌};
+ghost use Rattle.std.specs.Prelude.{◌≡◌, ◌≤◌, IfOk, string_bytes};
+ghost use Rattle.verify_rows.specs.Line.{answer_line, judgement_line};
 
 use fpga_bounds::PlacedProblem;
 use fpga_route::read_route;
+use fpga_text::TextFault;
 use fpga_types::WIDTH_LIMIT;
 use route_verify::{Judgement, verify};
 use std::alloc::{AllocError, Global};
@@ -15,11 +17,25 @@ pub(crate) fn answer(
     routed: &[u8],
 ) -> Result<String, AllocError>
     requires { (1 ≤ width) × (width ≤ WIDTH_LIMIT) }
+    ensures { IfOk result
+        (λ line. string_bytes line ≡ answer_line width problem.now routed.now) }
 {
-    let Ok(found) = read_route(alloc, routed) else {
-        return String::from_str(alloc, "no route");
+    let found = match read_route(alloc, routed) {
+        Ok(found) => found,
+        Err(TextFault::Memory) => return Err(AllocError),
+        Err(TextFault::Bad { .. } | TextFault::Limit { .. }) => {
+            return String::from_str(alloc, "no route");
+        }
     };
-    match verify(alloc, problem, width, &found)? {
+    let judgement = verify(alloc, problem, width, &found)?;
+    told(alloc, judgement)
+}
+
+// The line of a judgement.
+fn told(alloc: Global, judgement: Judgement) -> Result<String, AllocError>
+    ensures { IfOk result (λ line. string_bytes line ≡ judgement_line judgement) }
+{
+    match judgement {
         Judgement::Legal => String::from_str(alloc, "legal"),
         Judgement::NotLegal { line, cause } => {
             format!(in alloc; "not legal: line {line} cause {cause}")

@@ -6,12 +6,14 @@ mod changed;
 mod row;
 
 use crate::row::print_row;
+use desk_io::FileDesk;
 use rows_problem::{RowsError, text};
 
 fn main(rt: HostRuntime) -> Result<(), RowsError> {
-    let rows = text(&rt, rt.alloc(), "verify.rows")?;
+    let mut desk = FileDesk::new(&rt);
+    let rows = text(rt.alloc(), &mut desk, "verify.rows")?;
     for row in rows.lines() {
-        print_row(&rt, rt.alloc(), row)?;
+        print_row(&rt, rt.alloc(), &mut desk, row)?;
     }
     Ok(())
 }

@@ -1,14 +1,15 @@
 //! A row: a name, an architecture, a design, a routing, a width, and which lines are changed.
 use crate::answer::answer;
 use crate::changed::{Change, changed};
-use rows_problem::{RowsError, read_problem, text, width_of};
+use desk_io::Desk;
+use rows_problem::{RowsError, problem_of_files, text, width_of};
 use std::alloc::Global;
-use std::rt::Files;
 
 /// Prints how the changed routing of a row is judged, behind the row's name.
-pub(crate) fn print_row<R: Files + Print>(
-    rt: &R,
+pub(crate) fn print_row<D: Desk>(
+    rt: &impl Print,
     alloc: Global,
+    desk: &mut D,
     row: &str,
 ) -> Result<(), RowsError> {
     let (head, lines) = match row.split_once('|') {
@@ -26,18 +27,18 @@ pub(crate) fn print_row<R: Files + Print>(
     };
     let (first, last) = (words.next().unwrap_or(""), words.next().unwrap_or(""));
     let change = Change::of(first, last, lines);
-    let routed = text(rt, alloc, format!(in alloc; "{routed}.routed")?.as_str())?;
+    let routed = text(alloc, desk, format!(in alloc; "{routed}.routed")?.as_str())?;
     let routed = changed(alloc, routed.as_str(), change)?;
-    let line = judged(rt, alloc, arch, design, width, routed.as_bytes())?;
+    let line = judged(alloc, desk, arch, design, width, routed.as_bytes())?;
     println!(rt; "{name}: {line}")?;
     Ok(())
 }
 
 // How the routed text is judged against the problem of the architecture and the design, at the
 // width that the word says.
-fn judged<R: Files>(
-    rt: &R,
+fn judged<D: Desk>(
     alloc: Global,
+    desk: &mut D,
     arch: &str,
     design: &str,
     width: &str,
@@ -46,7 +47,7 @@ fn judged<R: Files>(
     let Some(width) = width_of(width) else {
         return Ok(String::from_str(alloc, "no width")?);
     };
-    let Ok(problem) = read_problem(rt, alloc, arch, design)? else {
+    let Ok(problem) = problem_of_files(alloc, desk, arch, design)? else {
         return Ok(String::from_str(alloc, "no problem")?);
     };
     Ok(answer(alloc, &problem, width, routed)?)
