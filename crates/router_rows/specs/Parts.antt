@@ -1,5 +1,5 @@
 -- Where a text has a part.
-use Rattle.std.specs.Prelude.{◌+◌, ℕ, List, [], ◌∷◌, if◌then◌else◌, nat_eq}
+use Rattle.std.specs.Prelude.{◌+◌, ℕ, [], ◌∷◌, if◌then◌else◌, nat_eq}
 use Rattle.std.specs.List.{starts_with}
 use Rattle.desk_io.specs.Files.{Bytes}
 

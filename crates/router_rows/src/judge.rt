@@ -1,8 +1,9 @@
 //! The cases of a file, one after another.
 use crate::row::Row;
 use crate::sections::{Heading, Section, sections};
-use crate::stop::{LineFault, RowStop, RowsError};
+use crate::stop::{LineFault, RowStop};
 use crate::texts::Texts;
+use rows_problem::RowsError;
 use std::alloc::{AllocError, Global};
 
 /// How many cases hold, and how many do not; and in how many runs of those that hold calls failed

@@ -14,10 +14,9 @@ mod stop;
 mod texts;
 
 use crate::judge::judge_file;
-use crate::stop::RowsError;
 use crate::texts::Texts;
-use desk_io::{FileDesk, read_file};
-use std::str;
+use desk_io::FileDesk;
+use rows_problem::{RowsError, text};
 
 // The files of cases. The first says how they are written.
 const FILES: [&str; 6] = [
@@ -29,17 +28,14 @@ const FILES: [&str; 6] = [
     "routed_texts.rows",
 ];
 
-// No file of cases is longer.
-const LIMIT: u64 = 1 << 20;
-
 fn main(rt: HostRuntime) -> Result<(), RowsError> {
     let mut holding = 0u64;
     let mut others = 0u64;
     let mut cut = 0u64;
     let mut texts = Texts::new(rt.alloc());
     for name in FILES {
-        let bytes = read_file(rt.alloc(), &mut FileDesk::new(&rt), name, LIMIT)?;
-        let tally = judge_file(&rt, rt.alloc(), &mut texts, str::from_utf8(&bytes)?)?;
+        let cases = text(rt.alloc(), &mut FileDesk::new(&rt), name)?;
+        let tally = judge_file(&rt, rt.alloc(), &mut texts, cases.as_str())?;
         holding = holding.saturating_add(tally.holding);
         others = others.saturating_add(tally.others);
         cut = cut.saturating_add(tally.cut);

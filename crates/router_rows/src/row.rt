@@ -1,7 +1,8 @@
 //! A run of the router, and what must come of it.
-ghost use Rattle.std.specs.Prelude.{All, IfOk, OnOk};
+ghost use Rattle.std.specs.Prelude.{◌≡◌, All, IfOk, OnOk, length};
 ghost use Rattle.std.specs.Option.{ForSome};
-ghost use Rattle.router_rows.specs.Series.{HasCome, IsCutBySome, IsMetBySome};
+ghost use Rattle.router_rows.specs.Played.{Plays};
+ghost use Rattle.router_rows.specs.Series.{HasCome, HasCutRun, HasWholeRun};
 ghost use Rattle.router_rows.specs.Wanted.{AreMet};
 ghost use Rattle.router_top.specs.declared.outcome.Outcome.{Outcome};
 
@@ -150,7 +151,8 @@ impl Row {
 
     /// Runs, and compares what comes; gives the shelf then.
     pub fn play(&self) -> Result<MemShelf, RowStop>
-        ensures { IfOk result (λ shelf. (outcome : Outcome) × AreMet self.now.wants outcome shelf) }
+        ensures { IfOk result (λ shelf. (outcome : Outcome)
+            × Plays self.now outcome shelf × AreMet self.now.wants outcome shelf) }
     {
         let (outcome, shelf) = self.run(self.desk_fails.clone()?, self.shelf_fails.clone()?)?;
         self.wants.compare(self.alloc, &outcome, &shelf)?;
@@ -162,7 +164,9 @@ impl Row {
         &self,
         desk_fails: Vec<u64>,
         shelf_fails: Vec<u64>,
-    ) -> Result<(Answer, MemShelf), RowStop> {
+    ) -> Result<(Answer, MemShelf), RowStop>
+        ensures { IfOk result (λ came. Plays self.now came.0 came.1) }
+    {
         let mut desk = MemDesk::new(self.alloc, self.files.clone()?, desk_fails);
         let mut shelf = MemShelf::new(self.alloc, shelf_fails);
         let outcome = run(self.alloc, &self.words, &mut desk, &mut shelf);
@@ -173,8 +177,9 @@ impl Row {
     /// does, and compares what comes; gives how many runs met a fault. Without a fault the shelf
     /// was left like this.
     pub fn play_series(&self, whole: &MemShelf) -> Result<u64, RowStop>
-        ensures { OnOk result (ForSome self.now.series.failing
-            (λ failing. HasCome self.now.wants self.now.series whole.now)) }
+        ensures come { OnOk result
+            (ForSome self.now.series.failing (λ failing. HasCome self.now whole.now)) }
+        ensures count { IfOk result (λ count. count ≡ length self.now.series.cuts.items) }
     {
         let Some(failing) = self.series.failing else {
             if self.series.cuts.is_empty() {
@@ -187,7 +192,8 @@ impl Row {
 
     // The same, where it is said which calls fail.
     fn play_numbers(&self, failing: Failing, whole: &MemShelf) -> Result<u64, RowStop>
-        ensures { OnOk result (HasCome self.now.wants self.now.series whole.now) }
+        ensures come { OnOk result (HasCome self.now whole.now) }
+        ensures count { IfOk result (λ count. count ≡ length self.now.series.cuts.items) }
     {
         let count = self.play_cuts(failing, whole)?;
         self.play_last(failing, count.saturating_add(1), whole)?;
@@ -196,8 +202,9 @@ impl Row {
 
     // Runs at each number at which a call fails.
     fn play_cuts(&self, failing: Failing, whole: &MemShelf) -> Result<u64, RowStop>
-        ensures { OnOk result (All (IsCutBySome self.now.wants self.now.series whole.now)
-            self.now.series.cuts.items) }
+        ensures come { OnOk result
+            (All (HasCutRun self.now whole.now) self.now.series.cuts.items) }
+        ensures count { IfOk result (λ count. count ≡ length self.now.series.cuts.items) }
     {
         let mut number = 0u64;
         for cut in &self.series.cuts {
@@ -215,7 +222,7 @@ impl Row {
         cut: &Cut,
         whole: &MemShelf,
     ) -> Result<(), RowStop>
-        ensures { OnOk result (IsCutBySome self.now.wants self.now.series whole.now cut.now) }
+        ensures { OnOk result (HasCutRun self.now whole.now cut.now) }
     {
         let (desk_fails, shelf_fails) = failing.calls(self.alloc, number)?;
         let (outcome, shelf) = self.run(desk_fails, shelf_fails)?;
@@ -226,7 +233,7 @@ impl Row {
 
     // Runs at the number behind the last call.
     fn play_last(&self, failing: Failing, number: u64, whole: &MemShelf) -> Result<(), RowStop>
-        ensures { OnOk result (IsMetBySome self.now.wants self.now.series whole.now) }
+        ensures { OnOk result (HasWholeRun self.now whole.now) }
     {
         let (desk_fails, shelf_fails) = failing.calls(self.alloc, number)?;
         let (outcome, last) = self.run(desk_fails, shelf_fails)?;

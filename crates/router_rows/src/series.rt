@@ -1,4 +1,7 @@
 //! The runs of a case in which calls fail, one number after the other.
+ghost use Rattle.std.specs.Prelude.{◌≡◌, IfOk};
+ghost use Rattle.router_rows.specs.Played.{desk_calls, shelf_calls};
+
 use crate::cut::{Cut, Heard, Left};
 use crate::numbers::number;
 use crate::stop::LineFault;
@@ -20,7 +23,10 @@ const MORE: u64 = 1000;
 
 impl Failing {
     /// The numbers of the calls of the desk that fail, and of those of the shelf.
-    pub fn calls(self, alloc: Global, number: u64) -> Result<(Vec<u64>, Vec<u64>), AllocError> {
+    pub fn calls(self, alloc: Global, number: u64) -> Result<(Vec<u64>, Vec<u64>), AllocError>
+        ensures desk { IfOk result (λ calls. calls.0.items ≡ desk_calls self number) }
+        ensures shelf { IfOk result (λ calls. calls.1.items ≡ shelf_calls self number) }
+    {
         let mut desk = Vec::new(alloc);
         let mut shelf = Vec::new(alloc);
         match self {

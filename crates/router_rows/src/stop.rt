@@ -1,22 +1,6 @@
-//! Why the cases are not judged, and why a case does not hold.
-use desk_io::ReadStop;
+//! Why a line of a case is not taken, and why a case does not hold.
 use std::alloc::AllocError;
-use std::io;
-use std::str::Utf8Error;
 use thiserror::Error;
-
-/// Why the cases are not judged to the end.
-#[derive(Debug, Drop, Error)]
-pub enum RowsError {
-    #[error(transparent)]
-    File(#[from] ReadStop),
-    #[error(transparent)]
-    Text(#[from] Utf8Error),
-    #[error(transparent)]
-    Memory(#[from(alloc)] AllocError),
-    #[error(transparent)]
-    Output(#[from] io::Error),
-}
 
 /// Why a line of a case is not taken.
 #[derive(Debug, Drop, Error)]

@@ -10,6 +10,7 @@ returns c =
     let s = c.in_ok-outcome.shelf in (
       o,
       s,
+      c.in_ok-outcome.ensures,
       subst (λ (lead : List ℕ). IsAsCut c.args.cut.now lead c.args.self.now.series.order.items
           c.args.whole.now o s) c.deref.ensures.value
           (subst (λ (order : List (String Global)). IsAsCut c.args.cut.now c.deref.result.now order

@@ -1,9 +1,11 @@
-use Rattle.std.proofs.Common.{take}
+use Rattle.std.proofs.Common.{◌≡◌, take}
 use Rattle.std.specs.Prelude.{All}
-use Rattle.router_rows.specs.Series.{IsCutBySome}
+use Rattle.router_rows.specs.Series.{HasCutRun}
 use Rattle.router_rows.proofs.row.Row.play_cuts.Given as goal
 
--- runs have come as they must at the first numbers
+-- the runs so far have come as they must
 abbrev pub invariant-loop-cut : goal.invariant-loop-cut
-invariant-loop-cut l = All (IsCutBySome l.self.wants l.self.series l.whole)
-    (take l.cut-index l.self.series.cuts.items)
+invariant-loop-cut l = record {
+  count : l.number ≡ l.cut-index;
+  come : All (HasCutRun l.fn.self l.fn.whole) (take l.cut-index l.fn.self.series.cuts.items);
+}
