@@ -4,6 +4,8 @@
 mod four_texts;
 mod read;
 mod refusal;
+#[cfg(test)]
+mod tests;
 mod text_file;
 
 pub use four_texts::FourTexts;

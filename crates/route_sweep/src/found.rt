@@ -2,6 +2,9 @@
 ghost use Rattle.std.specs.Prelude.{◌≡◌};
 ghost use Rattle.route_sweep.specs.Slots.{slot_number};
 
+use std::fmt;
+use thiserror::Error;
+
 /// A file that a search writes.
 #[derive(Clone, Copy, Debug, PartialEq, Eq)]
 pub enum FileSlot {
@@ -22,6 +25,16 @@ impl FileSlot {
             FileSlot::Route => 1,
             FileSlot::Clauses => 2,
             FileSlot::Log => 3,
+        }
+    }
+}
+
+impl fmt::Display for FileSlot {
+    fn fmt<W: fmt::Write>(&self, f: &mut fmt::Formatter<W>) -> fmt::Result {
+        match self {
+            FileSlot::Route => write!(f, "routing"),
+            FileSlot::Clauses => write!(f, "clauses"),
+            FileSlot::Log => write!(f, "log"),
         }
     }
 }
@@ -49,12 +62,15 @@ pub enum Climbed {
 }
 
 /// What ends a search before it has found anything, or before all of it is written.
-#[derive(Clone, Copy, Debug, PartialEq, Eq)]
+#[derive(Clone, Copy, Debug, PartialEq, Eq, Error)]
 pub enum Stop {
     /// The shelf failed on this file.
+    #[error("the file of the {slot} was not written")]
     Fault { slot: FileSlot },
     /// There are so many clauses, more than 40,000,000. None was built.
+    #[error("{count} clauses are more than are built")]
     TooManyClauses { count: u64 },
     /// Memory ran out.
+    #[error("out of memory")]
     Memory,
 }

@@ -219,3 +219,28 @@ fn files_by_number(rt: HostRuntime) {
         assert_eq!(rt; slot.number(), number, "at {slot:?}");
     }
 }
+
+#[test]
+fn a_stop_says_what_was_not_done(rt: HostRuntime) -> Result<(), Fail> {
+    let texts = format!(in rt.alloc();
+        "{}|{}|{}|{}|{}",
+        Stop::Fault {
+            slot: FileSlot::Route
+        },
+        Stop::Fault {
+            slot: FileSlot::Clauses
+        },
+        Stop::Fault {
+            slot: FileSlot::Log
+        },
+        Stop::TooManyClauses { count: 40_000_001 },
+        Stop::Memory
+    )?;
+    assert_eq!(rt;
+        texts.as_str(),
+        "the file of the routing was not written|the file of the clauses was not written\
+        |the file of the log was not written|40000001 clauses are more than are built\
+        |out of memory"
+    );
+    Ok(())
+}

@@ -4,7 +4,10 @@ use crate::running::run;
 use crate::slot::Slot;
 use crate::text_file::TextFile;
 use desk_io::{MemDesk, MemShelf};
+use fpga_text::TextFault;
+use route_gen::GenStop;
 use route_sweep::FileSlot;
+use router_words::{Refusal, WordsFault};
 use std::alloc::Global;
 use std::process::Abort;
 use std::test::Fail;
@@ -250,4 +253,30 @@ fn statuses_and_reports(rt: HostRuntime) {
         assert_eq!(rt; status(&outcome), number, "at {outcome:?}");
         assert_eq!(rt; report(&outcome).as_str(), line);
     }
+}
+
+// No report has these words, which the errors of the crates below say of themselves.
+#[test]
+fn errors_say_what_happened(rt: HostRuntime) -> Result<(), Fail> {
+    let texts = format!(in rt.alloc();
+        "{}|{}|{}|{}|{}|{}|{}|{}",
+        TextFault::Bad { line: 3, code: 403 },
+        TextFault::Limit {
+            code: 407,
+            count: 101
+        },
+        GenStop::Room,
+        GenStop::Memory,
+        WordsFault::Refused(Refusal::Command),
+        WordsFault::Refused(Refusal::Form),
+        WordsFault::Refused(Refusal::Number),
+        WordsFault::Memory
+    )?;
+    assert_eq!(rt;
+        texts.as_str(),
+        "line 3: code 403|code 407: 101 is past the limit|there are more nets than blocks\
+        |out of memory|the first word names no command|the command does not take these words\
+        |a word is no whole number in its range|out of memory"
+    );
+    Ok(())
 }
