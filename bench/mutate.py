@@ -28,14 +28,14 @@ PASSED_OVER = ("//", "#[", "ghost", "ensures", "requires", "unreachable")
 
 
 def bodies(lines):
-    """The lines of bodies, each with its function's name and its place in the file."""
+    """The lines of bodies, each with its function's name, its place in the file and the line before."""
     name, waits, inside = "", None, None
     for place, line in enumerate(lines):
         if inside is not None:
             if line == " " * inside + "}":
                 inside = None
             else:
-                yield name, place, line.strip()
+                yield name, place, line.strip(), lines[place - 1]
             continue
         head = HEAD.match(line)
         if head:
@@ -46,8 +46,8 @@ def bodies(lines):
             inside = waits
 
 
-def turned(line):
-    """What a line is turned into, each with a word for how."""
+def turned(line, before):
+    """What a line is turned into, each with a word for how. What ends a `let .. else` has to stay."""
     for old, new in TURNED:
         if old in line:
             yield "turned", line.replace(old, new, 1)
@@ -60,7 +60,8 @@ def turned(line):
     if re.match(r"^if (?!let).*\{$", line):
         yield "condition", re.sub(r"^if (.*) \{$", r"if !(\1) {", line)
     is_step = (CALL.match(line) or ASSIGNMENT.match(line)) and not line.startswith("let ")
-    if is_step or line.startswith("return ") and line.endswith(";"):
+    is_return = line.startswith("return ") and line.endswith(";") and not before.endswith(" else {")
+    if is_step or is_return:
         yield "gone", "();"
 
 
@@ -71,9 +72,9 @@ def edits(folder):
             continue
         with open(f"{folder}/src/{file}", encoding="utf-8") as it:
             text = it.read()
-        for name, place, line in bodies(text.split("\n")):
+        for name, place, line, before in bodies(text.split("\n")):
             if line and not line.startswith(PASSED_OVER) and text.count(line) == 1:
-                for how, new in turned(line):
+                for how, new in turned(line, before):
                     yield file, f"{file[:-3]}_{name}_{place + 1}_{how}", line, new
 
 
