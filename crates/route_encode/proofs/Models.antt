@@ -20,69 +20,70 @@ use Rattle.route_encode.proofs.BitLemmas.{place-inside}
 -- ---- what holds of each element that is made of others
 
 module _ {A B : Type 0} (P : B → Type 0) where
-  of-map : (f : A → B) (xs : List A) → All P (map f xs) → (x : A) → In xs x → P (f x)
+  pub of-map : (f : A → B) (xs : List A) → All P (map f xs) → (x : A) → In xs x → P (f x)
   of-map f xs h x i = In-all P (map f xs) (f x) h (In-map f xs x i)
 
-  to-map : (f : A → B) (xs : List A) → ((x : A) → In xs x → P (f x)) → All P (map f xs)
+  pub to-map : (f : A → B) (xs : List A) → ((x : A) → In xs x → P (f x)) → All P (map f xs)
   to-map f xs h = all-from_In P (map f xs) (λ y i.
       let r = from_In-map f xs y i in subst P r.2 (h r.0 r.1))
 
-  of-rows : (f : A → List B) (xs : List A) → All P (flat_map f xs) → (x : A) → In xs x → All P (f x)
+  pub of-rows : (f : A → List B) (xs : List A) → All P (flat_map f xs) → (x : A) → In xs x
+      → All P (f x)
   of-rows f xs h x i = all-from_In P (f x) (λ y j.
       In-all P (flat_map f xs) y h (In-flat_map f xs x y i j))
 
-  to-rows : (f : A → List B) (xs : List A) → ((x : A) → In xs x → All P (f x))
+  pub to-rows : (f : A → List B) (xs : List A) → ((x : A) → In xs x → All P (f x))
       → All P (flat_map f xs)
   to-rows f xs h = all-from_In P (flat_map f xs) (λ y i.
       let r = from_In-flat_map f xs y i in In-all P (f r.0) y (h r.0 r.1) r.2)
 
-of-both : {B : Type 0} (P : B → Type 0) (xs ys : List B) → All P (xs ++ ys) → All P xs × All P ys
+pub of-both : {B : Type 0} (P : B → Type 0) (xs ys : List B) → All P (xs ++ ys) → All P xs × All P ys
 of-both P xs ys h = (
   all-from_In P xs (λ x i. In-all P (xs ++ ys) x h (In-append_left xs ys x i)),
   all-from_In P ys (λ y i. In-all P (xs ++ ys) y h (In-append_right xs ys y i)),
 )
 
-in-below : (n k : ℕ) → k < n → In (below n) k
+pub in-below : (n k : ℕ) → k < n → In (below n) k
 in-below n k h = In-range 0 n k (omega arith) (omega arith)
 
-of-below : (n k : ℕ) → In (below n) k → k < n
+pub of-below : (n k : ℕ) → In (below n) k → k < n
 of-below n k i = let r = from_In-range 0 n k i in omega (arith, r.1)
 
 -- ---- what makes a clause true
 
 -- a value that is true without one past the end is true with it
-true_anyway : (values : List Bool) (k : ℕ) → get_or values k false ≡ true → get_or values k true
+pub true_anyway : (values : List Bool) (k : ℕ) → get_or values k false ≡ true → get_or values k true
     ≡ true
 true_anyway [] k h = refl
 true_anyway (v ∷ values) zero h = h
 true_anyway (v ∷ values) (suc k) h = true_anyway values k h
 
 -- a value within the list does not depend on what stands past the end
-one_value : (values : List Bool) (k : ℕ) → k < length values →
+pub one_value : (values : List Bool) (k : ℕ) → k < length values →
     get_or values k true ≡ get_or values k false
 one_value [] k h = absurd (omega arith)
 one_value (v ∷ values) zero h = refl
 one_value (v ∷ values) (suc k) h = one_value values k (omega arith)
 
-not-true : (b : Bool) → not b ≡ true → b ≡ false
+pub not-true : (b : Bool) → not b ≡ true → b ≡ false
 not-true true h = absurd (false≢true h)
 not-true false h = refl
 
 module _ (values : List Bool) where
-  abbrev IsTrueLit : Lit → Type 0
+  abbrev pub IsTrueLit : Lit → Type 0
   IsTrueLit l = IsTrue (makes_true values l)
 
-  none : IsTrueClause values [] → ⊥
+  pub none : IsTrueClause values [] → ⊥
   none h = absurd (In-any IsTrueLit [] h).1
 
-  true-here : (l : Lit) (ls : Clause) → IsTrueLit l → IsTrueClause values (l ∷ ls)
+  pub true-here : (l : Lit) (ls : Clause) → IsTrueLit l → IsTrueClause values (l ∷ ls)
   true-here l ls h = any-from_In IsTrueLit (l ∷ ls) l (inl refl) h
 
-  true-later : (l : Lit) (ls : Clause) → IsTrueClause values ls → IsTrueClause values (l ∷ ls)
+  pub true-later : (l : Lit) (ls : Clause) → IsTrueClause values ls → IsTrueClause values (l ∷ ls)
   true-later l ls h =
       let m = In-any IsTrueLit ls h in any-from_In IsTrueLit (l ∷ ls) m.0 (inr m.1) m.2
 
-  true-cases : (l : Lit) (ls : Clause) → IsTrueClause values (l ∷ ls) →
+  pub true-cases : (l : Lit) (ls : Clause) → IsTrueClause values (l ∷ ls) →
       IsTrueLit l ⊎ IsTrueClause values ls
   true-cases l ls h =
       let m = In-any IsTrueLit (l ∷ ls) h in
@@ -93,7 +94,7 @@ module _ (values : List Bool) where
 
 module _ (values : List Bool) (width : ℕ) where
   -- where a slot has a track, a clause that says that it lacks it has another true literal
-  unless : (s t : ℕ) (rest : Clause) → IsTrueClause values (lacks width s t ∷ rest) →
+  pub unless : (s t : ℕ) (rest : Clause) → IsTrueClause values (lacks width s t ∷ rest) →
       says values width s t ≡ true → IsTrueClause values rest
   unless s t rest h f = elim (true-cases values (lacks width s t) rest h) [
     | inl l ↦ absurd (false≢true (sym (not-true (get_or values (place_of width s t) true) l)
@@ -102,7 +103,7 @@ module _ (values : List Bool) (width : ℕ) where
   ]
 
   -- and a clause that has one is true whether or not the slot has the track
-  unless-had : (s t : ℕ) (rest : Clause) → place_of width s t < length values →
+  pub unless-had : (s t : ℕ) (rest : Clause) → place_of width s t < length values →
       (says values width s t ≡ true → IsTrueClause values rest) →
       IsTrueClause values (lacks width s t ∷ rest)
   unless-had s t rest inside h = go (says values width s t) refl
@@ -113,11 +114,11 @@ module _ (values : List Bool) (width : ℕ) where
           (ap not (one_value values (place_of width s t) inside ∙ e))
 
   -- of two tracks one is not had exactly where one is lacked
-  two-lack : (a t b u : ℕ) → IsTrueClause values (not_both width a t b u) →
+  pub two-lack : (a t b u : ℕ) → IsTrueClause values (not_both width a t b u) →
       says values width a t ≡ true → says values width b u ≡ true → ⊥
   two-lack a t b u h f g = none values (unless b u [] (unless a t (lacks width b u ∷ []) h f) g)
 
-  lack-two : (a t b u : ℕ) → place_of width a t < length values
+  pub lack-two : (a t b u : ℕ) → place_of width a t < length values
       → place_of width b u < length values →
       (says values width a t ≡ true → says values width b u ≡ true → ⊥) →
       IsTrueClause values (not_both width a t b u)
@@ -125,7 +126,7 @@ module _ (values : List Bool) (width : ℕ) where
       unless-had a t (lacks width b u ∷ []) in_a (λ f. unless-had b u [] in_b (λ g. absurd (h f g)))
 
   -- the track that a clause leads on to, and that it leads on to one that is had
-  leads-on : (to : ℕ) (after : Option ℕ) →
+  pub leads-on : (to : ℕ) (after : Option ℕ) →
       IsTrueClause values (option_to_list (option_map (has width to) after)) →
       (u : ℕ) × (after ≡ Some u) × (says values width to u ≡ true)
   leads-on to None h = absurd (none values h)
@@ -134,7 +135,7 @@ module _ (values : List Bool) (width : ℕ) where
     | inr r ↦ absurd (none values r)
   ]
 
-  lead-on : (to : ℕ) (after : Option ℕ) → (u : ℕ) × (after ≡ Some u)
+  pub lead-on : (to : ℕ) (after : Option ℕ) → (u : ℕ) × (after ≡ Some u)
       × (says values width to u ≡ true) →
       IsTrueClause values (option_to_list (option_map (has width to) after))
   lead-on to after r =

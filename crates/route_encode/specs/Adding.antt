@@ -8,9 +8,9 @@ use Rattle.route_encode.specs.declared.variables.Variables.{Variables}
 abbrev pub lit_count : List Clause → ℕ
 lit_count clauses = sum_by length clauses
 
--- the formula is over these variables
+-- the formula has these variables, and maybe others behind them
 abbrev pub HasVariables : Variables → FormulaState → Type 0
-HasVariables variables state = state.cnf.vars ≡ variables.slots * variables.width
+HasVariables variables state = variables.slots * variables.width ≤ state.cnf.vars
 
 -- there is room for the clauses
 pub record HasRoom (state : FormulaState) (clauses : List Clause) : Type 0 where

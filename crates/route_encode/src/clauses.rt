@@ -8,8 +8,9 @@ use crate::variables::Variables;
 use fpga_graph::MOST_TRACKS;
 use sat_clause::{Formula, Lit};
 
-/// Adds a clause.
-pub(crate) fn add_clause(formula: &mut Formula, clause: &[Lit])
+/// Adds a clause at the end of a formula that has the room. Its literals are of the formula's
+/// variables.
+pub fn add_clause(formula: &mut Formula, clause: &[Lit])
     requires within { All (IsWithin formula.old.cnf.vars) clause.now }
     requires room { HasRoom formula.old (clause.now ∷ []) }
     ensures { Adds formula.old (clause.now ∷ []) formula.new }

@@ -12,6 +12,10 @@ mod tracks;
 mod variables;
 mod walk;
 
+pub use clauses::add_clause;
 pub use encoder::Encoder;
 pub use laws::{bits_say_legal, models_say_legal, unsat_says_unroutable};
+pub use rivals::RivalChains;
 pub use strict::Strict;
+pub use variables::Variables;
+pub use walk::add_apart_tracks;

@@ -9,7 +9,7 @@ use std::marker::Model;
 
 /// The slots of a problem, with the next slot of its cell for each. Contracts see the slots.
 #[derive(Drop)]
-pub(crate) struct RivalChains<'a> {
+pub struct RivalChains<'a> {
     slots: &'a [Slot],
     next: Vec<Option<u32>>,
 }
@@ -27,8 +27,11 @@ impl<'a> Model for RivalChains<'a> {
 }
 
 impl<'a> RivalChains<'a> {
-    /// Links each slot to the next one of its cell.
-    pub(crate) fn new(alloc: Global, slots: &'a [Slot]) -> Result<RivalChains<'a>, AllocError>
+    /// Links each slot to the next one of its cell. The time is `n log n` in the slots.
+    ///
+    /// # Errors
+    /// Where memory is short.
+    pub fn new(alloc: Global, slots: &'a [Slot]) -> Result<RivalChains<'a>, AllocError>
         requires { length slots.now ≤ SLOT_LIMIT }
         ensures { IfOk result (λ chains. chains ≡ slots.now) }
     {
@@ -36,8 +39,8 @@ impl<'a> RivalChains<'a> {
         Ok(RivalChains { slots, next })
     }
 
-    /// The next slot after this one that takes its cell.
-    pub(crate) fn next_after(&self, slot: u32) -> Option<u32>
+    /// The next slot after this one that takes its cell, or `None` where no later one does.
+    pub fn next_after(&self, slot: u32) -> Option<u32>
         requires { slot < length self.now }
         ensures { result ≡ next_rival self.now slot }
     {

@@ -1,5 +1,5 @@
 //! How many clauses and literals the formula of a problem has.
-ghost use Rattle.std.specs.Prelude.{◌≡◌, ◌≤◌, ◌*◌, All, flat_map, length};
+ghost use Rattle.std.specs.Prelude.{◌≡◌, ◌≤◌, ◌<◌, ◌*◌, ◌^◌, All, flat_map, length};
 ghost use Rattle.fpga_types.specs.Boxes.{opens};
 ghost use Rattle.fpga_types.specs.Pins.{HasPin};
 ghost use Rattle.route_encode.specs.Adding.{lit_count};
@@ -23,6 +23,7 @@ pub(crate) fn formula_size(problem: &PlacedProblem, width: u32) -> FormulaSize
     requires width { (1 ≤ width) × (width ≤ WIDTH_LIMIT) }
     ensures clauses { result.clauses ≡ length (cnf_of width problem.now).clauses }
     ensures lits { result.lits ≡ lit_count (cnf_of width problem.now).clauses }
+    ensures few { (result.clauses < 2 ^ 63) × (result.lits < 2 ^ 63) }
 {
     let tracks = width as u64;
     let slots = problem.slots().len() as u64;

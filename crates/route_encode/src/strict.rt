@@ -1,13 +1,14 @@
 //! The encoding in which each slot has one track.
-ghost use Rattle.std.specs.Prelude.{◌≡◌, ◌≤◌, ◌*◌, length, IfOk, map, flat_map};
+ghost use Rattle.std.specs.Prelude.{ℕ, ◌≡◌, ◌≤◌, ◌<◌, ◌+◌, ◌*◌, ◌^◌, length, IfOk, map, flat_map};
 ghost use Rattle.fpga_types.specs.Legal.{tracks_of};
 ghost use Rattle.fpga_types.specs.Slots.{slots};
+ghost use Rattle.fpga_types.specs.declared.route.RouteText.{RouteText};
 ghost use Rattle.route_encode.specs.Added.{added_clauses, slot_clauses};
 ghost use Rattle.route_encode.specs.Adding.{Adds, HasRoom, HasVariables};
 ghost use Rattle.route_encode.specs.Bits.{bits};
 ghost use Rattle.route_encode.specs.Encoding.{cnf_of};
 ghost use Rattle.route_encode.specs.Good.{IsRoutingOf};
-ghost use Rattle.sat_clause.specs.Formula.{Satisfies};
+ghost use Rattle.sat_clause.specs.Formula.{IsUnsat, Satisfies};
 
 use crate::clauses::{add_one_tracks, add_some_tracks};
 use crate::encoder::Encoder;
@@ -20,7 +21,7 @@ use crate::walk::add_apart_tracks;
 use fpga_bounds::PlacedProblem;
 use fpga_graph::Graph;
 use fpga_types::{RouteText, WIDTH_LIMIT};
-use sat_clause::Formula;
+use sat_clause::{CLAUSE_LIMIT, Formula};
 use std::alloc::{AllocError, Global};
 
 /// Each slot has exactly one track, which the pins next to it open, the tracks of the slots of a
@@ -36,7 +37,11 @@ impl Encoder for Strict {
 
     ghost is_good = { λ _ p width found. IsRoutingOf width p found };
 
-    fn count(&self, problem: &PlacedProblem, width: u32) -> u64 {
+    fn count(&self, problem: &PlacedProblem, width: u32) -> u64
+        requires width { (1 ≤ width) × (width ≤ WIDTH_LIMIT) }
+        ensures count { result ≡ length (cnf_of width problem.now).clauses }
+        ensures few { result < 2 ^ 63 }
+    {
         formula_size(problem, width).clauses
     }
 
@@ -46,17 +51,7 @@ impl Encoder for Strict {
         problem: &PlacedProblem,
         width: u32,
     ) -> Result<Formula, AllocError> {
-        let slots = problem.slots();
-        let variables = Variables {
-            slots: slots.len() as u32,
-            width,
-        };
-        let size = formula_size(problem, width);
-        let chains = RivalChains::new(alloc, slots)?;
-        let mut formula = Formula::new(alloc);
-        formula.reserve(variables.count(), size.clauses as u32, size.lits)?;
-        add_clauses(&mut formula, variables, problem, &chains);
-        Ok(formula)
+        self.build_with_room(alloc, problem, width, 0)
     }
 
     fn decode(
@@ -79,6 +74,45 @@ impl Encoder for Strict {
         let tracks = tracks_said(alloc, variables, values)?;
         let route = problem.copy_with_tracks(alloc, &tracks)?;
         Ok(route)
+    }
+}
+
+impl Strict {
+    /// The clauses of a problem at a width, with room for so many more of one literal each, which
+    /// can then be added without memory. With room for none more it is [`Encoder::build`].
+    ///
+    /// # Errors
+    /// Where memory is short.
+    pub fn build_with_room(
+        &self,
+        alloc: Global,
+        problem: &PlacedProblem,
+        width: u32,
+        more: u32,
+    ) -> Result<Formula, AllocError>
+        requires width { (1 ≤ width) × (width ≤ WIDTH_LIMIT) }
+        requires few { length (cnf_of width problem.now).clauses + more ≤ CLAUSE_LIMIT }
+        ensures formula { IfOk result (λ formula. formula.cnf ≡ cnf_of width problem.now) }
+        ensures room { IfOk result
+            (λ formula. (formula.clause_room ≡ more) × (formula.lit_room ≡ more)) }
+        ensures none_without_model { IsUnsat (cnf_of width problem.now)
+            → (found : RouteText) → ¬ IsRoutingOf width problem.now found }
+    {
+        let slots = problem.slots();
+        let variables = Variables {
+            slots: slots.len() as u32,
+            width,
+        };
+        let size = formula_size(problem, width);
+        let chains = RivalChains::new(alloc, slots)?;
+        let mut formula = Formula::new(alloc);
+        formula.reserve(
+            variables.count(),
+            size.clauses as u32 + more,
+            size.lits + more as u64,
+        )?;
+        add_clauses(&mut formula, variables, problem, &chains);
+        Ok(formula)
     }
 }
 

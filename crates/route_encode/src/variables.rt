@@ -2,15 +2,16 @@
 ghost use Rattle.std.specs.Prelude.{◌≡◌, ◌≤◌, ◌<◌, ◌*◌, length, take};
 ghost use Rattle.fpga_types.specs.declared.limits.TheConstants.{SLOT_LIMIT, WIDTH_LIMIT};
 ghost use Rattle.route_encode.specs.Encoding.{has, lacks, some_track};
+ghost use Rattle.sat_clause.specs.Literal.{IsWithin};
 
 use sat_clause::Lit;
 
 /// The variables of an encoding, one for each track of each slot: slot by slot, from 1 on.
 #[derive(Clone, Copy, Debug)]
-pub(crate) struct Variables {
-    /// How many slots there are.
+pub struct Variables {
+    /// How many slots there are, at most 200,000.
     pub slots: u32,
-    /// How many tracks each of them may have.
+    /// How many tracks each of them may have, at most 64.
     pub width: u32,
     ghost few_slots: { slots ≤ SLOT_LIMIT },
     ghost few_tracks: { width ≤ WIDTH_LIMIT },
@@ -18,28 +19,30 @@ pub(crate) struct Variables {
 
 impl Variables {
     /// How many there are.
-    pub(crate) fn count(self) -> u32
+    pub fn count(self) -> u32
         ensures { result ≡ self.slots * self.width }
     {
         self.slots * self.width
     }
 
-    /// The literal that says that a slot has a track.
-    pub(crate) fn has(self, slot: u32, track: u32) -> Lit
+    /// The literal that says that a slot has a track: the variable `slot * width + track + 1`.
+    pub fn has(self, slot: u32, track: u32) -> Lit
         requires slot { slot < self.slots }
         requires track { track < self.width }
-        ensures { result ≡ has self.width slot track }
+        ensures value { result ≡ has self.width slot track }
+        ensures within { IsWithin (self.slots * self.width) result }
     {
         Lit {
             code: (slot * self.width + track + 1) as i32,
         }
     }
 
-    /// The literal that says that a slot does not have a track.
-    pub(crate) fn lacks(self, slot: u32, track: u32) -> Lit
+    /// The literal that says that a slot does not have a track: its negation.
+    pub fn lacks(self, slot: u32, track: u32) -> Lit
         requires slot { slot < self.slots }
         requires track { track < self.width }
-        ensures { result ≡ lacks self.width slot track }
+        ensures value { result ≡ lacks self.width slot track }
+        ensures within { IsWithin (self.slots * self.width) result }
     {
         Lit {
             code: -((slot * self.width + track + 1) as i32),

@@ -11,11 +11,7 @@ use sat_clause::Formula;
 
 /// Adds for each slot that it has no track of a later slot of its cell. The time is that of the
 /// slots and of the clauses.
-pub(crate) fn add_apart_tracks(
-    formula: &mut Formula,
-    variables: Variables,
-    chains: &RivalChains<'_>,
-)
+pub fn add_apart_tracks(formula: &mut Formula, variables: Variables, chains: &RivalChains<'_>)
     requires each { variables.slots ≡ length chains.now }
     requires vars { HasVariables variables formula.old }
     requires room { HasRoom formula.old

@@ -12,7 +12,7 @@ add_clause-requires-clause-room c =
     let room =
     subst (HasRoom c.args.formula.now)
     (sym (flat_map_single one (below c.args.variables.width))) c.requires.room in
-    rw (c.lacks-first.ensures, c.lacks.ensures)
+    rw (c.lacks-first.ensures.value, c.lacks.ensures.value)
     (below-room (λ t. one t ∷ []) c.args.variables.width c.loop-shared.shared
     (omega arith) _ _ room c.loop-shared.invariant)
 
@@ -21,6 +21,6 @@ loop-shared-preserved c =
     let one : ℕ → Clause = λ t. not_both c.args.variables.width c.args.lower t c.args.higher t in
     let added : Adds c.loop-shared.formula
     (one c.loop-shared.shared ∷ []) c.add_clause.new.formula =
-    rw (c.lacks-first.ensures, c.lacks.ensures) at c.add_clause.ensures in
+    rw (c.lacks-first.ensures.value, c.lacks.ensures.value) at c.add_clause.ensures in
     below-more (λ t. one t ∷ []) c.args.variables.width c.loop-shared.shared
     (omega arith) _ _ _ c.loop-shared.invariant added

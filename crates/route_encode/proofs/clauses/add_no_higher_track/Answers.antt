@@ -15,7 +15,7 @@ add_clause-requires-clause-room c =
     (sym (flat_map_single
     (λ u. not_both c.args.variables.width c.args.slot c.args.track c.args.slot u)
     (above c.args.track c.args.variables.width))) c.requires.room in
-    rw (c.lacks-lower.ensures, c.lacks.ensures)
+    rw (c.lacks-lower.ensures.value, c.lacks.ensures.value)
     (range-room g (c.args.track + 1)
     (c.args.variables.width - c.args.track - 1) c.loop-higher.higher (omega arith)
     (omega arith) _ _ room c.loop-higher.invariant)
@@ -25,6 +25,6 @@ loop-higher-preserved c =
     let g : ℕ → List Clause =
     λ u. not_both c.args.variables.width c.args.slot c.args.track c.args.slot u ∷ [] in
     let added : Adds c.loop-higher.formula (g c.loop-higher.higher) c.add_clause.new.formula =
-    rw (c.lacks-lower.ensures, c.lacks.ensures) at c.add_clause.ensures in
+    rw (c.lacks-lower.ensures.value, c.lacks.ensures.value) at c.add_clause.ensures in
     range-more g (c.args.track + 1) (c.args.variables.width - c.args.track - 1) c.loop-higher.higher
     (omega arith) (omega arith) _ _ _ c.loop-higher.invariant added

@@ -1,4 +1,4 @@
-use Rattle.std.proofs.Common.{◌≡◌, ◌*◌, [], ◌∷◌, arith, sym, subst, ◌∙◌}
+use Rattle.std.proofs.Common.{◌≤◌, ◌*◌, [], ◌∷◌, arith, sym, subst}
 use Rattle.std.proofs.lemmas.List.Concat.{flat_map_single}
 use Rattle.route_encode.specs.Adding.{Adds, HasRoom}
 use Rattle.route_encode.specs.Encoding.{below, some_track}
@@ -8,11 +8,11 @@ use Rattle.route_encode.proofs.clauses.add_some_tracks.Goals as goal
 
 pub add_clause-requires-clause-within : goal.add_clause-requires-clause-within
 add_clause-requires-clause-within c =
-    let vars : c.loop-slot.formula.cnf.vars ≡ c.args.variables.slots * c.args.variables.width =
-    c.loop-slot.invariant.vars ∙ c.requires.vars in
-    rw (c.fill_some_track.ensures, vars)
+    let vars : c.args.variables.slots * c.args.variables.width ≤ c.loop-slot.formula.cnf.vars =
+    rw (c.loop-slot.invariant.vars) c.requires.vars in
+    rw c.fill_some_track.ensures
     (some_track-within c.args.variables.slots c.args.variables.width c.loop-slot.slot
-    (omega arith))
+    c.loop-slot.formula.cnf.vars (omega arith) vars)
 
 pub add_clause-requires-clause-room : goal.add_clause-requires-clause-room
 add_clause-requires-clause-room c =

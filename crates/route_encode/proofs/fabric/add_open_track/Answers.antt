@@ -18,7 +18,7 @@ add_clause-requires-clause-room c =
     let closed : get_or marks track false ≡ false = search rules in
     let room = subst (HasRoom c.args.formula.now)
     (sym (closed-rows marks width slot (below width))) c.requires.room in
-    rw c.lacks.ensures
+    rw c.lacks.ensures.value
     (subst (HasRoom c.loop-track.formula) (closed-here marks width slot track closed)
     (below-room (closed_at marks width slot) width track (omega arith) _ _ room
     c.loop-track.invariant))
@@ -36,7 +36,7 @@ loop-track-preserved c =
           (let closed = w.if-not-opened-track.true in
           let added : Adds c.loop-track.formula
           ((lacks width slot track ∷ []) ∷ []) w.add_clause.new.formula =
-          rw w.lacks.ensures at w.add_clause.ensures in
+          rw w.lacks.ensures.value at w.add_clause.ensures in
           subst Added (sym w.formula-is)
           (below-more (closed_at marks width slot) width track (omega arith) _ _ _
           c.loop-track.invariant

@@ -15,6 +15,6 @@ loop-track-preserved c =
       take-suc-set c.loop-track.row c.loop-track.track c.has.result
           inside,
       c.loop-track.invariant,
-      c.has.ensures,
+      c.has.ensures.value,
     )
     (sym (rw (add-one c.loop-track.track) at more))

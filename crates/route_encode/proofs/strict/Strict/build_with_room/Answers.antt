@@ -1,16 +1,17 @@
-use Rattle.std.proofs.Common.{◌∙◌, arith, refl, ap}
+use Rattle.std.proofs.Common.{◌∙◌, ◌+◌, arith, refl, ap}
 use Rattle.sat_clause.specs.FormulaStore.{FormulaState}
 use Rattle.route_encode.specs.Encoding.{cnf_of}
-use Rattle.route_encode.proofs.AddLemmas.{adds-new, room-reserved}
+use Rattle.route_encode.proofs.AddLemmas.{adds-new, room-left, room-reserved}
 use Rattle.route_encode.proofs.ProblemCounts.{added-encoding}
 use Rattle.route_encode.proofs.ProblemDecoded.{no-routing}
-use Rattle.route_encode.proofs.strict.StrictEncoder.build.Goals as goal
+use Rattle.route_encode.proofs.strict.Strict.build_with_room.Goals as goal
 
 pub add_clauses-requires-clause-room : goal.add_clauses-requires-clause-room
 add_clauses-requires-clause-room c =
     let size = c.formula_size-size.ensures in
     rw (added-encoding c.args.width c.args.problem.now)
-    (room-reserved c.new-formula.result c.reserve.new.self _ c.formula_size-size.result.clauses _
+    (room-reserved c.new-formula.result c.reserve.new.self _
+    (c.formula_size-size.result.clauses + c.args.more) _
     (cnf_of c.args.width c.args.problem.now).clauses c.in_ok-reserve.ensures.ok
     (omega (arith, size.clauses)) (omega (arith, size.lits)))
 
@@ -38,3 +39,14 @@ returns-in_err-reserve-clause-none_without_model c =
 pub returns-clause-none_without_model : goal.returns-clause-none_without_model
 returns-clause-none_without_model c =
     no-routing c.args.width c.args.problem.now c.slots-slots.ensures.fits
+
+pub returns-clause-room : goal.returns-clause-room
+returns-clause-room c =
+    let size = c.formula_size-size.ensures in
+    let added = rw (added-encoding c.args.width c.args.problem.now) at c.add_clauses.ensures in
+    room-left c.new-formula.result c.reserve.new.self c.add_clauses.new.formula _
+    c.formula_size-size.result.clauses c.formula_size-size.result.lits c.args.more
+    (cnf_of c.args.width c.args.problem.now).clauses
+    (ap (λ (s : FormulaState). s.clause_room) c.new-formula.ensures)
+    (ap (λ (s : FormulaState). s.lit_room) c.new-formula.ensures)
+    c.in_ok-reserve.ensures.ok added size.clauses size.lits
