@@ -11,8 +11,11 @@ use fpga_fabric::opens;
 use fpga_types::{Arch, Cell, PinAt, Side, WIDTH_LIMIT, Wire};
 use std::alloc::AllocError;
 
-/// The cell along this side of the pin's place, if there is one. It may be none of the array.
-pub(crate) fn cell_beside(pin: PinAt, side: Side) -> Option<Cell>
+/// The cell along this side of the pin's place: none lies on the left of column 0 or below row 0.
+/// It may be none of the array, and the pin may not be on this side of its place.
+///
+/// Takes constant time and no memory.
+pub fn cell_beside(pin: PinAt, side: Side) -> Option<Cell>
     ensures { result ≡ cell_beside pin side }
 {
     match pin {

@@ -6,6 +6,7 @@ ghost use Rattle.fpga_graph.specs.Crossing.{GoesAcross};
 ghost use Rattle.fpga_graph.specs.Wires.{AreJoints, AreReached, IsWire, joined_wires, opened_wires};
 ghost use Rattle.fpga_types.specs.Boxes.{opens};
 ghost use Rattle.fpga_types.specs.Pins.{HasPin};
+ghost use Rattle.fpga_types.specs.Touching.{touches as is_touched};
 
 use crate::around::cells_around;
 use crate::beside::{add_opened, cell_beside};
@@ -108,6 +109,16 @@ impl<'a> Graph<'a> {
             from,
             to,
         })
+    }
+
+    /// Whether the pin touches the cell. A pin of a logic block is to be one of the architecture.
+    ///
+    /// Takes constant time and no memory.
+    pub fn touches(&self, pin: PinAt, cell: Cell) -> bool
+        requires { HasPin self.now.arch pin }
+        ensures { result ≡ is_touched self.now.arch self.now.grid pin cell }
+    {
+        touches(self.arch, self.grid, pin, cell)
     }
 
     /// For each track, rising, whether the pin opens it in the cells that it touches. A pin of a

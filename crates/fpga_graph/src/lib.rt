@@ -12,6 +12,7 @@ mod opened;
 #[cfg(test)]
 mod tests;
 
+pub use beside::cell_beside;
 pub use crossing::Crossing;
 pub use graph::Graph;
 pub use joint::Joint;
