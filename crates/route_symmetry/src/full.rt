@@ -1,0 +1,76 @@
+//! Whether all tracks of a problem are alike, and what keeps them from it.
+ghost use Rattle.std.specs.Prelude.{◌≡◌, ◌≤◌, ◌^◌, ◌==◌, ◌↔◌, IsNone, true};
+ghost use Rattle.fpga_types.specs.Boxes.{box_count};
+ghost use Rattle.route_symmetry.specs.Full.{asymmetry_of, is_full, is_subset};
+
+use fpga_bounds::PlacedProblem;
+use fpga_types::{Pattern, WIDTH_LIMIT};
+
+/// What keeps the tracks of a problem from being alike.
+#[derive(Clone, Copy, Debug, PartialEq, Eq)]
+pub enum Asymmetry {
+    /// The switch blocks are not subset ones.
+    Pattern,
+    /// The connection boxes of output pins do not open every track.
+    Outputs,
+    /// The connection boxes of input pins do not open every track.
+    Inputs,
+    /// The connection boxes of pads do not open every track.
+    Pads,
+}
+
+/// Whether all tracks of the problem are alike at this width, from 1 to 64: its switch blocks are
+/// subset ones, and the connection boxes of output pins, input pins and pads open every track. The
+/// architecture decides this, whether or not it has such pins. Takes no memory.
+pub fn symmetric(problem: &PlacedProblem, width: u32) -> bool
+    requires width { (1 ≤ width) × (width ≤ WIDTH_LIMIT) }
+    ensures { result ≡ is_full width problem.now }
+{
+    why_not_symmetric(problem, width).is_none()
+}
+
+/// The first of the pattern, the output pins, the input pins and the pads that keeps the tracks of
+/// the problem from being alike at this width, from 1 to 64, or `None` where they are alike. Takes
+/// no memory.
+pub fn why_not_symmetric(problem: &PlacedProblem, width: u32) -> Option<Asymmetry>
+    requires width { (1 ≤ width) × (width ≤ WIDTH_LIMIT) }
+    ensures first { result ≡ asymmetry_of width problem.now }
+    ensures none { IsNone result ↔ (is_full width problem.now ≡ true) }
+{
+    let arch = problem.arch();
+    if !is_subset(arch.pattern) {
+        return Some(Asymmetry::Pattern);
+    }
+    if !is_full_box(arch.fc.fractional, width, arch.fc.output) {
+        return Some(Asymmetry::Outputs);
+    }
+    if !is_full_box(arch.fc.fractional, width, arch.fc.input) {
+        return Some(Asymmetry::Inputs);
+    }
+    if !is_full_box(arch.fc.fractional, width, arch.fc.pad) {
+        return Some(Asymmetry::Pads);
+    }
+    None
+}
+
+/// Whether the switch blocks join a track to itself alone.
+fn is_subset(pattern: Pattern) -> bool
+    ensures { result ≡ is_subset pattern }
+{
+    matches!(pattern, Pattern::Subset)
+}
+
+/// Whether a box with this share of the width, in millionths, opens every track.
+fn is_full_box(fractional: bool, width: u32, share: u64) -> bool
+    requires width { (1 ≤ width) × (width ≤ WIDTH_LIMIT) }
+    requires share { share ≤ 10 ^ 15 }
+    ensures { result ≡ (box_count fractional width share == width) }
+{
+    let most = width as u64;
+    let tracks = if fractional {
+        (2 * most * share + 1000000) / 2000000
+    } else {
+        share / 1000000
+    };
+    tracks.max(1).min(most) == most
+}

@@ -1,0 +1,13 @@
+//! Problems of which all tracks are alike, and their clauses with the tracks of one cell given.
+#![tactic(auto)]
+
+mod full;
+mod laws;
+mod pin_clauses;
+mod pinned;
+mod pinned_cell;
+mod pinned_row;
+
+pub use full::{Asymmetry, symmetric, why_not_symmetric};
+pub use laws::{pinned_says_unroutable, pins_change_nothing};
+pub use pinned::Pinned;
