@@ -30,7 +30,7 @@ fn box_tracks(arch: &Arch, width: u32, pin: PinAt) -> u32
     ensures within { (1 ≤ result) × (result ≤ width) }
 {
     match pin {
-        PinAt::Pad { .. } => track_count(arch.fc.fractional, width, arch.fc.pad),
+        PinAt::Pad { .. } => box_count(arch.fc.fractional, width, arch.fc.pad),
         PinAt::Pin { pin, .. } => {
             let spec = arch.pins.as_slice()[pin as usize];
             let share = if spec.output {
@@ -38,13 +38,17 @@ fn box_tracks(arch: &Arch, width: u32, pin: PinAt) -> u32
             } else {
                 arch.fc.input
             };
-            track_count(arch.fc.fractional, width, share)
+            box_count(arch.fc.fractional, width, share)
         }
     }
 }
 
-/// How many tracks of a width a share in millionths is: at least 1 and at most the width.
-fn track_count(fractional: bool, width: u32, share: u64) -> u32
+/// How many tracks of a channel of `width`, from 1 to 64, a connection box with this share opens, at
+/// least 1 and at most all. The share is given in millionths: of the width, rounded to the nearest,
+/// or where it is not `fractional` of one track.
+///
+/// Takes constant time and no memory.
+pub fn box_count(fractional: bool, width: u32, share: u64) -> u32
     requires width { (1 ≤ width) × (width ≤ WIDTH_LIMIT) }
     requires share { share ≤ 10 ^ 15 }
     ensures count { result ≡ box_count fractional width share }

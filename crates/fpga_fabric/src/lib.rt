@@ -9,7 +9,7 @@ mod switch_block;
 #[cfg(test)]
 mod tests;
 
-pub use connection_box::{fc, opens};
+pub use connection_box::{box_count, fc, opens};
 pub use meeting::meet;
 pub use side::touches;
 pub use switch_block::joined_track;

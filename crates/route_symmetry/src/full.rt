@@ -4,6 +4,7 @@ ghost use Rattle.fpga_types.specs.Boxes.{box_count};
 ghost use Rattle.route_symmetry.specs.Full.{asymmetry_of, is_full, is_subset};
 
 use fpga_bounds::PlacedProblem;
+use fpga_fabric::box_count;
 use fpga_types::{Pattern, WIDTH_LIMIT};
 
 /// What keeps the tracks of a problem from being alike.
@@ -66,11 +67,5 @@ fn is_full_box(fractional: bool, width: u32, share: u64) -> bool
     requires share { share ≤ 10 ^ 15 }
     ensures { result ≡ (box_count fractional width share == width) }
 {
-    let most = width as u64;
-    let tracks = if fractional {
-        (2 * most * share + 1000000) / 2000000
-    } else {
-        share / 1000000
-    };
-    tracks.max(1).min(most) == most
+    box_count(fractional, width, share) == width
 }
