@@ -1,5 +1,5 @@
 -- Clauses by their ids, in a table of the ids from a first one on and a map of the others.
-use Rattle.std.specs.Prelude.{ℕ, ◌-◌, ◌==◌, nat_lt, if◌then◌else◌, List, length, slice_index_or, Option, None, Some, option_map, Vec}
+use Rattle.std.specs.Prelude.{ℕ, ◌-◌, ◌==◌, nat_lt, if◌then◌else◌, List, length, slice_get, slice_index_or, Option, None, Some, option_map, Vec}
 use Rattle.std.specs.Global.{Global}
 use Rattle.std.specs.Map.{lookup}
 use Rattle.sat_clause.specs.declared.literal.Lit.{Lit}
@@ -31,3 +31,7 @@ abbrev pub derived_at : DerivedState → Finder
 derived_at state id =
     let cell = cell_at state.first (length state.table) id in
     option_map lits_of (cell_or cell state.table (lookup (λ k. id == k) state.others))
+
+-- the key at a position in a map
+abbrev pub key_at : {X : Type 0} → List (ℕ × X) → ℕ → Option ℕ
+key_at entries at = option_map (λ e. e.0) (slice_get entries at)

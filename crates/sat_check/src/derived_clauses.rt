@@ -1,7 +1,9 @@
 //! The live clauses that a log has added.
 
-ghost use Rattle.std.specs.Prelude.{◌≡◌, ◌<◌, ◌+◌, ◌^◌, ℕ, IfSome, OnErr, OnOk, None, Some, is_some, length, option_map};
-ghost use Rattle.sat_check.specs.DerivedStore.{cell_at, derived_at};
+ghost use Rattle.std.specs.Prelude.{◌≡◌, ◌<◌, ◌+◌, ◌^◌, ℕ, IfSome, OnErr, OnOk, None, Some, is_some, length, nat_eq, option_map};
+ghost use Rattle.std.specs.List.{IsDistinct};
+ghost use Rattle.std.specs.Map.{keys_of};
+ghost use Rattle.sat_check.specs.DerivedStore.{cell_at, derived_at, key_at};
 ghost use Rattle.sat_check.specs.Finder.{Changes};
 
 use indexmap::IndexMap;
@@ -56,7 +58,8 @@ fn cell_of(first: u64, count: usize, id: u64) -> Option<usize>
 impl DerivedClauses {
     /// No clauses, and no cells, of which the first will have this id.
     pub(crate) fn new(alloc: Global, first: u64) -> DerivedClauses
-        ensures { (id : ℕ) → derived_at result id ≡ None }
+        ensures first { result.first ≡ first }
+        ensures none { (id : ℕ) → derived_at result id ≡ None }
     {
         DerivedClauses {
             first,
@@ -102,7 +105,8 @@ impl DerivedClauses {
 
     /// The ids up to this one get cells, as far as the number of clauses allows one more clause.
     fn reach(&mut self, id: u64) -> Result<(), AllocError>
-        ensures { (q : ℕ) → derived_at self.new q ≡ derived_at self.old q }
+        ensures first { self.new.first ≡ self.old.first }
+        ensures kept { (q : ℕ) → derived_at self.new q ≡ derived_at self.old q }
     {
         self.allowed = self.allowed.saturating_add(CELLS_EACH);
         if id < self.first {
@@ -117,6 +121,7 @@ impl DerivedClauses {
 
     /// Puts a clause in under an id, in place of any other, where the table is as it is.
     fn place(&mut self, id: u64, clause: Vec<Lit>) -> Result<(), AllocError>
+        ensures first { self.new.first ≡ self.old.first }
         ensures ok { OnOk result
             (Changes (derived_at self.old) (derived_at self.new) id (Some clause.items)) }
         ensures err { OnErr result ((q : ℕ) → derived_at self.new q ≡ derived_at self.old q) }
@@ -131,6 +136,7 @@ impl DerivedClauses {
 
     /// Puts a clause in under an id, in place of any other.
     pub(crate) fn put(&mut self, id: u64, clause: Vec<Lit>) -> Result<(), AllocError>
+        ensures first { self.new.first ≡ self.old.first }
         ensures ok { OnOk result
             (Changes (derived_at self.old) (derived_at self.new) id (Some clause.items)) }
         ensures err { OnErr result ((q : ℕ) → derived_at self.new q ≡ derived_at self.old q) }
@@ -146,6 +152,7 @@ impl DerivedClauses {
 
     /// Takes out the clause with an id, and says whether there was one.
     pub(crate) fn take_out(&mut self, id: u64) -> bool
+        ensures first { self.new.first ≡ self.old.first }
         ensures found { result ≡ is_some (derived_at self.old id) }
         ensures clauses { Changes (derived_at self.old) (derived_at self.new) id None }
     {
@@ -155,5 +162,32 @@ impl DerivedClauses {
         let found = self.table[at].is_some();
         self.table[at] = None;
         found
+    }
+
+    /// How many ids have a cell. They are those from the first one on.
+    pub(crate) fn cells(&self) -> usize
+        ensures value { result ≡ length self.now.table }
+        ensures small { result < 2 ^ 63 }
+    {
+        self.table.as_slice().len()
+    }
+
+    /// How many clauses stand in the map.
+    pub(crate) fn outside(&self) -> usize
+        ensures value { result ≡ length self.now.others }
+        ensures small { result < 2 ^ 63 }
+        ensures once { IsDistinct nat_eq (keys_of self.now.others) }
+    {
+        self.others.len()
+    }
+
+    /// The id of the clause at a position in the map.
+    pub(crate) fn outside_id(&self, at: usize) -> Option<u64>
+        ensures { result ≡ key_at self.now.others at }
+    {
+        let Some((id, _)) = self.others.as_slice().get_index(at) else {
+            return None;
+        };
+        Some(*id)
     }
 }

@@ -1,12 +1,12 @@
 //! The input clauses that are live.
 
-ghost use Rattle.std.specs.Prelude.{◌≡◌, All, IfOk, IfSome, None, is_some, option_map};
+ghost use Rattle.std.specs.Prelude.{◌≡◌, ◌≤◌, All, IfOk, IfSome, None, is_some, length, option_map};
 ghost use Rattle.sat_clause.specs.Literal.{IsWithin};
 ghost use Rattle.sat_clause.specs.Judge.{inputs as inputs_of};
 ghost use Rattle.sat_check.specs.InputStore.{input_at, position_of};
 ghost use Rattle.sat_check.specs.Finder.{Changes, Finds};
 
-use sat_clause::{Formula, Lit};
+use sat_clause::{Formula, ID_LIMIT, Lit};
 use std::alloc::{AllocError, Global};
 use std::marker::Model;
 
@@ -49,6 +49,7 @@ fn live_position(live: &[bool], id: u64) -> Option<usize>
 impl<'a> InputClauses<'a> {
     /// All clauses of the formula.
     pub(crate) fn all(alloc: Global, formula: &'a Formula) -> Result<InputClauses<'a>, AllocError>
+        ensures many { IfOk result (λ c. length c.marks ≡ length formula.now.cnf.clauses) }
         ensures vars { IfOk result (λ c. c.vars ≡ formula.now.cnf.vars) }
         ensures live { IfOk result (λ c. Finds (input_at c) (inputs_of formula.now.cnf)) }
     {
@@ -71,6 +72,7 @@ impl<'a> InputClauses<'a> {
 
     /// Takes out the clause with an id, and says whether it was live.
     pub(crate) fn take_out(&mut self, id: u64) -> bool
+        ensures many { length self.new.marks ≡ length self.old.marks }
         ensures vars { self.new.vars ≡ self.old.vars }
         ensures found { result ≡ is_some (input_at self.old id) }
         ensures live { Changes (input_at self.old) (input_at self.new) id None }
@@ -80,5 +82,13 @@ impl<'a> InputClauses<'a> {
         };
         self.live[at] = false;
         true
+    }
+
+    /// How many clauses the formula has.
+    pub(crate) fn len(&self) -> usize
+        ensures value { result ≡ length self.now.marks }
+        ensures few { result ≤ ID_LIMIT }
+    {
+        self.live.len()
     }
 }

@@ -7,10 +7,12 @@ use Rattle.sat_check.proofs.FinderLaws.{finds_put, joined_changes, within_change
 use Rattle.sat_check.proofs.live_clauses.LiveClauses.put.Goals as goal
 
 pub invariant_of-self : goal.invariant_of-self
-invariant_of-self c = (
-  c.self.invariant.0,
-  λ id clause is. c.self.invariant.1 id clause (sym (c.in_default-put.ensures.err id) ∙ is),
-)
+invariant_of-self c = record {
+  few = c.self.invariant.few;
+  within = λ id clause is.
+      c.self.invariant.within id clause (sym (c.in_default-put.ensures.err id) ∙ is);
+  next = c.put.ensures.first ∙ c.self.invariant.next;
+}
 
 pub returns-in_default-put-clause-err : goal.returns-in_default-put-clause-err
 returns-in_default-put-clause-err c = λ q.
@@ -22,14 +24,15 @@ returns-in_default-put-clause-err c = λ q.
 pub invariant_of-self-2 : goal.invariant_of-self-2
 invariant_of-self-2 c =
     let p = c.self.inside in
-    let within = rw (← c.self.view_is) at c.requires in (
-      rw c.take_out.ensures.vars c.self.invariant.0,
-      within_changes p.vars (derived_at p.derived)
+    let within = rw (← c.self.view_is) at c.requires in record {
+      few = rw c.take_out.ensures.vars c.self.invariant.few;
+      within = within_changes p.vars (derived_at p.derived)
           (derived_at c.put.new.self) c.args.id _ c.in-Ok-put.ensures.ok
           (λ clause is. let copied : c.in-Ok.copy.items ≡ clause = cc in
           subst (λ (x : Clause). All (IsWithin p.vars) x) (sym c.in-Ok.ensures ∙ copied) within)
-          c.self.invariant.1,
-    )
+          c.self.invariant.within;
+      next = rw c.take_out.ensures.many (c.put.ensures.first ∙ c.self.invariant.next);
+    }
 
 pub returns-clause-live : goal.returns-clause-live
 returns-clause-live c = λ live finds.
