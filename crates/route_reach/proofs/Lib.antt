@@ -1,0 +1,12 @@
+mod Truths
+mod Wires
+mod Heeds
+mod Chains
+mod ModelLemmas
+mod ReachedLemmas
+mod ProblemExactness
+mod CountLemmas
+mod NearLemmas
+mod RisingLemmas
+mod RowValues
+mod ReachRows

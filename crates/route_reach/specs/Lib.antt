@@ -1,0 +1,5 @@
+pub mod Counts
+pub mod Encoding
+pub mod Ends
+pub mod Exact
+pub mod Reach
