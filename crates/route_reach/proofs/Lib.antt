@@ -1,3 +1,8 @@
+mod PinLines
+mod CountSteps
+mod FarLemmas
+mod FewSinks
+mod SourceLemmas
 mod Truths
 mod Wires
 mod Heeds

@@ -2,4 +2,5 @@ pub mod Counts
 pub mod Encoding
 pub mod Ends
 pub mod Exact
+pub mod Pins
 pub mod Reach
