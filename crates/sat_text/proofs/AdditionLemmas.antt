@@ -9,6 +9,7 @@ use Rattle.fpga_text.specs.Words.{TextLine, Words}
 use Rattle.sat_clause.specs.declared.literal.Lit.{Lit}
 use Rattle.sat_clause.specs.Literal.{Clause}
 use Rattle.sat_clause.specs.Step.{Added}
+use Rattle.sat_text.specs.declared.hint_rule.HintRule.{HintRule}
 use Rattle.sat_text.specs.FrontNumbers.{TakesFront}
 use Rattle.sat_text.specs.ByNumbers.{step_line_fault}
 use Rattle.sat_text.specs.LratText.{said_step}
@@ -19,22 +20,22 @@ use Rattle.sat_text.proofs.LratLemmas.{by_numbers}
 use Rattle.sat_text.proofs.LogBack.{added_limit-none, added_step-back, due_words-same, is_positive, no_deletion, none_below, not_above}
 
 -- the line has no fault, and adds this clause
-pub record AddsClause (above : ℕ) (line : TextLine) (id : ℕ) (clause : Clause)
+pub record AddsClause (rule : HintRule) (above : ℕ) (line : TextLine) (id : ℕ) (clause : Clause)
     (hints : List ℤ) : Type 0 where
-  pub clean : step_line_fault above line ≡ None
+  pub clean : step_line_fault rule above line ≡ None
   pub said : said_step line.words ≡ Some (Added id clause hints)
 
-adds_clause : (above : ℕ) (line : TextLine) (id : ℕ) (clause : Clause) (hints : List ℤ)
+adds_clause : (rule : HintRule) (above : ℕ) (line : TextLine) (id : ℕ) (clause : Clause) (hints : List ℤ)
     → lacks_number line.words ≡ false
     → numbers_of line.words ≡ pos id
     ∷ (map (λ (l : Lit). l.code) clause ++ pos 0 ∷ (hints ++ pos 0 ∷ []))
-    → IsPrintableStep above (Added id clause hints) → AddsClause above line id clause hints
-adds_clause above line id clause hints number numbers fits =
+    → IsPrintableStep above (Added id clause hints) → AddsClause rule above line id clause hints
+adds_clause rule above line id clause hints number numbers fits =
     let other = no_deletion line.words number in
     let due = due_words-same line.words other in
     let step = added_step-back id clause hints fits.2 fits.3 in
     record {
-      clean = by_numbers above line.number line.words
+      clean = by_numbers rule above line.number line.words
           ∙ rw (
             due,
             number,
@@ -50,18 +51,18 @@ adds_clause above line id clause hints number numbers fits =
     }
 
 -- an id, literals and hints were taken, each of the two closed by a 0, and nothing is left
-pub addition_taken : (above : ℕ) (line : TextLine) (behind ahead end : Words) (id : ℕ)
+pub addition_taken : (rule : HintRule) (above : ℕ) (line : TextLine) (behind ahead end : Words) (id : ℕ)
     (clause : Clause) (hints : List ℤ)
     → Some (pos id) ≡ option_and_then signed_number_of (slice_get line.words 0) → behind
     ≡ drop 1 line.words
     → TakesFront behind ahead (map (λ (l : Lit). l.code) clause ++ pos 0 ∷ [])
     → TakesFront ahead end (hints ++ pos 0 ∷ []) → false ≡ not (is_empty end)
-    → IsPrintableStep above (Added id clause hints) → AddsClause above line id clause hints
-addition_taken above line behind ahead (word ∷ more) id clause hints first rest lits ids past fits =
+    → IsPrintableStep above (Added id clause hints) → AddsClause rule above line id clause hints
+addition_taken rule above line behind ahead (word ∷ more) id clause hints first rest lits ids past fits =
     absurd (let clash : false ≡ true = past in cc)
-addition_taken above line behind ahead [] id clause hints first rest lits ids past fits =
+addition_taken rule above line behind ahead [] id clause hints first rest lits ids past fits =
     let all = front_both (front_one line.words behind (pos id) first rest) (front_both lits ids) in
-    adds_clause above line id clause hints all.lacks
+    adds_clause rule above line id clause hints all.lacks
     (all.said ∙ regroup (map (λ (l : Lit). l.code) clause) hints) fits
   where
     regroup : (lits ids : List ℤ) → (pos id ∷ ((lits ++ pos 0 ∷ []) ++ (ids ++ pos 0 ∷ []))) ++ []

@@ -18,6 +18,7 @@ use Rattle.sat_clause.specs.Literal.{Clause, IsWithin}
 use Rattle.sat_clause.specs.Step.{Step, Added, Erased}
 use Rattle.sat_text.specs.ByNumbers.{step_line_fault}
 use Rattle.sat_text.specs.LratText.{faults_above, ReadsLrat, added_limit, added_step, due_words, erased_limit, erased_step, first_past, is_below_zero, is_deletion, is_not_positive, raised, said_step, steps_of}
+use Rattle.sat_text.specs.declared.hint_rule.HintRule.TheVariants.{Plain as PlainHints}
 use Rattle.sat_text.specs.Numbers.{is_number, is_zero, lacks_number, numbers_of}
 use Rattle.sat_text.specs.Printed.{literal_text, log_text, number_text, step_text}
 use Rattle.sat_text.specs.ReadBack.{IsIdNumber, IsPrintableStep, IsPrintableLog}
@@ -246,7 +247,7 @@ not_above above id over = lt-leb id above over
 
 -- a printed step has no fault, and says itself
 pub record IsReadBack (above n : ℕ) (step : Step) : Type 0 where
-  pub clean : step_line_fault above (text_line Plain n (step_line step)) ≡ None
+  pub clean : step_line_fault PlainHints above (text_line Plain n (step_line step)) ≡ None
   pub said : said_step (words (step_line step)) ≡ Some step
 
 read_back : (above n : ℕ) (step : Step) → IsPrintableStep above step → IsReadBack above n step
@@ -254,7 +255,7 @@ read_back above n (Added id clause hints) fits =
     let said = said_added id clause hints (small_added id clause hints fits.1 fits.2 fits.3) in
     let step = added_step-back id clause hints fits.2 fits.3 in
     record {
-      clean = by_numbers above n (words (step_line (Added id clause hints)))
+      clean = by_numbers PlainHints above n (words (step_line (Added id clause hints)))
           ∙ rw (
             said.number,
             said.deletion,
@@ -270,7 +271,7 @@ read_back above n (Added id clause hints) fits =
 read_back above n (Erased id ids) fits =
     let said = said_erased id ids (omega (arith, fits.1)) (small_ids ids fits.2) in
     record {
-      clean = by_numbers above n (words (step_line (Erased id ids)))
+      clean = by_numbers PlainHints above n (words (step_line (Erased id ids)))
           ∙ rw (
             said.number,
             said.deletion,
@@ -327,7 +328,7 @@ log_ended (step ∷ steps) = λ i. step_ended step i ++ log_ended steps i
 
 -- none of its lines has a fault, and they say its steps
 record IsLogBack (above n end : ℕ) (log : List Step) : Type 0 where
-  pub clean : IsFaultless (faults_above above (numbered Plain n (map step_line log)) end)
+  pub clean : IsFaultless (faults_above PlainHints above (numbered Plain n (map step_line log)) end)
   pub says : steps_of (line_words (numbered Plain n (map step_line log))) ≡ log
 
 log_back : (above n end : ℕ) (log : List Step) → IsPrintableLog above log
@@ -339,7 +340,7 @@ log_back above n end (step ∷ steps) fits =
     record {
       clean = rw here.clean (subst
           (λ (o : Option Step). IsFaultless
-          (faults_above (raised above o) (numbered Plain (n + 1) (map step_line steps)) end))
+          (faults_above PlainHints (raised above o) (numbered Plain (n + 1) (map step_line steps)) end))
           (sym here.said) later.clean);
       says = ap (λ (o : Option Step). cons_option o
           (steps_of (line_words (numbered Plain (n + 1) (map step_line steps))))) here.said
@@ -361,7 +362,7 @@ printed_log_reads inputs log fits =
     let back = log_back inputs 1 (line_count (log_text log) + 1) log fits in
     record {
       faultless = subst IsFaultless (sym
-          (lrat_faults-from inputs (log_text log)
-          ∙ ap (λ ls. faults_above inputs ls (line_count (log_text log) + 1)) told_are)) back.clean;
+          (lrat_faults-from PlainHints inputs (log_text log)
+          ∙ ap (λ ls. faults_above PlainHints inputs ls (line_count (log_text log) + 1)) told_are)) back.clean;
       steps = sym (ap (λ ls. steps_of (line_words ls)) told_are ∙ back.says);
     }

@@ -1,6 +1,6 @@
 -- A log that was read is one that may be printed and read again.
 use Rattle.std.proofs.Common.{◌≡◌, ◌<◌, ◌≤◌, ◌+◌, ℕ, zero, suc, ℤ, pos, negsuc, Bool, false, true, List, [], ◌∷◌, length, Option, None, Some, refl, sym, subst, ◌∙◌, arith}
-use Rattle.std.specs.Prelude.{All, map, nat_abs, nat_le, ◌||◌, if◌then◌else◌, option_map, slice_index_or}
+use Rattle.std.specs.Prelude.{All, map, nat_abs, nat_le, ◌||◌, ◌&&◌, if◌then◌else◌, option_map, slice_index_or}
 use Rattle.std.specs.List.{list_any, slice_split, onto_first, cons_option}
 use Rattle.std.proofs.lemmas.Bool.{leb-false}
 use Rattle.std.proofs.lemmas.List.Elements.{All-cons, All-nil, All-tail}
@@ -13,6 +13,7 @@ use Rattle.fpga_text.proofs.FaultLemmas.{faultless-line, option_or-none}
 use Rattle.sat_clause.specs.Literal.{IsWithin, lit}
 use Rattle.sat_clause.specs.Step.{Step, Added, Erased}
 use Rattle.sat_text.specs.ByNumbers.{step_fault, step_line_fault}
+use Rattle.sat_text.specs.declared.hint_rule.HintRule.TheVariants.{Plain}
 use Rattle.sat_text.specs.CnfText.{but_last}
 use Rattle.sat_text.specs.LratText.{faults_above, ReadsLrat, added_by, added_limit, deleted_ids, due_words, ends_with_zero, erased_limit, first_past, has_no_id, is_below_zero, is_deletion, is_not_positive, raised, said_step, step_of, steps_of}
 use Rattle.sat_text.specs.Numbers.{is_zero, lacks_number, numbers_of}
@@ -35,6 +36,10 @@ not_limited (Some count) clash = absurd (let no : Some (Limit 705 count) ≡ Non
 neither : (a b : Bool) → (a || b) ≡ false → (a ≡ false) × (b ≡ false)
 neither true b clash = absurd (let no : true ≡ false = clash in cc)
 neither false b clean = (refl, clean)
+
+none_negative : (b : Bool) → (b && true) ≡ false → b ≡ false
+none_negative true none = none
+none_negative false none = refl
 
 -- a positive number within its limit
 id_number : (z : ℤ) → is_not_positive z ≡ false → nat_abs z ≤ 4294967295 → IsIdNumber z
@@ -114,10 +119,10 @@ record IsGoodNumbers (above : ℕ) (deletes : Bool) (numbers : List ℤ) : Type 
   pub fits : IsPrintableStep above step
 
 good_erased : (above n : ℕ) (id : ℤ) (more : List ℤ) → has_no_id true (id ∷ more) ≡ false
-    → step_fault above n (step_of true (id ∷ more)) ≡ None → IsGoodNumbers above true (id ∷ more)
+    → step_fault Plain above n (step_of true (id ∷ more)) ≡ None → IsGoodNumbers above true (id ∷ more)
 good_erased above n id more ids clean = go (ends_with_zero more) refl clean where
   go : (b : Bool) → ends_with_zero more ≡ b
-      → step_fault above n (if b then Some (Erased (nat_abs id) (but_last more)) else None) ≡ None
+      → step_fault Plain above n (if b then Some (Erased (nat_abs id) (but_last more)) else None) ≡ None
       → IsGoodNumbers above true (id ∷ more)
   go false e clash = absurd (let no : Some (Bad n 702) ≡ None = clash in cc)
   go true e rest =
@@ -138,12 +143,12 @@ good_erased above n id more ids clean = go (ends_with_zero more) refl clean wher
         );
       }
 
-good_added : (above n : ℕ) (id : ℤ) (more : List ℤ) → step_fault above n (step_of false (id ∷ more))
+good_added : (above n : ℕ) (id : ℤ) (more : List ℤ) → step_fault Plain above n (step_of false (id ∷ more))
     ≡ None → IsGoodNumbers above false (id ∷ more)
 good_added above n id more clean =
     go (slice_split is_zero more) refl (split_nonzero more) clean where
       go : (parts : List (List ℤ)) → slice_split is_zero more ≡ parts
-          → All (All (λ z. is_zero z ≡ false)) parts → step_fault above n (added_by id parts) ≡ None
+          → All (All (λ z. is_zero z ≡ false)) parts → step_fault Plain above n (added_by id parts) ≡ None
           → IsGoodNumbers above false (id ∷ more)
       go [] e some clash = absurd (let no : Some (Bad n 702) ≡ None = clash in cc)
       go (lits ∷ []) e some clash = absurd (let no : Some (Bad n 702) ≡ None = clash in cc)
@@ -154,7 +159,7 @@ good_added above n id more clean =
           absurd (let no : Some (Bad n 702) ≡ None = clash in cc)
       go (lits ∷ hints ∷ [] ∷ []) e some rest =
           let low = not_first (nat_le (nat_abs id) above) (Bad n 703) _ rest in
-          let sign = not_first (list_any is_below_zero hints) (Bad n 704) _ low.1 in
+          let sign = not_first (list_any is_below_zero hints && true) (Bad n 704) _ low.1 in
           let over : above < nat_abs id = leb-false (nat_abs id) above low.0 in
           let limits = option_or-none (first_past 4294967295 (pos (nat_abs id) ∷ [])) _
           (rw codes_of_lits at (not_limited (added_limit (nat_abs id) (map lit lits) hints) sign.1))
@@ -168,36 +173,36 @@ good_added above n id more clean =
               over,
               none_past 4294967295 (pos (nat_abs id) ∷ []) limits.0 0 id (omega arith),
               literals lits (some 0 [] (omega arith)) (none_past 100000000 lits few.0),
-              hint_numbers hints sign.0 (some 1 [] (omega arith))
+              hint_numbers hints (none_negative (list_any is_below_zero hints) sign.0) (some 1 [] (omega arith))
                   (none_past 4294967295 hints few.1),
             );
           }
 
 good_numbers : (above n : ℕ) (deletes : Bool) (numbers : List ℤ) → has_no_id deletes numbers ≡ false
-    → step_fault above n (step_of deletes numbers) ≡ None → IsGoodNumbers above deletes numbers
+    → step_fault Plain above n (step_of deletes numbers) ≡ None → IsGoodNumbers above deletes numbers
 good_numbers above n true [] ids clash = absurd (let no : Some (Bad n 702) ≡ None = clash in cc)
 good_numbers above n false [] ids clash = absurd (let no : Some (Bad n 702) ≡ None = clash in cc)
 good_numbers above n true (id ∷ more) ids clean = good_erased above n id more ids clean
 good_numbers above n false (id ∷ more) ids clean = good_added above n id more clean
 
 -- so does a line without a fault
-good_line : (above : ℕ) (line : TextLine) → step_line_fault above line ≡ None
+good_line : (above : ℕ) (line : TextLine) → step_line_fault Plain above line ≡ None
     → IsGoodNumbers above (is_deletion line.words) (numbers_of (due_words line.words))
 good_line above line clean =
     let number = not_first (lacks_number (due_words line.words)) (Bad line.number 701) _
-    (sym (by_numbers above line.number line.words) ∙ clean) in
+    (sym (by_numbers Plain above line.number line.words) ∙ clean) in
     let ids = not_first (has_no_id (is_deletion line.words) (numbers_of (due_words line.words)))
     (Bad line.number 701) _ number.1 in
     good_numbers above line.number (is_deletion line.words)
     (numbers_of (due_words line.words)) ids.0 ids.1
 
 -- and lines without one say a log that may be printed
-good_lines : (above end : ℕ) (lines : List TextLine) → IsFaultless (faults_above above lines end)
+good_lines : (above end : ℕ) (lines : List TextLine) → IsFaultless (faults_above Plain above lines end)
     → IsPrintableLog above (steps_of (line_words lines))
 good_lines above end [] clean = tt
 good_lines above end (line ∷ more) clean =
-    let parts = faultless-line (step_line_fault above line)
-    (faults_above (raised above (said_step line.words)) more end) clean in
+    let parts = faultless-line (step_line_fault Plain above line)
+    (faults_above Plain (raised above (said_step line.words)) more end) clean in
     let good = good_line above line parts.0 in
     let later : IsPrintableLog (raised above (said_step line.words)) (steps_of (line_words more)) =
     good_lines (raised above (said_step line.words)) end more parts.1 in
@@ -214,7 +219,7 @@ pub printable_log : (inputs : ℕ) (text : Bytes) (log : List Step) → ReadsLra
 printable_log inputs text log reads =
     subst (IsPrintableLog inputs) (sym reads.steps)
     (good_lines inputs (line_count text + 1) (told_lines text)
-    (subst IsFaultless (lrat_faults-from inputs text) reads.faultless))
+    (subst IsFaultless (lrat_faults-from Plain inputs text) reads.faultless))
 
 -- and is read again as it is
 pub read_log_again : (log : List Step) (inputs : ℕ) (text : Bytes) → ReadsLrat inputs text log

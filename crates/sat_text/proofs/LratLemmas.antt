@@ -1,6 +1,6 @@
 -- The numbers of a line of an LRAT text, and the step that they say.
 use Rattle.std.proofs.Common.{◌≡◌, ◌<◌, ◌≤◌, ◌+◌, ℕ, zero, suc, ℤ, pos, negsuc, Bool, false, true, List, [], ◌∷◌, ◌++◌, length, take, drop, Option, None, Some, Result, refl, sym, ap, subst, ◌∙◌, arith, add-one}
-use Rattle.std.specs.Prelude.{All, fold, map, nat_abs, slice_index_or, if◌then◌else◌, nat_le, nat_lt, ◌==◌, ◌||◌, is_none, option_map}
+use Rattle.std.specs.Prelude.{All, fold, map, nat_abs, slice_index_or, if◌then◌else◌, nat_le, nat_lt, ◌==◌, ◌||◌, ◌&&◌, is_none, option_map}
 use Rattle.std.specs.List.{list_any, slice_split, onto_first, cons_option}
 use Rattle.std.proofs.lemmas.List.Splits.{slice_split_at, slice_split_none, length-slice_split}
 use Rattle.std.specs.Option.{option_or}
@@ -16,10 +16,11 @@ use Rattle.sat_clause.specs.declared.literal.Lit.{Lit}
 use Rattle.sat_clause.specs.Literal.{lit, IsLiteral}
 use Rattle.sat_clause.specs.Step.{Step, Added, Erased}
 use Rattle.sat_text.specs.ByNumbers.{numbers_fault, step_fault, step_line_fault}
+use Rattle.sat_text.specs.declared.hint_rule.HintRule.{HintRule}
 use Rattle.sat_text.specs.CnfText.{but_last}
 use Rattle.sat_text.specs.Numbers.{is_zero, numbers_of, lacks_number}
 use Rattle.sat_text.specs.ToldLines.{told_lines}
-use Rattle.sat_text.specs.LratText.{added_by, added_limit, deleted_ids, due_words, ends_with_zero, erased_limit, faults_above, first_past, has_negative_hint, has_no_id, is_below_zero, is_deletion, is_out_of_order, lrat_codes, lrat_faults, past_number_limit, raised, raised_by, said_step, step_of, steps_of}
+use Rattle.sat_text.specs.LratText.{added_by, added_limit, deleted_ids, due_words, ends_with_zero, erased_limit, bars, faults_above, first_past, has_barred_hint, has_no_id, is_below_zero, is_deletion, is_out_of_order, lrat_codes_by, lrat_faults_by, past_number_limit, raised, raised_by, said_step, step_of, steps_of}
 
 -- the front numbers are not 0
 pub all_before : (numbers : List ℤ) (i : ℕ)
@@ -167,10 +168,11 @@ all_literals (n ∷ ns) all (suc k) d inside =
     all_literals ns (λ j e h. all (suc j) e (omega arith)) k d (omega arith)
 
 -- a line's fault, by its numbers
-pub by_numbers : (above n : ℕ) (words : Words) → line_fault (lrat_codes 0) above n words
-    ≡ (if lacks_number (due_words words) then Some (Bad n 701) else numbers_fault above n
+pub by_numbers : (rule : HintRule) (above n : ℕ) (words : Words)
+    → line_fault (lrat_codes_by rule 0) above n words
+    ≡ (if lacks_number (due_words words) then Some (Bad n 701) else numbers_fault rule above n
     (is_deletion words) (numbers_of (due_words words)))
-by_numbers above n words =
+by_numbers rule above n words =
     go (lacks_number (due_words words))
     (has_no_id (is_deletion words) (numbers_of (due_words words)))
     (step_of (is_deletion words) (numbers_of (due_words words)))
@@ -183,36 +185,37 @@ by_numbers above n words =
     go : (lacks no_id : Bool) (step : Option Step)
         → (if lacks || no_id then Some (Bad n 701) else if is_none step then Some
         (Bad n 702) else if is_out_of_order above step then Some
-        (Bad n 703) else if has_negative_hint step then Some (Bad n 704) else option_or
+        (Bad n 703) else if has_barred_hint rule step then Some (Bad n 704) else option_or
         (option_map (λ count. Limit 705 count) (past_number_limit step)) None)
         ≡ (if lacks then Some (Bad n 701) else if no_id then Some
-        (Bad n 701) else step_fault above n step)
+        (Bad n 701) else step_fault rule above n step)
     go true no_id step = refl
     go false true step = refl
     go false false None = refl
     go false false (Some (Added id clause hints)) =
-        λ i. if nat_le id above then Some (Bad n 703) else if list_any is_below_zero hints then Some
-        (Bad n 704) else last (added_limit id clause hints) i
+        λ i. if nat_le id above then Some (Bad n 703)
+        else if list_any is_below_zero hints && bars rule clause then Some (Bad n 704)
+        else last (added_limit id clause hints) i
     go false false (Some (Erased id ids)) = last (erased_limit id ids)
 
 -- so the answer that is given by the numbers of a line is one of the line
-pub numbers_answer : (above n : ℕ) (line : TextLine) (deletes : Bool) (numbers : List ℤ)
+pub numbers_answer : (rule : HintRule) (above n : ℕ) (line : TextLine) (deletes : Bool) (numbers : List ℤ)
     (says : Option Step → Type 0) (result : Result (Unit {0}) TextFault) → n ≡ line.number
     → (if lacks_number (due_words line.words) then Some (Bad line.number 701) else None) ≡ None
     → deletes ≡ is_deletion line.words → numbers ≡ numbers_of (due_words line.words)
-    → AnswersFault (numbers_fault above n deletes numbers)
+    → AnswersFault (numbers_fault rule above n deletes numbers)
     (λ _. says (step_of deletes numbers)) result
-    → AnswersFault (step_line_fault above line) (λ _. says (said_step line.words)) result
-numbers_answer above n line deletes numbers says result at clean is are answer =
+    → AnswersFault (step_line_fault rule above line) (λ _. says (said_step line.words)) result
+numbers_answer rule above n line deletes numbers says result at clean is are answer =
     subst (λ fault. AnswersFault fault (λ _. says (said_step line.words)) result)
-    (sym (by_numbers above line.number line.words
+    (sym (by_numbers rule above line.number line.words
     ∙ go (lacks_number (due_words line.words)) clean))
     (rw (at, is, are) at answer)
   where
     go : (b : Bool) → (if b then Some (Bad line.number 701) else None) ≡ None
-        → (if b then Some (Bad line.number 701) else numbers_fault above line.number
+        → (if b then Some (Bad line.number 701) else numbers_fault rule above line.number
         (is_deletion line.words) (numbers_of (due_words line.words)))
-        ≡ numbers_fault above line.number (is_deletion line.words)
+        ≡ numbers_fault rule above line.number (is_deletion line.words)
         (numbers_of (due_words line.words))
     go true clash = absurd (let no : Some (Bad line.number 701) ≡ None = clash in cc)
     go false e = refl
@@ -224,20 +227,22 @@ context_of-push inputs [] words = refl
 context_of-push inputs (first ∷ more) words = context_of-push (raised_by inputs first) more words
 
 -- the faults of a text are those behind the ids of its input clauses
-pub lrat_faults-from : (inputs : ℕ) (text : Bytes) → lrat_faults inputs text
-    ≡ faults_above inputs (told_lines text) (line_count text + 1)
-lrat_faults-from inputs text =
-    faults_behind-from raised_by (lrat_codes inputs) (context_of-push inputs) []
+pub lrat_faults-from : (rule : HintRule) (inputs : ℕ) (text : Bytes)
+    → lrat_faults_by rule inputs text
+    ≡ faults_above rule inputs (told_lines text) (line_count text + 1)
+lrat_faults-from rule inputs text =
+    faults_behind-from raised_by (lrat_codes_by rule inputs) (context_of-push inputs) []
     (numbered_words (told_lines text)) (line_count text + 1)
 
 -- one more line was taken
-pub step_past : (all : Faults) (above now end : ℕ) (ahead more : List TextLine) (line : TextLine)
-    → ahead ≡ line ∷ more → IsPast all (faults_above above ahead end) → step_line_fault above line
+pub step_past : (rule : HintRule) (all : Faults) (above now end : ℕ) (ahead more : List TextLine) (line : TextLine)
+    → ahead ≡ line ∷ more → IsPast all (faults_above rule above ahead end)
+    → step_line_fault rule above line
     ≡ None
-    → now ≡ raised above (said_step line.words) → IsPast all (faults_above now more end)
-step_past all above now end ahead more line is past clean raise =
-    subst (λ (n : ℕ). IsPast all (faults_above n more end)) (sym raise)
-    (past-line {fault = step_line_fault above line} (rw is at past) clean)
+    → now ≡ raised above (said_step line.words) → IsPast all (faults_above rule now more end)
+step_past rule all above now end ahead more line is past clean raise =
+    subst (λ (n : ℕ). IsPast all (faults_above rule n more end)) (sym raise)
+    (past-line {fault = step_line_fault rule above line} (rw is at past) clean)
 
 -- and its step
 pub step_taken : (ahead more : List TextLine) (line : TextLine) (step : Step) → ahead ≡ line ∷ more

@@ -20,7 +20,7 @@ pub record LogAhead : Type 0 where
 abbrev pub ahead_of : LinesAhead → StepDraft → LogAhead
 ahead_of lines draft = record {
   step = held draft;
-  faults = faults_above draft.above (told lines.ahead) (lines.total + 1);
+  faults = faults_above draft.rule draft.above (told lines.ahead) (lines.total + 1);
   steps = steps_of (line_words (told lines.ahead));
 }
 

@@ -1,5 +1,5 @@
--- LRAT texts without steps that resolve on a first literal: comments, and lines that add a clause
--- or delete clauses.
+-- LRAT texts: comments, and lines that add a clause or delete clauses. A rule says which hints an
+-- added clause may have: with plain ones no step resolves on a first literal.
 use Rattle.std.specs.Prelude.{◌≡◌, ℕ, ◌+◌, drop, fold, is_none, max, nat_lt, nat_le, nat_abs, ℤ, pos, int_le, int_lt, Bool, true, false, ◌&&◌, ◌||◌, if◌then◌else◌, List, [], ◌∷◌, map, find, filter_map, bytes_eq, codes, Option, None, Some}
 use Rattle.std.specs.List.{list_any, slice_split}
 use Rattle.std.specs.Option.{option_or}
@@ -12,6 +12,8 @@ use Rattle.sat_clause.specs.Literal.{Clause, lit}
 use Rattle.sat_clause.specs.Step.{Step, Added, Erased}
 use Rattle.sat_text.specs.CnfText.{but_last}
 use Rattle.sat_text.specs.declared.cause.Cause.TheVariants.{StepNumber, StepForm, IdOrder, HintSign, NumberLimit}
+use Rattle.sat_text.specs.declared.hint_rule.HintRule.{HintRule}
+use Rattle.sat_text.specs.declared.hint_rule.HintRule.TheVariants.{Plain, Full}
 use Rattle.sat_text.specs.Causes.{code_of}
 use Rattle.sat_text.specs.Numbers.{lacks_number, numbers_of, is_zero}
 use Rattle.sat_text.specs.ToldLines.{told_lines}
@@ -118,10 +120,17 @@ abbrev pub is_out_of_order : ℕ → Option Step → Bool
 is_out_of_order above (Some (Added id clause hints)) = nat_le id above
 is_out_of_order above step = false
 
--- the step adds a clause with a negative hint
-abbrev pub has_negative_hint : Option Step → Bool
-has_negative_hint (Some (Added id clause hints)) = list_any is_below_zero hints
-has_negative_hint step = false
+-- the clause may have no negative hint
+abbrev pub bars : HintRule → Clause → Bool
+bars Plain clause = true
+bars Full [] = true
+bars Full (l ∷ ls) = false
+
+-- the step adds a clause with a negative hint that it may not have
+abbrev pub has_barred_hint : HintRule → Option Step → Bool
+has_barred_hint rule (Some (Added id clause hints)) =
+    list_any is_below_zero hints && bars rule clause
+has_barred_hint rule step = false
 
 -- of a step the first number that is past its limit
 abbrev pub past_number_limit : Option Step → Option ℕ
@@ -131,23 +140,33 @@ past_number_limit (Some (Erased id ids)) = erased_limit id ids
 
 -- the codes of an LRAT text that goes with so many input clauses; the id of an added clause has to
 -- be above this number and all earlier ones
-abbrev pub lrat_codes : ℕ → Codes ℕ Words
-lrat_codes inputs = record {
+abbrev pub lrat_codes_by : HintRule → ℕ → Codes ℕ Words
+lrat_codes_by rule inputs = record {
   context = λ before. fold raised_by inputs before;
   of_line = At (code_of StepNumber) lacks_step_number ∷ At (code_of StepForm) lacks_step_form
       ∷ At (code_of IdOrder) (λ above words. is_out_of_order above (said_step words))
-      ∷ At (code_of HintSign) (λ above words. has_negative_hint (said_step words))
+      ∷ At (code_of HintSign) (λ above words. has_barred_hint rule (said_step words))
       ∷ Past (code_of NumberLimit) (λ above words. past_number_limit (said_step words)) ∷ [];
   of_end = [];
 }
 
 -- the faults of a text that goes with so many input clauses
+abbrev pub lrat_faults_by : HintRule → ℕ → Bytes → Faults
+lrat_faults_by rule inputs text =
+    text_faults (lrat_codes_by rule inputs) (told_lines text) (line_count text + 1)
+
+-- the same where no hint may be negative
 abbrev pub lrat_faults : ℕ → Bytes → Faults
-lrat_faults inputs text = text_faults (lrat_codes inputs) (told_lines text) (line_count text + 1)
+lrat_faults = lrat_faults_by Plain
+
+-- and where hints of clauses with literals may be
+abbrev pub full_lrat_faults : ℕ → Bytes → Faults
+full_lrat_faults = lrat_faults_by Full
 
 -- the faults of lines behind ids up to this one, and of the end, which has this number
-abbrev pub faults_above : ℕ → List TextLine → ℕ → Faults
-faults_above above lines end = faults_from raised_by (lrat_codes 0) above (numbered_words lines) end
+abbrev pub faults_above : HintRule → ℕ → List TextLine → ℕ → Faults
+faults_above rule above lines end =
+    faults_from raised_by (lrat_codes_by rule 0) above (numbered_words lines) end
 
 -- the steps that lines with these words say
 abbrev pub steps_of : List Words → List Step

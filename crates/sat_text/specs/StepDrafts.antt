@@ -10,7 +10,8 @@ held draft =
     if draft.erase then Erased draft.id draft.hints.items
     else Added draft.id draft.lits.items draft.hints.items
 
--- the line says a step, which is held
+-- the line says a step, which is held; the rule stays
 pub record TakesStep (old new : StepDraft) (step : Option Step) : Type 0 where
   pub says : step ≡ Some (held new)
   pub above : new.above ≡ raised old.above step
+  pub rule : new.rule ≡ old.rule

@@ -21,7 +21,7 @@ pub enum Cause {
     StepForm,
     /// LRAT: the id of an added clause is not above all earlier ones.
     IdOrder,
-    /// LRAT: a negative hint.
+    /// LRAT: a negative hint; in full LRAT, one of a clause without literals.
     HintSign,
     /// LRAT: an id, a hint or a literal that is greater than those that are read.
     NumberLimit,

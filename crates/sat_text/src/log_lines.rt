@@ -2,9 +2,10 @@
 ghost use Rattle.std.specs.Prelude.{◌≡◌, [], IfErr, IfOk, IsTrue, false, All, length};
 ghost use Rattle.fpga_text.specs.FirstFault.{IsRefusal};
 ghost use Rattle.sat_clause.specs.Literal.{IsLiteral};
-ghost use Rattle.sat_text.specs.LratText.{lrat_faults, lrat_said};
+ghost use Rattle.sat_text.specs.LratText.{full_lrat_faults, lrat_faults, lrat_faults_by, lrat_said};
 ghost use Rattle.sat_text.specs.Steps.{viewed};
 
+use crate::hint_rule::HintRule;
 use crate::step_draft::StepDraft;
 use crate::told::next_told;
 use fpga_text::{Lines, Style, TextFault};
@@ -31,23 +32,39 @@ impl<'a> Model for LogLines<'a> {
 impl<'a> LogLines<'a> {
     ghost use Rattle.sat_text.specs.LogAhead.{IsReadOut, ReadsNext};
 
+    /// The steps of a text whose hints keep this rule.
+    fn by_rule(alloc: Global, bytes: &'a [u8], inputs: u32, rule: HintRule) -> LogLines<'a>
+        ensures faults { result.faults ≡ lrat_faults_by rule inputs bytes.now }
+        ensures steps { result.steps ≡ lrat_said bytes.now }
+    {
+        LogLines {
+            lines: Lines::new(bytes, Style::Plain),
+            draft: StepDraft::new(alloc, inputs, rule),
+        }
+    }
+
     /// The steps of a text that goes with so many input clauses, from its first line on. The step
     /// that was read last is at first a deletion of nothing.
     pub fn new(alloc: Global, bytes: &'a [u8], inputs: u32) -> LogLines<'a>
         ensures faults { result.faults ≡ lrat_faults inputs bytes.now }
         ensures steps { result.steps ≡ lrat_said bytes.now }
     {
-        LogLines {
-            lines: Lines::new(bytes, Style::Plain),
-            draft: StepDraft::new(alloc, inputs),
-        }
+        LogLines::by_rule(alloc, bytes, inputs, HintRule::Plain)
+    }
+
+    /// The same of a text of full LRAT, in which steps may resolve on a first literal.
+    pub fn full(alloc: Global, bytes: &'a [u8], inputs: u32) -> LogLines<'a>
+        ensures faults { result.faults ≡ full_lrat_faults inputs bytes.now }
+        ensures steps { result.steps ≡ lrat_said bytes.now }
+    {
+        LogLines::by_rule(alloc, bytes, inputs, HintRule::Full)
     }
 
     /// Reads the next step, and answers whether there was one.
     ///
     /// # Errors
-    /// Those of [`crate::read_lrat`], of which the first in the text comes first. Nothing is said
-    /// of what is read behind one.
+    /// Those of [`crate::read_lrat`] or [`crate::read_lrat_full`], of which the first in the text
+    /// comes first. Nothing is said of what is read behind one.
     pub fn read_next(&mut self) -> Result<bool, TextFault>
         ensures some { IfOk result (λ more. IsTrue more → ReadsNext self.old self.new) }
         ensures none { IfOk result (λ more. more ≡ false → IsReadOut self.old) }

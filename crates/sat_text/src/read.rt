@@ -5,7 +5,7 @@ ghost use Rattle.sat_text.specs.Bodies.{TakesBody, body_faults};
 ghost use Rattle.sat_text.specs.CnfText.{cnf_faults, cnf_said};
 ghost use Rattle.sat_text.specs.Drafts.{head_in};
 ghost use Rattle.sat_clause.specs.Literal.{IsLiteral};
-ghost use Rattle.sat_text.specs.LratText.{lrat_faults, lrat_said};
+ghost use Rattle.sat_text.specs.LratText.{full_lrat_faults, lrat_faults, lrat_said};
 ghost use Rattle.sat_text.specs.Steps.{viewed};
 ghost use Rattle.sat_text.specs.ToldLines.{told};
 
@@ -92,6 +92,25 @@ fn add_step(log: &mut Log, step: StepView<'_>) -> Result<(), AllocError>
     Ok(())
 }
 
+/// The log of the steps that are left.
+fn read_steps(alloc: Global, mut lines: LogLines<'_>) -> Result<Log, TextFault>
+    ensures { Answers lines.entry.faults (λ log. log.steps ≡ lines.entry.steps) result }
+{
+    let mut log = Log::new(alloc);
+    loop {
+        let more = match lines.read_next() {
+            Ok(more) => more,
+            Err(fault) => return Err(fault),
+        };
+        if !more {
+            return Ok(log);
+        }
+        let Ok(()) = add_step(&mut log, lines.step()) else {
+            return Err(TextFault::Memory);
+        };
+    }
+}
+
 /// The log that an LRAT text says which goes with so many input clauses, in the format of
 /// Cruz-Filipe, Heule, Hunt, Kaufmann and Schneider-Kamp (2017) without steps that resolve on a
 /// first literal. The text is read once.
@@ -109,18 +128,19 @@ pub fn read_lrat(alloc: Global, bytes: &[u8], inputs: u32) -> Result<Log, TextFa
     ensures { Answers (lrat_faults inputs bytes.now)
         (λ log. log.steps ≡ lrat_said bytes.now) result }
 {
-    let mut log = Log::new(alloc);
-    let mut lines = LogLines::new(alloc, bytes, inputs);
-    loop {
-        let more = match lines.read_next() {
-            Ok(more) => more,
-            Err(fault) => return Err(fault),
-        };
-        if !more {
-            return Ok(log);
-        }
-        let Ok(()) = add_step(&mut log, lines.step()) else {
-            return Err(TextFault::Memory);
-        };
-    }
+    read_steps(alloc, LogLines::new(alloc, bytes, inputs))
+}
+
+/// The log that a text of full LRAT says which goes with so many input clauses, steps that resolve
+/// on a first literal included: a negative hint begins a group of hints, and its size is the id of
+/// the group's clause.
+///
+/// # Errors
+/// Those of [`read_lrat`], but for one: `Bad` with the code 704 comes at an added clause without
+/// literals that has a negative hint. The size of a negative hint counts for 705.
+pub fn read_lrat_full(alloc: Global, bytes: &[u8], inputs: u32) -> Result<Log, TextFault>
+    ensures { Answers (full_lrat_faults inputs bytes.now)
+        (λ log. log.steps ≡ lrat_said bytes.now) result }
+{
+    read_steps(alloc, LogLines::full(alloc, bytes, inputs))
 }

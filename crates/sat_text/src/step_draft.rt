@@ -8,6 +8,7 @@ ghost use Rattle.sat_text.specs.LratText.{said_step, step_of};
 ghost use Rattle.sat_text.specs.Steps.{viewed};
 
 use crate::front_numbers::{front_hints, front_literals};
+use crate::hint_rule::HintRule;
 use crate::step_line::{MOST_ID, addition_said, deletion_said, read_numbers};
 use fpga_text::{Line, TextFault};
 use sat_clause::{Lit, StepView};
@@ -23,6 +24,7 @@ pub struct StepDraft {
     pub lits: Vec<Lit>,
     pub hints: Vec<i64>,
     pub above: u32,
+    pub rule: HintRule,
     pub numbers: Vec<i64>,
     ghost literals: { erase ≡ false → All IsLiteral lits.items },
 }
@@ -56,8 +58,9 @@ impl StepDraft {
     ghost use Rattle.sat_text.specs.StepDrafts.{TakesStep, held};
 
     /// No line was read of a log that goes with so many input clauses.
-    pub fn new(alloc: Global, inputs: u32) -> StepDraft
-        ensures { result.above ≡ inputs }
+    pub fn new(alloc: Global, inputs: u32, rule: HintRule) -> StepDraft
+        ensures above { result.above ≡ inputs }
+        ensures rule { result.rule ≡ rule }
     {
         StepDraft {
             id: 0,
@@ -65,6 +68,7 @@ impl StepDraft {
             lits: Vec::new(alloc),
             hints: Vec::new(alloc),
             above: inputs,
+            rule,
             numbers: Vec::new(alloc),
         }
     }
@@ -96,6 +100,7 @@ impl StepDraft {
         requires { All IsLiteral self.old.lits.items }
         ensures step { held self.new ≡ Added id self.old.lits.items self.old.hints.items }
         ensures above { self.new.above ≡ id }
+        ensures rule { self.new.rule ≡ self.old.rule }
     {
         self.id = id;
         self.erase = false;
@@ -104,7 +109,7 @@ impl StepDraft {
 
     /// Takes the deletion that the numbers say.
     fn take_deletion(&mut self, line: u64) -> Result<(), TextFault>
-        ensures { AnswersFault (numbers_fault self.old.above line true self.old.numbers.items)
+        ensures { AnswersFault (numbers_fault self.old.rule self.old.above line true self.old.numbers.items)
             (λ _. TakesStep self.old self.new (step_of true self.old.numbers.items)) result }
     {
         let said = match deletion_said(&self.numbers, line) {
@@ -121,10 +126,10 @@ impl StepDraft {
 
     /// Takes the added clause that the numbers say.
     fn take_addition(&mut self, line: u64) -> Result<(), TextFault>
-        ensures { AnswersFault (numbers_fault self.old.above line false self.old.numbers.items)
+        ensures { AnswersFault (numbers_fault self.old.rule self.old.above line false self.old.numbers.items)
             (λ _. TakesStep self.old self.new (step_of false self.old.numbers.items)) result }
     {
-        let said = match addition_said(&self.numbers, self.above, line) {
+        let said = match addition_said(&self.numbers, self.rule, self.above, line) {
             Ok(said) => said,
             Err(fault) => return Err(fault),
         };
@@ -143,9 +148,10 @@ impl StepDraft {
     /// Takes a line if it adds a clause and has no fault, as nearly all do, and answers whether it
     /// does. Where it doesn't, or memory is short, no step is taken, and `take_any_line` says why.
     fn take_faultless_addition(&mut self, line: &mut Line<'_>) -> bool
-        ensures clean { IsTrue result → step_line_fault self.old.above line.old ≡ None }
+        ensures clean { IsTrue result → step_line_fault self.old.rule self.old.above line.old ≡ None }
         ensures step { IsTrue result → TakesStep self.old self.new (said_step line.old.words) }
         ensures kept { result ≡ false → self.new.above ≡ self.old.above }
+        ensures rule { self.new.rule ≡ self.old.rule }
     {
         self.erase = true;
         let Some(id) = line.next_number() else {
@@ -166,7 +172,7 @@ impl StepDraft {
 
     /// Takes a line.
     pub fn take_line(&mut self, line: &mut Line<'_>) -> Result<(), TextFault>
-        ensures { AnswersFault (step_line_fault self.old.above line.old)
+        ensures { AnswersFault (step_line_fault self.old.rule self.old.above line.old)
             (λ _. TakesStep self.old self.new (said_step line.old.words)) result }
     {
         if self.take_faultless_addition(&mut line.again()) {
@@ -177,7 +183,7 @@ impl StepDraft {
 
     /// Takes a line of any form.
     fn take_any_line(&mut self, line: &mut Line<'_>) -> Result<(), TextFault>
-        ensures { AnswersFault (step_line_fault self.old.above line.old)
+        ensures { AnswersFault (step_line_fault self.old.rule self.old.above line.old)
             (λ _. TakesStep self.old self.new (said_step line.old.words)) result }
     {
         let number = line.number();

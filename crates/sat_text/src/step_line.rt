@@ -1,16 +1,18 @@
 //! The numbers of a line of an LRAT text, and the step that they say.
-ghost use Rattle.std.specs.Prelude.{◌≡◌, ◌<◌, ◌∷◌, [], ℕ, ℤ, option_map, nat_abs, true, false, map, All, IfOk, IfErr, OnOk, IfSome, IfNone, None, Some, if◌then◌else◌};
+ghost use Rattle.std.specs.Prelude.{◌≡◌, ◌<◌, ◌∷◌, [], ◌&&◌, ℕ, ℤ, option_map, nat_abs, true, false, map, All, IfOk, IfErr, OnOk, IfSome, IfNone, None, Some, if◌then◌else◌};
 ghost use Rattle.std.specs.List.{list_any, slice_split};
 ghost use Rattle.fpga_text.specs.declared.fault.TextFault.TheVariants.{Bad};
 ghost use Rattle.sat_clause.specs.Literal.{IsLiteral, lit};
 ghost use Rattle.sat_clause.specs.Step.{Added, Erased};
 ghost use Rattle.fpga_text.specs.FirstFault.{AnswersFault, IsFaultOf};
 ghost use Rattle.sat_text.specs.ByNumbers.{numbers_fault};
+ghost use Rattle.sat_text.specs.declared.hint_rule.HintRule.{HintRule as HintRuleOf};
 ghost use Rattle.sat_text.specs.FrontNumbers.{IsAtNoNumber, PushesFront};
-ghost use Rattle.sat_text.specs.LratText.{added_by, added_limit, added_step, begins_with_d as begins_with_d_of, deleted_ids, due_words, ends_with_zero, erased_limit, erased_step, first_past as first_past_of, is_below_zero, is_deletion, is_not_positive};
+ghost use Rattle.sat_text.specs.LratText.{added_by, added_limit, added_step, bars, begins_with_d as begins_with_d_of, deleted_ids, due_words, ends_with_zero, erased_limit, erased_step, first_past as first_past_of, is_below_zero, is_deletion, is_not_positive};
 ghost use Rattle.sat_text.specs.Numbers.{is_zero as is_zero_of, lacks_number, numbers_of};
 
 use crate::cause::Cause;
+use crate::hint_rule::HintRule;
 use crate::number::is_zero;
 use fpga_text::{Coded, Line, TextFault};
 use sat_clause::{ID_LIMIT, VARIABLE_LIMIT};
@@ -125,6 +127,19 @@ fn has_negative(numbers: &[i64]) -> bool
     numbers.iter().any(|n| *n < 0)
 }
 
+/// Whether one of the hints is negative and may not be so at a clause of these literals.
+fn has_barred_hint(rule: HintRule, lits: &[i64], hints: &[i64]) -> bool
+    ensures { result ≡ (list_any is_below_zero hints.now && bars rule (map lit lits.now)) }
+{
+    if !has_negative(hints) {
+        return false;
+    }
+    match rule {
+        HintRule::Plain => true,
+        HintRule::Full => lits.is_empty(),
+    }
+}
+
 /// Whether one of the numbers is negative or 0.
 fn has_not_positive(numbers: &[i64]) -> bool
     ensures { result ≡ list_any is_not_positive numbers.now }
@@ -174,9 +189,10 @@ pub fn deletion_said<'a>(numbers: &'a [i64], line: u64) -> Result<Deletion<'a>, 
     ensures step { IfOk result (λ said. erased_step numbers.now ≡ Some
         (Erased said.id said.ids.now)) }
     ensures clean { IfOk result
-        (λ _. (above : ℕ) → numbers_fault above line true numbers.now ≡ None) }
-    ensures err { IfErr result (λ fault. (above : ℕ) → IsFaultOf
-        (numbers_fault above line true numbers.now)
+        (λ _. (rule : HintRuleOf) (above : ℕ)
+        → numbers_fault rule above line true numbers.now ≡ None) }
+    ensures err { IfErr result (λ fault. (rule : HintRuleOf) (above : ℕ) → IsFaultOf
+        (numbers_fault rule above line true numbers.now)
         fault) }
 {
     let Some((id, more)) = numbers.split_first() else {
@@ -218,9 +234,10 @@ fn clause_and_hints<'a>(numbers: &'a [i64]) -> Option<(&'a [i64], &'a [i64])>
 }
 
 /// The added clause that the numbers of a line say, or why they are refused. Its id has to be above
-/// this number.
+/// this number, and its hints have to keep the rule.
 pub fn addition_said<'a>(
     numbers: &'a [i64],
+    rule: HintRule,
     above: u32,
     line: u64,
 ) -> Result<Addition<'a>, TextFault>
@@ -228,8 +245,8 @@ pub fn addition_said<'a>(
         (Added said.id (map lit said.lits.now) said.hints.now)) }
     ensures above { IfOk result (λ said. above < said.id) }
     ensures literals { IfOk result (λ said. All (λ n. IsLiteral (lit n)) said.lits.now) }
-    ensures clean { IfOk result (λ _. numbers_fault above line false numbers.now ≡ None) }
-    ensures err { IfErr result (IsFaultOf (numbers_fault above line false numbers.now)) }
+    ensures clean { IfOk result (λ _. numbers_fault rule above line false numbers.now ≡ None) }
+    ensures err { IfErr result (IsFaultOf (numbers_fault rule above line false numbers.now)) }
 {
     let Some((id, more)) = numbers.split_first() else {
         return Err(Cause::StepForm.at(line));
@@ -243,7 +260,7 @@ pub fn addition_said<'a>(
     if *id <= i64::from(above) {
         return Err(Cause::IdOrder.at(line));
     }
-    if has_negative(hints) {
+    if has_barred_hint(rule, lits, hints) {
         return Err(Cause::HintSign.at(line));
     }
     if let Some(count) = addition_limit(*id, lits, hints) {

@@ -1,6 +1,6 @@
 //! Worked texts, as they are printed and read, and hostile ones.
 use crate::laws::{printed_formulas_read_back, printed_logs_read_back};
-use crate::read::{read_cnf, read_lrat};
+use crate::read::{read_cnf, read_lrat, read_lrat_full};
 use crate::write::write_cnf;
 use crate::write_log::write_lrat;
 use desk_io::{MemShelf, Shelf};
@@ -166,4 +166,15 @@ fn logs_that_are_refused(rt: HostRuntime) {
         let answer = read_lrat(rt.alloc(), text, 3).map(|_| ());
         assert_eq!(rt; answer, Err(fault), "{text:?}");
     }
+}
+
+#[test]
+fn logs_of_full_lrat(rt: HostRuntime) -> Result<(), Fail> {
+    let log = read_lrat_full(rt.alloc(), b"5 -3 -1 0 -4 -0 \n4 d 5 0\n", 3)?;
+    let numbers = log_said(rt.alloc(), &log)?;
+    let want: &[i64] = &[5, 0, -3, -1, 0, -4, 0, 4, 1, 0, 5, 0];
+    assert_eq!(rt; numbers.as_slice(), want);
+    let answer = read_lrat_full(rt.alloc(), b"4 1 0 -1 0\n5 0 1 -4 0\n", 3).map(|_| ());
+    assert_eq!(rt; answer, Err(bad(2, 704)));
+    Ok(())
 }

@@ -18,12 +18,12 @@ above c =
     (rw (c.from.ensures, least, same c) at c.if-id-from.false)
 
 -- the line was taken to its end
-taken : (c : After-add) → AddsClause c.args.self.now.above c.args.line.now (nat_abs c.in-Some.id)
+taken : (c : After-add) → AddsClause c.args.self.now.rule c.args.self.now.above c.args.line.now (nat_abs c.in-Some.id)
     c.front_literals.new.lits.items c.front_hints.new.hints.items
 taken c =
     let over = above c in
     let few = rw (same c) at c.if-id-gt-MOST_ID.false in
-    addition_taken c.args.self.now.above c.args.line.now c.next_number.new.self.words
+    addition_taken c.args.self.now.rule c.args.self.now.above c.args.line.now c.next_number.new.self.words
     c.front_literals.new.line.words c.front_hints.new.line.words (nat_abs c.in-Some.id)
     c.front_literals.new.lits.items c.front_hints.new.hints.items
     (ap (λ n. Some n) (sym over.plain) ∙ c.in-Some.ensures.number)
@@ -48,4 +48,5 @@ returns-clause-step c _ =
       says = rw (c.add.ensures.step, same at) refl;
       above = rw (c.add.ensures.above, same at)
           (greater c.args.self.now.above (nat_abs c.in-Some.id) over.over);
+      rule = c.add.ensures.rule;
     })
