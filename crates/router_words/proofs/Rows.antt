@@ -3,10 +3,11 @@ use Rattle.std.proofs.Common.{◌≡◌, ℕ, Bool, true, false, List, [], ◌�
 use Rattle.std.specs.Prelude.{Result, Ok, Err}
 use Rattle.clap.proofs.OnLiterals.{clap_on_literals}
 use Rattle.router_words.specs.Command.{job_of}
-use Rattle.router_words.specs.Job.{Checks, FilesAsked, Generates, JobAsked, Routes, Sweeps, Tries, Verifies}
+use Rattle.router_words.specs.Job.{Checks, FilesAsked, Generates, JobAsked, Routes, SearchAsked, Sweeps, Tries, Verifies}
 use Rattle.router_words.specs.Word.{Word}
 use Rattle.router_words.specs.declared.fault.Refusal.{Refusal}
 use Rattle.router_words.specs.declared.fault.Refusal.TheVariants.{Command, Form, Number}
+use Rattle.router_words.specs.declared.method.Method.TheVariants.{Strictly}
 
 abbrev Asked : Type 0
 Asked = Result JobAsked Refusal
@@ -19,11 +20,21 @@ four_files = record {
   route = codes "r";
 }
 
+-- what a search is told without an option of its method
+abbrev told : ℕ → Word → ℕ → Bool → SearchAsked
+told width prefix conflicts keep = record {
+  width = width;
+  prefix = prefix;
+  conflicts = conflicts;
+  keep = keep;
+  method = Strictly;
+}
+
 -- a route of the files a, n, p and r
 abbrev routes : ℕ → Word → ℕ → Bool → Asked
 routes width prefix conflicts keep = Ok (Routes (record {
   files = four_files;
-  search = record { width = width; prefix = prefix; conflicts = conflicts; keep = keep };
+  search = told width prefix conflicts keep;
 }))
 
 -- `route a n p r` and more words
@@ -100,7 +111,7 @@ sweep more = job_of (codes "sweep" ∷ codes "a" ∷ codes "n" ∷ codes "p" ∷
 pub sweeps : sweep (codes "8" ∷ codes "out" ∷ codes "--conflicts" ∷ codes "7" ∷ [])
     ≡ Ok (Sweeps (record {
       files = four_files;
-      search = record { width = 8; prefix = codes "out"; conflicts = 7; keep = false };
+      search = told 8 (codes "out") 7 false;
     }))
 unfolding clap_on_literals
 sweeps = refl
@@ -172,7 +183,7 @@ pub tries : job_of (codes "trial" ∷ codes "1" ∷ codes "6" ∷ codes "30" ∷
     ∷ codes "--conflicts" ∷ codes "200" ∷ [])
     ≡ Ok (Tries (record {
       recipe = record { seed = 1; side = 6; nets = 30 };
-      search = record { width = 10; prefix = codes "t"; conflicts = 200; keep = false };
+      search = told 10 (codes "t") 200 false;
     }))
 unfolding clap_on_literals
 tries = refl

@@ -17,6 +17,7 @@ use Rattle.router_words.specs.declared.fault.WordsFault.{WordsFault}
 use Rattle.router_words.specs.declared.fault.WordsFault.TheVariants.{Memory, Refused}
 use Rattle.router_words.specs.declared.job.Job.{Job}
 use Rattle.router_words.specs.declared.limits.TheConstants.{BUDGET_DEFAULT, BUDGET_LIMIT, GENERATED_NETS_LIMIT, SEED_LIMIT}
+use Rattle.router_words.specs.declared.method.Method.TheVariants.{Strictly}
 
 -- ---- what stands in the matches of a form
 
@@ -60,6 +61,7 @@ search_with rows (Some width) (Some conflicts) = Some (record {
   prefix = word_in (codes "prefix") rows;
   conflicts = conflicts;
   keep = has_flag (codes "keep") rows;
+  method = Strictly;
 })
 search_with rows _ _ = None
 
@@ -116,6 +118,7 @@ encode_asked rows = option_map (λ width. Encodes (record {
   files = files_asked rows;
   width = width;
   prefix = word_in (codes "prefix") rows;
+  method = Strictly;
 })) (width_asked rows)
 
 -- what `check` is asked for

@@ -13,6 +13,7 @@ use Rattle.router_words.specs.declared.job.SearchJob.{SearchJob}
 use Rattle.router_words.specs.declared.job.SweepJob.{SweepJob}
 use Rattle.router_words.specs.declared.job.TrialJob.{TrialJob}
 use Rattle.router_words.specs.declared.job.VerifyJob.{VerifyJob}
+use Rattle.router_words.specs.declared.method.Method.{Method}
 
 -- the names of the files of a problem
 pub record FilesAsked : Type 0 where
@@ -22,12 +23,14 @@ pub record FilesAsked : Type 0 where
   pub route : Word
 
 -- what a search is told: the width, or the greatest one that is tried; what the names of written
--- files begin with; how many clauses may be learned at each width, and whether none is forgotten
+-- files begin with; how many clauses may be learned at each width, and whether none is forgotten;
+-- and how routings are said by clauses
 pub record SearchAsked : Type 0 where
   pub width : ℕ
   pub prefix : Word
   pub conflicts : ℕ
   pub keep : Bool
+  pub method : Method
 
 -- to look for a routing: the files, and what the search is told
 pub record RouteAsked : Type 0 where
@@ -39,11 +42,13 @@ pub record SweepAsked : Type 0 where
   pub files : FilesAsked
   pub search : SearchAsked
 
--- to write the clauses: the files, the width, and what the name of the written file begins with
+-- to write the clauses: the files, the width, what the name of the written file begins with, and
+-- how routings are said by clauses
 pub record EncodeAsked : Type 0 where
   pub files : FilesAsked
   pub width : ℕ
   pub prefix : Word
+  pub method : Method
 
 -- to check a refutation: the names of the CNF file and of the LRAT file
 pub record CheckAsked : Type 0 where
@@ -100,6 +105,7 @@ search_said search = record {
   prefix = search.prefix.now;
   conflicts = search.conflicts;
   keep = search.keep;
+  method = search.method;
 }
 
 abbrev pub route_said : RouteJob → RouteAsked
@@ -113,6 +119,7 @@ encode_said job = record {
   files = files_said job.files;
   width = job.width;
   prefix = job.prefix.now;
+  method = job.method;
 }
 
 abbrev pub check_said : CheckJob → CheckAsked

@@ -14,6 +14,7 @@ use crate::job::{
 };
 use crate::limits::{BUDGET_DEFAULT, BUDGET_LIMIT, GENERATED_NETS_LIMIT, SEED_LIMIT};
 use crate::matched::{first_word, is_given, number_within, required_word};
+use crate::method::Method;
 use clap::ArgMatches;
 use fpga_types::{SIDE_LIMIT, WIDTH_LIMIT};
 
@@ -99,6 +100,7 @@ fn search<'a>(matches: &ArgMatches<'a>) -> Option<SearchJob<'a>>
         prefix: required_word(matches, "prefix"),
         conflicts,
         keep: is_given(matches, "keep"),
+        method: Method::Strictly,
     })
 }
 
@@ -142,6 +144,7 @@ pub fn encode_job<'a>(matches: &ArgMatches<'a>) -> Option<Job<'a>>
         files: file_names(matches),
         width,
         prefix: required_word(matches, "prefix"),
+        method: Method::Strictly,
     }))
 }
 

@@ -3,6 +3,8 @@ ghost use Rattle.std.specs.Prelude.{◌≤◌};
 ghost use Rattle.fpga_types.specs.declared.limits.TheConstants.{SIDE_LIMIT, WIDTH_LIMIT};
 ghost use Rattle.router_words.specs.declared.limits.TheConstants.{BUDGET_LIMIT, GENERATED_NETS_LIMIT, SEED_LIMIT};
 
+use crate::method::Method;
+
 /// The names of the files of a problem.
 #[derive(Clone, Copy, Debug)]
 pub struct FourNames<'a> {
@@ -27,6 +29,8 @@ pub struct SearchJob<'a> {
     pub conflicts: u64,
     /// Whether no clause is forgotten.
     pub keep: bool,
+    /// How routings are said by clauses.
+    pub method: Method,
     ghost in_range: { (1 ≤ width) × (width ≤ WIDTH_LIMIT) },
     ghost affordable: { (1 ≤ conflicts) × (conflicts ≤ BUDGET_LIMIT) },
 }
@@ -58,6 +62,8 @@ pub struct EncodeJob<'a> {
     pub width: u32,
     /// What the name of the file that is written begins with.
     pub prefix: &'a str,
+    /// How routings are said by clauses.
+    pub method: Method,
     ghost in_range: { (1 ≤ width) × (width ≤ WIDTH_LIMIT) },
 }
 

@@ -35,6 +35,7 @@ mod from_matches;
 mod job;
 mod limits;
 mod matched;
+mod method;
 mod read;
 #[cfg(test)]
 mod tests;
@@ -45,4 +46,5 @@ pub use job::{
     VerifyJob,
 };
 pub use limits::{BUDGET_DEFAULT, BUDGET_LIMIT, GENERATED_NETS_LIMIT, SEED_LIMIT};
+pub use method::Method;
 pub use read::read_words;
