@@ -7,10 +7,9 @@ use Rattle.fpga_route.specs.Value.{route_value}
 use Rattle.fpga_types.specs.Problem.{RoutingProblem}
 use Rattle.fpga_types.specs.Slots.{slots}
 use Rattle.fpga_types.specs.declared.limits.TheConstants.{SLOT_LIMIT}
-use Rattle.route_encode.specs.Encoding.{cnf_of}
-use Rattle.route_encode.specs.Exact.{IsUnroutableAt}
 use Rattle.route_sweep.specs.Found.{HasFew}
 use Rattle.route_verify.specs.Judged.{judged}
+use Rattle.sat_clause.specs.Formula.{Cnf}
 use Rattle.sat_clause.specs.Judge.{judge}
 use Rattle.sat_text.specs.CnfText.{cnf_said}
 use Rattle.sat_text.specs.LratText.{lrat_said}
@@ -21,6 +20,7 @@ use Rattle.router_words.specs.Word.{Word}
 use Rattle.router_words.specs.declared.fault.Refusal.{Refusal}
 use Rattle.router_top.specs.Check.{ChecksTo, cnf_source, judgement_outcome, lrat_source}
 use Rattle.router_top.specs.Generated.{IsTooLarge, Makes}
+use Rattle.router_top.specs.Method.{HasNone, clauses_by}
 use Rattle.router_top.specs.Search.{Search, route_search, sweep_of, sweep_search}
 use Rattle.router_top.specs.Sources.{IsHalted, ReadsThen}
 use Rattle.router_top.specs.Truth.{Agrees, IsOpenBelow, IsReached, IsTrueAt, IsTrueOf, IsTrueOfClauses, IsTrueOfJob, IsTrueOfRecipe, IsTrueOfSearch, IsTrueOfWork}
@@ -46,14 +46,14 @@ work-agrees files names says a b (inr h) (inr g) agree =
     agree h.0 h.2 (subst (λ (p : RoutingProblem). says p b)
     (one-problem files names g.0 h.0 g.1 h.1) g.2)
 
--- so of what is true of the clauses at a width
-clauses-agree : (width : ℕ) (p : RoutingProblem) (says : Outcome → Type 0) (a b : Outcome)
-    → IsTrueOfClauses width p (says a) a → IsTrueOfClauses width p (says b) b
+-- so of what is true of a formula
+clauses-agree : (formula : Cnf) (says : Outcome → Type 0) (a b : Outcome)
+    → IsTrueOfClauses formula (says a) a → IsTrueOfClauses formula (says b) b
     → (says a → says b → Agrees a b) → Agrees a b
-clauses-agree width p says a b (inl h) (inl g) agree = inl (h.1 ∙ sym g.1)
-clauses-agree width p says a b (inl h) (inr g) agree = absurd (omega (arith, h.0, g.0))
-clauses-agree width p says a b (inr h) (inl g) agree = absurd (omega (arith, g.0, h.0))
-clauses-agree width p says a b (inr h) (inr g) agree = agree h.1 g.1
+clauses-agree formula says a b (inl h) (inl g) agree = inl (h.1 ∙ sym g.1)
+clauses-agree formula says a b (inl h) (inr g) agree = absurd (omega (arith, h.0, g.0))
+clauses-agree formula says a b (inr h) (inl g) agree = absurd (omega (arith, g.0, h.0))
+clauses-agree formula says a b (inr h) (inr g) agree = agree h.1 g.1
 
 -- ---- a search
 
@@ -72,7 +72,8 @@ order (suc k) (suc n) = next (order k n)
 module _ (search : Search) (p : RoutingProblem) where
   -- what is true of the clauses at a width
   abbrev IsTrueThere : (width : ℕ) → Outcome → Type 0
-  IsTrueThere width outcome = IsTrueOfClauses width p (IsTrueAt search p width outcome) outcome
+  IsTrueThere width outcome = IsTrueOfClauses (clauses_by search.method width p)
+      (IsTrueAt search p width outcome) outcome
 
   -- the search was left open, and came to another outcome at the same width or at a higher one
   open-below : (width higher : ℕ) (a b : Outcome) → width ≤ higher
@@ -96,8 +97,8 @@ module _ (search : Search) (p : RoutingProblem) where
   was-open width higher a at on low there =
       let shown = on.lower width at.from low in go shown.0 shown.1 there
     where
-      go : HasFew (cnf_of width p) → IsUnroutableAt width p → IsTrueThere width a
-          → a ≡ Undecided width search.ask.budget
+      go : HasFew (clauses_by search.method width p) → HasNone search.method width p
+          → IsTrueThere width a → a ≡ Undecided width search.ask.budget
       go few none (inl h) = absurd (omega (arith, few, h.0))
       go few none (inr (so, inl h)) = absurd (none h.0.0 h.0.1)
       go few none (inr (so, inr (inl h))) = absurd (omega (arith, h.1, low, on.to))
@@ -206,8 +207,10 @@ job-agrees (Sweeps job) files a b h g =
     work-agrees files job.files (IsTrueOfSearch (sweep_search job)) a b h g
     (λ p u v. search-agrees (sweep_search job) p a b u v)
 job-agrees (Encodes job) files a b h g =
-    work-agrees files job.files (λ p said. IsTrueOfClauses job.width p (said ≡ Done) said) a b h g
-    (λ p u v. clauses-agree job.width p (λ said. said ≡ Done) a b u v (λ s t. inl (s ∙ sym t)))
+    work-agrees files job.files (λ p said. IsTrueOfClauses (clauses_by job.method job.width p)
+    (said ≡ Done) said) a b h g
+    (λ p u v. clauses-agree (clauses_by job.method job.width p) (λ said. said ≡ Done) a b u v
+    (λ s t. inl (s ∙ sym t)))
 job-agrees (Checks job) files a b h g = inl (check-agrees job files a b h g)
 job-agrees (Verifies job) files a b h g = verify-agrees job files a b h g
 job-agrees (Generates job) files a b h g =

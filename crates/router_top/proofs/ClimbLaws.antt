@@ -8,26 +8,25 @@ use Rattle.desk_io.specs.ShelfState.{ShelfState}
 use Rattle.fpga_types.specs.Fits.{Fits}
 use Rattle.fpga_types.specs.Problem.{RoutingProblem}
 use Rattle.fpga_types.specs.declared.route.RouteText.{RouteText}
-use Rattle.route_encode.specs.Encoding.{cnf_of}
-use Rattle.route_encode.specs.Exact.{IsUnroutableAt}
-use Rattle.route_encode.specs.Good.{IsRoutingOf}
 use Rattle.route_sweep.specs.Asked.{Asked}
 use Rattle.route_sweep.specs.Climb.{AreRefuted, ClimbsTo, ComesTo}
-use Rattle.route_sweep.specs.Found.{FindsAt, HasFew, IsRefutedBy, WritesLog}
+use Rattle.route_sweep.specs.Found.{HasFew, IsRefutedBy, WritesLog}
 use Rattle.route_sweep.specs.declared.found.Climbed.{Climbed}
-use Rattle.route_sweep.specs.declared.found.Climbed.TheVariants.{Routed as IsLeast, Unroutable as HasNone, Undecided as IsOpen}
+use Rattle.route_sweep.specs.declared.found.Climbed.TheVariants.{Routed as IsLeast, Unroutable as NoneRouted, Undecided as IsOpen}
 use Rattle.route_sweep.specs.declared.found.Found.{Found}
 use Rattle.route_sweep.specs.declared.found.Found.TheVariants.{Routed as IsRouted, Refuted, Spent}
 use Rattle.route_sweep.specs.declared.found.Stop.{Stop}
 use Rattle.sat_clause.specs.Formula.{Cnf}
 use Rattle.sat_clause.specs.Step.{Step}
 use Rattle.router_top.specs.Comes.{IsRefutedAt}
+use Rattle.router_top.specs.Method.{HasNone, IsRoutingBy, clauses_by}
 use Rattle.router_top.specs.Outcomes.{climbed_outcome, found_outcome}
 use Rattle.router_top.specs.Search.{Search}
 use Rattle.router_top.specs.SearchFiles.{proof_files}
+use Rattle.router_top.specs.Work.{Finds}
 use Rattle.router_top.specs.Written.{NamedText, with_files}
 use Rattle.router_top.specs.declared.outcome.Outcome.TheVariants.{Unroutable}
-use Rattle.router_top.proofs.UnroutableLaws.{none-legal}
+use Rattle.router_top.proofs.MethodLaws.{none-legal}
 use Rattle.router_top.proofs.WrittenLaws.{with_files-append}
 
 -- ---- numbers and lists
@@ -120,7 +119,7 @@ module _ (ask : Asked) (most : ℕ) (formula : ℕ → Cnf) (good : ℕ → Rout
       → ClimbsTo ask most formula good before now came → EndsAt came
   climb-ends some (Ok (IsLeast width)) h =
       record { width = width; found = Ok IsRouted; comes = h; is = refl; last = λ bad. cc }
-  climb-ends some (Ok (HasNone width)) h = record {
+  climb-ends some (Ok (NoneRouted width)) h = record {
     width = most;
     found = Ok Refuted;
     comes = last-refuted most refl some h.1;
@@ -138,20 +137,22 @@ module _ (search : Search) (p : RoutingProblem) (fits : Fits p) where
   -- the widths up to this one were refuted
   abbrev HasClimbed : ℕ → ShelfState → ShelfState → Type 0
   HasClimbed =
-      AreRefuted search.ask (λ width. cnf_of width p) (λ width. IsRoutingOf width p)
+      AreRefuted search.ask (λ width. clauses_by search.method width p)
+      (λ width. IsRoutingBy search.method width p)
 
   -- a width was refuted, behind lower ones
-  module _ (below : ℕ) (between now : ShelfState) (found : FindsAt search.ask (suc below)
-      (cnf_of (suc below) p) (IsRoutingOf (suc below) p) between now (Ok Refuted)) where
-    abbrev wrote : WritesLog search.ask (suc below) (cnf_of (suc below) p)
-        (IsRefutedBy search.ask (cnf_of (suc below) p) (IsRoutingOf (suc below) p)) between now
+  module _ (below : ℕ) (between now : ShelfState)
+      (found : Finds search p (suc below) between now (Ok Refuted)) where
+    abbrev wrote : WritesLog search.ask (suc below) (clauses_by search.method (suc below) p)
+        (IsRefutedBy search.ask (clauses_by search.method (suc below) p)
+        (IsRoutingBy search.method (suc below) p)) between now
     wrote = found.1
 
     refuted-at : IsRefutedAt search p (suc below) wrote.log
     refuted-at = record {
       few = found.0;
       refuted = wrote.ends;
-      none_legal = none-legal (suc below) p wrote.log fits wrote.ends.refutes.accepts;
+      none_legal = none-legal search.method (suc below) p wrote.log fits wrote.ends.refutes.accepts;
       reads_back = record { clauses = wrote.clauses_back; steps = wrote.log_back };
     }
 
@@ -173,12 +174,14 @@ module _ (search : Search) (p : RoutingProblem) (fits : Fits p) where
 
   -- the clauses are few and no routing is legal
   pub climbed-unroutable : (below : ℕ) (before now : ShelfState) → HasClimbed below before now
-      → (k : ℕ) → 1 ≤ k → k ≤ below → HasFew (cnf_of k p) × IsUnroutableAt k p
+      → (k : ℕ) → 1 ≤ k → k ≤ below
+      → HasFew (clauses_by search.method k p) × HasNone search.method k p
   climbed-unroutable zero before now h k low high = absurd (omega (arith, low, high))
   climbed-unroutable (suc below) before now (between, lower, found) k low high =
       elim (next-or-below k below high) [
         | inl same ↦ (let this = refuted-at below between now found in
-            subst (λ (n : ℕ). HasFew (cnf_of n p) × IsUnroutableAt n p) (sym same)
+            subst (λ (n : ℕ). HasFew (clauses_by search.method n p)
+            × HasNone search.method n p) (sym same)
             (this.few, this.none_legal))
         | inr less ↦ climbed-unroutable below before between lower k low less
       ]

@@ -6,9 +6,6 @@ use Rattle.desk_io.specs.ShelfState.{ShelfState, after_say}
 use Rattle.fpga_types.specs.Problem.{RoutingProblem}
 use Rattle.fpga_types.specs.declared.limits.TheConstants.{WIDTH_LIMIT}
 use Rattle.fpga_types.specs.declared.route.RouteText.{RouteText}
-use Rattle.route_encode.specs.Encoding.{cnf_of}
-use Rattle.route_encode.specs.Good.{IsRoutingOf}
-use Rattle.route_sweep.specs.Found.{FindsAt}
 use Rattle.route_sweep.specs.declared.found.Climbed.{Climbed}
 use Rattle.route_sweep.specs.declared.found.Found.{Found}
 use Rattle.route_sweep.specs.declared.found.Found.TheVariants.{Refuted}
@@ -21,12 +18,13 @@ use Rattle.router_top.specs.Comes.{ComesTo, lower_files}
 use Rattle.router_top.specs.FourFiles.{Poses}
 use Rattle.router_top.specs.Generated.{Makes}
 use Rattle.router_top.specs.JobFiles.{IsClimb}
+use Rattle.router_top.specs.Method.{IsRoutingBy, clauses_by}
 use Rattle.router_top.specs.Outcomes.{climbed_outcome, found_outcome}
 use Rattle.router_top.specs.Run.{Scene}
 use Rattle.router_top.specs.Search.{files_of, route_search, search_asked, sweep_of, sweep_search}
 use Rattle.router_top.specs.SearchFiles.{proof_files, route_file}
 use Rattle.router_top.specs.Trial.{trial_line}
-use Rattle.router_top.specs.Work.{Searches, Sweeps}
+use Rattle.router_top.specs.Work.{Finds, Searches, Sweeps}
 use Rattle.router_top.specs.Written.{NamedText, with_files}
 use Rattle.router_top.specs.declared.outcome.Outcome.{Outcome}
 use Rattle.router_top.proofs.ClimbLaws.{EndsAt, climb-ends, climbed-logs, climbed-said}
@@ -49,8 +47,7 @@ pub record HasCome (words : List Word) (at : Scene) (outcome : Outcome) : Type 0
   pub proof_apart : (log : List Step)
       → AreApart (lower_files comes ++ proof_files comes.search comes.p width log)
   pub came : Result Found Stop
-  pub finds : FindsAt comes.search.ask width (cnf_of width comes.p) (IsRoutingOf width comes.p)
-      between at.shelf_now came
+  pub finds : Finds comes.search comes.p width between at.shelf_now came
   pub last : came ≡ Ok Refuted → width ≡ comes.search.last
   pub is : outcome ≡ found_outcome width came
 
@@ -108,8 +105,9 @@ module _ (words : List Word) (at : Scene) where
       (poses : Poses (files_of which at.desk.files) job.files p)
       (narrow : job.search.width ≤ WIDTH_LIMIT) where
     ends-come : (came : Result Climbed Stop) (o : Outcome) → o ≡ climbed_outcome came
-        → EndsAt (sweep_search job).ask job.search.width (λ width. cnf_of width p)
-        (λ width. IsRoutingOf width p) at.shelf at.shelf_now came
+        → EndsAt (sweep_search job).ask job.search.width
+        (λ width. clauses_by job.search.method width p)
+        (λ width. IsRoutingBy job.search.method width p) at.shelf at.shelf_now came
         → HasCome words at o
     ends-come came o is end =
         let search = sweep_search job in
@@ -153,8 +151,10 @@ module _ (words : List Word) (at : Scene) where
 
     pub sweep-comes : (o : Outcome) → Sweeps job p at.shelf at.shelf_now o → HasCome words at o
     sweep-comes o did = ends-come did.came o did.is
-        (climb-ends (sweep_search job).ask job.search.width (λ width. cnf_of width p)
-        (λ width. IsRoutingOf width p) at.shelf at.shelf_now did.some did.came did.climbs)
+        (climb-ends (sweep_search job).ask job.search.width
+        (λ width. clauses_by job.search.method width p)
+        (λ width. IsRoutingBy job.search.method width p) at.shelf at.shelf_now did.some did.came
+        did.climbs)
 
 -- the scene behind the trial line
 abbrev pub behind_line : Scene → RoutingProblem → Scene

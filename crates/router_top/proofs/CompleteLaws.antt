@@ -8,7 +8,6 @@ use Rattle.desk_io.specs.WholeFile.{FailsToWrite, after_writing}
 use Rattle.desk_io.proofs.FileLemmas.{has_risen}
 use Rattle.fpga_route.specs.Value.{route_value}
 use Rattle.fpga_types.specs.Fits.{Fits}
-use Rattle.fpga_types.specs.Legal.{tracks_of}
 use Rattle.fpga_types.specs.Problem.{RoutingProblem}
 use Rattle.fpga_types.specs.declared.route.RouteText.{RouteText}
 use Rattle.sat_clause.specs.Formula.{Cnf}
@@ -16,11 +15,9 @@ use Rattle.sat_clause.specs.Judge.{judge}
 use Rattle.sat_clause.specs.declared.limits.TheConstants.{CLAUSE_LIMIT}
 use Rattle.sat_text.specs.CnfText.{cnf_said}
 use Rattle.sat_text.specs.LratText.{lrat_said}
-use Rattle.route_encode.specs.Encoding.{cnf_of}
-use Rattle.route_encode.specs.Good.{IsRoutingOf}
 use Rattle.route_verify.specs.Judged.{judged}
 use Rattle.route_sweep.specs.Asked.{Asked}
-use Rattle.route_sweep.specs.Found.{FailsOn, FindsAt}
+use Rattle.route_sweep.specs.Found.{FailsOn}
 use Rattle.route_sweep.specs.declared.found.Climbed.{Climbed}
 use Rattle.route_sweep.specs.declared.found.FileSlot.{FileSlot}
 use Rattle.route_sweep.specs.declared.found.FileSlot.TheVariants.{Route as RouteSlot, Clauses, Log}
@@ -36,6 +33,7 @@ use Rattle.router_words.specs.declared.fault.Refusal.{Refusal}
 use Rattle.router_top.specs.Check.{ChecksTo, cnf_source, judgement_outcome, lrat_source}
 use Rattle.router_top.specs.Files.{FailsAmong, WritesFiles, problem_slots}
 use Rattle.router_top.specs.Generated.{generated_files}
+use Rattle.router_top.specs.Method.{IsRoutingBy, clauses_by}
 use Rattle.router_top.specs.Outcomes.{climbed_outcome, found_outcome, written_outcome}
 use Rattle.router_top.specs.Report.{line_of}
 use Rattle.router_top.specs.Run.{Leaves, LeavesJob, LeavesMade, LeavesWork, Runs, Scene, TriesGenerated, scene}
@@ -44,7 +42,7 @@ use Rattle.router_top.specs.Sources.{IsHalted, IsStopped, ReadsThen}
 use Rattle.router_top.specs.Trial.{Tries, trial_line}
 use Rattle.router_top.specs.Truth.{Agrees, IsComplete, IsReached, IsTrueOf, IsTrueOfClauses, IsTrueOfJob, IsTrueOfRecipe, IsTrueOfSearch, IsTrueOfWork}
 use Rattle.router_top.specs.Verify.{VerifiesTo, judged_outcome, routed_source}
-use Rattle.router_top.specs.Work.{Encodes, Searches, Sweeps, WritesClauses}
+use Rattle.router_top.specs.Work.{Encodes, Finds, Searches, Sweeps, WritesClauses}
 use Rattle.router_top.specs.declared.outcome.Outcome.{Outcome}
 use Rattle.router_top.specs.declared.outcome.Outcome.TheVariants.{Routed, Unroutable, Undecided, Done, Limit, Usage, WriteFault, OutOfMemory}
 use Rattle.router_top.specs.Written.{NamedText}
@@ -55,7 +53,7 @@ use Rattle.router_top.proofs.ClimbLaws.{EndsAt, climb-ends, climbed-calm, climbe
 use Rattle.router_top.proofs.FourLaws.{calm-lack}
 use Rattle.router_top.proofs.GeneratedLaws.{faults-after, made-fits}
 use Rattle.router_top.proofs.SourceLaws.{calm-reads}
-use Rattle.router_top.proofs.UnroutableLaws.{none-legal}
+use Rattle.router_top.proofs.MethodLaws.{none-legal, one-legal}
 
 -- ---- the shelf's count of faults
 
@@ -104,13 +102,13 @@ module _ (ask : Asked) (width : ℕ) (formula : Cnf) (good : RouteText → Type 
 module _ (search : Search) (p : RoutingProblem) (fits : Fits p) (width : ℕ)
     (reached : IsReached search p width) (before now : ShelfState) where
   found-settles : (came : Result Found Stop)
-      → FindsAt search.ask width (cnf_of width p) (IsRoutingOf width p) before now came
+      → Finds search p width before now came
       → (came ≡ Ok Refuted → width ≡ search.last)
       → Settles before now (IsTrueOfSearch search p) (found_outcome width came)
   found-settles (Ok IsRouted) h last =
       by-word before now (IsTrueOfSearch search p) (Routed width)
       (omega (arith, ap (λ (s : ShelfState). s.faults) h.1.written))
-      (width, reached, inr (h.0, inl ((tracks_of p.route h.1.found, h.1.routing.legal), refl)))
+      (width, reached, inr (h.0, inl (one-legal search.method width p h.1.found h.1.routing, refl)))
   found-settles (Ok Refuted) h last =
       by-word before now (IsTrueOfSearch search p) (Unroutable width)
       (omega (arith, ap (λ (s : ShelfState). s.faults) h.1.written)) (
@@ -119,7 +117,7 @@ module _ (search : Search) (p : RoutingProblem) (fits : Fits p) (width : ℕ)
         inr (
           h.0,
           inr (inl (
-            none-legal width p h.1.log fits h.1.ends.refutes.accepts,
+            none-legal search.method width p h.1.log fits h.1.ends.refutes.accepts,
             last refl,
             refl,
           )),
@@ -131,7 +129,8 @@ module _ (search : Search) (p : RoutingProblem) (fits : Fits p) (width : ℕ)
       (width, reached, inr (h.0, inr (inr (ap (Undecided width) h.1))))
   found-settles (Err (Fault slot)) h last =
       by-fault before now (IsTrueOfSearch search p) (found_outcome width (Err (Fault slot)))
-      (fails-risen search.ask width (cnf_of width p) (IsRoutingOf width p) before now slot h.1)
+      (fails-risen search.ask width (clauses_by search.method width p)
+      (IsRoutingBy search.method width p) before now slot h.1)
   found-settles (Err (TooManyClauses count)) h last =
       by-word before now (IsTrueOfSearch search p) (Limit 901 count) (faults-same before now h.2)
       (width, reached, inl (subst (λ (n : ℕ). CLAUSE_LIMIT < n) h.0 h.1, ap (Limit 901) h.0))
@@ -166,8 +165,9 @@ module _ (job : RouteAsked) (p : RoutingProblem) (fits : Fits p) (before now : S
 -- a climb through the widths
 module _ (job : SweepAsked) (p : RoutingProblem) (fits : Fits p) (before now : ShelfState) where
   ends-settle : (came : Result Climbed Stop)
-      → EndsAt (sweep_search job).ask job.search.width (λ width. cnf_of width p)
-      (λ width. IsRoutingOf width p) before now came
+      → EndsAt (sweep_search job).ask job.search.width
+      (λ width. clauses_by job.search.method width p)
+      (λ width. IsRoutingBy job.search.method width p) before now came
       → Settles before now (IsTrueOfSearch (sweep_search job) p) (climbed_outcome came)
   ends-settle came end =
       let search = sweep_search job in
@@ -189,14 +189,15 @@ module _ (job : SweepAsked) (p : RoutingProblem) (fits : Fits p) (before now : S
   sweep-settles o h =
       subst (Settles before now (IsTrueOfSearch (sweep_search job) p)) (sym h.is)
       (ends-settle h.came (climb-ends (sweep_search job).ask job.search.width
-      (λ width. cnf_of width p) (λ width. IsRoutingOf width p) before now h.some h.came h.climbs))
+      (λ width. clauses_by job.search.method width p)
+      (λ width. IsRoutingBy job.search.method width p) before now h.some h.came h.climbs))
 
 module _ (job : EncodeAsked) (p : RoutingProblem) (before now : ShelfState) where
   abbrev SaysClauses : Outcome → Type 0
-  SaysClauses said = IsTrueOfClauses job.width p (said ≡ Done) said
+  SaysClauses said = IsTrueOfClauses (clauses_by job.method job.width p) (said ≡ Done) said
 
   written-settles : (came : Result (Unit {0}) Stop)
-      → WritesClauses job (cnf_of job.width p) before now came
+      → WritesClauses job (clauses_by job.method job.width p) before now came
       → Settles before now SaysClauses (written_outcome came)
   written-settles (Ok written) h =
       by-word before now SaysClauses Done (omega (arith, ap (λ (s : ShelfState). s.faults) h.2))
@@ -320,7 +321,7 @@ module _ (at : Scene) (calm : ¬ HasRisen at.desk.faults at.desk_now.faults) whe
       work-settles at calm job.files (Sweeps job) (IsTrueOfSearch (sweep_search job)) o
       (λ p fits. sweep-settles job p fits at.shelf at.shelf_now o) h
   job-settles (EncodesJob job) o h = work-settles at calm job.files (Encodes job)
-      (λ p said. IsTrueOfClauses job.width p (said ≡ Done) said) o
+      (λ p said. IsTrueOfClauses (clauses_by job.method job.width p) (said ≡ Done) said) o
       (λ p fits. encode-settles job p at.shelf at.shelf_now o) h
   job-settles (Generates job) o h =
       made-settles job.recipe (WritesFiles problem_slots (generated_files job.recipe job.prefix)

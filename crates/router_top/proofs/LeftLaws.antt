@@ -12,9 +12,7 @@ use Rattle.desk_io.specs.WholeFile.{FailsToWrite, after_writing}
 use Rattle.fpga_types.specs.Problem.{RoutingProblem}
 use Rattle.fpga_types.specs.declared.route.RouteText.{RouteText}
 use Rattle.list_laws.proofs.Places.{some_is}
-use Rattle.route_encode.specs.Encoding.{cnf_of}
-use Rattle.route_encode.specs.Good.{IsRoutingOf}
-use Rattle.route_sweep.specs.Found.{FindsAt, HasFew, IsLeftOpenBy, IsLogOf, IsRefutedBy}
+use Rattle.route_sweep.specs.Found.{HasFew, IsLeftOpenBy, IsLogOf, IsRefutedBy}
 use Rattle.route_sweep.specs.Names.{cnf_name, lrat_name}
 use Rattle.route_sweep.specs.Written.{after_clauses}
 use Rattle.route_sweep.specs.declared.found.FileSlot.{FileSlot}
@@ -25,6 +23,7 @@ use Rattle.route_sweep.specs.declared.found.Stop.{Stop}
 use Rattle.route_sweep.specs.declared.found.Stop.TheVariants.{Fault, TooManyClauses, Memory}
 use Rattle.route_verify.specs.declared.judgement.Judgement.{Judgement as Judged}
 use Rattle.route_verify.specs.declared.judgement.Judgement.TheVariants.{Legal as IsLegal, NotLegal as IsNotLegal}
+use Rattle.sat_clause.specs.Formula.{Cnf}
 use Rattle.sat_clause.specs.Judge.{Judgement, Accepted as IsAccepted, Refused as IsRefused, judge}
 use Rattle.sat_clause.specs.Step.{Step}
 use Rattle.sat_text.specs.CnfText.{cnf_said}
@@ -41,6 +40,7 @@ use Rattle.router_top.specs.Files.{FailsAmong, WritesFiles, problem_slots}
 use Rattle.router_top.specs.FourFiles.{Poses}
 use Rattle.router_top.specs.Generated.{HasRoom, generated_files, texts_of}
 use Rattle.router_top.specs.JobFiles.{AreFilesOf, IsBegun, JobFile, LeavesFiles, LeavesPart, LeavesWhole, OnlyChanges, clauses_and_log, files_in, held, in_slots, lower_job_files, routing_file}
+use Rattle.router_top.specs.Method.{IsRoutingBy, clauses_by}
 use Rattle.router_top.specs.Outcomes.{found_outcome, written_outcome}
 use Rattle.router_top.specs.Report.{unsaid}
 use Rattle.router_top.specs.Run.{Leaves, LeavesJob, LeavesMade, LeavesWork, Runs, Scene, TriesGenerated, scene}
@@ -48,7 +48,7 @@ use Rattle.router_top.specs.Search.{Search, lower_widths}
 use Rattle.router_top.specs.SearchFiles.{proof_files, route_file}
 use Rattle.router_top.specs.Sources.{HasBytes, IsStopped, ReadsThen}
 use Rattle.router_top.specs.Verify.{judged_outcome}
-use Rattle.router_top.specs.Work.{Encodes, Searches, Sweeps, WritesClauses, clauses_name}
+use Rattle.router_top.specs.Work.{Encodes, Finds, Searches, Sweeps, WritesClauses, clauses_file}
 use Rattle.router_top.specs.Written.{NamedText, with_file, with_files}
 use Rattle.router_top.specs.declared.outcome.Outcome.{Outcome}
 use Rattle.router_top.specs.declared.outcome.Outcome.TheVariants.{InputFault, Limit, ReadFault, Usage, WriteFault}
@@ -322,6 +322,10 @@ module _ (words : List Word) (at : Scene) where
     abbrev low : List JobFile
     low = lower_job_files h.comes
 
+    -- the clauses at the width
+    abbrev formula : Cnf
+    formula = clauses_by h.comes.search.method h.width h.comes.p
+
     low-in : files_in low ≡ lower_files h.comes
     low-in = lower-in h.comes.search h.comes.p h.comes.logs
         (lower_widths h.comes.search h.width)
@@ -387,7 +391,7 @@ module _ (words : List Word) (at : Scene) where
       slot = File Clauses;
       file = record {
         name = cnf_name h.comes.search.ask h.width;
-        text = cnf_text (cnf_of h.width h.comes.p);
+        text = cnf_text formula;
       };
     }
 
@@ -397,8 +401,8 @@ module _ (words : List Word) (at : Scene) where
       file = record { name = lrat_name h.comes.search.ask h.width; text = log_text log };
     }
 
-    module _ (few : HasFew (cnf_of h.width h.comes.p)) (log : List Step)
-        (of_log : IsLogOf h.comes.search.ask (cnf_of h.width h.comes.p) log) where
+    module _ (few : HasFew formula) (log : List Step)
+        (of_log : IsLogOf h.comes.search.ask formula log) where
       log-of : AreFilesOf words at.desk.files
           (low ++ clauses_and_log h.comes.search h.comes.p h.width log)
       log-of = inl (record {
@@ -410,15 +414,15 @@ module _ (words : List Word) (at : Scene) where
       })
 
     ended-log : (log : List Step)
-        → (IsRefutedBy h.comes.search.ask (cnf_of h.width h.comes.p) (IsRoutingOf h.width h.comes.p)
-        log ⊎ IsLeftOpenBy h.comes.search.ask (cnf_of h.width h.comes.p) log)
-        → IsLogOf h.comes.search.ask (cnf_of h.width h.comes.p) log
+        → (IsRefutedBy h.comes.search.ask formula
+        (IsRoutingBy h.comes.search.method h.width h.comes.p) log
+        ⊎ IsLeftOpenBy h.comes.search.ask formula log)
+        → IsLogOf h.comes.search.ask formula log
     ended-log log (inl refuted) = refuted.of
     ended-log log (inr open_by) = open_by.of
 
     found-left : (came : Result Found Stop)
-        → FindsAt h.comes.search.ask h.width (cnf_of h.width h.comes.p)
-        (IsRoutingOf h.width h.comes.p) h.between at.shelf_now came
+        → Finds h.comes.search h.comes.p h.width h.between at.shelf_now came
         → LeftHere (found_outcome h.width came)
     found-left (Ok IsRouted) f = whole-left words at.desk.files at.shelf.files
         (low ++ routing_file h.comes.search f.1.found)
@@ -458,7 +462,7 @@ module _ (words : List Word) (at : Scene) where
         (log-of f.0 f.1.log (ended-log f.1.log f.1.ended)) (log-apart f.1.log)
         (low ++ clauses-file f.1.log ∷ []) (log-file f.1.log) []
         (sym (append_assoc low (clauses-file f.1.log ∷ []) (log-file f.1.log ∷ [])))
-        (after_clauses h.between h.comes.search.ask h.width (cnf_of h.width h.comes.p)) at.shelf_now
+        (after_clauses h.between h.comes.search.ask h.width formula) at.shelf_now
         (behind (clauses-file f.1.log ∷ []) _ refl) f.1.fails
     found-left (Err (TooManyClauses count)) f = elim h.climbs [
       | inl alone ↦ inl (ap (λ (s : ShelfState). s.files) (f.2 ∙ alone))
@@ -479,11 +483,8 @@ module _ (words : List Word) (at : Scene) where
   -- the clauses alone
   module _ (job : EncodeAsked) (p : RoutingProblem) (asked : job_of words ≡ Ok (EncodesJob job))
       (poses : Poses at.desk.files job.files p) where
-    abbrev clauses_alone : NamedText
-    clauses_alone = record { name = clauses_name job; text = cnf_text (cnf_of job.width p) }
-
-    encode-of : HasFew (cnf_of job.width p)
-        → AreFilesOf words at.desk.files (in_slots (File Clauses ∷ []) (clauses_alone ∷ []))
+    encode-of : HasFew (clauses_by job.method job.width p)
+        → AreFilesOf words at.desk.files (in_slots (File Clauses ∷ []) (clauses_file job p ∷ []))
     encode-of few = inr (inl (record {
       job = job;
       asked = asked;
@@ -494,17 +495,17 @@ module _ (words : List Word) (at : Scene) where
     }))
 
     written-left : (came : Result (Unit {0}) Stop)
-        → WritesClauses job (cnf_of job.width p) at.shelf at.shelf_now came
+        → WritesClauses job (clauses_by job.method job.width p) at.shelf at.shelf_now came
         → LeftHere (written_outcome came)
     written-left (Ok written) h = whole-left words at.desk.files at.shelf.files
-        (in_slots (File Clauses ∷ []) (clauses_alone ∷ [])) (encode-of h.0) (tt, tt)
+        (in_slots (File Clauses ∷ []) (clauses_file job p ∷ [])) (encode-of h.0) (tt, tt)
         at.shelf_now.files (ap (λ (s : ShelfState). s.files) h.2)
     written-left (Err (Fault slot)) h =
         subst (λ (of : FileSlot). LeftHere (WriteFault (File of))) (sym h.0)
         (part-left words at.desk.files at.shelf.files
-        (in_slots (File Clauses ∷ []) (clauses_alone ∷ [])) (encode-of h.1) (tt, tt) []
-        (record { slot = File Clauses; file = clauses_alone }) [] refl at.shelf at.shelf_now refl
-        h.2)
+        (in_slots (File Clauses ∷ []) (clauses_file job p ∷ [])) (encode-of h.1) (tt, tt) []
+        (record { slot = File Clauses; file = clauses_file job p }) [] refl at.shelf at.shelf_now
+        refl h.2)
     written-left (Err (TooManyClauses count)) h = inl (files-same h.2)
     written-left (Err Memory) h =
         none-left words at.desk.files at.shelf.files at.shelf_now.files (files-same h.1)

@@ -6,11 +6,11 @@ mod FourLaws
 mod GeneratedLaws
 mod LeftLaws
 mod MeansLaws
+mod MethodLaws
 mod NameLaws
 mod SaidLaws
 mod SlotCountLaws
 mod SourceLaws
 mod StopLaws
 mod TrackLaws
-mod UnroutableLaws
 mod WrittenLaws

@@ -1,23 +1,18 @@
 -- What the answer of a run means.
-use Rattle.std.proofs.Common.{◌≡◌, ◌∙◌, ℕ, ◌≤◌, List, [], ◌∷◌, ◌++◌, length, Option, Ok, Err, Result, refl, sym, ap, subst, inl, inr, arith}
+use Rattle.std.proofs.Common.{◌≡◌, ◌∙◌, ℕ, ◌≤◌, List, [], ◌∷◌, ◌++◌, length, Option, Ok, Err, Result, refl, sym, ap, subst, inl, inr}
 use Rattle.std.specs.Prelude.{MatchResult}
 use Rattle.desk_io.specs.DeskState.{DeskState}
 use Rattle.desk_io.specs.Files.{Bytes, FileMap}
 use Rattle.desk_io.specs.ShelfState.{ShelfState}
-use Rattle.fpga_route.specs.ReadBack.{ReadsBack, ReadsBackWithTracks}
 use Rattle.fpga_arch.specs.Value.{arch_value}
 use Rattle.fpga_net.specs.Value.{net_value}
 use Rattle.fpga_place.specs.Value.{place_value}
-use Rattle.fpga_route.specs.Value.{Reads, route_value}
+use Rattle.fpga_route.specs.Value.{route_value}
 use Rattle.fpga_text.specs.declared.fault.TextFault.{TextFault}
 use Rattle.fpga_text.specs.declared.fault.TextFault.TheVariants.{Bad, Limit as PastLimit, Memory as NoMemory}
-use Rattle.fpga_types.specs.Legal.{tracks_of}
 use Rattle.fpga_types.specs.Problem.{RoutingProblem, problem_of}
 use Rattle.fpga_types.specs.declared.limits.TheConstants.{WIDTH_LIMIT}
 use Rattle.fpga_types.specs.declared.route.RouteText.{RouteText}
-use Rattle.route_encode.specs.Encoding.{cnf_of}
-use Rattle.route_encode.specs.Good.{IsRoutingOf}
-use Rattle.route_sweep.specs.Found.{FindsAt}
 use Rattle.route_sweep.specs.declared.found.Found.{Found}
 use Rattle.route_sweep.specs.declared.found.Found.TheVariants.{Routed as IsRoutedThere, Refuted, Spent}
 use Rattle.route_sweep.specs.declared.found.Stop.{Stop}
@@ -42,13 +37,14 @@ use Rattle.router_top.specs.Comes.{ComesTo, lower_files}
 use Rattle.router_top.specs.Files.{WritesFiles, problem_slots}
 use Rattle.router_top.specs.Generated.{HasRoom, generated_files, texts_of}
 use Rattle.router_top.specs.Means.{IsJudged, Means}
+use Rattle.router_top.specs.Method.{clauses_by}
 use Rattle.router_top.specs.Outcomes.{found_outcome, stop_outcome, written_outcome}
 use Rattle.router_top.specs.Report.{unsaid}
 use Rattle.router_top.specs.Run.{Leaves, LeavesJob, LeavesMade, LeavesWork, Runs, Scene, TriesGenerated, scene}
 use Rattle.router_top.specs.SearchFiles.{proof_files, route_file}
 use Rattle.router_top.specs.Sources.{IsStopped, ReadsThen, Says, Source, fault_outcome}
 use Rattle.router_top.specs.Verify.{VerifiesTo, judged_outcome, routed_source}
-use Rattle.router_top.specs.Work.{Encodes, Searches, Sweeps, WritesClauses}
+use Rattle.router_top.specs.Work.{Encodes, Finds, Searches, Sweeps, WritesClauses}
 use Rattle.router_top.specs.Written.{AreWritten, NamedText, with_files}
 use Rattle.router_top.specs.declared.outcome.Outcome.{Outcome}
 use Rattle.router_top.specs.declared.outcome.Outcome.TheVariants.{Usage, WriteFault}
@@ -57,16 +53,8 @@ use Rattle.router_top.specs.declared.text_file.TextFile.TheVariants.{Route}
 use Rattle.router_top.proofs.ComeLaws.{HasCome, behind_line, route-comes, sweep-comes, trial-comes}
 use Rattle.router_top.proofs.FourLaws.{AfterArch, AfterNetlist, AfterPlacement}
 use Rattle.router_top.proofs.GeneratedLaws.{files-after, problem-apart}
-use Rattle.router_top.proofs.UnroutableLaws.{none-legal}
+use Rattle.router_top.proofs.MethodLaws.{none-legal, routing-reads}
 use Rattle.router_top.proofs.WrittenLaws.{AreApart, are-written, with_files-append}
-
--- the routing of a problem whose route was read reads back as it is printed
-routing-reads : (width : ℕ) (p : RoutingProblem) (found : RouteText) (text : Bytes)
-    → width ≤ WIDTH_LIMIT → Reads text p.route → IsRoutingOf width p found
-    → ReadsBackWithTracks found → ReadsBack found
-routing-reads width p found text narrow read routing reads =
-    reads text p.route (tracks_of p.route found) read (λ k d inside.
-    let t = routing.legal.within k d inside in omega (arith, t, narrow)) routing.is
 
 module _ (words : List Word) (desk before : Option FileMap) where
   -- what keeps a run from its work says nothing more
@@ -148,16 +136,17 @@ module _ (words : List Word) (at : Scene) where
         ∙ sym (with_files-append (lower_files comes) more at.shelf.files)) apart
 
     found-means : (came : Result Found Stop)
-        → FindsAt comes.search.ask width (cnf_of width comes.p) (IsRoutingOf width comes.p) between
-        at.shelf_now came → (came ≡ Ok Refuted → width ≡ comes.search.last)
+        → Finds comes.search comes.p width between at.shelf_now came
+        → (came ≡ Ok Refuted → width ≡ comes.search.last)
         → MeansHere (found_outcome width came)
     found-means (Ok IsRoutedThere) h last = record {
       comes = comes;
       few = h.0;
       found = h.1.found;
       routing = h.1.routing;
-      reads_back = routing-reads width comes.p h.1.found comes.poses.route.text narrow
-          (comes.poses.route.faultless, comes.poses.route.says) h.1.routing h.1.reads_back;
+      reads_back = routing-reads comes.search.method width comes.p h.1.found
+          comes.poses.route.text narrow (comes.poses.route.faultless, comes.poses.route.says)
+          h.1.routing h.1.reads_back;
       written = behind (route_file comes.search h.1.found ∷ []) (route_apart h.1.found)
           (files-are _ h.1.written);
     }
@@ -168,7 +157,8 @@ module _ (words : List Word) (at : Scene) where
       refuted = record {
         few = h.0;
         refuted = h.1.ends;
-        none_legal = none-legal width comes.p h.1.log comes.poses.fits h.1.ends.refutes.accepts;
+        none_legal = none-legal comes.search.method width comes.p h.1.log comes.poses.fits
+            h.1.ends.refutes.accepts;
         reads_back = record { clauses = h.1.clauses_back; steps = h.1.log_back };
       };
       written = behind (proof_files comes.search comes.p width h.1.log) (proof_apart h.1.log)
@@ -196,7 +186,7 @@ module _ (words : List Word) (at : Scene) where
   module _ (job : EncodeAsked) (p : RoutingProblem) (asked : job_of words ≡ Ok (EncodesJob job))
       (poses : Poses at.desk.files job.files p) where
     written-means : (came : Result (Unit {0}) Stop)
-        → WritesClauses job (cnf_of job.width p) at.shelf at.shelf_now came
+        → WritesClauses job (clauses_by job.method job.width p) at.shelf at.shelf_now came
         → MeansHere (written_outcome came)
     written-means (Ok written) h = inl (record {
       job = job;

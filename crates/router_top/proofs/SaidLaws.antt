@@ -9,8 +9,6 @@ use Rattle.desk_io.specs.WholeFile.{FailsToWrite, after_writing}
 use Rattle.fpga_types.specs.Problem.{RoutingProblem}
 use Rattle.fpga_types.specs.declared.route.RouteText.{RouteText}
 use Rattle.std.proofs.Math.Seq.{take-length}
-use Rattle.route_encode.specs.Encoding.{cnf_of}
-use Rattle.route_encode.specs.Good.{IsRoutingOf}
 use Rattle.route_sweep.specs.Asked.{Asked}
 use Rattle.route_sweep.specs.Found.{FindsAt}
 use Rattle.route_sweep.specs.Written.{after_clauses}
@@ -34,6 +32,7 @@ use Rattle.router_top.specs.Check.{cnf_source, judgement_outcome, lrat_source}
 use Rattle.router_top.specs.Files.{FailsAmong, WritesFiles, after_files, problem_slots}
 use Rattle.router_top.specs.FourFiles.{Poses}
 use Rattle.router_top.specs.Generated.{PosesNone, generated_files}
+use Rattle.router_top.specs.Method.{IsRoutingBy, clauses_by}
 use Rattle.router_top.specs.Outcomes.{found_outcome, written_outcome}
 use Rattle.router_top.specs.Report.{line_of, unsaid}
 use Rattle.router_top.specs.Run.{Leaves, LeavesJob, LeavesMade, LeavesWork, Reports, Runs, Scene, TriesGenerated, scene}
@@ -159,8 +158,9 @@ module _ (words : List Word) (at : Scene) where
 
   come-quiet : (o : Outcome) → HasCome words at o → IsQuiet o
   come-quiet o h = record {
-    silent = found-silent h.comes.search.ask h.width (cnf_of h.width h.comes.p)
-        (IsRoutingOf h.width h.comes.p) h.between at.shelf_now h.came h.finds
+    silent = found-silent h.comes.search.ask h.width
+        (clauses_by h.comes.search.method h.width h.comes.p)
+        (IsRoutingBy h.comes.search.method h.width h.comes.p) h.between at.shelf_now h.came h.finds
         ∙ h.silent;
     heard = subst IsHeard (sym h.is) (found-heard h.width h.came);
   }

@@ -2,27 +2,26 @@
 use Rattle.std.specs.Prelude.{◌≡◌, ℕ, ◌<◌, ◌≤◌, List, flat_map, Ok, Option, Some}
 use Rattle.desk_io.specs.Files.{FileMap}
 use Rattle.fpga_types.specs.Problem.{RoutingProblem}
-use Rattle.route_encode.specs.Encoding.{cnf_of}
-use Rattle.route_encode.specs.Exact.{IsUnroutableAt}
-use Rattle.route_encode.specs.Good.{IsRoutingOf}
 use Rattle.route_sweep.specs.Found.{HasFew, IsRefutedBy}
 use Rattle.sat_clause.specs.Step.{Step}
 use Rattle.router_words.specs.Command.{job_of}
 use Rattle.router_words.specs.Job.{JobAsked}
 use Rattle.router_words.specs.Word.{Word}
 use Rattle.router_top.specs.FourFiles.{Poses}
+use Rattle.router_top.specs.Method.{HasNone, IsRoutingBy, clauses_by}
 use Rattle.router_top.specs.Search.{Search, files_of, lower_widths, search_asked}
 use Rattle.router_top.specs.SearchFiles.{ReadBack, proof_files}
 use Rattle.router_top.specs.Written.{NamedText}
 
--- few enough clauses stand for the problem at this width, the log refutes them, and no tracks make
--- a legal routing
+-- few enough clauses stand for the problem at this width, the log refutes them, and it has no legal
+-- routing
 pub record IsRefutedAt (search : Search) (p : RoutingProblem) (width : ℕ) (log : List Step)
     : Type 0 where
-  pub few : HasFew (cnf_of width p)
-  pub refuted : IsRefutedBy search.ask (cnf_of width p) (IsRoutingOf width p) log
-  pub none_legal : IsUnroutableAt width p
-  pub reads_back : ReadBack (cnf_of width p) log
+  pub few : HasFew (clauses_by search.method width p)
+  pub refuted : IsRefutedBy search.ask (clauses_by search.method width p)
+      (IsRoutingBy search.method width p) log
+  pub none_legal : HasNone search.method width p
+  pub reads_back : ReadBack (clauses_by search.method width p) log
 
 -- the words ask for a search; its four files, which a trial makes itself, read as the values of the
 -- problem and fit; and it comes to this width, since each lower one that it tries is refuted by a

@@ -7,12 +7,11 @@ use Rattle.std.specs.Prelude.{◌≡◌, ℕ, List, [], ◌∷◌, ◌++◌, Opt
 use Rattle.desk_io.specs.Files.{FileMap}
 use Rattle.fpga_types.specs.declared.route.RouteText.{RouteText}
 use Rattle.fpga_route.specs.ReadBack.{ReadsBack}
-use Rattle.route_encode.specs.Encoding.{cnf_of}
-use Rattle.route_encode.specs.Good.{IsRoutingOf}
 use Rattle.route_sweep.specs.Found.{HasFew, IsLeftOpenBy}
 use Rattle.sat_clause.specs.Step.{Step}
 use Rattle.router_words.specs.Word.{Word}
 use Rattle.router_top.specs.Comes.{ComesTo, IsRefutedAt, lower_files}
+use Rattle.router_top.specs.Method.{IsRoutingBy, clauses_by}
 use Rattle.router_top.specs.SearchFiles.{ReadBack, proof_files, route_file}
 use Rattle.router_top.specs.Written.{AreWritten}
 
@@ -21,9 +20,9 @@ use Rattle.router_top.specs.Written.{AreWritten}
 pub record IsRouted (words : List Word) (desk before now : Option FileMap) (width : ℕ)
     : Type 0 where
   pub comes : ComesTo words desk width
-  pub few : HasFew (cnf_of width comes.p)
+  pub few : HasFew (clauses_by comes.search.method width comes.p)
   pub found : RouteText
-  pub routing : IsRoutingOf width comes.p found
+  pub routing : IsRoutingBy comes.search.method width comes.p found
   pub reads_back : ReadsBack found
   pub written : AreWritten (lower_files comes ++ route_file comes.search found ∷ []) before now
 
@@ -43,10 +42,10 @@ pub record IsRefuted (words : List Word) (desk before now : Option FileMap) (wid
 pub record IsLeftOpen
     (words : List Word) (desk before now : Option FileMap) (width learned : ℕ) : Type 0 where
   pub comes : ComesTo words desk width
-  pub few : HasFew (cnf_of width comes.p)
+  pub few : HasFew (clauses_by comes.search.method width comes.p)
   pub budget : learned ≡ comes.search.ask.budget
   pub log : List Step
-  pub open_by : IsLeftOpenBy comes.search.ask (cnf_of width comes.p) log
-  pub reads_back : ReadBack (cnf_of width comes.p) log
+  pub open_by : IsLeftOpenBy comes.search.ask (clauses_by comes.search.method width comes.p) log
+  pub reads_back : ReadBack (clauses_by comes.search.method width comes.p) log
   pub written : AreWritten (lower_files comes ++ proof_files comes.search comes.p width log)
       before now

@@ -8,12 +8,9 @@ use Rattle.desk_io.specs.Files.{Bytes, FileMap}
 use Rattle.desk_io.specs.ShelfState.{OthersStay}
 use Rattle.fpga_types.specs.Problem.{RoutingProblem}
 use Rattle.fpga_types.specs.declared.route.RouteText.{RouteText}
-use Rattle.route_encode.specs.Encoding.{cnf_of}
-use Rattle.route_encode.specs.Good.{IsRoutingOf}
 use Rattle.route_sweep.specs.Found.{HasFew, IsLogOf}
 use Rattle.route_sweep.specs.declared.found.FileSlot.TheVariants.{Route, Clauses, Log}
 use Rattle.sat_clause.specs.Step.{Step}
-use Rattle.sat_text.specs.Printed.{cnf_text}
 use Rattle.router_words.specs.Command.{job_of}
 use Rattle.router_words.specs.Job.{EncodeAsked, Encodes, GenAsked, Generates, SweepAsked, Sweeps, TrialAsked, Tries}
 use Rattle.router_words.specs.Word.{Word}
@@ -21,10 +18,11 @@ use Rattle.router_top.specs.Comes.{ComesTo}
 use Rattle.router_top.specs.Files.{problem_slots}
 use Rattle.router_top.specs.FourFiles.{Poses}
 use Rattle.router_top.specs.Generated.{HasRoom, generated_files}
+use Rattle.router_top.specs.Method.{IsRoutingBy, clauses_by}
 use Rattle.router_top.specs.Search.{Search, lower_widths}
 use Rattle.router_top.specs.SearchFiles.{proof_files, route_file}
 use Rattle.router_top.specs.Sources.{HasBytes}
-use Rattle.router_top.specs.Work.{clauses_name}
+use Rattle.router_top.specs.Work.{clauses_file}
 use Rattle.router_top.specs.Written.{AreWritten, NamedText, with_file}
 use Rattle.router_top.specs.declared.outcome.Outcome.{Outcome}
 use Rattle.router_top.specs.declared.outcome.Outcome.TheVariants.{InputFault, Limit, Usage, ReadFault, WriteFault}
@@ -61,9 +59,10 @@ clauses_and_log search p width log =
 -- then the log of a search through them
 abbrev pub AreFound : Search → RoutingProblem → (width : ℕ) → List JobFile → Type 0
 AreFound search p width files =
-    HasFew (cnf_of width p)
-    × (((found : RouteText) × IsRoutingOf width p found × (files ≡ routing_file search found))
-    ⊎ ((log : List Step) × IsLogOf search.ask (cnf_of width p) log
+    HasFew (clauses_by search.method width p)
+    × (((found : RouteText) × IsRoutingBy search.method width p found
+    × (files ≡ routing_file search found))
+    ⊎ ((log : List Step) × IsLogOf search.ask (clauses_by search.method width p) log
     × (files ≡ clauses_and_log search p width log)))
 
 -- the clauses and the log of each lower width that was tried
@@ -90,9 +89,8 @@ pub record AreEncoded (words : List Word) (desk : Option FileMap) (files : List 
   pub asked : job_of words ≡ Ok (Encodes job)
   pub p : RoutingProblem
   pub poses : Poses desk job.files p
-  pub few : HasFew (cnf_of job.width p)
-  pub order : files ≡ in_slots (File Clauses ∷ [])
-      (record { name = clauses_name job; text = cnf_text (cnf_of job.width p) } ∷ [])
+  pub few : HasFew (clauses_by job.method job.width p)
+  pub order : files ≡ in_slots (File Clauses ∷ []) (clauses_file job p ∷ [])
 
 -- of `gen`: the four files of a problem that has blocks for its nets
 pub record AreGenerated (words : List Word) (files : List JobFile) : Type 0 where

@@ -6,6 +6,7 @@ pub mod Generated
 pub mod Headline
 pub mod JobFiles
 pub mod Means
+pub mod Method
 pub mod Outcomes
 pub mod Report
 pub mod Run

@@ -4,7 +4,6 @@ use Rattle.desk_io.specs.Files.{FileMap}
 use Rattle.fpga_route.specs.Value.{route_value}
 use Rattle.fpga_types.specs.Problem.{RoutingProblem}
 use Rattle.fpga_types.specs.declared.route.RouteText.{RouteText}
-use Rattle.route_encode.specs.Encoding.{cnf_of}
 use Rattle.route_sweep.specs.Found.{HasFew}
 use Rattle.route_verify.specs.Judged.{judged}
 use Rattle.route_verify.specs.declared.judgement.Judgement.{Judgement}
@@ -14,7 +13,6 @@ use Rattle.sat_clause.specs.Judge.{Accepts}
 use Rattle.sat_clause.specs.Step.{Step}
 use Rattle.sat_text.specs.CnfText.{ReadsCnf, cnf_said}
 use Rattle.sat_text.specs.LratText.{lrat_said}
-use Rattle.sat_text.specs.Printed.{cnf_text}
 use Rattle.router_words.specs.Command.{job_of}
 use Rattle.router_words.specs.Job.{CheckAsked, Checks, EncodeAsked, Encodes, GenAsked, Generates, VerifyAsked, Verifies}
 use Rattle.router_words.specs.Word.{Word}
@@ -22,9 +20,10 @@ use Rattle.router_top.specs.Check.{cnf_source, lrat_source}
 use Rattle.router_top.specs.FourFiles.{Poses}
 use Rattle.router_top.specs.Generated.{HasRoom, generated_files}
 use Rattle.router_top.specs.Headline.{IsLeftOpen, IsRefuted, IsRouted}
+use Rattle.router_top.specs.Method.{clauses_by}
 use Rattle.router_top.specs.Sources.{Says}
 use Rattle.router_top.specs.Verify.{routed_source}
-use Rattle.router_top.specs.Work.{clauses_name}
+use Rattle.router_top.specs.Work.{clauses_file}
 use Rattle.router_top.specs.Written.{AreWritten}
 use Rattle.router_top.specs.declared.outcome.Outcome.{Outcome}
 use Rattle.router_top.specs.declared.outcome.Outcome.TheVariants.{Accepted, Done, LegalRoute, NotLegal, Routed, Undecided, Unroutable}
@@ -35,10 +34,9 @@ pub record IsEncoded (words : List Word) (desk before now : Option FileMap) : Ty
   pub p : RoutingProblem
   pub asked : job_of words ≡ Ok (Encodes job)
   pub poses : Poses desk job.files p
-  pub few : HasFew (cnf_of job.width p)
-  pub reads_back : ReadsCnf (cnf_text (cnf_of job.width p)) (cnf_of job.width p)
-  pub written : AreWritten
-      (record { name = clauses_name job; text = cnf_text (cnf_of job.width p) } ∷ []) before now
+  pub few : HasFew (clauses_by job.method job.width p)
+  pub reads_back : ReadsCnf (clauses_file job p).text (clauses_by job.method job.width p)
+  pub written : AreWritten (clauses_file job p ∷ []) before now
 
 -- the words ask for a generated problem, there are blocks for its nets, and its four files alone
 -- were written

@@ -4,14 +4,17 @@ use Rattle.std.specs.List.{range_with_len}
 use Rattle.desk_io.specs.Files.{FileMap}
 use Rattle.route_sweep.specs.Asked.{Asked}
 use Rattle.router_words.specs.Job.{FilesAsked, JobAsked, RouteAsked, Routes, SearchAsked, SweepAsked, Sweeps, TrialAsked, Tries}
+use Rattle.router_words.specs.declared.method.Method.{Method}
 use Rattle.router_top.specs.Generated.{generated_desk, generated_names}
 
 -- a search of the problem of these files at the widths from the first on, one after the other,
--- until one is not refuted or the last one was; and what is asked of it at each width
+-- until one is not refuted or the last one was; how routings are said by clauses, and what is asked
+-- of the search at each width
 pub record Search : Type 0 where
   pub files : FilesAsked
   pub first : ℕ
   pub last : ℕ
+  pub method : Method
   pub ask : Asked
 
 -- what is asked of a search at each width; the names of clauses and logs have the width in them, or
@@ -30,6 +33,7 @@ route_search job = record {
   files = job.files;
   first = job.search.width;
   last = job.search.width;
+  method = job.search.method;
   ask = ask_of false job.search;
 }
 
@@ -39,6 +43,7 @@ sweep_search job = record {
   files = job.files;
   first = 1;
   last = job.search.width;
+  method = job.search.method;
   ask = ask_of true job.search;
 }
 

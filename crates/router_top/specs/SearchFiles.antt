@@ -3,13 +3,13 @@ use Rattle.std.specs.Prelude.{ℕ, List, [], ◌∷◌, length}
 use Rattle.fpga_types.specs.Problem.{RoutingProblem}
 use Rattle.fpga_types.specs.declared.route.RouteText.{RouteText}
 use Rattle.fpga_route.specs.Printed.{printed}
-use Rattle.route_encode.specs.Encoding.{cnf_of}
 use Rattle.route_sweep.specs.Names.{cnf_name, lrat_name, route_name}
 use Rattle.sat_clause.specs.Formula.{Cnf}
 use Rattle.sat_clause.specs.Step.{Step}
 use Rattle.sat_text.specs.CnfText.{ReadsCnf}
 use Rattle.sat_text.specs.LratText.{ReadsLrat}
 use Rattle.sat_text.specs.Printed.{cnf_text, log_text}
+use Rattle.router_top.specs.Method.{clauses_by}
 use Rattle.router_top.specs.Search.{Search}
 use Rattle.router_top.specs.Written.{NamedText}
 
@@ -20,7 +20,7 @@ route_file search found = record { name = route_name search.ask; text = printed 
 -- the clauses at a width, and then a log
 abbrev pub proof_files : Search → RoutingProblem → (width : ℕ) → List Step → List NamedText
 proof_files search p width log =
-    record { name = cnf_name search.ask width; text = cnf_text (cnf_of width p) }
+    record { name = cnf_name search.ask width; text = cnf_text (clauses_by search.method width p) }
     ∷ record { name = lrat_name search.ask width; text = log_text log } ∷ []
 
 -- both texts of a refutation or of a search read back

@@ -5,9 +5,8 @@ use Rattle.desk_io.specs.DeskState.{DeskState}
 use Rattle.desk_io.specs.Files.{FileMap, HasRisen}
 use Rattle.desk_io.specs.ShelfState.{ShelfState}
 use Rattle.fpga_types.specs.Problem.{RoutingProblem}
-use Rattle.route_encode.specs.Encoding.{cnf_of}
-use Rattle.route_encode.specs.Exact.{IsRoutableAt, IsUnroutableAt}
 use Rattle.route_sweep.specs.Found.{HasFew}
+use Rattle.sat_clause.specs.Formula.{Cnf}
 use Rattle.sat_clause.specs.declared.limits.TheConstants.{CLAUSE_LIMIT}
 use Rattle.router_words.specs.Command.{job_of}
 use Rattle.router_words.specs.Refusal.{code_of}
@@ -16,40 +15,41 @@ use Rattle.router_words.specs.Word.{Word}
 use Rattle.router_top.specs.Check.{ChecksTo}
 use Rattle.router_top.specs.FourFiles.{GivesNone, Poses}
 use Rattle.router_top.specs.Generated.{HasRoom, IsTooLarge, IsTooMany, Makes}
+use Rattle.router_top.specs.Method.{HasNone, HasOne, clauses_by}
 use Rattle.router_top.specs.Search.{Search, route_search, sweep_of, sweep_search}
 use Rattle.router_top.specs.Sources.{IsHalted}
 use Rattle.router_top.specs.Verify.{VerifiesTo}
 use Rattle.router_top.specs.declared.outcome.Outcome.{Outcome}
 use Rattle.router_top.specs.declared.outcome.Outcome.TheVariants.{Routed, Unroutable, Undecided, Done, Limit, Usage, OutOfMemory}
 
--- there are more clauses at this width than may be built, and the outcome has their number; or
--- there are not, and this is true
-abbrev pub IsTrueOfClauses : (width : ℕ) → RoutingProblem → (says : Type 0) → Outcome → Type 0
-IsTrueOfClauses width p says outcome =
-    ((CLAUSE_LIMIT < length (cnf_of width p).clauses)
-    × (outcome ≡ Limit 901 (length (cnf_of width p).clauses)))
-    ⊎ (HasFew (cnf_of width p) × says)
+-- the formula has more clauses than may be built, and the outcome has their number; or it has not,
+-- and this is true
+abbrev pub IsTrueOfClauses : Cnf → (says : Type 0) → Outcome → Type 0
+IsTrueOfClauses formula says outcome =
+    ((CLAUSE_LIMIT < length formula.clauses) × (outcome ≡ Limit 901 (length formula.clauses)))
+    ⊎ (HasFew formula × says)
 
--- the search comes to this width: each lower one that it tries has few enough clauses, and no
--- tracks make a legal routing there
+-- the search comes to this width: each lower one that it tries has few enough clauses, and no legal
+-- routing
 pub record IsReached (search : Search) (p : RoutingProblem) (width : ℕ) : Type 0 where
   pub from : search.first ≤ width
   pub to : width ≤ search.last
-  pub lower : (k : ℕ) → search.first ≤ k → k < width → HasFew (cnf_of k p) × IsUnroutableAt k p
+  pub lower : (k : ℕ) → search.first ≤ k → k < width
+      → HasFew (clauses_by search.method k p) × HasNone search.method k p
 
--- some tracks make a legal routing at this width, or it is the last one and none do, and the
--- outcome says which; or it says that the budget was spent
+-- there is a legal routing at this width, or it is the last one and there is none, and the outcome
+-- says which; or it says that the budget was spent
 abbrev pub IsTrueAt : Search → RoutingProblem → (width : ℕ) → Outcome → Type 0
 IsTrueAt search p width outcome =
-    (IsRoutableAt width p × (outcome ≡ Routed width))
-    ⊎ (IsUnroutableAt width p × (width ≡ search.last) × (outcome ≡ Unroutable width))
+    (HasOne search.method width p × (outcome ≡ Routed width))
+    ⊎ (HasNone search.method width p × (width ≡ search.last) × (outcome ≡ Unroutable width))
     ⊎ (outcome ≡ Undecided width search.ask.budget)
 
 -- the search comes to a width, of whose clauses or routings the outcome is true
 abbrev pub IsTrueOfSearch : Search → RoutingProblem → Outcome → Type 0
 IsTrueOfSearch search p outcome =
     (width : ℕ) × IsReached search p width
-    × IsTrueOfClauses width p (IsTrueAt search p width outcome) outcome
+    × IsTrueOfClauses (clauses_by search.method width p) (IsTrueAt search p width outcome) outcome
 
 -- the four files give no problem, and the outcome says why; or they pose one, of which it is true
 abbrev pub IsTrueOfWork : FilesAsked → (RoutingProblem → Outcome → Type 0) → Option FileMap
@@ -70,7 +70,7 @@ IsTrueOfJob (Routes job) files outcome =
 IsTrueOfJob (Sweeps job) files outcome =
     IsTrueOfWork job.files (IsTrueOfSearch (sweep_search job)) files outcome
 IsTrueOfJob (Encodes job) files outcome = IsTrueOfWork job.files
-    (λ p said. IsTrueOfClauses job.width p (said ≡ Done) said) files outcome
+    (λ p said. IsTrueOfClauses (clauses_by job.method job.width p) (said ≡ Done) said) files outcome
 IsTrueOfJob (Checks job) files outcome = ChecksTo (IsHalted files) files job outcome
 IsTrueOfJob (Verifies job) files outcome = VerifiesTo (IsHalted files) files job outcome
 IsTrueOfJob (Generates job) files outcome = IsTrueOfRecipe job.recipe (outcome ≡ Done) outcome

@@ -5,8 +5,6 @@ use Rattle.desk_io.specs.ShelfState.{ShelfState}
 use Rattle.desk_io.specs.WholeFile.{FailsToWrite, after_writing}
 use Rattle.fpga_types.specs.Problem.{RoutingProblem}
 use Rattle.fpga_types.specs.declared.limits.TheConstants.{WIDTH_LIMIT}
-use Rattle.route_encode.specs.Encoding.{cnf_of}
-use Rattle.route_encode.specs.Good.{IsRoutingOf}
 use Rattle.route_sweep.specs.Asked.{Asked}
 use Rattle.route_sweep.specs.Climb.{ClimbsTo}
 use Rattle.route_sweep.specs.Found.{FindsAt, HasFew}
@@ -20,9 +18,19 @@ use Rattle.sat_clause.specs.declared.limits.TheConstants.{CLAUSE_LIMIT}
 use Rattle.sat_text.specs.CnfText.{ReadsCnf}
 use Rattle.sat_text.specs.Printed.{cnf_text}
 use Rattle.router_words.specs.Job.{EncodeAsked, RouteAsked, SweepAsked}
+use Rattle.router_words.specs.declared.method.Method.{Method}
+use Rattle.router_top.specs.Method.{IsRoutingBy, clauses_by}
 use Rattle.router_top.specs.Outcomes.{climbed_outcome, found_outcome, written_outcome}
-use Rattle.router_top.specs.Search.{route_search, sweep_search}
+use Rattle.router_top.specs.Search.{Search, route_search, sweep_search}
+use Rattle.router_top.specs.Written.{NamedText}
 use Rattle.router_top.specs.declared.outcome.Outcome.{Outcome}
+
+-- what a search finds at a width of its problem, and what is written of it
+abbrev pub Finds : Search → RoutingProblem → (width : ℕ) → (before now : ShelfState)
+    → Result Found Stop → Type 0
+Finds search p width before now came =
+    FindsAt search.ask width (clauses_by search.method width p)
+    (IsRoutingBy search.method width p) before now came
 
 -- a search of the problem at the width of the job, which is at most 64
 pub record Searches
@@ -30,29 +38,35 @@ pub record Searches
     : Type 0 where
   pub narrow : job.search.width ≤ WIDTH_LIMIT
   pub came : Result Found Stop
-  pub finds : FindsAt (route_search job).ask job.search.width (cnf_of job.search.width p)
-      (IsRoutingOf job.search.width p) before now came
+  pub finds : Finds (route_search job) p job.search.width before now came
   pub is : outcome ≡ found_outcome job.search.width came
 
 -- a climb through the widths of the problem up to the greatest, which is at most 64
 pub record Climbs
-    (ask : Asked) (most : ℕ) (p : RoutingProblem) (before now : ShelfState) (outcome : Outcome)
-    : Type 0 where
+    (method : Method) (ask : Asked) (most : ℕ) (p : RoutingProblem) (before now : ShelfState)
+    (outcome : Outcome) : Type 0 where
   pub some : 1 ≤ most
   pub narrow : most ≤ WIDTH_LIMIT
   pub came : Result Climbed Stop
-  pub climbs : ClimbsTo ask most (λ width. cnf_of width p) (λ width. IsRoutingOf width p) before now
-      came
+  pub climbs : ClimbsTo ask most (λ width. clauses_by method width p)
+      (λ width. IsRoutingBy method width p) before now came
   pub is : outcome ≡ climbed_outcome came
 
 -- the climb that a sweep asks for
 abbrev pub Sweeps : SweepAsked → RoutingProblem → (before now : ShelfState) → Outcome → Type 0
 Sweeps job p before now outcome =
-    Climbs (sweep_search job).ask job.search.width p before now outcome
+    Climbs job.search.method (sweep_search job).ask job.search.width p before now outcome
 
 -- the name of the file that clauses are written to
 abbrev pub clauses_name : EncodeAsked → Bytes
 clauses_name job = job.prefix ++ codes ".cnf"
+
+-- the file of the clauses of the problem
+abbrev pub clauses_file : EncodeAsked → RoutingProblem → NamedText
+clauses_file job p = record {
+  name = clauses_name job;
+  text = cnf_text (clauses_by job.method job.width p);
+}
 
 -- the clauses were written, and read back; or they were not written whole; or nothing was written,
 -- since there are too many or memory is short
@@ -73,5 +87,5 @@ pub record Encodes
     (job : EncodeAsked) (p : RoutingProblem) (before now : ShelfState) (outcome : Outcome)
     : Type 0 where
   pub came : Result (Unit {0}) Stop
-  pub writes : WritesClauses job (cnf_of job.width p) before now came
+  pub writes : WritesClauses job (clauses_by job.method job.width p) before now came
   pub is : outcome ≡ written_outcome came

@@ -1,17 +1,18 @@
 //! The command `encode`: the clauses of a problem.
 ghost use Rattle.std.specs.Prelude.{◌≡◌};
-ghost use Rattle.route_encode.specs.Encoding.{cnf_of};
 ghost use Rattle.router_words.specs.Job.{encode_said};
+ghost use Rattle.router_top.specs.Method.{clauses_by};
 ghost use Rattle.router_top.specs.Outcomes.{written_outcome};
 ghost use Rattle.router_top.specs.Work.{WritesClauses};
 
+use crate::encoder::Chosen;
 use crate::file_name::file_name;
 use crate::outcome::Outcome;
 use crate::problem_work::ProblemWork;
 use crate::stopping::stopped;
 use desk_io::{Shelf, write_file};
 use fpga_bounds::PlacedProblem;
-use route_encode::{Encoder, Strict};
+use route_encode::Encoder;
 use route_sweep::{FileSlot, Stop};
 use router_words::EncodeJob;
 use sat_clause::CLAUSE_LIMIT;
@@ -25,14 +26,16 @@ fn write_clauses<S: Shelf>(
     problem: &PlacedProblem,
     shelf: &mut S,
 ) -> Result<(), Stop>
-    ensures { WritesClauses (encode_said job.now) (cnf_of job.now.width problem.now)
+    ensures { WritesClauses (encode_said job.now)
+        (clauses_by job.now.method job.now.width problem.now)
         (S.state shelf.old) (S.state shelf.new) result }
 {
-    let count = Strict.count(problem, job.width);
+    let encoder = Chosen(job.method);
+    let count = encoder.count(problem, job.width);
     if count > CLAUSE_LIMIT {
         return Err(Stop::TooManyClauses { count });
     }
-    let Ok(formula) = Strict.build(alloc, problem, job.width) else {
+    let Ok(formula) = encoder.build(alloc, problem, job.width) else {
         return Err(Stop::Memory);
     };
     let Ok(name) = file_name(alloc, job.prefix, ".cnf") else {

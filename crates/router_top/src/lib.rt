@@ -6,6 +6,7 @@
 #![tactic(auto)]
 
 mod checking;
+mod encoder;
 mod encoding;
 mod file_name;
 mod four_files;

@@ -2,12 +2,12 @@
 ghost use Rattle.std.specs.Prelude.{◌≡◌};
 ghost use Rattle.router_top.specs.Outcomes.{found_outcome};
 
+use crate::encoder::Chosen;
 use crate::outcome::Outcome;
 use crate::problem_work::ProblemWork;
 use crate::stopping::stopped;
 use desk_io::Shelf;
 use fpga_bounds::PlacedProblem;
-use route_encode::Strict;
 use route_sweep::{Ask, Found, Stop, one_width};
 use router_words::RouteJob;
 use std::alloc::Global;
@@ -39,7 +39,14 @@ impl<'a> ProblemWork for RouteJob<'a> {
             prefix: search.prefix,
             numbered: false,
         };
-        let came = one_width(alloc, &Strict, problem, search.width, &ask, shelf);
+        let came = one_width(
+            alloc,
+            &Chosen(search.method),
+            problem,
+            search.width,
+            &ask,
+            shelf,
+        );
         found(search.width, came)
     }
 }

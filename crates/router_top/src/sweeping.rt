@@ -5,12 +5,12 @@ ghost use Rattle.router_top.specs.Outcomes.{climbed_outcome};
 ghost use Rattle.router_top.specs.Search.{ask_of};
 ghost use Rattle.router_top.specs.Work.{Climbs};
 
+use crate::encoder::Chosen;
 use crate::outcome::Outcome;
 use crate::problem_work::ProblemWork;
 use crate::stopping::stopped;
 use desk_io::Shelf;
 use fpga_bounds::PlacedProblem;
-use route_encode::Strict;
 use route_sweep::{Ask, Climbed, Stop, climb};
 use router_words::{SearchJob, SweepJob};
 use std::alloc::Global;
@@ -35,8 +35,8 @@ pub fn search_widths<S: Shelf>(
     search: &SearchJob<'_>,
     shelf: &mut S,
 ) -> Outcome
-    ensures { Climbs (ask_of true (search_said search.now)) search.now.width problem.now
-        (S.state shelf.old) (S.state shelf.new) result }
+    ensures { Climbs search.now.method (ask_of true (search_said search.now)) search.now.width
+        problem.now (S.state shelf.old) (S.state shelf.new) result }
 {
     let ask = Ask {
         budget: search.conflicts,
@@ -44,7 +44,14 @@ pub fn search_widths<S: Shelf>(
         prefix: search.prefix,
         numbered: true,
     };
-    climbed(climb(alloc, &Strict, problem, search.width, &ask, shelf))
+    climbed(climb(
+        alloc,
+        &Chosen(search.method),
+        problem,
+        search.width,
+        &ask,
+        shelf,
+    ))
 }
 
 // Searches at one width after another.

@@ -1,0 +1,37 @@
+-- What the commands need to know of each method.
+use Rattle.std.proofs.Common.{ℕ, ◌≤◌, List, arith}
+use Rattle.desk_io.specs.Files.{Bytes}
+use Rattle.fpga_route.specs.ReadBack.{ReadsBack, ReadsBackWithTracks}
+use Rattle.fpga_route.specs.Value.{Reads}
+use Rattle.fpga_types.specs.Fits.{Fits}
+use Rattle.fpga_types.specs.Legal.{tracks_of}
+use Rattle.fpga_types.specs.Problem.{RoutingProblem}
+use Rattle.fpga_types.specs.declared.limits.TheConstants.{WIDTH_LIMIT}
+use Rattle.fpga_types.specs.declared.route.RouteText.{RouteText}
+use Rattle.route_encode.specs.Encoding.{cnf_of}
+use Rattle.route_encode.proofs.ProblemExactness.{unsat-says-unroutable}
+use Rattle.sat_clause.specs.Judge.{Accepts}
+use Rattle.sat_clause.specs.Step.{Step}
+use Rattle.sat_clause.proofs.Refutes.{refutes}
+use Rattle.router_words.specs.declared.method.Method.{Method}
+use Rattle.router_words.specs.declared.method.Method.TheVariants.{Strictly}
+use Rattle.router_top.specs.Method.{HasNone, HasOne, IsRoutingBy, clauses_by}
+
+-- a log that refutes the clauses of a problem that fits shows that it has no legal routing
+pub none-legal : (method : Method) (width : ℕ) (p : RoutingProblem) (log : List Step) → Fits p
+    → Accepts (clauses_by method width p) log → HasNone method width p
+none-legal Strictly width p log fits accepts =
+    (unsat-says-unroutable width p fits).0 (refutes (cnf_of width p) log accepts)
+
+-- a routing shows that there is a legal one
+pub one-legal : (method : Method) (width : ℕ) (p : RoutingProblem) (found : RouteText)
+    → IsRoutingBy method width p found → HasOne method width p
+one-legal Strictly width p found routing = (tracks_of p.route found, routing.legal)
+
+-- the routing of a problem whose route was read reads back as it is printed
+pub routing-reads : (method : Method) (width : ℕ) (p : RoutingProblem) (found : RouteText)
+    (text : Bytes) → width ≤ WIDTH_LIMIT → Reads text p.route → IsRoutingBy method width p found
+    → ReadsBackWithTracks found → ReadsBack found
+routing-reads Strictly width p found text narrow read routing reads =
+    reads text p.route (tracks_of p.route found) read (λ k d inside.
+    let t = routing.legal.within k d inside in omega (arith, t, narrow)) routing.is

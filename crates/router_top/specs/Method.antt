@@ -1,0 +1,35 @@
+-- What a method makes of a problem: its clauses, its routings, and what it means that there is one
+-- or none. Nothing else here knows of an encoding.
+use Rattle.std.specs.Prelude.{ℕ, List}
+use Rattle.fpga_types.specs.Problem.{RoutingProblem}
+use Rattle.fpga_types.specs.declared.route.RouteText.{RouteText}
+use Rattle.route_encode.specs.Encoding.{cnf_of}
+use Rattle.route_encode.specs.Exact.{IsLegalRouting}
+use Rattle.route_encode.specs.Good.{IsRoutingOf}
+use Rattle.sat_clause.specs.Formula.{Cnf}
+use Rattle.router_words.specs.declared.method.Method.{Method}
+use Rattle.router_words.specs.declared.method.Method.TheVariants.{Strictly}
+
+-- the clauses that say a routing of the problem at a width
+abbrev pub clauses_by : Method → (width : ℕ) → RoutingProblem → Cnf
+clauses_by Strictly width p = cnf_of width p
+
+-- the route is a legal routing of the problem
+abbrev pub IsRoutingBy : Method → (width : ℕ) → RoutingProblem → RouteText → Type 0
+IsRoutingBy Strictly width p found = IsRoutingOf width p found
+
+-- what may make a routing of a problem: a track for each slot, in their order
+abbrev pub Witness : Method → Type 0
+Witness Strictly = List ℕ
+
+-- it makes a legal routing
+abbrev pub IsLegalBy : (method : Method) → (width : ℕ) → RoutingProblem → Witness method → Type 0
+IsLegalBy Strictly width p tracks = IsLegalRouting width p tracks
+
+-- some make a legal routing
+abbrev pub HasOne : Method → (width : ℕ) → RoutingProblem → Type 0
+HasOne method width p = (witness : Witness method) × IsLegalBy method width p witness
+
+-- none make a legal routing
+abbrev pub HasNone : Method → (width : ℕ) → RoutingProblem → Type 0
+HasNone method width p = (witness : Witness method) → ¬ IsLegalBy method width p witness
