@@ -6,7 +6,7 @@ use Rattle.std.specs.Option.{option_map_or, option_or}
 use Rattle.std.specs.Str.Parse.{digits_value}
 use Rattle.std.proofs.lemmas.Bool.{and_parts, and_from, ltb-true, ltb-false}
 use Rattle.std.proofs.lemmas.List.{length-map}
-use Rattle.std.proofs.lemmas.List.Elements.{All-tail}
+use Rattle.std.proofs.lemmas.List.Elements.{All-from_recursion, All-tail, recursion_from_All}
 use Rattle.std.proofs.lemmas.List.FromFn.{length-enumerate_from}
 use Rattle.std.proofs.lemmas.List.Sums.{take_while-cons}
 use Rattle.fpga_types.specs.Size.{Size, AreLimited}
@@ -35,12 +35,11 @@ use Rattle.fpga_route.specs.Forms.{Form, Array, Routing, OtherHead, Net, Elem as
 use Rattle.fpga_route.specs.Heads.{array_fault, said_grid}
 use Rattle.fpga_route.specs.Standings.{later_fault}
 use Rattle.fpga_route.specs.Value.{begins_net, elem_of, elems_of, kept_of, own_lines, with_net, nets_of, grid_of, value_of, Reads}
-use Rattle.fpga_route.specs.ReadBack.{ReadsBack}
+use Rattle.fpga_route.specs.ReadBack.{IsKeptLine, IsPrintable, IsPrintableElem, IsPrintableNet}
 use Rattle.fpga_route.proofs.FormLemmas.{net_form-words}
 use Rattle.fpga_route.proofs.FaultLemmas.{by_context, array-behind, in_head}
 use Rattle.fpga_route.proofs.SoundLemmas.{IsClean, faults_at, no_fault, own_sound, nets_limited, passed, sound_elem, standing_behind}
-use Rattle.fpga_route.proofs.PrintedLemmas.{IsPrintableElem, IsKeptLine, IsPrintableNet, IsPrintable}
-use Rattle.fpga_route.proofs.ReadBackLemmas.{reads_back}
+use Rattle.fpga_route.proofs.PrintedLemmas.{word-name}
 
 -- what each element passes, each of a part passes
 all_take : {X : Type 0} (p : X → Bool) (n : ℕ) (xs : List X) → list_all p xs ≡ true
@@ -202,9 +201,10 @@ nets_can at (line ∷ more) end clean whole =
         let own = own_can next more end c.rest (All-tail (IsWhole Hash) line more whole) in (
           record {
             k = number_small net.k;
-            name = net_name line.words net words_of (net_form-words line.words net is);
-            elems = own.elems_can;
-            kept = own.kept_can;
+            name = word-name net.name
+                (net_name line.words net words_of (net_form-words line.words net is));
+            elems = All-from_recursion (IsPrintableElem at.grid) _ own.elems_can;
+            kept = All-from_recursion IsKeptLine _ own.kept_can;
             no_elems = sound.no_elems;
             no_kept = sound.no_kept;
           },
@@ -310,13 +310,13 @@ value_can lines count clean whole =
             record {
               size = rw grid size.limited;
               limit = omega (arith, nets_limited at more (count + 1) clean_rest (omega arith));
-              nets = rw grid (nets_can at more (count + 1) clean_rest
-                  (All-tail (IsWhole Hash) second more
-                  (All-tail (IsWhole Hash) first (second ∷ more) all)));
+              nets = rw grid (All-from_recursion (IsPrintableNet size.grid) (nets_of more)
+                  (nets_can at more (count + 1) clean_rest (All-tail (IsWhole Hash) second more
+                  (All-tail (IsWhole Hash) first (second ∷ more) all))));
             }
 
 -- each value that was read
-can_print : (text : Bytes) (value : RouteText) → Reads text value → IsPrintable value
+pub can_print : (text : Bytes) (value : RouteText) → Reads text value → IsPrintable value
 can_print text value reads = rw (reads.1)
     (value_can (text_lines Hash text) (line_count text) reads.0 (whole-lines Hash text))
 
@@ -364,7 +364,9 @@ module _ (grid : Size) (all : List Slot) (tracks : List ℕ)
     record {
       k = (can.0).k;
       name = (can.0).name;
-      elems = elems_with n net.elems (can.0).elems;
+      elems = All-from_recursion (IsPrintableElem grid) _
+          (elems_with n net.elems
+          (recursion_from_All (IsPrintableElem grid) net.elems (can.0).elems));
       kept = (can.0).kept;
       no_elems = λ global. ap (map (with_track all tracks n)) ((can.0).no_elems global);
       no_kept = (can.0).no_kept;
@@ -373,22 +375,12 @@ module _ (grid : Size) (all : List Slot) (tracks : List ℕ)
   )
 
 -- a route with tracks
-can_print_tracks : (route : RouteText) (tracks : List ℕ) → All (λ t. t < 2 ^ 32) tracks
-    → IsPrintable route → IsPrintable (route_of route tracks)
-can_print_tracks route tracks small can = record {
+pub can_print_tracks : (route : RouteText) (tracks : List ℕ) → IsPrintable route
+    → All (λ t. t < 2 ^ 32) tracks → IsPrintable (route_of route tracks)
+can_print_tracks route tracks can small = record {
   size = can.size;
   limit = rw (length-map, length-enumerate_from) can.limit;
-  nets = nets_with route.grid (slots route) tracks (small_track tracks small) 0 route.nets can.nets;
+  nets = All-from_recursion (IsPrintableNet route.grid) _
+      (nets_with route.grid (slots route) tracks (small_track tracks small) 0 route.nets
+      (recursion_from_All (IsPrintableNet route.grid) route.nets can.nets));
 }
-
--- a value that was read reads back
-pub read_back : (text : Bytes) (value : RouteText) → Reads text value → ReadsBack value
-read_back text value reads = reads_back value (can_print text value reads)
-
--- and with tracks of 32 bits
-pub tracks_read_back : (text : Bytes) (source route : RouteText) (tracks : List ℕ)
-    → Reads text source → All (λ t. t < 2 ^ 32) tracks → route ≡ route_of source tracks
-    → ReadsBack route
-tracks_read_back text source route tracks reads fits is =
-    reads_back route (subst (λ (r : RouteText). IsPrintable r) (sym is)
-    (can_print_tracks source tracks fits (can_print text source reads)))

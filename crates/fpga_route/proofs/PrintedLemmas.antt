@@ -1,15 +1,15 @@
 -- The lines of the printed form of a route, and what they say.
 use lib.Pointwise.{pointwise}
 use Rattle.std.proofs.Math.Seq.{take-append_seam, drop-append_seam}
-use Rattle.std.proofs.Common.{◌≡◌, ℕ, suc, ◌+◌, ◌-◌, ◌<◌, ◌≤◌, ◌^◌, Bool, true, false, List, [], ◌∷◌, ◌++◌, length, take, drop, Some, None, inl, refl, sym, ap, ◌∙◌, arith, add-one, append_assoc, length-append}
+use Rattle.std.proofs.Common.{◌≡◌, ℕ, suc, ◌+◌, ◌-◌, ◌<◌, ◌≤◌, ◌^◌, Bool, true, false, List, [], ◌∷◌, ◌++◌, length, take, drop, Some, None, inl, refl, sym, ap, subst, ◌∙◌, arith, add-one, append_assoc, length-append}
 use Rattle.std.specs.Prelude.{bytes_eq, codes, decimal, is_some, map, flat_map, nat_eq, nat_le, not, ◌&&◌, ◌||◌, slice_range, if◌then◌else◌}
 use Rattle.std.specs.List.{after_first, before_first, ends_with, list_all, list_any, position_or_len, AllByRecursion}
 use Rattle.std.specs.Option.{option_map_or}
 use Rattle.std.proofs.lemmas.Bool.{and_parts, le-leb, not-true}
 use Rattle.std.proofs.lemmas.Grind.{flat_map-append}
+use Rattle.std.proofs.lemmas.List.Elements.{recursion_from_All}
 use Rattle.fpga_types.specs.Size.{Size, AreLimited}
-use Rattle.fpga_types.specs.Sound.{IsSoundElem}
-use Rattle.fpga_types.specs.declared.limits.TheConstants.{NET_LIMIT, SIDE_LIMIT}
+use Rattle.fpga_types.specs.declared.limits.TheConstants.{SIDE_LIMIT}
 use Rattle.fpga_types.specs.declared.route.Elem.{Elem}
 use Rattle.fpga_types.specs.declared.route.ElemKind.{ElemKind}
 use Rattle.fpga_types.specs.declared.route.ElemKind.TheVariants.{Source, Opin, ChanX, ChanY, Ipin, Sink}
@@ -22,38 +22,27 @@ use Rattle.fpga_text.specs.Bytes.{Bytes, is_newline, is_empty}
 use Rattle.fpga_text.specs.Words.{Words, lines, words}
 use Rattle.fpga_text.proofs.CutLemmas.{position_or_len-cons_no}
 use Rattle.fpga_text.proofs.LineLemmas.{lines-next}
+use Rattle.fpga_text.proofs.PartLemmas.{words-are_words}
 use Rattle.fpga_text.proofs.PrintedLines.{ended, said, said-line}
 use Rattle.fpga_text.proofs.PrintedWords.{IsWord, both-pass, decimal-pass, decimal-word, digit-differs, is_line_byte, is_word_byte, lacks, lacks-each, line-newline, word-line, words-end, words-word}
 use Rattle.fpga_text.specs.ArrayLine.{SizeWords}
 use Rattle.fpga_route.specs.Forms.{ElemWords, Form, Array, Net, Elem as ElemForm, Block, Span, OtherLine, NetWords, array_form, is_comma, comma_parts, enclosed, named_net, kind_word, kind_of, label_word, label_of, later_form, place_words, elem_of_parts}
 use Rattle.fpga_route.specs.Printed.{after_name, before_name, in_six_places, printed_elem, printed_lines, printed_net, printed_head, printed}
+use Rattle.fpga_route.specs.ReadBack.{IsKeptLine, IsName, IsPrintable, IsPrintableElem, IsPrintableNet}
 
--- the element is sound, and its numbers fit 32 bits
-pub record IsPrintableElem (grid : Size) (e : Elem) : Type 0 where
-  pub sound : IsSoundElem grid e
-  pub x : e.x < 2 ^ 32
-  pub y : e.y < 2 ^ 32
-  pub number : e.number < 2 ^ 32
+-- a name is a word
+pub name-word : (name : Bytes) → IsName name → IsWord name
+name-word name is =
+    (subst (AllByRecursion IsWord) is.one_word (words-are_words name is.one_line)).0
 
--- the row is one Block line
-pub record IsKeptLine (raw : Bytes) : Type 0 where
-  pub one_line : lacks is_newline raw ≡ true
-  pub block : later_form (said Hash raw) ≡ Block
-
--- the number of the net fits 64 bits, its name is a word, and its lines are of its kind
-pub record IsPrintableNet (grid : Size) (net : RouteNet) : Type 0 where
-  pub k : net.k < 2 ^ 64
-  pub name : IsWord net.name
-  pub elems : AllByRecursion (IsPrintableElem grid) net.elems
-  pub kept : AllByRecursion IsKeptLine net.kept
-  pub no_elems : net.global ≡ true → net.elems ≡ []
-  pub no_kept : net.global ≡ false → net.kept ≡ []
-
--- what each route has that was read
-pub record IsPrintable (route : RouteText) : Type 0 where
-  pub size : AreLimited route.grid.nx route.grid.ny
-  pub limit : length route.nets ≤ NET_LIMIT
-  pub nets : AllByRecursion (IsPrintableNet route.grid) route.nets
+-- and a word is a name
+pub word-name : (word : Bytes) → IsWord word → IsName word
+word-name word is =
+    let whole = word-line word is.bytes in
+    record {
+      one_line = line-newline word whole;
+      one_word = said-line Hash word whole ∙ words-end word is;
+    }
 
 -- the array line
 abbrev pub head_text : Size → Bytes
@@ -452,13 +441,15 @@ module _ (grid : Size) (e : Elem) (can : IsPrintableElem grid e) where
 -- an element or a kept line is one line
 own_lines_whole : (grid : Size) (net : RouteNet) (global : Bool) → IsPrintableNet grid net
     → AllByRecursion (λ text. lacks is_newline text ≡ true) (own_texts global net)
-own_lines_whole grid net true can = kept net.kept can.kept
+own_lines_whole grid net true can =
+    kept net.kept (recursion_from_All IsKeptLine net.kept can.kept)
   where
     kept : (raws : List Bytes) → AllByRecursion IsKeptLine raws
         → AllByRecursion (λ text. lacks is_newline text ≡ true) raws
     kept [] all = tt
     kept (raw ∷ more) all = ((all.0).one_line, kept more all.1)
-own_lines_whole grid net false can = whole net.elems can.elems
+own_lines_whole grid net false can =
+    whole net.elems (recursion_from_All (IsPrintableElem grid) net.elems can.elems)
   where
     whole : (elems : List Elem) → AllByRecursion (IsPrintableElem grid) elems
         → AllByRecursion (λ text. lacks is_newline text ≡ true) (map elem_text elems)
@@ -479,7 +470,7 @@ nets_whole grid (net ∷ more) all =
     all_append (λ text. lacks is_newline text ≡ true) (net_texts net) (flat_map net_texts more) (
       refl,
       (
-        line-newline (net_text net) (net_whole net (all.0).k (all.0).name),
+        line-newline (net_text net) (net_whole net (all.0).k (name-word net.name (all.0).name)),
         (
           refl,
           all_append (λ text. lacks is_newline text ≡ true) (own_texts net.global net) ([] ∷ [])
@@ -496,5 +487,12 @@ lines-printed route can =
     ap lines (printed-lines route)
     ∙ all-lines (route_texts route) (
       line-newline (head_text route.grid) (head_whole route.grid can.size),
-      (refl, (refl, nets_whole route.grid route.nets can.nets)),
+      (
+        refl,
+        (
+          refl,
+          nets_whole route.grid route.nets
+              (recursion_from_All (IsPrintableNet route.grid) route.nets can.nets),
+        ),
+      ),
     )

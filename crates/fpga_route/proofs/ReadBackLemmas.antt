@@ -4,6 +4,7 @@ use Rattle.std.specs.Prelude.{codes, map, flat_map, not, cond, ◌&&◌, decimal
 use Rattle.std.specs.List.{AllByRecursion, cons_option}
 use Rattle.std.specs.Option.{option_map_or, option_or}
 use Rattle.std.proofs.lemmas.Bool.{lt-ltb, le-ltb, ne_eqb}
+use Rattle.std.proofs.lemmas.List.Elements.{recursion_from_All}
 use Rattle.std.proofs.lemmas.List.Sums.{take_while-cons}
 use Rattle.fpga_types.specs.Size.{Size, AreLimited}
 use Rattle.fpga_types.specs.Sound.{has_place}
@@ -27,10 +28,10 @@ use Rattle.fpga_route.specs.Heads.{array_fault, said_grid}
 use Rattle.fpga_route.specs.Standings.{context_at, later_fault}
 use Rattle.fpga_route.specs.Value.{begins_net, elems_of, form_elem, form_kept, kept_of, net_of, own_lines, with_net, nets_of, value_of, route_value}
 use Rattle.fpga_route.specs.Printed.{printed}
-use Rattle.fpga_route.specs.ReadBack.{elem_without_line, net_without_lines, without_lines, ReadsBack}
+use Rattle.fpga_route.specs.ReadBack.{IsKeptLine, IsPrintable, IsPrintableElem, IsPrintableNet, ReadsBack, elem_without_line, net_without_lines, without_lines}
 use Rattle.fpga_route.proofs.FaultLemmas.{by_context}
 use Rattle.fpga_route.proofs.SoundLemmas.{faults_at, in_net}
-use Rattle.fpga_route.proofs.PrintedLemmas.{IsPrintableElem, IsKeptLine, IsPrintableNet, IsPrintable, elem_parts, head_parts, net_parts, head_text, net_text, elem_text, own_texts, net_texts, lines-printed, head_says, net_says, elem_says, wide, limited}
+use Rattle.fpga_route.proofs.PrintedLemmas.{elem_parts, head_parts, net_parts, head_text, net_text, elem_text, own_texts, net_texts, lines-printed, head_says, net_says, elem_says, name-word, wide, limited}
 
 -- the number after those of these lines
 abbrev number_after : ℕ → List Bytes → ℕ
@@ -152,13 +153,14 @@ kept_own grid nets raw can =
 -- the lines behind a Net line are own lines of its net
 all_own : (grid : Size) (nets : ℕ) (net : RouteNet) (global : Bool) → IsPrintableNet grid net
     → AllByRecursion (IsOwnLine (in_net grid nets global)) (own_texts global net)
-all_own grid nets net true can = go net.kept can.kept
+all_own grid nets net true can = go net.kept (recursion_from_All IsKeptLine net.kept can.kept)
   where
     go : (raws : List Bytes) → AllByRecursion IsKeptLine raws
         → AllByRecursion (IsOwnLine (in_net grid nets true)) raws
     go [] all = tt
     go (raw ∷ more) all = (kept_own grid nets raw all.0, go more all.1)
-all_own grid nets net false can = go net.elems can.elems
+all_own grid nets net false can =
+    go net.elems (recursion_from_All (IsPrintableElem grid) net.elems can.elems)
   where
     go : (elems : List Elem) → AllByRecursion (IsPrintableElem grid) elems
         → AllByRecursion (IsOwnLine (in_net grid nets false)) (map elem_text elems)
@@ -168,7 +170,7 @@ all_own grid nets net false can = go net.elems can.elems
 -- what a printed net says
 says : (grid : Size) (net : RouteNet) → IsPrintableNet grid net
     → later_form (said Hash (net_text net)) ≡ Net (net_parts net)
-says grid net can = net_says net can.k can.name
+says grid net can = net_says net can.k (name-word net.name can.name)
 
 -- the lines of a net that have words
 seen-net : (grid : Size) (n : ℕ) (net : RouteNet) (rest : List Bytes) → IsPrintableNet grid net
@@ -278,14 +280,19 @@ own-elems : (grid : Size) (m : ℕ) (net : RouteNet) (global : Bool) → net.glo
     → map elem_without_line (elems_of (numbered Hash m (own_texts global net)))
     ≡ map elem_without_line net.elems
 own-elems grid m net true is can =
-    ap (map elem_without_line) (kept-elems m net.kept can.kept ∙ sym (can.no_elems is))
-own-elems grid m net false is can = elems-read grid m net.elems can.elems
+    ap (map elem_without_line) (kept-elems m net.kept
+    (recursion_from_All IsKeptLine net.kept can.kept) ∙ sym (can.no_elems is))
+own-elems grid m net false is can =
+    elems-read grid m net.elems (recursion_from_All (IsPrintableElem grid) net.elems can.elems)
 
 -- and as its kept lines
 own-kept : (grid : Size) (m : ℕ) (net : RouteNet) (global : Bool) → net.global ≡ global
     → IsPrintableNet grid net → kept_of (numbered Hash m (own_texts global net)) ≡ net.kept
-own-kept grid m net true is can = kept-read m net.kept can.kept
-own-kept grid m net false is can = elems-kept grid m net.elems can.elems ∙ sym (can.no_kept is)
+own-kept grid m net true is can =
+    kept-read m net.kept (recursion_from_All IsKeptLine net.kept can.kept)
+own-kept grid m net false is can =
+    elems-kept grid m net.elems (recursion_from_All (IsPrintableElem grid) net.elems can.elems)
+    ∙ sym (can.no_kept is)
 
 -- the lines of the nets read as the nets
 nets-read : (grid : Size) (n : ℕ) (nets : List RouteNet) → AllByRecursion (IsPrintableNet grid) nets
@@ -382,7 +389,7 @@ printed-clean route count can =
     (record START { grid = size_said i; in_body = true })
     (later_forms (printed_rest route.nets)) (count + 1)))
     ∙ fault-nets (record { grid = route.grid; nets = 0; in_global = None }) 4 route.nets (count + 1)
-    can.nets (omega (arith, can.limit))
+    (recursion_from_All (IsPrintableNet route.grid) route.nets can.nets) (omega (arith, can.limit))
   where
     size_said : said_grid (Array (head_parts route.grid)) ≡ Some route.grid
     size_said = (λ i. said_grid (sym (head_says route.grid can.size) i))
@@ -396,7 +403,8 @@ printed-same route count can = λ i. record {
   grid = unwrap_or (head-size route.grid can.size i) (record { nx = 0; ny = 0 });
   grid_line = 0;
   lines = 0;
-  nets = nets-read route.grid 4 route.nets can.nets i;
+  nets = nets-read route.grid 4 route.nets
+      (recursion_from_All (IsPrintableNet route.grid) route.nets can.nets) i;
 }
 
 -- a route that can be printed reads back

@@ -5,6 +5,7 @@ mod cause;
 mod draft;
 mod forms;
 mod head;
+mod laws;
 mod open_net;
 mod read;
 mod standing;
@@ -13,5 +14,6 @@ mod tests;
 mod words;
 mod write;
 
+pub use laws::{read_routes_are_printable, routes_with_tracks_are_printable};
 pub use read::read_route;
 pub use write::{WholeRoute, write_route};

@@ -2,11 +2,9 @@
 ghost use Rattle.std.specs.Prelude.{◌≡◌, ◌++◌, ◌≤◌, true, codes, decimal, OnOk, OnErr};
 ghost use Rattle.arrayvec.specs.ArrayString.{array_string_len};
 ghost use Rattle.desk_io.specs.ShelfState.{after_append, FailsToAppend};
-ghost use Rattle.fpga_text.specs.Bytes.{Bytes};
 ghost use Rattle.fpga_route.specs.Forms.{kind_word, label_word};
 ghost use Rattle.fpga_route.specs.Printed.{after_name, before_name, in_six_places, printed, printed_elem, printed_head};
-ghost use Rattle.fpga_route.specs.ReadBack.{ReadsBack, ReadsBackWithTracks};
-ghost use Rattle.fpga_route.specs.Value.{Reads};
+ghost use Rattle.fpga_route.specs.ReadBack.{IsPrintable, ReadsBack};
 
 use arrayvec::ArrayString;
 use desk_io::{BlockWriter, Failed, Prints, Shelf, append_text, print_both, print_each};
@@ -290,11 +288,11 @@ pub struct WholeRoute;
 
 impl Prints<RouteText> for WholeRoute {
     ghost use Rattle.fpga_route.specs.Printed.{printed};
-    ghost use Rattle.fpga_route.specs.ReadBack.{ReadsBackWithTracks};
+    ghost use Rattle.fpga_route.specs.ReadBack.{IsPrintable, ReadsBack};
 
     ghost text = { printed };
 
-    ghost known = { ReadsBackWithTracks };
+    ghost known = { λ route. IsPrintable route → ReadsBack route };
 
     fn print<S: Shelf>(
         &self,
@@ -310,16 +308,15 @@ impl Prints<RouteText> for WholeRoute {
 ///
 /// It fails only where the shelf does, and then a front part of the printed form was appended.
 ///
-/// The printed form of a route that was read, with its own tracks or with others of 32 bits, has no
-/// fault and reads as an equal route, but for the numbers of lines.
+/// The printed form of a route that can be printed has no fault and reads as an equal route, but
+/// for the numbers of lines.
 pub fn write_route<S: Shelf>(route: &RouteText, shelf: &mut S) -> Result<(), Failed>
     requires { (S.state shelf.old).is_created ≡ true }
     ensures ok { OnOk result (S.state shelf.new ≡ after_append (S.state shelf.old)
         (printed route.now)) }
     ensures err { OnErr result (FailsToAppend (S.state shelf.old) (printed route.now)
         (S.state shelf.new)) }
-    ensures read_back { (text : Bytes) → Reads text route.now → ReadsBack route.now }
-    ensures tracks_read_back { ReadsBackWithTracks route.now }
+    ensures read_back { IsPrintable route.now → ReadsBack route.now }
 {
     append_text(&WholeRoute, shelf, route)
 }

@@ -23,7 +23,7 @@ use Rattle.fpga_types.specs.declared.route.Label.TheVariants.{Class, Pin, Pad, T
 use Rattle.fpga_types.proofs.MeetingLemmas.{both_true}
 use Rattle.fpga_route.specs.Forms.{kind_word, label_word}
 use Rattle.fpga_route.specs.Printed.{in_six_places, printed_elem, printed_net}
-use Rattle.fpga_route.proofs.PrintedLemmas.{IsPrintableElem}
+use Rattle.fpga_route.specs.ReadBack.{IsPrintableElem}
 use Rattle.route_gen.specs.Draws.{input_table, location_of, nets_into, sinks_of}
 use Rattle.route_gen.specs.Generated.{generated}
 use Rattle.route_gen.specs.Netlists.{block_lines, block_name, driven, generated_netlist, input_word, net_name, pin_word}

@@ -16,7 +16,7 @@ use Rattle.fpga_types.specs.declared.route.ElemKind.{ElemKind}
 use Rattle.fpga_types.specs.declared.route.ElemKind.TheVariants.{Source, Opin, ChanX, ChanY, Ipin, Sink}
 use Rattle.fpga_types.specs.declared.route.Label.{Label}
 use Rattle.fpga_types.specs.declared.route.Label.TheVariants.{Class, Pin}
-use Rattle.fpga_route.proofs.PrintedLemmas.{IsPrintableElem}
+use Rattle.fpga_route.specs.ReadBack.{IsPrintableElem}
 use Rattle.route_gen.specs.Draws.{location_of}
 use Rattle.route_gen.specs.Traces.{along_column, along_row, cells, channel, elem_at, to_row, towards, trace}
 use Rattle.route_gen.specs.declared.draws.TheConstants.{INPUT_COUNT}
