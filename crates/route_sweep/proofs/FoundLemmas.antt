@@ -1,5 +1,5 @@
--- What a search has found that ended without a model, by what was written of it.
-use Rattle.std.proofs.Common.{◌≡◌, ◌⊎◌, ◌≤◌, ℕ, List, refl, sym, subst, inl, inr, arith}
+-- What a search has found, by what was written of it.
+use Rattle.std.proofs.Common.{◌≡◌, ◌⊎◌, ◌≤◌, ℕ, List, length, refl, sym, subst, inl, inr, arith}
 use Rattle.std.specs.Prelude.{Result, Ok, Err}
 use Rattle.std.specs.Result.{result_and}
 use Rattle.desk_io.specs.ShelfState.{ShelfState}
@@ -11,17 +11,88 @@ use Rattle.sat_clause.proofs.Refutes.{refutes}
 use Rattle.sat_core.specs.Answer.{IsAnswer, IsDecided, most_added}
 use Rattle.sat_core.specs.SearchLog.{added_count}
 use Rattle.sat_core.specs.declared.answer.Answer.{Answer}
-use Rattle.sat_core.specs.declared.answer.Answer.TheVariants.{Refuted as Refutes, Spent as Spends}
+use Rattle.sat_core.specs.declared.answer.Answer.TheVariants.{Refuted as HasNone, Spent as IsOpen}
+use Rattle.sat_text.specs.LratText.{ReadsLrat}
+use Rattle.sat_text.specs.Printed.{log_text}
 use Rattle.route_sweep.specs.Asked.{Asked}
-use Rattle.route_sweep.specs.Found.{FindsAt, HasFew, IsLeftOpenBy, IsLogOf, IsRefutedBy, WritesLog}
-use Rattle.route_sweep.specs.Written.{WritesProof}
+use Rattle.route_sweep.specs.Found.{FindsAt, FindsBy, HasFew, IsLeftOpenBy, IsLogOf, IsRefutedBy, WritesLog}
+use Rattle.route_sweep.specs.Written.{WritesProof, WritesRoute}
 use Rattle.route_sweep.specs.declared.asking.TheConstants.{BUDGET_LIMIT}
 use Rattle.route_sweep.specs.declared.found.FileSlot.TheVariants.{Route, Clauses, Log}
 use Rattle.route_sweep.specs.declared.found.Found.{Found}
-use Rattle.route_sweep.specs.declared.found.Found.TheVariants.{Refuted, Spent}
+use Rattle.route_sweep.specs.declared.found.Found.TheVariants.{Routed, Refuted, Spent}
 use Rattle.route_sweep.specs.declared.found.Stop.{Stop}
 use Rattle.route_sweep.specs.declared.found.Stop.TheVariants.{Fault, TooManyClauses, Memory}
 use Rattle.route_sweep.proofs.LogLemmas.{log-reads}
+
+module _ (Refutes LeavesOpen : List Step → Type 0) (ask : Asked) (width : ℕ) (formula : Cnf)
+    (good : RouteText → Type 0) (before now : ShelfState) (few : HasFew formula)
+    (found : RouteText) (routing : good found) where
+  -- a routing was found, and written or not
+  routed : (result : Result (Unit {0}) Stop) → WritesRoute ask found before now result
+      → FindsBy Refutes LeavesOpen ask width formula good before now (result_and result (Ok Routed))
+  routed (Ok done) writes = (
+    few,
+    record { found = found; routing = routing; written = writes.0; reads_back = writes.1 },
+  )
+  routed (Err (Fault Route)) writes =
+      (few, record { found = found; routing = routing; fails = writes.1 })
+  routed (Err (Fault Clauses)) writes = absurd (let clash : Clauses ≡ Route = writes.0 in cc)
+  routed (Err (Fault Log)) writes = absurd (let clash : Log ≡ Route = writes.0 in cc)
+  routed (Err (TooManyClauses count)) writes = absurd writes
+  routed (Err Memory) writes = (few, writes)
+
+  pub finds-routing : (result : Result (Unit {0}) Stop) → WritesRoute ask found before now result
+      → (came : Result Found Stop) → came ≡ result_and result (Ok Routed)
+      → FindsBy Refutes LeavesOpen ask width formula good before now came
+  finds-routing result writes came is =
+      subst (FindsBy Refutes LeavesOpen ask width formula good before now) (sym is)
+      (routed result writes)
+
+-- a log that ends a search reads back, and was written behind the clauses or not
+pub record IsWritten (ask : Asked) (width : ℕ) (formula : Cnf) (log : List Step)
+    (before now : ShelfState) (result : Result (Unit {0}) Stop) : Type 0 where
+  pub few : HasFew formula
+  pub reads : ReadsLrat (length formula.clauses) (log_text log) log
+  pub writes : WritesProof ask width formula log before now result
+
+module _ (Refutes LeavesOpen : List Step → Type 0) (ask : Asked) (width : ℕ) (formula : Cnf)
+    (good : RouteText → Type 0) (before now : ShelfState) (log : List Step) where
+  -- both were written
+  written : (Ends : List Step → Type 0) → Ends log → (done : Unit {0})
+      → IsWritten ask width formula log before now (Ok done)
+      → WritesLog ask width formula Ends before now
+  written Ends ends done h = record {
+    log = log;
+    ends = ends;
+    written = h.writes.0;
+    clauses_back = h.writes.1;
+    log_back = h.reads;
+  }
+
+  -- they were not
+  stopped : Refutes log ⊎ LeavesOpen log → (stop : Stop)
+      → IsWritten ask width formula log before now (Err stop)
+      → FindsBy Refutes LeavesOpen ask width formula good before now (Err stop)
+  stopped ended (Fault Route) h = absurd h.writes
+  stopped ended (Fault Clauses) h = (h.few, record { log = log; ended = ended; fails = h.writes })
+  stopped ended (Fault Log) h = (h.few, record { log = log; ended = ended; fails = h.writes })
+  stopped ended (TooManyClauses count) h = absurd h.writes
+  stopped ended Memory h = (h.few, h.writes)
+
+  -- the log refutes the formula
+  pub finds-refuted : Refutes log → (result : Result (Unit {0}) Stop)
+      → IsWritten ask width formula log before now result → FindsBy Refutes LeavesOpen ask width
+      formula good before now (result_and result (Ok Refuted))
+  finds-refuted ends (Ok done) h = (h.few, written Refutes ends done h)
+  finds-refuted ends (Err stop) h = stopped (inl ends) stop h
+
+  -- the log spends the budget and leaves the formula open
+  pub finds-spent : LeavesOpen log → (result : Result (Unit {0}) Stop)
+      → IsWritten ask width formula log before now result → FindsBy Refutes LeavesOpen ask width
+      formula good before now (result_and result (Ok (Spent ask.budget)))
+  finds-spent ends (Ok done) h = (h.few, refl, written LeavesOpen ends done h)
+  finds-spent ends (Err stop) h = stopped (inr ends) stop h
 
 -- a search through the formula has ended with this answer and this log, and the formula and the log
 -- were written or not
@@ -36,82 +107,47 @@ pub record HasEnded (ask : Asked) (width : ℕ) (answer : Answer) (log : List St
   pub writes : WritesProof ask width formula log before now result
 
 module _ (ask : Asked) (width : ℕ) (formula : Cnf) (good : RouteText → Type 0)
-    (before now : ShelfState) (log : List Step) (few : HasFew formula) where
-  -- the clauses and the log were written
-  written : (Ends : List Step → Type 0) → Ends log → (answer : Answer) → (done : Unit {0})
-      → HasEnded ask width answer log before now (Ok done) formula
-      → WritesLog ask width formula Ends before now
-  written Ends ends answer done h = record {
-    log = log;
-    ends = ends;
-    written = h.writes.0;
-    clauses_back = h.writes.1;
-    log_back = log-reads formula log ask.budget h.few_vars (omega (arith, few, h.affordable))
+    (before now : ShelfState) (log : List Step) (few : HasFew formula)
+    (result : Result (Unit {0}) Stop) where
+  -- its log was written or not
+  ended : (answer : Answer) → HasEnded ask width answer log before now result formula
+      → IsWritten ask width formula log before now result
+  ended answer h = record {
+    few = few;
+    reads = log-reads formula log ask.budget h.few_vars (omega (arith, few, h.affordable))
         h.of.search h.within;
+    writes = h.writes;
   }
 
-  -- they were not
-  stopped : IsRefutedBy ask formula good log ⊎ IsLeftOpenBy ask formula log → (stop : Stop)
-      → WritesProof ask width formula log before now (Err stop)
-      → FindsAt ask width formula good before now (Err stop)
-  stopped ended (Fault Route) writes = absurd writes
-  stopped ended (Fault Clauses) writes = (few, record { log = log; ended = ended; fails = writes })
-  stopped ended (Fault Log) writes = (few, record { log = log; ended = ended; fails = writes })
-  stopped ended (TooManyClauses count) writes = absurd writes
-  stopped ended Memory writes = (few, writes)
-
-  refuted-by : (IsUnsat formula → (found : RouteText) → ¬ good found)
-      → (result : Result (Unit {0}) Stop)
-      → HasEnded ask width Refutes log before now result formula
-      → IsRefutedBy ask formula good log
-  refuted-by none result h = record {
-    of = h.of;
-    refutes = h.end;
-    none_good = none (refutes formula log h.end.accepts);
-  }
-
-  -- the log refutes the formula
-  refuted : (IsUnsat formula → (found : RouteText) → ¬ good found)
-      → (result : Result (Unit {0}) Stop)
-      → HasEnded ask width Refutes log before now result formula
-      → FindsAt ask width formula good before now (result_and result (Ok Refuted))
-  refuted none (Ok done) h = (
-    few,
-    written (IsRefutedBy ask formula good) (refuted-by none (Ok done) h) Refutes done h,
-  )
-  refuted none (Err stop) h = stopped (inl (refuted-by none (Err stop) h)) stop h.writes
-
-  -- no more than the budget allows was learned, which is fewer than could be
-  left_open : (result : Result (Unit {0}) Stop)
-      → HasEnded ask width Spends log before now result formula → IsLeftOpenBy ask formula log
-  left_open result h =
-      let few_asked : ¬ (most_added ask.keep formula.vars ≤ ask.budget) = h.decided in
-      record { of = h.of; spends = h.end; short = omega (arith, few_asked) }
-
-  -- the log spends the budget
-  spent : (result : Result (Unit {0}) Stop)
-      → HasEnded ask width Spends log before now result formula
-      → FindsAt ask width formula good before now (result_and result (Ok (Spent ask.budget)))
-  spent (Ok done) h = (
-    few,
-    refl,
-    written (IsLeftOpenBy ask formula) (left_open (Ok done) h) Spends done h,
-  )
-  spent (Err stop) h = stopped (inr (left_open (Err stop) h)) stop h.writes
-
-  -- the same of a formula that was built, and of an answer that is handed on
-  pub finds-refuted : (IsUnsat formula → (found : RouteText) → ¬ good found)
-      → (result : Result (Unit {0}) Stop) (cnf : Cnf) → cnf ≡ formula
-      → HasEnded ask width Refutes log before now result cnf → (came : Result Found Stop)
-      → came ≡ result_and result (Ok Refuted) → FindsAt ask width formula good before now came
-  finds-refuted none result cnf built h came is =
-      subst (FindsAt ask width formula good before now) (sym is)
-      (refuted none result (subst (HasEnded ask width Refutes log before now result) built h))
-
-  pub finds-spent : (result : Result (Unit {0}) Stop) (cnf : Cnf) → cnf ≡ formula
-      → HasEnded ask width Spends log before now result cnf → (came : Result Found Stop)
-      → came ≡ result_and result (Ok (Spent ask.budget))
+  -- a refutation, of a formula that was built
+  pub refuted-at : (IsUnsat formula → (found : RouteText) → ¬ good found) → (cnf : Cnf)
+      → cnf ≡ formula → HasEnded ask width HasNone log before now result cnf
+      → (came : Result Found Stop) → came ≡ result_and result (Ok Refuted)
       → FindsAt ask width formula good before now came
-  finds-spent result cnf built h came is =
+  refuted-at none cnf built past came is =
+      let h : HasEnded ask width HasNone log before now result formula =
+      subst (HasEnded ask width HasNone log before now result) built past in
       subst (FindsAt ask width formula good before now) (sym is)
-      (spent result (subst (HasEnded ask width Spends log before now result) built h))
+      (finds-refuted (IsRefutedBy ask formula good) (IsLeftOpenBy ask formula) ask width formula
+      good before now log
+      (record {
+        of = h.of;
+        refutes = h.end;
+        none_good = none (refutes formula log h.end.accepts);
+      })
+      result (ended HasNone h))
+
+  -- a spent budget, which is smaller than what is enough
+  pub spent-at : (cnf : Cnf) → cnf ≡ formula
+      → HasEnded ask width IsOpen log before now result cnf
+      → (came : Result Found Stop) → came ≡ result_and result (Ok (Spent ask.budget))
+      → FindsAt ask width formula good before now came
+  spent-at cnf built past came is =
+      let h : HasEnded ask width IsOpen log before now result formula =
+      subst (HasEnded ask width IsOpen log before now result) built past in
+      let few_asked : ¬ (most_added ask.keep formula.vars ≤ ask.budget) = h.decided in
+      subst (FindsAt ask width formula good before now) (sym is)
+      (finds-spent (IsRefutedBy ask formula good) (IsLeftOpenBy ask formula) ask width formula
+      good before now log
+      (record { of = h.of; spends = h.end; short = omega (arith, few_asked) })
+      result (ended IsOpen h))

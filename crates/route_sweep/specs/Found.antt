@@ -4,7 +4,7 @@ use Rattle.std.specs.Prelude.{◌≡◌, ◌⊎◌, ℕ, ◌<◌, ◌≤◌, IsT
 use Rattle.desk_io.specs.ShelfState.{ShelfState}
 use Rattle.desk_io.specs.WholeFile.{FailsToWrite, after_writing}
 use Rattle.fpga_route.specs.Printed.{printed}
-use Rattle.fpga_route.specs.ReadBack.{ReadsBackWithTracks}
+use Rattle.fpga_route.specs.ReadBack.{IsPrintable, ReadsBack}
 use Rattle.fpga_types.specs.declared.route.RouteText.{RouteText}
 use Rattle.sat_clause.specs.declared.limits.TheConstants.{CLAUSE_LIMIT}
 use Rattle.sat_clause.specs.Formula.{Cnf}
@@ -29,6 +29,13 @@ use Rattle.route_sweep.specs.declared.found.Stop.TheVariants.{Fault, TooManyClau
 abbrev pub HasFew : Cnf → Type 0
 HasFew formula = length formula.clauses ≤ CLAUSE_LIMIT
 
+-- what keeps the formula from being built: it has more clauses than that, and this is their number;
+-- or memory is short
+abbrev pub IsUnbuilt : Cnf → Stop → Type 0
+IsUnbuilt formula (TooManyClauses count) = (count ≡ length formula.clauses) × (CLAUSE_LIMIT < count)
+IsUnbuilt formula Memory = HasFew formula
+IsUnbuilt formula (Fault slot) = ⊥
+
 -- the log is of a search through the formula, which deleted nothing where all clauses are kept
 pub record IsLogOf (ask : Asked) (formula : Cnf) (log : List Step) : Type 0 where
   pub search : IsSearchLog formula log
@@ -48,13 +55,13 @@ pub record IsLeftOpenBy (ask : Asked) (formula : Cnf) (log : List Step) : Type 0
   pub spends : SpendsAll ask.budget log
   pub short : ask.budget < most_added ask.keep formula.vars
 
--- a routing was written, and no other file; it reads back where its problem's route was read
+-- a routing was written, and no other file; it reads back if it can be printed
 pub record WritesRouting
     (ask : Asked) (good : RouteText → Type 0) (before now : ShelfState) : Type 0 where
   pub found : RouteText
   pub routing : good found
   pub written : now ≡ after_writing before (route_name ask) (printed found)
-  pub reads_back : ReadsBackWithTracks found
+  pub reads_back : IsPrintable found → ReadsBack found
 
 -- the clauses were written, then a log that ends the search so, and no other file; both read back
 pub record WritesLog
@@ -73,34 +80,40 @@ pub record FailsToWriteRouting
   pub routing : good found
   pub fails : FailsToWrite before (route_name ask) (printed found) now
 
--- the search had ended with this log, and the clauses or the log were being written
+-- a log had ended the search so, and the clauses or the log were being written
 pub record FailsToWriteLog
-    (ask : Asked) (width : ℕ) (formula : Cnf) (good : RouteText → Type 0)
+    (ask : Asked) (width : ℕ) (formula : Cnf) (Ends : List Step → Type 0)
     (before now : ShelfState) (slot : FileSlot) : Type 0 where
   pub log : List Step
-  pub ended : IsRefutedBy ask formula good log ⊎ IsLeftOpenBy ask formula log
+  pub ended : Ends log
   pub fails : FailsToWriteProof ask width formula log before now slot
 
 -- the shelf failed on this file, and what was found stands as far as it was written
 abbrev pub FailsOn : Asked → (width : ℕ) → Cnf → (good : RouteText → Type 0)
-    → (before now : ShelfState) → FileSlot → Type 0
-FailsOn ask width formula good before now Route = FailsToWriteRouting ask good before now
-FailsOn ask width formula good before now slot =
-    FailsToWriteLog ask width formula good before now slot
+    → (Ends : List Step → Type 0) → (before now : ShelfState) → FileSlot → Type 0
+FailsOn ask width formula good Ends before now Route = FailsToWriteRouting ask good before now
+FailsOn ask width formula good Ends before now slot =
+    FailsToWriteLog ask width formula Ends before now slot
 
--- what is found at a width, and what is written of it; nothing is where there are too many clauses
--- or where memory is short
+-- what is found at a width, and what is written of it: a routing, or the clauses and a log of this
+-- kind, which refutes them, or of that, which leaves them open; nothing is written where there are
+-- too many clauses or where memory is short
+abbrev pub FindsBy : (Refutes LeavesOpen : List Step → Type 0) → Asked → (width : ℕ) → Cnf
+    → (good : RouteText → Type 0) → (before now : ShelfState) → Result Found Stop → Type 0
+FindsBy Refutes LeavesOpen ask width formula good before now (Ok Routed) =
+    HasFew formula × WritesRouting ask good before now
+FindsBy Refutes LeavesOpen ask width formula good before now (Ok Refuted) =
+    HasFew formula × WritesLog ask width formula Refutes before now
+FindsBy Refutes LeavesOpen ask width formula good before now (Ok (Spent learned)) =
+    HasFew formula × (learned ≡ ask.budget) × WritesLog ask width formula LeavesOpen before now
+FindsBy Refutes LeavesOpen ask width formula good before now (Err (Fault slot)) =
+    HasFew formula
+    × FailsOn ask width formula good (λ log. Refutes log ⊎ LeavesOpen log) before now slot
+FindsBy Refutes LeavesOpen ask width formula good before now (Err stop) =
+    IsUnbuilt formula stop × (now ≡ before)
+
+-- what one search finds at a width, by its log, and what is written of it
 abbrev pub FindsAt : Asked → (width : ℕ) → Cnf → (good : RouteText → Type 0)
     → (before now : ShelfState) → Result Found Stop → Type 0
-FindsAt ask width formula good before now (Ok Routed) =
-    HasFew formula × WritesRouting ask good before now
-FindsAt ask width formula good before now (Ok Refuted) =
-    HasFew formula × WritesLog ask width formula (IsRefutedBy ask formula good) before now
-FindsAt ask width formula good before now (Ok (Spent learned)) =
-    HasFew formula × (learned ≡ ask.budget)
-    × WritesLog ask width formula (IsLeftOpenBy ask formula) before now
-FindsAt ask width formula good before now (Err (Fault slot)) =
-    HasFew formula × FailsOn ask width formula good before now slot
-FindsAt ask width formula good before now (Err (TooManyClauses count)) =
-    (count ≡ length formula.clauses) × (CLAUSE_LIMIT < count) × (now ≡ before)
-FindsAt ask width formula good before now (Err Memory) = HasFew formula × (now ≡ before)
+FindsAt ask width formula good =
+    FindsBy (IsRefutedBy ask formula good) (IsLeftOpenBy ask formula) ask width formula good

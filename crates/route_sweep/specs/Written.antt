@@ -3,7 +3,7 @@ use Rattle.std.specs.Prelude.{◌≡◌, ℕ, List, Result, Ok, Err}
 use Rattle.desk_io.specs.ShelfState.{ShelfState}
 use Rattle.desk_io.specs.WholeFile.{FailsToWrite, after_writing}
 use Rattle.fpga_route.specs.Printed.{printed}
-use Rattle.fpga_route.specs.ReadBack.{ReadsBackWithTracks}
+use Rattle.fpga_route.specs.ReadBack.{IsPrintable, ReadsBack}
 use Rattle.fpga_types.specs.declared.route.RouteText.{RouteText}
 use Rattle.sat_clause.specs.Formula.{Cnf}
 use Rattle.sat_clause.specs.Step.{Step}
@@ -46,12 +46,13 @@ WritesProof ask width formula log before now (Err (Fault slot)) =
 WritesProof ask width formula log before now (Err (TooManyClauses count)) = ⊥
 WritesProof ask width formula log before now (Err Memory) = now ≡ before
 
--- what is left where a routing was to be written: it was, and reads back; or it was not; or memory
--- was too short for its name
+-- what is left where a routing was to be written: it was, and reads back if it can be printed; or
+-- it was not; or memory was too short for its name
 abbrev pub WritesRoute : Asked → RouteText → (before now : ShelfState)
     → Result (Unit {0}) Stop → Type 0
 WritesRoute ask found before now (Ok done) =
-    (now ≡ after_writing before (route_name ask) (printed found)) × ReadsBackWithTracks found
+    (now ≡ after_writing before (route_name ask) (printed found))
+    × (IsPrintable found → ReadsBack found)
 WritesRoute ask found before now (Err (Fault slot)) =
     (slot ≡ Route) × FailsToWrite before (route_name ask) (printed found) now
 WritesRoute ask found before now (Err (TooManyClauses count)) = ⊥

@@ -2,6 +2,7 @@
 #![tactic(auto)]
 
 mod asking;
+mod building;
 mod climbing;
 mod found;
 mod names;
@@ -11,6 +12,8 @@ mod tests;
 mod writing;
 
 pub use asking::{Ask, BUDGET_LIMIT};
+pub use building::few_clauses;
 pub use climbing::climb;
 pub use found::{Climbed, FileSlot, Found, Stop};
 pub use searching::one_width;
+pub use writing::{write_proof, write_routing};

@@ -4,13 +4,14 @@ ghost use Rattle.route_sweep.specs.Asked.{asked};
 ghost use Rattle.route_sweep.specs.Found.{FindsAt};
 
 use crate::asking::Ask;
+use crate::building::few_clauses;
 use crate::found::{Found, Stop};
 use crate::writing::{write_proof, write_routing};
 use desk_io::Shelf;
 use fpga_bounds::PlacedProblem;
 use fpga_types::WIDTH_LIMIT;
 use route_encode::Encoder;
-use sat_clause::{CLAUSE_LIMIT, Log};
+use sat_clause::Log;
 use sat_core::{Answer, solve};
 use std::alloc::Global;
 
@@ -36,12 +37,9 @@ pub fn one_width<E: Encoder, S: Shelf>(
     ensures { FindsAt (asked ask.now) width (E.formula_of encoder.now problem.now width)
         (E.is_good encoder.now problem.now width) (S.state shelf.old) (S.state shelf.new) result }
 {
-    let count = encoder.count(problem, width);
-    if count > CLAUSE_LIMIT {
-        return Err(Stop::TooManyClauses { count });
-    }
-    let Ok(formula) = encoder.build(alloc, problem, width) else {
-        return Err(Stop::Memory);
+    let formula = match few_clauses(alloc, encoder, problem, width) {
+        Ok(formula) => formula,
+        Err(stop) => return Err(stop),
     };
     let mut log = Log::new(alloc);
     match solve(alloc, &formula, ask.budget, ask.keep, &mut log) {

@@ -13,7 +13,11 @@ use sat_clause::{CLAUSE_LIMIT, Formula, Log};
 use sat_text::{CnfText, LratText};
 use std::alloc::Global;
 
-/// Writes a routing.
+/// Writes a routing, and no other file. It reads back if it can be printed.
+///
+/// # Errors
+/// `Fault` names the routing where the shelf failed on it, and `Memory` comes where memory is
+/// short: nothing was written then.
 pub fn write_routing<S: Shelf>(
     alloc: Global,
     found: &RouteText,
@@ -33,7 +37,12 @@ pub fn write_routing<S: Shelf>(
     Ok(())
 }
 
-/// Writes the clauses, and then the log of a search through them.
+/// Writes the clauses, of which there are at most 40,000,000, and then the log of a search through
+/// them, and no other file. The clauses read back; the log does where its numbers may be read.
+///
+/// # Errors
+/// `Fault` names the file on which the shelf failed; the clauses stand where it is the log.
+/// `Memory` comes where memory is short: nothing was written then.
 pub fn write_proof<S: Shelf>(
     alloc: Global,
     formula: &Formula,

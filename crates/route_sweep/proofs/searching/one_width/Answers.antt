@@ -1,11 +1,21 @@
-use Rattle.std.proofs.Common.{◌≤◌, arith, subst}
+use Rattle.std.proofs.Common.{◌≤◌, subst}
 use Rattle.sat_clause.specs.declared.limits.TheConstants.{VARIABLE_LIMIT}
 use Rattle.sat_core.specs.Answer.{IsAnswer, IsDecided}
 use Rattle.sat_core.specs.declared.answer.Answer.TheVariants.{Refuted, Spent}
 use Rattle.route_sweep.specs.Asked.{asked}
-use Rattle.route_sweep.specs.Found.{HasFew}
-use Rattle.route_sweep.proofs.FoundLemmas.{HasEnded, finds-refuted, finds-spent}
+use Rattle.route_sweep.specs.Found.{IsLeftOpenBy, IsRefutedBy}
+use Rattle.route_sweep.proofs.FoundLemmas.{HasEnded, finds-routing, refuted-at, spent-at}
 use Rattle.route_sweep.proofs.searching.one_width.Goals as goal
+
+pub returns-in-Ok-Model : goal.returns-in-Ok-Model
+returns-in-Ok-Model g c =
+    let ask = asked c.args.ask.now in
+    let formula = g.E.Encoder.formula_of c.args.encoder.now c.args.problem.now c.args.width in
+    let good = g.E.Encoder.is_good c.args.encoder.now c.args.problem.now c.args.width in
+    finds-routing (IsRefutedBy ask formula good) (IsLeftOpenBy ask formula) ask c.args.width formula
+    good (g.S.Shelf.state c.args.shelf.now) (g.S.Shelf.state c.write_routing.new.shelf)
+    c.in-Ok.ensures.few c.in-Ok-decode.found c.in-Ok-decode.ensures.good c.write_routing.result
+    c.write_routing.ensures c.and.result c.and.ensures
 
 pub returns-in-Ok-Refuted : goal.returns-in-Ok-Refuted
 returns-in-Ok-Refuted g c =
@@ -15,7 +25,6 @@ returns-in-Ok-Refuted g c =
     let now = g.S.Shelf.state c.write_proof.new.shelf in
     let log = c.solve.new.log.steps in
     let cnf = c.in-Ok.formula.cnf in
-    let few : HasFew formula = omega (arith, c.count-count.ensures) in
     let ended : HasEnded ask c.args.width Refuted log before now c.write_proof.result cnf =
     record {
       few_vars = subst (λ s. s.cnf.vars ≤ VARIABLE_LIMIT) c.formula.view_is
@@ -32,11 +41,10 @@ returns-in-Ok-Refuted g c =
           (c.in-Ok-Refuted.ensures.decided large);
       writes = c.write_proof.ensures;
     } in
-    finds-refuted ask c.args.width formula
-    (g.E.Encoder.is_good c.args.encoder.now c.args.problem.now c.args.width) before now log few
-    c.in-Ok.ensures.none_without_model c.write_proof.result cnf c.in-Ok.ensures.formula ended
-    c.and-in-Ok-Refuted.result
-    c.and-in-Ok-Refuted.ensures
+    refuted-at ask c.args.width formula
+    (g.E.Encoder.is_good c.args.encoder.now c.args.problem.now c.args.width) before now log
+    c.in-Ok.ensures.few c.write_proof.result c.in-Ok.ensures.none_without_model cnf
+    c.in-Ok.ensures.formula ended c.and-in-Ok-Refuted.result c.and-in-Ok-Refuted.ensures
 
 pub returns-in-Ok-Spent : goal.returns-in-Ok-Spent
 returns-in-Ok-Spent g c =
@@ -46,7 +54,6 @@ returns-in-Ok-Spent g c =
     let now = g.S.Shelf.state c.write_proof-in-Ok-Spent.new.shelf in
     let log = c.solve.new.log.steps in
     let cnf = c.in-Ok.formula.cnf in
-    let few : HasFew formula = omega (arith, c.count-count.ensures) in
     let ended : HasEnded ask c.args.width Spent log before now c.write_proof-in-Ok-Spent.result
     cnf =
     record {
@@ -64,7 +71,7 @@ returns-in-Ok-Spent g c =
           (c.in-Ok-Spent.ensures.decided large);
       writes = c.write_proof-in-Ok-Spent.ensures;
     } in
-    finds-spent ask c.args.width formula
-    (g.E.Encoder.is_good c.args.encoder.now c.args.problem.now c.args.width) before now log few
-    c.write_proof-in-Ok-Spent.result cnf c.in-Ok.ensures.formula ended c.and-in-Ok-Spent.result
-    c.and-in-Ok-Spent.ensures
+    spent-at ask c.args.width formula
+    (g.E.Encoder.is_good c.args.encoder.now c.args.problem.now c.args.width) before now log
+    c.in-Ok.ensures.few c.write_proof-in-Ok-Spent.result cnf c.in-Ok.ensures.formula ended
+    c.and-in-Ok-Spent.result c.and-in-Ok-Spent.ensures
