@@ -1,11 +1,11 @@
 -- How far a climb has come, and what the next width makes of it.
-use Rattle.std.proofs.Common.{◌≡◌, ℕ, suc, ◌+◌, ◌≤◌, refl, subst, arith}
+use Rattle.std.proofs.Common.{◌≡◌, ℕ, zero, suc, ◌+◌, ◌≤◌, refl, subst, arith}
 use Rattle.std.specs.Prelude.{Result, Ok}
 use Rattle.desk_io.specs.ShelfState.{ShelfState}
 use Rattle.fpga_types.specs.declared.route.RouteText.{RouteText}
 use Rattle.sat_clause.specs.Formula.{Cnf}
 use Rattle.route_sweep.specs.Asked.{Asked}
-use Rattle.route_sweep.specs.Climb.{AreRefuted, ComesTo}
+use Rattle.route_sweep.specs.Climb.{AreRefuted, EndsAt}
 use Rattle.route_sweep.specs.Found.{FindsAt}
 use Rattle.route_sweep.specs.declared.found.Found.{Found}
 use Rattle.route_sweep.specs.declared.found.Found.TheVariants.{Refuted}
@@ -40,20 +40,36 @@ module _ (ask : Asked) (formula : ℕ → Cnf) (good : ℕ → RouteText → Typ
 
     -- the climb ends here
     pub climb-ends : (most : ℕ) (came : Result Found Stop) → width ≤ most → result ≡ came
-        → ComesTo ask most formula good before new width came
-    climb-ends most came low is = record {
+        → (came ≡ Ok Refuted → width ≡ most)
+        → EndsAt ask most formula good before new width came
+    climb-ends most came low is last = record {
       below = h.below;
       next = h.next;
       within = omega (arith, low, h.next);
       between = now;
       refuted = h.refuted;
       then = subst (FindsAt ask width (formula width) (good width) now new) is found;
+      last = last;
     }
 
-  -- all widths are refuted
-  pub climb-is-over : (most : ℕ) (before now : ShelfState) (width : ℕ)
+  -- all widths are refuted, so the last is
+  pub climb-is-over : (most : ℕ) (before now : ShelfState) (width : ℕ) → 1 ≤ most
       → HasClimbed before now width → width ≡ most + 1
-      → AreRefuted ask formula good most before now
-  climb-is-over most before now width h all =
+      → EndsAt ask most formula good before now most (Ok Refuted)
+  climb-is-over most before now width some h all =
       let same : h.below ≡ most = omega (arith, h.next, all) in
-      subst (λ (n : ℕ). AreRefuted ask formula good n before now) same h.refuted
+      ends most refl some
+      (subst (λ (n : ℕ). AreRefuted ask formula good n before now) same h.refuted)
+    where
+      ends : (top : ℕ) → top ≡ most → 1 ≤ top → AreRefuted ask formula good top before now
+          → EndsAt ask most formula good before now top (Ok Refuted)
+      ends zero is some refuted = absurd (omega (arith, some))
+      ends (suc below) is some (between, lower, found) = record {
+        below = below;
+        next = refl;
+        within = omega (arith, is);
+        between = between;
+        refuted = lower;
+        then = found;
+        last = λ same. is;
+      }

@@ -23,8 +23,9 @@ AreRefuted ask formula good (suc width) before now =
     (between : ShelfState) × AreRefuted ask formula good width before between
     × FindsAt ask (suc width) (formula (suc width)) (good (suc width)) between now (Ok Refuted)
 
--- the widths below this one were refuted, and then this came of it
-pub record ComesTo
+-- the climb ends at this width, one of those up to the last: those below it were refuted, and then
+-- this came of it, which is a refutation at the last alone
+pub record EndsAt
     (ask : Asked) (most : ℕ) (formula : ℕ → Cnf) (good : ℕ → RouteText → Type 0)
     (before now : ShelfState) (width : ℕ) (came : Result Found Stop) : Type 0 where
   pub below : ℕ
@@ -33,16 +34,18 @@ pub record ComesTo
   pub between : ShelfState
   pub refuted : AreRefuted ask formula good below before between
   pub then : FindsAt ask width (formula width) (good width) between now came
+  pub last : came ≡ Ok Refuted → width ≡ most
 
--- a routing at the least width that has one; a refutation at each width; a width that is left open
--- above refuted ones; or a stop at a width above refuted ones
+-- what a climb answers that ends at a width with what is found there
+abbrev pub climbed : (width : ℕ) → Result Found Stop → Result Climbed Stop
+climbed width (Ok IsRouted) = Ok (Routed width)
+climbed width (Ok Refuted) = Ok (Unroutable width)
+climbed width (Ok (Spent learned)) = Ok (Undecided width learned)
+climbed width (Err stop) = Err stop
+
+-- the climb ends at a width with something found there, and this is the answer
 abbrev pub ClimbsTo : Asked → (most : ℕ) → (formula : ℕ → Cnf) → (good : ℕ → RouteText → Type 0)
     → (before now : ShelfState) → Result Climbed Stop → Type 0
-ClimbsTo ask most formula good before now (Ok (Routed width)) =
-    ComesTo ask most formula good before now width (Ok IsRouted)
-ClimbsTo ask most formula good before now (Ok (Unroutable width)) =
-    (width ≡ most) × AreRefuted ask formula good most before now
-ClimbsTo ask most formula good before now (Ok (Undecided width learned)) =
-    ComesTo ask most formula good before now width (Ok (Spent learned))
-ClimbsTo ask most formula good before now (Err stop) =
-    (width : ℕ) × ComesTo ask most formula good before now width (Err stop)
+ClimbsTo ask most formula good before now answer =
+    (width : ℕ) × (found : Result Found Stop) × (answer ≡ climbed width found)
+    × EndsAt ask most formula good before now width found

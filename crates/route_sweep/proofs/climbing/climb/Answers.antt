@@ -1,4 +1,5 @@
-use Rattle.std.proofs.Common.{refl, arith, Ok, ap, ◌∙◌}
+use Rattle.std.proofs.Common.{refl, arith, Ok, Err, ap, ◌∙◌}
+use Rattle.route_sweep.specs.declared.found.Found.TheVariants.{Routed, Refuted, Spent}
 use Rattle.route_sweep.proofs.ClimbLemmas.{climb-ends, climb-goes-on, climb-is-over, climb-starts}
 use Rattle.route_sweep.proofs.climbing.climb.Goals as goal
 
@@ -14,27 +15,39 @@ loop-width-preserved g c = (
 )
 
 pub returns-in-Ok-Routed : goal.returns-in-Ok-Routed
-returns-in-Ok-Routed g c =
-    climb-ends _ _ _ _ _ _ _ _ c.loop-width.invariant.2 c.one_width.ensures _ _
-    (omega (arith, c.loop-width-test.true))
-    (c.in-Ok-Routed.is ∙ ap Ok c.in-Ok-Routed.field-0-is)
+returns-in-Ok-Routed g c = (
+  c.loop-width.width,
+  Ok Routed,
+  refl,
+  climb-ends _ _ _ _ _ _ _ _ c.loop-width.invariant.2 c.one_width.ensures _ _
+      (omega (arith, c.loop-width-test.true))
+      (c.in-Ok-Routed.is ∙ ap Ok c.in-Ok-Routed.field-0-is) (λ bad. cc),
+)
 
 pub returns-in-Ok-Spent : goal.returns-in-Ok-Spent
-returns-in-Ok-Spent g c =
-    climb-ends _ _ _ _ _ _ _ _ c.loop-width.invariant.2 c.one_width.ensures _ _
-    (omega (arith, c.loop-width-test.true))
-    (c.in-Ok-Spent.is ∙ ap Ok c.in-Ok-Spent.field-0-is)
+returns-in-Ok-Spent g c = (
+  c.loop-width.width,
+  Ok (Spent c.in-Ok-Spent.learned),
+  refl,
+  climb-ends _ _ _ _ _ _ _ _ c.loop-width.invariant.2 c.one_width.ensures _ _
+      (omega (arith, c.loop-width-test.true))
+      (c.in-Ok-Spent.is ∙ ap Ok c.in-Ok-Spent.field-0-is) (λ bad. cc),
+)
 
 pub returns-in-Err : goal.returns-in-Err
 returns-in-Err g c = (
   c.loop-width.width,
+  Err c.in-Err.stop,
+  refl,
   climb-ends _ _ _ _ _ _ _ _ c.loop-width.invariant.2 c.one_width.ensures _ _
-      (omega (arith, c.loop-width-test.true)) c.in-Err.is,
+      (omega (arith, c.loop-width-test.true)) c.in-Err.is (λ bad. cc),
 )
 
 pub returns : goal.returns
 returns g c = (
+  c.args.most,
+  Ok Refuted,
   refl,
-  climb-is-over _ _ _ _ _ _ _ c.loop-width.invariant.2
+  climb-is-over _ _ _ c.args.most _ _ _ c.requires.0 c.loop-width.invariant.2
       (omega (arith, c.loop-width.invariant.1, c.loop-width-test.false)),
 )
