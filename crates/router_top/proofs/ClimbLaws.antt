@@ -7,16 +7,11 @@ use Rattle.desk_io.specs.Files.{FileMap}
 use Rattle.desk_io.specs.ShelfState.{ShelfState}
 use Rattle.fpga_types.specs.Fits.{Fits}
 use Rattle.fpga_types.specs.Problem.{RoutingProblem}
-use Rattle.fpga_types.specs.declared.route.RouteText.{RouteText}
-use Rattle.route_sweep.specs.Asked.{Asked}
-use Rattle.route_sweep.specs.Climb.{AreRefuted, ClimbsTo, ComesTo}
+use Rattle.route_sweep.specs.Climb.{AreRefuted, climbed}
 use Rattle.route_sweep.specs.Found.{HasFew, IsRefutedBy, WritesLog}
-use Rattle.route_sweep.specs.declared.found.Climbed.{Climbed}
-use Rattle.route_sweep.specs.declared.found.Climbed.TheVariants.{Routed as IsLeast, Unroutable as NoneRouted, Undecided as IsOpen}
 use Rattle.route_sweep.specs.declared.found.Found.{Found}
 use Rattle.route_sweep.specs.declared.found.Found.TheVariants.{Routed as IsRouted, Refuted, Spent}
 use Rattle.route_sweep.specs.declared.found.Stop.{Stop}
-use Rattle.sat_clause.specs.Formula.{Cnf}
 use Rattle.sat_clause.specs.Step.{Step}
 use Rattle.router_top.specs.Comes.{IsRefutedAt}
 use Rattle.router_top.specs.Method.{HasNone, IsRoutingBy, clauses_by}
@@ -25,7 +20,6 @@ use Rattle.router_top.specs.Search.{Search}
 use Rattle.router_top.specs.SearchFiles.{proof_files}
 use Rattle.router_top.specs.Work.{Finds}
 use Rattle.router_top.specs.Written.{NamedText, with_files}
-use Rattle.router_top.specs.declared.outcome.Outcome.TheVariants.{Unroutable}
 use Rattle.router_top.proofs.MethodLaws.{none-legal}
 use Rattle.router_top.proofs.WrittenLaws.{with_files-append}
 
@@ -90,46 +84,13 @@ rows-more {T} f count =
 
 -- ---- where a climb ends
 
-module _ (ask : Asked) (most : ℕ) (formula : ℕ → Cnf) (good : ℕ → RouteText → Type 0)
-    (before now : ShelfState) where
-  -- where the climb ends: at a width, with what was found there, and only at the last is that a
-  -- refutation
-  pub record EndsAt (came : Result Climbed Stop) : Type 0 where
-    pub width : ℕ
-    pub found : Result Found Stop
-    pub comes : ComesTo ask most formula good before now width found
-    pub is : climbed_outcome came ≡ found_outcome width found
-    pub last : found ≡ Ok Refuted → width ≡ most
-
-  -- if each width is refuted, so is the last
-  last-refuted : (top : ℕ) → top ≡ most → 1 ≤ top
-      → AreRefuted ask formula good top before now
-      → ComesTo ask most formula good before now top (Ok Refuted)
-  last-refuted zero is some h = absurd (omega (arith, some))
-  last-refuted (suc below) is some (between, lower, found) = record {
-    below = below;
-    next = refl;
-    within = omega (arith, is);
-    between = between;
-    refuted = lower;
-    then = found;
-  }
-
-  pub climb-ends : 1 ≤ most → (came : Result Climbed Stop)
-      → ClimbsTo ask most formula good before now came → EndsAt came
-  climb-ends some (Ok (IsLeast width)) h =
-      record { width = width; found = Ok IsRouted; comes = h; is = refl; last = λ bad. cc }
-  climb-ends some (Ok (NoneRouted width)) h = record {
-    width = most;
-    found = Ok Refuted;
-    comes = last-refuted most refl some h.1;
-    is = ap Unroutable h.0;
-    last = λ same. refl;
-  }
-  climb-ends some (Ok (IsOpen width learned)) h =
-      record { width = width; found = Ok (Spent learned); comes = h; is = refl; last = λ bad. cc }
-  climb-ends some (Err stop) h =
-      record { width = h.0; found = Err stop; comes = h.1; is = refl; last = λ bad. cc }
+-- what a climb comes to is what was found at the width where it ends
+pub climbed-outcome : (width : ℕ) (found : Result Found Stop)
+    → climbed_outcome (climbed width found) ≡ found_outcome width found
+climbed-outcome width (Ok IsRouted) = refl
+climbed-outcome width (Ok Refuted) = refl
+climbed-outcome width (Ok (Spent learned)) = refl
+climbed-outcome width (Err stop) = refl
 
 -- ---- what a climb has shown of lower widths
 

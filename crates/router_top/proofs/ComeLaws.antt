@@ -6,7 +6,7 @@ use Rattle.desk_io.specs.ShelfState.{ShelfState, after_say}
 use Rattle.fpga_types.specs.Problem.{RoutingProblem}
 use Rattle.fpga_types.specs.declared.limits.TheConstants.{WIDTH_LIMIT}
 use Rattle.fpga_types.specs.declared.route.RouteText.{RouteText}
-use Rattle.route_sweep.specs.declared.found.Climbed.{Climbed}
+use Rattle.route_sweep.specs.Climb.{EndsAt}
 use Rattle.route_sweep.specs.declared.found.Found.{Found}
 use Rattle.route_sweep.specs.declared.found.Found.TheVariants.{Refuted}
 use Rattle.route_sweep.specs.declared.found.Stop.{Stop}
@@ -27,7 +27,7 @@ use Rattle.router_top.specs.Trial.{trial_line}
 use Rattle.router_top.specs.Work.{Finds, Searches, Sweeps}
 use Rattle.router_top.specs.Written.{NamedText, with_files}
 use Rattle.router_top.specs.declared.outcome.Outcome.{Outcome}
-use Rattle.router_top.proofs.ClimbLaws.{EndsAt, climb-ends, climbed-logs, climbed-said}
+use Rattle.router_top.proofs.ClimbLaws.{climbed-logs, climbed-outcome, climbed-said}
 use Rattle.router_top.proofs.GeneratedLaws.{made-poses}
 use Rattle.router_top.proofs.NameLaws.{proof-apart, proofs-then-proof, proofs-then-route, route-apart}
 use Rattle.router_top.proofs.WrittenLaws.{AreApart}
@@ -104,21 +104,20 @@ module _ (words : List Word) (at : Scene) where
       (climb : IsClimb words)
       (poses : Poses (files_of which at.desk.files) job.files p)
       (narrow : job.search.width ≤ WIDTH_LIMIT) where
-    ends-come : (came : Result Climbed Stop) (o : Outcome) → o ≡ climbed_outcome came
-        → EndsAt (sweep_search job).ask job.search.width
+    ends-come : (width : ℕ) (found : Result Found Stop) (o : Outcome)
+        → o ≡ found_outcome width found → EndsAt (sweep_search job).ask job.search.width
         (λ width. clauses_by job.search.method width p)
-        (λ width. IsRoutingBy job.search.method width p) at.shelf at.shelf_now came
+        (λ width. IsRoutingBy job.search.method width p) at.shelf at.shelf_now width found
         → HasCome words at o
-    ends-come came o is end =
+    ends-come width found o is end =
         let search = sweep_search job in
-        let below = end.comes.below in
-        let lower = climbed-logs search p poses.fits below at.shelf end.comes.between
-        end.comes.refuted in
-        let low : end.width ≤ 64 = omega (arith, end.comes.next, end.comes.within, narrow) in
-        let count : below ≡ end.width - 1 = omega (arith, end.comes.next) in
-        let few : 1 + (end.width - 1) ≤ end.width = omega (arith, end.comes.next) in
+        let below = end.below in
+        let lower = climbed-logs search p poses.fits below at.shelf end.between end.refuted in
+        let low : width ≤ 64 = omega (arith, end.next, end.within, narrow) in
+        let count : below ≡ width - 1 = omega (arith, end.next) in
+        let few : 1 + (width - 1) ≤ width = omega (arith, end.next) in
         record {
-          width = end.width;
+          width = width;
           comes = record {
             job = which;
             asked = asked;
@@ -126,35 +125,33 @@ module _ (words : List Word) (at : Scene) where
             searches = searches;
             p = p;
             poses = poses;
-            from = omega (arith, end.comes.next);
-            to = omega (arith, end.comes.next, end.comes.within);
+            from = omega (arith, end.next);
+            to = omega (arith, end.next, end.within);
             logs = lower.logs;
-            lower = λ k from high. lower.refuted k from (omega (arith, high, end.comes.next));
+            lower = λ k from high. lower.refuted k from (omega (arith, high, end.next));
           };
           narrow = low;
-          between = end.comes.between;
+          between = end.between;
           lower = lower.files ∙ ap (λ (n : ℕ). with_files
               (flat_map (λ k. proof_files search p k (lower.logs k)) (range_with_len 1 n))
               at.shelf.files) count;
-          silent = climbed-said search p poses.fits below at.shelf end.comes.between
-              end.comes.refuted;
+          silent = climbed-said search p poses.fits below at.shelf end.between end.refuted;
           climbs = inr climb;
-          route_apart = λ found. proofs-then-route search p refl lower.logs 1 (end.width - 1)
+          route_apart = λ found. proofs-then-route search p refl lower.logs 1 (width - 1)
               found (omega (arith, few, low));
-          proof_apart = λ log. proofs-then-proof search p refl lower.logs 1 (end.width - 1)
-              end.width log few low;
-          came = end.found;
-          finds = end.comes.then;
+          proof_apart = λ log. proofs-then-proof search p refl lower.logs 1 (width - 1) width log
+              few low;
+          came = found;
+          finds = end.then;
           last = end.last;
-          is = is ∙ end.is;
+          is = is;
         }
 
     pub sweep-comes : (o : Outcome) → Sweeps job p at.shelf at.shelf_now o → HasCome words at o
-    sweep-comes o did = ends-come did.came o did.is
-        (climb-ends (sweep_search job).ask job.search.width
-        (λ width. clauses_by job.search.method width p)
-        (λ width. IsRoutingBy job.search.method width p) at.shelf at.shelf_now did.some did.came
-        did.climbs)
+    sweep-comes o did =
+        let climb = did.climbs in
+        ends-come climb.0 climb.1 o
+        (did.is ∙ ap climbed_outcome climb.2 ∙ climbed-outcome climb.0 climb.1) climb.3
 
 -- the scene behind the trial line
 abbrev pub behind_line : Scene → RoutingProblem → Scene

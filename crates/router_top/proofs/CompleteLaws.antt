@@ -17,14 +17,15 @@ use Rattle.sat_text.specs.CnfText.{cnf_said}
 use Rattle.sat_text.specs.LratText.{lrat_said}
 use Rattle.route_verify.specs.Judged.{judged}
 use Rattle.route_sweep.specs.Asked.{Asked}
-use Rattle.route_sweep.specs.Found.{FailsOn}
-use Rattle.route_sweep.specs.declared.found.Climbed.{Climbed}
+use Rattle.route_sweep.specs.Climb.{EndsAt}
+use Rattle.route_sweep.specs.Found.{FailsOn, FindsBy, IsLeftOpenBy, IsRefutedBy}
 use Rattle.route_sweep.specs.declared.found.FileSlot.{FileSlot}
 use Rattle.route_sweep.specs.declared.found.FileSlot.TheVariants.{Route as RouteSlot, Clauses, Log}
 use Rattle.route_sweep.specs.declared.found.Found.{Found}
 use Rattle.route_sweep.specs.declared.found.Found.TheVariants.{Routed as IsRouted, Refuted, Spent}
 use Rattle.route_sweep.specs.declared.found.Stop.{Stop}
 use Rattle.route_sweep.specs.declared.found.Stop.TheVariants.{Fault, TooManyClauses, Memory}
+use Rattle.sat_clause.specs.Step.{Step}
 use Rattle.router_words.specs.Command.{job_of}
 use Rattle.router_words.specs.Refusal.{code_of}
 use Rattle.router_words.specs.Job.{CheckAsked, Checks, EncodeAsked, Encodes as EncodesJob, FilesAsked, Generates, JobAsked, RecipeAsked, RouteAsked, Routes, SweepAsked, Sweeps as SweepsJob, TrialAsked, Tries as TriesJob, Verifies, VerifyAsked}
@@ -33,7 +34,7 @@ use Rattle.router_words.specs.declared.fault.Refusal.{Refusal}
 use Rattle.router_top.specs.Check.{ChecksTo, cnf_source, judgement_outcome, lrat_source}
 use Rattle.router_top.specs.Files.{FailsAmong, WritesFiles, problem_slots}
 use Rattle.router_top.specs.Generated.{generated_files}
-use Rattle.router_top.specs.Method.{IsRoutingBy, clauses_by}
+use Rattle.router_top.specs.Method.{HasNone, IsRoutingBy, clauses_by}
 use Rattle.router_top.specs.Outcomes.{climbed_outcome, found_outcome, written_outcome}
 use Rattle.router_top.specs.Report.{line_of}
 use Rattle.router_top.specs.Run.{Leaves, LeavesJob, LeavesMade, LeavesWork, Runs, Scene, TriesGenerated, scene}
@@ -49,7 +50,7 @@ use Rattle.router_top.specs.Written.{NamedText}
 use Rattle.router_top.specs.declared.slot.Slot.{Slot}
 use Rattle.router_top.specs.declared.slot.Slot.TheVariants.{File}
 use Rattle.router_top.proofs.AgreeLaws.{outcomes-agree}
-use Rattle.router_top.proofs.ClimbLaws.{EndsAt, climb-ends, climbed-calm, climbed-unroutable}
+use Rattle.router_top.proofs.ClimbLaws.{climbed-calm, climbed-outcome, climbed-unroutable}
 use Rattle.router_top.proofs.FourLaws.{calm-lack}
 use Rattle.router_top.proofs.GeneratedLaws.{faults-after, made-fits}
 use Rattle.router_top.proofs.SourceLaws.{calm-reads}
@@ -91,18 +92,20 @@ module _ (before now : ShelfState) (says : Outcome → Type 0) (o : Outcome) whe
 -- ---- the work on a problem
 
 module _ (ask : Asked) (width : ℕ) (formula : Cnf) (good : RouteText → Type 0)
-    (before now : ShelfState) where
-  fails-risen : (slot : FileSlot) → FailsOn ask width formula good before now slot →
+    (Ends : List Step → Type 0) (before now : ShelfState) where
+  fails-risen : (slot : FileSlot) → FailsOn ask width formula good Ends before now slot →
       HasRisen before.faults now.faults
   fails-risen RouteSlot h = write-risen before _ _ now h.fails
   fails-risen Clauses h = write-risen before _ _ now h.fails
   fails-risen Log h = write-risen _ _ _ now h.fails
 
--- a search that has come to a width
-module _ (search : Search) (p : RoutingProblem) (fits : Fits p) (width : ℕ)
+-- a search that has come to a width, with logs that refute or leave open
+module _ (Refutes LeavesOpen : List Step → Type 0) (search : Search) (p : RoutingProblem)
+    (width : ℕ) (shows_none : (log : List Step) → Refutes log → HasNone search.method width p)
     (reached : IsReached search p width) (before now : ShelfState) where
   found-settles : (came : Result Found Stop)
-      → Finds search p width before now came
+      → FindsBy Refutes LeavesOpen search.ask width (clauses_by search.method width p)
+      (IsRoutingBy search.method width p) before now came
       → (came ≡ Ok Refuted → width ≡ search.last)
       → Settles before now (IsTrueOfSearch search p) (found_outcome width came)
   found-settles (Ok IsRouted) h last =
@@ -117,7 +120,7 @@ module _ (search : Search) (p : RoutingProblem) (fits : Fits p) (width : ℕ)
         inr (
           h.0,
           inr (inl (
-            none-legal search.method width p h.1.log fits h.1.ends.refutes.accepts,
+            shows_none h.1.log h.1.ends,
             last refl,
             refl,
           )),
@@ -130,12 +133,23 @@ module _ (search : Search) (p : RoutingProblem) (fits : Fits p) (width : ℕ)
   found-settles (Err (Fault slot)) h last =
       by-fault before now (IsTrueOfSearch search p) (found_outcome width (Err (Fault slot)))
       (fails-risen search.ask width (clauses_by search.method width p)
-      (IsRoutingBy search.method width p) before now slot h.1)
+      (IsRoutingBy search.method width p) (λ log. Refutes log ⊎ LeavesOpen log) before now slot h.1)
   found-settles (Err (TooManyClauses count)) h last =
-      by-word before now (IsTrueOfSearch search p) (Limit 901 count) (faults-same before now h.2)
-      (width, reached, inl (subst (λ (n : ℕ). CLAUSE_LIMIT < n) h.0 h.1, ap (Limit 901) h.0))
+      by-word before now (IsTrueOfSearch search p) (Limit 901 count) (faults-same before now h.1)
+      (width, reached, inl (subst (λ (n : ℕ). CLAUSE_LIMIT < n) h.0.0 h.0.1, ap (Limit 901) h.0.0))
   found-settles (Err Memory) h last =
       by-memory before now (IsTrueOfSearch search p) OutOfMemory h.1 refl
+
+-- one search that has come to a width
+search-found : (search : Search) (p : RoutingProblem) → Fits p → (width : ℕ)
+    → IsReached search p width → (before now : ShelfState) (came : Result Found Stop)
+    → Finds search p width before now came → (came ≡ Ok Refuted → width ≡ search.last)
+    → Settles before now (IsTrueOfSearch search p) (found_outcome width came)
+search-found search p fits width reached before now =
+    let formula = clauses_by search.method width p in
+    let good = IsRoutingBy search.method width p in
+    found-settles (IsRefutedBy search.ask formula good) (IsLeftOpenBy search.ask formula) search p
+    width (λ log h. none-legal search.method width p log fits h.refutes.accepts) reached before now
 
 -- from an earlier shelf that had failed as often
 settles-before : (first before now : ShelfState) (says : Outcome → Type 0) (o : Outcome)
@@ -159,38 +173,35 @@ module _ (job : RouteAsked) (p : RoutingProblem) (fits : Fits p) (before now : S
       → Settles before now (IsTrueOfSearch (route_search job) p) o
   search-settles o h =
       subst (Settles before now (IsTrueOfSearch (route_search job) p)) (sym h.is)
-      (found-settles (route_search job) p fits job.search.width reached-alone before now h.came
+      (search-found (route_search job) p fits job.search.width reached-alone before now h.came
       h.finds (λ same. refl))
 
 -- a climb through the widths
 module _ (job : SweepAsked) (p : RoutingProblem) (fits : Fits p) (before now : ShelfState) where
-  ends-settle : (came : Result Climbed Stop)
+  ends-settle : (width : ℕ) (found : Result Found Stop)
       → EndsAt (sweep_search job).ask job.search.width
       (λ width. clauses_by job.search.method width p)
-      (λ width. IsRoutingBy job.search.method width p) before now came
-      → Settles before now (IsTrueOfSearch (sweep_search job) p) (climbed_outcome came)
-  ends-settle came end =
+      (λ width. IsRoutingBy job.search.method width p) before now width found
+      → Settles before now (IsTrueOfSearch (sweep_search job) p) (found_outcome width found)
+  ends-settle width found end =
       let search = sweep_search job in
-      let reached : IsReached search p end.width = record {
-        from = omega (arith, end.comes.next);
-        to = omega (arith, end.comes.next, end.comes.within);
-        lower = λ k low high. climbed-unroutable search p fits end.comes.below before
-            end.comes.between end.comes.refuted k low (omega (arith, high, end.comes.next));
+      let reached : IsReached search p width = record {
+        from = omega (arith, end.next);
+        to = omega (arith, end.next, end.within);
+        lower = λ k low high. climbed-unroutable search p fits end.below before end.between
+            end.refuted k low (omega (arith, high, end.next));
       } in
-      subst (Settles before now (IsTrueOfSearch search p)) (sym end.is)
-      (settles-before before end.comes.between now (IsTrueOfSearch search p)
-      (found_outcome end.width end.found)
-      (climbed-calm search p fits end.comes.below before end.comes.between end.comes.refuted)
-      (found-settles search p fits end.width reached end.comes.between now end.found end.comes.then
-      end.last))
+      settles-before before end.between now (IsTrueOfSearch search p) (found_outcome width found)
+      (climbed-calm search p fits end.below before end.between end.refuted)
+      (search-found search p fits width reached end.between now found end.then end.last)
 
   sweep-settles : (o : Outcome) → Sweeps job p before now o
       → Settles before now (IsTrueOfSearch (sweep_search job) p) o
   sweep-settles o h =
-      subst (Settles before now (IsTrueOfSearch (sweep_search job) p)) (sym h.is)
-      (ends-settle h.came (climb-ends (sweep_search job).ask job.search.width
-      (λ width. clauses_by job.search.method width p)
-      (λ width. IsRoutingBy job.search.method width p) before now h.some h.came h.climbs))
+      let climb = h.climbs in
+      subst (Settles before now (IsTrueOfSearch (sweep_search job) p))
+      (sym (h.is ∙ ap climbed_outcome climb.2 ∙ climbed-outcome climb.0 climb.1))
+      (ends-settle climb.0 climb.1 climb.3)
 
 module _ (job : EncodeAsked) (p : RoutingProblem) (before now : ShelfState) where
   abbrev SaysClauses : Outcome → Type 0
@@ -206,8 +217,8 @@ module _ (job : EncodeAsked) (p : RoutingProblem) (before now : ShelfState) wher
       by-fault before now SaysClauses (WriteFault (File slot))
       (write-risen before _ _ now h.2)
   written-settles (Err (TooManyClauses count)) h =
-      by-word before now SaysClauses (Limit 901 count) (faults-same before now h.2)
-      (inl (subst (λ (n : ℕ). CLAUSE_LIMIT < n) h.0 h.1, ap (Limit 901) h.0))
+      by-word before now SaysClauses (Limit 901 count) (faults-same before now h.1)
+      (inl (subst (λ (n : ℕ). CLAUSE_LIMIT < n) h.0.0 h.0.1, ap (Limit 901) h.0.0))
   written-settles (Err Memory) h = by-memory before now SaysClauses OutOfMemory h.1 refl
 
   encode-settles : (o : Outcome) → Encodes job p before now o → Settles before now SaysClauses o

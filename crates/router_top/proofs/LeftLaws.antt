@@ -465,8 +465,8 @@ module _ (words : List Word) (at : Scene) where
         (after_clauses h.between h.comes.search.ask h.width formula) at.shelf_now
         (behind (clauses-file f.1.log ∷ []) _ refl) f.1.fails
     found-left (Err (TooManyClauses count)) f = elim h.climbs [
-      | inl alone ↦ inl (ap (λ (s : ShelfState). s.files) (f.2 ∙ alone))
-      | inr climb ↦ inr (refl, climb, low-left f.2)
+      | inl alone ↦ inl (ap (λ (s : ShelfState). s.files) (f.1 ∙ alone))
+      | inr climb ↦ inr (refl, climb, low-left f.1)
     ]
     found-left (Err Memory) f = low-left f.1
 
@@ -506,7 +506,7 @@ module _ (words : List Word) (at : Scene) where
         (in_slots (File Clauses ∷ []) (clauses_file job p ∷ [])) (encode-of h.1) (tt, tt) []
         (record { slot = File Clauses; file = clauses_file job p }) [] refl at.shelf at.shelf_now
         refl h.2)
-    written-left (Err (TooManyClauses count)) h = inl (files-same h.2)
+    written-left (Err (TooManyClauses count)) h = inl (files-same h.1)
     written-left (Err Memory) h =
         none-left words at.desk.files at.shelf.files at.shelf_now.files (files-same h.1)
 

@@ -53,7 +53,7 @@ use Rattle.router_top.specs.declared.text_file.TextFile.TheVariants.{Route}
 use Rattle.router_top.proofs.ComeLaws.{HasCome, behind_line, route-comes, sweep-comes, trial-comes}
 use Rattle.router_top.proofs.FourLaws.{AfterArch, AfterNetlist, AfterPlacement}
 use Rattle.router_top.proofs.GeneratedLaws.{files-after, problem-apart}
-use Rattle.router_top.proofs.MethodLaws.{none-legal, routing-reads}
+use Rattle.router_top.proofs.MethodLaws.{none-legal, routing-printable}
 use Rattle.router_top.proofs.WrittenLaws.{AreApart, are-written, with_files-append}
 
 module _ (words : List Word) (desk before : Option FileMap) where
@@ -144,9 +144,9 @@ module _ (words : List Word) (at : Scene) where
       few = h.0;
       found = h.1.found;
       routing = h.1.routing;
-      reads_back = routing-reads comes.search.method width comes.p h.1.found
+      reads_back = h.1.reads_back (routing-printable comes.search.method width comes.p h.1.found
           comes.poses.route.text narrow (comes.poses.route.faultless, comes.poses.route.says)
-          h.1.routing h.1.reads_back;
+          h.1.routing);
       written = behind (route_file comes.search h.1.found ∷ []) (route_apart h.1.found)
           (files-are _ h.1.written);
     }

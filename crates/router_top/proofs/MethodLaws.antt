@@ -1,8 +1,9 @@
 -- What the commands need to know of each method.
-use Rattle.std.proofs.Common.{ℕ, ◌≤◌, List, arith}
+use Rattle.std.proofs.Common.{ℕ, ◌≤◌, List, sym, subst, arith}
 use Rattle.desk_io.specs.Files.{Bytes}
-use Rattle.fpga_route.specs.ReadBack.{ReadsBack, ReadsBackWithTracks}
+use Rattle.fpga_route.specs.ReadBack.{IsPrintable}
 use Rattle.fpga_route.specs.Value.{Reads}
+use Rattle.fpga_route.proofs.PrintableLemmas.{can_print, can_print_tracks}
 use Rattle.fpga_types.specs.Fits.{Fits}
 use Rattle.fpga_types.specs.Legal.{tracks_of}
 use Rattle.fpga_types.specs.Problem.{RoutingProblem}
@@ -28,10 +29,11 @@ pub one-legal : (method : Method) (width : ℕ) (p : RoutingProblem) (found : Ro
     → IsRoutingBy method width p found → HasOne method width p
 one-legal Strictly width p found routing = (tracks_of p.route found, routing.legal)
 
--- the routing of a problem whose route was read reads back as it is printed
-pub routing-reads : (method : Method) (width : ℕ) (p : RoutingProblem) (found : RouteText)
+-- the routing of a problem whose route was read can be printed
+pub routing-printable : (method : Method) (width : ℕ) (p : RoutingProblem) (found : RouteText)
     (text : Bytes) → width ≤ WIDTH_LIMIT → Reads text p.route → IsRoutingBy method width p found
-    → ReadsBackWithTracks found → ReadsBack found
-routing-reads Strictly width p found text narrow read routing reads =
-    reads text p.route (tracks_of p.route found) read (λ k d inside.
-    let t = routing.legal.within k d inside in omega (arith, t, narrow)) routing.is
+    → IsPrintable found
+routing-printable Strictly width p found text narrow read routing =
+    subst (λ (r : RouteText). IsPrintable r) (sym routing.is)
+    (can_print_tracks p.route (tracks_of p.route found) (can_print text p.route read)
+    (λ k d inside. let t = routing.legal.within k d inside in omega (arith, t, narrow)))

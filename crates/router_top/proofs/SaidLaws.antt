@@ -10,7 +10,7 @@ use Rattle.fpga_types.specs.Problem.{RoutingProblem}
 use Rattle.fpga_types.specs.declared.route.RouteText.{RouteText}
 use Rattle.std.proofs.Math.Seq.{take-length}
 use Rattle.route_sweep.specs.Asked.{Asked}
-use Rattle.route_sweep.specs.Found.{FindsAt}
+use Rattle.route_sweep.specs.Found.{FindsBy}
 use Rattle.route_sweep.specs.Written.{after_clauses}
 use Rattle.route_sweep.specs.declared.found.FileSlot.TheVariants.{Route as RouteSlot, Clauses, Log}
 use Rattle.route_sweep.specs.declared.found.Found.{Found}
@@ -18,6 +18,7 @@ use Rattle.route_sweep.specs.declared.found.Found.TheVariants.{Routed as IsRoute
 use Rattle.route_sweep.specs.declared.found.Stop.{Stop}
 use Rattle.route_sweep.specs.declared.found.Stop.TheVariants.{Fault, TooManyClauses, Memory}
 use Rattle.sat_clause.specs.Formula.{Cnf}
+use Rattle.sat_clause.specs.Step.{Step}
 use Rattle.route_verify.specs.declared.judgement.Judgement.{Judgement as Judged}
 use Rattle.route_verify.specs.declared.judgement.Judgement.TheVariants.{Legal as IsLegal, NotLegal as IsNotLegal}
 use Rattle.sat_clause.specs.Judge.{Judgement, Accepted as IsAccepted, Refused as IsRefused, judge}
@@ -71,25 +72,21 @@ fails-silent : (before now : ShelfState) (name text : Bytes) → FailsToWrite be
 fails-silent before now name text (inl h) = h.said
 fails-silent before now name text (inr h) = h.said
 
-found-silent : (ask : Asked) (width : ℕ) (formula : Cnf) (good : RouteText → Type 0)
-    (before now : ShelfState) (came : Result Found Stop)
-    → FindsAt ask width formula good before now came → now.said ≡ before.said
-found-silent ask width formula good before now (Ok IsRouted) h =
-    ap (λ (s : ShelfState). s.said) h.1.written
-found-silent ask width formula good before now (Ok Refuted) h =
-    ap (λ (s : ShelfState). s.said) h.1.written
-found-silent ask width formula good before now (Ok (Spent learned)) h =
-    ap (λ (s : ShelfState). s.said) h.2.written
-found-silent ask width formula good before now (Err (Fault RouteSlot)) h =
-    fails-silent before now _ _ h.1.fails
-found-silent ask width formula good before now (Err (Fault Clauses)) h =
-    fails-silent before now _ _ h.1.fails
-found-silent ask width formula good before now (Err (Fault Log)) h =
-    fails-silent (after_clauses before ask width formula) now _ _ h.1.fails
-found-silent ask width formula good before now (Err (TooManyClauses count)) h =
-    ap (λ (s : ShelfState). s.said) h.2
-found-silent ask width formula good before now (Err Memory) h =
-    ap (λ (s : ShelfState). s.said) h.1
+-- what a search finds is not said, whatever its logs are
+module _ (Refutes LeavesOpen : List Step → Type 0) (ask : Asked) (width : ℕ) (formula : Cnf)
+    (good : RouteText → Type 0) (before now : ShelfState) where
+  found-silent : (came : Result Found Stop)
+      → FindsBy Refutes LeavesOpen ask width formula good before now came
+      → now.said ≡ before.said
+  found-silent (Ok IsRouted) h = ap (λ (s : ShelfState). s.said) h.1.written
+  found-silent (Ok Refuted) h = ap (λ (s : ShelfState). s.said) h.1.written
+  found-silent (Ok (Spent learned)) h = ap (λ (s : ShelfState). s.said) h.2.written
+  found-silent (Err (Fault RouteSlot)) h = fails-silent before now _ _ h.1.fails
+  found-silent (Err (Fault Clauses)) h = fails-silent before now _ _ h.1.fails
+  found-silent (Err (Fault Log)) h =
+      fails-silent (after_clauses before ask width formula) now _ _ h.1.fails
+  found-silent (Err (TooManyClauses count)) h = ap (λ (s : ShelfState). s.said) h.1
+  found-silent (Err Memory) h = ap (λ (s : ShelfState). s.said) h.1
 
 after-silent : (files : List NamedText) (before : ShelfState)
     → (after_files files before).said ≡ before.said
@@ -158,7 +155,7 @@ module _ (words : List Word) (at : Scene) where
 
   come-quiet : (o : Outcome) → HasCome words at o → IsQuiet o
   come-quiet o h = record {
-    silent = found-silent h.comes.search.ask h.width
+    silent = found-silent _ _ h.comes.search.ask h.width
         (clauses_by h.comes.search.method h.width h.comes.p)
         (IsRoutingBy h.comes.search.method h.width h.comes.p) h.between at.shelf_now h.came h.finds
         ∙ h.silent;
@@ -172,7 +169,7 @@ module _ (words : List Word) (at : Scene) where
   written-quiet job formula (Err (Fault slot)) h =
       record { silent = fails-silent at.shelf at.shelf_now _ _ h.2; heard = tt }
   written-quiet job formula (Err (TooManyClauses count)) h =
-      record { silent = said-same h.2; heard = tt }
+      record { silent = said-same h.1; heard = tt }
   written-quiet job formula (Err Memory) h = record { silent = said-same h.1; heard = tt }
 
   stays-quiet : (o : Outcome) → IsHeard o → at.shelf_now ≡ at.shelf → IsQuiet o

@@ -1,5 +1,5 @@
 -- What the work on a problem leaves on the shelf, by its outcome.
-use Rattle.std.specs.Prelude.{◌≡◌, ℕ, ◌++◌, ◌<◌, ◌≤◌, codes, length, Result, Ok, Err}
+use Rattle.std.specs.Prelude.{◌≡◌, ℕ, ◌++◌, ◌≤◌, codes, Result, Ok, Err}
 use Rattle.desk_io.specs.Files.{Bytes}
 use Rattle.desk_io.specs.ShelfState.{ShelfState}
 use Rattle.desk_io.specs.WholeFile.{FailsToWrite, after_writing}
@@ -7,14 +7,13 @@ use Rattle.fpga_types.specs.Problem.{RoutingProblem}
 use Rattle.fpga_types.specs.declared.limits.TheConstants.{WIDTH_LIMIT}
 use Rattle.route_sweep.specs.Asked.{Asked}
 use Rattle.route_sweep.specs.Climb.{ClimbsTo}
-use Rattle.route_sweep.specs.Found.{FindsAt, HasFew}
+use Rattle.route_sweep.specs.Found.{FindsAt, HasFew, IsUnbuilt}
 use Rattle.route_sweep.specs.declared.found.Climbed.{Climbed}
 use Rattle.route_sweep.specs.declared.found.FileSlot.TheVariants.{Clauses}
 use Rattle.route_sweep.specs.declared.found.Found.{Found}
 use Rattle.route_sweep.specs.declared.found.Stop.{Stop}
-use Rattle.route_sweep.specs.declared.found.Stop.TheVariants.{Fault, TooManyClauses, Memory}
+use Rattle.route_sweep.specs.declared.found.Stop.TheVariants.{Fault}
 use Rattle.sat_clause.specs.Formula.{Cnf}
-use Rattle.sat_clause.specs.declared.limits.TheConstants.{CLAUSE_LIMIT}
 use Rattle.sat_text.specs.CnfText.{ReadsCnf}
 use Rattle.sat_text.specs.Printed.{cnf_text}
 use Rattle.router_words.specs.Job.{EncodeAsked, RouteAsked, SweepAsked}
@@ -78,9 +77,7 @@ WritesClauses job formula before now (Ok written) =
 WritesClauses job formula before now (Err (Fault slot)) =
     (slot ≡ Clauses) × HasFew formula
     × FailsToWrite before (clauses_name job) (cnf_text formula) now
-WritesClauses job formula before now (Err (TooManyClauses count)) =
-    (count ≡ length formula.clauses) × (CLAUSE_LIMIT < count) × (now ≡ before)
-WritesClauses job formula before now (Err Memory) = HasFew formula × (now ≡ before)
+WritesClauses job formula before now (Err stop) = IsUnbuilt formula stop × (now ≡ before)
 
 -- the writing of the clauses of the problem at the width of the job
 pub record Encodes

@@ -12,10 +12,8 @@ use crate::problem_work::ProblemWork;
 use crate::stopping::stopped;
 use desk_io::{Shelf, write_file};
 use fpga_bounds::PlacedProblem;
-use route_encode::Encoder;
-use route_sweep::{FileSlot, Stop};
+use route_sweep::{FileSlot, Stop, few_clauses};
 use router_words::EncodeJob;
-use sat_clause::CLAUSE_LIMIT;
 use sat_text::CnfText;
 use std::alloc::Global;
 
@@ -30,13 +28,9 @@ fn write_clauses<S: Shelf>(
         (clauses_by job.now.method job.now.width problem.now)
         (S.state shelf.old) (S.state shelf.new) result }
 {
-    let encoder = Chosen(job.method);
-    let count = encoder.count(problem, job.width);
-    if count > CLAUSE_LIMIT {
-        return Err(Stop::TooManyClauses { count });
-    }
-    let Ok(formula) = encoder.build(alloc, problem, job.width) else {
-        return Err(Stop::Memory);
+    let formula = match few_clauses(alloc, &Chosen(job.method), problem, job.width) {
+        Ok(formula) => formula,
+        Err(stop) => return Err(stop),
     };
     let Ok(name) = file_name(alloc, job.prefix, ".cnf") else {
         return Err(Stop::Memory);
