@@ -1,5 +1,5 @@
 -- The commands, and the job that the words of one ask for.
-use Rattle.std.specs.Prelude.{◌≡◌, ℕ, nat_le, ◌&&◌, Bool, false, List, [], ◌∷◌, codes, find, Result, Ok, Err, Option, None, Some, option_and_then, option_map, unwrap_or, IfSome, ⊤, if◌then◌else◌}
+use Rattle.std.specs.Prelude.{◌≡◌, ℕ, nat_le, ◌&&◌, Bool, false, List, [], ◌∷◌, codes, find, Result, Ok, Err, Option, ok_or, unwrap_or, IfSome, ⊤, if◌then◌else◌}
 use Rattle.std.specs.Option.{option_map_or}
 use Rattle.std.specs.Str.{bytes_eq}
 use Rattle.clap.specs.Words.{App, Row, first_of, matches_of}
@@ -7,6 +7,7 @@ use Rattle.fpga_text.specs.Numbers.{whole_number_of}
 use Rattle.fpga_types.specs.declared.limits.TheConstants.{SIDE_LIMIT, WIDTH_LIMIT}
 use Rattle.router_words.specs.Form.{check_form, encode_form, gen_form, route_form, sweep_form, trial_form, verify_form}
 use Rattle.router_words.specs.Job.{Checks, Encodes, FilesAsked, Generates, JobAsked, RecipeAsked, Routes, SearchAsked, Sweeps, Tries, Verifies, job_said}
+use Rattle.router_words.specs.Results.{and_then, map_ok}
 use Rattle.router_words.specs.Taken.{HasRequired, is_taken}
 use Rattle.router_words.specs.Word.{Word}
 use Rattle.router_words.specs.declared.command_name.CommandName.{CommandName}
@@ -29,11 +30,15 @@ word_in name rows = unwrap_or (first_of name rows) []
 abbrev pub has_flag : Word → List Row → Bool
 has_flag name rows = option_map_or (λ text. bytes_eq text (codes "true")) (first_of name rows) false
 
+-- the number is from the least to the greatest, or is refused
+abbrev pub in_range : (least greatest number : ℕ) → Result ℕ Refusal
+in_range least greatest number =
+    if nat_le least number && nat_le number greatest then Ok number else Err Number
+
 -- the whole number that a word says, where it is from the least to the greatest
-abbrev pub number_within : (least greatest : ℕ) → Word → Option ℕ
+abbrev pub number_within : (least greatest : ℕ) → Word → Result ℕ Refusal
 number_within least greatest word =
-    option_and_then (λ n. if nat_le least n && nat_le n greatest then Some n else None)
-    (whole_number_of word)
+    and_then (ok_or (whole_number_of word) Number) (in_range least greatest)
 
 -- ARCH NET PLACE ROUTE
 abbrev pub files_asked : List Row → FilesAsked
@@ -45,76 +50,69 @@ files_asked rows = record {
 }
 
 -- WIDTH, or MAX of a sweep
-abbrev pub width_asked : List Row → Option ℕ
+abbrev pub width_asked : List Row → Result ℕ Refusal
 width_asked rows = number_within 1 WIDTH_LIMIT (word_in (codes "width") rows)
 
 -- N of `--conflicts N`, or the default
-abbrev pub conflicts_asked : List Row → Option ℕ
+abbrev pub conflicts_asked : List Row → Result ℕ Refusal
 conflicts_asked rows =
     option_map_or (number_within 1 BUDGET_LIMIT) (first_of (codes "conflicts") rows)
-    (Some BUDGET_DEFAULT)
-
--- what a search is told: these numbers, where both are there, and what else stands in the words
-abbrev pub search_with : List Row → (width conflicts : Option ℕ) → Option SearchAsked
-search_with rows (Some width) (Some conflicts) = Some (record {
-  width = width;
-  prefix = word_in (codes "prefix") rows;
-  conflicts = conflicts;
-  keep = has_flag (codes "keep") rows;
-  method = Strictly;
-})
-search_with rows _ _ = None
+    (Ok BUDGET_DEFAULT)
 
 -- WIDTH PREFIX [--conflicts N] [--keep], or with MAX
-abbrev pub search_asked : List Row → Option SearchAsked
-search_asked rows = search_with rows (width_asked rows) (conflicts_asked rows)
+abbrev pub search_asked : List Row → Result SearchAsked Refusal
+search_asked rows =
+    and_then (width_asked rows) (λ width.
+    map_ok (λ conflicts. record {
+      width = width;
+      prefix = word_in (codes "prefix") rows;
+      conflicts = conflicts;
+      keep = has_flag (codes "keep") rows;
+      method = Strictly;
+    }) (conflicts_asked rows))
 
 -- SEED
-abbrev pub seed_asked : List Row → Option ℕ
+abbrev pub seed_asked : List Row → Result ℕ Refusal
 seed_asked rows = number_within 0 SEED_LIMIT (word_in (codes "seed") rows)
 
 -- NX
-abbrev pub side_asked : List Row → Option ℕ
+abbrev pub side_asked : List Row → Result ℕ Refusal
 side_asked rows = number_within 1 SIDE_LIMIT (word_in (codes "side") rows)
 
 -- NETS
-abbrev pub nets_asked : List Row → Option ℕ
+abbrev pub nets_asked : List Row → Result ℕ Refusal
 nets_asked rows = number_within 1 GENERATED_NETS_LIMIT (word_in (codes "nets") rows)
 
--- what a generated problem is made from: these numbers, where all are there
-abbrev pub recipe_with : (seed side nets : Option ℕ) → Option RecipeAsked
-recipe_with (Some seed) (Some side) (Some nets) =
-    Some (record { seed = seed; side = side; nets = nets })
-recipe_with _ _ _ = None
-
 -- SEED NX NETS
-abbrev pub recipe_asked : List Row → Option RecipeAsked
-recipe_asked rows = recipe_with (seed_asked rows) (side_asked rows) (nets_asked rows)
+abbrev pub recipe_asked : List Row → Result RecipeAsked Refusal
+recipe_asked rows =
+    and_then (seed_asked rows) (λ seed.
+    and_then (side_asked rows) (λ side.
+    map_ok (λ nets. record { seed = seed; side = side; nets = nets }) (nets_asked rows)))
 
 -- ---- the commands
 
--- a command: its name, its form, and the job that the matches of the form say; none where a number
--- is none in its range
+-- a command: its name, its form, and the job that the matches of the form say, or why they say none
 pub record CommandRow : Type 0 where
   pub name : Word
   pub form : App
-  pub job : List Row → Option JobAsked
+  pub job : List Row → Result JobAsked Refusal
 
 -- what `route` is asked for
-abbrev pub route_asked : List Row → Option JobAsked
+abbrev pub route_asked : List Row → Result JobAsked Refusal
 route_asked rows =
-    option_map (λ search. Routes (record { files = files_asked rows; search = search }))
+    map_ok (λ search. Routes (record { files = files_asked rows; search = search }))
     (search_asked rows)
 
 -- what `sweep` is asked for
-abbrev pub sweep_asked : List Row → Option JobAsked
+abbrev pub sweep_asked : List Row → Result JobAsked Refusal
 sweep_asked rows =
-    option_map (λ search. Sweeps (record { files = files_asked rows; search = search }))
+    map_ok (λ search. Sweeps (record { files = files_asked rows; search = search }))
     (search_asked rows)
 
 -- what `encode` is asked for
-abbrev pub encode_asked : List Row → Option JobAsked
-encode_asked rows = option_map (λ width. Encodes (record {
+abbrev pub encode_asked : List Row → Result JobAsked Refusal
+encode_asked rows = map_ok (λ width. Encodes (record {
   files = files_asked rows;
   width = width;
   prefix = word_in (codes "prefix") rows;
@@ -122,31 +120,29 @@ encode_asked rows = option_map (λ width. Encodes (record {
 })) (width_asked rows)
 
 -- what `check` is asked for
-abbrev pub check_asked : List Row → Option JobAsked
+abbrev pub check_asked : List Row → Result JobAsked Refusal
 check_asked rows =
-    Some (Checks (record { cnf = word_in (codes "cnf") rows; lrat = word_in (codes "lrat") rows }))
+    Ok (Checks (record { cnf = word_in (codes "cnf") rows; lrat = word_in (codes "lrat") rows }))
 
 -- what `verify` is asked for
-abbrev pub verify_asked : List Row → Option JobAsked
-verify_asked rows = option_map (λ width. Verifies (record {
+abbrev pub verify_asked : List Row → Result JobAsked Refusal
+verify_asked rows = map_ok (λ width. Verifies (record {
   files = files_asked rows;
   width = width;
   routed = word_in (codes "routed") rows;
 })) (width_asked rows)
 
 -- what `gen` is asked for
-abbrev pub gen_asked : List Row → Option JobAsked
-gen_asked rows = option_map
+abbrev pub gen_asked : List Row → Result JobAsked Refusal
+gen_asked rows = map_ok
     (λ recipe. Generates (record { recipe = recipe; prefix = word_in (codes "prefix") rows }))
     (recipe_asked rows)
 
--- what `trial` is asked for: with this recipe and this search, where both are there
-abbrev pub trial_with : Option RecipeAsked → Option SearchAsked → Option JobAsked
-trial_with (Some recipe) (Some search) = Some (Tries (record { recipe = recipe; search = search }))
-trial_with _ _ = None
-
-abbrev pub trial_asked : List Row → Option JobAsked
-trial_asked rows = trial_with (recipe_asked rows) (search_asked rows)
+-- what `trial` is asked for
+abbrev pub trial_asked : List Row → Result JobAsked Refusal
+trial_asked rows =
+    and_then (recipe_asked rows) (λ recipe.
+    map_ok (λ search. Tries (record { recipe = recipe; search = search })) (search_asked rows))
 
 abbrev pub route_row : CommandRow
 route_row = record { name = codes "route"; form = route_form; job = route_asked }
@@ -184,16 +180,11 @@ commands = route_row ∷ sweep_row ∷ encode_row ∷ check_row ∷ verify_row �
 
 -- ---- the job of words
 
--- the job, or that a number is none in its range
-abbrev pub or_no_number : Option JobAsked → Result JobAsked Refusal
-or_no_number (Some job) = Ok job
-or_no_number None = Err Number
-
 -- the job that the command makes of the words behind its name, or why it makes none
 abbrev pub command_job : CommandRow → List Word → Result JobAsked Refusal
 command_job command words =
     if is_taken command.form words
-    then or_no_number (command.job (matches_of command.form words))
+    then command.job (matches_of command.form words)
     else Err Form
 
 -- the command that a word names

@@ -1,5 +1,6 @@
 pub mod Word
 pub mod Refusal
+pub mod Results
 pub mod Job
 pub mod Form
 pub mod Taken

@@ -3,8 +3,10 @@ ghost use Rattle.std.specs.Prelude.{◌≡◌, IfOk, option_map};
 ghost use Rattle.clap.specs.Words.{app_of, found_of, rows_of};
 ghost use Rattle.router_words.specs.Command.{command_named, row_of};
 ghost use Rattle.router_words.specs.Job.{job_said};
+ghost use Rattle.router_words.specs.Results.{map_ok};
 ghost use Rattle.router_words.specs.Taken.{HasRequired};
 
+use crate::fault::Refusal;
 use crate::form::{
     check_command, encode_command, gen_command, search_command, trial_command, verify_command,
 };
@@ -71,10 +73,10 @@ impl CommandName {
         }
     }
 
-    /// The job that the matches of its form say, where the numbers are in range.
-    pub fn job<'a>(self, matches: &ArgMatches<'a>) -> Option<Job<'a>>
+    /// The job that the matches of its form say, or why they say none.
+    pub fn job<'a>(self, matches: &ArgMatches<'a>) -> Result<Job<'a>, Refusal>
         requires { HasRequired (row_of self).form (rows_of (found_of matches.now)) }
-        ensures { option_map job_said result ≡ (row_of self).job (rows_of (found_of matches.now)) }
+        ensures { map_ok job_said result ≡ (row_of self).job (rows_of (found_of matches.now)) }
     {
         match self {
             CommandName::Route => route_job(matches),

@@ -1,13 +1,15 @@
 //! The job that the matches of a command's form say.
-ghost use Rattle.std.specs.Prelude.{◌≡◌, ◌≤◌, IfSome, codes, is_some, option_map, true};
+ghost use Rattle.std.specs.Prelude.{◌≡◌, ◌≤◌, IfOk, codes, is_some, true};
 ghost use Rattle.clap.specs.Words.{first_of, found_of, rows_of};
 ghost use Rattle.fpga_types.specs.declared.limits.TheConstants.{WIDTH_LIMIT};
 ghost use Rattle.router_words.specs.Command.{check_asked, conflicts_asked, encode_asked, files_asked, gen_asked, number_within, recipe_asked, route_asked, search_asked, sweep_asked, trial_asked, verify_asked, width_asked, word_in};
 ghost use Rattle.router_words.specs.Form.{check_form, encode_form, gen_form, route_form, sweep_form, trial_form, verify_form};
 ghost use Rattle.router_words.specs.Job.{files_said, job_said, recipe_said, search_said};
+ghost use Rattle.router_words.specs.Results.{map_ok};
 ghost use Rattle.router_words.specs.Taken.{HasFiles, HasRecipe, HasRequired};
 ghost use Rattle.router_words.specs.declared.limits.TheConstants.{BUDGET_LIMIT};
 
+use crate::fault::Refusal;
 use crate::job::{
     CheckJob, EncodeJob, FourNames, GenJob, Job, Recipe, RouteJob, SearchJob, SweepJob, TrialJob,
     VerifyJob,
@@ -31,71 +33,59 @@ fn file_names<'a>(matches: &ArgMatches<'a>) -> FourNames<'a>
     }
 }
 
-// The number that the word for a name says, where it is in this range.
-fn number_for(matches: &ArgMatches, name: &str, least: u32, greatest: u32) -> Option<u32>
+// The number that the word for a name says, or that it is none in this range.
+fn number_for(matches: &ArgMatches, name: &str, least: u32, greatest: u32) -> Result<u32, Refusal>
     requires { is_some (first_of name.now (rows_of (found_of matches.now))) ≡ true }
     ensures number { result
         ≡ number_within least greatest (word_in name.now (rows_of (found_of matches.now))) }
-    ensures within { IfSome result (λ number. (least ≤ number) × (number ≤ greatest)) }
+    ensures within { IfOk result (λ number. (least ≤ number) × (number ≤ greatest)) }
 {
     let word = required_word(matches, name);
-    let Some(number) = number_within(word, u64::from(least), u64::from(greatest)) else {
-        return None;
-    };
-    Some(number as u32)
+    let number = number_within(word, u64::from(least), u64::from(greatest))?;
+    Ok(number as u32)
 }
 
-// How many tracks each channel has, or the most of them that are tried, where what the words say
-// is in range.
-fn width(matches: &ArgMatches) -> Option<u32>
+// How many tracks each channel has, or the most of them that are tried; or that the word is no
+// number in range.
+fn width(matches: &ArgMatches) -> Result<u32, Refusal>
     requires { is_some (first_of (codes "width") (rows_of (found_of matches.now))) ≡ true }
     ensures number { result ≡ width_asked (rows_of (found_of matches.now)) }
-    ensures within { IfSome result (λ number. (1 ≤ number) × (number ≤ WIDTH_LIMIT)) }
+    ensures within { IfOk result (λ number. (1 ≤ number) × (number ≤ WIDTH_LIMIT)) }
 {
     number_for(matches, "width", 1, WIDTH_LIMIT)
 }
 
-// How many clauses the search may learn, where what the words say is in range.
-fn conflicts(matches: &ArgMatches) -> Option<u64>
+// How many clauses the search may learn, or that the word is no number in range.
+fn conflicts(matches: &ArgMatches) -> Result<u64, Refusal>
     ensures number { result ≡ conflicts_asked (rows_of (found_of matches.now)) }
-    ensures within { IfSome result (λ number. (1 ≤ number) × (number ≤ BUDGET_LIMIT)) }
+    ensures within { IfOk result (λ number. (1 ≤ number) × (number ≤ BUDGET_LIMIT)) }
 {
     let Some(word) = first_word(matches, "conflicts") else {
-        return Some(BUDGET_DEFAULT);
+        return Ok(BUDGET_DEFAULT);
     };
     number_within(word, 1, BUDGET_LIMIT)
 }
 
-// What a generated problem is made from, where its numbers are in range.
-fn recipe(matches: &ArgMatches) -> Option<Recipe>
+// What a generated problem is made from, or that a number is none in its range.
+fn recipe(matches: &ArgMatches) -> Result<Recipe, Refusal>
     requires { HasRecipe (rows_of (found_of matches.now)) }
-    ensures { option_map recipe_said result ≡ recipe_asked (rows_of (found_of matches.now)) }
+    ensures { map_ok recipe_said result ≡ recipe_asked (rows_of (found_of matches.now)) }
 {
-    let Some(seed) = number_for(matches, "seed", 0, SEED_LIMIT) else {
-        return None;
-    };
-    let Some(side) = number_for(matches, "side", 1, SIDE_LIMIT) else {
-        return None;
-    };
-    let Some(nets) = number_for(matches, "nets", 1, GENERATED_NETS_LIMIT) else {
-        return None;
-    };
-    Some(Recipe { seed, side, nets })
+    let seed = number_for(matches, "seed", 0, SEED_LIMIT)?;
+    let side = number_for(matches, "side", 1, SIDE_LIMIT)?;
+    let nets = number_for(matches, "nets", 1, GENERATED_NETS_LIMIT)?;
+    Ok(Recipe { seed, side, nets })
 }
 
-// What a search is told, where its numbers are in range.
-fn search<'a>(matches: &ArgMatches<'a>) -> Option<SearchJob<'a>>
+// What a search is told, or that a number is none in its range.
+fn search<'a>(matches: &ArgMatches<'a>) -> Result<SearchJob<'a>, Refusal>
     requires width { is_some (first_of (codes "width") (rows_of (found_of matches.now))) ≡ true }
     requires prefix { is_some (first_of (codes "prefix") (rows_of (found_of matches.now))) ≡ true }
-    ensures { option_map search_said result ≡ search_asked (rows_of (found_of matches.now)) }
+    ensures { map_ok search_said result ≡ search_asked (rows_of (found_of matches.now)) }
 {
-    let Some(width) = width(matches) else {
-        return None;
-    };
-    let Some(conflicts) = conflicts(matches) else {
-        return None;
-    };
-    Some(SearchJob {
+    let width = width(matches)?;
+    let conflicts = conflicts(matches)?;
+    Ok(SearchJob {
         width,
         prefix: required_word(matches, "prefix"),
         conflicts,
@@ -104,43 +94,37 @@ fn search<'a>(matches: &ArgMatches<'a>) -> Option<SearchJob<'a>>
     })
 }
 
-/// What `route` is asked for, where its numbers are in range.
-pub fn route_job<'a>(matches: &ArgMatches<'a>) -> Option<Job<'a>>
+/// What `route` is asked for, or why its words ask for nothing.
+pub fn route_job<'a>(matches: &ArgMatches<'a>) -> Result<Job<'a>, Refusal>
     requires { HasRequired route_form (rows_of (found_of matches.now)) }
-    ensures { option_map job_said result ≡ route_asked (rows_of (found_of matches.now)) }
+    ensures { map_ok job_said result ≡ route_asked (rows_of (found_of matches.now)) }
 {
-    let Some(search) = search(matches) else {
-        return None;
-    };
-    Some(Job::Route(RouteJob {
+    let search = search(matches)?;
+    Ok(Job::Route(RouteJob {
         files: file_names(matches),
         search,
     }))
 }
 
-/// What `sweep` is asked for, where its numbers are in range.
-pub fn sweep_job<'a>(matches: &ArgMatches<'a>) -> Option<Job<'a>>
+/// What `sweep` is asked for, or why its words ask for nothing.
+pub fn sweep_job<'a>(matches: &ArgMatches<'a>) -> Result<Job<'a>, Refusal>
     requires { HasRequired sweep_form (rows_of (found_of matches.now)) }
-    ensures { option_map job_said result ≡ sweep_asked (rows_of (found_of matches.now)) }
+    ensures { map_ok job_said result ≡ sweep_asked (rows_of (found_of matches.now)) }
 {
-    let Some(search) = search(matches) else {
-        return None;
-    };
-    Some(Job::Sweep(SweepJob {
+    let search = search(matches)?;
+    Ok(Job::Sweep(SweepJob {
         files: file_names(matches),
         search,
     }))
 }
 
-/// What `encode` is asked for, where its number is in range.
-pub fn encode_job<'a>(matches: &ArgMatches<'a>) -> Option<Job<'a>>
+/// What `encode` is asked for, or why its words ask for nothing.
+pub fn encode_job<'a>(matches: &ArgMatches<'a>) -> Result<Job<'a>, Refusal>
     requires { HasRequired encode_form (rows_of (found_of matches.now)) }
-    ensures { option_map job_said result ≡ encode_asked (rows_of (found_of matches.now)) }
+    ensures { map_ok job_said result ≡ encode_asked (rows_of (found_of matches.now)) }
 {
-    let Some(width) = width(matches) else {
-        return None;
-    };
-    Some(Job::Encode(EncodeJob {
+    let width = width(matches)?;
+    Ok(Job::Encode(EncodeJob {
         files: file_names(matches),
         width,
         prefix: required_word(matches, "prefix"),
@@ -149,55 +133,47 @@ pub fn encode_job<'a>(matches: &ArgMatches<'a>) -> Option<Job<'a>>
 }
 
 /// What `check` is asked for.
-pub fn check_job<'a>(matches: &ArgMatches<'a>) -> Option<Job<'a>>
+pub fn check_job<'a>(matches: &ArgMatches<'a>) -> Result<Job<'a>, Refusal>
     requires { HasRequired check_form (rows_of (found_of matches.now)) }
-    ensures { option_map job_said result ≡ check_asked (rows_of (found_of matches.now)) }
+    ensures { map_ok job_said result ≡ check_asked (rows_of (found_of matches.now)) }
 {
-    Some(Job::Check(CheckJob {
+    Ok(Job::Check(CheckJob {
         cnf: required_word(matches, "cnf"),
         lrat: required_word(matches, "lrat"),
     }))
 }
 
-/// What `verify` is asked for, where its number is in range.
-pub fn verify_job<'a>(matches: &ArgMatches<'a>) -> Option<Job<'a>>
+/// What `verify` is asked for, or why its words ask for nothing.
+pub fn verify_job<'a>(matches: &ArgMatches<'a>) -> Result<Job<'a>, Refusal>
     requires { HasRequired verify_form (rows_of (found_of matches.now)) }
-    ensures { option_map job_said result ≡ verify_asked (rows_of (found_of matches.now)) }
+    ensures { map_ok job_said result ≡ verify_asked (rows_of (found_of matches.now)) }
 {
-    let Some(width) = width(matches) else {
-        return None;
-    };
-    Some(Job::Verify(VerifyJob {
+    let width = width(matches)?;
+    Ok(Job::Verify(VerifyJob {
         files: file_names(matches),
         width,
         routed: required_word(matches, "routed"),
     }))
 }
 
-/// What `gen` is asked for, where its numbers are in range.
-pub fn gen_job<'a>(matches: &ArgMatches<'a>) -> Option<Job<'a>>
+/// What `gen` is asked for, or why its words ask for nothing.
+pub fn gen_job<'a>(matches: &ArgMatches<'a>) -> Result<Job<'a>, Refusal>
     requires { HasRequired gen_form (rows_of (found_of matches.now)) }
-    ensures { option_map job_said result ≡ gen_asked (rows_of (found_of matches.now)) }
+    ensures { map_ok job_said result ≡ gen_asked (rows_of (found_of matches.now)) }
 {
-    let Some(recipe) = recipe(matches) else {
-        return None;
-    };
-    Some(Job::Gen(GenJob {
+    let recipe = recipe(matches)?;
+    Ok(Job::Gen(GenJob {
         recipe,
         prefix: required_word(matches, "prefix"),
     }))
 }
 
-/// What `trial` is asked for, where its numbers are in range.
-pub fn trial_job<'a>(matches: &ArgMatches<'a>) -> Option<Job<'a>>
+/// What `trial` is asked for, or why its words ask for nothing.
+pub fn trial_job<'a>(matches: &ArgMatches<'a>) -> Result<Job<'a>, Refusal>
     requires { HasRequired trial_form (rows_of (found_of matches.now)) }
-    ensures { option_map job_said result ≡ trial_asked (rows_of (found_of matches.now)) }
+    ensures { map_ok job_said result ≡ trial_asked (rows_of (found_of matches.now)) }
 {
-    let Some(recipe) = recipe(matches) else {
-        return None;
-    };
-    let Some(search) = search(matches) else {
-        return None;
-    };
-    Some(Job::Trial(TrialJob { recipe, search }))
+    let recipe = recipe(matches)?;
+    let search = search(matches)?;
+    Ok(Job::Trial(TrialJob { recipe, search }))
 }

@@ -1,5 +1,5 @@
 //! What a form takes, and the words and numbers that it finds.
-ghost use Rattle.std.specs.Prelude.{◌≡◌, ◌≤◌, IfSome, is_some, option_map, true};
+ghost use Rattle.std.specs.Prelude.{◌≡◌, ◌≤◌, IfOk, is_some, option_map, true};
 ghost use Rattle.clap.specs.Words.{app_of, first_of, found_of, rows_of};
 ghost use Rattle.router_words.specs.Command.{has_flag, number_within, word_in};
 ghost use Rattle.router_words.specs.Form.{is_form};
@@ -57,16 +57,15 @@ pub fn is_given(matches: &ArgMatches, name: &str) -> bool
     text == "true"
 }
 
-/// The whole number that a word says, where it is from the least to the greatest.
-pub fn number_within(word: &str, least: u64, greatest: u64) -> Option<u64>
+/// The whole number that a word says, where it is from the least to the greatest. The refusal is
+/// `Number`.
+pub fn number_within(word: &str, least: u64, greatest: u64) -> Result<u64, Refusal>
     ensures number { result ≡ number_within least greatest word.now }
-    ensures within { IfSome result (λ number. (least ≤ number) × (number ≤ greatest)) }
+    ensures within { IfOk result (λ number. (least ≤ number) × (number ≤ greatest)) }
 {
-    let Some(number) = whole_number(word.as_bytes()) else {
-        return None;
-    };
+    let number = whole_number(word.as_bytes()).ok_or(Refusal::Number)?;
     if number < least || greatest < number {
-        return None;
+        return Err(Refusal::Number);
     }
-    Some(number)
+    Ok(number)
 }

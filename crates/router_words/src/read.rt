@@ -25,10 +25,10 @@ fn read_command<'a>(alloc: Global, name: &str, words: &'a [String]) -> Result<Jo
         Ok(matches) => matches,
         Err(fault) => return Err(fault),
     };
-    let Some(job) = command.job(&matches) else {
-        return Err(WordsFault::Refused(Refusal::Number));
-    };
-    Ok(job)
+    match command.job(&matches) {
+        Ok(job) => Ok(job),
+        Err(refusal) => Err(WordsFault::Refused(refusal)),
+    }
 }
 
 /// Reads the words of a command, those after the program's name. `Refused` has the least cause that

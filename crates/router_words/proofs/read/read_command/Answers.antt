@@ -23,8 +23,8 @@ forms Trial = refl
 pub take-requires : goal.take-requires
 take-requires c = ap is_form c.in-Ok.ensures ∙ forms c.in-Some.command
 
-pub returns-clause-there : goal.returns-clause-there
-returns-clause-there c =
+pub returns-in-Ok-job-clause-there : goal.returns-in-Ok-job-clause-there
+returns-in-Ok-job-clause-there c =
     let words = words_of c.args.words.now in
     let taken = c.in-Ok-take.ensures in
     let there = subst (λ (rows : List Row). HasRequired (app_of c.in-Ok.form) rows) taken.found
