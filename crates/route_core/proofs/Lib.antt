@@ -1,0 +1,10 @@
+pub mod CoreLemmas
+pub mod KeepLemmas
+pub mod ListedLemmas
+pub mod MaskLemmas
+pub mod NeededLemmas
+pub mod Rows
+pub mod SourceLemmas
+pub mod TrimmingLemmas
+pub mod UsedLemmas
+pub mod WalkLemmas

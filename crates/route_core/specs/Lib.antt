@@ -1,0 +1,10 @@
+pub mod Blamed
+pub mod Core
+pub mod Keeping
+pub mod Needed
+pub mod Ready
+pub mod SourceStore
+pub mod Sources
+pub mod Trimmed
+pub mod Trimming
+pub mod Walking
