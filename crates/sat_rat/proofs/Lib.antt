@@ -1,0 +1,8 @@
+pub mod CountLaws
+pub mod FullSound
+pub mod FullStepLaws
+pub mod GroupLaws
+pub mod HeldLaws
+pub mod IdLaws
+pub mod Rows
+pub mod TrackLaws
