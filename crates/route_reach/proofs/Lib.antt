@@ -13,5 +13,7 @@ mod ProblemExactness
 mod CountLemmas
 mod NearLemmas
 mod RisingLemmas
+mod InsertLemmas
+mod NearSlots
 mod RowValues
 mod ReachRows

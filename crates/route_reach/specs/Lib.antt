@@ -2,5 +2,6 @@ pub mod Counts
 pub mod Encoding
 pub mod Ends
 pub mod Exact
+pub mod Near
 pub mod Pins
 pub mod Reach

@@ -5,6 +5,9 @@ mod count;
 mod ends;
 mod far;
 mod laws;
+mod near;
+mod numbers;
+mod rising;
 mod source;
 
 pub use count::{REACH_LIMIT, reach_count};
