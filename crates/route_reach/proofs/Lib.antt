@@ -1,6 +1,9 @@
 mod PinLines
 mod CountSteps
 mod FarLemmas
+mod StartLemmas
+mod TableLemmas
+mod NearbyLemmas
 mod FewSinks
 mod SourceLemmas
 mod Truths

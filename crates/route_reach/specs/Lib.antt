@@ -5,3 +5,4 @@ pub mod Exact
 pub mod Near
 pub mod Pins
 pub mod Reach
+pub mod WireClauses

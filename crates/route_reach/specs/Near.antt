@@ -1,15 +1,17 @@
 -- The slots of a net whose cells meet a cell, and those whose cells a pin touches, rising.
-use Rattle.std.specs.Prelude.{ℕ, nat_lt, ◌==◌, List, [], ◌∷◌, filter, Option, Some, None, is_some, option_and_then, if◌then◌else◌}
+use Rattle.arrayvec.specs.ArrayVec.{ArrayVec}
+use Rattle.std.specs.Prelude.{ℕ, nat_lt, ◌==◌, List, [], ◌∷◌, filter, map, Option, Some, None, is_some, option_and_then, if◌then◌else◌}
 use Rattle.std.specs.List.{position_from}
 use Rattle.fpga_graph.specs.Beside.{cell_beside}
 use Rattle.fpga_graph.specs.GraphOf.{GraphOf}
 use Rattle.fpga_types.specs.Fabric.{meeting}
 use Rattle.fpga_types.specs.Size.{Size}
-use Rattle.fpga_types.specs.Slots.{same_slot, slot_at}
+use Rattle.fpga_types.specs.Slots.{same_slot, slot_at, slots}
 use Rattle.fpga_types.specs.Touching.{touches}
 use Rattle.fpga_types.specs.declared.grid.PinAt.{PinAt}
 use Rattle.fpga_types.specs.declared.grid.Side.{Side}
 use Rattle.fpga_types.specs.declared.problem.Slot.{Slot}
+use Rattle.fpga_types.specs.declared.route.RouteText.{RouteText}
 use Rattle.route_reach.specs.Encoding.{Frame, slots_in}
 
 -- the slots of a net whose cells meet the cell of one, rising
@@ -46,3 +48,11 @@ abbrev pub side_slot : GraphOf → List Slot → (n : ℕ) → PinAt → Side �
 side_slot g all n pin side = option_and_then
     (λ cell. if touches g.arch g.grid pin cell
     then found_number all (record { net = n; cell = cell }) else None) (cell_beside pin side)
+
+-- the slots near slot s of a route
+abbrev pub near_of : RouteText → (s : ℕ) → List ℕ
+near_of route s = meeting_slots route.grid (slots route) (slot_at (slots route) s)
+
+-- the numbers of each row
+abbrev pub rows_of : List (ArrayVec ℕ) → List (List ℕ)
+rows_of table = map (λ (row : ArrayVec ℕ). row.items) table

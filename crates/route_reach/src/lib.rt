@@ -1,14 +1,20 @@
 //! Routing within a reach: a net may take several wires of its cells.
 #![tactic(auto)]
 
+mod clause_row;
 mod count;
+mod each_wire;
 mod ends;
 mod far;
 mod laws;
 mod near;
+mod near_table;
+mod nearby;
 mod numbers;
 mod rising;
 mod source;
+mod starts;
+mod variables;
 
 pub use count::{REACH_LIMIT, reach_count};
 pub use laws::{models_say_reached, reached_have_models, unsat_says_unreachable};

@@ -1,0 +1,10 @@
+-- the clauses of the wires so far were added
+use Rattle.std.specs.Prelude.{flat_map}
+use Rattle.route_encode.specs.Adding.{Adds}
+use Rattle.route_encode.specs.Encoding.{below}
+use Rattle.route_reach.specs.WireClauses.{stays_clauses}
+use Rattle.route_reach.proofs.each_wire.add_stays.Given as goal
+
+abbrev pub invariant-loop-wire : goal.invariant-loop-wire
+invariant-loop-wire l = Adds l.initial.formula
+    (flat_map (stays_clauses l.variables.wires l.variables.reach) (below l.wire)) l.formula
