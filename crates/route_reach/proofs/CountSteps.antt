@@ -1,8 +1,9 @@
 -- Counts over numbers and lines, with one more.
-use Rattle.std.proofs.Common.{◌≡◌, ℕ, suc, ◌+◌, Bool, true, false, Option, Some, None, List, [], ◌∷◌, ◌++◌, length, take, ap, ◌∙◌, arith, add-one, length-append}
+use Rattle.std.proofs.Common.{refl, ◌≡◌, ℕ, suc, ◌+◌, Bool, true, false, Option, Some, None, List, [], ◌∷◌, ◌++◌, length, take, ap, ◌∙◌, arith, add-one, length-append}
 use Rattle.std.specs.Prelude.{filter, filter_map, is_some, slice_get, sum_by, option_and_then}
 use Rattle.std.specs.List.{last_or}
 use Rattle.std.specs.Option.{option_to_list}
+use Rattle.std.proofs.lemmas.List.{append-nil}
 use Rattle.std.proofs.lemmas.List.Elements.{filter-append}
 use Rattle.std.proofs.lemmas.List.Sums.{sum_by-append, sum_by-cons}
 use Rattle.list_laws.proofs.Places.{take-get}
@@ -31,6 +32,14 @@ module _ (p : ℕ → Bool) (n : ℕ) where
       ap (λ ks. length (filter p ks)) (below-push n)
       ∙ ap length (filter-append p (below n) (n ∷ []))
       ∙ rw is (length-append (filter p (below n)) [] ∙ (omega arith))
+
+  -- those that pass
+  pub kept-more : p n ≡ true → filter p (below (n + 1)) ≡ filter p (below n) ++ n ∷ []
+  kept-more is = ap (filter p) (below-push n) ∙ filter-append p (below n) (n ∷ []) ∙ rw is refl
+
+  pub kept-same : p n ≡ false → filter p (below (n + 1)) ≡ filter p (below n)
+  kept-same is = ap (filter p) (below-push n) ∙ filter-append p (below n) (n ∷ [])
+      ∙ rw is (append-nil (filter p (below n)))
 
 -- a sum over numbers, with one number more
 pub sum-more : (m : ℕ → ℕ) (n : ℕ) → sum_by m (below (n + 1)) ≡ sum_by m (below n) + m n

@@ -4,6 +4,7 @@ mod FarLemmas
 mod StartLemmas
 mod TableLemmas
 mod NearbyLemmas
+mod SinkLemmas
 mod FewSinks
 mod SourceLemmas
 mod Truths

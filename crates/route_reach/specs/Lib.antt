@@ -5,4 +5,5 @@ pub mod Exact
 pub mod Near
 pub mod Pins
 pub mod Reach
+pub mod SinkClauses
 pub mod WireClauses

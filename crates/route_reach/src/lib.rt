@@ -12,6 +12,7 @@ mod near_table;
 mod nearby;
 mod numbers;
 mod rising;
+mod sinks;
 mod source;
 mod starts;
 mod variables;
