@@ -5,6 +5,9 @@ mod StartLemmas
 mod TableLemmas
 mod NearbyLemmas
 mod SinkLemmas
+mod PlaceLemmas
+mod SizeLemmas
+mod TallyLemmas
 mod FewSinks
 mod SourceLemmas
 mod Truths

@@ -1,6 +1,6 @@
 -- The slots that are found by cells: those whose cells meet a slot's, and those that a pin touches.
-use Rattle.std.proofs.Common.{◌≡◌, ◌⊎◌, ℕ, ◌+◌, ◌<◌, Bool, true, false, Option, Some, None, List, [], ◌++◌, length, inl, inr, refl, sym, ap, subst, ◌∙◌, arith}
-use Rattle.std.specs.Prelude.{◌==◌, filter, filter_map, is_some, option_and_then, if◌then◌else◌}
+use Rattle.std.proofs.Common.{◌≡◌, ℕ, ◌<◌, Bool, true, false, Option, Some, None, List, [], ◌++◌, length, inl, inr, refl, sym, ap, subst, ◌∙◌}
+use Rattle.std.specs.Prelude.{◌==◌, filter_map, is_some, option_and_then, if◌then◌else◌}
 use Rattle.std.specs.Option.{option_map_or, option_to_list}
 use Rattle.std.proofs.lemmas.Bool.{false≢true}
 use Rattle.list_laws.proofs.Members.{In, contains-In, In-append_cases, In-append_left, In-append_right, In-contains, In-filter, In-filter_map, from_In-filter, from_In-filter_map}
@@ -10,9 +10,8 @@ use Rattle.fpga_graph.specs.Beside.{cell_beside}
 use Rattle.fpga_graph.specs.GraphOf.{GraphOf}
 use Rattle.fpga_graph.specs.Wires.{AreJoints}
 use Rattle.fpga_types.specs.Fabric.{Meeting, MeetsAt, meeting, same_cell}
-use Rattle.fpga_types.specs.Size.{Size}
 use Rattle.fpga_types.specs.Slots.{NO_SLOT, same_slot, slot_at}
-use Rattle.fpga_types.specs.Touching.{Touches, all_sides, touches}
+use Rattle.fpga_types.specs.Touching.{touches}
 use Rattle.fpga_types.specs.Tracks.{mapped_track}
 use Rattle.fpga_types.specs.declared.grid.Cell.{Cell}
 use Rattle.fpga_types.specs.declared.grid.PinAt.{PinAt}
@@ -27,7 +26,6 @@ use Rattle.fpga_bounds.proofs.SlotTableLemmas.{same_slot-is, same_slot-itself, s
 use Rattle.route_encode.specs.Encoding.{below}
 use Rattle.route_reach.specs.Encoding.{slots_in}
 use Rattle.route_reach.specs.Near.{found_number, meeting_slots, side_slot, touched_slots, with_found}
-use Rattle.route_reach.specs.Pins.{is_along}
 use Rattle.route_reach.proofs.InsertLemmas.{from-with, rising-with, with-new, with-old}
 use Rattle.route_reach.proofs.RisingLemmas.{IsRising, rising-filter, rising-one, rising-range}
 use Rattle.route_reach.proofs.SourceLemmas.{beside-is}

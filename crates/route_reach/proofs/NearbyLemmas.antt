@@ -1,13 +1,13 @@
 -- The clauses that say from where wires are reached, by numbers of wires.
 use Rattle.arrayvec.specs.ArrayVec.{ArrayVec}
-use Rattle.std.proofs.Common.{◌≡◌, ℕ, ◌+◌, ◌*◌, ◌<◌, Option, Some, None, List, [], ◌∷◌, ◌++◌, length, get_or, take, refl, sym, ap, subst, ◌∙◌, arith}
+use Rattle.std.proofs.Common.{◌≡◌, ℕ, ◌+◌, ◌*◌, ◌<◌, Option, Some, None, List, [], ◌∷◌, ◌++◌, length, get_or, take, refl, sym, ap, ◌∙◌, arith}
 use Rattle.std.specs.Prelude.{All, filter_map, flat_map, is_some, map, option_map, slice_get}
 use Rattle.std.specs.List.{cons_option}
 use Rattle.std.specs.Option.{option_to_list}
 use Rattle.std.proofs.lemmas.List.{append-nil, length-map}
 use Rattle.std.proofs.lemmas.List.FromFn.{get_or-range_with_len, length-range_with_len}
 use Rattle.std.proofs.lemmas.Option.{slice_get-map, slice_get_read}
-use Rattle.list_laws.proofs.Members.{In, all-from_In, from_In-filter, from_In-range}
+use Rattle.list_laws.proofs.Members.{all-from_In, from_In-filter, from_In-range}
 use Rattle.list_laws.proofs.Places.{get-there, some_is}
 use Rattle.list_laws.proofs.Rows.{rows-alike}
 use Rattle.fpga_graph.specs.Crossing.{GoesAcross, crossed_track}
@@ -20,7 +20,6 @@ use Rattle.fpga_types.specs.declared.problem.Slot.{Slot}
 use Rattle.fpga_types.specs.declared.route.RouteText.{RouteText}
 use Rattle.route_encode.specs.Encoding.{below, place_of}
 use Rattle.route_encode.proofs.BitLemmas.{place-inside}
-use Rattle.sat_clause.specs.Literal.{Clause}
 use Rattle.sat_clause.specs.declared.literal.Lit.{Lit}
 use Rattle.route_encode.specs.Added.{graph_of}
 use Rattle.fpga_types.specs.Problem.{RoutingProblem}

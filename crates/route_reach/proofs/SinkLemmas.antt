@@ -1,13 +1,12 @@
 -- The clauses of sinks, line by line and by numbers of wires.
-use Rattle.std.proofs.Common.{◌≡◌, ℕ, zero, suc, ◌+◌, ◌-◌, ◌*◌, ◌<◌, ◌≤◌, Bool, true, false, Option, Some, None, List, [], ◌∷◌, ◌++◌, length, get_or, take, drop, append_assoc, refl, sym, ap, subst, ◌∙◌, arith}
+use Rattle.std.proofs.Common.{◌≡◌, ℕ, zero, suc, ◌+◌, ◌-◌, ◌*◌, ◌<◌, ◌≤◌, Bool, true, false, Option, Some, None, List, [], ◌∷◌, ◌++◌, length, get_or, take, append_assoc, refl, sym, ap, subst, ◌∙◌, arith}
 use Rattle.std.specs.Prelude.{◌&&◌, All, filter, filter_map, flat_map, map, option_map, slice_get, slice_index_or}
 use Rattle.std.specs.List.{cons_option, enumerate_from}
 use Rattle.std.specs.Option.{option_to_list}
 use Rattle.std.proofs.lemmas.List.{map-append}
 use Rattle.std.proofs.lemmas.Option.{get_or_from_slice_get, slice_get_within}
-use Rattle.list_laws.proofs.Members.{In, In-all, In-filter_map, all-from_In, from_In-filter}
+use Rattle.list_laws.proofs.Members.{all-from_In, from_In-filter}
 use Rattle.list_laws.proofs.Numbered.{numbered-here}
-use Rattle.list_laws.proofs.Places.{get-In}
 use Rattle.list_laws.proofs.Rows.{rows-alike}
 use Rattle.fpga_graph.specs.GraphOf.{GraphOf}
 use Rattle.fpga_graph.specs.Wires.{opened_tracks}
@@ -16,7 +15,6 @@ use Rattle.fpga_types.specs.Slots.{adjacent, numbered_nets, slot_at, slots}
 use Rattle.fpga_types.specs.Touching.{touches}
 use Rattle.fpga_types.specs.declared.grid.PinAt.{PinAt}
 use Rattle.fpga_types.specs.declared.problem.Slot.{Slot}
-use Rattle.fpga_types.specs.declared.route.Elem.{Elem}
 use Rattle.fpga_types.specs.declared.route.RouteNet.{RouteNet}
 use Rattle.fpga_types.specs.declared.route.RouteText.{RouteText}
 use Rattle.fpga_types.specs.Problem.{RoutingProblem}
@@ -30,7 +28,7 @@ use Rattle.route_encode.proofs.AddLemmas.{adds-more, room-next}
 use Rattle.route_reach.specs.Encoding.{Frame, frame_of, reached, sink_clause, sinks_reached, slots_in, tracks_to}
 use Rattle.route_reach.specs.Ends.{sink_pin}
 use Rattle.route_reach.specs.Near.{touched_slots}
-use Rattle.route_reach.specs.SinkClauses.{line_clauses, lines_clauses, sink_lits, slot_lits}
+use Rattle.route_reach.specs.SinkClauses.{lines_clauses, sink_lits, slot_lits}
 use Rattle.route_reach.specs.WireClauses.{wire_reached}
 use Rattle.route_reach.proofs.CountSteps.{kept-more, kept-same}
 use Rattle.route_reach.proofs.RisingLemmas.{rows-kept}

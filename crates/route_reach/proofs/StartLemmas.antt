@@ -1,12 +1,12 @@
 -- The clauses of the tracks that are not marked, track by track.
-use Rattle.std.proofs.Common.{◌≡◌, ℕ, ◌*◌, Bool, true, false, cond, List, [], ◌∷◌, ◌++◌, get_or, length, refl, ap, sym, ◌∙◌}
+use Rattle.std.proofs.Common.{◌≡◌, ℕ, ◌*◌, Bool, true, false, cond, List, [], ◌∷◌, ◌++◌, length, refl, ap}
 use Rattle.std.specs.Prelude.{filter, flat_map, map, not, slice_index_or}
 use Rattle.std.specs.List.{list_any}
 use Rattle.fpga_graph.specs.GraphOf.{GraphOf}
 use Rattle.fpga_types.specs.Problem.{RoutingProblem}
 use Rattle.fpga_types.specs.Slots.{slot_at, slots}
 use Rattle.route_encode.specs.Added.{graph_of}
-use Rattle.route_encode.specs.Encoding.{below, place_of}
+use Rattle.route_encode.specs.Encoding.{place_of}
 use Rattle.sat_clause.specs.Literal.{Clause}
 use Rattle.route_reach.specs.Encoding.{frame_of, reaches, starts_at_source, wire_at}
 use Rattle.route_reach.specs.Ends.{outs_at}

@@ -1,14 +1,14 @@
 -- The cells of slots are of the array; and a table of rows, with one more.
 use Rattle.arrayvec.specs.ArrayVec.{ArrayVec}
-use Rattle.std.proofs.Common.{◌≡◌, ℕ, ◌+◌, ◌<◌, Bool, true, Option, Some, None, List, [], ◌∷◌, ◌++◌, length, refl, sym, ap, ◌∙◌, subst}
-use Rattle.std.specs.Prelude.{All, filter_map, map, slice_get}
+use Rattle.std.proofs.Common.{◌≡◌, ℕ, ◌+◌, ◌<◌, Bool, true, Option, Some, None, List, [], ◌∷◌, ◌++◌, length, sym, ap, ◌∙◌, subst}
+use Rattle.std.specs.Prelude.{filter_map, map}
 use Rattle.std.specs.Option.{option_map_or}
 use Rattle.std.proofs.lemmas.List.{map-append}
 use Rattle.std.proofs.lemmas.Option.{get_or_from_slice_get, slice_get_within}
 use Rattle.list_laws.proofs.Members.{In-all, In-contains, from_In-filter_map}
 use Rattle.fpga_types.specs.Fabric.{is_cell}
 use Rattle.fpga_types.specs.Slots.{elem_cell, slot_at, slots}
-use Rattle.fpga_types.specs.Sound.{IsSound, IsSoundElem, IsSoundNet, has_place}
+use Rattle.fpga_types.specs.Sound.{IsSound, IsSoundElem, IsSoundNet}
 use Rattle.fpga_types.specs.declared.grid.Cell.{Cell}
 use Rattle.fpga_types.specs.declared.route.Elem.{Elem}
 use Rattle.fpga_types.specs.declared.route.RouteNet.{RouteNet}

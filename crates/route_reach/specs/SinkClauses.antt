@@ -1,5 +1,5 @@
 -- The clauses of sinks, by numbers of wires.
-use Rattle.std.specs.Prelude.{ℕ, ◌*◌, Bool, false, List, filter, flat_map, map, option_map, slice_index_or}
+use Rattle.std.specs.Prelude.{ℕ, Bool, false, List, filter, flat_map, map, option_map, slice_index_or}
 use Rattle.std.specs.Option.{option_to_list}
 use Rattle.fpga_graph.specs.GraphOf.{GraphOf}
 use Rattle.fpga_graph.specs.Wires.{opened_tracks}

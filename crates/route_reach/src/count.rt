@@ -1,8 +1,8 @@
 //! How many clauses there are for a reach.
 ghost use Rattle.std.specs.Prelude.{◌≡◌, ◌+◌, ◌*◌, ◌≤◌, ◌==◌, ℕ, Bool, false, not, filter, filter_map, length, slice_index_or, sum_by};
 ghost use Rattle.fpga_graph.specs.GraphOf.{GraphOf};
-ghost use Rattle.fpga_types.specs.Slots.{adjacent, slots};
-ghost use Rattle.fpga_types.specs.declared.limits.TheConstants.{NET_LIMIT, STEP_LIMIT};
+ghost use Rattle.fpga_types.specs.Slots.{adjacent, pairs, slots};
+ghost use Rattle.fpga_types.specs.declared.limits.TheConstants.{NET_LIMIT, SLOT_LIMIT, STEP_LIMIT, WIDTH_LIMIT};
 ghost use Rattle.fpga_types.specs.declared.route.RouteNet.{RouteNet as Net};
 ghost use Rattle.route_encode.specs.Added.{graph_of};
 ghost use Rattle.route_encode.specs.Encoding.{below};
@@ -14,7 +14,7 @@ use crate::ends::sink_pin;
 use crate::far::source_row_of;
 use fpga_bounds::PlacedProblem;
 use fpga_graph::{Graph, MOST_TRACKS};
-use fpga_types::{Elem, RouteNet, WIDTH_LIMIT};
+use fpga_types::{Elem, RouteNet};
 
 /// The greatest reach.
 pub const REACH_LIMIT: u32 = 64;
@@ -29,11 +29,65 @@ pub fn reach_count(problem: &PlacedProblem, width: u32, reach: u32) -> u64
     ensures { result ≡ length (reach_cnf width reach problem.now).clauses }
 {
     let graph = Graph::new(problem.arch(), problem.route().grid, width);
-    let wires = problem.slots().len() as u64 * width as u64;
-    sinks_of_all(problem)
-        + far_of_all(problem, &graph, width)
-        + wires * (3 * reach as u64 + 1)
-        + problem.pairs() * width as u64
+    tally(problem, &graph, width).clauses(reach)
+}
+
+/// What the number of clauses and literals is told by.
+#[derive(Clone, Copy, Debug)]
+pub(crate) struct ReachTally {
+    /// How many SINK lines the ordinary nets have.
+    pub sinks: u64,
+    /// How many wires of slots no pin of their net's source reaches.
+    pub far: u64,
+    /// How many wires of slots there are.
+    pub wires: u64,
+    /// How many wires two slots of different nets share, counted for each two.
+    pub shared: u64,
+    ghost few_sinks: { sinks ≤ STEP_LIMIT + NET_LIMIT },
+    ghost few_far: { far ≤ wires },
+    ghost few_wires: { wires ≤ SLOT_LIMIT * WIDTH_LIMIT },
+    ghost few_shared: { shared ≤ SLOT_LIMIT * SLOT_LIMIT * WIDTH_LIMIT },
+}
+
+impl ReachTally {
+    /// How many clauses there are for a reach.
+    pub(crate) fn clauses(self, reach: u32) -> u64
+        requires { reach ≤ REACH_LIMIT }
+        ensures { result ≡ self.sinks + self.far + self.wires * (3 * reach + 1) + self.shared }
+    {
+        self.sinks + self.far + self.wires * (3 * reach as u64 + 1) + self.shared
+    }
+
+    /// How many literals they have at most together, where so many slots are near slots.
+    pub(crate) fn lits(self, width: u32, reach: u32, near: u64) -> u64
+        requires width { width ≤ WIDTH_LIMIT }
+        requires reach { reach ≤ REACH_LIMIT }
+        requires near { near ≤ 6 * SLOT_LIMIT }
+        ensures { result ≡ 4 * width * self.sinks + self.far
+            + 2 * (self.wires * (3 * reach + 1) + self.shared) + width * reach * near }
+    {
+        let pairs = self.wires * (3 * reach as u64 + 1) + self.shared;
+        let tracks = width as u64;
+        4 * tracks * self.sinks + self.far + 2 * pairs + tracks * reach as u64 * near
+    }
+}
+
+/// The tally of a problem at a width.
+pub(crate) fn tally(problem: &PlacedProblem, graph: &Graph<'_>, width: u32) -> ReachTally
+    requires width { width ≤ WIDTH_LIMIT }
+    requires graph { graph.now ≡ graph_of width problem.now }
+    ensures sinks { result.sinks ≡ sink_count problem.now.route }
+    ensures far { (reach : ℕ) → result.far
+        ≡ far_count (frame_of width reach problem.now) problem.now.route }
+    ensures wires { result.wires ≡ length (slots problem.now.route) * width }
+    ensures shared { result.shared ≡ length (pairs (slots problem.now.route)) * width }
+{
+    ReachTally {
+        sinks: sinks_of_all(problem),
+        far: far_of_all(problem, graph, width),
+        wires: problem.slots().len() as u64 * width as u64,
+        shared: problem.pairs() * width as u64,
+    }
 }
 
 /// How many SINK lines the ordinary nets have.

@@ -1,6 +1,7 @@
 //! Routing within a reach: a net may take several wires of its cells.
 #![tactic(auto)]
 
+mod build;
 mod clause_row;
 mod count;
 mod each_wire;
@@ -17,5 +18,6 @@ mod source;
 mod starts;
 mod variables;
 
+pub use build::reach_build;
 pub use count::{REACH_LIMIT, reach_count};
 pub use laws::{models_say_reached, reached_have_models, unsat_says_unreachable};

@@ -1,5 +1,6 @@
 //! The variables of the clauses for a reach, and their literals.
 ghost use Rattle.std.specs.Prelude.{◌≡◌, ◌+◌, ◌*◌, ◌<◌, ◌≤◌};
+ghost use Rattle.route_reach.specs.declared.count.TheConstants.{REACH_LIMIT};
 ghost use Rattle.route_reach.specs.WireClauses.{wire_reached, wire_unreached, wire_used};
 ghost use Rattle.sat_clause.specs.Literal.{IsWithin};
 ghost use Rattle.sat_clause.specs.declared.limits.TheConstants.{VARIABLE_LIMIT};
@@ -14,10 +15,18 @@ pub(crate) struct WireVariables {
     pub wires: u32,
     /// The greatest number of joins.
     pub reach: u32,
+    ghost few_joins: { reach ≤ REACH_LIMIT },
     ghost few: { wires * (reach + 2) ≤ VARIABLE_LIMIT },
 }
 
 impl WireVariables {
+    /// How many there are.
+    pub(crate) fn count(self) -> u32
+        ensures { result ≡ self.wires * (self.reach + 2) }
+    {
+        self.wires * (self.reach + 2)
+    }
+
     /// The literal that says that a wire is used.
     pub(crate) fn used(self, wire: u32) -> Lit
         requires { wire < self.wires }

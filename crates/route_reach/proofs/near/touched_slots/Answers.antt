@@ -1,4 +1,4 @@
-use Rattle.std.proofs.Common.{◌≡◌, ◌∙◌, ℕ, List, [], refl}
+use Rattle.std.proofs.Common.{◌≡◌, ◌∙◌, List, [], refl}
 use Rattle.fpga_graph.specs.GraphOf.{GraphOf}
 use Rattle.fpga_types.specs.declared.grid.Side.TheVariants.{Left, Right, Bottom, Top}
 use Rattle.fpga_types.specs.declared.problem.Slot.{Slot}

@@ -1,4 +1,4 @@
-use Rattle.std.proofs.Common.{◌<◌, ◌∙◌, ℕ, arith, length, refl}
+use Rattle.std.proofs.Common.{◌<◌, ◌∙◌, arith, length, refl}
 use Rattle.fpga_bounds.proofs.PairLemmas.{slots-distinct}
 use Rattle.fpga_types.specs.Problem.{RoutingProblem}
 use Rattle.fpga_types.specs.Slots.{slots}

@@ -1,5 +1,5 @@
-use Rattle.std.proofs.Common.{◌≡◌, ◌<◌, ◌∙◌, ℕ, List, ap, arith, length, refl, subst, sym}
-use Rattle.std.specs.Prelude.{All, flat_map}
+use Rattle.std.proofs.Common.{◌≡◌, ◌<◌, ◌∙◌, ℕ, List, ap, arith, length, subst, sym}
+use Rattle.std.specs.Prelude.{flat_map}
 use Rattle.fpga_types.specs.Problem.{RoutingProblem}
 use Rattle.fpga_types.specs.Slots.{slots}
 use Rattle.sat_clause.specs.Literal.{Clause}

@@ -1,7 +1,7 @@
-use Rattle.std.proofs.Common.{◌≡◌, ◌<◌, ◌∙◌, ℕ, List, ap, arith, length, refl, subst, sym}
+use Rattle.std.proofs.Common.{ℕ, List}
 use Rattle.fpga_graph.specs.GraphOf.{GraphOf}
 use Rattle.sat_clause.specs.Literal.{Clause}
-use Rattle.route_encode.specs.Adding.{Adds, HasRoom}
+use Rattle.route_encode.specs.Adding.{Adds}
 use Rattle.route_encode.specs.Encoding.{place_of}
 use Rattle.route_encode.proofs.AddLemmas.{below-more, below-room}
 use Rattle.route_reach.specs.WireClauses.{comes_clauses, wires_beside}

@@ -1,12 +1,11 @@
 use Rattle.arrayvec.specs.ArrayVec.{ArrayVec}
-use Rattle.std.proofs.Common.{◌≡◌, ◌+◌, ◌*◌, ◌<◌, ◌≤◌, ◌∙◌, ℕ, List, [], ◌∷◌, Option, Some, None, ap, arith, get_or, length, length-append, refl, subst, sym, take}
-use Rattle.std.specs.Prelude.{All, filter_map, slice_get}
-use Rattle.std.specs.Option.{option_to_list}
+use Rattle.std.proofs.Common.{◌≡◌, ◌+◌, ◌*◌, ◌<◌, ◌∙◌, ℕ, List, [], ◌∷◌, Some, ap, arith, get_or, length, length-append, refl}
+use Rattle.std.specs.Prelude.{slice_get}
 use Rattle.std.proofs.lemmas.List.Elements.{All-push}
 use Rattle.list_laws.proofs.Places.{get-there}
 use Rattle.fpga_graph.specs.GraphOf.{GraphOf}
 use Rattle.fpga_types.specs.declared.problem.Slot.{Slot}
-use Rattle.route_reach.specs.WireClauses.{wire_beside, wires_beside}
+use Rattle.route_reach.specs.WireClauses.{wire_beside}
 use Rattle.route_reach.proofs.NearbyLemmas.{beside-across, beside-more, beside-none, beside-same, place-below}
 use Rattle.route_reach.proofs.nearby.wires_beside.Goals as goal
 use Rattle.route_reach.proofs.nearby.wires_beside.Goals.{in-Some, in_default}

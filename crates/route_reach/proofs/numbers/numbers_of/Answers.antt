@@ -1,5 +1,4 @@
-use Rattle.std.proofs.Common.{◌<◌, arith, length}
-use Rattle.fpga_types.specs.Slots.{slot_at}
+use Rattle.std.proofs.Common.{arith}
 use Rattle.route_reach.proofs.InsertLemmas.{numbers-more}
 use Rattle.route_reach.proofs.numbers.numbers_of.Goals as goal
 

@@ -2,10 +2,8 @@ use Rattle.std.proofs.Common.{◌≡◌, ◌+◌, ◌-◌, ◌≤◌, ℕ, List,
 use Rattle.std.specs.Prelude.{filter_map, flat_map}
 use Rattle.list_laws.proofs.Members.{In-all, In-filter_map}
 use Rattle.list_laws.proofs.Places.{get-In}
-use Rattle.fpga_graph.specs.GraphOf.{GraphOf}
 use Rattle.fpga_types.specs.Pins.{HasPin}
 use Rattle.fpga_types.specs.Slots.{adjacent}
-use Rattle.fpga_types.specs.declared.problem.Slot.{Slot}
 use Rattle.fpga_types.specs.declared.route.Elem.{Elem}
 use Rattle.fpga_bounds.proofs.LineLemmas.{NO_ELEM}
 use Rattle.sat_clause.specs.Literal.{Clause}
