@@ -1,3 +1,4 @@
+pub mod BlameLemmas
 pub mod CoreLemmas
 pub mod KeepLemmas
 pub mod ListedLemmas

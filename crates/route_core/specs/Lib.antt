@@ -1,4 +1,5 @@
 pub mod Blamed
+pub mod Blaming
 pub mod Core
 pub mod Keeping
 pub mod Needed

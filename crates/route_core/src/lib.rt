@@ -1,11 +1,13 @@
 //! What a refutation does not need, and the nets that stand against each other.
 #![tactic(auto)]
 
+mod blaming;
 mod laws;
 mod needed;
 mod sources;
 mod trimming;
 
+pub use blaming::{blame, blame_in};
 pub use laws::{
     blame_is_just, live_clauses_are_said, needed_hints_serve, needed_steps_are_trimmed,
     trimmed_is_its_own,
