@@ -37,7 +37,8 @@ module _ {A B : Type 0} (P : B → Type 0) where
   to-rows f xs h = all-from_In P (flat_map f xs) (λ y i.
       let r = from_In-flat_map f xs y i in In-all P (f r.0) y (h r.0 r.1) r.2)
 
-pub of-both : {B : Type 0} (P : B → Type 0) (xs ys : List B) → All P (xs ++ ys) → All P xs × All P ys
+pub of-both : {B : Type 0} (P : B → Type 0) (xs ys : List B) → All P (xs ++ ys)
+    → All P xs × All P ys
 of-both P xs ys h = (
   all-from_In P xs (λ x i. In-all P (xs ++ ys) x h (In-append_left xs ys x i)),
   all-from_In P ys (λ y i. In-all P (xs ++ ys) y h (In-append_right xs ys y i)),

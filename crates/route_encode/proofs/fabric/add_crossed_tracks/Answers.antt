@@ -25,6 +25,7 @@ loop-track-preserved c =
     λ t. lacks c.args.variables.width c.args.step.from t
     ∷ has c.args.variables.width c.args.step.to (crossed_track c.args.crossing t) ∷ [] in
     let added : Adds c.loop-track.formula (one c.loop-track.track ∷ []) c.add_clause.new.formula =
-    rw (c.lacks-first.ensures.value, c.has.ensures.value, c.track.ensures.across) at c.add_clause.ensures in
+    rw (c.lacks-first.ensures.value, c.has.ensures.value, c.track.ensures.across) at
+    c.add_clause.ensures in
     below-more (λ t. one t ∷ []) c.args.variables.width c.loop-track.track
     (omega arith) _ _ _ c.loop-track.invariant added
