@@ -69,7 +69,8 @@ pinned-satisfied width p given fits tracks legal pinned =
     let strict = (bits-say-legal width p fits tracks legal.each).1 legal in record {
       one_each = strict.one_each;
       each_clause = All-append (IsTrueClause (bits width tracks)) (cnf_of width p).clauses
-          (cond (is_full width p) (pin_clauses width p) []) strict.each_clause (go (is_full width p));
+          (cond (is_full width p) (pin_clauses width p) []) strict.each_clause
+          (go (is_full width p));
     }
   where
     one : (pin : ℕ × ℕ) → In (pins width p) pin

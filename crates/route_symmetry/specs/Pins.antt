@@ -17,7 +17,8 @@ slots_in grid all number =
 -- no cell has more slots than the one with this number
 abbrev pub has_most : Size → List Slot → ℕ → Bool
 has_most grid all number =
-    list_all (λ other. nat_le (length (slots_in grid all other)) (length (slots_in grid all number)))
+    list_all
+    (λ other. nat_le (length (slots_in grid all other)) (length (slots_in grid all number)))
     (below (cell_count grid))
 
 -- the slots of the pinned cell, which is the first by number of the cells that have the most
