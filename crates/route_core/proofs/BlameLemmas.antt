@@ -1,9 +1,9 @@
 -- The marks of the clauses that a refutation uses, and of the nets of which they speak.
-use Rattle.std.proofs.Common.{◌≡◌, ◌<◌, ◌≤◌, ◌+◌, ◌-◌, ℕ, zero, suc, ℤ, pos, Bool, true, false, cond, List, [], ◌∷◌, ◌++◌, length, get_or, take, drop, Some, refl, sym, ap, subst, ◌∙◌, inl, inr, arith, append-nil, All}
+use Rattle.std.proofs.Common.{◌≡◌, ◌<◌, ◌+◌, ◌-◌, ℕ, suc, ℤ, pos, Bool, true, false, cond, List, [], ◌∷◌, ◌++◌, length, get_or, take, Some, refl, sym, ap, subst, ◌∙◌, inl, inr, arith, append-nil, All}
 use Rattle.std.specs.Prelude.{◌||◌, ◌&&◌, filter, slice_get}
 use Rattle.std.specs.List.{list_any, range_with_len}
 use Rattle.std.specs.Ordering.{int_eq}
-use Rattle.std.proofs.lemmas.List.{get_or_default, take_all}
+use Rattle.std.proofs.lemmas.List.{get_or_default}
 use Rattle.std.proofs.lemmas.List.Elements.{filter-append}
 use Rattle.std.proofs.lemmas.List.Folds.{list_any-append}
 use Rattle.list_laws.proofs.Members.{In, from_In-range}
@@ -21,19 +21,6 @@ use Rattle.route_core.specs.Blaming.{blames_at}
 use Rattle.route_core.specs.Trimmed.{has_hint}
 use Rattle.route_core.proofs.CoreLemmas.{net-there}
 use Rattle.route_core.proofs.ListedLemmas.{take-next}
-
--- what a lent row is given back as
-pub given-back : {T : Type 0} (len : ℕ) (new old : List T) → length new ≡ length old
-    → length old ≡ len → take len (new ++ drop (length new) old) ≡ new
-given-back {T} len new old same count =
-    ap (λ (xs : List T). take len (new ++ xs)) (nothing (length new) old (omega (arith, same)))
-    ∙ ap (take len) (append-nil new) ∙ take_all len new (omega (arith, same, count))
-  where
-    nothing : (k : ℕ) (xs : List T) → length xs ≤ k → drop k xs ≡ []
-    nothing zero [] h = refl
-    nothing (suc k) [] h = refl
-    nothing zero (x ∷ xs) h = absurd (omega (arith, h))
-    nothing (suc k) (x ∷ xs) h = nothing k xs (omega (arith, h))
 
 -- ---- the inputs that are hints
 

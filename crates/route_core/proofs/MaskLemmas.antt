@@ -1,5 +1,5 @@
--- The values that a legal routing of some nets stands for: they say its tracks of the slots of these
--- nets, and none of any other slot. They satisfy each clause that speaks of these nets alone.
+-- The values that a legal routing of some nets stands for: they say its tracks of the slots of
+-- these nets, and none of any other slot. They satisfy each clause that speaks of these nets alone.
 use Rattle.std.proofs.Common.{◌≡◌, ℕ, suc, ◌+◌, ◌-◌, ◌*◌, ◌/◌, ◌%◌, ◌<◌, ◌≤◌, Bool, true, false, List, [], ◌∷◌, ◌++◌, length, get_or, Option, Some, refl, sym, ap, subst, ◌∙◌, inl, inr, arith, All}
 use Rattle.std.specs.Prelude.{◌==◌, ◌&&◌, Contains, filter, flat_map, map, not, option_map, option_to_list}
 use Rattle.std.specs.List.{list_any}
@@ -216,7 +216,8 @@ module _ (width : ℕ) (p : RoutingProblem) (some : 1 ≤ width) (fits : Fits p)
       let second : List Clause = flat_map (one_track width) (below count) in
       let third : List Clause = flat_map (open_track open_at width) (pin_steps p.route) in
       let fourth : List Clause = flat_map (joined_track across width all) (steps p.route) in
-      All-append Holds (first ++ second ++ third ++ fourth) (flat_map (apart_track width) (pairs all))
+      All-append Holds (first ++ second ++ third ++ fourth)
+      (flat_map (apart_track width) (pairs all))
       (All-append Holds (first ++ second ++ third) fourth
       (All-append Holds (first ++ second) third
       (All-append Holds first second some-each one-each) open-each) joined-each) apart-each

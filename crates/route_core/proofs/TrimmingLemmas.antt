@@ -249,8 +249,10 @@ trims-last m live id hints steps good =
           ap (λ (o : Option Cause). judge_step m o true
           (judge_from (suc m) (put other id []) []))
           (rup-kept live other [] kept (keeps-hints live other id [] kept [] keeps) served.good);
-      used = λ other keeps.
-          (used-kept live other [] kept (keeps-hints live other id [] kept [] keeps) served.used, tt);
+      used = λ other keeps. (
+        used-kept live other [] kept (keeps-hints live other id [] kept [] keeps) served.used,
+        tt,
+      );
     }
 
 -- a step that adds a clause which is not empty

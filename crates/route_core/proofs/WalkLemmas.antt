@@ -4,13 +4,12 @@ use Rattle.std.specs.Prelude.{not, ◌||◌, reverse}
 use Rattle.std.specs.Option.{option_map_or}
 use Rattle.std.specs.Ordering.{int_eq}
 use Rattle.std.proofs.Math.Seq.{drop-cons}
-use Rattle.std.proofs.lemmas.Bool.Decides.{Decides-int_eq}
 use Rattle.std.proofs.lemmas.List.{reverse-append}
 use Rattle.std.proofs.lemmas.List.Folds.{list_any-append}
 use Rattle.sat_clause.specs.declared.literal.Lit.{Lit}
 use Rattle.sat_clause.specs.declared.reading.Reading.{Reading}
 use Rattle.sat_clause.specs.declared.reading.Reading.TheVariants.{Conflict, Unit, Satisfied, Unresolved}
-use Rattle.sat_clause.specs.Literal.{Clause, is_among, lit, negation}
+use Rattle.sat_clause.specs.Literal.{Clause, is_among, negation}
 use Rattle.sat_clause.specs.Live.{Live, clause_at, named}
 use Rattle.sat_clause.specs.Rup.{after_conflict, follow, lead_on, open_literals, reading_by, reading_of, rup}
 use Rattle.sat_check.specs.Finder.{Finder, named_by}
@@ -172,48 +171,6 @@ units-more said set hints i low c l is first units =
 among-append : (xs ys : List Lit) (m : Lit)
     → is_among (xs ++ ys) m ≡ (is_among xs m || is_among ys m)
 among-append xs ys m = list_any-append (λ (x : Lit). int_eq x.code m.code) xs ys
-
-pub wanted-none : IsWanted [] []
-wanted-none m = refl
-
--- one literal more is put in
-pub wanted-put : (xs ys set : List Lit) (l : Lit) → IsWanted (xs ++ ys) set
-    → IsWanted ((xs ++ l ∷ []) ++ ys) (l ∷ set)
-wanted-put xs ys set l h m =
-    ap (λ (b : Bool). int_eq l.code m.code || b) (h m ∙ among-append xs ys m)
-    ∙ go (is_among xs m) (int_eq l.code m.code) (is_among ys m)
-    ∙ sym (among-append (xs ++ l ∷ []) ys m
-    ∙ ap (λ (b : Bool). b || is_among ys m) (among-append xs (l ∷ []) m))
-  where
-    go : (a b c : Bool) → (b || (a || c)) ≡ ((a || (b || false)) || c)
-    go true true c = refl
-    go true false c = refl
-    go false true c = refl
-    go false false c = refl
-
--- or is there
-pub wanted-there : (xs ys set : List Lit) (l : Lit) → IsWanted (xs ++ ys) set
-    → is_among set l ≡ true → IsWanted ((xs ++ l ∷ []) ++ ys) set
-wanted-there xs ys set l h is m =
-    go (int_eq l.code m.code) refl
-    ∙ sym (among-append (xs ++ l ∷ []) ys m
-    ∙ ap (λ (b : Bool). b || is_among ys m) (among-append xs (l ∷ []) m))
-  where
-    same : int_eq l.code m.code ≡ true → is_among set m ≡ true
-    same e = subst (λ (z : ℤ). is_among set (lit z) ≡ true) ((Decides-int_eq l.code m.code).0 e) is
-
-    middle : (a c : Bool) → ((a || (true || false)) || c) ≡ true
-    middle true c = refl
-    middle false c = refl
-
-    skip : (a c : Bool) → (a || c) ≡ ((a || (false || false)) || c)
-    skip true c = refl
-    skip false c = refl
-
-    go : (b : Bool) → int_eq l.code m.code ≡ b → is_among set m
-        ≡ ((is_among xs m || (b || false)) || is_among ys m)
-    go true e = same e ∙ sym (middle (is_among xs m) (is_among ys m))
-    go false e = h m ∙ among-append xs ys m ∙ skip (is_among xs m) (is_among ys m)
 
 pub wanted-then : (xs before set after : List Lit) → IsWanted before set
     → IsWanted (xs ++ set) after → IsWanted (xs ++ before) after

@@ -1,4 +1,5 @@
--- The needed hints of a step by two walks: along the hints to the false clause, and back from there.
+-- The needed hints of a step by two walks: along the hints to the false clause, and back from
+-- there.
 use Rattle.std.specs.Prelude.{◌≡◌, ℤ, List, [], ◌∷◌, find, not, Option, None, Some}
 use Rattle.std.specs.Option.{option_map_or}
 use Rattle.sat_clause.specs.declared.literal.Lit.{Lit}

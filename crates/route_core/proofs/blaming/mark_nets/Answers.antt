@@ -21,7 +21,8 @@ loop-at-preserved c = λ net low.
     let there : net < length c.loop-at.marks = omega (arith, low, c.loop-at.auto.marks) in
     c.mark_clause.ensures net there
     ∙ ap (λ (b : Bool). b
-    || speaks_of c.args.width c.args.slots.now net c.clause.result.now) (c.loop-at.invariant net low)
+    || speaks_of c.args.width c.args.slots.now net c.clause.result.now)
+    (c.loop-at.invariant net low)
     ∙ any-more (blames_at c.args.used.now clauses c.args.width c.args.slots.now net) c.loop-at.at
     (speaks_of c.args.width c.args.slots.now net c.clause.result.now)
     (ap (λ (b : Bool). b && speaks_of c.args.width c.args.slots.now net

@@ -25,5 +25,6 @@ loop-low-preserved c =
       within = omega (arith, inside);
       lower = c.loop-low.invariant.lower;
       higher = higher-more c.args.added.now c.requires c.args.id middle inside
-          (record { id = 0; place = 0 }) (omega (arith, c.if-there-id-2.false, c.if-there-id.false));
+          (record { id = 0; place = 0 })
+          (omega (arith, c.if-there-id-2.false, c.if-there-id.false));
     }
