@@ -1,12 +1,12 @@
 -- Worked rows: the jobs that words ask for, each by computation.
 use Rattle.std.proofs.Common.{◌≡◌, ℕ, Bool, true, false, List, [], ◌∷◌, codes, refl}
-use Rattle.std.specs.Prelude.{Result, Ok, Err}
+use Rattle.std.specs.Prelude.{Result, Ok, Err, None, Some}
 use Rattle.clap.proofs.OnLiterals.{clap_on_literals}
 use Rattle.router_words.specs.Command.{job_of}
 use Rattle.router_words.specs.Job.{Checks, FilesAsked, Generates, JobAsked, Routes, SearchAsked, Sweeps, Tries, Verifies}
 use Rattle.router_words.specs.Word.{Word}
 use Rattle.router_words.specs.declared.fault.Refusal.{Refusal}
-use Rattle.router_words.specs.declared.fault.Refusal.TheVariants.{Command, Form, Number}
+use Rattle.router_words.specs.declared.fault.Refusal.TheVariants.{Clash, Command, Form, Number}
 use Rattle.router_words.specs.declared.method.Method.TheVariants.{Strictly}
 
 abbrev Asked : Type 0
@@ -35,6 +35,15 @@ abbrev routes : ℕ → Word → ℕ → Bool → Asked
 routes width prefix conflicts keep = Ok (Routes (record {
   files = four_files;
   search = told width prefix conflicts keep;
+  members = None;
+}))
+
+-- the same at width 5 to `out` by so many searches, with the order of this seed
+abbrev turns : (count seed : ℕ) → Asked
+turns count seed = Ok (Routes (record {
+  files = four_files;
+  search = told 5 (codes "out") 1_000_000 false;
+  members = Some (record { count = count; seed = seed });
 }))
 
 -- `route a n p r` and more words
@@ -103,6 +112,34 @@ cut_name = refl
 pub help : route (codes "5" ∷ codes "out" ∷ codes "--help" ∷ []) ≡ Err Form
 unfolding clap_on_literals
 help = refl
+
+pub by_turns : route (codes "5" ∷ codes "out" ∷ codes "--members" ∷ codes "3" ∷ codes "--seed=7" ∷ [])
+    ≡ turns 3 7
+unfolding clap_on_literals
+by_turns = refl
+
+pub default_seed : route (codes "5" ∷ codes "out" ∷ codes "--members" ∷ codes "8" ∷ []) ≡ turns 8 1
+unfolding clap_on_literals
+default_seed = refl
+
+pub nine_members : route (codes "5" ∷ codes "out" ∷ codes "--members" ∷ codes "9" ∷ []) ≡ Err Number
+unfolding clap_on_literals
+nine_members = refl
+
+pub seed_alone : route (codes "5" ∷ codes "out" ∷ codes "--seed" ∷ codes "3" ∷ []) ≡ Err Clash
+unfolding clap_on_literals
+seed_alone = refl
+
+-- a number that is out of range is told before the seed that stands alone
+pub great_seed_alone : route (codes "5" ∷ codes "out" ∷ codes "--seed" ∷ codes "2147483648" ∷ [])
+    ≡ Err Number
+unfolding clap_on_literals
+great_seed_alone = refl
+
+pub seed_alone_too_wide : route (codes "65" ∷ codes "out" ∷ codes "--seed" ∷ codes "3" ∷ [])
+    ≡ Err Number
+unfolding clap_on_literals
+seed_alone_too_wide = refl
 
 -- `sweep a n p r` and more words
 abbrev sweep : List Word → Asked

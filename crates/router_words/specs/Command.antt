@@ -1,23 +1,23 @@
 -- The commands, and the job that the words of one ask for.
-use Rattle.std.specs.Prelude.{◌≡◌, ℕ, nat_le, ◌&&◌, Bool, false, List, [], ◌∷◌, codes, find, Result, Ok, Err, Option, ok_or, unwrap_or, IfSome, ⊤, if◌then◌else◌}
+use Rattle.std.specs.Prelude.{◌≡◌, ℕ, nat_le, ◌&&◌, Bool, false, List, [], ◌∷◌, codes, find, Result, Ok, Err, Option, None, Some, ok_or, unwrap_or, IfSome, ⊤, if◌then◌else◌}
 use Rattle.std.specs.Option.{option_map_or}
 use Rattle.std.specs.Str.{bytes_eq}
 use Rattle.clap.specs.Words.{App, Row, first_of, matches_of}
 use Rattle.fpga_text.specs.Numbers.{whole_number_of}
 use Rattle.fpga_types.specs.declared.limits.TheConstants.{SIDE_LIMIT, WIDTH_LIMIT}
 use Rattle.router_words.specs.Form.{check_form, encode_form, gen_form, route_form, sweep_form, trial_form, verify_form}
-use Rattle.router_words.specs.Job.{Checks, Encodes, FilesAsked, Generates, JobAsked, RecipeAsked, Routes, SearchAsked, Sweeps, Tries, Verifies, job_said}
+use Rattle.router_words.specs.Job.{Checks, Encodes, FilesAsked, Generates, JobAsked, MembersAsked, RecipeAsked, Routes, SearchAsked, Sweeps, Tries, Verifies, job_said}
 use Rattle.router_words.specs.Results.{and_then, map_ok}
 use Rattle.router_words.specs.Taken.{HasRequired, is_taken}
 use Rattle.router_words.specs.Word.{Word}
 use Rattle.router_words.specs.declared.command_name.CommandName.{CommandName}
 use Rattle.router_words.specs.declared.command_name.CommandName.TheVariants.{Check, Encode, Gen, Route, Sweep, Trial, Verify}
 use Rattle.router_words.specs.declared.fault.Refusal.{Refusal}
-use Rattle.router_words.specs.declared.fault.Refusal.TheVariants.{Command, Form, Number}
+use Rattle.router_words.specs.declared.fault.Refusal.TheVariants.{Clash, Command, Form, Number}
 use Rattle.router_words.specs.declared.fault.WordsFault.{WordsFault}
 use Rattle.router_words.specs.declared.fault.WordsFault.TheVariants.{Memory, Refused}
 use Rattle.router_words.specs.declared.job.Job.{Job}
-use Rattle.router_words.specs.declared.limits.TheConstants.{BUDGET_DEFAULT, BUDGET_LIMIT, GENERATED_NETS_LIMIT, SEED_LIMIT}
+use Rattle.router_words.specs.declared.limits.TheConstants.{BUDGET_DEFAULT, BUDGET_LIMIT, GENERATED_NETS_LIMIT, MEMBER_LIMIT, SEED_DEFAULT, SEED_LIMIT}
 use Rattle.router_words.specs.declared.method.Method.TheVariants.{Strictly}
 
 -- ---- what stands in the matches of a form
@@ -90,6 +90,27 @@ recipe_asked rows =
     and_then (side_asked rows) (λ side.
     map_ok (λ nets. record { seed = seed; side = side; nets = nets }) (nets_asked rows)))
 
+-- the number that the word for a name says, where there is such a word and it is from the least to
+-- the greatest
+abbrev pub number_if_any : (least greatest : ℕ) → Word → List Row → Result (Option ℕ) Refusal
+number_if_any least greatest name rows =
+    option_map_or (λ word. map_ok Some (number_within least greatest word)) (first_of name rows)
+    (Ok None)
+
+-- as many searches take turns as `--members` says, by the seed or the default one; without it there
+-- is to be no seed
+abbrev pub members_with : (count seed : Option ℕ) → Result (Option MembersAsked) Refusal
+members_with (Some count) seed =
+    Ok (Some (record { count = count; seed = unwrap_or seed SEED_DEFAULT }))
+members_with None (Some seed) = Err Clash
+members_with None None = Ok None
+
+-- [--members K] [--seed S]
+abbrev pub members_asked : List Row → Result (Option MembersAsked) Refusal
+members_asked rows =
+    and_then (number_if_any 1 MEMBER_LIMIT (codes "members") rows) (λ count.
+    and_then (number_if_any 0 SEED_LIMIT (codes "seed") rows) (λ seed. members_with count seed))
+
 -- ---- the commands
 
 -- a command: its name, its form, and the job that the matches of the form say, or why they say none
@@ -101,8 +122,12 @@ pub record CommandRow : Type 0 where
 -- what `route` is asked for
 abbrev pub route_asked : List Row → Result JobAsked Refusal
 route_asked rows =
-    map_ok (λ search. Routes (record { files = files_asked rows; search = search }))
-    (search_asked rows)
+    and_then (search_asked rows) (λ search.
+    map_ok (λ members. Routes (record {
+      files = files_asked rows;
+      search = search;
+      members = members;
+    })) (members_asked rows))
 
 -- what `sweep` is asked for
 abbrev pub sweep_asked : List Row → Result JobAsked Refusal

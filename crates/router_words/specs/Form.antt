@@ -64,10 +64,12 @@ with_recipe form =
 abbrev pub search_form : Word → App
 search_form name = with_search (with_files (empty_form name))
 
+-- the same, with [--members K] [--seed S]
 abbrev pub route_form : App
-route_form = search_form (codes "route")
+route_form =
+    with_option (codes "seed") (with_option (codes "members") (search_form (codes "route")))
 
--- the same, with MAX in the place of WIDTH
+-- as the form of a search, with MAX in the place of WIDTH
 abbrev pub sweep_form : App
 sweep_form = search_form (codes "sweep")
 

@@ -1,5 +1,5 @@
 -- What the words of a command ask for.
-use Rattle.std.specs.Prelude.{ℕ, Bool}
+use Rattle.std.specs.Prelude.{ℕ, Bool, Option, option_map}
 use Rattle.router_words.specs.Word.{Word}
 use Rattle.router_words.specs.declared.job.CheckJob.{CheckJob}
 use Rattle.router_words.specs.declared.job.EncodeJob.{EncodeJob}
@@ -7,6 +7,7 @@ use Rattle.router_words.specs.declared.job.FourNames.{FourNames}
 use Rattle.router_words.specs.declared.job.GenJob.{GenJob}
 use Rattle.router_words.specs.declared.job.Job.{Job}
 use Rattle.router_words.specs.declared.job.Job.TheVariants.{Check, Encode, Gen, Route, Sweep, Trial, Verify}
+use Rattle.router_words.specs.declared.job.Members.{Members}
 use Rattle.router_words.specs.declared.job.Recipe.{Recipe}
 use Rattle.router_words.specs.declared.job.RouteJob.{RouteJob}
 use Rattle.router_words.specs.declared.job.SearchJob.{SearchJob}
@@ -32,10 +33,17 @@ pub record SearchAsked : Type 0 where
   pub keep : Bool
   pub method : Method
 
--- to look for a routing: the files, and what the search is told
+-- searches that take turns: how many, and the number by which their order is drawn
+pub record MembersAsked : Type 0 where
+  pub count : ℕ
+  pub seed : ℕ
+
+-- to look for a routing: the files, what the search is told, and the searches that take turns, where
+-- there is not one alone
 pub record RouteAsked : Type 0 where
   pub files : FilesAsked
   pub search : SearchAsked
+  pub members : Option MembersAsked
 
 -- to look for the least width that has a routing: the same
 pub record SweepAsked : Type 0 where
@@ -108,8 +116,15 @@ search_said search = record {
   method = search.method;
 }
 
+abbrev pub members_said : Members → MembersAsked
+members_said members = record { count = members.count; seed = members.seed }
+
 abbrev pub route_said : RouteJob → RouteAsked
-route_said job = record { files = files_said job.files; search = search_said job.search }
+route_said job = record {
+  files = files_said job.files;
+  search = search_said job.search;
+  members = option_map members_said job.members;
+}
 
 abbrev pub sweep_said : SweepJob → SweepAsked
 sweep_said job = record { files = files_said job.files; search = search_said job.search }

@@ -8,7 +8,8 @@ ghost use Rattle.router_words.specs.Taken.{HasRequired};
 
 use crate::fault::Refusal;
 use crate::form::{
-    check_command, encode_command, gen_command, search_command, trial_command, verify_command,
+    check_command, encode_command, gen_command, route_command, search_command, trial_command,
+    verify_command,
 };
 use crate::from_matches::{
     check_job, encode_job, gen_job, route_job, sweep_job, trial_job, verify_job,
@@ -63,7 +64,7 @@ impl CommandName {
         ensures { IfOk result (λ c. app_of c ≡ (row_of self).form) }
     {
         match self {
-            CommandName::Route => search_command(alloc, "route"),
+            CommandName::Route => route_command(alloc),
             CommandName::Sweep => search_command(alloc, "sweep"),
             CommandName::Encode => encode_command(alloc),
             CommandName::Check => check_command(alloc),

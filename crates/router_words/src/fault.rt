@@ -16,6 +16,9 @@ pub enum Refusal {
     /// A word that is to be a number is no whole number in its range.
     #[error("a word is no whole number in its range")]
     Number,
+    /// An option is given without one that it needs.
+    #[error("an option is given without one that it needs")]
+    Clash,
 }
 
 impl Refusal {
@@ -27,6 +30,7 @@ impl Refusal {
             Refusal::Command => 1,
             Refusal::Form => 2,
             Refusal::Number => 3,
+            Refusal::Clash => 4,
         }
     }
 }

@@ -1,7 +1,7 @@
 //! The forms of the commands, as `clap` has them.
 ghost use Rattle.std.specs.Prelude.{◌≡◌, IfOk, codes};
 ghost use Rattle.clap.specs.Words.{app_of, rule_of};
-ghost use Rattle.router_words.specs.Form.{check_form, empty_form, encode_form, gen_form, search_form, trial_form, verify_form, with_files, with_flag, with_option, with_recipe, with_search, with_width_and_prefix, with_word};
+ghost use Rattle.router_words.specs.Form.{check_form, empty_form, encode_form, gen_form, route_form, search_form, trial_form, verify_form, with_files, with_flag, with_option, with_recipe, with_search, with_width_and_prefix, with_word};
 
 use clap::{Arg, ArgAction, Command};
 use std::alloc::{AllocError, Global};
@@ -90,6 +90,15 @@ pub fn search_command<'a>(alloc: Global, name: &'a str) -> Result<Command<'a>, A
 {
     let command = add_files(alloc, named(alloc, name))?;
     add_search(alloc, command)
+}
+
+/// ARCH NET PLACE ROUTE WIDTH PREFIX [--conflicts N] [--keep] [--members K] [--seed S]
+pub fn route_command<'a>(alloc: Global) -> Result<Command<'a>, AllocError>
+    ensures { IfOk result (λ c. app_of c ≡ route_form) }
+{
+    let command = search_command(alloc, "route")?;
+    let command = add_option(alloc, command, "members")?;
+    add_option(alloc, command, "seed")
 }
 
 /// ARCH NET PLACE ROUTE WIDTH PREFIX

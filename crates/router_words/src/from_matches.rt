@@ -1,20 +1,22 @@
 //! The job that the matches of a command's form say.
-ghost use Rattle.std.specs.Prelude.{◌≡◌, ◌≤◌, IfOk, codes, is_some, true};
+ghost use Rattle.std.specs.Prelude.{◌≡◌, ◌≤◌, IfOk, IfSome, codes, is_some, option_map, true};
 ghost use Rattle.clap.specs.Words.{first_of, found_of, rows_of};
 ghost use Rattle.fpga_types.specs.declared.limits.TheConstants.{WIDTH_LIMIT};
-ghost use Rattle.router_words.specs.Command.{check_asked, conflicts_asked, encode_asked, files_asked, gen_asked, number_within, recipe_asked, route_asked, search_asked, sweep_asked, trial_asked, verify_asked, width_asked, word_in};
+ghost use Rattle.router_words.specs.Command.{check_asked, conflicts_asked, encode_asked, files_asked, gen_asked, members_asked, members_with, number_if_any, number_within, recipe_asked, route_asked, search_asked, sweep_asked, trial_asked, verify_asked, width_asked, word_in};
 ghost use Rattle.router_words.specs.Form.{check_form, encode_form, gen_form, route_form, sweep_form, trial_form, verify_form};
-ghost use Rattle.router_words.specs.Job.{files_said, job_said, recipe_said, search_said};
+ghost use Rattle.router_words.specs.Job.{files_said, job_said, members_said, recipe_said, search_said};
 ghost use Rattle.router_words.specs.Results.{map_ok};
 ghost use Rattle.router_words.specs.Taken.{HasFiles, HasRecipe, HasRequired};
-ghost use Rattle.router_words.specs.declared.limits.TheConstants.{BUDGET_LIMIT};
+ghost use Rattle.router_words.specs.declared.limits.TheConstants.{BUDGET_LIMIT, MEMBER_LIMIT, SEED_LIMIT};
 
 use crate::fault::Refusal;
 use crate::job::{
-    CheckJob, EncodeJob, FourNames, GenJob, Job, Recipe, RouteJob, SearchJob, SweepJob, TrialJob,
-    VerifyJob,
+    CheckJob, EncodeJob, FourNames, GenJob, Job, Members, Recipe, RouteJob, SearchJob, SweepJob,
+    TrialJob, VerifyJob,
 };
-use crate::limits::{BUDGET_DEFAULT, BUDGET_LIMIT, GENERATED_NETS_LIMIT, SEED_LIMIT};
+use crate::limits::{
+    BUDGET_DEFAULT, BUDGET_LIMIT, GENERATED_NETS_LIMIT, MEMBER_LIMIT, SEED_DEFAULT, SEED_LIMIT,
+};
 use crate::matched::{first_word, is_given, number_within, required_word};
 use crate::method::Method;
 use clap::ArgMatches;
@@ -94,15 +96,55 @@ fn search<'a>(matches: &ArgMatches<'a>) -> Result<SearchJob<'a>, Refusal>
     })
 }
 
+// The number that the word for a name says, where there is one; or that it is none in this range.
+fn number_if_any(
+    matches: &ArgMatches,
+    name: &str,
+    least: u32,
+    greatest: u32,
+) -> Result<Option<u32>, Refusal>
+    ensures number { result
+        ≡ number_if_any least greatest name.now (rows_of (found_of matches.now)) }
+    ensures within { IfOk result (λ found. IfSome found
+        (λ number. (least ≤ number) × (number ≤ greatest))) }
+{
+    let Some(word) = first_word(matches, name) else {
+        return Ok(None);
+    };
+    let number = number_within(word, u64::from(least), u64::from(greatest))?;
+    Ok(Some(number as u32))
+}
+
+// The searches that take turns, where there is not one alone; or that a number is none in its
+// range, or that there is a seed and no number of searches.
+fn members(matches: &ArgMatches) -> Result<Option<Members>, Refusal>
+    ensures { map_ok (option_map members_said) result
+        ≡ members_asked (rows_of (found_of matches.now)) }
+{
+    let count = number_if_any(matches, "members", 1, MEMBER_LIMIT)?;
+    let seed = number_if_any(matches, "seed", 0, SEED_LIMIT)?;
+    match (count, seed) {
+        (Some(count), Some(seed)) => Ok(Some(Members { count, seed })),
+        (Some(count), None) => Ok(Some(Members {
+            count,
+            seed: SEED_DEFAULT,
+        })),
+        (None, Some(_)) => Err(Refusal::Clash),
+        (None, None) => Ok(None),
+    }
+}
+
 /// What `route` is asked for, or why its words ask for nothing.
 pub fn route_job<'a>(matches: &ArgMatches<'a>) -> Result<Job<'a>, Refusal>
     requires { HasRequired route_form (rows_of (found_of matches.now)) }
     ensures { map_ok job_said result ≡ route_asked (rows_of (found_of matches.now)) }
 {
     let search = search(matches)?;
+    let members = members(matches)?;
     Ok(Job::Route(RouteJob {
         files: file_names(matches),
         search,
+        members,
     }))
 }
 

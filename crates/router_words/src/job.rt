@@ -1,7 +1,7 @@
 //! What the words of a command ask for.
 ghost use Rattle.std.specs.Prelude.{◌≤◌};
 ghost use Rattle.fpga_types.specs.declared.limits.TheConstants.{SIDE_LIMIT, WIDTH_LIMIT};
-ghost use Rattle.router_words.specs.declared.limits.TheConstants.{BUDGET_LIMIT, GENERATED_NETS_LIMIT, SEED_LIMIT};
+ghost use Rattle.router_words.specs.declared.limits.TheConstants.{BUDGET_LIMIT, GENERATED_NETS_LIMIT, MEMBER_LIMIT, SEED_LIMIT};
 
 use crate::method::Method;
 
@@ -35,6 +35,17 @@ pub struct SearchJob<'a> {
     ghost affordable: { (1 ≤ conflicts) × (conflicts ≤ BUDGET_LIMIT) },
 }
 
+/// Searches that take turns over one log, in an order that is drawn.
+#[derive(Clone, Copy, Debug)]
+pub struct Members {
+    /// How many searches there are, from 1 to 8.
+    pub count: u32,
+    /// What the order is drawn by, and the seed of the first search, at most 2,147,483,647.
+    pub seed: u32,
+    ghost some: { (1 ≤ count) × (count ≤ MEMBER_LIMIT) },
+    ghost drawable: { seed ≤ SEED_LIMIT },
+}
+
 /// To look for a routing.
 #[derive(Clone, Copy, Debug)]
 pub struct RouteJob<'a> {
@@ -42,6 +53,8 @@ pub struct RouteJob<'a> {
     pub files: FourNames<'a>,
     /// The width, and what else the search is told.
     pub search: SearchJob<'a>,
+    /// The searches that take turns, where there is not one alone.
+    pub members: Option<Members>,
 }
 
 /// To look for the least width that has a routing.

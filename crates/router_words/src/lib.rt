@@ -2,7 +2,7 @@
 //!
 //! | command | words behind it | options |
 //! |---|---|---|
-//! | `route` | ARCH NET PLACE ROUTE WIDTH PREFIX | `--conflicts N`, `--keep` |
+//! | `route` | ARCH NET PLACE ROUTE WIDTH PREFIX | `--conflicts N`, `--keep`, `--members K`, `--seed S` |
 //! | `sweep` | ARCH NET PLACE ROUTE MAX PREFIX | `--conflicts N`, `--keep` |
 //! | `encode` | ARCH NET PLACE ROUTE WIDTH PREFIX | |
 //! | `check` | CNF LRAT | |
@@ -12,7 +12,8 @@
 //!
 //! WIDTH and MAX are whole numbers from 1 to 64, and N one from 1 to 100,000,000, or 1,000,000
 //! where it is not given. SEED is one from 0 to 2,147,483,647, NX one from 1 to 100, and NETS one
-//! from 1 to 10,000. Leading zeros are taken, signs are not.
+//! from 1 to 10,000. K is one from 1 to 8, and S one from 0 to 2,147,483,647, or 1 where `--members`
+//! is given alone. Leading zeros are taken, signs are not.
 //!
 //! What stands behind the command is taken as `clap` takes it: options may stand anywhere,
 //! `--conflicts=5` is `--conflicts 5`, behind `--` no word is an option, and a word may be empty or
@@ -24,6 +25,7 @@
 //! | 1 | there is no first word, or it names no command |
 //! | 2 | the form of the command does not take the words behind it |
 //! | 3 | a word that is to be a number is no whole number in its range |
+//! | 4 | `--seed` is given without `--members` |
 //!
 //! The least code that holds is answered.
 #![tactic(auto)]
@@ -42,9 +44,11 @@ mod tests;
 
 pub use fault::{Refusal, WordsFault};
 pub use job::{
-    CheckJob, EncodeJob, FourNames, GenJob, Job, Recipe, RouteJob, SearchJob, SweepJob, TrialJob,
-    VerifyJob,
+    CheckJob, EncodeJob, FourNames, GenJob, Job, Members, Recipe, RouteJob, SearchJob, SweepJob,
+    TrialJob, VerifyJob,
 };
-pub use limits::{BUDGET_DEFAULT, BUDGET_LIMIT, GENERATED_NETS_LIMIT, SEED_LIMIT};
+pub use limits::{
+    BUDGET_DEFAULT, BUDGET_LIMIT, GENERATED_NETS_LIMIT, MEMBER_LIMIT, SEED_DEFAULT, SEED_LIMIT,
+};
 pub use method::Method;
 pub use read::read_words;

@@ -8,8 +8,15 @@ pub const BUDGET_LIMIT: u64 = 100_000_000;
 /// How many clauses a search may learn where the words do not say it.
 pub const BUDGET_DEFAULT: u64 = 1_000_000;
 
-/// The greatest seed of a generated problem.
+/// The greatest seed of a generated problem, or of searches that take turns.
 pub const SEED_LIMIT: u32 = 2_147_483_647;
+
+/// The first seed of searches that take turns, where the words do not say it.
+pub const SEED_DEFAULT: u32 = 1;
+
+/// How many searches may take turns at the most.
+// The schedule of searches has such a limit of its own (`IsSchedule` of `sat_turns`).
+pub const MEMBER_LIMIT: u32 = 8;
 
 /// How many nets a generated problem may have at the most.
 pub const GENERATED_NETS_LIMIT: u32 = 10_000;
