@@ -11,6 +11,7 @@ use Rattle.route_sweep.specs.Found.{HasFew}
 use Rattle.route_verify.specs.Judged.{judged}
 use Rattle.sat_clause.specs.Formula.{Cnf}
 use Rattle.sat_clause.specs.Judge.{judge}
+use Rattle.sat_clause.specs.declared.limits.TheConstants.{CLAUSE_LIMIT}
 use Rattle.sat_text.specs.CnfText.{cnf_said}
 use Rattle.sat_text.specs.LratText.{lrat_said}
 use Rattle.router_words.specs.Command.{job_of}
@@ -21,9 +22,9 @@ use Rattle.router_words.specs.declared.fault.Refusal.{Refusal}
 use Rattle.router_top.specs.Check.{ChecksTo, cnf_source, judgement_outcome, lrat_source}
 use Rattle.router_top.specs.Generated.{IsTooLarge, Makes}
 use Rattle.router_top.specs.Method.{HasNone, clauses_by}
-use Rattle.router_top.specs.Search.{Search, route_search, sweep_of, sweep_search}
+use Rattle.router_top.specs.Search.{Search, clauses_held, route_search, sweep_of, sweep_search}
 use Rattle.router_top.specs.Sources.{IsHalted, ReadsThen}
-use Rattle.router_top.specs.Truth.{Agrees, IsOpenBelow, IsReached, IsTrueAt, IsTrueOf, IsTrueOfClauses, IsTrueOfJob, IsTrueOfRecipe, IsTrueOfSearch, IsTrueOfWork}
+use Rattle.router_top.specs.Truth.{Agrees, IsOpenBelow, IsReached, IsTrueAt, IsTrueOf, IsTrueOfClauses, IsTrueOfJob, IsTrueOfRecipe, IsTrueOfSearch, IsTrueOfTurns, IsTrueOfWork}
 use Rattle.router_top.specs.Verify.{JudgesTo, VerifiesTo, judged_outcome, routed_source}
 use Rattle.router_top.specs.declared.outcome.Outcome.{Outcome}
 use Rattle.router_top.specs.declared.outcome.Outcome.TheVariants.{Done, Undecided, Usage}
@@ -69,16 +70,27 @@ order (suc k) (suc n) = next (order k n)
     next (inr (inl same)) = inr (inl (ap suc same))
     next (inr (inr more)) = inr (inr (omega (arith, more)))
 
+-- a number is not past the limit and within it
+past-limit : (n : ℕ) → CLAUSE_LIMIT < n → n ≤ CLAUSE_LIMIT → ⊥
+past-limit n more few = omega (arith, more, few)
+
 module _ (search : Search) (p : RoutingProblem) where
   -- what is true of the clauses at a width
   abbrev IsTrueThere : (width : ℕ) → Outcome → Type 0
   IsTrueThere width outcome = IsTrueOfClauses (clauses_by search.method width p)
-      (IsTrueAt search p width outcome) outcome
+      (IsTrueOfTurns (clauses_held search width p) (IsTrueAt search p width outcome) outcome)
+      outcome
+
+  -- where the clauses are few enough, so are those that all searches hold together
+  abbrev HasRoomAt : (width : ℕ) → Type 0
+  HasRoomAt width =
+      HasFew (clauses_by search.method width p) → clauses_held search width p ≤ CLAUSE_LIMIT
 
   -- the search was left open, and came to another outcome at the same width or at a higher one
   open-below : (width higher : ℕ) (a b : Outcome) → width ≤ higher
-      → a ≡ Undecided width search.ask.budget → IsTrueThere higher b → IsOpenBelow a b
-  open-below width higher a b low is_open there =
+      → a ≡ Undecided width search.ask.budget → HasRoomAt higher → IsTrueThere higher b
+      → IsOpenBelow a b
+  open-below width higher a b low is_open room there =
       subst (λ (o : Outcome). IsOpenBelow o b) (sym is_open) (go there)
     where
       left : Outcome → Type 0
@@ -86,23 +98,28 @@ module _ (search : Search) (p : RoutingProblem) where
 
       go : IsTrueThere higher b → IsOpenBelow (Undecided width search.ask.budget) b
       go (inl h) = subst left (sym h.1) refl
-      go (inr (few, inl h)) = subst left (sym h.1) low
-      go (inr (few, inr (inl h))) = subst left (sym h.2) low
-      go (inr (few, inr (inr h))) = subst left (sym h) (low, refl)
+      go (inr (few, inl h)) =
+          absurd (past-limit (clauses_held search higher p) h.0 (room few))
+      go (inr (few, inr (held, inl h))) = subst left (sym h.1) low
+      go (inr (few, inr (held, inr (inl h)))) = subst left (sym h.2) low
+      go (inr (few, inr (held, inr (inr h)))) = subst left (sym h) (low, refl)
 
   -- a search that went on behind a width with another outcome was left open there with this one
   was-open : (width higher : ℕ) (a : Outcome) → IsReached search p width
-      → IsReached search p higher → width < higher → IsTrueThere width a
+      → IsReached search p higher → width < higher → HasRoomAt width → IsTrueThere width a
       → a ≡ Undecided width search.ask.budget
-  was-open width higher a at on low there =
+  was-open width higher a at on low room there =
       let shown = on.lower width at.from low in go shown.0 shown.1 there
     where
       go : HasFew (clauses_by search.method width p) → HasNone search.method width p
           → IsTrueThere width a → a ≡ Undecided width search.ask.budget
       go few none (inl h) = absurd (omega (arith, few, h.0))
-      go few none (inr (so, inl h)) = absurd (none h.0.0 h.0.1)
-      go few none (inr (so, inr (inl h))) = absurd (omega (arith, h.1, low, on.to))
-      go few none (inr (so, inr (inr h))) = h
+      go few none (inr (so, inl h)) =
+          absurd (past-limit (clauses_held search width p) h.0 (room so))
+      go few none (inr (so, inr (held, inl h))) = absurd (none h.0.0 h.0.1)
+      go few none (inr (so, inr (held, inr (inl h)))) =
+          absurd (omega (arith, h.1, low, on.to))
+      go few none (inr (so, inr (held, inr (inr h)))) = h
 
   -- two outcomes at one width
   one-width : (width : ℕ) (a b : Outcome) → IsTrueThere width a → IsTrueThere width b → Agrees a b
@@ -110,25 +127,44 @@ module _ (search : Search) (p : RoutingProblem) where
   one-width width a b (inl h) (inr g) = absurd (omega (arith, h.0, g.0))
   one-width width a b (inr h) (inl g) = absurd (omega (arith, g.0, h.0))
   one-width width a b (inr (few, inl h)) (inr (so, inl g)) = inl (h.1 ∙ sym g.1)
-  one-width width a b (inr (few, inl h)) (inr (so, inr (inl g))) = absurd (g.0 h.0.0 h.0.1)
-  one-width width a b (inr (few, inr (inl h))) (inr (so, inl g)) = absurd (h.0 g.0.0 g.0.1)
-  one-width width a b (inr (few, inr (inl h))) (inr (so, inr (inl g))) = inl (h.2 ∙ sym g.2)
-  one-width width a b (inr (few, inr (inr h))) (inr g) =
-      inr (inl (open-below width width a b (omega arith) h (inr g)))
-  one-width width a b (inr h) (inr (so, inr (inr g))) =
-      inr (inr (open-below width width b a (omega arith) g (inr h)))
+  one-width width a b (inr (few, inl h)) (inr (so, inr g)) =
+      absurd (past-limit (clauses_held search width p) h.0 g.0)
+  one-width width a b (inr (few, inr h)) (inr (so, inl g)) =
+      absurd (past-limit (clauses_held search width p) g.0 h.0)
+  one-width width a b (inr (few, inr (held, inl h))) (inr (so, inr (less, inl g))) =
+      inl (h.1 ∙ sym g.1)
+  one-width width a b (inr (few, inr (held, inl h))) (inr (so, inr (less, inr (inl g)))) =
+      absurd (g.0 h.0.0 h.0.1)
+  one-width width a b (inr (few, inr (held, inr (inl h)))) (inr (so, inr (less, inl g))) =
+      absurd (h.0 g.0.0 g.0.1)
+  one-width width a b (inr (few, inr (held, inr (inl h)))) (inr (so, inr (less, inr (inl g)))) =
+      inl (h.2 ∙ sym g.2)
+  one-width width a b (inr (few, inr (held, inr (inr h)))) (inr (so, inr g)) =
+      inr (inl (open-below width width a b (omega arith) h (λ small. held) (inr (so, inr g))))
+  one-width width a b (inr (few, inr h)) (inr (so, inr (less, inr (inr g)))) =
+      inr (inr (open-below width width b a (omega arith) g (λ small. less) (inr (few, inr h))))
 
-  search-agrees : (a b : Outcome) → IsTrueOfSearch search p a → IsTrueOfSearch search p b
-      → Agrees a b
-  search-agrees a b (width, at, h) (other, on, g) = go (order width other)
+  -- a search at more than one width is one search alone
+  alone : (search.members ≡ 1) ⊎ (search.first ≡ search.last) → (width other n : ℕ)
+      → search.first ≤ width → width < other → other ≤ search.last
+      → n ≤ CLAUSE_LIMIT → search.members * n ≤ CLAUSE_LIMIT
+  alone (inl one) width other n from low to few =
+      subst (λ (k : ℕ). k * n ≤ CLAUSE_LIMIT) (sym one) (omega (arith, few))
+  alone (inr same) width other n from low to few = absurd (omega (arith, same, from, low, to))
+
+  search-agrees : (search.members ≡ 1) ⊎ (search.first ≡ search.last) → (a b : Outcome)
+      → IsTrueOfSearch search p a → IsTrueOfSearch search p b → Agrees a b
+  search-agrees turns a b (width, at, h) (other, on, g) = go (order width other)
     where
       go : (width < other) ⊎ (width ≡ other) ⊎ (other < width) → Agrees a b
       go (inl less) = inr (inl (open-below width other a b (omega (arith, less))
-          (was-open width other a at on less h) g))
+          (was-open width other a at on less (alone turns width other _ at.from less on.to) h)
+          (alone turns width other _ at.from less on.to) g))
       go (inr (inl same)) =
           one-width width a b h (subst (λ (n : ℕ). IsTrueThere n b) (sym same) g)
       go (inr (inr more)) = inr (inr (open-below other width b a (omega (arith, more))
-          (was-open other width b on at more g) h))
+          (was-open other width b on at more (alone turns other width _ on.from more at.to) g)
+          (alone turns other width _ on.from more at.to) h))
 
 check-agrees : (job : CheckAsked) (files : FileMap) (a b : Outcome)
     → ChecksTo (IsHalted (Some files)) (Some files) job a
@@ -194,7 +230,7 @@ module _ (job : TrialAsked) where
       absurd (not-both job.recipe.nets (job.recipe.side * job.recipe.side) g.0 h.1.made.room)
   trial-agrees files a b (inr (inr h)) (inr (inl g)) = absurd (not-large b a g h)
   trial-agrees files a b (inr (inr h)) (inr (inr g)) =
-      search-agrees (sweep_search (sweep_of job)) h.0 a b h.2
+      search-agrees (sweep_search (sweep_of job)) h.0 (inl refl) a b h.2
       (subst (λ (p : RoutingProblem). IsTrueOfSearch (sweep_search (sweep_of job)) p b)
       (one-made job.recipe g.0 h.0 g.1.made h.1.made) g.2)
 
@@ -202,10 +238,10 @@ job-agrees : (job : JobAsked) (files : FileMap) (a b : Outcome) → IsTrueOfJob 
     IsTrueOfJob job (Some files) b → Agrees a b
 job-agrees (Routes job) files a b h g =
     work-agrees files job.files (IsTrueOfSearch (route_search job)) a b h g
-    (λ p u v. search-agrees (route_search job) p a b u v)
+    (λ p u v. search-agrees (route_search job) p (inr refl) a b u v)
 job-agrees (Sweeps job) files a b h g =
     work-agrees files job.files (IsTrueOfSearch (sweep_search job)) a b h g
-    (λ p u v. search-agrees (sweep_search job) p a b u v)
+    (λ p u v. search-agrees (sweep_search job) p (inl refl) a b u v)
 job-agrees (Encodes job) files a b h g =
     work-agrees files job.files (λ p said. IsTrueOfClauses (clauses_by job.method job.width p)
     (said ≡ Done) said) a b h g

@@ -18,7 +18,7 @@ use Rattle.sat_text.specs.LratText.{lrat_said}
 use Rattle.route_verify.specs.Judged.{judged}
 use Rattle.route_sweep.specs.Asked.{Asked}
 use Rattle.route_sweep.specs.Climb.{EndsAt}
-use Rattle.route_sweep.specs.Found.{FailsOn, FindsBy, IsLeftOpenBy, IsRefutedBy}
+use Rattle.route_sweep.specs.Found.{FailsOn, FindsBy, HasFew, IsLeftOpenBy, IsRefutedBy}
 use Rattle.route_sweep.specs.declared.found.FileSlot.{FileSlot}
 use Rattle.route_sweep.specs.declared.found.FileSlot.TheVariants.{Route as RouteSlot, Clauses, Log}
 use Rattle.route_sweep.specs.declared.found.Found.{Found}
@@ -38,12 +38,12 @@ use Rattle.router_top.specs.Method.{HasNone, IsRoutingBy, clauses_by}
 use Rattle.router_top.specs.Outcomes.{climbed_outcome, found_outcome, written_outcome}
 use Rattle.router_top.specs.Report.{line_of}
 use Rattle.router_top.specs.Run.{Leaves, LeavesJob, LeavesMade, LeavesWork, Runs, Scene, TriesGenerated, scene}
-use Rattle.router_top.specs.Search.{Search, route_search, sweep_of, sweep_search}
+use Rattle.router_top.specs.Search.{Search, clauses_held, route_search, sweep_of, sweep_search}
 use Rattle.router_top.specs.Sources.{IsHalted, IsStopped, ReadsThen}
 use Rattle.router_top.specs.Trial.{Tries, trial_line}
 use Rattle.router_top.specs.Truth.{Agrees, IsComplete, IsReached, IsTrueOf, IsTrueOfClauses, IsTrueOfJob, IsTrueOfRecipe, IsTrueOfSearch, IsTrueOfWork}
 use Rattle.router_top.specs.Verify.{VerifiesTo, judged_outcome, routed_source}
-use Rattle.router_top.specs.Work.{Encodes, Finds, Searches, Sweeps, WritesClauses}
+use Rattle.router_top.specs.Work.{Encodes, Finds, LeavesRoute, Sweeps, WritesClauses}
 use Rattle.router_top.specs.declared.outcome.Outcome.{Outcome}
 use Rattle.router_top.specs.declared.outcome.Outcome.TheVariants.{Routed, Unroutable, Undecided, Done, Limit, Usage, WriteFault, OutOfMemory}
 use Rattle.router_top.specs.Written.{NamedText}
@@ -55,6 +55,7 @@ use Rattle.router_top.proofs.FourLaws.{calm-lack}
 use Rattle.router_top.proofs.GeneratedLaws.{faults-after, made-fits}
 use Rattle.router_top.proofs.SourceLaws.{calm-reads}
 use Rattle.router_top.proofs.MethodLaws.{none-legal, one-legal}
+use Rattle.router_top.proofs.TurnLaws.{one-held}
 
 -- ---- the shelf's count of faults
 
@@ -102,7 +103,8 @@ module _ (ask : Asked) (width : ℕ) (formula : Cnf) (good : RouteText → Type 
 -- a search that has come to a width, with logs that refute or leave open
 module _ (Refutes LeavesOpen : List Step → Type 0) (search : Search) (p : RoutingProblem)
     (width : ℕ) (shows_none : (log : List Step) → Refutes log → HasNone search.method width p)
-    (reached : IsReached search p width) (before now : ShelfState) where
+    (reached : IsReached search p width) (room : HasFew (clauses_by search.method width p)
+    → clauses_held search width p ≤ CLAUSE_LIMIT) (before now : ShelfState) where
   found-settles : (came : Result Found Stop)
       → FindsBy Refutes LeavesOpen search.ask width (clauses_by search.method width p)
       (IsRoutingBy search.method width p) before now came
@@ -110,8 +112,17 @@ module _ (Refutes LeavesOpen : List Step → Type 0) (search : Search) (p : Rout
       → Settles before now (IsTrueOfSearch search p) (found_outcome width came)
   found-settles (Ok IsRouted) h last =
       by-word before now (IsTrueOfSearch search p) (Routed width)
-      (omega (arith, ap (λ (s : ShelfState). s.faults) h.1.written))
-      (width, reached, inr (h.0, inl (one-legal search.method width p h.1.found h.1.routing, refl)))
+      (omega (arith, ap (λ (s : ShelfState). s.faults) h.1.written)) (
+        width,
+        reached,
+        inr (
+          h.0,
+          inr (
+            room h.0,
+            inl (one-legal search.method width p h.1.found h.1.routing, refl),
+          ),
+        ),
+      )
   found-settles (Ok Refuted) h last =
       by-word before now (IsTrueOfSearch search p) (Unroutable width)
       (omega (arith, ap (λ (s : ShelfState). s.faults) h.1.written)) (
@@ -119,17 +130,20 @@ module _ (Refutes LeavesOpen : List Step → Type 0) (search : Search) (p : Rout
         reached,
         inr (
           h.0,
-          inr (inl (
-            shows_none h.1.log h.1.ends,
-            last refl,
-            refl,
-          )),
+          inr (
+            room h.0,
+            inr (inl (
+              shows_none h.1.log h.1.ends,
+              last refl,
+              refl,
+            )),
+          ),
         ),
       )
   found-settles (Ok (Spent learned)) h last =
       by-word before now (IsTrueOfSearch search p) (Undecided width learned)
       (omega (arith, ap (λ (s : ShelfState). s.faults) h.2.written))
-      (width, reached, inr (h.0, inr (inr (ap (Undecided width) h.1))))
+      (width, reached, inr (h.0, inr (room h.0, inr (inr (ap (Undecided width) h.1)))))
   found-settles (Err (Fault slot)) h last =
       by-fault before now (IsTrueOfSearch search p) (found_outcome width (Err (Fault slot)))
       (fails-risen search.ask width (clauses_by search.method width p)
@@ -142,14 +156,16 @@ module _ (Refutes LeavesOpen : List Step → Type 0) (search : Search) (p : Rout
 
 -- one search that has come to a width
 search-found : (search : Search) (p : RoutingProblem) → Fits p → (width : ℕ)
-    → IsReached search p width → (before now : ShelfState) (came : Result Found Stop)
-    → Finds search p width before now came → (came ≡ Ok Refuted → width ≡ search.last)
+    → IsReached search p width → (HasFew (clauses_by search.method width p)
+    → clauses_held search width p ≤ CLAUSE_LIMIT) → (before now : ShelfState)
+    (came : Result Found Stop) → Finds search p width before now came → (came ≡ Ok Refuted → width ≡ search.last)
     → Settles before now (IsTrueOfSearch search p) (found_outcome width came)
-search-found search p fits width reached before now =
+search-found search p fits width reached room before now =
     let formula = clauses_by search.method width p in
     let good = IsRoutingBy search.method width p in
     found-settles (IsRefutedBy search.ask formula good) (IsLeftOpenBy search.ask formula) search p
-    width (λ log h. none-legal search.method width p log fits h.refutes.accepts) reached before now
+    width (λ log h. none-legal search.method width p log fits h.refutes.accepts) reached room
+    before now
 
 -- from an earlier shelf that had failed as often
 settles-before : (first before now : ShelfState) (says : Outcome → Type 0) (o : Outcome)
@@ -169,12 +185,15 @@ module _ (job : RouteAsked) (p : RoutingProblem) (fits : Fits p) (before now : S
     lower = λ k low high. absurd (omega (arith, low, high));
   }
 
-  search-settles : (o : Outcome) → Searches job p before now o
+  search-settles : (o : Outcome) → LeavesRoute job p before now o
       → Settles before now (IsTrueOfSearch (route_search job) p) o
-  search-settles o h =
+  search-settles o (inl h) =
+      by-word before now (IsTrueOfSearch (route_search job) p) o (faults-same before now h.same)
+      (job.search.width, reached-alone, inr (h.few, inl (h.many, h.is)))
+  search-settles o (inr h) =
       subst (Settles before now (IsTrueOfSearch (route_search job) p)) (sym h.is)
-      (search-found (route_search job) p fits job.search.width reached-alone before now h.came
-      h.finds (λ same. refl))
+      (search-found (route_search job) p fits job.search.width reached-alone h.room before
+      now h.came h.finds (λ same. refl))
 
 -- a climb through the widths
 module _ (job : SweepAsked) (p : RoutingProblem) (fits : Fits p) (before now : ShelfState) where
@@ -193,7 +212,8 @@ module _ (job : SweepAsked) (p : RoutingProblem) (fits : Fits p) (before now : S
       } in
       settles-before before end.between now (IsTrueOfSearch search p) (found_outcome width found)
       (climbed-calm search p fits end.below before end.between end.refuted)
-      (search-found search p fits width reached end.between now found end.then end.last)
+      (search-found search p fits width reached
+      (one-held (length (clauses_by job.search.method width p).clauses)) end.between now found end.then end.last)
 
   sweep-settles : (o : Outcome) → Sweeps job p before now o
       → Settles before now (IsTrueOfSearch (sweep_search job) p) o
@@ -326,7 +346,7 @@ module _ (at : Scene) (calm : ¬ HasRisen at.desk.faults at.desk_now.faults) whe
   job-settles : (job : JobAsked) (o : Outcome) → LeavesJob job at o →
       Settles at.shelf at.shelf_now (IsTrueOfJob job at.desk.files) o
   job-settles (Routes job) o h =
-      work-settles at calm job.files (Searches job) (IsTrueOfSearch (route_search job)) o
+      work-settles at calm job.files (LeavesRoute job) (IsTrueOfSearch (route_search job)) o
       (λ p fits. search-settles job p fits at.shelf at.shelf_now o) h
   job-settles (SweepsJob job) o h =
       work-settles at calm job.files (Sweeps job) (IsTrueOfSearch (sweep_search job)) o

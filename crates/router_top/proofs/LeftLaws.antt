@@ -48,7 +48,7 @@ use Rattle.router_top.specs.Search.{Search, lower_widths}
 use Rattle.router_top.specs.SearchFiles.{proof_files, route_file}
 use Rattle.router_top.specs.Sources.{HasBytes, IsStopped, ReadsThen}
 use Rattle.router_top.specs.Verify.{judged_outcome}
-use Rattle.router_top.specs.Work.{Encodes, Finds, Searches, Sweeps, WritesClauses, clauses_file}
+use Rattle.router_top.specs.Work.{Encodes, Finds, LeavesRoute, Sweeps, WritesClauses, clauses_file}
 use Rattle.router_top.specs.Written.{NamedText, with_file, with_files}
 use Rattle.router_top.specs.declared.outcome.Outcome.{Outcome}
 use Rattle.router_top.specs.declared.outcome.Outcome.TheVariants.{InputFault, Limit, ReadFault, Usage, WriteFault}
@@ -590,9 +590,13 @@ module _ (words : List Word) (at : Scene) where
   job-left : (job : JobAsked) (o : Outcome) → job_of words ≡ Ok job → LeavesJob job at o
       → LeftHere words at o
   job-left (Routes job) o asked h =
-      work-left words at job.files (Searches job) o
-      (λ p poses did. come-left words at o
-      (route-comes words at job p asked poses did.narrow o did)) h
+      work-left words at job.files (LeavesRoute job) o
+      (λ p poses did. elim did [
+        | inl crowded ↦ subst (LeftHere words at) (sym crowded.is)
+            (inl (files-same words at crowded.same))
+        | inr searched ↦ come-left words at o
+            (route-comes words at job p asked poses searched.narrow o searched)
+      ]) h
   job-left (SweepsJob job) o asked h =
       work-left words at job.files (Sweeps job) o
       (λ p poses did. come-left words at o

@@ -13,4 +13,5 @@ mod SlotCountLaws
 mod SourceLaws
 mod StopLaws
 mod TrackLaws
+mod TurnLaws
 mod WrittenLaws

@@ -44,7 +44,7 @@ use Rattle.router_top.specs.Run.{Leaves, LeavesJob, LeavesMade, LeavesWork, Runs
 use Rattle.router_top.specs.SearchFiles.{proof_files, route_file}
 use Rattle.router_top.specs.Sources.{IsStopped, ReadsThen, Says, Source, fault_outcome}
 use Rattle.router_top.specs.Verify.{VerifiesTo, judged_outcome, routed_source}
-use Rattle.router_top.specs.Work.{Encodes, Finds, Searches, Sweeps, WritesClauses}
+use Rattle.router_top.specs.Work.{Encodes, Finds, LeavesRoute, Sweeps, WritesClauses}
 use Rattle.router_top.specs.Written.{AreWritten, NamedText, with_files}
 use Rattle.router_top.specs.declared.outcome.Outcome.{Outcome}
 use Rattle.router_top.specs.declared.outcome.Outcome.TheVariants.{Usage, WriteFault}
@@ -293,9 +293,12 @@ module _ (words : List Word) (at : Scene) where
   job-means : (job : JobAsked) (o : Outcome) → job_of words ≡ Ok job → LeavesJob job at o
       → MeansHere words at o
   job-means (Routes job) o asked h =
-      work-means words at at.desk at.desk_now job.files (Searches job) o
-      (λ p poses did. come-means words at o
-      (route-comes words at job p asked poses did.narrow o did)) h
+      work-means words at at.desk at.desk_now job.files (LeavesRoute job) o
+      (λ p poses did. elim did [
+        | inl crowded ↦ subst (MeansHere words at) (sym crowded.is) tt
+        | inr searched ↦ come-means words at o
+            (route-comes words at job p asked poses searched.narrow o searched)
+      ]) h
   job-means (SweepsJob job) o asked h =
       work-means words at at.desk at.desk_now job.files (Sweeps job) o
       (λ p poses did. come-means words at o

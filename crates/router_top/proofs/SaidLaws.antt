@@ -41,7 +41,7 @@ use Rattle.router_top.specs.Saying.{IsLead, IsTrialLine, Speaks, more_said}
 use Rattle.router_top.specs.Sources.{IsStopped, ReadsThen}
 use Rattle.router_top.specs.Trial.{trial_line}
 use Rattle.router_top.specs.Verify.{judged_outcome}
-use Rattle.router_top.specs.Work.{Encodes, Searches, Sweeps, WritesClauses}
+use Rattle.router_top.specs.Work.{Encodes, LeavesRoute, Sweeps, WritesClauses}
 use Rattle.router_top.specs.Written.{NamedText}
 use Rattle.router_top.specs.declared.outcome.Outcome.{Outcome}
 use Rattle.router_top.specs.declared.outcome.Outcome.TheVariants.{Usage, WriteFault}
@@ -245,9 +245,12 @@ module _ (words : List Word) (at : Scene) where
   job-led : (job : JobAsked) (o : Outcome) → job_of words ≡ Ok job → LeavesJob job at o
       → HasLed words at o
   job-led (Routes job) o asked h = no-lead words at o (λ other is. cc)
-      (work-quiet words at job.files (Searches job) o
-      (λ p poses did. come-quiet words at o
-      (route-comes words at job p asked poses did.narrow o did)) h)
+      (work-quiet words at job.files (LeavesRoute job) o
+      (λ p poses did. elim did [
+        | inl crowded ↦ stays-quiet words at o (subst IsHeard (sym crowded.is) tt) crowded.same
+        | inr searched ↦ come-quiet words at o
+            (route-comes words at job p asked poses searched.narrow o searched)
+      ]) h)
   job-led (SweepsJob job) o asked h = no-lead words at o (λ other is. cc)
       (work-quiet words at job.files (Sweeps job) o
       (λ p poses did. come-quiet words at o

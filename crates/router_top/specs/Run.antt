@@ -15,7 +15,7 @@ use Rattle.router_top.specs.Report.{IsReadFault, line_of, unsaid}
 use Rattle.router_top.specs.Sources.{IsStopped}
 use Rattle.router_top.specs.Trial.{Tries}
 use Rattle.router_top.specs.Verify.{VerifiesTo}
-use Rattle.router_top.specs.Work.{Encodes, Searches, Sweeps}
+use Rattle.router_top.specs.Work.{Encodes, LeavesRoute, Sweeps}
 use Rattle.router_top.specs.declared.outcome.Outcome.{Outcome}
 use Rattle.router_top.specs.declared.outcome.Outcome.TheVariants.{Usage, OutOfMemory}
 
@@ -61,7 +61,7 @@ TriesGenerated job before now outcome =
 -- what each job leaves before its outcome is reported; to check a refutation and to judge a routed
 -- file writes nothing, and no file is read where a problem is generated
 abbrev pub LeavesJob : JobAsked → Scene → Outcome → Type 0
-LeavesJob (Routes job) at outcome = LeavesWork job.files (Searches job) at outcome
+LeavesJob (Routes job) at outcome = LeavesWork job.files (LeavesRoute job) at outcome
 LeavesJob (SweepsJob job) at outcome = LeavesWork job.files (Sweeps job) at outcome
 LeavesJob (EncodesJob job) at outcome = LeavesWork job.files (Encodes job) at outcome
 LeavesJob (Checks job) at outcome =

@@ -1,21 +1,25 @@
 -- The searches that jobs ask for: for a routing at one width, or at the least width that has one.
-use Rattle.std.specs.Prelude.{ℕ, ◌-◌, Bool, true, false, List, Option, None, Some}
+use Rattle.std.specs.Prelude.{ℕ, ◌*◌, ◌-◌, ◌||◌, Bool, true, false, List, length, Option, None, Some, is_some}
 use Rattle.std.specs.List.{range_with_len}
+use Rattle.std.specs.Option.{option_map_or}
 use Rattle.desk_io.specs.Files.{FileMap}
+use Rattle.fpga_types.specs.Problem.{RoutingProblem}
 use Rattle.route_sweep.specs.Asked.{Asked}
 use Rattle.router_words.specs.Job.{FilesAsked, JobAsked, RouteAsked, Routes, SearchAsked, SweepAsked, Sweeps, TrialAsked, Tries}
 use Rattle.router_words.specs.declared.method.Method.{Method}
 use Rattle.router_top.specs.Generated.{generated_desk, generated_names}
+use Rattle.router_top.specs.Method.{clauses_by}
 
 -- a search of the problem of these files at the widths from the first on, one after the other,
--- until one is not refuted or the last one was; how routings are said by clauses, and what is asked
--- of the search at each width
+-- until one is not refuted or the last one was; how routings are said by clauses, what is asked of
+-- the search at each width, and how many take turns there as one
 pub record Search : Type 0 where
   pub files : FilesAsked
   pub first : ℕ
   pub last : ℕ
   pub method : Method
   pub ask : Asked
+  pub members : ℕ
 
 -- what is asked of a search at each width; the names of clauses and logs have the width in them, or
 -- not
@@ -27,14 +31,23 @@ ask_of numbered search = record {
   numbered = numbered;
 }
 
--- `route` searches at its width alone
+-- what is asked of the search at the width of `route`, which keeps all clauses or not
+abbrev pub asks_to_keep : (keep : Bool) → SearchAsked → Asked
+asks_to_keep keep search = record (ask_of false search) { keep = keep }
+
+-- searches that take turns keep all clauses, and one alone does where the words say so
+abbrev pub route_ask : RouteAsked → Asked
+route_ask job = asks_to_keep (is_some job.members || job.search.keep) job.search
+
+-- `route` searches at its width alone, by one search or by as many as the words say
 abbrev pub route_search : RouteAsked → Search
 route_search job = record {
   files = job.files;
   first = job.search.width;
   last = job.search.width;
   method = job.search.method;
-  ask = ask_of false job.search;
+  ask = route_ask job;
+  members = option_map_or (λ members. members.count) job.members 1;
 }
 
 -- `sweep` searches from width 1 on
@@ -45,6 +58,7 @@ sweep_search job = record {
   last = job.search.width;
   method = job.search.method;
   ask = ask_of true job.search;
+  members = 1;
 }
 
 -- `trial` searches as `sweep` does, over the files that the generated problem would be written to
@@ -62,6 +76,10 @@ search_asked job = None
 abbrev pub files_of : JobAsked → (desk : Option FileMap) → Option FileMap
 files_of (Tries job) desk = (generated_desk job.recipe job.search.prefix).files
 files_of job desk = desk
+
+-- how many clauses the searches that take turns at this width hold together, each all of them
+abbrev pub clauses_held : Search → (width : ℕ) → RoutingProblem → ℕ
+clauses_held search width p = search.members * length (clauses_by search.method width p).clauses
 
 -- the widths of the search that are lower than this one
 abbrev pub lower_widths : Search → (width : ℕ) → List ℕ

@@ -16,7 +16,7 @@ use Rattle.router_top.specs.Check.{ChecksTo}
 use Rattle.router_top.specs.FourFiles.{GivesNone, Poses}
 use Rattle.router_top.specs.Generated.{HasRoom, IsTooLarge, IsTooMany, Makes}
 use Rattle.router_top.specs.Method.{HasNone, HasOne, clauses_by}
-use Rattle.router_top.specs.Search.{Search, route_search, sweep_of, sweep_search}
+use Rattle.router_top.specs.Search.{Search, clauses_held, route_search, sweep_of, sweep_search}
 use Rattle.router_top.specs.Sources.{IsHalted}
 use Rattle.router_top.specs.Verify.{VerifiesTo}
 use Rattle.router_top.specs.declared.outcome.Outcome.{Outcome}
@@ -28,6 +28,12 @@ abbrev pub IsTrueOfClauses : Cnf → (says : Type 0) → Outcome → Type 0
 IsTrueOfClauses formula says outcome =
     ((CLAUSE_LIMIT < length formula.clauses) × (outcome ≡ Limit 901 (length formula.clauses)))
     ⊎ (HasFew formula × says)
+
+-- the searches that take turns hold more clauses together than may be built, and the outcome has
+-- that number; or they do not, and this is true
+abbrev pub IsTrueOfTurns : (held : ℕ) → (says : Type 0) → Outcome → Type 0
+IsTrueOfTurns held says outcome =
+    ((CLAUSE_LIMIT < held) × (outcome ≡ Limit 904 held)) ⊎ ((held ≤ CLAUSE_LIMIT) × says)
 
 -- the search comes to this width: each lower one that it tries has few enough clauses, and no legal
 -- routing
@@ -49,7 +55,8 @@ IsTrueAt search p width outcome =
 abbrev pub IsTrueOfSearch : Search → RoutingProblem → Outcome → Type 0
 IsTrueOfSearch search p outcome =
     (width : ℕ) × IsReached search p width
-    × IsTrueOfClauses (clauses_by search.method width p) (IsTrueAt search p width outcome) outcome
+    × IsTrueOfClauses (clauses_by search.method width p)
+    (IsTrueOfTurns (clauses_held search width p) (IsTrueAt search p width outcome) outcome) outcome
 
 -- the four files give no problem, and the outcome says why; or they pose one, of which it is true
 abbrev pub IsTrueOfWork : FilesAsked → (RoutingProblem → Outcome → Type 0) → Option FileMap

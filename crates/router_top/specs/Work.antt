@@ -1,5 +1,5 @@
 -- What the work on a problem leaves on the shelf, by its outcome.
-use Rattle.std.specs.Prelude.{◌≡◌, ℕ, ◌++◌, ◌≤◌, codes, Result, Ok, Err}
+use Rattle.std.specs.Prelude.{◌≡◌, ◌⊎◌, ℕ, ◌++◌, ◌<◌, ◌≤◌, codes, Result, Ok, Err}
 use Rattle.desk_io.specs.Files.{Bytes}
 use Rattle.desk_io.specs.ShelfState.{ShelfState}
 use Rattle.desk_io.specs.WholeFile.{FailsToWrite, after_writing}
@@ -14,15 +14,17 @@ use Rattle.route_sweep.specs.declared.found.Found.{Found}
 use Rattle.route_sweep.specs.declared.found.Stop.{Stop}
 use Rattle.route_sweep.specs.declared.found.Stop.TheVariants.{Fault}
 use Rattle.sat_clause.specs.Formula.{Cnf}
+use Rattle.sat_clause.specs.declared.limits.TheConstants.{CLAUSE_LIMIT}
 use Rattle.sat_text.specs.CnfText.{ReadsCnf}
 use Rattle.sat_text.specs.Printed.{cnf_text}
 use Rattle.router_words.specs.Job.{EncodeAsked, RouteAsked, SweepAsked}
 use Rattle.router_words.specs.declared.method.Method.{Method}
 use Rattle.router_top.specs.Method.{IsRoutingBy, clauses_by}
 use Rattle.router_top.specs.Outcomes.{climbed_outcome, found_outcome, written_outcome}
-use Rattle.router_top.specs.Search.{Search, route_search, sweep_search}
+use Rattle.router_top.specs.Search.{Search, clauses_held, route_search, sweep_search}
 use Rattle.router_top.specs.Written.{NamedText}
 use Rattle.router_top.specs.declared.outcome.Outcome.{Outcome}
+use Rattle.router_top.specs.declared.outcome.Outcome.TheVariants.{Limit}
 
 -- what a search finds at a width of its problem, and what is written of it
 abbrev pub Finds : Search → RoutingProblem → (width : ℕ) → (before now : ShelfState)
@@ -31,14 +33,33 @@ Finds search p width before now came =
     FindsAt search.ask width (clauses_by search.method width p)
     (IsRoutingBy search.method width p) before now came
 
--- a search of the problem at the width of the job, which is at most 64
+-- the clauses at a width are few enough for one search, but not for all that would take turns; the
+-- outcome has how many these would hold, and nothing was written
+pub record IsCrowded
+    (search : Search) (p : RoutingProblem) (width : ℕ) (before now : ShelfState)
+    (outcome : Outcome) : Type 0 where
+  pub few : HasFew (clauses_by search.method width p)
+  pub many : CLAUSE_LIMIT < clauses_held search width p
+  pub same : now ≡ before
+  pub is : outcome ≡ Limit 904 (clauses_held search width p)
+
+-- a search of the problem at the width of the job, which is at most 64; all that take turns hold few
+-- enough clauses together
 pub record Searches
     (job : RouteAsked) (p : RoutingProblem) (before now : ShelfState) (outcome : Outcome)
     : Type 0 where
   pub narrow : job.search.width ≤ WIDTH_LIMIT
+  pub room : HasFew (clauses_by job.search.method job.search.width p)
+      → clauses_held (route_search job) job.search.width p ≤ CLAUSE_LIMIT
   pub came : Result Found Stop
   pub finds : Finds (route_search job) p job.search.width before now came
   pub is : outcome ≡ found_outcome job.search.width came
+
+-- what `route` leaves: it had no room for its searches, or it searched
+abbrev pub LeavesRoute : RouteAsked → RoutingProblem → (before now : ShelfState) → Outcome → Type 0
+LeavesRoute job p before now outcome =
+    IsCrowded (route_search job) p job.search.width before now outcome
+    ⊎ Searches job p before now outcome
 
 -- a climb through the widths of the problem up to the greatest, which is at most 64
 pub record Climbs

@@ -26,6 +26,7 @@ mod sweeping;
 mod tests;
 mod text_file;
 mod trying;
+mod turning;
 mod verifying;
 
 pub use outcome::{Outcome, report, status};

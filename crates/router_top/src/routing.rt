@@ -1,15 +1,20 @@
 //! The command `route`: a search for a legal routing.
-ghost use Rattle.std.specs.Prelude.{◌≡◌};
+ghost use Rattle.std.specs.Prelude.{◌≡◌, None, Some};
+ghost use Rattle.route_sweep.specs.Asked.{asked};
+ghost use Rattle.router_words.specs.Job.{route_said, search_said};
 ghost use Rattle.router_top.specs.Outcomes.{found_outcome};
+ghost use Rattle.router_top.specs.Search.{asks_to_keep};
+ghost use Rattle.router_top.specs.Work.{LeavesRoute};
 
 use crate::encoder::Chosen;
 use crate::outcome::Outcome;
 use crate::problem_work::ProblemWork;
 use crate::stopping::stopped;
+use crate::turning::{find_by_turns, without_room};
 use desk_io::Shelf;
 use fpga_bounds::PlacedProblem;
 use route_sweep::{Ask, Found, Stop, one_width};
-use router_words::RouteJob;
+use router_words::{Members, RouteJob, SearchJob};
 use std::alloc::Global;
 
 // What the run comes to by what was found at a width.
@@ -24,29 +29,73 @@ fn found(width: u32, came: Result<Found, Stop>) -> Outcome
     }
 }
 
+// What is asked of the search at a width, which keeps all clauses or not.
+fn ask_for<'a>(search: &SearchJob<'a>, keep: bool) -> Ask<'a>
+    ensures asked { asked result ≡ asks_to_keep keep (search_said search.now) }
+    ensures keep { result.keep ≡ keep }
+{
+    Ask {
+        budget: search.conflicts,
+        keep,
+        prefix: search.prefix,
+        numbered: false,
+    }
+}
+
+// Searches for a legal routing by one search, and writes it; or else the clauses and the log.
+fn search_alone<S: Shelf>(
+    alloc: Global,
+    job: &RouteJob<'_>,
+    problem: &PlacedProblem,
+    shelf: &mut S,
+) -> Outcome
+    requires { job.now.members ≡ None }
+    ensures { LeavesRoute (route_said job.now) problem.now (S.state shelf.old)
+        (S.state shelf.new) result }
+{
+    let search = job.search;
+    let ask = ask_for(&search, search.keep);
+    let encoder = Chosen(search.method);
+    let came = one_width(alloc, &encoder, problem, search.width, &ask, shelf);
+    found(search.width, came)
+}
+
+// The same by several searches that take turns and keep all clauses. Each holds all of them, and
+// nothing is done where they have no room together.
+fn search_by_turns<S: Shelf>(
+    alloc: Global,
+    job: &RouteJob<'_>,
+    members: Members,
+    problem: &PlacedProblem,
+    shelf: &mut S,
+) -> Outcome
+    requires { job.now.members ≡ Some members }
+    ensures { LeavesRoute (route_said job.now) problem.now (S.state shelf.old)
+        (S.state shelf.new) result }
+{
+    let search = job.search;
+    let encoder = Chosen(search.method);
+    match without_room(&encoder, problem, search.width, members) {
+        Some(count) => Outcome::Limit { code: 904, count },
+        None => {
+            let ask = ask_for(&search, true);
+            let came = find_by_turns(alloc, &encoder, problem, search.width, members, &ask, shelf);
+            found(search.width, came)
+        }
+    }
+}
+
 // Searches for a legal routing, and writes it; or else the clauses and the log of the search.
 impl<'a> ProblemWork for RouteJob<'a> {
     ghost use Rattle.router_words.specs.Job.{route_said};
-    ghost use Rattle.router_top.specs.Work.{Searches};
+    ghost use Rattle.router_top.specs.Work.{LeavesRoute};
 
-    ghost leaves = { λ job. Searches (route_said job) };
+    ghost leaves = { λ job. LeavesRoute (route_said job) };
 
     fn work<S: Shelf>(&self, alloc: Global, problem: &PlacedProblem, shelf: &mut S) -> Outcome {
-        let search = self.search;
-        let ask = Ask {
-            budget: search.conflicts,
-            keep: search.keep,
-            prefix: search.prefix,
-            numbered: false,
-        };
-        let came = one_width(
-            alloc,
-            &Chosen(search.method),
-            problem,
-            search.width,
-            &ask,
-            shelf,
-        );
-        found(search.width, came)
+        match self.members {
+            Some(members) => search_by_turns(alloc, self, members, problem, shelf),
+            None => search_alone(alloc, self, problem, shelf),
+        }
     }
 }
