@@ -30,7 +30,7 @@ abbrev pub is_judge_code : ℕ → Bool
 is_judge_code code = is_from 801 807 code
 
 abbrev pub is_size_code : ℕ → Bool
-is_size_code code = code == 901 || code == 903 || is_from 911 917 code
+is_size_code code = code == 901 || code == 903 || code == 904 || is_from 911 917 code
 
 -- whether a number is a code of a reader, of the fit, of the judge or of a size
 abbrev pub is_code : ℕ → Bool

@@ -196,6 +196,7 @@ fn size_cause(code: u32) -> Option<&'static str>
     match code {
         901 => Some("the problem has more clauses than are written"),
         903 => Some("there are more nets than blocks to drive them"),
+        904 => Some("the searches that take turns have more clauses together than are held"),
         911..=917 => Some("the file has more bytes than are read"),
         _ => None,
     }
