@@ -8,7 +8,8 @@ _gafkelam() {
     fi
     local options=--help
     case $command in
-    route | sweep | trial) options="--conflicts --keep --help" ;;
+    route) options="--conflicts --keep --members --seed --help" ;;
+    sweep | trial) options="--conflicts --keep --help" ;;
     esac
     if [ "${word:0:1}" = - ]; then
         mapfile -t COMPREPLY < <(compgen -W "$options" -- "$word")

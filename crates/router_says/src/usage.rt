@@ -16,6 +16,7 @@ pub(crate) fn append_usage(
         1 => "The first word is to be a command: route, sweep, encode, check, verify, gen or \
              trial.\n",
         3 => "A number is missing or out of its range.\n",
+        4 => "--seed is the seed of searches that take turns: give their number by --members.\n",
         _ => "The command does not take these words.\n",
     })?;
     write!(out, "Usage: gafkelam {takes}\nAs in: gafkelam {example}")
@@ -46,7 +47,8 @@ fn form_of(name: &str) -> (&'static str, &'static str) {
             "trial 1 20 300 12 out",
         ),
         _ => (
-            "route ARCH NET PLACE ROUTE WIDTH PREFIX [--conflicts N] [--keep], WIDTH from 1 to 64",
+            "route ARCH NET PLACE ROUTE WIDTH PREFIX [--conflicts N] [--keep] [--members K] \
+             [--seed S], WIDTH from 1 to 64, K to 8",
             "route design.arch design.net design.place design.route 9 out",
         ),
     }
