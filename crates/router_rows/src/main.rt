@@ -19,13 +19,14 @@ use desk_io::FileDesk;
 use rows_problem::{RowsError, text};
 
 // The files of cases. The first says how they are written.
-const FILES: [&str; 6] = [
+const FILES: [&str; 7] = [
     "worked.rows",
     "failing_calls.rows",
     "route_texts.rows",
     "limits.rows",
     "proof_texts.rows",
     "routed_texts.rows",
+    "members.rows",
 ];
 
 fn main(rt: HostRuntime) -> Result<(), RowsError> {
