@@ -3,11 +3,11 @@ use Rattle.std.proofs.Common.{◌≡◌, ℕ, Bool, true, false, List, [], ◌�
 use Rattle.std.specs.Prelude.{Result, Ok, Err, None, Some}
 use Rattle.clap.proofs.OnLiterals.{clap_on_literals}
 use Rattle.router_words.specs.Command.{job_of}
-use Rattle.router_words.specs.Job.{Checks, FilesAsked, Generates, JobAsked, Routes, SearchAsked, Sweeps, Tries, Verifies}
+use Rattle.router_words.specs.Job.{Checks, Encodes, FilesAsked, Generates, JobAsked, Routes, SearchAsked, Sweeps, Tries, Verifies}
 use Rattle.router_words.specs.Word.{Word}
 use Rattle.router_words.specs.declared.fault.Refusal.{Refusal}
 use Rattle.router_words.specs.declared.fault.Refusal.TheVariants.{Clash, Command, Form, Number}
-use Rattle.router_words.specs.declared.method.Method.TheVariants.{Strictly}
+use Rattle.router_words.specs.declared.method.Method.TheVariants.{Pinned, Strictly}
 
 abbrev Asked : Type 0
 Asked = Result JobAsked Refusal
@@ -141,6 +141,16 @@ pub seed_alone_too_wide : route (codes "65" ∷ codes "out" ∷ codes "--seed" �
 unfolding clap_on_literals
 seed_alone_too_wide = refl
 
+-- a route with pinned tracks
+pub pinned : route (codes "--pin" ∷ codes "5" ∷ codes "out" ∷ [])
+    ≡ Ok (Routes (record {
+      files = four_files;
+      search = record (told 5 (codes "out") 1_000_000 false) { method = Pinned };
+      members = None;
+    }))
+unfolding clap_on_literals
+pinned = refl
+
 -- `sweep a n p r` and more words
 abbrev sweep : List Word → Asked
 sweep more = job_of (codes "sweep" ∷ codes "a" ∷ codes "n" ∷ codes "p" ∷ codes "r" ∷ more)
@@ -165,6 +175,17 @@ pub encode_keeps : job_of (codes "encode" ∷ codes "a" ∷ codes "n" ∷ codes 
     ∷ codes "5" ∷ codes "out" ∷ codes "--keep" ∷ []) ≡ Err Form
 unfolding clap_on_literals
 encode_keeps = refl
+
+pub encode_pins : job_of (codes "encode" ∷ codes "a" ∷ codes "n" ∷ codes "p" ∷ codes "r"
+    ∷ codes "5" ∷ codes "out" ∷ codes "--pin" ∷ [])
+    ≡ Ok (Encodes (record {
+      files = four_files;
+      width = 5;
+      prefix = codes "out";
+      method = Pinned;
+    }))
+unfolding clap_on_literals
+encode_pins = refl
 
 pub checks : job_of (codes "check" ∷ codes "c" ∷ codes "-" ∷ [])
     ≡ Ok (Checks (record { cnf = codes "c"; lrat = codes "-" }))
@@ -215,6 +236,11 @@ no_side = refl
 pub gen_keeps : gen (codes "1" ∷ codes "2" ∷ codes "1" ∷ codes "g" ∷ codes "--keep" ∷ []) ≡ Err Form
 unfolding clap_on_literals
 gen_keeps = refl
+
+pub trial_pins : job_of (codes "trial" ∷ codes "1" ∷ codes "6" ∷ codes "30" ∷ codes "10"
+    ∷ codes "t" ∷ codes "--pin" ∷ []) ≡ Err Form
+unfolding clap_on_literals
+trial_pins = refl
 
 pub tries : job_of (codes "trial" ∷ codes "1" ∷ codes "6" ∷ codes "30" ∷ codes "10" ∷ codes "t"
     ∷ codes "--conflicts" ∷ codes "200" ∷ [])

@@ -18,7 +18,8 @@ use Rattle.router_words.specs.declared.fault.WordsFault.{WordsFault}
 use Rattle.router_words.specs.declared.fault.WordsFault.TheVariants.{Memory, Refused}
 use Rattle.router_words.specs.declared.job.Job.{Job}
 use Rattle.router_words.specs.declared.limits.TheConstants.{BUDGET_DEFAULT, BUDGET_LIMIT, GENERATED_NETS_LIMIT, MEMBER_LIMIT, SEED_DEFAULT, SEED_LIMIT}
-use Rattle.router_words.specs.declared.method.Method.TheVariants.{Strictly}
+use Rattle.router_words.specs.declared.method.Method.{Method}
+use Rattle.router_words.specs.declared.method.Method.TheVariants.{Pinned, Strictly}
 
 -- ---- what stands in the matches of a form
 
@@ -59,16 +60,20 @@ conflicts_asked rows =
     option_map_or (number_within 1 BUDGET_LIMIT) (first_of (codes "conflicts") rows)
     (Ok BUDGET_DEFAULT)
 
--- WIDTH PREFIX [--conflicts N] [--keep], or with MAX
-abbrev pub search_asked : List Row → Result SearchAsked Refusal
-search_asked rows =
+-- the method that the words choose: with pinned tracks where `--pin` was given
+abbrev pub method_asked : List Row → Method
+method_asked rows = if has_flag (codes "pin") rows then Pinned else Strictly
+
+-- WIDTH PREFIX [--conflicts N] [--keep], or with MAX, by a method
+abbrev pub search_asked : Method → List Row → Result SearchAsked Refusal
+search_asked method rows =
     and_then (width_asked rows) (λ width.
     map_ok (λ conflicts. record {
       width = width;
       prefix = word_in (codes "prefix") rows;
       conflicts = conflicts;
       keep = has_flag (codes "keep") rows;
-      method = Strictly;
+      method = method;
     }) (conflicts_asked rows))
 
 -- SEED
@@ -122,7 +127,7 @@ pub record CommandRow : Type 0 where
 -- what `route` is asked for
 abbrev pub route_asked : List Row → Result JobAsked Refusal
 route_asked rows =
-    and_then (search_asked rows) (λ search.
+    and_then (search_asked (method_asked rows) rows) (λ search.
     map_ok (λ members. Routes (record {
       files = files_asked rows;
       search = search;
@@ -133,7 +138,7 @@ route_asked rows =
 abbrev pub sweep_asked : List Row → Result JobAsked Refusal
 sweep_asked rows =
     map_ok (λ search. Sweeps (record { files = files_asked rows; search = search }))
-    (search_asked rows)
+    (search_asked (method_asked rows) rows)
 
 -- what `encode` is asked for
 abbrev pub encode_asked : List Row → Result JobAsked Refusal
@@ -141,7 +146,7 @@ encode_asked rows = map_ok (λ width. Encodes (record {
   files = files_asked rows;
   width = width;
   prefix = word_in (codes "prefix") rows;
-  method = Strictly;
+  method = method_asked rows;
 })) (width_asked rows)
 
 -- what `check` is asked for
@@ -167,7 +172,8 @@ gen_asked rows = map_ok
 abbrev pub trial_asked : List Row → Result JobAsked Refusal
 trial_asked rows =
     and_then (recipe_asked rows) (λ recipe.
-    map_ok (λ search. Tries (record { recipe = recipe; search = search })) (search_asked rows))
+    map_ok (λ search. Tries (record { recipe = recipe; search = search }))
+    (search_asked Strictly rows))
 
 abbrev pub route_row : CommandRow
 route_row = record { name = codes "route"; form = route_form; job = route_asked }

@@ -60,9 +60,9 @@ with_recipe form =
 
 -- ---- the forms
 
--- ARCH NET PLACE ROUTE WIDTH PREFIX [--conflicts N] [--keep]
+-- ARCH NET PLACE ROUTE WIDTH PREFIX [--conflicts N] [--keep] [--pin]
 abbrev pub search_form : Word → App
-search_form name = with_search (with_files (empty_form name))
+search_form name = with_flag (codes "pin") (with_search (with_files (empty_form name)))
 
 -- the same, with [--members K] [--seed S]
 abbrev pub route_form : App
@@ -73,9 +73,10 @@ route_form =
 abbrev pub sweep_form : App
 sweep_form = search_form (codes "sweep")
 
--- ARCH NET PLACE ROUTE WIDTH PREFIX
+-- ARCH NET PLACE ROUTE WIDTH PREFIX [--pin]
 abbrev pub encode_form : App
-encode_form = with_width_and_prefix (with_files (empty_form (codes "encode")))
+encode_form =
+    with_flag (codes "pin") (with_width_and_prefix (with_files (empty_form (codes "encode"))))
 
 -- CNF LRAT
 abbrev pub check_form : App

@@ -84,15 +84,17 @@ fn add_recipe<'a>(alloc: Global, command: Command<'a>) -> Result<Command<'a>, Al
     add_word(alloc, command, "nets")
 }
 
-/// ARCH NET PLACE ROUTE WIDTH PREFIX [--conflicts N] [--keep], behind this name of a command.
+/// ARCH NET PLACE ROUTE WIDTH PREFIX [--conflicts N] [--keep] [--pin], behind this name of a
+/// command.
 pub fn search_command<'a>(alloc: Global, name: &'a str) -> Result<Command<'a>, AllocError>
     ensures { IfOk result (λ c. app_of c ≡ search_form name.entry.now) }
 {
     let command = add_files(alloc, named(alloc, name))?;
-    add_search(alloc, command)
+    let command = add_search(alloc, command)?;
+    add_flag(alloc, command, "pin")
 }
 
-/// ARCH NET PLACE ROUTE WIDTH PREFIX [--conflicts N] [--keep] [--members K] [--seed S]
+/// ARCH NET PLACE ROUTE WIDTH PREFIX [--conflicts N] [--keep] [--pin] [--members K] [--seed S]
 pub fn route_command<'a>(alloc: Global) -> Result<Command<'a>, AllocError>
     ensures { IfOk result (λ c. app_of c ≡ route_form) }
 {
@@ -101,12 +103,13 @@ pub fn route_command<'a>(alloc: Global) -> Result<Command<'a>, AllocError>
     add_option(alloc, command, "seed")
 }
 
-/// ARCH NET PLACE ROUTE WIDTH PREFIX
+/// ARCH NET PLACE ROUTE WIDTH PREFIX [--pin]
 pub fn encode_command<'a>(alloc: Global) -> Result<Command<'a>, AllocError>
     ensures { IfOk result (λ c. app_of c ≡ encode_form) }
 {
     let command = add_files(alloc, named(alloc, "encode"))?;
-    add_width_and_prefix(alloc, command)
+    let command = add_width_and_prefix(alloc, command)?;
+    add_flag(alloc, command, "pin")
 }
 
 /// CNF LRAT

@@ -2,7 +2,7 @@
 ghost use Rattle.std.specs.Prelude.{◌≡◌, ◌≤◌, IfOk, IfSome, codes, is_some, option_map, true};
 ghost use Rattle.clap.specs.Words.{first_of, found_of, rows_of};
 ghost use Rattle.fpga_types.specs.declared.limits.TheConstants.{WIDTH_LIMIT};
-ghost use Rattle.router_words.specs.Command.{check_asked, conflicts_asked, encode_asked, files_asked, gen_asked, members_asked, members_with, number_if_any, number_within, recipe_asked, route_asked, search_asked, sweep_asked, trial_asked, verify_asked, width_asked, word_in};
+ghost use Rattle.router_words.specs.Command.{check_asked, conflicts_asked, encode_asked, files_asked, gen_asked, members_asked, members_with, method_asked, number_if_any, number_within, recipe_asked, route_asked, search_asked, sweep_asked, trial_asked, verify_asked, width_asked, word_in};
 ghost use Rattle.router_words.specs.Form.{check_form, encode_form, gen_form, route_form, sweep_form, trial_form, verify_form};
 ghost use Rattle.router_words.specs.Job.{files_said, job_said, members_said, recipe_said, search_said};
 ghost use Rattle.router_words.specs.Results.{map_ok};
@@ -79,11 +79,21 @@ fn recipe(matches: &ArgMatches) -> Result<Recipe, Refusal>
     Ok(Recipe { seed, side, nets })
 }
 
-// What a search is told, or that a number is none in its range.
-fn search<'a>(matches: &ArgMatches<'a>) -> Result<SearchJob<'a>, Refusal>
+// The method that the words choose, of a command that takes `--pin`.
+fn method(matches: &ArgMatches) -> Method
+    ensures { result ≡ method_asked (rows_of (found_of matches.now)) }
+{
+    if is_given(matches, "pin") {
+        return Method::Pinned;
+    }
+    Method::Strictly
+}
+
+// What a search by a method is told, or that a number is none in its range.
+fn search<'a>(matches: &ArgMatches<'a>, method: Method) -> Result<SearchJob<'a>, Refusal>
     requires width { is_some (first_of (codes "width") (rows_of (found_of matches.now))) ≡ true }
     requires prefix { is_some (first_of (codes "prefix") (rows_of (found_of matches.now))) ≡ true }
-    ensures { map_ok search_said result ≡ search_asked (rows_of (found_of matches.now)) }
+    ensures { map_ok search_said result ≡ search_asked method (rows_of (found_of matches.now)) }
 {
     let width = width(matches)?;
     let conflicts = conflicts(matches)?;
@@ -92,7 +102,7 @@ fn search<'a>(matches: &ArgMatches<'a>) -> Result<SearchJob<'a>, Refusal>
         prefix: required_word(matches, "prefix"),
         conflicts,
         keep: is_given(matches, "keep"),
-        method: Method::Strictly,
+        method,
     })
 }
 
@@ -139,7 +149,7 @@ pub fn route_job<'a>(matches: &ArgMatches<'a>) -> Result<Job<'a>, Refusal>
     requires { HasRequired route_form (rows_of (found_of matches.now)) }
     ensures { map_ok job_said result ≡ route_asked (rows_of (found_of matches.now)) }
 {
-    let search = search(matches)?;
+    let search = search(matches, method(matches))?;
     let members = members(matches)?;
     Ok(Job::Route(RouteJob {
         files: file_names(matches),
@@ -153,7 +163,7 @@ pub fn sweep_job<'a>(matches: &ArgMatches<'a>) -> Result<Job<'a>, Refusal>
     requires { HasRequired sweep_form (rows_of (found_of matches.now)) }
     ensures { map_ok job_said result ≡ sweep_asked (rows_of (found_of matches.now)) }
 {
-    let search = search(matches)?;
+    let search = search(matches, method(matches))?;
     Ok(Job::Sweep(SweepJob {
         files: file_names(matches),
         search,
@@ -170,7 +180,7 @@ pub fn encode_job<'a>(matches: &ArgMatches<'a>) -> Result<Job<'a>, Refusal>
         files: file_names(matches),
         width,
         prefix: required_word(matches, "prefix"),
-        method: Method::Strictly,
+        method: method(matches),
     }))
 }
 
@@ -216,6 +226,6 @@ pub fn trial_job<'a>(matches: &ArgMatches<'a>) -> Result<Job<'a>, Refusal>
     ensures { map_ok job_said result ≡ trial_asked (rows_of (found_of matches.now)) }
 {
     let recipe = recipe(matches)?;
-    let search = search(matches)?;
+    let search = search(matches, Method::Strictly)?;
     Ok(Job::Trial(TrialJob { recipe, search }))
 }

@@ -2,9 +2,9 @@
 //!
 //! | command | words behind it | options |
 //! |---|---|---|
-//! | `route` | ARCH NET PLACE ROUTE WIDTH PREFIX | `--conflicts N`, `--keep`, `--members K`, `--seed S` |
-//! | `sweep` | ARCH NET PLACE ROUTE MAX PREFIX | `--conflicts N`, `--keep` |
-//! | `encode` | ARCH NET PLACE ROUTE WIDTH PREFIX | |
+//! | `route` | ARCH NET PLACE ROUTE WIDTH PREFIX | `--conflicts N`, `--keep`, `--pin`, `--members K`, `--seed S` |
+//! | `sweep` | ARCH NET PLACE ROUTE MAX PREFIX | `--conflicts N`, `--keep`, `--pin` |
+//! | `encode` | ARCH NET PLACE ROUTE WIDTH PREFIX | `--pin` |
 //! | `check` | CNF LRAT | |
 //! | `verify` | ARCH NET PLACE ROUTE WIDTH ROUTED | |
 //! | `gen` | SEED NX NETS PREFIX | |
@@ -17,8 +17,8 @@
 //!
 //! What stands behind the command is taken as `clap` takes it: options may stand anywhere,
 //! `--conflicts=5` is `--conflicts 5`, behind `--` no word is an option, and a word may be empty or
-//! `-`. An option is given once at the most and written out, `--keep` has no value, and no word
-//! asks for help.
+//! `-`. An option is given once at the most and written out, `--keep` and `--pin` have no value,
+//! and no word asks for help.
 //!
 //! | code | cause |
 //! |---|---|

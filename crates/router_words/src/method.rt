@@ -5,4 +5,7 @@
 pub enum Method {
     /// Each net has one track in each cell of its global route.
     Strictly,
+    /// The same, and of one cell that the most nets take, the first net has track 0, the second
+    /// track 1 and so on, as far as there are tracks. All tracks of a channel have to be alike.
+    Pinned,
 }

@@ -2,6 +2,7 @@
 use crate::fault::WordsFault;
 use crate::job::{Job, RouteJob};
 use crate::limits::BUDGET_DEFAULT;
+use crate::method::Method;
 use crate::read::read_words;
 use std::alloc::Global;
 use std::process::Abort;
@@ -44,6 +45,10 @@ fn lines_have_their_codes(rt: HostRuntime) -> Result<(), Fail> {
         ("check|c|l|--conflicts|5", 2),
         ("route|a|n|p|r|5|out|--keep|--keep", 2),
         ("route|a|n|p|r|5|out|--keep=x", 2),
+        ("route|a|n|p|r|5|out|--pin|--pin", 2),
+        ("route|a|n|p|r|5|out|--pin=x", 2),
+        ("route|a|n|p|r|5|out|--pinned", 2),
+        ("route|a|n|p|r|65|out|--pin", 3),
         ("route|a|n|p|r|5|out|--conflicts|5|--conflicts|6", 2),
         ("route|a|n|p|r|5|out|--conflicts", 2),
         ("route|a|n|p|r|5|out|--conf|5", 2),
@@ -65,6 +70,9 @@ fn lines_have_their_codes(rt: HostRuntime) -> Result<(), Fail> {
         ("sweep|a|n|p|r|64|out|--keep", 0),
         ("encode|a|n|p|r|65|out", 3),
         ("route|a|n|p|r|64|out", 0),
+        ("route|--pin|a|n|p|r|64|out", 0),
+        ("sweep|a|n|p|r|64|out|--pin|--keep", 0),
+        ("encode|a|n|p|r|1|out|--pin", 0),
         ("route|a|n|p|r|005|out|--conflicts|100000000", 0),
         ("route|--conflicts=5|a|n|--keep|p|r|5|out", 0),
         ("route|--|a|--keep|p|r|5|out", 0),
@@ -74,12 +82,15 @@ fn lines_have_their_codes(rt: HostRuntime) -> Result<(), Fail> {
         ("verify|a|n|p|r|5", 2),
         ("verify|a|n|p|r|5|f|more", 2),
         ("verify|a|n|p|r|5|f|--keep", 2),
+        ("verify|a|n|p|r|5|f|--pin", 2),
+        ("check|c|l|--pin", 2),
         ("verify|a|n|p|r|0|f", 3),
         ("verify|a|n|p|r|65|f", 3),
         ("verify|a|n|p|r|f|5", 3),
         ("verify|a|n|p|r|64|f", 0),
         ("gen|1|2|1", 2),
         ("gen|1|2|1|g|--keep", 2),
+        ("gen|1|2|1|g|--pin", 2),
         ("gen|-1|2|1|g", 2),
         ("gen|2147483648|2|1|g", 3),
         ("gen|1|101|1|g", 3),
@@ -88,6 +99,7 @@ fn lines_have_their_codes(rt: HostRuntime) -> Result<(), Fail> {
         ("gen|1|2|0|g", 3),
         ("gen|2147483647|100|10000|g", 0),
         ("trial|1|2|2|t", 2),
+        ("trial|1|2|2|4|t|--pin", 2),
         ("trial|1|2|2|65|t", 3),
         ("trial|1|2|2|4|t|--conflicts|0", 3),
         ("trial|0|1|1|64|t|--keep", 0),
@@ -99,27 +111,44 @@ fn lines_have_their_codes(rt: HostRuntime) -> Result<(), Fail> {
 }
 
 // The job of routing that a line gives.
-fn has_route(rt: &impl Abort, job: &RouteJob, conflicts: u64, keep: bool) {
+fn has_route(rt: &impl Abort, job: &RouteJob, conflicts: u64, keep: bool, method: Method) {
     assert_eq!(rt; job.files.architecture, "a");
     assert_eq!(rt; job.files.netlist, "n");
     assert_eq!(rt; job.files.placement, "p");
     assert_eq!(rt; job.files.route, "r");
     assert_eq!(rt; (job.search.width, job.search.prefix), (5u32, "out"));
     assert_eq!(rt; (job.search.conflicts, job.search.keep), (conflicts, keep));
+    assert_eq!(rt; job.search.method, method);
 }
 
 #[test]
 fn route_has_its_words(rt: HostRuntime) -> Result<(), Fail> {
     let rows = [
-        ("route|a|n|p|r|5|out", BUDGET_DEFAULT, false),
-        ("route|--conflicts|7|a|n|p|r|5|out|--keep", 7, true),
+        (
+            "route|a|n|p|r|5|out",
+            BUDGET_DEFAULT,
+            false,
+            Method::Strictly,
+        ),
+        (
+            "route|--conflicts|7|a|n|p|r|5|out|--keep",
+            7,
+            true,
+            Method::Strictly,
+        ),
+        (
+            "route|a|n|--pin|p|r|5|out",
+            BUDGET_DEFAULT,
+            false,
+            Method::Pinned,
+        ),
     ];
-    for (line, conflicts, keep) in rows {
+    for (line, conflicts, keep, method) in rows {
         let words = parted(rt.alloc(), line)?;
         let Ok(Job::Route(job)) = read_words(rt.alloc(), &words) else {
             return Err("no job of routing".into());
         };
-        has_route(&rt, &job, conflicts, keep);
+        has_route(&rt, &job, conflicts, keep, method);
     }
     Ok(())
 }
