@@ -1,13 +1,16 @@
 -- Outcomes that are true of the same words and files agree: they are one, or one of them says that
 -- a search was left open.
-use Rattle.std.proofs.Common.{◌≡◌, ◌∙◌, ◌⊎◌, ℕ, zero, suc, ◌<◌, ◌≤◌, List, length, Some, Ok, Err, Result, refl, sym, ap, subst, inl, inr, arith}
+use Rattle.std.proofs.Common.{true, false, ◌≡◌, ◌∙◌, ◌⊎◌, ℕ, zero, suc, ◌<◌, ◌≤◌, List, length, Some, Ok, Err, Result, refl, sym, ap, subst, inl, inr, arith}
 use Rattle.std.specs.Prelude.{◌*◌, MatchResult, Option}
 use Rattle.desk_io.specs.Files.{FileMap}
 use Rattle.fpga_route.specs.Value.{route_value}
 use Rattle.fpga_types.specs.Problem.{RoutingProblem}
 use Rattle.fpga_types.specs.Slots.{slots}
 use Rattle.fpga_types.specs.declared.limits.TheConstants.{SLOT_LIMIT}
+use Rattle.list_laws.proofs.Places.{some_is}
 use Rattle.route_sweep.specs.Found.{HasFew}
+use Rattle.route_symmetry.specs.Full.{asymmetry_of, is_full}
+use Rattle.route_symmetry.specs.declared.full.Asymmetry.{Asymmetry}
 use Rattle.route_verify.specs.Judged.{judged}
 use Rattle.sat_clause.specs.Formula.{Cnf}
 use Rattle.sat_clause.specs.Judge.{judge}
@@ -19,15 +22,18 @@ use Rattle.router_words.specs.Refusal.{code_of}
 use Rattle.router_words.specs.Job.{CheckAsked, Checks, Encodes, FilesAsked, Generates, JobAsked, RecipeAsked, Routes, Sweeps, TrialAsked, Tries, Verifies, VerifyAsked}
 use Rattle.router_words.specs.Word.{Word}
 use Rattle.router_words.specs.declared.fault.Refusal.{Refusal}
+use Rattle.router_words.specs.declared.method.Method.{Method}
+use Rattle.router_words.specs.declared.method.Method.TheVariants.{Pinned, Strictly}
 use Rattle.router_top.specs.Check.{ChecksTo, cnf_source, judgement_outcome, lrat_source}
 use Rattle.router_top.specs.Generated.{IsTooLarge, Makes}
 use Rattle.router_top.specs.Method.{HasNone, clauses_by}
 use Rattle.router_top.specs.Search.{Search, clauses_held, route_search, sweep_of, sweep_search}
 use Rattle.router_top.specs.Sources.{IsHalted, ReadsThen}
-use Rattle.router_top.specs.Truth.{Agrees, IsOpenBelow, IsReached, IsTrueAt, IsTrueOf, IsTrueOfClauses, IsTrueOfJob, IsTrueOfRecipe, IsTrueOfSearch, IsTrueOfTurns, IsTrueOfWork}
+use Rattle.router_top.specs.Suited.{IsLeastUnlike, IsTrueOfSuited, IsUnsuited, Suits}
+use Rattle.router_top.specs.Truth.{Agrees, IsOpenBelow, IsReached, IsTrueAt, IsTrueOf, IsTrueOfClauses, IsTrueOfEncoding, IsTrueOfJob, IsTrueOfRecipe, IsTrueOfSearch, IsTrueOfSuitedSearch, IsTrueOfTurns, IsTrueOfWork}
 use Rattle.router_top.specs.Verify.{JudgesTo, VerifiesTo, judged_outcome, routed_source}
 use Rattle.router_top.specs.declared.outcome.Outcome.{Outcome}
-use Rattle.router_top.specs.declared.outcome.Outcome.TheVariants.{Done, Undecided, Usage}
+use Rattle.router_top.specs.declared.outcome.Outcome.TheVariants.{Done, NotSymmetric, Undecided, Usage}
 use Rattle.router_top.proofs.FourLaws.{lack-poses, one-lack, one-problem}
 use Rattle.router_top.proofs.GeneratedLaws.{one-made}
 use Rattle.router_top.proofs.SourceLaws.{reads-alike}
@@ -166,6 +172,55 @@ module _ (search : Search) (p : RoutingProblem) where
           (was-open other width b on at more (alone turns other width _ on.from more at.to) g)
           (alone turns other width _ on.from more at.to) h))
 
+-- ---- a method that does not suit the problem
+
+-- tracks are not alike and alike
+not-alike : (width : ℕ) (p : RoutingProblem) → is_full width p ≡ false → is_full width p ≡ true → ⊥
+not-alike width p unlike alike = cc
+
+module _ (first last : ℕ) (p : RoutingProblem) where
+  -- there is one least width at which not all tracks are alike
+  one-least : (width other : ℕ) (why why_other : Asymmetry)
+      → IsLeastUnlike first last p width why → IsLeastUnlike first last p other why_other
+      → width ≡ other
+  one-least width other why why_other h g = go (order width other)
+    where
+      go : (width < other) ⊎ (width ≡ other) ⊎ (other < width) → width ≡ other
+      go (inl less) = absurd (not-alike width p h.unlike (g.lower width h.from less))
+      go (inr (inl same)) = same
+      go (inr (inr more)) = absurd (not-alike other p g.unlike (h.lower other g.from more))
+
+  -- and one reason there
+  one-reason : (width other : ℕ) (why why_other : Asymmetry)
+      → IsLeastUnlike first last p width why → IsLeastUnlike first last p other why_other
+      → width ≡ other → why ≡ why_other
+  one-reason width other why why_other h g same =
+      some_is (sym h.because ∙ ap (λ (n : ℕ). asymmetry_of n p) same ∙ g.because)
+
+  one-unsuited : (method : Method) (a b : Outcome) → IsUnsuited method first last p a
+      → IsUnsuited method first last p b → a ≡ b
+  one-unsuited Strictly a b h g = absurd h
+  one-unsuited Pinned a b (width, why, h, is) (other, why_other, g, is_other) =
+      let same = one-least width other why why_other h g in
+      let reason = one-reason width other why why_other h g same in
+      is ∙ (λ i. NotSymmetric (same i) (reason i)) ∙ sym is_other
+
+  -- a method does not suit a problem and suit it
+  not-both-suit : (method : Method) (a : Outcome) → IsUnsuited method first last p a
+      → Suits method first last p → ⊥
+  not-both-suit Strictly a h suits = absurd h
+  not-both-suit Pinned a (width, why, h, is) alike =
+      not-alike width p h.unlike (alike width h.from h.to)
+
+  suited-agrees : (method : Method) (says : Outcome → Type 0) (a b : Outcome)
+      → IsTrueOfSuited method first last p (says a) a
+      → IsTrueOfSuited method first last p (says b) b → (says a → says b → Agrees a b)
+      → Agrees a b
+  suited-agrees method says a b (inl h) (inl g) agree = inl (one-unsuited method a b h g)
+  suited-agrees method says a b (inl h) (inr g) agree = absurd (not-both-suit method a h g.0)
+  suited-agrees method says a b (inr h) (inl g) agree = absurd (not-both-suit method b g h.0)
+  suited-agrees method says a b (inr h) (inr g) agree = agree h.1 g.1
+
 check-agrees : (job : CheckAsked) (files : FileMap) (a b : Outcome)
     → ChecksTo (IsHalted (Some files)) (Some files) job a
     → ChecksTo (IsHalted (Some files)) (Some files) job b → a ≡ b
@@ -237,16 +292,19 @@ module _ (job : TrialAsked) where
 job-agrees : (job : JobAsked) (files : FileMap) (a b : Outcome) → IsTrueOfJob job (Some files) a →
     IsTrueOfJob job (Some files) b → Agrees a b
 job-agrees (Routes job) files a b h g =
-    work-agrees files job.files (IsTrueOfSearch (route_search job)) a b h g
-    (λ p u v. search-agrees (route_search job) p (inr refl) a b u v)
+    work-agrees files job.files (IsTrueOfSuitedSearch (route_search job)) a b h g
+    (λ p u v. suited-agrees job.search.width job.search.width p job.search.method
+    (IsTrueOfSearch (route_search job) p) a b u v (search-agrees (route_search job) p (inr refl) a b))
 job-agrees (Sweeps job) files a b h g =
-    work-agrees files job.files (IsTrueOfSearch (sweep_search job)) a b h g
-    (λ p u v. search-agrees (sweep_search job) p (inl refl) a b u v)
+    work-agrees files job.files (IsTrueOfSuitedSearch (sweep_search job)) a b h g
+    (λ p u v. suited-agrees 1 job.search.width p job.search.method
+    (IsTrueOfSearch (sweep_search job) p) a b u v (search-agrees (sweep_search job) p (inl refl) a b))
 job-agrees (Encodes job) files a b h g =
-    work-agrees files job.files (λ p said. IsTrueOfClauses (clauses_by job.method job.width p)
-    (said ≡ Done) said) a b h g
-    (λ p u v. clauses-agree (clauses_by job.method job.width p) (λ said. said ≡ Done) a b u v
-    (λ s t. inl (s ∙ sym t)))
+    work-agrees files job.files (IsTrueOfEncoding job) a b h g
+    (λ p u v. suited-agrees job.width job.width p job.method
+    (λ said. IsTrueOfClauses (clauses_by job.method job.width p) (said ≡ Done) said) a b u v
+    (λ s t. clauses-agree (clauses_by job.method job.width p) (λ said. said ≡ Done) a b s t
+    (λ e f. inl (e ∙ sym f))))
 job-agrees (Checks job) files a b h g = inl (check-agrees job files a b h g)
 job-agrees (Verifies job) files a b h g = verify-agrees job files a b h g
 job-agrees (Generates job) files a b h g =

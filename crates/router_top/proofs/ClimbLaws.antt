@@ -6,6 +6,7 @@ use Rattle.std.proofs.lemmas.Grind.{flat_map-append}
 use Rattle.desk_io.specs.Files.{FileMap}
 use Rattle.desk_io.specs.ShelfState.{ShelfState}
 use Rattle.fpga_types.specs.Fits.{Fits}
+use Rattle.fpga_types.specs.Given.{IsGiven}
 use Rattle.fpga_types.specs.Problem.{RoutingProblem}
 use Rattle.route_sweep.specs.Climb.{AreRefuted, climbed}
 use Rattle.route_sweep.specs.Found.{HasFew, IsRefutedBy, WritesLog}
@@ -94,7 +95,7 @@ climbed-outcome width (Err stop) = refl
 
 -- ---- what a climb has shown of lower widths
 
-module _ (search : Search) (p : RoutingProblem) (fits : Fits p) where
+module _ (search : Search) (p : RoutingProblem) (given : IsGiven p) (fits : Fits p) where
   -- the widths up to this one were refuted
   abbrev HasClimbed : ℕ → ShelfState → ShelfState → Type 0
   HasClimbed =
@@ -113,7 +114,8 @@ module _ (search : Search) (p : RoutingProblem) (fits : Fits p) where
     refuted-at = record {
       few = found.0;
       refuted = wrote.ends;
-      none_legal = none-legal search.method (suc below) p wrote.log fits wrote.ends.refutes.accepts;
+      none_legal = none-legal search.method (suc below) p wrote.log given fits
+          wrote.ends.refutes.accepts;
       reads_back = record { clauses = wrote.clauses_back; steps = wrote.log_back };
     }
 

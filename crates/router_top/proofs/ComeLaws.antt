@@ -3,6 +3,7 @@ use Rattle.std.proofs.Common.{◌≡◌, ◌∙◌, ◌⊎◌, ℕ, ◌+◌, ◌
 use Rattle.std.specs.Prelude.{Some, flat_map}
 use Rattle.std.specs.List.{range_with_len}
 use Rattle.desk_io.specs.ShelfState.{ShelfState, after_say}
+use Rattle.fpga_types.specs.Given.{IsGiven}
 use Rattle.fpga_types.specs.Problem.{RoutingProblem}
 use Rattle.fpga_types.specs.declared.limits.TheConstants.{WIDTH_LIMIT}
 use Rattle.fpga_types.specs.declared.route.RouteText.{RouteText}
@@ -32,11 +33,12 @@ use Rattle.router_top.proofs.GeneratedLaws.{made-poses}
 use Rattle.router_top.proofs.NameLaws.{proof-apart, proofs-then-proof, proofs-then-route, route-apart}
 use Rattle.router_top.proofs.WrittenLaws.{AreApart}
 
--- the search comes to a width with the files of lower ones alone, all names differ, and this is
--- found there, which is the outcome; only at the last width is that a refutation
+-- the problem was given; the search comes to a width with the files of lower ones alone, all names
+-- differ, and this is found there, which is the outcome; only at the last width is that a refutation
 pub record HasCome (words : List Word) (at : Scene) (outcome : Outcome) : Type 0 where
   pub width : ℕ
   pub comes : ComesTo words at.desk.files width
+  pub given : IsGiven comes.p
   pub narrow : width ≤ WIDTH_LIMIT
   pub between : ShelfState
   pub lower : between.files ≡ with_files (lower_files comes) at.shelf.files
@@ -83,6 +85,7 @@ module _ (words : List Word) (at : Scene) where
     route-comes o did = record {
       width = job.search.width;
       comes = comes-alone;
+      given = did.given;
       narrow = narrow;
       between = at.shelf;
       lower = sym (ap (λ (fs : List NamedText). with_files fs at.shelf.files) none-lower);
@@ -104,15 +107,16 @@ module _ (words : List Word) (at : Scene) where
       (climb : IsClimb words)
       (poses : Poses (files_of which at.desk.files) job.files p)
       (narrow : job.search.width ≤ WIDTH_LIMIT) where
-    ends-come : (width : ℕ) (found : Result Found Stop) (o : Outcome)
+    ends-come : IsGiven p → (width : ℕ) (found : Result Found Stop) (o : Outcome)
         → o ≡ found_outcome width found → EndsAt (sweep_search job).ask job.search.width
         (λ width. clauses_by job.search.method width p)
         (λ width. IsRoutingBy job.search.method width p) at.shelf at.shelf_now width found
         → HasCome words at o
-    ends-come width found o is end =
+    ends-come given width found o is end =
         let search = sweep_search job in
         let below = end.below in
-        let lower = climbed-logs search p poses.fits below at.shelf end.between end.refuted in
+        let lower = climbed-logs search p given poses.fits below at.shelf end.between
+        end.refuted in
         let low : width ≤ 64 = omega (arith, end.next, end.within, narrow) in
         let count : below ≡ width - 1 = omega (arith, end.next) in
         let few : 1 + (width - 1) ≤ width = omega (arith, end.next) in
@@ -130,12 +134,13 @@ module _ (words : List Word) (at : Scene) where
             logs = lower.logs;
             lower = λ k from high. lower.refuted k from (omega (arith, high, end.next));
           };
+          given = given;
           narrow = low;
           between = end.between;
           lower = lower.files ∙ ap (λ (n : ℕ). with_files
               (flat_map (λ k. proof_files search p k (lower.logs k)) (range_with_len 1 n))
               at.shelf.files) count;
-          silent = climbed-said search p poses.fits below at.shelf end.between end.refuted;
+          silent = climbed-said search p given poses.fits below at.shelf end.between end.refuted;
           climbs = inr climb;
           route_apart = λ found. proofs-then-route search p refl lower.logs 1 (width - 1)
               found (omega (arith, few, low));
@@ -150,7 +155,7 @@ module _ (words : List Word) (at : Scene) where
     pub sweep-comes : (o : Outcome) → Sweeps job p at.shelf at.shelf_now o → HasCome words at o
     sweep-comes o did =
         let climb = did.climbs in
-        ends-come climb.0 climb.1 o
+        ends-come did.given climb.0 climb.1 o
         (did.is ∙ ap climbed_outcome climb.2 ∙ climbed-outcome climb.0 climb.1) climb.3
 
 -- the scene behind the trial line

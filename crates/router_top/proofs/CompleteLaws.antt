@@ -8,6 +8,7 @@ use Rattle.desk_io.specs.WholeFile.{FailsToWrite, after_writing}
 use Rattle.desk_io.proofs.FileLemmas.{has_risen}
 use Rattle.fpga_route.specs.Value.{route_value}
 use Rattle.fpga_types.specs.Fits.{Fits}
+use Rattle.fpga_types.specs.Given.{IsGiven}
 use Rattle.fpga_types.specs.Problem.{RoutingProblem}
 use Rattle.fpga_types.specs.declared.route.RouteText.{RouteText}
 use Rattle.sat_clause.specs.Formula.{Cnf}
@@ -31,6 +32,7 @@ use Rattle.router_words.specs.Refusal.{code_of}
 use Rattle.router_words.specs.Job.{CheckAsked, Checks, EncodeAsked, Encodes as EncodesJob, FilesAsked, Generates, JobAsked, RecipeAsked, RouteAsked, Routes, SweepAsked, Sweeps as SweepsJob, TrialAsked, Tries as TriesJob, Verifies, VerifyAsked}
 use Rattle.router_words.specs.Word.{Word}
 use Rattle.router_words.specs.declared.fault.Refusal.{Refusal}
+use Rattle.router_words.specs.declared.method.Method.{Method}
 use Rattle.router_top.specs.Check.{ChecksTo, cnf_source, judgement_outcome, lrat_source}
 use Rattle.router_top.specs.Files.{FailsAmong, WritesFiles, problem_slots}
 use Rattle.router_top.specs.Generated.{generated_files}
@@ -40,8 +42,9 @@ use Rattle.router_top.specs.Report.{line_of}
 use Rattle.router_top.specs.Run.{Leaves, LeavesJob, LeavesMade, LeavesWork, Runs, Scene, TriesGenerated, scene}
 use Rattle.router_top.specs.Search.{Search, clauses_held, route_search, sweep_of, sweep_search}
 use Rattle.router_top.specs.Sources.{IsHalted, IsStopped, ReadsThen}
+use Rattle.router_top.specs.Suited.{EncodeLeaves, IsTrueOfSuited, LeavesSuited, RouteLeaves, SweepLeaves}
 use Rattle.router_top.specs.Trial.{Tries, trial_line}
-use Rattle.router_top.specs.Truth.{Agrees, IsComplete, IsReached, IsTrueOf, IsTrueOfClauses, IsTrueOfJob, IsTrueOfRecipe, IsTrueOfSearch, IsTrueOfWork}
+use Rattle.router_top.specs.Truth.{Agrees, IsComplete, IsReached, IsTrueOf, IsTrueOfClauses, IsTrueOfEncoding, IsTrueOfJob, IsTrueOfRecipe, IsTrueOfSearch, IsTrueOfSuitedSearch, IsTrueOfWork}
 use Rattle.router_top.specs.Verify.{VerifiesTo, judged_outcome, routed_source}
 use Rattle.router_top.specs.Work.{Encodes, Finds, LeavesRoute, Sweeps, WritesClauses}
 use Rattle.router_top.specs.declared.outcome.Outcome.{Outcome}
@@ -155,16 +158,17 @@ module _ (Refutes LeavesOpen : List Step → Type 0) (search : Search) (p : Rout
       by-memory before now (IsTrueOfSearch search p) OutOfMemory h.1 refl
 
 -- one search that has come to a width
-search-found : (search : Search) (p : RoutingProblem) → Fits p → (width : ℕ)
+search-found : (search : Search) (p : RoutingProblem) → IsGiven p → Fits p → (width : ℕ)
     → IsReached search p width → (HasFew (clauses_by search.method width p)
     → clauses_held search width p ≤ CLAUSE_LIMIT) → (before now : ShelfState)
-    (came : Result Found Stop) → Finds search p width before now came → (came ≡ Ok Refuted → width ≡ search.last)
+    (came : Result Found Stop) → Finds search p width before now came
+    → (came ≡ Ok Refuted → width ≡ search.last)
     → Settles before now (IsTrueOfSearch search p) (found_outcome width came)
-search-found search p fits width reached room before now =
+search-found search p given fits width reached room before now =
     let formula = clauses_by search.method width p in
     let good = IsRoutingBy search.method width p in
     found-settles (IsRefutedBy search.ask formula good) (IsLeftOpenBy search.ask formula) search p
-    width (λ log h. none-legal search.method width p log fits h.refutes.accepts) reached room
+    width (λ log h. none-legal search.method width p log given fits h.refutes.accepts) reached room
     before now
 
 -- from an earlier shelf that had failed as often
@@ -192,28 +196,29 @@ module _ (job : RouteAsked) (p : RoutingProblem) (fits : Fits p) (before now : S
       (job.search.width, reached-alone, inr (h.few, inl (h.many, h.is)))
   search-settles o (inr h) =
       subst (Settles before now (IsTrueOfSearch (route_search job) p)) (sym h.is)
-      (search-found (route_search job) p fits job.search.width reached-alone h.room before
+      (search-found (route_search job) p h.given fits job.search.width reached-alone h.room before
       now h.came h.finds (λ same. refl))
 
 -- a climb through the widths
 module _ (job : SweepAsked) (p : RoutingProblem) (fits : Fits p) (before now : ShelfState) where
-  ends-settle : (width : ℕ) (found : Result Found Stop)
+  ends-settle : IsGiven p → (width : ℕ) (found : Result Found Stop)
       → EndsAt (sweep_search job).ask job.search.width
       (λ width. clauses_by job.search.method width p)
       (λ width. IsRoutingBy job.search.method width p) before now width found
       → Settles before now (IsTrueOfSearch (sweep_search job) p) (found_outcome width found)
-  ends-settle width found end =
+  ends-settle given width found end =
       let search = sweep_search job in
       let reached : IsReached search p width = record {
         from = omega (arith, end.next);
         to = omega (arith, end.next, end.within);
-        lower = λ k low high. climbed-unroutable search p fits end.below before end.between
+        lower = λ k low high. climbed-unroutable search p given fits end.below before end.between
             end.refuted k low (omega (arith, high, end.next));
       } in
       settles-before before end.between now (IsTrueOfSearch search p) (found_outcome width found)
-      (climbed-calm search p fits end.below before end.between end.refuted)
-      (search-found search p fits width reached
-      (one-held (length (clauses_by job.search.method width p).clauses)) end.between now found end.then end.last)
+      (climbed-calm search p given fits end.below before end.between end.refuted)
+      (search-found search p given fits width reached
+      (one-held (length (clauses_by job.search.method width p).clauses)) end.between now found
+      end.then end.last)
 
   sweep-settles : (o : Outcome) → Sweeps job p before now o
       → Settles before now (IsTrueOfSearch (sweep_search job) p) o
@@ -221,29 +226,53 @@ module _ (job : SweepAsked) (p : RoutingProblem) (fits : Fits p) (before now : S
       let climb = h.climbs in
       subst (Settles before now (IsTrueOfSearch (sweep_search job) p))
       (sym (h.is ∙ ap climbed_outcome climb.2 ∙ climbed-outcome climb.0 climb.1))
-      (ends-settle climb.0 climb.1 climb.3)
+      (ends-settle h.given climb.0 climb.1 climb.3)
+
+abbrev SaysClauses : EncodeAsked → RoutingProblem → Outcome → Type 0
+SaysClauses job p said =
+    IsTrueOfClauses (clauses_by job.method job.width p) (said ≡ Done) said
 
 module _ (job : EncodeAsked) (p : RoutingProblem) (before now : ShelfState) where
-  abbrev SaysClauses : Outcome → Type 0
-  SaysClauses said = IsTrueOfClauses (clauses_by job.method job.width p) (said ≡ Done) said
+  abbrev SaysHere : Outcome → Type 0
+  SaysHere = SaysClauses job p
 
   written-settles : (came : Result (Unit {0}) Stop)
       → WritesClauses job (clauses_by job.method job.width p) before now came
-      → Settles before now SaysClauses (written_outcome came)
+      → Settles before now SaysHere (written_outcome came)
   written-settles (Ok written) h =
-      by-word before now SaysClauses Done (omega (arith, ap (λ (s : ShelfState). s.faults) h.2))
+      by-word before now SaysHere Done (omega (arith, ap (λ (s : ShelfState). s.faults) h.2))
       (inr (h.0, refl))
   written-settles (Err (Fault slot)) h =
-      by-fault before now SaysClauses (WriteFault (File slot))
+      by-fault before now SaysHere (WriteFault (File slot))
       (write-risen before _ _ now h.2)
   written-settles (Err (TooManyClauses count)) h =
-      by-word before now SaysClauses (Limit 901 count) (faults-same before now h.1)
+      by-word before now SaysHere (Limit 901 count) (faults-same before now h.1)
       (inl (subst (λ (n : ℕ). CLAUSE_LIMIT < n) h.0.0 h.0.1, ap (Limit 901) h.0.0))
-  written-settles (Err Memory) h = by-memory before now SaysClauses OutOfMemory h.1 refl
+  written-settles (Err Memory) h = by-memory before now SaysHere OutOfMemory h.1 refl
 
-  encode-settles : (o : Outcome) → Encodes job p before now o → Settles before now SaysClauses o
+  encode-settles : (o : Outcome) → Encodes job p before now o → Settles before now SaysHere o
   encode-settles o h =
-      subst (Settles before now SaysClauses) (sym h.is) (written-settles h.came h.writes)
+      subst (Settles before now SaysHere) (sym h.is) (written-settles h.came h.writes)
+
+-- the work on a problem, where the method suits it
+suited-settles : (method : Method) (first last : ℕ)
+    (works : RoutingProblem → ShelfState → ShelfState → Outcome → Type 0) (p : RoutingProblem)
+    (says : Outcome → Type 0) (before now : ShelfState) (o : Outcome)
+    → (works p before now o → Settles before now says o)
+    → LeavesSuited method first last works p before now o
+    → Settles before now (λ said. IsTrueOfSuited method first last p (says said) said) o
+suited-settles method first last works p says before now o settles (inl h) =
+    by-word before now (λ said. IsTrueOfSuited method first last p (says said) said) o
+    (faults-same before now h.1) (inl h.0)
+suited-settles method first last works p says before now o settles (inr h) =
+    let rest = settles h.1 in
+    record {
+      kept = rest.kept;
+      settled = λ quiet. elim (rest.settled quiet) [
+        | inl told ↦ inl (inr (h.0, told))
+        | inr spent ↦ inr spent
+      ];
+    }
 
 -- ---- a generated problem
 
@@ -346,14 +375,19 @@ module _ (at : Scene) (calm : ¬ HasRisen at.desk.faults at.desk_now.faults) whe
   job-settles : (job : JobAsked) (o : Outcome) → LeavesJob job at o →
       Settles at.shelf at.shelf_now (IsTrueOfJob job at.desk.files) o
   job-settles (Routes job) o h =
-      work-settles at calm job.files (LeavesRoute job) (IsTrueOfSearch (route_search job)) o
-      (λ p fits. search-settles job p fits at.shelf at.shelf_now o) h
+      work-settles at calm job.files (RouteLeaves job) (IsTrueOfSuitedSearch (route_search job)) o
+      (λ p fits. suited-settles job.search.method job.search.width job.search.width (LeavesRoute job) p
+      (IsTrueOfSearch (route_search job) p) at.shelf at.shelf_now o
+      (search-settles job p fits at.shelf at.shelf_now o)) h
   job-settles (SweepsJob job) o h =
-      work-settles at calm job.files (Sweeps job) (IsTrueOfSearch (sweep_search job)) o
-      (λ p fits. sweep-settles job p fits at.shelf at.shelf_now o) h
-  job-settles (EncodesJob job) o h = work-settles at calm job.files (Encodes job)
-      (λ p said. IsTrueOfClauses (clauses_by job.method job.width p) (said ≡ Done) said) o
-      (λ p fits. encode-settles job p at.shelf at.shelf_now o) h
+      work-settles at calm job.files (SweepLeaves job) (IsTrueOfSuitedSearch (sweep_search job)) o
+      (λ p fits. suited-settles job.search.method 1 job.search.width (Sweeps job) p
+      (IsTrueOfSearch (sweep_search job) p) at.shelf at.shelf_now o
+      (sweep-settles job p fits at.shelf at.shelf_now o)) h
+  job-settles (EncodesJob job) o h =
+      work-settles at calm job.files (EncodeLeaves job) (IsTrueOfEncoding job) o
+      (λ p fits. suited-settles job.method job.width job.width (Encodes job) p (SaysClauses job p)
+      at.shelf at.shelf_now o (encode-settles job p at.shelf at.shelf_now o)) h
   job-settles (Generates job) o h =
       made-settles job.recipe (WritesFiles problem_slots (generated_files job.recipe job.prefix)
       at.shelf at.shelf_now o) (λ said. said ≡ Done) at.shelf at.shelf_now o

@@ -34,6 +34,7 @@ use Rattle.router_words.specs.Refusal.{code_of}
 use Rattle.router_words.specs.Job.{Checks, EncodeAsked, Encodes as EncodesJob, FilesAsked, GenAsked, Generates, JobAsked, RecipeAsked, Routes, Sweeps as SweepsJob, TrialAsked, Tries as TriesJob, Verifies}
 use Rattle.router_words.specs.Word.{Word}
 use Rattle.router_words.specs.declared.fault.Refusal.{Refusal}
+use Rattle.router_words.specs.declared.method.Method.{Method}
 use Rattle.router_top.specs.Check.{cnf_source, judgement_outcome, lrat_source}
 use Rattle.router_top.specs.Comes.{lower_files}
 use Rattle.router_top.specs.Files.{FailsAmong, WritesFiles, problem_slots}
@@ -47,16 +48,17 @@ use Rattle.router_top.specs.Run.{Leaves, LeavesJob, LeavesMade, LeavesWork, Runs
 use Rattle.router_top.specs.Search.{Search, lower_widths}
 use Rattle.router_top.specs.SearchFiles.{proof_files, route_file}
 use Rattle.router_top.specs.Sources.{HasBytes, IsStopped, ReadsThen}
+use Rattle.router_top.specs.Suited.{EncodeLeaves, LeavesSuited, RouteLeaves, SweepLeaves}
 use Rattle.router_top.specs.Verify.{judged_outcome}
 use Rattle.router_top.specs.Work.{Encodes, Finds, LeavesRoute, Sweeps, WritesClauses, clauses_file}
 use Rattle.router_top.specs.Written.{NamedText, with_file, with_files}
 use Rattle.router_top.specs.declared.outcome.Outcome.{Outcome}
-use Rattle.router_top.specs.declared.outcome.Outcome.TheVariants.{InputFault, Limit, ReadFault, Usage, WriteFault}
+use Rattle.router_top.specs.declared.outcome.Outcome.TheVariants.{InputFault, Limit, NotSymmetric, ReadFault, Usage, WriteFault}
 use Rattle.router_top.specs.declared.slot.Slot.{Slot}
 use Rattle.router_top.specs.declared.slot.Slot.TheVariants.{Said, File}
 use Rattle.router_top.proofs.ComeLaws.{HasCome, behind_line, route-comes, sweep-comes, trial-comes}
 use Rattle.router_top.proofs.GeneratedLaws.{files-after, problem-apart}
-use Rattle.router_top.proofs.StopLaws.{HoldsOfStops, IsHeard, among-heard, lacks-hold, reads-hold, verdict-holds}
+use Rattle.router_top.proofs.StopLaws.{HoldsOfStops, IsHeard, among-heard, lacks-hold, reads-hold, unsuited-holds, verdict-holds}
 use Rattle.router_top.proofs.WrittenLaws.{AreApart, NoneHas, Stand, all-stand, are-written, get-other, with_files-append, written-stand}
 
 -- ---- names that differ
@@ -571,6 +573,14 @@ module _ (words : List Word) (at : Scene) where
       h.0
   work-left names works o leaves (inr h) = leaves h.0 h.1 h.2
 
+  suited-left : (method : Method) (first last : ℕ)
+      (works : RoutingProblem → ShelfState → ShelfState → Outcome → Type 0) (p : RoutingProblem)
+      (o : Outcome) → (works p at.shelf at.shelf_now o → LeftHere o)
+      → LeavesSuited method first last works p at.shelf at.shelf_now o → LeftHere o
+  suited-left method first last works p o leaves (inl h) =
+      unsuited-holds LeftHere (λ width why. files-same h.1) method first last p o h.0
+  suited-left method first last works p o leaves (inr h) = leaves h.1
+
 -- the trial of a generated problem
 module _ (words : List Word) (at : Scene) (job : TrialAsked)
     (asked : job_of words ≡ Ok (TriesJob job)) where
@@ -590,22 +600,25 @@ module _ (words : List Word) (at : Scene) where
   job-left : (job : JobAsked) (o : Outcome) → job_of words ≡ Ok job → LeavesJob job at o
       → LeftHere words at o
   job-left (Routes job) o asked h =
-      work-left words at job.files (LeavesRoute job) o
-      (λ p poses did. elim did [
+      work-left words at job.files (RouteLeaves job) o
+      (λ p poses. suited-left words at job.search.method job.search.width job.search.width
+      (LeavesRoute job) p o (λ did. elim did [
         | inl crowded ↦ subst (LeftHere words at) (sym crowded.is)
             (inl (files-same words at crowded.same))
         | inr searched ↦ come-left words at o
             (route-comes words at job p asked poses searched.narrow o searched)
-      ]) h
+      ])) h
   job-left (SweepsJob job) o asked h =
-      work-left words at job.files (Sweeps job) o
-      (λ p poses did. come-left words at o
+      work-left words at job.files (SweepLeaves job) o
+      (λ p poses. suited-left words at job.search.method 1 job.search.width (Sweeps job) p o
+      (λ did. come-left words at o
       (sweep-comes words at (SweepsJob job) job p asked refl (inl (job, asked)) poses did.narrow o
-      did)) h
+      did))) h
   job-left (EncodesJob job) o asked h =
-      work-left words at job.files (Encodes job) o
-      (λ p poses did. subst (LeftHere words at) (sym did.is)
-      (written-left words at job p asked poses did.came did.writes)) h
+      work-left words at job.files (EncodeLeaves job) o
+      (λ p poses. suited-left words at job.method job.width job.width (Encodes job) p o
+      (λ did. subst (LeftHere words at) (sym did.is)
+      (written-left words at job p asked poses did.came did.writes))) h
   job-left (Checks job) o asked h =
       let stops = stops-here words at (files-same words at h.1) in
       reads-hold (LeftHere words at) stops at.desk at.desk_now at.desk.files (cnf_source job.cnf)
@@ -648,6 +661,7 @@ module _ (words : List Word) (desk before now : Option FileMap) where
   unsaid-left (Usage code) h = none-left words desk before now h
   unsaid-left (ReadFault file) h = none-left words desk before now h
   unsaid-left (InputFault file line code) h = none-left words desk before now h
+  unsaid-left (NotSymmetric width why) h = none-left words desk before now h
   unsaid-left (Limit code count) (inl same) = none-left words desk before now same
   unsaid-left (Limit code count) (inr h) = h.2
   unsaid-left (WriteFault slot) h = h

@@ -10,6 +10,7 @@ use Rattle.fpga_place.specs.Value.{place_value}
 use Rattle.fpga_route.specs.Value.{route_value}
 use Rattle.fpga_text.specs.declared.fault.TextFault.{TextFault}
 use Rattle.fpga_text.specs.declared.fault.TextFault.TheVariants.{Bad, Limit as PastLimit, Memory as NoMemory}
+use Rattle.fpga_types.specs.Given.{IsGiven}
 use Rattle.fpga_types.specs.Problem.{RoutingProblem, problem_of}
 use Rattle.fpga_types.specs.declared.limits.TheConstants.{WIDTH_LIMIT}
 use Rattle.fpga_types.specs.declared.route.RouteText.{RouteText}
@@ -31,6 +32,7 @@ use Rattle.router_words.specs.Refusal.{code_of}
 use Rattle.router_words.specs.Job.{CheckAsked, Checks, EncodeAsked, Encodes as EncodesJob, FilesAsked, GenAsked, Generates, JobAsked, RecipeAsked, Routes, Sweeps as SweepsJob, TrialAsked, Tries as TriesJob, Verifies, VerifyAsked}
 use Rattle.router_words.specs.Word.{Word}
 use Rattle.router_words.specs.declared.fault.Refusal.{Refusal}
+use Rattle.router_words.specs.declared.method.Method.{Method}
 use Rattle.router_top.specs.Check.{cnf_source, judgement_outcome, lrat_source}
 use Rattle.router_top.specs.FourFiles.{GivesNone, IsUnfit, Poses, arch_source, net_source, place_source, route_source}
 use Rattle.router_top.specs.Comes.{ComesTo, lower_files}
@@ -43,6 +45,7 @@ use Rattle.router_top.specs.Report.{unsaid}
 use Rattle.router_top.specs.Run.{Leaves, LeavesJob, LeavesMade, LeavesWork, Runs, Scene, TriesGenerated, scene}
 use Rattle.router_top.specs.SearchFiles.{proof_files, route_file}
 use Rattle.router_top.specs.Sources.{IsStopped, ReadsThen, Says, Source, fault_outcome}
+use Rattle.router_top.specs.Suited.{EncodeLeaves, LeavesSuited, RouteLeaves, SweepLeaves}
 use Rattle.router_top.specs.Verify.{VerifiesTo, judged_outcome, routed_source}
 use Rattle.router_top.specs.Work.{Encodes, Finds, LeavesRoute, Sweeps, WritesClauses}
 use Rattle.router_top.specs.Written.{AreWritten, NamedText, with_files}
@@ -54,6 +57,7 @@ use Rattle.router_top.proofs.ComeLaws.{HasCome, behind_line, route-comes, sweep-
 use Rattle.router_top.proofs.FourLaws.{AfterArch, AfterNetlist, AfterPlacement}
 use Rattle.router_top.proofs.GeneratedLaws.{files-after, problem-apart}
 use Rattle.router_top.proofs.MethodLaws.{none-legal, routing-printable}
+use Rattle.router_top.proofs.StopLaws.{unsuited-holds}
 use Rattle.router_top.proofs.WrittenLaws.{AreApart, are-written, with_files-append}
 
 module _ (words : List Word) (desk before : Option FileMap) where
@@ -119,8 +123,8 @@ module _ (words : List Word) (at : Scene) where
   files-are shelf e = ap (λ (s : ShelfState). s.files) e
 
   -- a search that has come to a width: the files of lower widths, and the search there
-  module _ (width : ℕ) (comes : ComesTo words at.desk.files width) (narrow : width ≤ WIDTH_LIMIT)
-      (between : ShelfState)
+  module _ (width : ℕ) (comes : ComesTo words at.desk.files width) (given : IsGiven comes.p)
+      (narrow : width ≤ WIDTH_LIMIT) (between : ShelfState)
       (lower : between.files ≡ with_files (lower_files comes) at.shelf.files)
       (route_apart : (found : RouteText)
       → AreApart (lower_files comes ++ route_file comes.search found ∷ []))
@@ -157,7 +161,7 @@ module _ (words : List Word) (at : Scene) where
       refuted = record {
         few = h.0;
         refuted = h.1.ends;
-        none_legal = none-legal comes.search.method width comes.p h.1.log comes.poses.fits
+        none_legal = none-legal comes.search.method width comes.p h.1.log given comes.poses.fits
             h.1.ends.refutes.accepts;
         reads_back = record { clauses = h.1.clauses_back; steps = h.1.log_back };
       };
@@ -180,8 +184,8 @@ module _ (words : List Word) (at : Scene) where
   -- a search that has come to a width
   come-means : (o : Outcome) → HasCome words at o → MeansHere o
   come-means o h = subst MeansHere (sym h.is)
-      (found-means h.width h.comes h.narrow h.between h.lower h.route_apart h.proof_apart h.came
-      h.finds h.last)
+      (found-means h.width h.comes h.given h.narrow h.between h.lower h.route_apart h.proof_apart
+      h.came h.finds h.last)
 
   module _ (job : EncodeAsked) (p : RoutingProblem) (asked : job_of words ≡ Ok (EncodesJob job))
       (poses : Poses at.desk.files job.files p) where
@@ -278,6 +282,15 @@ module _ (words : List Word) (at : Scene) where
       at.shelf.files desk desk_now at.shelf_now.files desk.files names o h.0
   work-means desk desk_now names works o means (inr h) = means h.0 h.1 h.2
 
+  -- the work on a problem, where the method suits it
+  suited-means : (method : Method) (first last : ℕ)
+      (works : RoutingProblem → ShelfState → ShelfState → Outcome → Type 0) (p : RoutingProblem)
+      (o : Outcome) → (works p at.shelf at.shelf_now o → MeansHere o)
+      → LeavesSuited method first last works p at.shelf at.shelf_now o → MeansHere o
+  suited-means method first last works p o means (inl h) =
+      unsuited-holds MeansHere (λ width why. tt) method first last p o h.0
+  suited-means method first last works p o means (inr h) = means h.1
+
 -- the trial of a generated problem
 module _ (words : List Word) (at : Scene) (job : TrialAsked)
     (asked : job_of words ≡ Ok (TriesJob job)) where
@@ -293,21 +306,24 @@ module _ (words : List Word) (at : Scene) where
   job-means : (job : JobAsked) (o : Outcome) → job_of words ≡ Ok job → LeavesJob job at o
       → MeansHere words at o
   job-means (Routes job) o asked h =
-      work-means words at at.desk at.desk_now job.files (LeavesRoute job) o
-      (λ p poses did. elim did [
+      work-means words at at.desk at.desk_now job.files (RouteLeaves job) o
+      (λ p poses. suited-means words at job.search.method job.search.width job.search.width
+      (LeavesRoute job) p o (λ did. elim did [
         | inl crowded ↦ subst (MeansHere words at) (sym crowded.is) tt
         | inr searched ↦ come-means words at o
             (route-comes words at job p asked poses searched.narrow o searched)
-      ]) h
+      ])) h
   job-means (SweepsJob job) o asked h =
-      work-means words at at.desk at.desk_now job.files (Sweeps job) o
-      (λ p poses did. come-means words at o
+      work-means words at at.desk at.desk_now job.files (SweepLeaves job) o
+      (λ p poses. suited-means words at job.search.method 1 job.search.width (Sweeps job) p o
+      (λ did. come-means words at o
       (sweep-comes words at (SweepsJob job) job p asked refl (inl (job, asked)) poses did.narrow o
-      did)) h
+      did))) h
   job-means (EncodesJob job) o asked h =
-      work-means words at at.desk at.desk_now job.files (Encodes job) o
-      (λ p poses did. subst (MeansHere words at) (sym did.is)
-      (written-means words at job p asked poses did.came did.writes)) h
+      work-means words at at.desk at.desk_now job.files (EncodeLeaves job) o
+      (λ p poses. suited-means words at job.method job.width job.width (Encodes job) p o
+      (λ did. subst (MeansHere words at) (sym did.is)
+      (written-means words at job p asked poses did.came did.writes))) h
   job-means (Checks job) o asked h =
       reads-mean words at.desk.files at.shelf.files at.desk at.desk_now at.shelf_now.files
       at.desk.files (cnf_source job.cnf) cnf_said

@@ -29,6 +29,7 @@ use Rattle.router_words.specs.Refusal.{code_of}
 use Rattle.router_words.specs.Job.{Checks, EncodeAsked, Encodes as EncodesJob, FilesAsked, Generates, JobAsked, RecipeAsked, Routes, Sweeps as SweepsJob, TrialAsked, Tries as TriesJob, Verifies}
 use Rattle.router_words.specs.Word.{Word}
 use Rattle.router_words.specs.declared.fault.Refusal.{Refusal}
+use Rattle.router_words.specs.declared.method.Method.{Method}
 use Rattle.router_top.specs.Check.{cnf_source, judgement_outcome, lrat_source}
 use Rattle.router_top.specs.Files.{FailsAmong, WritesFiles, after_files, problem_slots}
 use Rattle.router_top.specs.FourFiles.{Poses}
@@ -41,6 +42,7 @@ use Rattle.router_top.specs.Saying.{IsLead, IsTrialLine, Speaks, more_said}
 use Rattle.router_top.specs.Sources.{IsStopped, ReadsThen}
 use Rattle.router_top.specs.Trial.{trial_line}
 use Rattle.router_top.specs.Verify.{judged_outcome}
+use Rattle.router_top.specs.Suited.{EncodeLeaves, LeavesSuited, RouteLeaves, SweepLeaves}
 use Rattle.router_top.specs.Work.{Encodes, LeavesRoute, Sweeps, WritesClauses}
 use Rattle.router_top.specs.Written.{NamedText}
 use Rattle.router_top.specs.declared.outcome.Outcome.{Outcome}
@@ -48,7 +50,7 @@ use Rattle.router_top.specs.declared.outcome.Outcome.TheVariants.{Usage, WriteFa
 use Rattle.router_top.specs.declared.slot.Slot.{Slot}
 use Rattle.router_top.specs.declared.slot.Slot.TheVariants.{Said}
 use Rattle.router_top.proofs.ComeLaws.{HasCome, behind_line, route-comes, sweep-comes, trial-comes}
-use Rattle.router_top.proofs.StopLaws.{HoldsOfStops, IsHeard, among-heard, lacks-hold, reads-hold, verdict-holds}
+use Rattle.router_top.proofs.StopLaws.{HoldsOfStops, IsHeard, among-heard, lacks-hold, reads-hold, unsuited-holds, verdict-holds}
 
 -- ---- texts behind texts
 
@@ -184,6 +186,14 @@ module _ (words : List Word) (at : Scene) where
       (lacks-hold IsHeard stops-heard at.desk at.desk_now at.desk.files names o h.0) h.1
   work-quiet names works o quiet (inr h) = quiet h.0 h.1 h.2
 
+  suited-quiet : (method : Method) (first last : ℕ)
+      (works : RoutingProblem → ShelfState → ShelfState → Outcome → Type 0) (p : RoutingProblem)
+      (o : Outcome) → (works p at.shelf at.shelf_now o → IsQuiet o)
+      → LeavesSuited method first last works p at.shelf at.shelf_now o → IsQuiet o
+  suited-quiet method first last works p o quiet (inl h) = stays-quiet o
+      (unsuited-holds IsHeard (λ width why. tt) method first last p o h.0) h.1
+  suited-quiet method first last works p o quiet (inr h) = quiet h.1
+
   files-quiet : (files : List NamedText) (o : Outcome)
       → WritesFiles problem_slots files at.shelf at.shelf_now o → IsQuiet o
   files-quiet files o (inl h) = record {
@@ -245,21 +255,24 @@ module _ (words : List Word) (at : Scene) where
   job-led : (job : JobAsked) (o : Outcome) → job_of words ≡ Ok job → LeavesJob job at o
       → HasLed words at o
   job-led (Routes job) o asked h = no-lead words at o (λ other is. cc)
-      (work-quiet words at job.files (LeavesRoute job) o
-      (λ p poses did. elim did [
+      (work-quiet words at job.files (RouteLeaves job) o
+      (λ p poses. suited-quiet words at job.search.method job.search.width job.search.width
+      (LeavesRoute job) p o (λ did. elim did [
         | inl crowded ↦ stays-quiet words at o (subst IsHeard (sym crowded.is) tt) crowded.same
         | inr searched ↦ come-quiet words at o
             (route-comes words at job p asked poses searched.narrow o searched)
-      ]) h)
+      ])) h)
   job-led (SweepsJob job) o asked h = no-lead words at o (λ other is. cc)
-      (work-quiet words at job.files (Sweeps job) o
-      (λ p poses did. come-quiet words at o
+      (work-quiet words at job.files (SweepLeaves job) o
+      (λ p poses. suited-quiet words at job.search.method 1 job.search.width (Sweeps job) p o
+      (λ did. come-quiet words at o
       (sweep-comes words at (SweepsJob job) job p asked refl (inl (job, asked)) poses did.narrow o
-      did)) h)
+      did))) h)
   job-led (EncodesJob job) o asked h = no-lead words at o (λ other is. cc)
-      (work-quiet words at job.files (Encodes job) o
-      (λ p poses did. subst (IsQuiet words at) (sym did.is)
-      (written-quiet words at job _ did.came did.writes)) h)
+      (work-quiet words at job.files (EncodeLeaves job) o
+      (λ p poses. suited-quiet words at job.method job.width job.width (Encodes job) p o
+      (λ did. subst (IsQuiet words at) (sym did.is)
+      (written-quiet words at job _ did.came did.writes))) h)
   job-led (Checks job) o asked h = no-lead words at o (λ other is. cc)
       (stays-quiet words at o
       (reads-hold IsHeard stops-heard at.desk at.desk_now at.desk.files (cnf_source job.cnf)

@@ -10,17 +10,21 @@ use Rattle.fpga_place.specs.Value.{place_value}
 use Rattle.fpga_route.specs.Value.{route_value}
 use Rattle.fpga_text.specs.declared.fault.TextFault.{TextFault}
 use Rattle.fpga_text.specs.declared.fault.TextFault.TheVariants.{Bad, Limit as PastLimit, Memory as NoMemory}
-use Rattle.fpga_types.specs.Problem.{problem_of}
+use Rattle.fpga_types.specs.Problem.{RoutingProblem, problem_of}
+use Rattle.route_symmetry.specs.declared.full.Asymmetry.{Asymmetry}
 use Rattle.route_verify.specs.Judged.{judged}
 use Rattle.route_verify.specs.declared.judgement.Judgement.{Judgement}
 use Rattle.router_words.specs.Job.{FilesAsked, VerifyAsked}
+use Rattle.router_words.specs.declared.method.Method.{Method}
+use Rattle.router_words.specs.declared.method.Method.TheVariants.{Pinned, Strictly}
 use Rattle.router_top.specs.Files.{FailsAmong}
 use Rattle.router_top.specs.FourFiles.{GivesNone, IsUnfit, arch_source, net_source, place_source, route_source}
 use Rattle.router_top.specs.Sources.{IsStopped, ReadsThen, Says, Source, fault_outcome}
+use Rattle.router_top.specs.Suited.{IsUnsuited}
 use Rattle.router_top.specs.Verify.{VerifiesTo, judged_outcome, routed_source}
 use Rattle.router_top.specs.Written.{NamedText}
 use Rattle.router_top.specs.declared.outcome.Outcome.{Outcome}
-use Rattle.router_top.specs.declared.outcome.Outcome.TheVariants.{InputFault, Limit, ReadFault, WriteFault, OutOfMemory}
+use Rattle.router_top.specs.declared.outcome.Outcome.TheVariants.{InputFault, Limit, NotSymmetric, ReadFault, WriteFault, OutOfMemory}
 use Rattle.router_top.specs.declared.slot.Slot.{Slot}
 use Rattle.router_top.specs.declared.slot.Slot.TheVariants.{Said}
 use Rattle.router_top.specs.declared.text_file.TextFile.{TextFile}
@@ -76,6 +80,14 @@ module _ (Q : Outcome → Type 0) (each : HoldsOfStops Q) where
         reads-hold (routed_source job.routed) route_value
         (λ found outcome. outcome ≡ judged_outcome (judged job.width p found)) o
         (λ found says is. subst Q (sym is) (each_judgement (judged job.width p found))) h
+
+-- what holds of tracks that are not alike holds of a method that does not suit the problem
+pub unsuited-holds : (Q : Outcome → Type 0)
+    → ((width : ℕ) (why : Asymmetry) → Q (NotSymmetric width why))
+    → (method : Method) (first last : ℕ) (p : RoutingProblem) (o : Outcome)
+    → IsUnsuited method first last p o → Q o
+unsuited-holds Q each Strictly first last p o h = absurd h
+unsuited-holds Q each Pinned first last p o h = subst Q (sym h.3) (each h.0 h.1)
 
 -- ---- faults of files
 

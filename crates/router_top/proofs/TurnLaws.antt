@@ -3,6 +3,7 @@ use Rattle.std.proofs.Common.{◌≡◌, ◌≤◌, ℕ, length, Result, sym, su
 use Rattle.std.specs.Prelude.{◌*◌, ◌<◌, ◌||◌, true, Option, Some, None, is_some}
 use Rattle.std.specs.Option.{option_map_or}
 use Rattle.desk_io.specs.ShelfState.{ShelfState}
+use Rattle.fpga_types.specs.Given.{IsGiven}
 use Rattle.fpga_types.specs.Problem.{RoutingProblem}
 use Rattle.fpga_types.specs.declared.limits.TheConstants.{WIDTH_LIMIT}
 use Rattle.route_sweep.specs.Asked.{Asked}
@@ -36,11 +37,12 @@ module _ (job : RouteAsked) (p : RoutingProblem) (before now : ShelfState) (o : 
   abbrev held : Option MembersAsked → ℕ
   held members = option_map_or (λ (m : MembersAsked). m.count) members 1 * clause-number
 
-  pub by-one : job.members ≡ None → job.search.width ≤ WIDTH_LIMIT → (ask : Asked)
+  pub by-one : IsGiven p → job.members ≡ None → job.search.width ≤ WIDTH_LIMIT → (ask : Asked)
       → ask ≡ asks_to_keep job.search.keep job.search → (came : Result Found Stop)
       → FindsBy ask came → o ≡ found_outcome job.search.width came
       → LeavesRoute job p before now o
-  by-one none narrow ask asks came finds is = inr (record {
+  by-one given none narrow ask asks came finds is = inr (record {
+    given = given;
     narrow = narrow;
     room = λ few. subst (λ (m : Option MembersAsked). held m ≤ CLAUSE_LIMIT) (sym none)
         (one-held clause-number few);
@@ -51,14 +53,15 @@ module _ (job : RouteAsked) (p : RoutingProblem) (before now : ShelfState) (o : 
     is = is;
   })
 
-  pub by-turns : (members : MembersAsked) → job.members ≡ Some members
+  pub by-turns : IsGiven p → (members : MembersAsked) → job.members ≡ Some members
       → job.search.width ≤ WIDTH_LIMIT
       → (HasFew (clauses_by job.search.method job.search.width p)
       → members.count * clause-number ≤ CLAUSE_LIMIT)
       → (ask : Asked) → ask ≡ asks_to_keep true job.search → (came : Result Found Stop)
       → FindsBy ask came → o ≡ found_outcome job.search.width came
       → LeavesRoute job p before now o
-  by-turns members some narrow room ask asks came finds is = inr (record {
+  by-turns given members some narrow room ask asks came finds is = inr (record {
+    given = given;
     narrow = narrow;
     room = λ few. subst (λ (m : Option MembersAsked). held m ≤ CLAUSE_LIMIT) (sym some) (room few);
     came = came;

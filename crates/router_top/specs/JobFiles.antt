@@ -25,7 +25,7 @@ use Rattle.router_top.specs.Sources.{HasBytes}
 use Rattle.router_top.specs.Work.{clauses_file}
 use Rattle.router_top.specs.Written.{AreWritten, NamedText, with_file}
 use Rattle.router_top.specs.declared.outcome.Outcome.{Outcome}
-use Rattle.router_top.specs.declared.outcome.Outcome.TheVariants.{InputFault, Limit, Usage, ReadFault, WriteFault}
+use Rattle.router_top.specs.declared.outcome.Outcome.TheVariants.{InputFault, Limit, NotSymmetric, Usage, ReadFault, WriteFault}
 use Rattle.router_top.specs.declared.slot.Slot.{Slot}
 use Rattle.router_top.specs.declared.slot.Slot.TheVariants.{Said, File}
 
@@ -155,13 +155,14 @@ IsClimb words =
     ⊎ ((job : TrialAsked) × (job_of words ≡ Ok (Tries job)))
 
 -- what is left of the files, by the answer: nothing is written where the words are not taken, where
--- a file is not read or is refused, and where a limit is passed, but for that of the clauses in a
--- climb; a fault of a file leaves a part; and after each other answer the files that were begun are
--- whole
+-- a file is not read or is refused, where tracks that are to be pinned are not alike, and where a
+-- limit is passed, but for that of the clauses in a climb; a fault of a file leaves a part; and
+-- after each other answer the files that were begun are whole
 abbrev pub LeavesFiles : List Word → (desk before now : Option FileMap) → Outcome → Type 0
 LeavesFiles words desk before now (Usage code) = now ≡ before
 LeavesFiles words desk before now (ReadFault file) = now ≡ before
 LeavesFiles words desk before now (InputFault file line code) = now ≡ before
+LeavesFiles words desk before now (NotSymmetric width why) = now ≡ before
 LeavesFiles words desk before now (Limit code count) =
     (now ≡ before) ⊎ ((code ≡ 901) × IsClimb words × LeavesWhole words desk before now)
 LeavesFiles words desk before now (WriteFault Said) = LeavesWhole words desk before now

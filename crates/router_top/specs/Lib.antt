@@ -15,6 +15,7 @@ pub mod Search
 pub mod SearchFiles
 pub mod Slots
 pub mod Sources
+pub mod Suited
 pub mod TextFiles
 pub mod Trial
 pub mod Truth

@@ -6,25 +6,30 @@ use Rattle.fpga_types.specs.declared.route.RouteText.{RouteText}
 use Rattle.route_encode.specs.Encoding.{cnf_of}
 use Rattle.route_encode.specs.Exact.{IsLegalRouting}
 use Rattle.route_encode.specs.Good.{IsRoutingOf}
+use Rattle.route_symmetry.specs.Pinned.{pinned_cnf}
 use Rattle.sat_clause.specs.Formula.{Cnf}
 use Rattle.router_words.specs.declared.method.Method.{Method}
-use Rattle.router_words.specs.declared.method.Method.TheVariants.{Strictly}
+use Rattle.router_words.specs.declared.method.Method.TheVariants.{Pinned, Strictly}
 
 -- the clauses that say a routing of the problem at a width
 abbrev pub clauses_by : Method → (width : ℕ) → RoutingProblem → Cnf
 clauses_by Strictly width p = cnf_of width p
+clauses_by Pinned width p = pinned_cnf width p
 
--- the route is a legal routing of the problem
+-- the route is a legal routing of the problem, whichever tracks were pinned to find it
 abbrev pub IsRoutingBy : Method → (width : ℕ) → RoutingProblem → RouteText → Type 0
 IsRoutingBy Strictly width p found = IsRoutingOf width p found
+IsRoutingBy Pinned width p found = IsRoutingOf width p found
 
 -- what may make a routing of a problem: a track for each slot, in their order
 abbrev pub Witness : Method → Type 0
 Witness Strictly = List ℕ
+Witness Pinned = List ℕ
 
--- it makes a legal routing
+-- it makes a legal routing, with the pinned tracks or with others
 abbrev pub IsLegalBy : (method : Method) → (width : ℕ) → RoutingProblem → Witness method → Type 0
 IsLegalBy Strictly width p tracks = IsLegalRouting width p tracks
+IsLegalBy Pinned width p tracks = IsLegalRouting width p tracks
 
 -- some make a legal routing
 abbrev pub HasOne : Method → (width : ℕ) → RoutingProblem → Type 0

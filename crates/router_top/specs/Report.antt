@@ -4,7 +4,7 @@ use Rattle.router_top.specs.Slots.{number_of}
 use Rattle.router_top.specs.TextFiles.{file_word}
 use Rattle.router_top.specs.declared.outcome.Outcome.{Outcome}
 use Rattle.router_top.specs.declared.slot.Slot.TheVariants.{Said}
-use Rattle.router_top.specs.declared.outcome.Outcome.TheVariants.{Routed, Unroutable, Undecided, Done, Accepted, NotAccepted, LegalRoute, NotLegal, InputFault, Limit, Usage, ReadFault, WriteFault, OutOfMemory}
+use Rattle.router_top.specs.declared.outcome.Outcome.TheVariants.{Routed, Unroutable, Undecided, Done, Accepted, NotAccepted, LegalRoute, NotLegal, InputFault, Limit, NotSymmetric, Usage, ReadFault, WriteFault, OutOfMemory}
 
 -- the exit status
 abbrev pub status_of : Outcome → ℕ
@@ -18,6 +18,7 @@ status_of LegalRoute = 0
 status_of (NotLegal line cause) = 1
 status_of (InputFault file line code) = 3
 status_of (Limit code count) = 3
+status_of (NotSymmetric width why) = 3
 status_of (Usage code) = 4
 status_of (ReadFault file) = 5
 status_of (WriteFault slot) = 6
@@ -42,6 +43,7 @@ report_of (InputFault file line code) =
     ++ decimal code
 report_of (Limit code count) = codes "limit: code " ++ decimal code ++ codes " count "
     ++ decimal count
+report_of (NotSymmetric width why) = codes "not symmetric " ++ decimal width
 report_of (Usage code) = codes "usage: code " ++ decimal code
 report_of (ReadFault file) = codes "read fault: " ++ file_word file
 report_of (WriteFault slot) = codes "write fault: slot " ++ decimal (number_of slot)

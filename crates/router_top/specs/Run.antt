@@ -13,9 +13,9 @@ use Rattle.router_top.specs.FourFiles.{GivesNone, Poses}
 use Rattle.router_top.specs.Generated.{HasRoom, Makes, MakesNone, PosesNone, generated_files}
 use Rattle.router_top.specs.Report.{IsReadFault, line_of, unsaid}
 use Rattle.router_top.specs.Sources.{IsStopped}
+use Rattle.router_top.specs.Suited.{EncodeLeaves, RouteLeaves, SweepLeaves}
 use Rattle.router_top.specs.Trial.{Tries}
 use Rattle.router_top.specs.Verify.{VerifiesTo}
-use Rattle.router_top.specs.Work.{Encodes, LeavesRoute, Sweeps}
 use Rattle.router_top.specs.declared.outcome.Outcome.{Outcome}
 use Rattle.router_top.specs.declared.outcome.Outcome.TheVariants.{Usage, OutOfMemory}
 
@@ -61,9 +61,9 @@ TriesGenerated job before now outcome =
 -- what each job leaves before its outcome is reported; to check a refutation and to judge a routed
 -- file writes nothing, and no file is read where a problem is generated
 abbrev pub LeavesJob : JobAsked → Scene → Outcome → Type 0
-LeavesJob (Routes job) at outcome = LeavesWork job.files (LeavesRoute job) at outcome
-LeavesJob (SweepsJob job) at outcome = LeavesWork job.files (Sweeps job) at outcome
-LeavesJob (EncodesJob job) at outcome = LeavesWork job.files (Encodes job) at outcome
+LeavesJob (Routes job) at outcome = LeavesWork job.files (RouteLeaves job) at outcome
+LeavesJob (SweepsJob job) at outcome = LeavesWork job.files (SweepLeaves job) at outcome
+LeavesJob (EncodesJob job) at outcome = LeavesWork job.files (EncodeLeaves job) at outcome
 LeavesJob (Checks job) at outcome =
     ChecksTo (IsStopped at.desk at.desk_now) at.desk.files job outcome
     × (at.shelf_now ≡ at.shelf)

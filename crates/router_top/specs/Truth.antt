@@ -10,7 +10,7 @@ use Rattle.sat_clause.specs.Formula.{Cnf}
 use Rattle.sat_clause.specs.declared.limits.TheConstants.{CLAUSE_LIMIT}
 use Rattle.router_words.specs.Command.{job_of}
 use Rattle.router_words.specs.Refusal.{code_of}
-use Rattle.router_words.specs.Job.{Checks, Encodes, FilesAsked, Generates, JobAsked, RecipeAsked, Routes, Sweeps, Tries, Verifies}
+use Rattle.router_words.specs.Job.{Checks, EncodeAsked, Encodes, FilesAsked, Generates, JobAsked, RecipeAsked, Routes, Sweeps, Tries, Verifies}
 use Rattle.router_words.specs.Word.{Word}
 use Rattle.router_top.specs.Check.{ChecksTo}
 use Rattle.router_top.specs.FourFiles.{GivesNone, Poses}
@@ -18,6 +18,7 @@ use Rattle.router_top.specs.Generated.{HasRoom, IsTooLarge, IsTooMany, Makes}
 use Rattle.router_top.specs.Method.{HasNone, HasOne, clauses_by}
 use Rattle.router_top.specs.Search.{Search, clauses_held, route_search, sweep_of, sweep_search}
 use Rattle.router_top.specs.Sources.{IsHalted}
+use Rattle.router_top.specs.Suited.{IsTrueOfSuited}
 use Rattle.router_top.specs.Verify.{VerifiesTo}
 use Rattle.router_top.specs.declared.outcome.Outcome.{Outcome}
 use Rattle.router_top.specs.declared.outcome.Outcome.TheVariants.{Routed, Unroutable, Undecided, Done, Limit, Usage, OutOfMemory}
@@ -58,6 +59,19 @@ IsTrueOfSearch search p outcome =
     × IsTrueOfClauses (clauses_by search.method width p)
     (IsTrueOfTurns (clauses_held search width p) (IsTrueAt search p width outcome) outcome) outcome
 
+-- the method does not suit the problem at each width of the search, and the outcome says so; or it
+-- does, and the outcome is true of the search
+abbrev pub IsTrueOfSuitedSearch : Search → RoutingProblem → Outcome → Type 0
+IsTrueOfSuitedSearch search p outcome =
+    IsTrueOfSuited search.method search.first search.last p (IsTrueOfSearch search p outcome) outcome
+
+-- the method does not suit the problem at the width, and the outcome says so; or it does, and there
+-- are too many clauses, or they were written
+abbrev pub IsTrueOfEncoding : EncodeAsked → RoutingProblem → Outcome → Type 0
+IsTrueOfEncoding job p outcome =
+    IsTrueOfSuited job.method job.width job.width p
+    (IsTrueOfClauses (clauses_by job.method job.width p) (outcome ≡ Done) outcome) outcome
+
 -- the four files give no problem, and the outcome says why; or they pose one, of which it is true
 abbrev pub IsTrueOfWork : FilesAsked → (RoutingProblem → Outcome → Type 0) → Option FileMap
     → Outcome → Type 0
@@ -73,11 +87,11 @@ IsTrueOfRecipe recipe says outcome = IsTooMany recipe outcome ⊎ (HasRoom recip
 -- what an outcome says of the files of each job
 abbrev pub IsTrueOfJob : JobAsked → Option FileMap → Outcome → Type 0
 IsTrueOfJob (Routes job) files outcome =
-    IsTrueOfWork job.files (IsTrueOfSearch (route_search job)) files outcome
+    IsTrueOfWork job.files (IsTrueOfSuitedSearch (route_search job)) files outcome
 IsTrueOfJob (Sweeps job) files outcome =
-    IsTrueOfWork job.files (IsTrueOfSearch (sweep_search job)) files outcome
-IsTrueOfJob (Encodes job) files outcome = IsTrueOfWork job.files
-    (λ p said. IsTrueOfClauses (clauses_by job.method job.width p) (said ≡ Done) said) files outcome
+    IsTrueOfWork job.files (IsTrueOfSuitedSearch (sweep_search job)) files outcome
+IsTrueOfJob (Encodes job) files outcome =
+    IsTrueOfWork job.files (IsTrueOfEncoding job) files outcome
 IsTrueOfJob (Checks job) files outcome = ChecksTo (IsHalted files) files job outcome
 IsTrueOfJob (Verifies job) files outcome = VerifiesTo (IsHalted files) files job outcome
 IsTrueOfJob (Generates job) files outcome = IsTrueOfRecipe job.recipe (outcome ≡ Done) outcome

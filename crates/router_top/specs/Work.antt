@@ -3,6 +3,7 @@ use Rattle.std.specs.Prelude.{◌≡◌, ◌⊎◌, ℕ, ◌++◌, ◌<◌, ◌�
 use Rattle.desk_io.specs.Files.{Bytes}
 use Rattle.desk_io.specs.ShelfState.{ShelfState}
 use Rattle.desk_io.specs.WholeFile.{FailsToWrite, after_writing}
+use Rattle.fpga_types.specs.Given.{IsGiven}
 use Rattle.fpga_types.specs.Problem.{RoutingProblem}
 use Rattle.fpga_types.specs.declared.limits.TheConstants.{WIDTH_LIMIT}
 use Rattle.route_sweep.specs.Asked.{Asked}
@@ -43,11 +44,12 @@ pub record IsCrowded
   pub same : now ≡ before
   pub is : outcome ≡ Limit 904 (clauses_held search width p)
 
--- a search of the problem at the width of the job, which is at most 64; all that take turns hold few
--- enough clauses together
+-- a search of the problem, which was given, at the width of the job, which is at most 64; all that
+-- take turns hold few enough clauses together
 pub record Searches
     (job : RouteAsked) (p : RoutingProblem) (before now : ShelfState) (outcome : Outcome)
     : Type 0 where
+  pub given : IsGiven p
   pub narrow : job.search.width ≤ WIDTH_LIMIT
   pub room : HasFew (clauses_by job.search.method job.search.width p)
       → clauses_held (route_search job) job.search.width p ≤ CLAUSE_LIMIT
@@ -61,10 +63,12 @@ LeavesRoute job p before now outcome =
     IsCrowded (route_search job) p job.search.width before now outcome
     ⊎ Searches job p before now outcome
 
--- a climb through the widths of the problem up to the greatest, which is at most 64
+-- a climb through the widths of the problem, which was given, up to the greatest, which is at most
+-- 64
 pub record Climbs
     (method : Method) (ask : Asked) (most : ℕ) (p : RoutingProblem) (before now : ShelfState)
     (outcome : Outcome) : Type 0 where
+  pub given : IsGiven p
   pub some : 1 ≤ most
   pub narrow : most ≤ WIDTH_LIMIT
   pub came : Result Climbed Stop

@@ -4,6 +4,7 @@ ghost use Rattle.router_top.specs.Method.{IsRoutingBy, clauses_by};
 use fpga_bounds::PlacedProblem;
 use fpga_types::RouteText;
 use route_encode::{Encoder, Strict};
+use route_symmetry::Pinned;
 use router_words::Method;
 use sat_clause::Formula;
 use std::alloc::{AllocError, Global};
@@ -20,6 +21,7 @@ impl Encoder for Chosen {
     fn count(&self, problem: &PlacedProblem, width: u32) -> u64 {
         match self.0 {
             Method::Strictly => Strict.count(problem, width),
+            Method::Pinned => Pinned.count(problem, width),
         }
     }
 
@@ -31,6 +33,7 @@ impl Encoder for Chosen {
     ) -> Result<Formula, AllocError> {
         match self.0 {
             Method::Strictly => Strict.build(alloc, problem, width),
+            Method::Pinned => Pinned.build(alloc, problem, width),
         }
     }
 
@@ -43,6 +46,7 @@ impl Encoder for Chosen {
     ) -> Result<RouteText, AllocError> {
         match self.0 {
             Method::Strictly => Strict.decode(alloc, problem, width, values),
+            Method::Pinned => Pinned.decode(alloc, problem, width, values),
         }
     }
 }

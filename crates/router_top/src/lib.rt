@@ -21,6 +21,7 @@ mod running;
 mod slot;
 mod source;
 mod stopping;
+mod suited;
 mod sweeping;
 #[cfg(test)]
 mod tests;

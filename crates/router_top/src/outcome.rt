@@ -7,6 +7,7 @@ use crate::slot::Slot;
 use crate::text_file::TextFile;
 use arrayvec::ArrayString;
 use itoa::Buffer;
+use route_symmetry::Asymmetry;
 
 /// What a run comes to.
 #[derive(Clone, Copy, Debug, PartialEq, Eq)]
@@ -53,6 +54,12 @@ pub enum Outcome {
         code: u32,
         count: u64,
     },
+    /// Tracks were to be pinned, and at this width not all of them are alike; of a sweep it is the
+    /// least such width. This keeps them from it.
+    NotSymmetric {
+        width: u32,
+        why: Asymmetry,
+    },
     /// The words are not taken.
     Usage {
         code: u32,
@@ -80,7 +87,7 @@ pub fn status(outcome: &Outcome) -> u8
         Outcome::Routed { .. } | Outcome::Done | Outcome::Accepted | Outcome::LegalRoute => 0,
         Outcome::Unroutable { .. } | Outcome::NotAccepted { .. } | Outcome::NotLegal { .. } => 1,
         Outcome::Undecided { .. } => 2,
-        Outcome::InputFault { .. } | Outcome::Limit { .. } => 3,
+        Outcome::InputFault { .. } | Outcome::Limit { .. } | Outcome::NotSymmetric { .. } => 3,
         Outcome::Usage { .. } => 4,
         Outcome::ReadFault { .. } => 5,
         Outcome::WriteFault { .. } => 6,
@@ -126,6 +133,9 @@ pub fn report(outcome: &Outcome) -> ArrayString<LINE_ROOM>
         Outcome::Limit { code, count } => {
             push_count(&mut line, "limit: code ", code as u64);
             push_count(&mut line, " count ", count);
+        }
+        Outcome::NotSymmetric { width, .. } => {
+            push_count(&mut line, "not symmetric ", width as u64)
         }
         Outcome::Usage { code } => push_count(&mut line, "usage: code ", code as u64),
         Outcome::ReadFault { file } => {

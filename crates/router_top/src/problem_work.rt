@@ -1,5 +1,6 @@
 //! Work on the problem that four files pose.
 ghost use Rattle.std.specs.Prelude.{◌≡◌};
+ghost use Rattle.fpga_types.specs.Given.{IsGiven};
 ghost use Rattle.router_words.specs.Job.{files_said};
 ghost use Rattle.router_top.specs.Report.{IsReadFault};
 ghost use Rattle.router_top.specs.Run.{LeavesWork, scene};
@@ -23,6 +24,13 @@ pub trait ProblemWork {
     /// Does the work, and gives what it comes to.
     fn work<S: Shelf>(&self, alloc: Global, problem: &PlacedProblem, shelf: &mut S) -> Outcome
         ensures { leaves self.now problem.now (S.state shelf.old) (S.state shelf.new) result };
+}
+
+/// Of a problem that was posed the four values were given as their readers give them. Does nothing.
+pub fn was_given(problem: &PlacedProblem)
+    ensures { IsGiven problem.now }
+{
+    let _route = problem.route();
 }
 
 /// Reads the four files and does the work on their problem. Where they give none, nothing is

@@ -8,7 +8,7 @@ ghost use Rattle.router_top.specs.Work.{LeavesRoute};
 
 use crate::encoder::Chosen;
 use crate::outcome::Outcome;
-use crate::problem_work::ProblemWork;
+use crate::problem_work::{ProblemWork, was_given};
 use crate::stopping::stopped;
 use crate::turning::{find_by_turns, without_room};
 use desk_io::Shelf;
@@ -53,6 +53,7 @@ fn search_alone<S: Shelf>(
     ensures { LeavesRoute (route_said job.now) problem.now (S.state shelf.old)
         (S.state shelf.new) result }
 {
+    was_given(problem);
     let search = job.search;
     let ask = ask_for(&search, search.keep);
     let encoder = Chosen(search.method);
@@ -73,6 +74,7 @@ fn search_by_turns<S: Shelf>(
     ensures { LeavesRoute (route_said job.now) problem.now (S.state shelf.old)
         (S.state shelf.new) result }
 {
+    was_given(problem);
     let search = job.search;
     let encoder = Chosen(search.method);
     match without_room(&encoder, problem, search.width, members) {

@@ -13,6 +13,7 @@ use crate::generating::generate_files;
 use crate::outcome::{Outcome, report};
 use crate::problem_work::work_on;
 use crate::slot::Slot;
+use crate::suited::Suited;
 use crate::trying::trial;
 use crate::verifying::verify_file;
 use desk_io::{Desk, Shelf};
@@ -28,9 +29,33 @@ fn work<D: Desk, S: Shelf>(alloc: Global, words: &[String], desk: &mut D, shelf:
     ensures quiet { ¬ IsReadFault result → (D.state desk.new).faults ≡ (D.state desk.old).faults }
 {
     match read_words(alloc, words) {
-        Ok(Job::Route(job)) => work_on(alloc, &job.files, &job, desk, shelf),
-        Ok(Job::Sweep(job)) => work_on(alloc, &job.files, &job, desk, shelf),
-        Ok(Job::Encode(job)) => work_on(alloc, &job.files, &job, desk, shelf),
+        Ok(Job::Route(job)) => {
+            let work = Suited {
+                method: job.search.method,
+                first: job.search.width,
+                last: job.search.width,
+                work: job,
+            };
+            work_on(alloc, &job.files, &work, desk, shelf)
+        }
+        Ok(Job::Sweep(job)) => {
+            let work = Suited {
+                method: job.search.method,
+                first: 1,
+                last: job.search.width,
+                work: job,
+            };
+            work_on(alloc, &job.files, &work, desk, shelf)
+        }
+        Ok(Job::Encode(job)) => {
+            let work = Suited {
+                method: job.method,
+                first: job.width,
+                last: job.width,
+                work: job,
+            };
+            work_on(alloc, &job.files, &work, desk, shelf)
+        }
         Ok(Job::Check(job)) => check_files(alloc, &job, desk),
         Ok(Job::Verify(job)) => verify_file(alloc, &job, desk),
         Ok(Job::Gen(job)) => generate_files(alloc, &job, shelf),
@@ -70,6 +95,11 @@ fn say_report<S: Shelf>(shelf: &mut S, outcome: Outcome) -> Outcome
 /// one. `encode` writes PREFIX.cnf alone; `check` and `verify` write nothing. Each file is read and
 /// taken apart before the next is opened, the routed file of `verify` once the four before it fit,
 /// and the first refusal ends the work.
+///
+/// Where `--pin` is given to `route`, `sweep` or `encode`, the nets of one most crowded cell are
+/// given their tracks beforehand, which changes no answer. All tracks are to be alike for that, at
+/// WIDTH or at each width up to MAX: if not, the outcome is `NotSymmetric` with the least such width
+/// and nothing is written.
 ///
 /// `gen` makes a problem from its recipe and writes PREFIX.arch, PREFIX.net, PREFIX.place and
 /// PREFIX.route. `trial` makes one too, says a line with the numbers of its slots, its steps and

@@ -7,7 +7,7 @@ ghost use Rattle.router_top.specs.Work.{Climbs};
 
 use crate::encoder::Chosen;
 use crate::outcome::Outcome;
-use crate::problem_work::ProblemWork;
+use crate::problem_work::{ProblemWork, was_given};
 use crate::stopping::stopped;
 use desk_io::Shelf;
 use fpga_bounds::PlacedProblem;
@@ -38,6 +38,7 @@ pub fn search_widths<S: Shelf>(
     ensures { Climbs search.now.method (ask_of true (search_said search.now)) search.now.width
         problem.now (S.state shelf.old) (S.state shelf.new) result }
 {
+    was_given(problem);
     let ask = Ask {
         budget: search.conflicts,
         keep: search.keep,

@@ -9,6 +9,6 @@ pub returns : goal.returns
 returns g c =
     by-one (route_said c.args.job.now) c.args.problem.now (g.S.Shelf.state c.args.shelf.now)
     (g.S.Shelf.state c.one_width-came.new.shelf) c.found.result
-    (ap (option_map members_said) c.requires) c.args.job.now.search.in_range.1
+    c.was_given.ensures (ap (option_map members_said) c.requires) c.args.job.now.search.in_range.1
     (asked c.ask_for-ask.result) c.ask_for-ask.ensures.asked c.one_width-came.result
     c.one_width-came.ensures c.found.ensures

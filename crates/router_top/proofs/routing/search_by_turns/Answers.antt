@@ -15,7 +15,7 @@ returns-in-Some g c =
 pub returns-in-None : goal.returns-in-None
 returns-in-None g c =
     by-turns (route_said c.args.job.now) c.args.problem.now (g.S.Shelf.state c.args.shelf.now)
-    (g.S.Shelf.state c.find_by_turns-came.new.shelf) c.found.result (members_said c.args.members)
-    (ap (option_map members_said) c.requires) c.args.job.now.search.in_range.1
+    (g.S.Shelf.state c.find_by_turns-came.new.shelf) c.found.result c.was_given.ensures
+    (members_said c.args.members) (ap (option_map members_said) c.requires) c.args.job.now.search.in_range.1
     c.in-None.ensures.room (asked c.ask_for-ask.result) c.ask_for-ask.ensures.asked
     c.find_by_turns-came.result c.find_by_turns-came.ensures c.found.ensures
