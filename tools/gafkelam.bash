@@ -8,8 +8,10 @@ _gafkelam() {
     fi
     local options=--help
     case $command in
-    route) options="--conflicts --keep --members --seed --help" ;;
-    sweep | trial) options="--conflicts --keep --help" ;;
+    route) options="--conflicts --keep --pin --members --seed --help" ;;
+    sweep) options="--conflicts --keep --pin --help" ;;
+    trial) options="--conflicts --keep --help" ;;
+    encode) options="--pin --help" ;;
     esac
     if [ "${word:0:1}" = - ]; then
         mapfile -t COMPREPLY < <(compgen -W "$options" -- "$word")

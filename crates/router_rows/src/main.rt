@@ -19,8 +19,9 @@ use desk_io::FileDesk;
 use rows_problem::{RowsError, text};
 
 // The files of cases. The first says how they are written.
-const FILES: [&str; 7] = [
+const FILES: [&str; 8] = [
     "worked.rows",
+    "pinned.rows",
     "failing_calls.rows",
     "route_texts.rows",
     "limits.rows",

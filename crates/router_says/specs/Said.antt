@@ -1,9 +1,11 @@
 -- What is said of an outcome that was not asked for.
 use Rattle.std.specs.Prelude.{◌≡◌, ℕ, ◌++◌, ◌==◌, ◌||◌, ⊤, IsTrue, List, [], codes, decimal, Option, Some, None, if◌then◌else◌}
 use Rattle.code_words.specs.Phrases.{is_phrase}
+use Rattle.route_symmetry.specs.declared.full.Asymmetry.{Asymmetry}
+use Rattle.route_symmetry.specs.declared.full.Asymmetry.TheVariants.{Inputs, Outputs, Pads, Pattern}
 use Rattle.router_says.specs.Names.{file_said, name_in}
 use Rattle.router_top.specs.declared.outcome.Outcome.{Outcome}
-use Rattle.router_top.specs.declared.outcome.Outcome.TheVariants.{NotAccepted, NotLegal, InputFault, Limit, ReadFault}
+use Rattle.router_top.specs.declared.outcome.Outcome.TheVariants.{NotAccepted, NotLegal, NotSymmetric, InputFault, Limit, ReadFault}
 use Rattle.router_top.specs.declared.text_file.TextFile.{TextFile}
 use Rattle.router_top.specs.declared.text_file.TextFile.TheVariants.{Architecture, Netlist, Placement, Route, Cnf, Lrat, Routed}
 use Rattle.router_words.specs.Word.{Word}
@@ -56,6 +58,19 @@ abbrev pub limit_gap : Option TextFile → List ℕ
 limit_gap (Some file) = codes ": "
 limit_gap None = []
 
+-- what keeps tracks from being alike
+abbrev pub reason_said : Asymmetry → List ℕ
+reason_said Pattern = codes "the switch block type is not subset"
+reason_said Outputs = codes "an output pin does not open all of them (Fc_output)"
+reason_said Inputs = codes "an input pin does not open all of them (Fc_input)"
+reason_said Pads = codes "a pad does not open all of them (Fc_pad)"
+
+-- at which width not all tracks are alike, and what keeps them from it
+abbrev pub asymmetry_said : (width : ℕ) → Asymmetry → List ℕ
+asymmetry_said width why =
+    codes "not symmetric at " ++ (decimal width ++ (codes " tracks: " ++ (reason_said why
+    ++ codes ", so --pin can't be used")))
+
 -- a text that says so with some phrase as the reason
 abbrev pub GivesWhy : ((why : List ℕ) → List ℕ) → List ℕ → Type 0
 GivesWhy said text = (why : List ℕ) × IsTrue (is_phrase why) × (text ≡ said why)
@@ -67,6 +82,7 @@ Means (NotLegal line cause) text = GivesWhy (line_said line cause) text
 Means (InputFault file line code) text = GivesWhy (line_said line code) text
 Means (Limit code count) text =
     GivesWhy (λ why. limit_gap (limit_file code) ++ limit_said code count why) text
+Means (NotSymmetric width why) text = text ≡ asymmetry_said width why
 Means _ text = ⊤
 
 -- after what stood in a text comes the file that is meant, then what is wrong, and a newline

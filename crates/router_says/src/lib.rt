@@ -3,6 +3,7 @@
 
 mod names;
 mod refused;
+mod symmetry;
 #[cfg(test)]
 mod tests;
 mod unread;

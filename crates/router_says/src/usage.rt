@@ -26,11 +26,11 @@ pub(crate) fn append_usage(
 fn form_of(name: &str) -> (&'static str, &'static str) {
     match name {
         "sweep" => (
-            "sweep ARCH NET PLACE ROUTE MAX PREFIX [--conflicts N] [--keep], MAX from 1 to 64",
+            "sweep ARCH NET PLACE ROUTE MAX PREFIX [--conflicts N] [--keep] [--pin], MAX from 1 to 64",
             "sweep design.arch design.net design.place design.route 12 out",
         ),
         "encode" => (
-            "encode ARCH NET PLACE ROUTE WIDTH PREFIX, WIDTH from 1 to 64",
+            "encode ARCH NET PLACE ROUTE WIDTH PREFIX [--pin], WIDTH from 1 to 64",
             "encode design.arch design.net design.place design.route 9 out",
         ),
         "check" => ("check CNF LRAT", "check out.cnf out.lrat"),
@@ -47,7 +47,7 @@ fn form_of(name: &str) -> (&'static str, &'static str) {
             "trial 1 20 300 12 out",
         ),
         _ => (
-            "route ARCH NET PLACE ROUTE WIDTH PREFIX [--conflicts N] [--keep] [--members K] \
+            "route ARCH NET PLACE ROUTE WIDTH PREFIX [--conflicts N] [--keep] [--pin] [--members K] \
              [--seed S], WIDTH from 1 to 64, K to 8",
             "route design.arch design.net design.place design.route 9 out",
         ),

@@ -3,16 +3,18 @@ ghost use Rattle.std.specs.Prelude.{◌≡◌, ◌++◌, IfOk, IfSome, IsOk, IsT
 ghost use Rattle.code_words.specs.Phrases.{is_phrase};
 ghost use Rattle.router_says.specs.Names.{name_in, name_of};
 ghost use Rattle.router_says.specs.Quiet.{is_quiet};
-ghost use Rattle.router_says.specs.Said.{GivesWhy, IsSaid, Means, about_said, file_about, limit_file, limit_gap, limit_said, line_said, step_said};
+ghost use Rattle.router_says.specs.Said.{GivesWhy, IsSaid, Means, about_said, asymmetry_said, file_about, limit_file, limit_gap, limit_said, line_said, step_said};
 ghost use Rattle.router_top.specs.declared.text_file.TextFile.{TextFile as AnyFile};
 ghost use Rattle.router_words.specs.Word.{Word, words_of};
 
 use crate::names::{given_name, job_in};
 use crate::refused::{append_file, append_limit, append_line, append_step, file_of};
+use crate::symmetry::append_asymmetry;
 use crate::unread::append_unread;
 use crate::unsettled::{append_undecided, append_unroutable};
 use crate::usage::append_usage;
 use code_words::{cause, refusal};
+use route_symmetry::Asymmetry;
 use router_top::{Outcome, TextFile};
 use router_words::Job;
 use std::alloc::{AllocError, Global};
@@ -57,6 +59,7 @@ fn came_as_asked(outcome: &Outcome) -> bool
         | Outcome::NotLegal { .. }
         | Outcome::InputFault { .. }
         | Outcome::Limit { .. }
+        | Outcome::NotSymmetric { .. }
         | Outcome::Usage { .. }
         | Outcome::ReadFault { .. }
         | Outcome::WriteFault { .. }
@@ -79,6 +82,7 @@ fn file_meant(outcome: &Outcome) -> Option<TextFile>
         | Outcome::Done
         | Outcome::Accepted
         | Outcome::LegalRoute
+        | Outcome::NotSymmetric { .. }
         | Outcome::Usage { .. }
         | Outcome::WriteFault { .. }
         | Outcome::OutOfMemory => None,
@@ -116,6 +120,7 @@ fn meaning<R: Files + AllocGlobal>(
         Outcome::NotLegal { line, cause } => bad_line(rt.alloc(), line, cause),
         Outcome::InputFault { line, code, .. } => bad_line(rt.alloc(), line, code),
         Outcome::Limit { code, count } => passed_limit(rt.alloc(), code, count),
+        Outcome::NotSymmetric { width, why } => asymmetry(rt.alloc(), width, why),
         Outcome::Unroutable { .. }
         | Outcome::Undecided { .. }
         | Outcome::Usage { .. }
@@ -160,6 +165,15 @@ fn passed_limit(alloc: Global, code: u32, count: u64) -> Result<String, AllocErr
     Ok(text)
 }
 
+// What keeps tracks from being alike that are to be pinned.
+fn asymmetry(alloc: Global, width: u32, why: Asymmetry) -> Result<String, AllocError>
+    ensures { IfOk result (λ text. string_bytes text ≡ asymmetry_said width why) }
+{
+    let mut text = String::new(alloc);
+    append_asymmetry(&mut text, width, why)?;
+    Ok(text)
+}
+
 // The words for a cause, or these where it has none.
 fn words_or(words: Option<&'static str>, others: &'static str) -> &'static str
     requires words { IfSome words (λ words. IsTrue (is_phrase words.now)) }
@@ -196,6 +210,7 @@ fn advice<R: Files + AllocGlobal>(
         | Outcome::NotLegal { .. }
         | Outcome::InputFault { .. }
         | Outcome::Limit { .. }
+        | Outcome::NotSymmetric { .. }
         | Outcome::Routed { .. }
         | Outcome::Done
         | Outcome::Accepted
