@@ -41,4 +41,4 @@ is_code code =
 
 -- whether a number is a cause for which a step of a log is refused
 abbrev pub is_refusal_cause : ℕ → Bool
-is_refusal_cause cause = is_from 1 7 cause
+is_refusal_cause cause = is_from 1 10 cause

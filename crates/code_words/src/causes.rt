@@ -165,7 +165,7 @@ fn log_cause(code: u32) -> Option<&'static str>
         701 => Some("a word that is no number, or a clause without a number above 0"),
         702 => Some("a line that neither adds nor deletes a clause"),
         703 => Some("the number of an added clause is not above those before it"),
-        704 => Some("a negative hint: only reverse unit propagation is checked"),
+        704 => Some("a negative hint, and the clause has no literal to resolve on"),
         705 => Some("a higher number of a clause or a variable than is taken"),
         _ => None,
     }

@@ -9,9 +9,10 @@ fn each_code_has_words(rt: HostRuntime) -> Result<(), Fail> {
     );
     assert_eq!(rt; cause(516), None);
     assert_eq!(rt;
-        refusal(7),
-        Some("the log ends before it comes to the empty clause")
+        refusal(10),
+        Some("a group of hints ends, and no clause was false")
     );
+    assert_eq!(rt; refusal(11), None);
     Ok(())
 }
 
