@@ -13,8 +13,8 @@ use Rattle.route_symmetry.specs.Full.{asymmetry_of, is_full}
 use Rattle.route_symmetry.specs.declared.full.Asymmetry.{Asymmetry}
 use Rattle.route_verify.specs.Judged.{judged}
 use Rattle.sat_clause.specs.Formula.{Cnf}
-use Rattle.sat_clause.specs.Judge.{judge}
 use Rattle.sat_clause.specs.declared.limits.TheConstants.{CLAUSE_LIMIT}
+use Rattle.sat_rat.specs.FullJudge.{full_judge}
 use Rattle.sat_text.specs.CnfText.{cnf_said}
 use Rattle.sat_text.specs.LratText.{lrat_said}
 use Rattle.router_words.specs.Command.{job_of}
@@ -228,9 +228,9 @@ check-agrees job files a b h g =
     reads-alike files (cnf_source job.cnf) cnf_said
     (λ cnf. ReadsThen (IsHalted (Some files)) (Some files)
     (lrat_source job.lrat (length cnf.clauses)) lrat_said
-    (λ log outcome. outcome ≡ judgement_outcome (judge cnf log))) a b h g
+    (λ log outcome. outcome ≡ judgement_outcome (full_judge cnf log))) a b h g
     (λ cnf u v. reads-alike files (lrat_source job.lrat (length cnf.clauses)) lrat_said
-    (λ log outcome. outcome ≡ judgement_outcome (judge cnf log)) a b u v
+    (λ log outcome. outcome ≡ judgement_outcome (full_judge cnf log)) a b u v
     (λ log e f. e ∙ sym f))
 
 verify-agrees : (job : VerifyAsked) (files : FileMap) (a b : Outcome)

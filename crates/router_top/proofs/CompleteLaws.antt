@@ -12,8 +12,8 @@ use Rattle.fpga_types.specs.Given.{IsGiven}
 use Rattle.fpga_types.specs.Problem.{RoutingProblem}
 use Rattle.fpga_types.specs.declared.route.RouteText.{RouteText}
 use Rattle.sat_clause.specs.Formula.{Cnf}
-use Rattle.sat_clause.specs.Judge.{judge}
 use Rattle.sat_clause.specs.declared.limits.TheConstants.{CLAUSE_LIMIT}
+use Rattle.sat_rat.specs.FullJudge.{full_judge}
 use Rattle.sat_text.specs.CnfText.{cnf_said}
 use Rattle.sat_text.specs.LratText.{lrat_said}
 use Rattle.route_verify.specs.Judged.{judged}
@@ -426,13 +426,13 @@ module _ (at : Scene) (calm : ¬ HasRisen at.desk.faults at.desk_now.faults) whe
           calm-reads at.desk at.desk_now (cnf_source job.cnf) cnf_said
           (λ cnf. ReadsThen (IsStopped at.desk at.desk_now) at.desk.files
           (lrat_source job.lrat (length cnf.clauses)) lrat_said
-          (λ log outcome. outcome ≡ judgement_outcome (judge cnf log)))
+          (λ log outcome. outcome ≡ judgement_outcome (full_judge cnf log)))
           (λ cnf. ReadsThen (IsHalted at.desk.files) at.desk.files
           (lrat_source job.lrat (length cnf.clauses)) lrat_said
-          (λ log outcome. outcome ≡ judgement_outcome (judge cnf log))) o calm
+          (λ log outcome. outcome ≡ judgement_outcome (full_judge cnf log))) o calm
           (λ cnf. calm-reads at.desk at.desk_now (lrat_source job.lrat (length cnf.clauses))
-          lrat_said (λ log outcome. outcome ≡ judgement_outcome (judge cnf log))
-          (λ log outcome. outcome ≡ judgement_outcome (judge cnf log)) o calm (λ log. inl))
+          lrat_said (λ log outcome. outcome ≡ judgement_outcome (full_judge cnf log))
+          (λ log outcome. outcome ≡ judgement_outcome (full_judge cnf log)) o calm (λ log. inl))
 
   words-settle : (words : List Word) (o : Outcome) → Leaves words at o →
       Settles at.shelf at.shelf_now (IsTrueOf words at.desk.files) o

@@ -24,8 +24,9 @@ use Rattle.route_sweep.specs.declared.found.Stop.TheVariants.{Fault, TooManyClau
 use Rattle.route_verify.specs.declared.judgement.Judgement.{Judgement as Judged}
 use Rattle.route_verify.specs.declared.judgement.Judgement.TheVariants.{Legal as IsLegal, NotLegal as IsNotLegal}
 use Rattle.sat_clause.specs.Formula.{Cnf}
-use Rattle.sat_clause.specs.Judge.{Judgement, Accepted as IsAccepted, Refused as IsRefused, judge}
+use Rattle.sat_clause.specs.Judge.{Judgement, Accepted as IsAccepted, Refused as IsRefused}
 use Rattle.sat_clause.specs.Step.{Step}
+use Rattle.sat_rat.specs.FullJudge.{full_judge}
 use Rattle.sat_text.specs.CnfText.{cnf_said}
 use Rattle.sat_text.specs.LratText.{lrat_said}
 use Rattle.sat_text.specs.Printed.{cnf_text, log_text}
@@ -625,12 +626,12 @@ module _ (words : List Word) (at : Scene) where
       cnf_said
       (λ cnf. ReadsThen (IsStopped at.desk at.desk_now) at.desk.files
       (lrat_source job.lrat (length cnf.clauses)) lrat_said
-      (λ log outcome. outcome ≡ judgement_outcome (judge cnf log))) o
+      (λ log outcome. outcome ≡ judgement_outcome (full_judge cnf log))) o
       (λ cnf says. reads-hold (LeftHere words at) stops at.desk at.desk_now at.desk.files
       (lrat_source job.lrat (length cnf.clauses)) lrat_said
-      (λ log outcome. outcome ≡ judgement_outcome (judge cnf log)) o
+      (λ log outcome. outcome ≡ judgement_outcome (full_judge cnf log)) o
       (λ log says is. subst (LeftHere words at) (sym is)
-      (judged-left words at (judge cnf log) h.1))) h.0
+      (judged-left words at (full_judge cnf log) h.1))) h.0
   job-left (Verifies job) o asked h = verdict-holds (LeftHere words at)
       (stops-here words at (files-same words at h.1)) at.desk at.desk_now at.desk.files job o
       (λ judgement. verdict-left words at judgement h.1) h.0

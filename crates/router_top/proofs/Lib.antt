@@ -5,6 +5,7 @@ mod CompleteLaws
 mod FourLaws
 mod GeneratedLaws
 mod LeftLaws
+mod LiteralLaws
 mod MeansLaws
 mod MethodLaws
 mod NameLaws

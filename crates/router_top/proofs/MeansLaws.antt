@@ -22,9 +22,10 @@ use Rattle.route_verify.specs.Judged.{judged}
 use Rattle.route_verify.specs.declared.judgement.Judgement.{Judgement as Judged}
 use Rattle.route_verify.specs.declared.judgement.Judgement.TheVariants.{Legal as IsLegal, NotLegal as IsNotLegal}
 use Rattle.sat_clause.specs.Formula.{Cnf}
-use Rattle.sat_clause.specs.Judge.{Judgement, Accepted as IsAccepted, Refused as IsRefused, judge}
+use Rattle.sat_clause.specs.Judge.{Judgement, Accepted as IsAccepted, Refused as IsRefused}
 use Rattle.sat_clause.specs.Step.{Step}
-use Rattle.sat_clause.proofs.Refutes.{refutes}
+use Rattle.sat_rat.specs.FullJudge.{HaveLiterals, full_judge}
+use Rattle.sat_rat.proofs.FullSound.{full_refutes}
 use Rattle.sat_text.specs.CnfText.{cnf_said}
 use Rattle.sat_text.specs.LratText.{lrat_said}
 use Rattle.router_words.specs.Command.{job_of}
@@ -56,6 +57,7 @@ use Rattle.router_top.specs.declared.text_file.TextFile.TheVariants.{Route}
 use Rattle.router_top.proofs.ComeLaws.{HasCome, behind_line, route-comes, sweep-comes, trial-comes}
 use Rattle.router_top.proofs.FourLaws.{AfterArch, AfterNetlist, AfterPlacement}
 use Rattle.router_top.proofs.GeneratedLaws.{files-after, problem-apart}
+use Rattle.router_top.proofs.LiteralLaws.{log_literals}
 use Rattle.router_top.proofs.MethodLaws.{none-legal, routing-printable}
 use Rattle.router_top.proofs.StopLaws.{unsuited-holds}
 use Rattle.router_top.proofs.WrittenLaws.{AreApart, are-written, with_files-append}
@@ -208,7 +210,7 @@ module _ (words : List Word) (at : Scene) where
       (log : List Step) (reads_cnf : Says at.desk.files (cnf_source job.cnf) cnf_said cnf)
       (reads_lrat : Says at.desk.files (lrat_source job.lrat (length cnf.clauses)) lrat_said log)
     where
-      judged-means : (judgement : Judgement) → judge cnf log ≡ judgement
+      judged-means : (judgement : Judgement) → full_judge cnf log ≡ judgement
           → MeansHere (judgement_outcome judgement)
       judged-means IsAccepted accepts = record {
         job = job;
@@ -218,7 +220,9 @@ module _ (words : List Word) (at : Scene) where
         reads_cnf = reads_cnf;
         reads_lrat = reads_lrat;
         accepts = accepts;
-        unsat = refutes cnf log accepts;
+        unsat = full_refutes cnf log
+            (subst HaveLiterals (sym reads_lrat.says)
+            (log_literals (length cnf.clauses) reads_lrat.text reads_lrat.faultless)) accepts;
       }
       judged-means (IsRefused step cause) refused = tt
 
@@ -329,13 +333,13 @@ module _ (words : List Word) (at : Scene) where
       at.desk.files (cnf_source job.cnf) cnf_said
       (λ cnf. ReadsThen (IsStopped at.desk at.desk_now) at.desk.files
       (lrat_source job.lrat (length cnf.clauses)) lrat_said
-      (λ log outcome. outcome ≡ judgement_outcome (judge cnf log))) o
+      (λ log outcome. outcome ≡ judgement_outcome (full_judge cnf log))) o
       (λ cnf reads_cnf.
       reads-mean words at.desk.files at.shelf.files at.desk at.desk_now at.shelf_now.files
       at.desk.files (lrat_source job.lrat (length cnf.clauses)) lrat_said
-      (λ log outcome. outcome ≡ judgement_outcome (judge cnf log)) o
+      (λ log outcome. outcome ≡ judgement_outcome (full_judge cnf log)) o
       (λ log reads_lrat is. subst (MeansHere words at) (sym is)
-      (judged-means words at job asked cnf log reads_cnf reads_lrat (judge cnf log) refl))) h.0
+      (judged-means words at job asked cnf log reads_cnf reads_lrat (full_judge cnf log) refl))) h.0
   job-means (Verifies job) o asked h = verify-means words at job asked o h.0
   job-means (Generates job) o asked h = made-means words at job.recipe
       (WritesFiles problem_slots (generated_files job.recipe job.prefix) at.shelf at.shelf_now o) o

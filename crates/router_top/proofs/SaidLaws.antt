@@ -21,7 +21,8 @@ use Rattle.sat_clause.specs.Formula.{Cnf}
 use Rattle.sat_clause.specs.Step.{Step}
 use Rattle.route_verify.specs.declared.judgement.Judgement.{Judgement as Judged}
 use Rattle.route_verify.specs.declared.judgement.Judgement.TheVariants.{Legal as IsLegal, NotLegal as IsNotLegal}
-use Rattle.sat_clause.specs.Judge.{Judgement, Accepted as IsAccepted, Refused as IsRefused, judge}
+use Rattle.sat_clause.specs.Judge.{Judgement, Accepted as IsAccepted, Refused as IsRefused}
+use Rattle.sat_rat.specs.FullJudge.{full_judge}
 use Rattle.sat_text.specs.CnfText.{cnf_said}
 use Rattle.sat_text.specs.LratText.{lrat_said}
 use Rattle.router_words.specs.Command.{job_of}
@@ -279,11 +280,11 @@ module _ (words : List Word) (at : Scene) where
       cnf_said
       (λ cnf. ReadsThen (IsStopped at.desk at.desk_now) at.desk.files
       (lrat_source job.lrat (length cnf.clauses)) lrat_said
-      (λ log outcome. outcome ≡ judgement_outcome (judge cnf log))) o
+      (λ log outcome. outcome ≡ judgement_outcome (full_judge cnf log))) o
       (λ cnf says. reads-hold IsHeard stops-heard at.desk at.desk_now at.desk.files
       (lrat_source job.lrat (length cnf.clauses)) lrat_said
-      (λ log outcome. outcome ≡ judgement_outcome (judge cnf log)) o
-      (λ log says is. subst IsHeard (sym is) (judged-heard (judge cnf log)))) h.0) h.1)
+      (λ log outcome. outcome ≡ judgement_outcome (full_judge cnf log)) o
+      (λ log says is. subst IsHeard (sym is) (judged-heard (full_judge cnf log)))) h.0) h.1)
   job-led (Verifies job) o asked h = no-lead words at o (λ other is. cc)
       (stays-quiet words at o
       (verdict-holds IsHeard stops-heard at.desk at.desk_now at.desk.files job o verdict-heard h.0)

@@ -4,9 +4,10 @@ use Rattle.desk_io.specs.Files.{Bytes, FileMap}
 use Rattle.sat_clause.specs.Cause.{cause_number}
 use Rattle.sat_clause.specs.Formula.{Cnf}
 use Rattle.sat_clause.specs.Step.{Step}
-use Rattle.sat_clause.specs.Judge.{Judgement, Accepted as IsAccepted, Refused as IsRefused, judge}
+use Rattle.sat_clause.specs.Judge.{Judgement, Accepted as IsAccepted, Refused as IsRefused}
+use Rattle.sat_rat.specs.FullJudge.{full_judge}
 use Rattle.sat_text.specs.CnfText.{cnf_faults, cnf_said}
-use Rattle.sat_text.specs.LratText.{lrat_faults, lrat_said}
+use Rattle.sat_text.specs.LratText.{full_lrat_faults, lrat_said}
 use Rattle.router_words.specs.Job.{CheckAsked}
 use Rattle.router_top.specs.Sources.{ReadsThen, Says, Source}
 use Rattle.router_top.specs.declared.limits.TheConstants.{PROOF_BYTES}
@@ -23,13 +24,13 @@ cnf_source name = record {
   faults = cnf_faults;
 }
 
--- the log, behind so many input clauses
+-- the log, whose steps may resolve on a first literal, behind so many input clauses
 abbrev pub lrat_source : Bytes → (inputs : ℕ) → Source
 lrat_source name inputs = record {
   file = Lrat;
   name = name;
   limit = PROOF_BYTES;
-  faults = lrat_faults inputs;
+  faults = full_lrat_faults inputs;
 }
 
 -- the LRAT file says a log, and this is what the log says of the formula
@@ -37,7 +38,7 @@ pub record SaysOf (files : Option FileMap) (name : Bytes) (formula : Cnf) (judge
     : Type 0 where
   pub log : List Step
   pub says : Says files (lrat_source name (length formula.clauses)) lrat_said log
-  pub judged : judgement ≡ judge formula log
+  pub judged : judgement ≡ full_judge formula log
 
 -- what a run comes to by the judgement of a log
 abbrev pub judgement_outcome : Judgement → Outcome
@@ -49,4 +50,4 @@ abbrev pub ChecksTo : (Source → Outcome → Type 0) → Option FileMap → Che
 ChecksTo stops files job =
     ReadsThen stops files (cnf_source job.cnf) cnf_said
     (λ cnf. ReadsThen stops files (lrat_source job.lrat (length cnf.clauses)) lrat_said
-    (λ log outcome. outcome ≡ judgement_outcome (judge cnf log)))
+    (λ log outcome. outcome ≡ judgement_outcome (full_judge cnf log)))

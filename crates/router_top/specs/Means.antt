@@ -9,8 +9,8 @@ use Rattle.route_verify.specs.Judged.{judged}
 use Rattle.route_verify.specs.declared.judgement.Judgement.{Judgement}
 use Rattle.route_verify.specs.declared.judgement.Judgement.TheVariants.{Legal as IsLegal, NotLegal as IsNotLegal}
 use Rattle.sat_clause.specs.Formula.{Cnf, IsUnsat}
-use Rattle.sat_clause.specs.Judge.{Accepts}
 use Rattle.sat_clause.specs.Step.{Step}
+use Rattle.sat_rat.specs.FullJudge.{FullAccepts}
 use Rattle.sat_text.specs.CnfText.{ReadsCnf, cnf_said}
 use Rattle.sat_text.specs.LratText.{lrat_said}
 use Rattle.router_words.specs.Command.{job_of}
@@ -55,7 +55,7 @@ pub record IsProved (words : List Word) (desk : Option FileMap) : Type 0 where
   pub asked : job_of words ≡ Ok (Checks job)
   pub reads_cnf : Says desk (cnf_source job.cnf) cnf_said cnf
   pub reads_lrat : Says desk (lrat_source job.lrat (length cnf.clauses)) lrat_said log
-  pub accepts : Accepts cnf log
+  pub accepts : FullAccepts cnf log
   pub unsat : IsUnsat cnf
 
 -- the words ask for the judging of a routed file, the four files of the problem read and fit, the

@@ -2,9 +2,9 @@
 ghost use Rattle.std.specs.Prelude.{◌≡◌, IfErr, IfOk, length};
 ghost use Rattle.fpga_text.specs.FirstFault.{Answers};
 ghost use Rattle.sat_check.specs.Verdict.{judgement_of};
-ghost use Rattle.sat_clause.specs.Judge.{judge};
+ghost use Rattle.sat_rat.specs.FullJudge.{full_judge};
 ghost use Rattle.sat_text.specs.CnfText.{cnf_said};
-ghost use Rattle.sat_text.specs.LratText.{lrat_faults, lrat_said};
+ghost use Rattle.sat_text.specs.LratText.{full_lrat_faults, lrat_said};
 ghost use Rattle.router_words.specs.Job.{check_said};
 ghost use Rattle.router_top.specs.Check.{ChecksTo, SaysOf, cnf_source, lrat_source};
 ghost use Rattle.router_top.specs.Report.{IsReadFault, IsReadFaultErr};
@@ -17,8 +17,9 @@ use crate::text_file::TextFile;
 use desk_io::Desk;
 use fpga_text::TextFault;
 use router_words::CheckJob;
-use sat_check::{Replay, Verdict};
+use sat_check::Verdict;
 use sat_clause::Formula;
+use sat_rat::FullReplay;
 use sat_text::{LogLines, read_cnf};
 use std::alloc::Global;
 
@@ -46,13 +47,13 @@ fn read_formula<D: Desk>(alloc: Global, desk: &mut D, name: &str) -> Result<Form
 // clauses that it adds are kept as long as they are live. What stands behind the end of the judging
 // is read for faults alone.
 fn replay_text(alloc: Global, formula: &Formula, text: &[u8]) -> Result<Verdict, TextFault>
-    ensures { Answers (lrat_faults (length formula.now.cnf.clauses) text.now)
-        (λ verdict. judgement_of verdict ≡ judge formula.now.cnf (lrat_said text.now)) result }
+    ensures { Answers (full_lrat_faults (length formula.now.cnf.clauses) text.now)
+        (λ verdict. judgement_of verdict ≡ full_judge formula.now.cnf (lrat_said text.now)) result }
 {
-    let Ok(mut replay) = Replay::new(alloc, formula) else {
+    let Ok(mut replay) = FullReplay::new(alloc, formula) else {
         return Err(TextFault::Memory);
     };
-    let mut lines = LogLines::new(alloc, text, formula.len());
+    let mut lines = LogLines::full(alloc, text, formula.len());
     loop {
         let more = match lines.read_next() {
             Ok(more) => more,

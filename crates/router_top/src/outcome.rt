@@ -30,7 +30,7 @@ pub enum Outcome {
     /// The log refutes the formula.
     Accepted,
     /// The log does not refute the formula: its step with this number, counted from 1, is refused
-    /// with this cause, from 1 to 7.
+    /// with this cause, from 1 to 10.
     NotAccepted {
         step: u64,
         cause: u32,

@@ -1,16 +1,16 @@
 use Rattle.std.proofs.Common.{ℕ, List, [], ◌∷◌, ◌++◌, ap, sym, ◌∙◌, append_assoc, append-nil}
 use Rattle.fpga_text.specs.FirstFault.{first_fault}
-use Rattle.sat_clause.specs.Judge.{judge}
 use Rattle.sat_clause.specs.Step.{Step}
 use Rattle.sat_check.specs.Verdict.{step_of}
-use Rattle.sat_text.specs.LratText.{lrat_faults}
+use Rattle.sat_rat.specs.FullJudge.{full_judge}
+use Rattle.sat_text.specs.LratText.{full_lrat_faults}
 use Rattle.router_top.proofs.checking.replay_text.Goals as goal
 
 pub loop-more-init : goal.loop-more-init
 loop-more-init c = record {
-  past = ap (λ (n : ℕ). first_fault (lrat_faults n c.args.text.now)) (sym c.len.ensures)
-      ∙ ap first_fault (sym c.new-lines.ensures.faults);
-  taken = ([], c.in-Ok.ensures, c.new-lines.ensures.steps);
+  past = ap (λ (n : ℕ). first_fault (full_lrat_faults n c.args.text.now)) (sym c.len.ensures)
+      ∙ ap first_fault (sym c.full-lines.ensures.faults);
+  taken = ([], c.in-Ok.ensures, c.full-lines.ensures.steps);
 }
 
 pub loop-more-preserved : goal.loop-more-preserved
@@ -39,5 +39,5 @@ returns-then-not-more c =
     let whole = sym (append-nil steps)
     ∙ (ap (λ (more : List Step). steps ++ more) (sym out.none) ∙ before.taken.2) in (
       before.past ∙ out.faultless,
-      c.verdict.ensures formula steps before.taken.1 ∙ ap (judge formula) whole,
+      c.verdict.ensures.judged formula steps before.taken.1 ∙ ap (full_judge formula) whole,
     )
