@@ -19,13 +19,14 @@ use desk_io::FileDesk;
 use rows_problem::{RowsError, text};
 
 // The files of cases. The first says how they are written.
-const FILES: [&str; 8] = [
+const FILES: [&str; 9] = [
     "worked.rows",
     "pinned.rows",
     "failing_calls.rows",
     "route_texts.rows",
     "limits.rows",
     "proof_texts.rows",
+    "resolution_logs.rows",
     "routed_texts.rows",
     "members.rows",
 ];
