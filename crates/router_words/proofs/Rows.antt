@@ -183,9 +183,34 @@ pub encode_pins : job_of (codes "encode" ∷ codes "a" ∷ codes "n" ∷ codes "
       width = 5;
       prefix = codes "out";
       method = Pinned;
+      reach = None;
     }))
 unfolding clap_on_literals
 encode_pins = refl
+
+-- `encode a n p r 5 out` and more words
+abbrev encode : List Word → Asked
+encode more = job_of (codes "encode" ∷ codes "a" ∷ codes "n" ∷ codes "p" ∷ codes "r"
+    ∷ codes "5" ∷ codes "out" ∷ more)
+
+pub encode_reaches : encode (codes "--reach" ∷ codes "64" ∷ [])
+    ≡ Ok (Encodes (record {
+      files = four_files;
+      width = 5;
+      prefix = codes "out";
+      method = Strictly;
+      reach = Some 64;
+    }))
+unfolding clap_on_literals
+encode_reaches = refl
+
+pub reach_too_far : encode (codes "--pin" ∷ codes "--reach=65" ∷ []) ≡ Err Number
+unfolding clap_on_literals
+reach_too_far = refl
+
+pub pins_and_reaches : encode (codes "--pin" ∷ codes "--reach=2" ∷ []) ≡ Err Clash
+unfolding clap_on_literals
+pins_and_reaches = refl
 
 pub checks : job_of (codes "check" ∷ codes "c" ∷ codes "-" ∷ [])
     ≡ Ok (Checks (record { cnf = codes "c"; lrat = codes "-" }))

@@ -1,5 +1,5 @@
 -- The commands, and the job that the words of one ask for.
-use Rattle.std.specs.Prelude.{◌≡◌, ℕ, nat_le, ◌&&◌, Bool, false, List, [], ◌∷◌, codes, find, Result, Ok, Err, Option, None, Some, ok_or, unwrap_or, IfSome, ⊤, if◌then◌else◌}
+use Rattle.std.specs.Prelude.{◌≡◌, ℕ, nat_le, ◌&&◌, Bool, false, List, [], ◌∷◌, codes, find, Result, Ok, Err, Option, None, Some, is_some, ok_or, unwrap_or, IfSome, ⊤, if◌then◌else◌}
 use Rattle.std.specs.Option.{option_map_or}
 use Rattle.std.specs.Str.{bytes_eq}
 use Rattle.clap.specs.Words.{App, Row, first_of, matches_of}
@@ -17,7 +17,7 @@ use Rattle.router_words.specs.declared.fault.Refusal.TheVariants.{Clash, Command
 use Rattle.router_words.specs.declared.fault.WordsFault.{WordsFault}
 use Rattle.router_words.specs.declared.fault.WordsFault.TheVariants.{Memory, Refused}
 use Rattle.router_words.specs.declared.job.Job.{Job}
-use Rattle.router_words.specs.declared.limits.TheConstants.{BUDGET_DEFAULT, BUDGET_LIMIT, GENERATED_NETS_LIMIT, MEMBER_LIMIT, SEED_DEFAULT, SEED_LIMIT}
+use Rattle.router_words.specs.declared.limits.TheConstants.{BUDGET_DEFAULT, BUDGET_LIMIT, GENERATED_NETS_LIMIT, MEMBER_LIMIT, REACH_LIMIT, SEED_DEFAULT, SEED_LIMIT}
 use Rattle.router_words.specs.declared.method.Method.{Method}
 use Rattle.router_words.specs.declared.method.Method.TheVariants.{Pinned, Strictly}
 
@@ -116,6 +116,15 @@ members_asked rows =
     and_then (number_if_any 1 MEMBER_LIMIT (codes "members") rows) (λ count.
     and_then (number_if_any 0 SEED_LIMIT (codes "seed") rows) (λ seed. members_with count seed))
 
+-- L of `--reach L`, where it was given
+abbrev pub reach_asked : List Row → Result (Option ℕ) Refusal
+reach_asked rows = number_if_any 1 REACH_LIMIT (codes "reach") rows
+
+-- `--pin` and `--reach` were both given
+abbrev pub pins_within_reach : List Row → Bool
+pins_within_reach rows =
+    has_flag (codes "pin") rows && is_some (first_of (codes "reach") rows)
+
 -- ---- the commands
 
 -- a command: its name, its form, and the job that the matches of the form say, or why they say none
@@ -140,14 +149,18 @@ sweep_asked rows =
     map_ok (λ search. Sweeps (record { files = files_asked rows; search = search }))
     (search_asked (method_asked rows) rows)
 
--- what `encode` is asked for
+-- what `encode` is asked for: pinned tracks and a reach exclude each other
 abbrev pub encode_asked : List Row → Result JobAsked Refusal
-encode_asked rows = map_ok (λ width. Encodes (record {
-  files = files_asked rows;
-  width = width;
-  prefix = word_in (codes "prefix") rows;
-  method = method_asked rows;
-})) (width_asked rows)
+encode_asked rows =
+    and_then (width_asked rows) (λ width.
+    and_then (reach_asked rows) (λ reach.
+    if pins_within_reach rows then Err Clash else Ok (Encodes (record {
+      files = files_asked rows;
+      width = width;
+      prefix = word_in (codes "prefix") rows;
+      method = method_asked rows;
+      reach = reach;
+    }))))
 
 -- what `check` is asked for
 abbrev pub check_asked : List Row → Result JobAsked Refusal

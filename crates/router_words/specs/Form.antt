@@ -73,10 +73,11 @@ route_form =
 abbrev pub sweep_form : App
 sweep_form = search_form (codes "sweep")
 
--- ARCH NET PLACE ROUTE WIDTH PREFIX [--pin]
+-- ARCH NET PLACE ROUTE WIDTH PREFIX [--pin] [--reach L]
 abbrev pub encode_form : App
 encode_form =
-    with_flag (codes "pin") (with_width_and_prefix (with_files (empty_form (codes "encode"))))
+    with_option (codes "reach")
+    (with_flag (codes "pin") (with_width_and_prefix (with_files (empty_form (codes "encode")))))
 
 -- CNF LRAT
 abbrev pub check_form : App

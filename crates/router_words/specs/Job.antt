@@ -50,13 +50,15 @@ pub record SweepAsked : Type 0 where
   pub files : FilesAsked
   pub search : SearchAsked
 
--- to write the clauses: the files, the width, what the name of the written file begins with, and
--- how routings are said by clauses
+-- to write the clauses: the files, the width, what the name of the written file begins with, how
+-- routings are said by clauses, and within how many joins a net is to reach its sinks, where it may
+-- take several wires of a cell
 pub record EncodeAsked : Type 0 where
   pub files : FilesAsked
   pub width : ℕ
   pub prefix : Word
   pub method : Method
+  pub reach : Option ℕ
 
 -- to check a refutation: the names of the CNF file and of the LRAT file
 pub record CheckAsked : Type 0 where
@@ -135,6 +137,7 @@ encode_said job = record {
   width = job.width;
   prefix = job.prefix.now;
   method = job.method;
+  reach = job.reach;
 }
 
 abbrev pub check_said : CheckJob → CheckAsked

@@ -16,8 +16,8 @@ pub enum Refusal {
     /// A word that is to be a number is no whole number in its range.
     #[error("a word is no whole number in its range")]
     Number,
-    /// An option is given without one that it needs.
-    #[error("an option is given without one that it needs")]
+    /// An option is given without one that it needs, or with one that it excludes.
+    #[error("an option is given without one that it needs, or with one that it excludes")]
     Clash,
 }
 

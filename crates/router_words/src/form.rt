@@ -103,13 +103,14 @@ pub fn route_command<'a>(alloc: Global) -> Result<Command<'a>, AllocError>
     add_option(alloc, command, "seed")
 }
 
-/// ARCH NET PLACE ROUTE WIDTH PREFIX [--pin]
+/// ARCH NET PLACE ROUTE WIDTH PREFIX [--pin] [--reach L]
 pub fn encode_command<'a>(alloc: Global) -> Result<Command<'a>, AllocError>
     ensures { IfOk result (λ c. app_of c ≡ encode_form) }
 {
     let command = add_files(alloc, named(alloc, "encode"))?;
     let command = add_width_and_prefix(alloc, command)?;
-    add_flag(alloc, command, "pin")
+    let command = add_flag(alloc, command, "pin")?;
+    add_option(alloc, command, "reach")
 }
 
 /// CNF LRAT

@@ -2,12 +2,12 @@
 ghost use Rattle.std.specs.Prelude.{◌≡◌, ◌≤◌, IfOk, IfSome, codes, is_some, option_map, true};
 ghost use Rattle.clap.specs.Words.{first_of, found_of, rows_of};
 ghost use Rattle.fpga_types.specs.declared.limits.TheConstants.{WIDTH_LIMIT};
-ghost use Rattle.router_words.specs.Command.{check_asked, conflicts_asked, encode_asked, files_asked, gen_asked, members_asked, members_with, method_asked, number_if_any, number_within, recipe_asked, route_asked, search_asked, sweep_asked, trial_asked, verify_asked, width_asked, word_in};
+ghost use Rattle.router_words.specs.Command.{check_asked, conflicts_asked, encode_asked, files_asked, gen_asked, members_asked, members_with, method_asked, number_if_any, number_within, pins_within_reach, reach_asked, recipe_asked, route_asked, search_asked, sweep_asked, trial_asked, verify_asked, width_asked, word_in};
 ghost use Rattle.router_words.specs.Form.{check_form, encode_form, gen_form, route_form, sweep_form, trial_form, verify_form};
 ghost use Rattle.router_words.specs.Job.{files_said, job_said, members_said, recipe_said, search_said};
 ghost use Rattle.router_words.specs.Results.{map_ok};
 ghost use Rattle.router_words.specs.Taken.{HasFiles, HasRecipe, HasRequired};
-ghost use Rattle.router_words.specs.declared.limits.TheConstants.{BUDGET_LIMIT, MEMBER_LIMIT, SEED_LIMIT};
+ghost use Rattle.router_words.specs.declared.limits.TheConstants.{BUDGET_LIMIT, MEMBER_LIMIT, REACH_LIMIT, SEED_LIMIT};
 
 use crate::fault::Refusal;
 use crate::job::{
@@ -15,7 +15,8 @@ use crate::job::{
     TrialJob, VerifyJob,
 };
 use crate::limits::{
-    BUDGET_DEFAULT, BUDGET_LIMIT, GENERATED_NETS_LIMIT, MEMBER_LIMIT, SEED_DEFAULT, SEED_LIMIT,
+    BUDGET_DEFAULT, BUDGET_LIMIT, GENERATED_NETS_LIMIT, MEMBER_LIMIT, REACH_LIMIT, SEED_DEFAULT,
+    SEED_LIMIT,
 };
 use crate::matched::{first_word, is_given, number_within, required_word};
 use crate::method::Method;
@@ -144,6 +145,23 @@ fn members(matches: &ArgMatches) -> Result<Option<Members>, Refusal>
     }
 }
 
+// Within how many joins a net is to reach its sinks, where the words say it; or that the word is no
+// number in range.
+fn reach(matches: &ArgMatches) -> Result<Option<u32>, Refusal>
+    ensures number { result ≡ reach_asked (rows_of (found_of matches.now)) }
+    ensures within { IfOk result (λ found. IfSome found
+        (λ number. (1 ≤ number) × (number ≤ REACH_LIMIT))) }
+{
+    number_if_any(matches, "reach", 1, REACH_LIMIT)
+}
+
+// Whether pinned tracks and a reach are both asked for.
+fn pins_within_reach(matches: &ArgMatches) -> bool
+    ensures { result ≡ pins_within_reach (rows_of (found_of matches.now)) }
+{
+    is_given(matches, "pin") && first_word(matches, "reach").is_some()
+}
+
 /// What `route` is asked for, or why its words ask for nothing.
 pub fn route_job<'a>(matches: &ArgMatches<'a>) -> Result<Job<'a>, Refusal>
     requires { HasRequired route_form (rows_of (found_of matches.now)) }
@@ -176,11 +194,16 @@ pub fn encode_job<'a>(matches: &ArgMatches<'a>) -> Result<Job<'a>, Refusal>
     ensures { map_ok job_said result ≡ encode_asked (rows_of (found_of matches.now)) }
 {
     let width = width(matches)?;
+    let reach = reach(matches)?;
+    if pins_within_reach(matches) {
+        return Err(Refusal::Clash);
+    }
     Ok(Job::Encode(EncodeJob {
         files: file_names(matches),
         width,
         prefix: required_word(matches, "prefix"),
         method: method(matches),
+        reach,
     }))
 }
 

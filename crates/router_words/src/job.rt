@@ -1,7 +1,8 @@
 //! What the words of a command ask for.
-ghost use Rattle.std.specs.Prelude.{◌≤◌};
+ghost use Rattle.std.proofs.Props.{props};
+ghost use Rattle.std.specs.Prelude.{◌≤◌, IfSome};
 ghost use Rattle.fpga_types.specs.declared.limits.TheConstants.{SIDE_LIMIT, WIDTH_LIMIT};
-ghost use Rattle.router_words.specs.declared.limits.TheConstants.{BUDGET_LIMIT, GENERATED_NETS_LIMIT, MEMBER_LIMIT, SEED_LIMIT};
+ghost use Rattle.router_words.specs.declared.limits.TheConstants.{BUDGET_LIMIT, GENERATED_NETS_LIMIT, MEMBER_LIMIT, REACH_LIMIT, SEED_LIMIT};
 
 use crate::method::Method;
 
@@ -77,7 +78,11 @@ pub struct EncodeJob<'a> {
     pub prefix: &'a str,
     /// How routings are said by clauses.
     pub method: Method,
+    /// Within how many joins a net is to reach its sinks, from 1 to 64, where it may take several
+    /// wires of a cell.
+    pub reach: Option<u32>,
     ghost in_range: { (1 ≤ width) × (width ≤ WIDTH_LIMIT) },
+    ghost near: { IfSome reach (λ n. (1 ≤ n) × (n ≤ REACH_LIMIT)) } by { Prim.hlevel props },
 }
 
 /// To check a refutation.

@@ -4,7 +4,7 @@
 //! |---|---|---|
 //! | `route` | ARCH NET PLACE ROUTE WIDTH PREFIX | `--conflicts N`, `--keep`, `--pin`, `--members K`, `--seed S` |
 //! | `sweep` | ARCH NET PLACE ROUTE MAX PREFIX | `--conflicts N`, `--keep`, `--pin` |
-//! | `encode` | ARCH NET PLACE ROUTE WIDTH PREFIX | `--pin` |
+//! | `encode` | ARCH NET PLACE ROUTE WIDTH PREFIX | `--pin`, `--reach L` |
 //! | `check` | CNF LRAT | |
 //! | `verify` | ARCH NET PLACE ROUTE WIDTH ROUTED | |
 //! | `gen` | SEED NX NETS PREFIX | |
@@ -13,7 +13,7 @@
 //! WIDTH and MAX are whole numbers from 1 to 64, and N one from 1 to 100,000,000, or 1,000,000
 //! where it is not given. SEED is one from 0 to 2,147,483,647, NX one from 1 to 100, and NETS one
 //! from 1 to 10,000. K is one from 1 to 8, and S one from 0 to 2,147,483,647, or 1 where `--members`
-//! is given alone. Leading zeros are taken, signs are not.
+//! is given alone. L is one from 1 to 64. Leading zeros are taken, signs are not.
 //!
 //! What stands behind the command is taken as `clap` takes it: options may stand anywhere,
 //! `--conflicts=5` is `--conflicts 5`, behind `--` no word is an option, and a word may be empty or
@@ -25,7 +25,7 @@
 //! | 1 | there is no first word, or it names no command |
 //! | 2 | the form of the command does not take the words behind it |
 //! | 3 | a word that is to be a number is no whole number in its range |
-//! | 4 | `--seed` is given without `--members` |
+//! | 4 | `--seed` is given without `--members`, or `--pin` and `--reach` are both given |
 //!
 //! The least code that holds is answered.
 #![tactic(auto)]
@@ -48,7 +48,8 @@ pub use job::{
     TrialJob, VerifyJob,
 };
 pub use limits::{
-    BUDGET_DEFAULT, BUDGET_LIMIT, GENERATED_NETS_LIMIT, MEMBER_LIMIT, SEED_DEFAULT, SEED_LIMIT,
+    BUDGET_DEFAULT, BUDGET_LIMIT, GENERATED_NETS_LIMIT, MEMBER_LIMIT, REACH_LIMIT, SEED_DEFAULT,
+    SEED_LIMIT,
 };
 pub use method::Method;
 pub use read::read_words;
