@@ -25,6 +25,7 @@ use Rattle.router_words.specs.declared.fault.Refusal.{Refusal}
 use Rattle.router_words.specs.declared.method.Method.{Method}
 use Rattle.router_words.specs.declared.method.Method.TheVariants.{Pinned, Strictly}
 use Rattle.router_top.specs.Check.{ChecksTo, cnf_source, judgement_outcome, lrat_source}
+use Rattle.router_top.specs.Encoded.{clauses_asked}
 use Rattle.router_top.specs.Generated.{IsTooLarge, Makes}
 use Rattle.router_top.specs.Method.{HasNone, clauses_by}
 use Rattle.router_top.specs.Search.{Search, clauses_held, route_search, sweep_of, sweep_search}
@@ -302,8 +303,8 @@ job-agrees (Sweeps job) files a b h g =
 job-agrees (Encodes job) files a b h g =
     work-agrees files job.files (IsTrueOfEncoding job) a b h g
     (λ p u v. suited-agrees job.width job.width p job.method
-    (λ said. IsTrueOfClauses (clauses_by job.method job.width p) (said ≡ Done) said) a b u v
-    (λ s t. clauses-agree (clauses_by job.method job.width p) (λ said. said ≡ Done) a b s t
+    (λ said. IsTrueOfClauses (clauses_asked job p) (said ≡ Done) said) a b u v
+    (λ s t. clauses-agree (clauses_asked job p) (λ said. said ≡ Done) a b s t
     (λ e f. inl (e ∙ sym f))))
 job-agrees (Checks job) files a b h g = inl (check-agrees job files a b h g)
 job-agrees (Verifies job) files a b h g = verify-agrees job files a b h g

@@ -34,6 +34,7 @@ use Rattle.router_words.specs.Word.{Word}
 use Rattle.router_words.specs.declared.fault.Refusal.{Refusal}
 use Rattle.router_words.specs.declared.method.Method.{Method}
 use Rattle.router_top.specs.Check.{ChecksTo, cnf_source, judgement_outcome, lrat_source}
+use Rattle.router_top.specs.Encoded.{clauses_asked}
 use Rattle.router_top.specs.Files.{FailsAmong, WritesFiles, problem_slots}
 use Rattle.router_top.specs.Generated.{generated_files}
 use Rattle.router_top.specs.Method.{HasNone, IsRoutingBy, clauses_by}
@@ -230,14 +231,14 @@ module _ (job : SweepAsked) (p : RoutingProblem) (fits : Fits p) (before now : S
 
 abbrev SaysClauses : EncodeAsked → RoutingProblem → Outcome → Type 0
 SaysClauses job p said =
-    IsTrueOfClauses (clauses_by job.method job.width p) (said ≡ Done) said
+    IsTrueOfClauses (clauses_asked job p) (said ≡ Done) said
 
 module _ (job : EncodeAsked) (p : RoutingProblem) (before now : ShelfState) where
   abbrev SaysHere : Outcome → Type 0
   SaysHere = SaysClauses job p
 
   written-settles : (came : Result (Unit {0}) Stop)
-      → WritesClauses job (clauses_by job.method job.width p) before now came
+      → WritesClauses job (clauses_asked job p) before now came
       → Settles before now SaysHere (written_outcome came)
   written-settles (Ok written) h =
       by-word before now SaysHere Done (omega (arith, ap (λ (s : ShelfState). s.faults) h.2))

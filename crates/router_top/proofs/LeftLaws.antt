@@ -38,6 +38,7 @@ use Rattle.router_words.specs.declared.fault.Refusal.{Refusal}
 use Rattle.router_words.specs.declared.method.Method.{Method}
 use Rattle.router_top.specs.Check.{cnf_source, judgement_outcome, lrat_source}
 use Rattle.router_top.specs.Comes.{lower_files}
+use Rattle.router_top.specs.Encoded.{clauses_asked}
 use Rattle.router_top.specs.Files.{FailsAmong, WritesFiles, problem_slots}
 use Rattle.router_top.specs.FourFiles.{Poses}
 use Rattle.router_top.specs.Generated.{HasRoom, generated_files, texts_of}
@@ -486,7 +487,7 @@ module _ (words : List Word) (at : Scene) where
   -- the clauses alone
   module _ (job : EncodeAsked) (p : RoutingProblem) (asked : job_of words ≡ Ok (EncodesJob job))
       (poses : Poses at.desk.files job.files p) where
-    encode-of : HasFew (clauses_by job.method job.width p)
+    encode-of : HasFew (clauses_asked job p)
         → AreFilesOf words at.desk.files (in_slots (File Clauses ∷ []) (clauses_file job p ∷ []))
     encode-of few = inr (inl (record {
       job = job;
@@ -498,7 +499,7 @@ module _ (words : List Word) (at : Scene) where
     }))
 
     written-left : (came : Result (Unit {0}) Stop)
-        → WritesClauses job (clauses_by job.method job.width p) at.shelf at.shelf_now came
+        → WritesClauses job (clauses_asked job p) at.shelf at.shelf_now came
         → LeftHere (written_outcome came)
     written-left (Ok written) h = whole-left words at.desk.files at.shelf.files
         (in_slots (File Clauses ∷ []) (clauses_file job p ∷ [])) (encode-of h.0) (tt, tt)

@@ -35,12 +35,12 @@ use Rattle.router_words.specs.Word.{Word}
 use Rattle.router_words.specs.declared.fault.Refusal.{Refusal}
 use Rattle.router_words.specs.declared.method.Method.{Method}
 use Rattle.router_top.specs.Check.{cnf_source, judgement_outcome, lrat_source}
+use Rattle.router_top.specs.Encoded.{clauses_asked}
 use Rattle.router_top.specs.FourFiles.{GivesNone, IsUnfit, Poses, arch_source, net_source, place_source, route_source}
 use Rattle.router_top.specs.Comes.{ComesTo, lower_files}
 use Rattle.router_top.specs.Files.{WritesFiles, problem_slots}
 use Rattle.router_top.specs.Generated.{HasRoom, generated_files, texts_of}
 use Rattle.router_top.specs.Means.{IsJudged, Means}
-use Rattle.router_top.specs.Method.{clauses_by}
 use Rattle.router_top.specs.Outcomes.{found_outcome, stop_outcome, written_outcome}
 use Rattle.router_top.specs.Report.{unsaid}
 use Rattle.router_top.specs.Run.{Leaves, LeavesJob, LeavesMade, LeavesWork, Runs, Scene, TriesGenerated, scene}
@@ -192,7 +192,7 @@ module _ (words : List Word) (at : Scene) where
   module _ (job : EncodeAsked) (p : RoutingProblem) (asked : job_of words ≡ Ok (EncodesJob job))
       (poses : Poses at.desk.files job.files p) where
     written-means : (came : Result (Unit {0}) Stop)
-        → WritesClauses job (clauses_by job.method job.width p) at.shelf at.shelf_now came
+        → WritesClauses job (clauses_asked job p) at.shelf at.shelf_now came
         → MeansHere (written_outcome came)
     written-means (Ok written) h = inl (record {
       job = job;

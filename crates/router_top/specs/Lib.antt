@@ -1,5 +1,6 @@
 pub mod Check
 pub mod Comes
+pub mod Encoded
 pub mod Files
 pub mod FourFiles
 pub mod Generated

@@ -17,10 +17,10 @@ use Rattle.router_words.specs.Command.{job_of}
 use Rattle.router_words.specs.Job.{CheckAsked, Checks, EncodeAsked, Encodes, GenAsked, Generates, VerifyAsked, Verifies}
 use Rattle.router_words.specs.Word.{Word}
 use Rattle.router_top.specs.Check.{cnf_source, lrat_source}
+use Rattle.router_top.specs.Encoded.{clauses_asked}
 use Rattle.router_top.specs.FourFiles.{Poses}
 use Rattle.router_top.specs.Generated.{HasRoom, generated_files}
 use Rattle.router_top.specs.Headline.{IsLeftOpen, IsRefuted, IsRouted}
-use Rattle.router_top.specs.Method.{clauses_by}
 use Rattle.router_top.specs.Sources.{Says}
 use Rattle.router_top.specs.Verify.{routed_source}
 use Rattle.router_top.specs.Work.{clauses_file}
@@ -34,8 +34,8 @@ pub record IsEncoded (words : List Word) (desk before now : Option FileMap) : Ty
   pub p : RoutingProblem
   pub asked : job_of words ≡ Ok (Encodes job)
   pub poses : Poses desk job.files p
-  pub few : HasFew (clauses_by job.method job.width p)
-  pub reads_back : ReadsCnf (clauses_file job p).text (clauses_by job.method job.width p)
+  pub few : HasFew (clauses_asked job p)
+  pub reads_back : ReadsCnf (clauses_file job p).text (clauses_asked job p)
   pub written : AreWritten (clauses_file job p ∷ []) before now
 
 -- the words ask for a generated problem, there are blocks for its nets, and its four files alone

@@ -101,6 +101,9 @@ fn say_report<S: Shelf>(shelf: &mut S, outcome: Outcome) -> Outcome
 /// WIDTH or at each width up to MAX: if not, the outcome is `NotSymmetric` with the least such width
 /// and nothing is written.
 ///
+/// Where `--reach` is given to `encode`, the clauses are those of a routing in which a net may take
+/// several wires of its cells and reaches each sink within so many joins.
+///
 /// `gen` makes a problem from its recipe and writes PREFIX.arch, PREFIX.net, PREFIX.place and
 /// PREFIX.route. `trial` makes one too, says a line with the numbers of its slots, its steps and
 /// its pairs of slots of different nets in one cell, and writes what `sweep` would write if it read
