@@ -11,7 +11,7 @@ _gafkelam() {
     route) options="--conflicts --keep --pin --members --seed --help" ;;
     sweep) options="--conflicts --keep --pin --help" ;;
     trial) options="--conflicts --keep --help" ;;
-    encode) options="--pin --help" ;;
+    encode) options="--pin --reach --help" ;;
     esac
     if [ "${word:0:1}" = - ]; then
         mapfile -t COMPREPLY < <(compgen -W "$options" -- "$word")

@@ -16,10 +16,18 @@ pub(crate) fn append_usage(
         1 => "The first word is to be a command: route, sweep, encode, check, verify, gen or \
              trial.\n",
         3 => "A number is missing or out of its range.\n",
-        4 => "--seed is the seed of searches that take turns: give their number by --members.\n",
+        4 => clash_of(name),
         _ => "The command does not take these words.\n",
     })?;
     write!(out, "Usage: gafkelam {takes}\nAs in: gafkelam {example}")
+}
+
+// Which options of a command exclude each other, or need another.
+fn clash_of(name: &str) -> &'static str {
+    match name {
+        "encode" => "--pin and --reach exclude each other.\n",
+        _ => "--seed is the seed of searches that take turns: give their number by --members.\n",
+    }
 }
 
 // The words that a command takes, and an example; those of `route` where it is no command.
@@ -30,7 +38,8 @@ fn form_of(name: &str) -> (&'static str, &'static str) {
             "sweep design.arch design.net design.place design.route 12 out",
         ),
         "encode" => (
-            "encode ARCH NET PLACE ROUTE WIDTH PREFIX [--pin], WIDTH from 1 to 64",
+            "encode ARCH NET PLACE ROUTE WIDTH PREFIX [--pin | --reach L], WIDTH and L from 1 to \
+             64",
             "encode design.arch design.net design.place design.route 9 out",
         ),
         "check" => ("check CNF LRAT", "check out.cnf out.lrat"),
