@@ -19,9 +19,10 @@ use desk_io::FileDesk;
 use rows_problem::{RowsError, text};
 
 // The files of cases. The first says how they are written.
-const FILES: [&str; 9] = [
+const FILES: [&str; 10] = [
     "worked.rows",
     "pinned.rows",
+    "reach.rows",
     "failing_calls.rows",
     "route_texts.rows",
     "limits.rows",
