@@ -1,0 +1,211 @@
+"""Places blocks by annealing over the half perimeters of nets.
+
+The schedule is that of VPR (Betz and Rose): each temperature is held for a number of moves that grows
+with the blocks, it falls faster where nearly all or nearly no moves are taken, and moves reach as far as
+lets some 44 in a hundred be taken.
+"""
+import math
+import random
+from dataclasses import dataclass
+
+from refusal import Refusal
+
+LARGEST_SIDE = 100  # of the arrays that Gafkelam reads
+SHARE_WANTED = 0.44  # of moves that are taken
+
+
+@dataclass
+class Placement:
+    """An array of side by side logic blocks, and for each block its place: x, y and number."""
+
+    side: int
+    places: list
+    cost_at_first: int
+    cost: int
+
+
+def side_for(design, pads):
+    """The side of the least square array that has room for the blocks, with so many pads a place."""
+    border = [block for block in design.blocks if block.is_pad()]
+    most = 4 * LARGEST_SIDE * pads
+    if len(border) > most:
+        raise Refusal(design.file, border[most].line, f"pad {most + 1:,}; at most {most:,} are due, "
+                                                      "or more at a place (--pads)")
+    logic = len(design.blocks) - len(border)
+    return max(1, math.isqrt(max(0, logic - 1)) + 1, -(-len(border) // (4 * pads)))
+
+
+def border_places(side):
+    """The places of pads, in order round the array."""
+    last = side + 1
+    steps = range(1, last)
+    return ([(x, 0) for x in steps] + [(last, y) for y in steps]
+            + [(x, last) for x in reversed(steps)] + [(0, y) for y in reversed(steps)])
+
+
+class Board:
+    """Spots, the blocks on them, and the bounds of each net: its columns and rows, least and greatest."""
+
+    def __init__(self, design, side, pads, chance):
+        self.side = side
+        self.pads = pads
+        self.border = border_places(side)
+        self.spots = [(x, y, 0) for x in range(1, side + 1) for y in range(1, side + 1)]
+        self.first_pad = len(self.spots)
+        self.spots += [(x, y, number) for x, y in self.border for number in range(pads)]
+        self.spot_of = self.any_spots(design, chance)
+        self.block_at = [-1] * len(self.spots)
+        for block, spot in enumerate(self.spot_of):
+            self.block_at[spot] = block
+        self.xs = [self.spots[spot][0] for spot in self.spot_of]
+        self.ys = [self.spots[spot][1] for spot in self.spot_of]
+        self.nets = [tuple(dict.fromkeys(net.blocks())) for net in design.ordinary_nets()]
+        self.nets_of = [[] for _ in design.blocks]
+        for number, blocks in enumerate(self.nets):
+            for block in blocks:
+                self.nets_of[block].append(number)
+        self.bounds = [self.bounds_among(blocks) for blocks in self.nets]
+
+    def any_spots(self, design, chance):
+        logic = list(range(self.first_pad))
+        pads = list(range(self.first_pad, len(self.spots)))
+        chance.shuffle(logic)
+        chance.shuffle(pads)
+        return [(pads if block.is_pad() else logic).pop() for block in design.blocks]
+
+    def bounds_among(self, blocks):
+        xs = [self.xs[block] for block in blocks]
+        ys = [self.ys[block] for block in blocks]
+        return min(xs), max(xs), min(ys), max(ys)
+
+    def cost(self):
+        return sum(right - left + top - bottom for left, right, bottom, top in self.bounds)
+
+    def put(self, block, spot):
+        self.spot_of[block] = spot
+        self.block_at[spot] = block
+        self.xs[block], self.ys[block], _ = self.spots[spot]
+
+    def swap(self, block, target):
+        """Puts the block on the target spot, and what is there, if anything, on the block's."""
+        spot, other = self.spot_of[block], self.block_at[target]
+        self.put(block, target)
+        if other >= 0:
+            self.put(other, spot)
+        else:
+            self.block_at[spot] = -1
+
+    def bounds_after(self, block, start, end, still):
+        """The bounds of the block's nets after it went from one spot to another, of those that change.
+
+        Nets that are still have a block on each of the two spots. All blocks of a net are looked at only
+        where this one stood on a bound and went inward, so that large nets cost little.
+        """
+        x0, y0, _ = start
+        x1, y1, _ = end
+        for net in self.nets_of[block]:
+            if net in still:
+                continue
+            left, right, bottom, top = self.bounds[net]
+            if (x1 > x0 == left or x1 < x0 == right or y1 > y0 == bottom or y1 < y0 == top):
+                yield net, self.bounds_among(self.nets[net])
+                continue
+            if x1 < left or x1 > right or y1 < bottom or y1 > top:
+                yield net, (min(left, x1), max(right, x1), min(bottom, y1), max(top, y1))
+
+
+class Annealer:
+    """Moves on a board, taken by their cost and a temperature."""
+
+    def __init__(self, board, chance):
+        self.board = board
+        self.chance = chance
+        self.cost = board.cost()
+        self.movable = [block for block, nets in enumerate(board.nets_of) if nets]
+        self.reach = board.side
+
+    def spot_near(self, block):
+        """A spot for the block within reach: so many columns and rows away, or steps round the border."""
+        board, reach, draw = self.board, self.reach, self.chance.random
+        x, y = board.xs[block], board.ys[block]
+        if board.spot_of[block] < board.first_pad:
+            left, bottom = max(1, x - reach), max(1, y - reach)
+            x = left + int(draw() * (min(x + reach, board.side) - left + 1))
+            y = bottom + int(draw() * (min(y + reach, board.side) - bottom + 1))
+            return (x - 1) * board.side + y - 1
+        steps = int(draw() * (2 * reach + 1)) - reach
+        place = ((board.spot_of[block] - board.first_pad) // board.pads + steps) % len(board.border)
+        return board.first_pad + place * board.pads + int(draw() * board.pads)
+
+    def move(self, temperature):
+        """Tries a move, and says whether it was taken."""
+        board = self.board
+        block = self.movable[int(self.chance.random() * len(self.movable))]
+        target = self.spot_near(block)
+        spot = board.spot_of[block]
+        if target == spot:
+            return False
+        other = board.block_at[target]
+        still = ()
+        if other >= 0:
+            still = set(board.nets_of[block]).intersection(board.nets_of[other])
+        board.swap(block, target)
+        start, end = board.spots[spot], board.spots[target]
+        found = list(board.bounds_after(block, start, end, still))
+        if other >= 0:
+            found += board.bounds_after(other, end, start, still)
+        change = 0
+        for net, (left, right, bottom, top) in found:
+            old = board.bounds[net]
+            change += right - left + top - bottom - old[1] + old[0] - old[3] + old[2]
+        if change > 0 and self.chance.random() >= math.exp(-change / temperature):
+            board.swap(block, spot)
+            return False
+        for net, bounds in found:
+            board.bounds[net] = bounds
+        self.cost += change
+        return True
+
+    def hold(self, temperature, moves):
+        """Tries so many moves, and says the share that was taken."""
+        taken = sum(self.move(temperature) for _ in range(moves))
+        return taken / moves
+
+    def first_temperature(self):
+        """Twenty times how far the cost spreads over as many moves as there are blocks, all taken."""
+        costs = []
+        for _ in self.movable:
+            self.move(math.inf)
+            costs.append(self.cost)
+        mean = sum(costs) / len(costs)
+        return 20 * math.sqrt(sum((cost - mean) ** 2 for cost in costs) / len(costs))
+
+    def anneal(self, effort):
+        """Cools down until moves change next to nothing, and at last takes no move that costs."""
+        moves = max(1, round(effort * len(self.movable) ** (4 / 3)))
+        temperature = self.first_temperature()
+        while temperature > 0.005 * self.cost / len(self.board.nets):
+            share = self.hold(temperature, moves)
+            temperature *= cooling(share)
+            wanted = self.reach * (1 - SHARE_WANTED + share)
+            self.reach = max(1, min(self.board.side, round(wanted)))
+        self.hold(1e-9, moves)
+
+
+def cooling(share):
+    """By what the temperature falls, from the share of moves that were taken at it."""
+    if share > 0.96:
+        return 0.5
+    if share > 0.8:
+        return 0.9
+    return 0.95 if share > 0.15 else 0.8
+
+
+def place(design, side, pads, seed, effort):
+    """Places for the blocks of a design. The same words give the same places."""
+    chance = random.Random(seed)
+    board = Board(design, side, pads, chance)
+    first = board.cost()
+    if first > 0:
+        Annealer(board, chance).anneal(effort)
+    return Placement(side, [board.spots[spot] for spot in board.spot_of], first, board.cost())
