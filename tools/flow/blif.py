@@ -43,9 +43,6 @@ class Table:
     def reads(self):
         return self.inputs
 
-    def is_constant(self):
-        return not self.inputs
-
     def is_wire(self):
         """Whether the output is its one input, as where a net has a second name."""
         return len(self.inputs) == 1 and self.rows in (["11"], ["00"])

@@ -15,14 +15,13 @@ class Logic:
     circuit: object
     drivers: dict  # real net: its Input, Table or FlipFlop, in the order of the file
     real: dict
-    unread: int  # drivers that no output depends on
+    unread: int  # drivers that no output depends on, constants aside
 
     def of_kind(self, kind):
         return [driver for driver in self.drivers.values() if isinstance(driver, kind)]
 
     def is_constant(self, net):
-        driver = self.drivers[net]
-        return isinstance(driver, Table) and driver.is_constant()
+        return is_constant(self.drivers[net])
 
     def pins(self, table):
         """The nets that a table needs: each once and no constant, since its rows can say the rest."""
@@ -49,6 +48,10 @@ class Logic:
         for net in read:
             readers[net] += 1
         return readers
+
+
+def is_constant(driver):
+    return isinstance(driver, Table) and not driver.inputs
 
 
 def drivers_of(circuit):
@@ -132,5 +135,5 @@ def logic_of(circuit):
     refuse_loops(circuit)
     real = real_names(drivers)
     live = live_nets(circuit, drivers, real)
-    unread = sum(real[net] == net and net not in live for net in drivers)
+    unread = sum(real[net] == net and net not in live and not is_constant(drivers[net]) for net in drivers)
     return Logic(circuit, {net: drivers[net] for net in drivers if net in live}, real, unread)

@@ -51,7 +51,7 @@ class Design:
 
 def packed_tables(logic, readers):
     """Tables by the flip-flop that they go into a block with: its data, which nothing else reads."""
-    tables = {table.output: table for table in logic.of_kind(Table) if not table.is_constant()}
+    tables = {table.output: table for table in logic.of_kind(Table) if table.inputs}
     packed = {}
     for flip_flop in logic.of_kind(FlipFlop):
         net = logic.real[flip_flop.data]
