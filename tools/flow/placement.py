@@ -81,19 +81,17 @@ class Board:
     def cost(self):
         return sum(right - left + top - bottom for left, right, bottom, top in self.bounds)
 
-    def put(self, block, spot):
-        self.spot_of[block] = spot
-        self.block_at[spot] = block
+    def stand(self, block, spot):
+        """Lets a block stand at a spot, as far as bounds are concerned."""
         self.xs[block], self.ys[block], _ = self.spots[spot]
 
-    def swap(self, block, target):
-        """Puts the block on the target spot, and what is there, if anything, on the block's."""
-        spot, other = self.spot_of[block], self.block_at[target]
-        self.put(block, target)
+    def take(self, block, spot, target):
+        """Gives a block the target spot, and its own spot to what is there, if anything."""
+        other = self.block_at[target]
+        self.block_at[target], self.block_at[spot] = block, other
+        self.spot_of[block] = target
         if other >= 0:
-            self.put(other, spot)
-        else:
-            self.block_at[spot] = -1
+            self.spot_of[other] = spot
 
     def bounds_after(self, block, start, end, still):
         """The bounds of the block's nets after it went from one spot to another, of those that change.
@@ -101,17 +99,26 @@ class Board:
         Nets that are still have a block on each of the two spots. All blocks of a net are looked at only
         where this one stood on a bound and went inward, so that large nets cost little.
         """
-        x0, y0, _ = start
-        x1, y1, _ = end
+        x0, y0, _ = self.spots[start]
+        x1, y1, _ = self.spots[end]
+        found = []
         for net in self.nets_of[block]:
             if net in still:
                 continue
             left, right, bottom, top = self.bounds[net]
-            if (x1 > x0 == left or x1 < x0 == right or y1 > y0 == bottom or y1 < y0 == top):
-                yield net, self.bounds_among(self.nets[net])
-                continue
-            if x1 < left or x1 > right or y1 < bottom or y1 > top:
-                yield net, (min(left, x1), max(right, x1), min(bottom, y1), max(top, y1))
+            if x1 > x0 == left or x1 < x0 == right or y1 > y0 == bottom or y1 < y0 == top:
+                found.append((net, self.bounds_among(self.nets[net])))
+            elif x1 < left or x1 > right or y1 < bottom or y1 > top:
+                found.append((net, (min(left, x1), max(right, x1), min(bottom, y1), max(top, y1))))
+        return found
+
+    def growth(self, found):
+        """How much the half perimeters grow with these bounds."""
+        growth = 0
+        for net, (left, right, bottom, top) in found:
+            old_left, old_right, old_bottom, old_top = self.bounds[net]
+            growth += right - left + top - bottom - old_right + old_left - old_top + old_bottom
+        return growth
 
 
 class Annealer:
@@ -147,23 +154,23 @@ class Annealer:
             return False
         other = board.block_at[target]
         still = ()
+        board.stand(block, target)
         if other >= 0:
             still = set(board.nets_of[block]).intersection(board.nets_of[other])
-        board.swap(block, target)
-        start, end = board.spots[spot], board.spots[target]
-        found = list(board.bounds_after(block, start, end, still))
+            board.stand(other, spot)
+        found = board.bounds_after(block, spot, target, still)
         if other >= 0:
-            found += board.bounds_after(other, end, start, still)
-        change = 0
-        for net, (left, right, bottom, top) in found:
-            old = board.bounds[net]
-            change += right - left + top - bottom - old[1] + old[0] - old[3] + old[2]
-        if change > 0 and self.chance.random() >= math.exp(-change / temperature):
-            board.swap(block, spot)
+            found += board.bounds_after(other, target, spot, still)
+        growth = board.growth(found)
+        if growth > 0 and self.chance.random() >= math.exp(-growth / temperature):
+            board.stand(block, spot)
+            if other >= 0:
+                board.stand(other, target)
             return False
+        board.take(block, spot, target)
         for net, bounds in found:
             board.bounds[net] = bounds
-        self.cost += change
+        self.cost += growth
         return True
 
     def hold(self, temperature, moves):

@@ -297,7 +297,8 @@ def route(design, placement, architecture, capacity=None):
     router = Router(design, placement, architecture)
     for net in range(len(router.nets)):
         router.route_net(net)
-    router.negotiate(len(design.nets))
+    if not router.negotiate(len(design.nets)):
+        raise Refusal(design.file, None, "no way was found to an input pin for each net; another --seed is due")
     router.lower(capacity)
     if capacity is not None and router.capacity > capacity:
         raise Refusal(design.file, None, f"no way was found with {capacity} nets in a cell; at least "
