@@ -3,15 +3,44 @@
 The schedule is that of VPR (Betz and Rose): each temperature is held for a number of moves that grows
 with the blocks, it falls faster where nearly all or nearly no moves are taken, and moves reach as far as
 lets some 44 in a hundred be taken.
+
+`anneal.cc` does the same, draw for draw, and is some thirty times as fast; it is what runs where a
+compiler is there, and both come to the same places.
 """
 import math
-import random
+import os
+import shutil
+import subprocess
+import tempfile
 from dataclasses import dataclass
 
 from refusal import Refusal
 
 LARGEST_SIDE = 100  # of the arrays that Gafkelam reads
 SHARE_WANTED = 0.44  # of moves that are taken
+SOURCE = os.path.join(os.path.dirname(os.path.abspath(__file__)), "anneal.cc")
+COMPILERS = ("g++", "clang++", "c++")
+
+
+class Chance:
+    """Draws from 0 to 1 by Knuth's linear generator of 64 bits, which C++ has as easily as Python."""
+
+    def __init__(self, seed):
+        self.state = seed
+        for _ in range(8):
+            self.draw()
+
+    def draw(self):
+        self.state = self.state * 6364136223846793005 + 1442695040888963407 & 0xFFFFFFFFFFFFFFFF
+        return (self.state >> 11) / 9007199254740992
+
+    def below(self, count):
+        return int(self.draw() * count)
+
+    def shuffle(self, things):
+        for last in range(len(things) - 1, 0, -1):
+            other = self.below(last + 1)
+            things[last], things[other] = things[other], things[last]
 
 
 @dataclass
@@ -43,35 +72,55 @@ def border_places(side):
             + [(x, last) for x in reversed(steps)] + [(0, y) for y in reversed(steps)])
 
 
+@dataclass
+class Problem:
+    """What is to be placed: which blocks are pads, and the blocks of each net, each once."""
+
+    side: int
+    pads: int
+    seed: int
+    effort: int
+    is_pad: list
+    nets: list
+
+    def text(self):
+        """As `anneal.cc` reads it."""
+        lines = [f"{self.side} {self.pads} {self.seed} {self.effort} {len(self.is_pad)} {len(self.nets)}",
+                 " ".join(str(int(is_pad)) for is_pad in self.is_pad)]
+        lines += [" ".join(map(str, (len(blocks), *blocks))) for blocks in self.nets]
+        return "\n".join(lines) + "\n"
+
+
 class Board:
     """Spots, the blocks on them, and the bounds of each net: its columns and rows, least and greatest."""
 
-    def __init__(self, design, side, pads, chance):
+    def __init__(self, problem, chance):
+        side, pads = problem.side, problem.pads
         self.side = side
         self.pads = pads
         self.border = border_places(side)
         self.spots = [(x, y, 0) for x in range(1, side + 1) for y in range(1, side + 1)]
         self.first_pad = len(self.spots)
         self.spots += [(x, y, number) for x, y in self.border for number in range(pads)]
-        self.spot_of = self.any_spots(design, chance)
+        self.spot_of = self.any_spots(problem.is_pad, chance)
         self.block_at = [-1] * len(self.spots)
         for block, spot in enumerate(self.spot_of):
             self.block_at[spot] = block
         self.xs = [self.spots[spot][0] for spot in self.spot_of]
         self.ys = [self.spots[spot][1] for spot in self.spot_of]
-        self.nets = [tuple(dict.fromkeys(net.blocks())) for net in design.ordinary_nets()]
-        self.nets_of = [[] for _ in design.blocks]
+        self.nets = problem.nets
+        self.nets_of = [[] for _ in problem.is_pad]
         for number, blocks in enumerate(self.nets):
             for block in blocks:
                 self.nets_of[block].append(number)
         self.bounds = [self.bounds_among(blocks) for blocks in self.nets]
 
-    def any_spots(self, design, chance):
+    def any_spots(self, is_pad, chance):
         logic = list(range(self.first_pad))
         pads = list(range(self.first_pad, len(self.spots)))
         chance.shuffle(logic)
         chance.shuffle(pads)
-        return [(pads if block.is_pad() else logic).pop() for block in design.blocks]
+        return [(pads if pad else logic).pop() for pad in is_pad]
 
     def bounds_among(self, blocks):
         xs = [self.xs[block] for block in blocks]
@@ -133,21 +182,21 @@ class Annealer:
 
     def spot_near(self, block):
         """A spot for the block within reach: so many columns and rows away, or steps round the border."""
-        board, reach, draw = self.board, self.reach, self.chance.random
+        board, reach, below = self.board, self.reach, self.chance.below
         x, y = board.xs[block], board.ys[block]
         if board.spot_of[block] < board.first_pad:
             left, bottom = max(1, x - reach), max(1, y - reach)
-            x = left + int(draw() * (min(x + reach, board.side) - left + 1))
-            y = bottom + int(draw() * (min(y + reach, board.side) - bottom + 1))
+            x = left + below(min(x + reach, board.side) - left + 1)
+            y = bottom + below(min(y + reach, board.side) - bottom + 1)
             return (x - 1) * board.side + y - 1
-        steps = int(draw() * (2 * reach + 1)) - reach
+        steps = below(2 * reach + 1) - reach
         place = ((board.spot_of[block] - board.first_pad) // board.pads + steps) % len(board.border)
-        return board.first_pad + place * board.pads + int(draw() * board.pads)
+        return board.first_pad + place * board.pads + below(board.pads)
 
     def move(self, temperature):
         """Tries a move, and says whether it was taken."""
         board = self.board
-        block = self.movable[int(self.chance.random() * len(self.movable))]
+        block = self.movable[self.chance.below(len(self.movable))]
         target = self.spot_near(block)
         spot = board.spot_of[block]
         if target == spot:
@@ -162,7 +211,7 @@ class Annealer:
         if other >= 0:
             found += board.bounds_after(other, target, spot, still)
         growth = board.growth(found)
-        if growth > 0 and self.chance.random() >= math.exp(-growth / temperature):
+        if growth > 0 and self.chance.draw() >= math.exp(-growth / temperature):
             board.stand(block, spot)
             if other >= 0:
                 board.stand(other, target)
@@ -185,17 +234,20 @@ class Annealer:
             self.move(math.inf)
             costs.append(self.cost)
         mean = sum(costs) / len(costs)
-        return 20 * math.sqrt(sum((cost - mean) ** 2 for cost in costs) / len(costs))
+        spread = 0.0
+        for cost in costs:
+            spread += (cost - mean) * (cost - mean)
+        return 20 * math.sqrt(spread / len(costs))
 
     def anneal(self, effort):
         """Cools down until moves change next to nothing, and at last takes no move that costs."""
-        moves = max(1, round(effort * len(self.movable) ** (4 / 3)))
+        moves = max(1, int(effort * len(self.movable) ** (4 / 3)))
         temperature = self.first_temperature()
         while temperature > 0.005 * self.cost / len(self.board.nets):
             share = self.hold(temperature, moves)
             temperature *= cooling(share)
             wanted = self.reach * (1 - SHARE_WANTED + share)
-            self.reach = max(1, min(self.board.side, round(wanted)))
+            self.reach = max(1, min(self.board.side, int(wanted + 0.5)))
         self.hold(1e-9, moves)
 
 
@@ -208,11 +260,40 @@ def cooling(share):
     return 0.95 if share > 0.15 else 0.8
 
 
-def place(design, side, pads, seed, effort):
-    """Places for the blocks of a design. The same words give the same places."""
-    chance = random.Random(seed)
-    board = Board(design, side, pads, chance)
+def annealed(problem):
+    """The places of the blocks, and the cost at first and at last."""
+    chance = Chance(problem.seed)
+    board = Board(problem, chance)
     first = board.cost()
     if first > 0:
-        Annealer(board, chance).anneal(effort)
-    return Placement(side, [board.spots[spot] for spot in board.spot_of], first, board.cost())
+        Annealer(board, chance).anneal(problem.effort)
+    return [board.spots[spot] for spot in board.spot_of], first, board.cost()
+
+
+def annealed_by(program, problem):
+    """The same, by the program that was built of `anneal.cc`."""
+    said = subprocess.run([program], input=problem.text(), capture_output=True, text=True, check=True).stdout
+    numbers = list(map(int, said.split()))
+    places = list(zip(numbers[2::3], numbers[3::3], numbers[4::3]))
+    return places, numbers[0], numbers[1]
+
+
+def build(folder):
+    """The program of `anneal.cc`, in the folder, or None where no compiler makes one."""
+    program = os.path.join(folder, "anneal")
+    for compiler in filter(shutil.which, COMPILERS):
+        words = [compiler, "-std=c++17", "-O2", "-ffp-contract=off", "-o", program, SOURCE]
+        if subprocess.run(words, capture_output=True).returncode == 0:
+            return program
+    return None
+
+
+def place(design, side, pads, seed, effort):
+    """Places for the blocks of a design. The same words give the same places."""
+    nets = [tuple(dict.fromkeys(net.blocks())) for net in design.ordinary_nets()]
+    is_pad = [block.is_pad() for block in design.blocks]
+    problem = Problem(side, pads, seed, effort, is_pad, nets)
+    with tempfile.TemporaryDirectory() as folder:
+        program = build(folder)
+        found = annealed_by(program, problem) if program else annealed(problem)
+    return Placement(side, *found)
