@@ -11,14 +11,14 @@ import math
 import os
 import shutil
 import subprocess
-import tempfile
 from dataclasses import dataclass
 
 from refusal import Refusal
 
 LARGEST_SIDE = 100  # of the arrays that Gafkelam reads
 SHARE_WANTED = 0.44  # of moves that are taken
-SOURCE = os.path.join(os.path.dirname(os.path.abspath(__file__)), "anneal.cc")
+HERE = os.path.dirname(os.path.abspath(__file__))
+SOURCE, PROGRAM = os.path.join(HERE, "anneal.cc"), os.path.join(HERE, "out", "anneal")
 COMPILERS = ("g++", "clang++", "c++")
 
 
@@ -278,13 +278,20 @@ def annealed_by(program, problem):
     return places, numbers[0], numbers[1]
 
 
-def build(folder):
-    """The program of `anneal.cc`, in the folder, or None where no compiler makes one."""
-    program = os.path.join(folder, "anneal")
-    for compiler in filter(shutil.which, COMPILERS):
-        words = [compiler, "-std=c++17", "-O2", "-ffp-contract=off", "-o", program, SOURCE]
-        if subprocess.run(words, capture_output=True).returncode == 0:
-            return program
+def build():
+    """The program of `anneal.cc`, which is kept beside it, or None where no compiler makes one."""
+    if os.path.exists(PROGRAM) and os.path.getmtime(PROGRAM) >= os.path.getmtime(SOURCE):
+        return PROGRAM
+    made = f"{PROGRAM}.{os.getpid()}"
+    try:
+        os.makedirs(os.path.dirname(PROGRAM), exist_ok=True)
+        for compiler in filter(shutil.which, COMPILERS):
+            words = [compiler, "-std=c++17", "-O2", "-ffp-contract=off", "-o", made, SOURCE]
+            if subprocess.run(words, capture_output=True).returncode == 0:
+                os.replace(made, PROGRAM)
+                return PROGRAM
+    except OSError:
+        pass  # a folder that may not be written in; Python does the same in more time
     return None
 
 
@@ -293,7 +300,6 @@ def place(design, side, pads, seed, effort):
     nets = [tuple(dict.fromkeys(net.blocks())) for net in design.ordinary_nets()]
     is_pad = [block.is_pad() for block in design.blocks]
     problem = Problem(side, pads, seed, effort, is_pad, nets)
-    with tempfile.TemporaryDirectory() as folder:
-        program = build(folder)
-        found = annealed_by(program, problem) if program else annealed(problem)
+    program = build()
+    found = annealed_by(program, problem) if program else annealed(problem)
     return Placement(side, *found)

@@ -15,7 +15,7 @@ from refusal import Refusal
 
 MOST_CELLS = 200_000  # of all nets together, which is what Gafkelam reads
 
-PATIENCE = 12  # rounds in which the crowding comes to no new least, before a capacity is given up
+PATIENCE = 20  # rounds in which the crowding comes to no new least, before a capacity is given up
 PRESENT_AT_FIRST, PRESENT_GROWS, PRESENT_AT_MOST = 0.5, 1.3, 1e6  # the price of a net too many, by rounds
 HISTORY_GROWS = 0.5  # what each round adds to the price of a point, for each net too many
 MOST_STARTS = 24  # cells of a tree from which a branch may start: the nearest to its sink
