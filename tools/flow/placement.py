@@ -271,9 +271,12 @@ def annealed(problem):
 
 
 def annealed_by(program, problem):
-    """The same, by the program that was built of `anneal.cc`."""
-    said = subprocess.run([program], input=problem.text(), capture_output=True, text=True, check=True).stdout
-    numbers = list(map(int, said.split()))
+    """The same by the program that was built of `anneal.cc`, or None where it doesn't run."""
+    try:
+        done = subprocess.run([program], input=problem.text(), capture_output=True, text=True, check=True)
+    except (OSError, subprocess.CalledProcessError):
+        return None
+    numbers = list(map(int, done.stdout.split()))
     places = list(zip(numbers[2::3], numbers[3::3], numbers[4::3]))
     return places, numbers[0], numbers[1]
 
@@ -301,5 +304,5 @@ def place(design, side, pads, seed, effort):
     is_pad = [block.is_pad() for block in design.blocks]
     problem = Problem(side, pads, seed, effort, is_pad, nets)
     program = build()
-    found = annealed_by(program, problem) if program else annealed(problem)
-    return Placement(side, *found)
+    found = annealed_by(program, problem) if program else None
+    return Placement(side, *(found or annealed(problem)))

@@ -1,4 +1,4 @@
-"""Makes BLIF of Verilog with `yosys`, which does the mapping to tables by `abc`."""
+"""Makes BLIF of Verilog with `yosys`, which calls `abc` for the tables."""
 import os
 import shutil
 import subprocess
@@ -7,9 +7,12 @@ import tempfile
 from blif import read_text
 from refusal import Refusal
 
+# An asynchronous reset becomes a synchronous one, and an enable a table before the flip-flop, as blocks have
+# neither. That would also make flip-flops of latches, so that these are looked for before.
 SCRIPT = """
 read_verilog -sv "{file}"
 synth -flatten {top} -noabc
+select -assert-none t:$_DLATCH*_ t:$_SR_*_
 async2sync
 dfflegalize -cell $_DFF_P_ 01 -cell $_DFF_N_ 01
 abc -lut {inputs}
@@ -39,6 +42,8 @@ def synthesise(file, inputs, top):
 
 
 def fault_of(said):
-    """The line in which yosys says what is wrong."""
+    """What is wrong, in the words of yosys where there are no better ones."""
+    if "Assertion failed" in said:
+        return "it has a latch; flip-flops alone are due, at an edge of a clock"
     faults = [line for line in said.splitlines() if "ERROR" in line]
     return f"yosys: {faults[0] if faults else 'it failed'}"
