@@ -298,7 +298,8 @@ def route(design, placement, architecture, capacity=None):
     for net in range(len(router.nets)):
         router.route_net(net)
     if not router.negotiate(len(design.nets)):
-        raise Refusal(design.file, None, "no way was found to an input pin for each net; another --seed is due")
+        raise Refusal(design.file, None, "no way was found to an input pin for each net; "
+                                         "another --seed is due")
     router.lower(capacity)
     if capacity is not None and router.capacity > capacity:
         raise Refusal(design.file, None, f"no way was found with {capacity} nets in a cell; at least "
@@ -306,5 +307,6 @@ def route(design, placement, architecture, capacity=None):
     router.shorten()
     routing = router.routing()
     if routing.cells > MOST_CELLS:
-        raise Refusal(design.file, None, f"its nets take {routing.cells:,} cells; at most {MOST_CELLS:,} are due")
+        raise Refusal(design.file, None, f"its nets take {routing.cells:,} cells; "
+                                         f"at most {MOST_CELLS:,} are due")
     return routing
