@@ -114,9 +114,9 @@ class Circuit:
             return int(clauses.readline().split()[3])
 
 
-def seconds_of(answer, run, wanted):
-    """A cell of the table: the seconds, or that the run was stopped."""
-    return f"{run.seconds:.2f}" if answer == wanted else f"> {run.seconds:.0f}"
+def seconds_of(answer, run):
+    """A cell of the table: the seconds, or that the run ended after so many without an answer."""
+    return f"> {run.seconds:.0f}" if answer == "open" else f"{run.seconds:.2f}"
 
 
 def one_answer(name, width, answers):
@@ -134,8 +134,8 @@ def rows(circuit):
         answer, run = circuit.route(width)
         solved = circuit.solve(width)
         known = one_answer(circuit.name, width, [answer] + [other for other, _ in solved.values()])
-        cells = [circuit.name, width, f"{circuit.clauses():,}", known, seconds_of(answer, run, known)]
-        cells += [seconds_of(other, solver, known) for other, solver in solved.values()]
+        cells = [circuit.name, width, f"{circuit.clauses():,}", known, seconds_of(answer, run)]
+        cells += [seconds_of(other, solver) for other, solver in solved.values()]
         row = "| " + " | ".join(map(str, cells)) + " |"
         if answer == "refuted":
             before = row
