@@ -24,7 +24,7 @@ pub use elem_context::{ElemContext, is_branch, is_out_of_place, is_repeat};
 pub use head_check::{are_alike, lacks_net};
 pub use keys::{ElemKey, is_seen, is_taken, see, take_pins};
 pub use net_ends::NetEnds;
-pub use net_table::{NetTable, number_name};
+pub use net_table::NetTable;
 pub use placed_problem::{PlacedProblem, fit};
 pub use problem_check::is_one_size;
 pub use problem_context::{ProblemContext, is_other_pin, is_other_sink, is_other_source};

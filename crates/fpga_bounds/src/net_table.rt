@@ -1,8 +1,8 @@
 //! The nets of a netlist by their names.
-ghost use Rattle.std.specs.Prelude.{◌≡◌, ◌<◌, OnOk, IfOk, IfSome, length};
-ghost use Rattle.fpga_bounds.specs.NetTable.{GainsName, number_named};
+ghost use Rattle.std.specs.Prelude.{◌≡◌, ◌<◌, IfOk, IfSome, length};
+ghost use Rattle.fpga_bounds.specs.NetTable.{number_named};
 
-use fpga_types::Net;
+use fpga_types::{Net, number_name};
 use std::alloc::{AllocError, Global};
 use std::collections::BTreeMap;
 use std::marker::Model;
@@ -55,22 +55,4 @@ impl<'a> NetTable<'a> {
     {
         self.numbers.get(&name).copied()
     }
-}
-
-/// Gives a name this number, unless it has one.
-///
-/// # Errors
-/// Where memory is short.
-pub fn number_name<'a>(
-    numbers: &mut BTreeMap<&'a [u8], usize>,
-    name: &'a [u8],
-    number: usize,
-) -> Result<(), AllocError>
-    ensures { OnOk result (GainsName numbers.old name.now number numbers.new) }
-{
-    if numbers.contains_key(&name) {
-        return Ok(());
-    }
-    numbers.insert(name, number)?;
-    Ok(())
 }

@@ -1,18 +1,19 @@
 -- Names in the order in which they first stand, one name more; and which name is which.
-use Rattle.std.proofs.Common.{◌≡◌, ◌≢◌, ℕ, Bool, true, false, List, [], ◌∷◌, ◌++◌, length, refl, sym, ap, ◌∙◌, append-nil, arith, cond, ◌+◌, get_or, zero-add, add-zero}
-use Rattle.std.specs.Prelude.{not, ◌||◌, filter, map, bytes_eq, position, Some, None, is_some, if◌then◌else◌}
+use Rattle.std.proofs.Common.{◌≡◌, ◌≢◌, ℕ, ◌<◌, Option, Bool, true, false, List, [], ◌∷◌, ◌++◌, length, refl, sym, ap, ◌∙◌, append-nil, arith, cond, ◌+◌, get_or, zero-add, add-zero}
+use Rattle.std.specs.Prelude.{not, ◌||◌, filter, map, bytes_eq, position, IfSome, Some, None, is_some, if◌then◌else◌}
+use Rattle.std.specs.BTreeMap.{BTreeMap}
 use Rattle.std.specs.Borrow.{Bor}
-use Rattle.std.specs.List.{list_any, position_from, position_or_len}
-use Rattle.indexmap.specs.IndexSet.{insert_key}
-use Rattle.std.proofs.lemmas.List.{length-map, map-append}
+use Rattle.std.specs.List.{list_any, position_from}
+use Rattle.std.specs.Option.{option_or}
 use Rattle.std.proofs.lemmas.List.Kept.{AllPairs-cons, AllPairs-filter}
 use Rattle.std.proofs.lemmas.List.Elements.{filter-append, filter_passes}
 use Rattle.std.proofs.lemmas.Iterator.Adapters.{position_from-zero}
-use Rattle.list_laws.proofs.Searches.{position-any}
+use Rattle.list_laws.proofs.Searches.{if-position-within, position-any, position-push}
 use Rattle.std.proofs.lemmas.Slice.Eq.{bytes_eq-Decides}
 use Rattle.fpga_text.specs.Bytes.{Bytes}
 use Rattle.fpga_text.specs.Said.{has_text}
-use Rattle.fpga_net.specs.Names.{first_seen, names_with, number_of, AreApart}
+use Rattle.fpga_types.specs.Names.{GainsName, number_in}
+use Rattle.fpga_net.specs.Names.{AreApart, AreNumbered, first_seen, names_with, number_of}
 
 -- the test of two names goes both ways
 pub other_way : (a b : Bytes) → bytes_eq a b ≡ bytes_eq b a
@@ -27,45 +28,6 @@ other_way a b = go (bytes_eq a b) (bytes_eq b a) refl refl
     go false true p q =
         absurd (let e : bytes_eq a b ≡ true =
         (bytes_eq-Decides a b).1 (sym ((bytes_eq-Decides b a).0 q)) in cc)
-
--- the bytes of names that are lent
-abbrev pub bytes_of : List (Bor Bytes) → List Bytes
-bytes_of names = map (λ (name : Bor Bytes). name.now) names
-
--- a name is looked for among lent names as among their bytes
-pub any-bytes_of : (names : List (Bor Bytes)) (name : Bytes)
-    → list_any (λ (other : Bor Bytes). bytes_eq name other.now) names
-    ≡ has_text (bytes_of names) name
-any-bytes_of [] name = refl
-any-bytes_of (first ∷ more) name =
-    λ i. other_way name first.now i || any-bytes_of more name i
-
-place-bytes_of : (names : List (Bor Bytes)) (name : Bytes)
-    → position_or_len (λ (other : Bor Bytes). bytes_eq name other.now) names
-    ≡ position_or_len (λ other. bytes_eq other name) (bytes_of names)
-place-bytes_of [] name = refl
-place-bytes_of (first ∷ more) name =
-    λ i. cond (not (other_way name first.now i)) (1 + place-bytes_of more name i) 0
-
-pub position-bytes_of : (names : List (Bor Bytes)) (name : Bytes)
-    → position (λ (other : Bor Bytes). bytes_eq name other.now) names
-    ≡ number_of (bytes_of names) name
-position-bytes_of names name =
-    rw (place-bytes_of names name, length-map) refl
-
--- a name that is put in among lent names
-pub insert-bytes_of : (names : List (Bor Bytes)) (name : Bor Bytes)
-    → bytes_of (insert_key (λ (a b : Bor Bytes). bytes_eq a.now b.now) names name)
-    ≡ names_with (bytes_of names) name.now
-insert-bytes_of names name =
-    go (list_any (λ (other : Bor Bytes). bytes_eq name.now other.now) names)
-    (any-bytes_of names name.now)
-  where
-    go : (among : Bool) → among ≡ has_text (bytes_of names) name.now
-        → bytes_of (if among then names else names ++ name ∷ [])
-        ≡ names_with (bytes_of names) name.now
-    go true same = rw (← same) refl
-    go false same = rw (← same) (map-append (λ (n : Bor Bytes). n.now) names (name ∷ []))
 
 -- the names but this one
 abbrev without : Bytes → List Bytes → List Bytes
@@ -159,6 +121,13 @@ pub number_of-none : (names : List Bytes) (name : Bytes) → None ≡ number_of 
     → has_text names name ≡ false
 number_of-none names name is = sym (number_of-there names name) ∙ ap is_some (sym is)
 
+-- the number of a name is one of theirs
+pub number_of-within : (names : List Bytes) (name : Bytes) (number : Option ℕ)
+    → number ≡ number_of names name → IfSome number (λ n. n < length names)
+number_of-within names name number is =
+    if-position-within (λ other. bytes_eq other name) names number
+    (is ∙ position_from-zero (λ other. bytes_eq other name) names)
+
 -- a new name has the next number
 pub number_of-push : (names : List Bytes) (name : Bytes) → has_text names name ≡ false
     → number_of (names ++ name ∷ []) name ≡ Some (length names)
@@ -182,3 +151,20 @@ number_of-push names name none =
             ≡ Some (first + length (n ∷ ns))
         by true none later = absurd (let clash : true ≡ false = none in cc)
         by false none later = later none ∙ ap (λ k. Some k) (omega arith)
+
+-- one name more is numbered, which had no number
+pub numbered-push : (names : List Bytes) (name : Bytes) (number : ℕ)
+    (old new : BTreeMap (Bor Bytes) ℕ) → number ≡ length names
+    → GainsName old name number new → AreNumbered names old
+    → AreNumbered (names ++ name ∷ []) new
+numbered-push names name number old new count gains numbered = record {
+  found = λ other.
+      gains other
+      ∙ (λ i. option_or ((numbered.found other ∙ position_from-zero (is other) names) i)
+      (if bytes_eq name other then Some ((count ∙ sym (zero-add (length names))) i) else None))
+      ∙ sym (position-push (is other) 0 names name)
+      ∙ sym (position_from-zero (is other) (names ++ name ∷ []));
+}
+  where
+    is : Bytes → Bytes → Bool
+    is other n = bytes_eq n other

@@ -60,7 +60,7 @@ impl<'a> GlobalNets<'a> {
     ///
     /// A net that was not looked for is looked for now, in the whole text. Nobody asks for one: a
     /// reader has found a fault before it comes to a pin whose net was not looked for.
-    pub fn contains(&self, name: &[u8]) -> bool
+    pub fn contains(&self, name: &'a [u8]) -> bool
         ensures { result ≡ has_text self.now name.now }
     {
         if self.sought.contains(name) {
@@ -117,7 +117,7 @@ fn add_pin_names<'a>(
 fn found_names<'a>(
     alloc: Global,
     text: &'a [u8],
-    sought: &NameTable<'_>,
+    sought: &NameTable<'a>,
 ) -> Result<NameTable<'a>, AllocError>
     ensures { IfOk result (AreFound sought.now (globals_of (text_lines Joined text.now))) }
 {
@@ -132,7 +132,7 @@ fn found_names<'a>(
 /// Adds those of the sought names that a line makes global, of which no word was taken yet.
 fn find_globals<'a>(
     found: &mut NameTable<'a>,
-    sought: &NameTable<'_>,
+    sought: &NameTable<'a>,
     line: &mut Line<'a>,
 ) -> Result<(), AllocError>
     ensures { OnOk result
@@ -147,7 +147,7 @@ fn find_globals<'a>(
 /// Adds those of the next words of a line that are sought.
 fn find_words<'a>(
     found: &mut NameTable<'a>,
-    sought: &NameTable<'_>,
+    sought: &NameTable<'a>,
     line: &mut Line<'a>,
 ) -> Result<(), AllocError>
     ensures { OnOk result (FindsMore sought.now found.old line.old.words found.new) }
@@ -161,7 +161,7 @@ fn find_words<'a>(
 /// Adds a name, if it is sought.
 fn find_word<'a>(
     found: &mut NameTable<'a>,
-    sought: &NameTable<'_>,
+    sought: &NameTable<'a>,
     name: &'a [u8],
 ) -> Result<(), AllocError>
     ensures { OnOk result (FindsMore sought.now found.old (name.now ∷ []) found.new) }

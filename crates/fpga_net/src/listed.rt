@@ -68,7 +68,7 @@ impl<'a> ListedBlock<'a> {
     }
 
     /// The block, with the numbers that the names of nets have.
-    fn finish(&self, alloc: Global, names: &NameTable<'_>) -> Result<Block, AllocError>
+    fn finish(&self, alloc: Global, names: &NameTable<'a>) -> Result<Block, AllocError>
         requires { length names.now ≤ NET_LIMIT }
         ensures { IfOk result (λ block. block ≡ block_of names.now self.now) }
     {
@@ -85,10 +85,10 @@ impl<'a> ListedBlock<'a> {
 }
 
 /// The blocks, with the numbers that the names of nets have.
-pub fn finish_all(
+pub fn finish_all<'a>(
     alloc: Global,
-    blocks: &[ListedBlock<'_>],
-    names: &NameTable<'_>,
+    blocks: &[ListedBlock<'a>],
+    names: &NameTable<'a>,
 ) -> Result<Vec<Block>, AllocError>
     requires { length names.now ≤ NET_LIMIT }
     ensures { IfOk result (λ all. all.items ≡ map (block_of names.now) blocks.now) }
@@ -101,10 +101,10 @@ pub fn finish_all(
 }
 
 /// For each word of a pinlist the number of its net, if it names one.
-fn net_numbers(
+fn net_numbers<'a>(
     alloc: Global,
-    words: &[&[u8]],
-    names: &NameTable<'_>,
+    words: &[&'a [u8]],
+    names: &NameTable<'a>,
 ) -> Result<Vec<Option<u32>>, AllocError>
     requires { length names.now ≤ NET_LIMIT }
     ensures { IfOk result
@@ -118,7 +118,7 @@ fn net_numbers(
 }
 
 /// The number of the net that a word of a pinlist names, if it names one.
-fn net_on(word: &[u8], names: &NameTable<'_>) -> Option<u32>
+fn net_on<'a>(word: &'a [u8], names: &NameTable<'a>) -> Option<u32>
     requires { length names.now ≤ NET_LIMIT }
     ensures { result ≡ number_on names.now word.now }
 {

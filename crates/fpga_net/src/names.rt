@@ -3,22 +3,29 @@ ghost use Rattle.std.specs.Prelude.{◌≡◌, ◌<◌, ◌^◌, [], length, OnE
 ghost use Rattle.fpga_text.specs.Said.{has_text};
 ghost use Rattle.fpga_net.specs.Names.{names_with, number_of};
 
-use indexmap::IndexSet;
 use std::alloc::{AllocError, Global};
+use std::collections::BTreeMap;
 use std::marker::Model;
 
 /// Names, each once, in the order in which they came. It borrows their bytes.
+///
+/// They are found along a tree, so that a look-up takes a time by the logarithm of their number,
+/// whatever the names are.
 #[derive(Drop)]
 pub struct NameTable<'a> {
-    names: IndexSet<&'a [u8]>,
+    names: Vec<&'a [u8]>,
+    numbers: BTreeMap<&'a [u8], usize>,
 }
 
 impl<'a> Model for NameTable<'a> {
-    ghost use Rattle.std.specs.Prelude.{List, ℕ, map};
+    ghost use Rattle.std.specs.Prelude.{List, ℕ};
+    ghost use Rattle.fpga_net.specs.Names.{AreNumbered, bytes_of};
 
     ghost Value = { List (List ℕ) };
 
-    ghost view = { λ t. map (λ name. name.now) t.names.keys };
+    ghost view = { λ t. bytes_of t.names.items };
+
+    ghost invariant = { λ t. AreNumbered (bytes_of t.names.items) t.numbers };
 }
 
 impl<'a> NameTable<'a> {
@@ -27,7 +34,8 @@ impl<'a> NameTable<'a> {
         ensures { result ≡ [] }
     {
         NameTable {
-            names: IndexSet::new(alloc),
+            names: Vec::new(alloc),
+            numbers: BTreeMap::new(alloc),
         }
     }
 
@@ -40,18 +48,18 @@ impl<'a> NameTable<'a> {
     }
 
     /// Whether a name is among them.
-    pub fn contains(&self, name: &[u8]) -> bool
+    pub fn contains(&self, name: &'a [u8]) -> bool
         ensures { result ≡ has_text self.now name.now }
     {
-        self.names.contains(name)
+        self.number_of(name).is_some()
     }
 
     /// The number of a name, if it is among them.
-    pub fn number_of(&self, name: &[u8]) -> Option<usize>
+    pub fn number_of(&self, name: &'a [u8]) -> Option<usize>
         ensures number { result ≡ number_of self.now name.now }
         ensures within { IfSome result (λ number. number < length self.now) }
     {
-        self.names.get_index_of(name)
+        self.numbers.get(&name).copied()
     }
 
     /// Adds a name at the end, unless it is among them.
@@ -59,7 +67,13 @@ impl<'a> NameTable<'a> {
         ensures ok { OnOk result (self.new ≡ names_with self.old name.now) }
         ensures err { OnErr result (self.new ≡ self.old) }
     {
-        self.names.insert(name)?;
+        if self.contains(name) {
+            return Ok(());
+        }
+        let number = self.len();
+        self.names.reserve(1)?;
+        self.numbers.insert(name, number)?;
+        self.names.push_reserved(name);
         Ok(())
     }
 }

@@ -78,7 +78,7 @@ impl<'a> NetTable<'a> {
     pub fn connect(
         &mut self,
         uses: &[NetUse<'a>],
-        globals: &GlobalNets<'_>,
+        globals: &GlobalNets<'a>,
         line: u64,
     ) -> Result<(), TextFault>
         ensures ok { OnOk result
@@ -105,7 +105,7 @@ impl<'a> NetTable<'a> {
     }
 
     /// Adds these pins to their nets. After an error some were added.
-    fn add_all(&mut self, uses: &[NetUse<'a>], globals: &GlobalNets<'_>) -> Result<(), AllocError>
+    fn add_all(&mut self, uses: &[NetUse<'a>], globals: &GlobalNets<'a>) -> Result<(), AllocError>
         ensures { OnOk result
             (TakesUses (has_text globals.now) self.old self.new (map use_said uses.now)) }
     {
@@ -116,7 +116,7 @@ impl<'a> NetTable<'a> {
     }
 
     /// Adds a pin to its net.
-    fn add(&mut self, used: &NetUse<'a>, globals: &GlobalNets<'_>) -> Result<(), AllocError>
+    fn add(&mut self, used: &NetUse<'a>, globals: &GlobalNets<'a>) -> Result<(), AllocError>
         ensures { OnOk result
             (self.new ≡ entries_with (has_text globals.now) self.old (use_said used.now)) }
     {
@@ -126,7 +126,7 @@ impl<'a> NetTable<'a> {
     }
 
     /// The number of the net with a name. There is one afterwards, if there was none.
-    fn number_for(&mut self, name: &'a [u8], globals: &GlobalNets<'_>) -> Result<usize, AllocError>
+    fn number_for(&mut self, name: &'a [u8], globals: &GlobalNets<'a>) -> Result<usize, AllocError>
         ensures entries { OnOk result
             (self.new ≡ entries_having (has_text globals.now) self.old name.now) }
         ensures number { IfOk result
@@ -145,7 +145,7 @@ impl<'a> NetTable<'a> {
     }
 
     /// Whether two pins drive the net with a name.
-    fn is_driven_twice(&self, name: &[u8]) -> bool
+    fn is_driven_twice(&self, name: &'a [u8]) -> bool
         ensures { result ≡ is_twice_driven self.now name.now }
     {
         let Some(number) = self.names.number_of(name) else {
@@ -155,7 +155,7 @@ impl<'a> NetTable<'a> {
     }
 
     /// Whether one of these pins drives its net, which is ordinary and has two drivers.
-    fn drive_again(&self, uses: &[NetUse<'_>], globals: &GlobalNets<'_>) -> bool
+    fn drive_again(&self, uses: &[NetUse<'a>], globals: &GlobalNets<'a>) -> bool
         ensures { result
             ≡ drive_again (has_text globals.now) self.now (map use_said uses.now) }
     {

@@ -9,6 +9,7 @@ pub mod NameLaws
 pub mod SlotLemmas
 pub mod TrackLemmas
 mod FitsRows
+mod LimitRows
 pub mod FitsLemmas
 pub mod SpotLemmas
 mod GivenRows

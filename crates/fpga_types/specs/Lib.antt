@@ -10,6 +10,7 @@ pub mod Fits
 pub mod Given
 pub mod Kinds
 pub mod Legal
+pub mod Names
 pub mod Pins
 pub mod Placements
 pub mod Places

@@ -11,6 +11,7 @@ mod fit_cause;
 mod grid;
 mod items;
 mod limits;
+mod names;
 mod netlist;
 mod placement;
 mod problem;
@@ -26,6 +27,7 @@ pub use limits::{
     CLASS_LIMIT, NET_LIMIT, PAD_LIMIT, PIN_LIMIT, SHARE_LIMIT, SIDE_LIMIT, SLOT_LIMIT, STEP_LIMIT,
     WIDTH_LIMIT,
 };
+pub use names::number_name;
 pub use netlist::{Block, BlockKind, Net, Netlist, PinRef};
 pub use placement::{Place, Placement, Spot};
 pub use problem::{PinStep, RouteStep, Slot, Terminal};

@@ -5,10 +5,10 @@ use Rattle.std.specs.BTreeSet.{BTreeSet}
 use Rattle.std.specs.Borrow.{Bor}
 use Rattle.std.specs.List.{list_any, position_from}
 use Rattle.fpga_bounds.specs.Keys.{has_elem}
-use Rattle.fpga_bounds.specs.NetTable.{number_in}
 use Rattle.fpga_bounds.specs.declared.keys.ElemKey.{ElemKey}
 use Rattle.fpga_text.specs.Bytes.{Bytes}
 use Rattle.fpga_types.specs.Fit.{same_elem}
+use Rattle.fpga_types.specs.Names.{number_in}
 use Rattle.fpga_types.specs.declared.route.Elem.{Elem}
 use Rattle.fpga_types.specs.declared.route.RouteNet.{RouteNet}
 use Rattle.route_verify.specs.Lines.{is_trace_named}

@@ -3,8 +3,8 @@ ghost use Rattle.std.specs.Prelude.{◌≡◌, ◌<◌, IfOk, IfSome, OnOk, leng
 ghost use Rattle.route_verify.specs.Lines.{trace_named};
 ghost use Rattle.route_verify.specs.Traces.{GainsElems, HasElems, trace_number};
 
-use fpga_bounds::{ElemKey, number_name, see};
-use fpga_types::{Elem, RouteNet};
+use fpga_bounds::{ElemKey, see};
+use fpga_types::{Elem, RouteNet, number_name};
 use std::alloc::{AllocError, Global};
 use std::collections::{BTreeMap, BTreeSet};
 use std::marker::Model;

@@ -1,7 +1,7 @@
 use Rattle.std.proofs.Common.{ap, ◌∙◌}
 use Rattle.list_laws.proofs.Places.{get-there}
 use Rattle.fpga_types.specs.declared.netlist.Net.{Net}
-use Rattle.fpga_bounds.proofs.NameLemmas.{numbers-more}
+use Rattle.fpga_types.proofs.NameLaws.{numbers-more}
 use Rattle.fpga_bounds.proofs.net_table.NetTable.of.Goals as goal
 
 pub loop-i-preserved : goal.loop-i-preserved

@@ -1,7 +1,7 @@
 use Rattle.std.proofs.Common.{ap, ◌∙◌}
 use Rattle.list_laws.proofs.Places.{get-there}
 use Rattle.fpga_types.specs.declared.route.RouteNet.{RouteNet}
-use Rattle.fpga_bounds.proofs.NameLemmas.{numbers-more}
+use Rattle.fpga_types.proofs.NameLaws.{numbers-more}
 use Rattle.route_verify.proofs.traces.Traces.of.Goals as goal
 
 pub loop-i-preserved : goal.loop-i-preserved

@@ -1,8 +1,8 @@
 use Rattle.std.proofs.Common.{Some, ◌∙◌, sym}
 use Rattle.std.proofs.lemmas.Map.Text.{btree_map_updates_str}
-use Rattle.fpga_bounds.specs.NetTable.{number_in}
-use Rattle.fpga_bounds.proofs.NameLemmas.{gains-name}
-use Rattle.fpga_bounds.proofs.net_table.number_name.Goals as goal
+use Rattle.fpga_types.specs.Names.{number_in}
+use Rattle.fpga_types.proofs.NameLaws.{gains-name}
+use Rattle.fpga_types.proofs.names.number_name.Goals as goal
 
 pub returns : goal.returns
 returns c = λ other.
