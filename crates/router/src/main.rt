@@ -2,10 +2,14 @@
 //! standard error what it came to where that was not what was asked for.
 #![tactic(auto)]
 
+mod progress;
+
+use crate::progress::TellingShelf;
 use desk_io::{FileDesk, FileShelf};
 use router_says::append_words;
 use router_top::{Outcome, run, status};
 use std::process::ExitCode;
+use std::io::IsTerminal;
 use std::rt::{Env, Files};
 use std::{env, io};
 
@@ -21,6 +25,15 @@ fn given_words(rt: &(impl Env + AllocGlobal)) -> io::Result<Vec<String>> {
     Ok(words)
 }
 
+// Whether the files of each width are told as they are written: to who looks at a terminal, or
+// where the environment asks for it.
+fn tells_progress(rt: &HostRuntime) -> bool {
+    if let Ok(word) = env::var(rt, "GAFKELAM_PROGRESS") {
+        return word.as_str() == "1";
+    }
+    rt.stderr().is_terminal()
+}
+
 // Says what the run came to, if there is memory for that and someone to take it.
 fn say<R: Files + AllocGlobal + Eprint>(rt: &R, words: &[String], outcome: &Outcome) {
     let mut text = String::new(rt.alloc());
@@ -34,7 +47,7 @@ fn main(rt: HostRuntime) -> ExitCode {
         return ExitCode::from(NO_WORDS);
     };
     let mut desk = FileDesk::new(&rt);
-    let mut shelf = FileShelf::new(&rt);
+    let mut shelf = TellingShelf::new(&rt, FileShelf::new(&rt), tells_progress(&rt));
     let outcome = run(rt.alloc(), &words, &mut desk, &mut shelf);
     say(&rt, &words, &outcome);
     ExitCode::from(status(&outcome))

@@ -1,6 +1,6 @@
 //! Words for a search that found no routing.
 use crate::names::{Written, files_written};
-use router_words::Job;
+use router_words::{BUDGET_LIMIT, Job};
 use std::alloc::AllocError;
 
 /// Appends that no routing of this width is legal, and what shows it.
@@ -60,11 +60,10 @@ pub(crate) fn append_undecided(
 }
 
 fn append_next(out: &mut String, prefix: &str, learned: u64) -> Result<(), AllocError> {
-    let more = learned.saturating_mul(10);
-    write!(out, "\nTry --conflicts {more}, ")?;
+    append_budget(out, learned)?;
     write!(
         out,
-        "or hand {prefix}.cnf to another solver, or try another width."
+        "hand {prefix}.cnf to another solver, or try another width."
     )
 }
 
@@ -74,10 +73,30 @@ fn append_next_of_width(
     width: u32,
     learned: u64,
 ) -> Result<(), AllocError> {
-    let more = learned.saturating_mul(10);
-    write!(out, "\nTry --conflicts {more}, ")?;
+    append_budget(out, learned)?;
     write!(
         out,
-        "or hand {prefix}.w{width}.cnf to another solver, or route at a greater width."
+        "hand {prefix}.w{width}.cnf to another solver, or route at a greater width."
     )
+}
+
+// What budget can be tried next, if the words take a greater one.
+fn append_budget(out: &mut String, learned: u64) -> Result<(), AllocError> {
+    if learned >= BUDGET_LIMIT {
+        return write!(out, "\nNo greater budget is taken: ");
+    }
+    let more = learned.saturating_mul(10).min(BUDGET_LIMIT);
+    write!(out, "\nTry --conflicts {more}, or ")
+}
+
+/// Appends that memory ran out, and what was shown until then.
+pub(crate) fn append_no_memory(out: &mut String, job: Option<Job<'_>>) -> Result<(), AllocError> {
+    match files_written(job) {
+        Some(Written::Each(prefix)) => write!(
+            out,
+            "Memory ran out. The widths K of which this run wrote {prefix}.wK.lrat are refuted, \
+             and nothing else was found."
+        ),
+        Some(Written::One(_)) | None => write!(out, "Memory ran out, so that nothing was found."),
+    }
 }

@@ -11,7 +11,7 @@ use crate::names::{given_name, job_in};
 use crate::refused::{append_file, append_limit, append_line, append_step, file_of};
 use crate::symmetry::append_asymmetry;
 use crate::unread::append_unread;
-use crate::unsettled::{append_undecided, append_unroutable};
+use crate::unsettled::{append_no_memory, append_undecided, append_unroutable};
 use crate::usage::append_usage;
 use code_words::{cause, refusal};
 use route_symmetry::Asymmetry;
@@ -205,7 +205,7 @@ fn advice<R: Files + AllocGlobal>(
             "The system refused to write what this run leaves: is there a folder of this name, \
              with room and the right to write?",
         )?,
-        Outcome::OutOfMemory => text.push_str("Memory ran out, so that nothing was found.")?,
+        Outcome::OutOfMemory => append_no_memory(&mut text, job)?,
         Outcome::NotAccepted { .. }
         | Outcome::NotLegal { .. }
         | Outcome::InputFault { .. }
