@@ -27,7 +27,7 @@ abbrev pub is_log_code : ℕ → Bool
 is_log_code code = is_from 701 705 code
 
 abbrev pub is_judge_code : ℕ → Bool
-is_judge_code code = is_from 801 807 code
+is_judge_code code = is_from 801 808 code
 
 abbrev pub is_size_code : ℕ → Bool
 is_size_code code = code == 901 || code == 903 || code == 904 || is_from 911 917 code

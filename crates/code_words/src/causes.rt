@@ -185,6 +185,7 @@ fn judge_cause(code: u32) -> Option<&'static str>
         807 => Some(
             "the netlist and its placement give the net no such line, or no such order of lines",
         ),
+        808 => Some("more switches lead to the wire before this sink than the reach"),
         _ => None,
     }
 }
