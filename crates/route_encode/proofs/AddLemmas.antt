@@ -177,12 +177,12 @@ adds-new fresh made after vars clauses lits row empty e h =
     λ i. record { vars = n i; clauses = c i }
 
 -- what was reserved of a new formula beyond the clauses that were added is the room that is left
-pub room-left : (fresh made after : FormulaState) (vars clauses lits more : ℕ) (row : List Clause)
-    → fresh.clause_room ≡ 0 → fresh.lit_room ≡ 0
-    → made ≡ reserved fresh vars (clauses + more) (lits + more) → Adds made row after
+pub room-left : (fresh made after : FormulaState) (vars clauses lits more more_lits : ℕ)
+    (row : List Clause) → fresh.clause_room ≡ 0 → fresh.lit_room ≡ 0
+    → made ≡ reserved fresh vars (clauses + more) (lits + more_lits) → Adds made row after
     → clauses ≡ length row → lits ≡ lit_count row
-    → (after.clause_room ≡ more) × (after.lit_room ≡ more)
-room-left fresh made after vars clauses lits more row no_clauses no_lits e h f g = (
+    → (after.clause_room ≡ more) × (after.lit_room ≡ more_lits)
+room-left fresh made after vars clauses lits more more_lits row no_clauses no_lits e h f g = (
   omega (arith, h.clause_room, ap (λ (s : FormulaState). s.clause_room) e),
   omega (arith, h.lit_room, ap (λ (s : FormulaState). s.lit_room) e),
 )

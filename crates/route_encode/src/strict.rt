@@ -51,7 +51,7 @@ impl Encoder for Strict {
         problem: &PlacedProblem,
         width: u32,
     ) -> Result<Formula, AllocError> {
-        self.build_with_room(alloc, problem, width, 0)
+        self.build_with_room(alloc, problem, width, 0, 0)
     }
 
     fn decode(
@@ -78,8 +78,9 @@ impl Encoder for Strict {
 }
 
 impl Strict {
-    /// The clauses of a problem at a width, with room for so many more of one literal each, which
-    /// can then be added without memory. With room for none more it is [`Encoder::build`].
+    /// The clauses of a problem at a width, with room for so many more, of so many literals
+    /// together, which can then be added without memory. With room for none more it is
+    /// [`Encoder::build`].
     ///
     /// # Errors
     /// Where memory is short.
@@ -88,13 +89,14 @@ impl Strict {
         alloc: Global,
         problem: &PlacedProblem,
         width: u32,
-        more: u32,
+        clauses: u32,
+        lits: u32,
     ) -> Result<Formula, AllocError>
         requires width { (1 ≤ width) × (width ≤ WIDTH_LIMIT) }
-        requires few { length (cnf_of width problem.now).clauses + more ≤ CLAUSE_LIMIT }
+        requires few { length (cnf_of width problem.now).clauses + clauses ≤ CLAUSE_LIMIT }
         ensures formula { IfOk result (λ formula. formula.cnf ≡ cnf_of width problem.now) }
         ensures room { IfOk result
-            (λ formula. (formula.clause_room ≡ more) × (formula.lit_room ≡ more)) }
+            (λ formula. (formula.clause_room ≡ clauses) × (formula.lit_room ≡ lits)) }
         ensures none_without_model { IsUnsat (cnf_of width problem.now)
             → (found : RouteText) → ¬ IsRoutingOf width problem.now found }
     {
@@ -108,8 +110,8 @@ impl Strict {
         let mut formula = Formula::new(alloc);
         formula.reserve(
             variables.count(),
-            size.clauses as u32 + more,
-            size.lits + more as u64,
+            size.clauses as u32 + clauses,
+            size.lits + lits as u64,
         )?;
         add_clauses(&mut formula, variables, problem, &chains);
         Ok(formula)

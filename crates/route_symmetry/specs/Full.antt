@@ -19,16 +19,24 @@ is_subset Universal = false
 abbrev pub is_full_box : Fc → (width value : ℕ) → Bool
 is_full_box fc width value = box_count fc.fractional width value == width
 
--- the pattern is the subset one, and the boxes of output pins, input pins and pads open every track
-abbrev pub is_full : ℕ → RoutingProblem → Bool
-is_full width p = is_subset p.arch.pattern && is_full_box p.arch.fc width p.arch.fc.output
+-- the boxes of output pins, input pins and pads open every track
+abbrev pub are_full_boxes : ℕ → RoutingProblem → Bool
+are_full_boxes width p = is_full_box p.arch.fc width p.arch.fc.output
     && is_full_box p.arch.fc width p.arch.fc.input && is_full_box p.arch.fc width p.arch.fc.pad
 
--- the first of the pattern, the output pins, the input pins and the pads that is not as it is there
-abbrev pub asymmetry_of : ℕ → RoutingProblem → Option Asymmetry
-asymmetry_of width p =
-    if not (is_subset p.arch.pattern) then Some OfPattern
-    else if not (is_full_box p.arch.fc width p.arch.fc.output) then Some Outputs
+-- the pattern is the subset one, and the boxes are full
+abbrev pub is_full : ℕ → RoutingProblem → Bool
+is_full width p = is_subset p.arch.pattern && are_full_boxes width p
+
+-- the first of the output pins, the input pins and the pads whose boxes are not full
+abbrev pub narrow_boxes_of : ℕ → RoutingProblem → Option Asymmetry
+narrow_boxes_of width p =
+    if not (is_full_box p.arch.fc width p.arch.fc.output) then Some Outputs
     else if not (is_full_box p.arch.fc width p.arch.fc.input) then Some Inputs
     else if not (is_full_box p.arch.fc width p.arch.fc.pad) then Some Pads
     else None
+
+-- the first of the pattern and the boxes that is not as it is there
+abbrev pub asymmetry_of : ℕ → RoutingProblem → Option Asymmetry
+asymmetry_of width p =
+    if not (is_subset p.arch.pattern) then Some OfPattern else narrow_boxes_of width p

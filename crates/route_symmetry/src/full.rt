@@ -1,7 +1,7 @@
 //! Whether all tracks of a problem are alike, and what keeps them from it.
 ghost use Rattle.std.specs.Prelude.{◌≡◌, ◌≤◌, ◌^◌, ◌==◌, ◌↔◌, IsNone, true};
 ghost use Rattle.fpga_types.specs.Boxes.{box_count};
-ghost use Rattle.route_symmetry.specs.Full.{asymmetry_of, is_full, is_subset};
+ghost use Rattle.route_symmetry.specs.Full.{are_full_boxes, asymmetry_of, is_full, is_subset, narrow_boxes_of};
 
 use fpga_bounds::PlacedProblem;
 use fpga_fabric::box_count;
@@ -38,10 +38,20 @@ pub fn why_not_symmetric(problem: &PlacedProblem, width: u32) -> Option<Asymmetr
     ensures first { result ≡ asymmetry_of width problem.now }
     ensures none { IsNone result ↔ (is_full width problem.now ≡ true) }
 {
-    let arch = problem.arch();
-    if !is_subset(arch.pattern) {
+    if !is_subset(problem.arch().pattern) {
         return Some(Asymmetry::Pattern);
     }
+    narrow_boxes(problem, width)
+}
+
+/// The first of the output pins, the input pins and the pads whose connection boxes do not open
+/// every track at this width, from 1 to 64, or `None` where all do. Takes no memory.
+pub fn narrow_boxes(problem: &PlacedProblem, width: u32) -> Option<Asymmetry>
+    requires width { (1 ≤ width) × (width ≤ WIDTH_LIMIT) }
+    ensures first { result ≡ narrow_boxes_of width problem.now }
+    ensures none { IsNone result ↔ (are_full_boxes width problem.now ≡ true) }
+{
+    let arch = problem.arch();
     if !is_full_box(arch.fc.fractional, width, arch.fc.output) {
         return Some(Asymmetry::Outputs);
     }

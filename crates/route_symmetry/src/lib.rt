@@ -8,6 +8,6 @@ mod pinned;
 mod pinned_cell;
 mod pinned_row;
 
-pub use full::{Asymmetry, symmetric, why_not_symmetric};
+pub use full::{Asymmetry, narrow_boxes, symmetric, why_not_symmetric};
 pub use laws::{pinned_says_unroutable, pins_change_nothing};
 pub use pinned::Pinned;

@@ -33,7 +33,8 @@ impl Encoder for Pinned {
         width: u32,
     ) -> Result<Formula, AllocError> {
         let row = pinned_row(problem, width);
-        let mut formula = Strict.build_with_room(alloc, problem, width, row.len() as u32)?;
+        let pins = row.len() as u32;
+        let mut formula = Strict.build_with_room(alloc, problem, width, pins, pins)?;
         let variables = Variables {
             slots: problem.slots().len() as u32,
             width,

@@ -11,7 +11,7 @@ add_clauses-requires-clause-room c =
     let size = c.formula_size-size.ensures in
     rw (added-encoding c.args.width c.args.problem.now)
     (room-reserved c.new-formula.result c.reserve.new.self _
-    (c.formula_size-size.result.clauses + c.args.more) _
+    (c.formula_size-size.result.clauses + c.args.clauses) _
     (cnf_of c.args.width c.args.problem.now).clauses c.in_ok-reserve.ensures.ok
     (omega (arith, size.clauses)) (omega (arith, size.lits)))
 
@@ -45,7 +45,7 @@ returns-clause-room c =
     let size = c.formula_size-size.ensures in
     let added = rw (added-encoding c.args.width c.args.problem.now) at c.add_clauses.ensures in
     room-left c.new-formula.result c.reserve.new.self c.add_clauses.new.formula _
-    c.formula_size-size.result.clauses c.formula_size-size.result.lits c.args.more
+    c.formula_size-size.result.clauses c.formula_size-size.result.lits c.args.clauses c.args.lits
     (cnf_of c.args.width c.args.problem.now).clauses
     (ap (λ (s : FormulaState). s.clause_room) c.new-formula.ensures)
     (ap (λ (s : FormulaState). s.lit_room) c.new-formula.ensures)

@@ -19,7 +19,7 @@ build_with_room-requires-clause-few c = omega (
   count-row c.args.width c.args.problem.now c.pinned_row-row.result.items
       c.pinned_row-row.ensures.row,
   c.requires.few,
-  c.len.ensures.value,
+  c.len-pins.ensures.value,
 )
 
 pub add_row-requires-clause-room : goal.add_row-requires-clause-room
@@ -29,13 +29,13 @@ add_row-requires-clause-room c =
       arith,
       c.in_ok-formula.ensures.room.0,
       ap length c.deref.ensures.0,
-      c.len.ensures.value,
+      c.len-pins.ensures.value,
     ))
     (omega (
       arith,
       c.in_ok-formula.ensures.room.1,
       ap length c.deref.ensures.0,
-      c.len.ensures.value,
+      c.len-pins.ensures.value,
     ))
 
 pub returns-clause-formula : goal.returns-clause-formula
