@@ -89,14 +89,16 @@ module _ (all : List Slot) (n : ℕ) (a b : Elem) where
   pair-counts ChanX ChanX h = omega arith
   pair-counts ChanX ChanY h = omega arith
   pair-counts ChanX Ipin h =
-      stepped all (ipin_of (second Ipin)) (record { net = n; cell = record { axis = X; x = a.x; y = a.y } })
+      stepped all (ipin_of (second Ipin))
+      (record { net = n; cell = record { axis = X; x = a.x; y = a.y } })
   pair-counts ChanX Source h = absurd (false≢true h)
   pair-counts ChanX Opin h = absurd (false≢true h)
   pair-counts ChanX Sink h = absurd (false≢true h)
   pair-counts ChanY ChanX h = omega arith
   pair-counts ChanY ChanY h = omega arith
   pair-counts ChanY Ipin h =
-      stepped all (ipin_of (second Ipin)) (record { net = n; cell = record { axis = Y; x = a.x; y = a.y } })
+      stepped all (ipin_of (second Ipin))
+      (record { net = n; cell = record { axis = Y; x = a.x; y = a.y } })
   pair-counts ChanY Source h = absurd (false≢true h)
   pair-counts ChanY Opin h = absurd (false≢true h)
   pair-counts ChanY Sink h = absurd (false≢true h)

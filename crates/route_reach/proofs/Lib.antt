@@ -22,5 +22,6 @@ mod NearLemmas
 mod RisingLemmas
 mod InsertLemmas
 mod NearSlots
+mod FirstLemmas
 mod RowValues
 mod ReachRows

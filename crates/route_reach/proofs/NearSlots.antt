@@ -106,7 +106,8 @@ module _ (all : List Slot) where
     met cell (Some m) e h = (m, meeting-is g.grid slot.cell cell m e)
 
     module _ (wires : List Wire) (joints : AreJoints g (start slot) wires) where
-      to-meeting : (k : ℕ) → In (filter_map (found_in all slot) wires) k → In (meeting_slots g.grid all slot) k
+      to-meeting : (k : ℕ) → In (filter_map (found_in all slot) wires) k
+          → In (meeting_slots g.grid all slot) k
       to-meeting k i =
           let made = from_In-filter_map (found_in all slot) wires k i in
           let w : Wire = made.0 in
@@ -139,7 +140,8 @@ module _ (all : List Slot) where
 
     -- the row of the slots that are found in the cells of the joined wires
     pub meeting-all : (wires : List Wire) (row : List ℕ) → AreJoints g (start slot) wires
-        → IsGathered row (filter_map (found_in all slot) wires) → row ≡ meeting_slots g.grid all slot
+        → IsGathered row (filter_map (found_in all slot) wires)
+        → row ≡ meeting_slots g.grid all slot
     meeting-all wires row joints h =
         gathered-is row (filter_map (found_in all slot) wires) (meeting_slots g.grid all slot) h
         (rising-filter (λ r. is_some (meeting g.grid slot.cell (slot_at all r).cell))

@@ -129,7 +129,8 @@ pub near-within : (route : RouteText) (s : ℕ)
 near-within route s =
     all-from_In (λ r. r < length (slots route)) (near_of route s) (λ r i. (from-slots_in
     (slots route) (slot_at (slots route) s).net r (from_In-filter
-    (λ q. is_some (meeting route.grid (slot_at (slots route) s).cell (slot_at (slots route) q).cell))
+    (λ q. is_some (meeting route.grid (slot_at (slots route) s).cell
+    (slot_at (slots route) q).cell))
     (slots_in (slots route) (slot_at (slots route) s).net) r i).0).0)
 
 -- the number of a wire is below those of all

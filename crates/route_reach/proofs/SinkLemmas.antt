@@ -101,7 +101,8 @@ module _ (wires reach width : ℕ) (marks : List Bool) (s t : ℕ) (start old ne
   track-more is pushed =
       let f : ℕ → Lit = λ u. wire_reached wires reach (place_of width s u) reach in
       let kept = filter (λ u. slice_index_or marks u false) (below t) in
-      pushed ∙ ap (λ (ls : List Lit). ls ++ f t ∷ []) so_far ∙ append_assoc start (map f kept) (f t ∷ [])
+      pushed ∙ ap (λ (ls : List Lit). ls ++ f t ∷ []) so_far
+      ∙ append_assoc start (map f kept) (f t ∷ [])
       ∙ ap (λ (ls : List Lit). start ++ ls) (sym (ap (map f)
       (kept-more (λ u. slice_index_or marks u false) t is) ∙ map-append f kept (t ∷ [])))
 

@@ -312,7 +312,8 @@ module _ (f : Frame) (distinct : AreDistinct f.all) where
     where
       pair : (q : ℕ × ℕ) → lit_count (apart_track width q) ≤ width * 2
       pair q =
-          let each = lits-map (λ t. not_both width q.0 t q.1 t) 2 (below width) (λ t. omega arith) in
+          let each = lits-map (λ t. not_both width q.0 t q.1 t) 2 (below width)
+          (λ t. omega arith) in
           omega (arith, each, length-range_with_len 0 width)
 
   -- all of them

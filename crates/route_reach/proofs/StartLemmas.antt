@@ -43,7 +43,8 @@ unmarked-rows wires reach width s marks (t ∷ ts) =
         ≡ map (λ t. wire_unreached wires reach (place_of width s t) 0 ∷ [])
         (cond b (t ∷ filter (λ t. not (slice_index_or marks t false)) ts)
         (filter (λ t. not (slice_index_or marks t false)) ts))
-    go true h = ap (λ (cs : List Clause). (wire_unreached wires reach (place_of width s t) 0 ∷ []) ∷ cs) h
+    go true h = ap (λ (cs : List Clause).
+        (wire_unreached wires reach (place_of width s t) 0 ∷ []) ∷ cs) h
     go false h = h
 
 -- the clauses of a slot by the marks of the tracks that its source reaches

@@ -2,6 +2,7 @@ pub mod Counts
 pub mod Encoding
 pub mod Ends
 pub mod Exact
+pub mod FirstSlots
 pub mod Near
 pub mod Pins
 pub mod Reach

@@ -1,5 +1,5 @@
--- The clauses about each wire, by the wire's number: wires are numbered slot by slot, and in each by
--- track.
+-- The clauses about each wire, by the wire's number: wires are numbered slot by slot, and in each
+-- slot by track.
 use Rattle.std.specs.Prelude.{ℕ, suc, ◌+◌, ◌*◌, ◌≤◌, Bool, false, not, pos, negsuc, List, [], ◌∷◌, filter, filter_map, flat_map, map, option_map, slice_index_or, Option}
 use Rattle.fpga_graph.specs.GraphOf.{GraphOf}
 use Rattle.fpga_types.specs.Slots.{slot_at}
@@ -9,6 +9,8 @@ use Rattle.sat_clause.specs.FormulaStore.{FormulaState}
 use Rattle.sat_clause.specs.Literal.{Clause, lit}
 use Rattle.sat_clause.specs.declared.literal.Lit.{Lit}
 use Rattle.route_encode.specs.Encoding.{below, place_of}
+use Rattle.route_reach.specs.declared.each_wire.WireRule.{WireRule}
+use Rattle.route_reach.specs.declared.each_wire.WireRule.TheVariants.{Stays, Used}
 
 -- the wire is used
 abbrev pub wire_used : (w : ℕ) → Lit
@@ -30,7 +32,13 @@ used_clauses wires reach w =
 -- where it is reached within some joins it is so within one more
 abbrev pub stays_clauses : (wires reach w : ℕ) → List Clause
 stays_clauses wires reach w =
-    map (λ d. wire_unreached wires reach w d ∷ wire_reached wires reach w (d + 1) ∷ []) (below reach)
+    map (λ d. wire_unreached wires reach w d ∷ wire_reached wires reach w (d + 1) ∷ [])
+    (below reach)
+
+-- what a rule says of the wire
+abbrev pub rule_clauses : (wires reach : ℕ) → WireRule → (w : ℕ) → List Clause
+rule_clauses wires reach Used = used_clauses wires reach
+rule_clauses wires reach Stays = stays_clauses wires reach
 
 -- where it is reached within one join more than d it is so within d, or one of these is
 abbrev pub comes_clause : (wires reach w : ℕ) → List ℕ → ℕ → Clause

@@ -10,7 +10,7 @@ ghost use Rattle.route_reach.specs.Near.{near_of, rows_of};
 ghost use Rattle.route_reach.specs.WireClauses.{HasWires};
 
 use crate::count::{REACH_LIMIT, tally};
-use crate::each_wire::{add_stays, add_used};
+use crate::each_wire::{WireRule, add_each_wire};
 use crate::near_table::{near_count, near_table};
 use crate::nearby::add_nearby;
 use crate::numbers::SlotNumbers;
@@ -46,8 +46,8 @@ pub fn reach_build(
 {
     let graph = Graph::new(problem.arch(), problem.route().grid, width);
     let slots = problem.slots();
-    let numbers = SlotNumbers::new(alloc, slots)?;
     let chains = RivalChains::new(alloc, slots)?;
+    let numbers = SlotNumbers::new(alloc, problem.route().grid, slots, &chains)?;
     let table = near_table(alloc, problem, &graph, &numbers)?;
     let size = tally(problem, &graph, width);
     let variables = WireVariables {
@@ -91,8 +91,8 @@ fn add_clauses(
     let variables = sinks.variables;
     sinks.add_sinks(formula, problem);
     add_starts(formula, variables, problem, sinks.graph, sinks.width);
-    add_used(formula, variables);
-    add_stays(formula, variables);
+    add_each_wire(formula, variables, WireRule::Used);
+    add_each_wire(formula, variables, WireRule::Stays);
     add_nearby(formula, variables, problem, sinks.graph, sinks.width, table);
     let tracks = Variables {
         slots: problem.slots().len() as u32,

@@ -155,7 +155,8 @@ fn far_of_all(problem: &PlacedProblem, graph: &Graph<'_>, width: u32) -> u64
 /// How many of the first tracks are not marked.
 fn unmarked(row: &[bool; MOST_TRACKS], width: u32) -> u64
     requires { width ≤ WIDTH_LIMIT }
-    ensures value { result ≡ length (filter (λ t. not (slice_index_or row.now t false)) (below width)) }
+    ensures value { result
+        ≡ length (filter (λ t. not (slice_index_or row.now t false)) (below width)) }
     ensures limit { result ≤ width }
 {
     let mut count = 0;

@@ -19,8 +19,8 @@ use fpga_types::Slot;
 use route_encode::add_clause;
 use sat_clause::Formula;
 
-/// Adds for each wire that it is reached within one join more only where it is so within the others,
-/// or a wire near it is. The rows are the slots near each slot.
+/// Adds for each wire that it is reached within one join more only where it is so within the
+/// others, or a wire near it is. The rows are the slots near each slot.
 pub(crate) fn add_nearby(
     formula: &mut Formula,
     variables: WireVariables,

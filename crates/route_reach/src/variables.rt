@@ -7,8 +7,8 @@ ghost use Rattle.sat_clause.specs.declared.limits.TheConstants.{VARIABLE_LIMIT};
 
 use sat_clause::Lit;
 
-/// The variables of so many wires for a reach: one for each wire, that it is used, and then, wire by
-/// wire, that it is reached within 0 joins, within 1 and so on.
+/// The variables of so many wires for a reach: one for each wire, that it is used, and then, wire
+/// by wire, that it is reached within 0 joins, within 1 and so on.
 #[derive(Clone, Copy, Debug)]
 pub(crate) struct WireVariables {
     /// How many wires there are.

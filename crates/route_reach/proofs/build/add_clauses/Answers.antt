@@ -38,8 +38,8 @@ wires-are : (wires width : ℕ) (all whole : List Slot) → wires ≡ length all
     → wires ≡ length whole * width
 wires-are wires width all whole is same = is ∙ ap (λ (ss : List Slot). length ss * width) same
 
-pub add_used-requires-clause-room : goal.add_used-requires-clause-room
-add_used-requires-clause-room c =
+pub add_each_wire-requires-clause-room : goal.add_each_wire-requires-clause-room
+add_each_wire-requires-clause-room c =
     let p : RoutingProblem = c.args.problem.now in
     let w : ℕ = c.args.sinks.now.width in
     let r : ℕ = c.args.sinks.now.variables.reach in
@@ -50,20 +50,20 @@ add_used-requires-clause-room c =
     c.args.formula.now c.requires.room c.add_sinks.new.formula c.add_sinks.ensures
     c.add_starts.new.formula c.add_starts.ensures)
 
-pub add_stays-requires-clause-room : goal.add_stays-requires-clause-room
-add_stays-requires-clause-room c =
+pub add_each_wire-requires-2-clause-room : goal.add_each_wire-requires-2-clause-room
+add_each_wire-requires-2-clause-room c =
     let p : RoutingProblem = c.args.problem.now in
     let w : ℕ = c.args.sinks.now.width in
     let r : ℕ = c.args.sinks.now.variables.reach in
     let wires : ℕ = c.args.sinks.now.variables.wires in
     let n = wires-are wires w c.args.sinks.now.numbers.now
     (slots p.route) c.args.sinks.now.wires c.requires.numbers in
-    let f3 = subst (λ (cs : List Clause). Adds c.add_starts.new.formula cs c.add_used.new.formula)
-    (sym (used-for w r p wires n)) c.add_used.ensures in
-    subst (HasRoom c.add_used.new.formula) (stays-for w r p wires n)
+    let f3 = subst (λ (cs : List Clause). Adds c.add_starts.new.formula cs c.add_each_wire.new.formula)
+    (sym (used-for w r p wires n)) c.add_each_wire.ensures in
+    subst (HasRoom c.add_each_wire.new.formula) (stays-for w r p wires n)
     (fourth-room (sinks w r p) (starts w r p) (used w r p) (stays w r p) (comes w r p) (apart w r p)
     c.args.formula.now c.requires.room c.add_sinks.new.formula c.add_sinks.ensures
-    c.add_starts.new.formula c.add_starts.ensures c.add_used.new.formula f3)
+    c.add_starts.new.formula c.add_starts.ensures c.add_each_wire.new.formula f3)
 
 pub add_nearby-requires-clause-room : goal.add_nearby-requires-clause-room
 add_nearby-requires-clause-room c =
@@ -73,14 +73,14 @@ add_nearby-requires-clause-room c =
     let wires : ℕ = c.args.sinks.now.variables.wires in
     let n = wires-are wires w c.args.sinks.now.numbers.now
     (slots p.route) c.args.sinks.now.wires c.requires.numbers in
-    let f3 = subst (λ (cs : List Clause). Adds c.add_starts.new.formula cs c.add_used.new.formula)
-    (sym (used-for w r p wires n)) c.add_used.ensures in
-    let f4 = subst (λ (cs : List Clause). Adds c.add_used.new.formula cs c.add_stays.new.formula)
-    (sym (stays-for w r p wires n)) c.add_stays.ensures in
+    let f3 = subst (λ (cs : List Clause). Adds c.add_starts.new.formula cs c.add_each_wire.new.formula)
+    (sym (used-for w r p wires n)) c.add_each_wire.ensures in
+    let f4 = subst (λ (cs : List Clause). Adds c.add_each_wire.new.formula cs c.add_each_wire-2.new.formula)
+    (sym (stays-for w r p wires n)) c.add_each_wire-2.ensures in
     fifth-room (sinks w r p) (starts w r p) (used w r p) (stays w r p) (comes w r p) (apart w r p)
     c.args.formula.now c.requires.room c.add_sinks.new.formula c.add_sinks.ensures
-    c.add_starts.new.formula c.add_starts.ensures c.add_used.new.formula f3
-    c.add_stays.new.formula f4
+    c.add_starts.new.formula c.add_starts.ensures c.add_each_wire.new.formula f3
+    c.add_each_wire-2.new.formula f4
 
 pub add_apart_tracks-requires-clause-room : goal.add_apart_tracks-requires-clause-room
 add_apart_tracks-requires-clause-room c =
@@ -90,15 +90,15 @@ add_apart_tracks-requires-clause-room c =
     let wires : ℕ = c.args.sinks.now.variables.wires in
     let n = wires-are wires w c.args.sinks.now.numbers.now
     (slots p.route) c.args.sinks.now.wires c.requires.numbers in
-    let f3 = subst (λ (cs : List Clause). Adds c.add_starts.new.formula cs c.add_used.new.formula)
-    (sym (used-for w r p wires n)) c.add_used.ensures in
-    let f4 = subst (λ (cs : List Clause). Adds c.add_used.new.formula cs c.add_stays.new.formula)
-    (sym (stays-for w r p wires n)) c.add_stays.ensures in
+    let f3 = subst (λ (cs : List Clause). Adds c.add_starts.new.formula cs c.add_each_wire.new.formula)
+    (sym (used-for w r p wires n)) c.add_each_wire.ensures in
+    let f4 = subst (λ (cs : List Clause). Adds c.add_each_wire.new.formula cs c.add_each_wire-2.new.formula)
+    (sym (stays-for w r p wires n)) c.add_each_wire-2.ensures in
     rw c.requires.chains (subst (HasRoom c.add_nearby.new.formula) (apart-for w r p)
     (sixth-room (sinks w r p) (starts w r p) (used w r p) (stays w r p) (comes w r p) (apart w r p)
     c.args.formula.now c.requires.room c.add_sinks.new.formula c.add_sinks.ensures
-    c.add_starts.new.formula c.add_starts.ensures c.add_used.new.formula f3
-    c.add_stays.new.formula f4 c.add_nearby.new.formula c.add_nearby.ensures))
+    c.add_starts.new.formula c.add_starts.ensures c.add_each_wire.new.formula f3
+    c.add_each_wire-2.new.formula f4 c.add_nearby.new.formula c.add_nearby.ensures))
 
 pub returns : goal.returns
 returns c =
@@ -108,15 +108,15 @@ returns c =
     let wires : ℕ = c.args.sinks.now.variables.wires in
     let n = wires-are wires w c.args.sinks.now.numbers.now
     (slots p.route) c.args.sinks.now.wires c.requires.numbers in
-    let f3 = subst (λ (cs : List Clause). Adds c.add_starts.new.formula cs c.add_used.new.formula)
-    (sym (used-for w r p wires n)) c.add_used.ensures in
-    let f4 = subst (λ (cs : List Clause). Adds c.add_used.new.formula cs c.add_stays.new.formula)
-    (sym (stays-for w r p wires n)) c.add_stays.ensures in
+    let f3 = subst (λ (cs : List Clause). Adds c.add_starts.new.formula cs c.add_each_wire.new.formula)
+    (sym (used-for w r p wires n)) c.add_each_wire.ensures in
+    let f4 = subst (λ (cs : List Clause). Adds c.add_each_wire.new.formula cs c.add_each_wire-2.new.formula)
+    (sym (stays-for w r p wires n)) c.add_each_wire-2.ensures in
     let last = rw c.requires.chains at c.add_apart_tracks.ensures in
     let f6 = subst (λ (cs : List Clause). Adds c.add_nearby.new.formula cs
     c.add_apart_tracks.new.formula) (sym (apart-for w r p)) last in
     six-added (sinks w r p) (starts w r p) (used w r p) (stays w r p) (comes w r p) (apart w r p)
     c.args.formula.now c.requires.room c.add_sinks.new.formula c.add_sinks.ensures
-    c.add_starts.new.formula c.add_starts.ensures c.add_used.new.formula f3
-    c.add_stays.new.formula f4 c.add_nearby.new.formula c.add_nearby.ensures
+    c.add_starts.new.formula c.add_starts.ensures c.add_each_wire.new.formula f3
+    c.add_each_wire-2.new.formula f4 c.add_nearby.new.formula c.add_nearby.ensures
     c.add_apart_tracks.new.formula f6

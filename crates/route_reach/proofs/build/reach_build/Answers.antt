@@ -9,12 +9,18 @@ use Rattle.route_encode.proofs.AddLemmas.{room-reserved}
 use Rattle.route_reach.specs.Encoding.{Frame, frame_of, reach_encoding}
 use Rattle.route_reach.specs.Near.{rows_of}
 use Rattle.route_reach.proofs.NearbyLemmas.{table-long}
+use Rattle.route_reach.proofs.TableLemmas.{slot-on_grid}
 use Rattle.route_reach.proofs.TallyLemmas.{clauses-told, lits-told, vars-told}
 use Rattle.route_reach.proofs.build.reach_build.Goals as goal
 
-pub new-requires-clause-distinct : goal.new-requires-clause-distinct
-new-requires-clause-distinct c =
+pub new-requires-2-clause-distinct : goal.new-requires-2-clause-distinct
+new-requires-2-clause-distinct c =
     rw c.slots-slots.ensures.value (slots-distinct c.args.problem.now.route)
+
+pub new-requires-2-clause-on_grid : goal.new-requires-2-clause-on_grid
+new-requires-2-clause-on_grid c =
+    rw (c.slots-slots.ensures.value, c.route-2.ensures.value)
+    (slot-on_grid c.args.problem.now.route c.route-2.ensures.given.route)
 
 pub invariant_of-variables : goal.invariant_of-variables
 invariant_of-variables c = record {

@@ -16,17 +16,26 @@ bounds-as_slice-slot c =
 pub returns-then-net : goal.returns-then-net
 returns-then-net c = λ t.
     let p : RoutingProblem = c.args.problem.now in
-    let is = rw (c.slots.ensures.value, c.as_slice.ensures, c.route.ensures.value) at c.index-as_slice-slot.is in
+    let is = rw (
+      c.slots.ensures.value,
+      c.as_slice.ensures,
+      c.route.ensures.value,
+    ) at c.index-as_slice-slot.is in
     let here = net-here p.route c.args.slot c.index-as_slice-slot.result c.requires.slot is in
     unmarked 64 t
-    ∙ sym (ap (list_any (λ out. reaches c.args.graph.now out (wire_at (slots p.route) c.args.slot t)))
+    ∙ sym (ap (list_any (λ out. reaches c.args.graph.now out
+    (wire_at (slots p.route) c.args.slot t)))
     (no-outs p.route (slot_at (slots p.route) c.args.slot).net c.index-as_slice-slot.result here
     c.if-net.true))
 
 pub source_row-requires : goal.source_row-requires
 source_row-requires c =
     let p : RoutingProblem = c.args.problem.now in
-    let is = rw (c.slots.ensures.value, c.as_slice.ensures, c.route.ensures.value) at c.index-as_slice-slot.is in
+    let is = rw (
+      c.slots.ensures.value,
+      c.as_slice.ensures,
+      c.route.ensures.value,
+    ) at c.index-as_slice-slot.is in
     let here = net-here p.route c.args.slot c.index-as_slice-slot.result c.requires.slot is in
     rw (c.requires.arch, c.as_slice-2.ensures)
     (outs-together p c.route.ensures.fits (slot_at (slots p.route) c.args.slot).net
@@ -35,8 +44,14 @@ source_row-requires c =
 pub returns : goal.returns
 returns c = λ t.
     let p : RoutingProblem = c.args.problem.now in
-    let is = rw (c.slots.ensures.value, c.as_slice.ensures, c.route.ensures.value) at c.index-as_slice-slot.is in
+    let is = rw (
+      c.slots.ensures.value,
+      c.as_slice.ensures,
+      c.route.ensures.value,
+    ) at c.index-as_slice-slot.is in
     let here = net-here p.route c.args.slot c.index-as_slice-slot.result c.requires.slot is in
-    let own = own-outs p.route (slot_at (slots p.route) c.args.slot).net c.index-as_slice-slot.result here c.if-net.false in
+    let own = own-outs p.route (slot_at (slots p.route) c.args.slot).net
+    c.index-as_slice-slot.result here c.if-net.false in
     let row = rw (c.slots.ensures.value, c.as_slice-2.ensures) at c.source_row.ensures t in
-    row ∙ sym (ap (list_any (λ out. reaches c.args.graph.now out (wire_at (slots p.route) c.args.slot t))) own)
+    row ∙ sym (ap (list_any (λ out. reaches c.args.graph.now out
+    (wire_at (slots p.route) c.args.slot t))) own)

@@ -26,7 +26,8 @@ loop-joint-preserved c =
     let below : i < length wires = omega arith in
     let here : slice_get wires i ≡ Some w =
     slice_get_read wires (length wires) i w refl below c.joint-item.is in
-    let added : c.add_slot.new.row.items ≡ with_found c.loop-joint.near.items (found_in all slot w) =
+    let added : c.add_slot.new.row.items
+    ≡ with_found c.loop-joint.near.items (found_in all slot w) =
     c.add_slot.ensures.with ∙ ap (λ (v : Wire). with_found c.loop-joint.near.items
     (found_number all (record { net = slot.net; cell = v.cell }))) c.joint.view_is in
     record {

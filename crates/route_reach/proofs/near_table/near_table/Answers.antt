@@ -24,4 +24,8 @@ loop-slot-preserved c =
     let p : RoutingProblem = c.args.problem.now in
     rows-more p.route c.loop-slot.slot-index c.loop-slot.table.items c.push.new.self.items
     c.meeting_slots.result c.loop-slot.invariant c.in_ok-push.ensures.items
-    (c.meeting_slots.ensures ∙ rw (c.requires.grid, c.requires.numbers, c.slots-slot-items.ensures.value) refl)
+    (c.meeting_slots.ensures ∙ rw (
+      c.requires.grid,
+      c.requires.numbers,
+      c.slots-slot-items.ensures.value,
+    ) refl)

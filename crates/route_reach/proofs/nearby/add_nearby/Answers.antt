@@ -57,7 +57,11 @@ loop-slot-preserved c =
     let each : ℕ → List Clause = λ s. slot_comes wires reach c.args.graph.now (slots p.route)
     (near_of p.route s) s in
     let added : Adds c.loop-slot.formula (each c.loop-slot.slot) c.add_slot_nearby.new.formula =
-    rw (c.slots-in-loop-slot.ensures.value, c.as_slice-near.ensures.value, row) at c.add_slot_nearby.ensures in
+    rw (
+      c.slots-in-loop-slot.ensures.value,
+      c.as_slice-near.ensures.value,
+      row,
+    ) at c.add_slot_nearby.ensures in
     below-more each (length (slots p.route)) c.loop-slot.slot low _ _ _ c.loop-slot.invariant added
 
 pub returns : goal.returns

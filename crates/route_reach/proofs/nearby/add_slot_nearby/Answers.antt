@@ -26,6 +26,10 @@ loop-track-preserved c =
     (place_of g.width c.args.slot t)
     (wires_beside g c.args.slots.now c.args.near.now c.args.slot t) in
     let added : Adds c.loop-track.formula (each track) c.add_comes.new.formula =
-    rw (c.as_slice.ensures.value, c.wires_beside-beside.ensures.listed, ← c.requires.width) at c.add_comes.ensures in
+    rw (
+      c.as_slice.ensures.value,
+      c.wires_beside-beside.ensures.listed,
+      ← c.requires.width,
+    ) at c.add_comes.ensures in
     below-more each g.width track (rw c.requires.width c.loop-track-test.true) _ _ _
     c.loop-track.invariant added

@@ -35,8 +35,9 @@ loop-other-preserved c =
           ) in
           let items = ap (λ (v : ArrayVec ℕ). v.items) w.beside-is ∙ w.push.ensures.items in
           record {
-            listed = beside-more g all c.args.slot c.args.track near i r c.loop-other.beside.items here
-                c.loop-other.invariant.listed (r * c.args.width + u) _ is items;
+            listed = beside-more g all c.args.slot c.args.track near i r
+                c.loop-other.beside.items here c.loop-other.invariant.listed (r * c.args.width + u)
+                _ is items;
             few = rw items (omega (
               arith,
               length-append c.loop-other.beside.items ((r * c.args.width + u) ∷ []),

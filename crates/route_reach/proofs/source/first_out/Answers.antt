@@ -24,5 +24,6 @@ loop-e-preserved c =
     get-there elems c.loop-e.e-index _ NO_ELEM below refl in
     let none : opin_of e ≡ None = sym c.in_default.ensures in
     made-more opin_of elems c.loop-e.e-index e here
-    ∙ ap (λ (o : Option PinAt). filter_map opin_of (take c.loop-e.e-index elems) ++ option_to_list o) none
+    ∙ ap (λ (o : Option PinAt). filter_map opin_of (take c.loop-e.e-index elems)
+    ++ option_to_list o) none
     ∙ append-nil (filter_map opin_of (take c.loop-e.e-index elems)) ∙ c.loop-e.invariant

@@ -10,8 +10,10 @@ use Rattle.route_reach.proofs.source.source_row.Goals as goal
 
 pub returns-in_default : goal.returns-in_default
 returns-in_default c = λ t.
-    let none : filter_map opin_of c.args.elems.now ≡ [] = nothing-first (filter_map opin_of c.args.elems.now) (sym c.in_default.ensures) in
-    unmarked 64 t ∙ sym (ap (list_any (λ out. reaches c.args.graph.now out (wire_in c.args.cell t))) none)
+    let none : filter_map opin_of c.args.elems.now ≡ [] =
+    nothing-first (filter_map opin_of c.args.elems.now) (sym c.in_default.ensures) in
+    unmarked 64 t ∙ sym (ap (list_any (λ out. reaches c.args.graph.now out
+    (wire_in c.args.cell t))) none)
 
 pub returns-then-not-is_beside : goal.returns-then-not-is_beside
 returns-then-not-is_beside c =
