@@ -16,7 +16,7 @@ use Rattle.sat_clause.proofs.LiveLaws.{clause_at-without, inputs_at}
 use Rattle.sat_core.specs.Deletions.{AreDeletions, DeletionState}
 use Rattle.sat_core.specs.Forget.{Forgets, IsNamed}
 use Rattle.sat_core.specs.Kept.{AreKept, HasOnce, is_always_true}
-use Rattle.sat_core.specs.SearchLog.{AreAddedFrom, AreNumbered, added_count}
+use Rattle.sat_core.specs.SearchLog.{AreAddedFrom, AreNumbered, DeletesSome, added_count}
 use Rattle.sat_core.specs.Stands.{IsAbove, IsOpenLog, SearchValue, StandsFor, live_after}
 use Rattle.sat_core.proofs.KeptLaws.{kept_alike, named_kept}
 use Rattle.sat_core.proofs.LogLemmas.{added_count-push, deletions-push, good_behind, live_after-push}
@@ -194,6 +194,11 @@ each_erased_erase P log own ids each more k i others is =
           rw (is_earlier log (Erased own ids) (Erased i others) k earlier)
           (each k i others earlier)
     ]
+
+pub deletes_erase : (log : List Step) (own : ℕ) (ids : List ℤ) → DeletesSome log → ids ≢ [] →
+    DeletesSome (log ++ Erased own ids ∷ [])
+deletes_erase log own ids deletes some =
+    each_erased_erase (λ before them. them ≢ []) log own ids deletes some
 
 pub each_added_erase : (P : Live → Clause → List ℤ → Type 0) (formula : Cnf) (log : List Step)
     (own : ℕ) (ids : List ℤ) → EachAdded P formula log →

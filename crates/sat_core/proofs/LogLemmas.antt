@@ -15,7 +15,7 @@ use Rattle.sat_clause.specs.Literal.{Clause}
 use Rattle.sat_clause.specs.Live.{Live, clause_at, put, without}
 use Rattle.sat_clause.specs.Step.{Step, Added, Erased}
 use Rattle.sat_clause.proofs.LiveLaws.{clause_at-without, inputs_at}
-use Rattle.sat_core.specs.SearchLog.{AreAddedFrom, AreNumbered, EndsAtEmpty, added_count}
+use Rattle.sat_core.specs.SearchLog.{AreAddedFrom, AreNumbered, DeletesSome, EndsAtEmpty, added_count}
 use Rattle.sat_core.specs.Stands.{AreGood, IsAbove, SparesInputs, live_after}
 
 -- steps without a refused one, and more of them
@@ -112,6 +112,11 @@ pub sparse_push : (log : List Step) (id : ℕ) (clause : Clause) (hints : List �
 sparse_push log id clause hints sparse =
     each_erased_push (λ before ids. (erase_fault (fold after [] before) ids ≡ None)
     × (1000 * suc (deletions before) ≤ added_since 0 before)) log id clause hints sparse
+
+pub deletes_push : (log : List Step) (id : ℕ) (clause : Clause) (hints : List ℤ) →
+    DeletesSome log → DeletesSome (log ++ Added id clause hints ∷ [])
+deletes_push log id clause hints deletes =
+    each_erased_push (λ before ids. ids ≢ []) log id clause hints deletes
 
 -- one more clause
 pub numbered_push : (id new : ℕ) (log : List Step) (clause : Clause) (hints : List ℤ) → AreNumbered

@@ -18,15 +18,15 @@ use Rattle.sat_core.specs.Answer.{IsAnswer, SpendsAll}
 use Rattle.sat_core.specs.Deletions.{AreDeletions, DeletionState}
 use Rattle.sat_core.specs.Forget.{HasForgotten}
 use Rattle.sat_core.specs.Kept.{AreKept, SameLive}
-use Rattle.sat_core.specs.SearchLog.{AreNumbered, EndsAtEmpty, added_count}
+use Rattle.sat_core.specs.SearchLog.{AreNumbered, DeletesSome, EndsAtEmpty, added_count}
 use Rattle.sat_core.specs.SearchStore.{AreTrue, IsLesson, Learns, SameKept}
 use Rattle.sat_core.specs.Stands.{AreGood, IsOpenLog, SearchAt, SearchValue, StandsAt, StandsFor, at_end, live_after, next_id}
 use Rattle.sat_core.specs.Underway.{AddsRelevant, HasLearned, HasModel, HasRefuted, HasSearched, IsUnderway, MayFollow, MayTurn}
 use Rattle.sat_core.proofs.EarlierLaw.{hints_are_earlier}
 use Rattle.sat_core.proofs.ForgetLaws.{whether}
-use Rattle.sat_core.proofs.ErasedLaws.{added_count-erase, deletions_added, deletions_erase, each_added_erase, numbered_erase, open_erased, sparse_erased, stands_erased}
+use Rattle.sat_core.proofs.ErasedLaws.{added_count-erase, deletes_erase, deletions_added, deletions_erase, each_added_erase, numbered_erase, open_erased, sparse_erased, stands_erased}
 use Rattle.sat_core.proofs.KeptLaws.{fresh_kept, kept_alike, kept_put, kept_same, model_kept, relevant_kept, rup_kept}
-use Rattle.sat_core.proofs.LogLemmas.{added_count-push, added_from_push, deletions-push, each_added_push, ends_behind, good_accepted, good_behind, good_so_far, inputs_live, live_after-push, none_at_end, not_empty_step, numbered_push, spares_push, sparse_push, sparse_without}
+use Rattle.sat_core.proofs.LogLemmas.{added_count-push, added_from_push, deletes_push, deletions-push, each_added_push, ends_behind, good_accepted, good_behind, good_so_far, inputs_live, live_after-push, none_at_end, not_empty_step, numbered_push, spares_push, sparse_push, sparse_without}
 
 -- WHAT A SEARCH STANDS FOR
 
@@ -281,6 +281,7 @@ underway_start search formula stands none = record {
   numbered = tt;
   relevant = λ k id clause hints is. cc;
   sparse = sparse_without [] refl;
+  deletes = λ k id ids is. cc;
 }
 
 -- whatever stands on the trail
@@ -299,6 +300,7 @@ underway_along {search} {new} {formula} {log} same all on = record {
   numbered = on.numbered;
   relevant = on.relevant;
   sparse = on.sparse;
+  deletes = on.deletes;
 }
 
 module _ {search : SearchAt} {formula : Cnf} {log : List Step}
@@ -334,6 +336,8 @@ module _ {search : SearchAt} {formula : Cnf} {log : List Step}
           relevant = subst (Relevant formula) (sym adds.step) relevant;
           sparse = subst Sparse (sym adds.step)
               (sparse_push log id clause adds.hints on.sparse);
+          deletes = subst DeletesSome (sym adds.step)
+              (deletes_push log id clause adds.hints on.deletes);
         },
         ap added_count adds.step ∙ added_count-push log id clause adds.hints,
       )
@@ -369,6 +373,8 @@ module _ {search : SearchAt} {formula : Cnf} {log : List Step}
               (each_added_erase IsRelevant formula log own ids on.relevant);
           sparse = subst Sparse (sym forgot.step)
               (sparse_erased own stands forgot.forgets on.sparse late);
+          deletes = subst DeletesSome (sym forgot.step)
+              (deletes_erase log own ids on.deletes forgot.some);
         },
         subst (λ (l : List Step).
             AreDeletions l (record { count = suc d.count; added = search.value.added }))
@@ -389,6 +395,7 @@ module _ {search : SearchAt} {formula : Cnf} {log : List Step}
       new = on.open_log.new;
       relevant = on.relevant;
       sparse = on.sparse;
+      deletes = on.deletes;
     };
     within = few;
     kept = kept;
@@ -427,6 +434,7 @@ module _ {search : SearchAt} {formula : Cnf} {log : List Step}
           relevant = each_added_push IsRelevant formula log id [] hints on.relevant
               done.adds.relevant;
           sparse = sparse_push log id [] hints on.sparse;
+          deletes = deletes_push log id [] hints on.deletes;
         };
         within = within;
         kept = λ all. deletions-push log id [] hints ∙ kept all;

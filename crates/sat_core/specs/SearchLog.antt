@@ -1,8 +1,8 @@
 -- What a search leaves in its log.
-use Rattle.std.specs.Prelude.{◌≡◌, ℕ, suc, ◌<◌, ◌≤◌, ℤ, pos, true, ⊤, List, [], ◌∷◌, length, slice_get, All, Some}
+use Rattle.std.specs.Prelude.{◌≡◌, ◌≢◌, ℕ, suc, ◌<◌, ◌≤◌, ℤ, pos, true, ⊤, List, [], ◌∷◌, length, slice_get, All, Some}
 use Rattle.sat_clause.specs.Formula.{Cnf}
 use Rattle.sat_clause.specs.Judge.{IsGoodSoFar, is_empty_clause}
-use Rattle.sat_clause.specs.Learned.{LearnedNew, Relevant, Sparse}
+use Rattle.sat_clause.specs.Learned.{EachErased, LearnedNew, Relevant, Sparse}
 use Rattle.sat_clause.specs.Literal.{Clause}
 use Rattle.sat_clause.specs.Step.{Step, Added, Erased}
 
@@ -41,9 +41,13 @@ abbrev pub HintsAreEarlier : List Step → Type 0
 HintsAreEarlier log = (k id : ℕ) (clause : Clause) (hints : List ℤ) →
     slice_get log k ≡ Some (Added id clause hints) → All (IsEarlier id) hints
 
+-- each deletion names a clause
+abbrev pub DeletesSome : List Step → Type 0
+DeletesSome log = EachErased (λ before ids. ids ≢ []) log
+
 -- no step is refused, and an empty clause ends the log; the added clauses are numbered behind the
--- inputs and follow from earlier ones by hints that they need, each of them is new, and few steps
--- delete clauses
+-- inputs and follow from earlier ones by hints that they need, each of them is new; few steps delete
+-- clauses, and each of these deletes some
 pub record IsSearchLog (formula : Cnf) (log : List Step) : Type 0 where
   pub good : IsGoodSoFar formula log
   pub ends : EndsAtEmpty log
@@ -52,3 +56,4 @@ pub record IsSearchLog (formula : Cnf) (log : List Step) : Type 0 where
   pub new : LearnedNew formula log
   pub relevant : Relevant formula log
   pub sparse : Sparse log
+  pub deletes : DeletesSome log

@@ -9,7 +9,7 @@ use Rattle.sat_clause.specs.Literal.{Clause}
 use Rattle.sat_clause.specs.Rup.{rup}
 use Rattle.sat_clause.specs.Step.{Step, Added}
 use Rattle.sat_core.specs.Answer.{IsAnswer}
-use Rattle.sat_core.specs.SearchLog.{AreNumbered, IsSearchLog, added_count}
+use Rattle.sat_core.specs.SearchLog.{AreNumbered, DeletesSome, IsSearchLog, added_count}
 use Rattle.sat_core.specs.Stands.{IsOpenLog, SearchAt, StandsAt, live_after, next_id}
 use Rattle.sat_core.specs.declared.answer.Answer.{Answer}
 use Rattle.sat_core.specs.declared.turn.Turn.{Turn}
@@ -68,7 +68,8 @@ IsTurn search formula before now (Model values) =
     HasModel search formula before now values.items
 IsTurn search formula before now Refuted = HasRefuted formula before now
 
--- a search that has taken all steps of its own log, which deletes seldom
+-- a search that has taken all steps of its own log, which deletes seldom and
+-- never nothing
 pub record IsUnderway (search : SearchAt) (formula : Cnf) (log : List Step) : Type 0 where
   pub stands : StandsAt search formula log
   pub all_taken : search.taken ≡ length log
@@ -76,6 +77,7 @@ pub record IsUnderway (search : SearchAt) (formula : Cnf) (log : List Step) : Ty
   pub numbered : AreNumbered (suc (length formula.clauses)) log
   pub relevant : Relevant formula log
   pub sparse : Sparse log
+  pub deletes : DeletesSome log
 
 -- what a search comes to, and what its log is whatever that is
 pub record HasSearched
