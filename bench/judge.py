@@ -1,9 +1,9 @@
 #!/usr/bin/env python3
 """Judges routed files in plain definitions over lists, from the text of docs/FORMATS.md.
 
-    judge.py ARCH NET PLACE ROUTE WIDTH ROUTED
+    judge.py ARCH NET PLACE ROUTE WIDTH ROUTED [REACH]
 
-says what `verify` is to say. It shares nothing with the program, and is slow.
+says what `verify` is to say, within a reach where one is given. It shares nothing with the program, and is slow.
 """
 import sys
 
@@ -307,8 +307,21 @@ def lacks_sink(p, name, elems):
     return any(sink not in there for sink in p.sinks(name))
 
 
-def causes(p, width, found):
-    """The causes against each line, in the order of the lines."""
+def depth(elems, i, depths):
+    """How many joins lead to a line by the depths of those before it, or None if that is not said."""
+    e = elems[i]
+    if not e.is_channel() or i == 0:
+        return None
+    before = elems[i - 1]
+    if before.kind == "SINK":
+        return next((depths[j] for j in range(i) if equals(e, elems[j])), None)
+    if before.kind == "OPIN":
+        return 0
+    return None if depths[i - 1] is None else depths[i - 1] + 1
+
+
+def causes(p, width, found, reach=None):
+    """The causes against each line, in the order of the lines, within a reach if there is one."""
     yield found.size_line, [807] if found.size != p.placement.size else []
     for n, net in enumerate(found.nets):
         earlier = found.nets[:n]
@@ -322,8 +335,10 @@ def causes(p, width, found):
                 here.append(806)
         yield net.line, here
         cells = p.cells_of(net.name)
+        depths = []
         for i, e in enumerate(net.elems):
             here = []
+            depths.append(depth(net.elems, i, depths))
             before = net.elems[i - 1] if i else None
             branch = before is not None and before.kind == "SINK"
             if is_unconnected(p, width, before, e):
@@ -336,12 +351,16 @@ def causes(p, width, found):
                 if e.at() not in cells:
                     here.append(804)
                 again = any(e.at() == other.at() for other in net.elems[:i])
-                if again and not (branch and any(equals(e, other) for other in net.elems[:i])):
+                wire_again = any(equals(e, other) for other in net.elems[:i])
+                if wire_again and not branch if reach is not None else again and not (branch and wire_again):
                     here.append(805)
             if not net.is_global and i + 1 == len(net.elems) and lacks_sink(p, net.name, net.elems):
                 here.append(806)
             if is_unfit(p, net.name, net.is_global, earlier, net.elems, i):
                 here.append(807)
+            if reach is not None and e.kind == "SINK" and i > 1 and before.kind == "IPIN":
+                if depths[i - 2] is not None and depths[i - 2] > reach:
+                    here.append(808)
             yield e.line, here
     missing = any(
         not is_global and all(net.name != name for net in found.nets)
@@ -350,8 +369,8 @@ def causes(p, width, found):
     yield found.lines + 1, [806] if missing else []
 
 
-def judged(p, width, text):
-    for line, here in causes(p, width, Route(text)):
+def judged(p, width, text, reach=None):
+    for line, here in causes(p, width, Route(text), reach):
         if here:
             return f"not legal: line {line} cause {min(here)}"
     return "legal"
@@ -359,7 +378,8 @@ def judged(p, width, text):
 
 def main():
     arch, net, place, route, routed = (open(name).read() for name in sys.argv[1:5] + sys.argv[6:7])
-    print(judged(Problem(arch, net, place, route), int(sys.argv[5]), routed))
+    reach = int(sys.argv[7]) if len(sys.argv) > 7 else None
+    print(judged(Problem(arch, net, place, route), int(sys.argv[5]), routed, reach))
 
 
 if __name__ == "__main__":

@@ -3,12 +3,13 @@
 
     make_judged.py FOLDER [PROGRAM]
 
-writes into FOLDER/data the architectures and designs, a routing of each by PROGRAM, and `verify.rows`, with a line
-for each change; and FOLDER/stdout, with a line for each row: how the changed routing is to be judged. That is worked
-out by `judge.py`. Changes are drawn from a fixed seed.
+writes into FOLDER/data the architectures and designs, a routing of each by PROGRAM, and the tables `verify.rows` and
+`reach.rows`, with a line for each change; and FOLDER/stdout: how the changed routing of each row is to be judged, of
+`reach.rows` within the reach and then without it. That is worked out by `judge.py`. Changes are drawn from a fixed
+seed.
 
 A row is NAME ARCH DESIGN ROUTED WIDTH FROM TO|LINE|LINE ..: in the routing ROUTED of DESIGN the lines FROM to TO,
-counted from 1, are replaced by these.
+counted from 1, are replaced by these. In `reach.rows` the reach stands behind the width.
 """
 import os
 import random
@@ -38,6 +39,44 @@ OTHERS = [
     ("junction", "wilton", 1), ("junction", "wilton", 62), ("branch", "half", 0), ("branch", "wilton", 0),
     ("branch", "wilton", 1), ("branch", "universal", 1), ("branch", "subset", 62), ("half", "subset", 0),
     ("half", "half", 1), ("half", "half", 3), ("global", "wilton", 63), ("made", "made", -1), ("made", "made", 1),
+]
+# Routings within a reach: a name, an architecture, a design, the width and the reach. The lines are those of a routing
+# above, of the tree below, or of the global route of the chain.
+WITHIN = [
+    ("tree", "part", "branch", 2, 1),
+    ("chain", "chain", "chain", 1, 3),
+    ("junction", "wilton", "junction", 2, 1),
+]
+# A net that has two wires of one cell.
+TREE = """\
+Array size: 2 x 1 logic blocks.
+
+Routing:
+
+Net 0 (a)
+
+SOURCE (1,0) Pad: 0
+OPIN (1,0) Pad: 0
+CHANX (1,0) Track: 1
+CHANY (1,1) Track: 1
+IPIN (1,1) Pin: 3
+SINK (1,1) Class: 0
+OPIN (1,0) Pad: 0
+CHANX (1,0) Track: 0
+CHANX (2,0) Track: 0
+IPIN (2,0) Pad: 0
+SINK (2,0) Pad: 0
+CHANX (2,0) Track: 0
+IPIN (2,1) Pin: 0
+SINK (2,1) Class: 0
+"""
+# The same texts within other reaches, under other blocks and boxes or at other widths.
+OTHERS_WITHIN = [
+    ("tree", "part", 2, 2), ("tree", "part", 2, 64), ("tree", "part", 1, 1), ("tree", "subset", 2, 1),
+    ("tree", "wilton", 2, 1), ("tree", "universal", 2, 1), ("tree", "subset", 3, 1), ("chain", "chain", 1, 2),
+    ("chain", "chain", 1, 1), ("chain", "chain", 1, 64), ("chain", "chain", 64, 3), ("junction", "wilton", 2, 1),
+    ("junction", "wilton", 2, 64), ("half", "half", 2, 1), ("branch", "subset", 2, 1), ("made", "made", 5, 1),
+    ("made", "made", 5, 2), ("made", "made", 5, 3), ("made", "made", 5, 64), ("global", "subset", 1, 1),
 ]
 
 
@@ -419,6 +458,22 @@ def tree_in_another_order(b):
     return net.elems[0].line, net.elems[-1].line, made
 
 
+def to_the_other_wire(b):
+    """A branch at the net's other wire of a cell."""
+    net, branch = b.branch()
+    start, other = b.one((e, other) for e in branch for other in net.elems
+                         if e.is_channel() and e.at() == other.at() and e.number != other.number)
+    return instead(start, told(other))
+
+
+def there_and_back(b):
+    """From a channel over the next one back to itself, in branch position."""
+    net = b.net()
+    one, two = b.one((one, two) for one, two in zip(net.elems, net.elems[1:])
+                     if one.is_channel() and two.is_channel())
+    return behind(net.elems[-1], told(one), told(two), told(one))
+
+
 def comments_between(b):
     e = b.elem()
     return instead(e, "# a comment", "", told(e) + " # and one behind")
@@ -447,6 +502,17 @@ CHANGES = {
 }
 
 
+# The changes of routings within a reach.
+WITHIN_CHANGES = {
+    nothing: 1, track_raised: 2, track_at_the_width: 1, net_raised: 1, detour: 2, branch_from_another_track: 2,
+    branch_without_its_start: 2, branch_from_the_output: 1, branch_from_the_source: 1, branch_of_an_input_alone: 1,
+    branch_left_out: 2, branch_twice: 2, wire_of_an_earlier_net: 1, wire_of_a_later_net: 1, to_the_other_wire: 2,
+    there_and_back: 2, last_line_left_out: 1, sink_left_out: 1, cell_twice: 2, cell_left_out: 2, way_back: 2,
+    to_and_fro: 2, cell_of_another_net: 1, cell_beside: 1, another_pad: 1, line_twice: 2, line_left_out: 2,
+    net_twice: 1, tree_in_another_order: 2, another_array: 1, end_left_out: 1,
+}
+
+
 def is_read(text):
     """Whether the text is taken as a route, where its lines have the right forms."""
     found = Route(text)
@@ -462,11 +528,14 @@ def replaced(text, first, last, lines):
 
 # The files and the rows.
 
-def designs(folder):
+def designs(program, folder):
     """The architectures and designs, as files of the folder."""
     for name in os.listdir(DESIGNS):
         if name.endswith((".arch", ".net", ".place", ".route")):
             shutil.copy(os.path.join(DESIGNS, name), folder)
+    subprocess.run([program, "gen", "1", "2", "1", "chain"], cwd=folder, stdout=subprocess.DEVNULL, check=True)
+    with open(os.path.join(folder, "subset.arch")) as whole, open(os.path.join(folder, "part.arch"), "w") as part:
+        part.write(whole.read().replace("Fc_input 1", "Fc_input 0.5"))
     maker = [sys.executable, os.path.join(HERE, "make_design.py")]
     subprocess.run([*maker, "made", "3", "wilton", "0.75", "0.9", "1"], cwd=folder, check=True)
 
@@ -488,6 +557,11 @@ def problem_of(folder, arch, design):
     return Problem(*(open(os.path.join(folder, name)).read() for name in names_of(arch, design)))
 
 
+def both_judged(problem, width, reach, text):
+    """How a text is judged within the reach, and without it."""
+    return judged(problem, width, text, reach), judged(problem, width, text)
+
+
 def changed_rows(base, name, arch, design):
     """A row for each change that can be made, and how it is judged."""
     for change, count in CHANGES.items():
@@ -502,13 +576,47 @@ def changed_rows(base, name, arch, design):
                 yield row + "".join("|" + line for line in lines), judged(base.p, base.width, text)
 
 
+def changed_within(base, name, arch, design, reach):
+    """The same within a reach, and how it is judged with it and without."""
+    for change, count in WITHIN_CHANGES.items():
+        for _ in range(count):
+            try:
+                first, last, lines = change(base)
+            except NoPlace:
+                break
+            text = replaced(base.text, first, last, lines)
+            if is_read(text):
+                row = f"{change.__name__} {arch} {design} {name} {base.width} {reach} {first} {last}"
+                yield row + "".join("|" + line for line in lines), both_judged(base.p, base.width, reach, text)
+
+
+def rows_within(folder, texts, chance):
+    """The rows of routings within a reach."""
+    rows = []
+    for name, arch, design, width, reach in WITHIN:
+        if name not in texts:
+            with open(os.path.join(folder, design + ".route")) as file:
+                text = TREE if name == "tree" else file.read()
+            texts[name] = design, width, text
+            with open(os.path.join(folder, name + ".routed"), "w") as out:
+                out.write(text)
+        text = texts[name][2]
+        base = Base(problem_of(folder, arch, design), width, text, chance)
+        rows += changed_within(base, name, arch, design, reach)
+    for name, arch, width, reach in OTHERS_WITHIN:
+        design, _, text = texts[name]
+        answers = both_judged(problem_of(folder, arch, design), width, reach, text)
+        rows.append((f"elsewhere {arch} {design} {name} {width} {reach} 1 0", answers))
+    return rows
+
+
 def main():
     if len(sys.argv) not in (2, 3):
         sys.exit(__doc__)
     program = os.path.abspath(sys.argv[2] if len(sys.argv) > 2 else BUILT)
     folder = os.path.join(sys.argv[1], "data")
     os.makedirs(folder, exist_ok=True)
-    designs(folder)
+    designs(program, folder)
     chance = random.Random(SEED)
     rows, texts = [], {}
     for name, arch, design, width in BASES:
@@ -522,10 +630,16 @@ def main():
         width = max(1, width + more)
         answer = judged(problem_of(folder, arch, design), width, text)
         rows.append((f"elsewhere {arch} {design} {name} {width} 1 0", answer))
+    within = rows_within(folder, texts, chance)
     with open(os.path.join(folder, "verify.rows"), "w") as out:
         out.writelines(row + "\n" for row, _ in rows)
+    with open(os.path.join(folder, "reach.rows"), "w") as out:
+        out.writelines(row + "\n" for row, _ in within)
     with open(os.path.join(sys.argv[1], "stdout"), "w") as out:
         out.writelines(f"{row.split()[0]}: {answer}\n" for row, answer in rows)
+        for row, (inside, outside) in within:
+            words = row.split()
+            out.write(f"{words[0]} within {words[5]}: {inside}\n{words[0]}: {outside}\n")
 
 
 if __name__ == "__main__":

@@ -67,7 +67,7 @@ module _ (p : RoutingProblem) (width : ℕ) (tracks : List ℕ)
   lines-clean =
       let lines : Faults = map (line_cause width p) (route_lines found) in
       let none : IsFaultless (causes width p found) =
-      (legal-exactly (first_fault (causes width p found)) (first-is-cause width p found)).0
+      (legal-exactly (first_fault (causes width p found)) (first-is-cause None width p found)).0
       (sym (ap (judged width p) (route_of-is p.route tracks)) ∙ clean) in
       let behind = option_or-none (array_cause p found)
       (first_fault (lines ++ end_cause p found ∷ [])) none in

@@ -3,6 +3,7 @@ use Rattle.std.proofs.Common.{◌≡◌, ℕ, ◌+◌, Bool, true, false, List, 
 use Rattle.std.specs.Prelude.{map, ⊤, ◌↔◌, if◌then◌else◌}
 use Rattle.std.specs.Option.{option_or}
 use Rattle.fpga_graph.specs.GraphOf.{GraphOf}
+use Rattle.fpga_text.specs.Codes.{first_code}
 use Rattle.fpga_text.specs.FirstFault.{IsFaultOf, first_fault}
 use Rattle.fpga_text.specs.declared.fault.TextFault.{TextFault}
 use Rattle.fpga_text.specs.declared.fault.TextFault.TheVariants.{Bad, Limit, Memory}
@@ -11,9 +12,11 @@ use Rattle.fpga_types.specs.Fit.{RouteLine, line_number, route_lines}
 use Rattle.fpga_types.specs.Fits.{lacks_net, same_size}
 use Rattle.fpga_types.specs.Problem.{RoutingProblem}
 use Rattle.fpga_types.specs.declared.route.RouteText.{RouteText}
-use Rattle.route_verify.specs.Judged.{array_cause, causes, end_cause, graph_of, judgement_by, line_cause}
-use Rattle.route_verify.specs.Lines.{JudgedLine, is_too_high, is_unconnected, is_unfit, judged_line, repeats_cell}
+use Rattle.route_verify.specs.Judged.{array_cause, end_cause, graph_of, judgement_by}
+use Rattle.route_verify.specs.Lines.{is_too_high, is_unconnected, is_unfit}
+use Rattle.route_verify.specs.Reach.{ReachLine, causes_by, causes_within, is_past_reach_by, line_cause_by, reach_line, repeats_by}
 use Rattle.route_verify.specs.declared.judgement.Judgement.TheVariants.{Legal}
+use Rattle.route_verify.proofs.TableLemmas.{table-is}
 
 -- a cause, if anything
 abbrev pub IsCause : Option TextFault → Type 0
@@ -39,25 +42,32 @@ first-or-later (Some (Bad line cause)) later is after = tt
 first-or-later (Some (Limit cause count)) later is after = absurd is
 first-or-later (Some Memory) later is after = absurd is
 
-module _ (width : ℕ) (p : RoutingProblem) where
-  line-is : (line : RouteLine) → IsCause (line_cause width p line)
-  line-is line =
-      let g : GraphOf = graph_of width p in
-      let at : JudgedLine = judged_line p line in
-      let n : ℕ = line_number line in
-      this-or-rest (is_unconnected g at) n 801 _ (this-or-rest (is_too_high g at) n 802 _
-      (this-or-rest at.wire_taken n 803 _ (this-or-rest at.stray n 804 _
-      (this-or-rest (repeats_cell at) n 805 _ (this-or-rest at.fit.lacking n 806 _
-      (this-or-rest (is_unfit g at) n 807 None tt))))))
+-- against a line by the table of causes
+by-table : (g : GraphOf) (reach : Option ℕ) (n : ℕ) (at : ReachLine)
+    → IsCause (first_code (causes_within reach) g n at)
+by-table g reach n at =
+    this-or-rest (is_unconnected g at.line) n 801 _ (this-or-rest (is_too_high g at.line) n 802 _
+    (this-or-rest at.line.wire_taken n 803 _ (this-or-rest at.line.stray n 804 _
+    (this-or-rest (repeats_by reach at.line) n 805 _ (this-or-rest at.line.fit.lacking n 806 _
+    (this-or-rest (is_unfit g at.line) n 807 _
+    (this-or-rest (is_past_reach_by reach at) n 808 None tt)))))))
 
-  lines-are : (lines : List RouteLine) → IsCause (first_fault (map (line_cause width p) lines))
+module _ (reach : Option ℕ) (width : ℕ) (p : RoutingProblem) where
+  line-is : (line : RouteLine) → IsCause (line_cause_by reach width p line)
+  line-is line = subst IsCause (table-is reach width p line)
+      (by-table (graph_of width p) reach (line_number line) (reach_line p line))
+
+  lines-are : (lines : List RouteLine)
+      → IsCause (first_fault (map (line_cause_by reach width p) lines))
   lines-are [] = tt
-  lines-are (line ∷ lines) = first-or-later (line_cause width p line)
-      (first_fault (map (line_cause width p) lines)) (line-is line) (lines-are lines)
+  lines-are (line ∷ lines) = first-or-later (line_cause_by reach width p line)
+      (first_fault (map (line_cause_by reach width p) lines)) (line-is line) (lines-are lines)
 
-  pub first-is-cause : (found : RouteText) → IsCause (first_fault (causes width p found))
+  pub first-is-cause : (found : RouteText)
+      → IsCause (first_fault (causes_by reach width p found))
   first-is-cause found =
-      let lines : List (Option TextFault) = map (line_cause width p) (route_lines found) in
+      let lines : List (Option TextFault) = map (line_cause_by reach width p)
+      (route_lines found) in
       let end : IsCause (end_cause p found) = this-or-rest
       (lacks_net (record p { route = found })) (found.lines + 1) 806 None tt in
       let behind : IsCause (option_or (first_fault lines) (option_or (end_cause p found) None)) =

@@ -26,9 +26,11 @@ use Rattle.fpga_types.specs.declared.route.RouteNet.{RouteNet}
 use Rattle.route_verify.specs.Heads.{head_cause}
 use Rattle.route_verify.specs.Judged.{graph_of, line_cause, line_causes}
 use Rattle.route_verify.specs.Lines.{has_wire, is_stray_in, is_wire_of, without_count}
-use Rattle.route_verify.specs.Rules.{IsLineOf, judged_at, with_full}
+use Rattle.route_verify.specs.Reach.{causes_within, line_cause_by, reach_line}
+use Rattle.route_verify.specs.Rules.{IsLineOf, reached_at, with_full}
 use Rattle.route_verify.specs.Wiring.{wire_on}
 use Rattle.route_verify.specs.declared.line.ElemLine.{ElemLine}
+use Rattle.route_verify.proofs.TableLemmas.{head-by, table-is}
 
 module _ (at : ElemLine) (seen : BTreeSet ElemKey) (line : RouteLine) (is : IsLineOf at seen line)
   where
@@ -36,27 +38,43 @@ module _ (at : ElemLine) (seen : BTreeSet ElemKey) (line : RouteLine) (is : IsLi
     number = λ i. option_map_or (λ (e : Elem). e.line) (sym is.route.elem i) line.net.line
 
     -- against an element line, by the rules of its net
-    pub by-rules : (width : ℕ) (net : NamedNet) (stray : Bool) → net.name ≡ line.net.name
+    pub by-rules : (reach : Option ℕ) (width : ℕ) (net : NamedNet) (stray : Bool)
+        → net.name ≡ line.net.name
         → stray ≡ is_stray_in net.problem.route.nets net.name at.route.elem
-        → first_code line_causes (graph_of width net.problem) at.route.elem.line
-        (judged_at (record {
+        → first_code (causes_within reach) (graph_of width net.problem) at.route.elem.line
+        (reached_at (record {
           fit = context_by net at.route seen;
           wire_again = at.wire_again;
           wire_taken = at.wire_taken;
           stray = stray;
-        })) ≡ line_cause width net.problem line
-    by-rules width net stray named stray_is =
+          depth = at.depth;
+        })) ≡ line_cause_by reach width net.problem line
+    by-rules reach width net stray named stray_is =
         let context : LineContext = context_of line in
-        λ i. first_code line_causes (graph_of width net.problem) (number i) (record {
-          fit = ap (λ (fit : ProblemContext). record fit { route = without_count fit.route })
-              (at-hand (with_full at.route context.full) seen line is.route net named) i;
-          wire_again = (is.again ∙ (λ k. option_map_or (has_wire line.before)
-              (wire_on (sym is.route.elem k)) false)) i;
-          wire_taken = (is.taken ∙ (λ k. option_map_or (is_wire_of line.earlier)
-              (wire_on (sym is.route.elem k)) false)) i;
-          stray = (stray_is ∙ (λ k. option_map_or (is_stray_in net.problem.route.nets (named k))
-              (sym is.route.elem k) false)) i;
-        })
+        let same : first_code (causes_within reach) (graph_of width net.problem) at.route.elem.line
+        (reached_at (record {
+          fit = context_by net at.route seen;
+          wire_again = at.wire_again;
+          wire_taken = at.wire_taken;
+          stray = stray;
+          depth = at.depth;
+        }))
+        ≡ first_code (causes_within reach) (graph_of width net.problem) (line_number line)
+        (reach_line net.problem line) =
+        λ i. first_code (causes_within reach) (graph_of width net.problem) (number i) (record {
+          line = record {
+            fit = ap (λ (fit : ProblemContext). record fit { route = without_count fit.route })
+                (at-hand (with_full at.route context.full) seen line is.route net named) i;
+            wire_again = (is.again ∙ (λ k. option_map_or (has_wire line.before)
+                (wire_on (sym is.route.elem k)) false)) i;
+            wire_taken = (is.taken ∙ (λ k. option_map_or (is_wire_of line.earlier)
+                (wire_on (sym is.route.elem k)) false)) i;
+            stray = (stray_is ∙ (λ k. option_map_or (is_stray_in net.problem.route.nets (named k))
+                (sym is.route.elem k) false)) i;
+          };
+          depth = is.depth i;
+        }) in
+        same ∙ table-is reach width net.problem line
 
 -- the cause against a Net line
 pub by-head : (g : GraphOf) (line : ℕ) (driver : Option Terminal)
@@ -105,15 +123,16 @@ and-false true = refl
 and-false false = refl
 
 -- a name that the netlist does not have
-pub head-unknown : (width : ℕ) (p : RoutingProblem) (earlier : List RouteNet) (net : RouteNet)
-    → number_named p.netlist.nets net.name ≡ None
-    → line_cause width p (head_line earlier net) ≡ Some (Bad net.line 807)
-head-unknown width p earlier net none =
+pub head-unknown : (reach : Option ℕ) (width : ℕ) (p : RoutingProblem) (earlier : List RouteNet)
+    (net : RouteNet) → number_named p.netlist.nets net.name ≡ None
+    → line_cause_by reach width p (head_line earlier net) ≡ Some (Bad net.line 807)
+head-unknown reach width p earlier net none =
     let lacks : lacks_sink p (head_line earlier net) ≡ false =
     ap (λ (named : Option Net). not net.global && length net.elems == 0
     && not (list_all (has_sink []) (option_map_or (sinks_of p) named [])))
     (unnamed p.netlist.nets net.name none)
     ∙ and-false (not net.global && length net.elems == 0) in
-    head-is width p earlier net
+    head-by reach width p earlier net
+    ∙ head-is width p earlier net
     ∙ (λ i. head_cause net.line (not-known p.netlist.nets net.name net.global none i)
     (has_net earlier net.name) (not net.global && length net.elems == 0) (lacks i))

@@ -1,5 +1,5 @@
 -- What a line of a net is judged by, as the code has it.
-use Rattle.std.specs.Prelude.{◌≡◌, ℕ, Bool, false}
+use Rattle.std.specs.Prelude.{◌≡◌, ℕ, Bool, false, Option}
 use Rattle.std.specs.BTreeSet.{BTreeSet}
 use Rattle.std.specs.Option.{option_map_or}
 use Rattle.fpga_bounds.specs.ElemContext.{IsLineOf as IsElemLine}
@@ -12,20 +12,23 @@ use Rattle.fpga_text.specs.Bytes.{Bytes}
 use Rattle.fpga_types.specs.Fit.{LineContext as LineOfRoute, RouteLine, context_of}
 use Rattle.fpga_types.specs.Fits.{ProblemContext}
 use Rattle.fpga_types.specs.Problem.{RoutingProblem}
+use Rattle.route_verify.specs.Depths.{deep_lines, same_tracked}
 use Rattle.route_verify.specs.Judged.{graph_of}
 use Rattle.route_verify.specs.Lines.{JudgedLine, has_wire, is_wire_of, trace_named, without_count}
+use Rattle.route_verify.specs.Reach.{ReachLine, depth_at_pin}
 use Rattle.route_verify.specs.Traces.{HasElems}
 use Rattle.route_verify.specs.Wiring.{elem_wire}
 use Rattle.route_verify.specs.declared.line.ElemLine.{ElemLine}
 use Rattle.route_verify.specs.declared.line.LineContext.{LineContext}
 
--- a net of a problem, by its name, and a number of tracks
+-- a net of a problem, by its name, a number of tracks, and a reach if there is one
 pub record JudgedNet : Type 0 where
   pub problem : RoutingProblem
   pub name : Bytes
   pub width : ℕ
+  pub reach : Option ℕ
 
--- the net, at whatever number of tracks
+-- the net, at whatever number of tracks and reach
 abbrev pub net_of : JudgedNet → NamedNet
 net_of net = record { problem = net.problem; name = net.name }
 
@@ -44,6 +47,10 @@ judged_at at = let fit : ProblemContext = problem_context_at at.fit in record {
   stray = at.stray;
 }
 
+-- the same within a reach
+abbrev pub reached_at : LineContext → ReachLine
+reached_at at = record { line = judged_at at; depth = at.depth }
+
 -- the same, with another word on whether the slots are full
 abbrev pub with_full : ElemContext → Bool → ElemContext
 with_full at full = record at { full = full }
@@ -57,3 +64,4 @@ pub record IsLineOf (at : ElemLine) (seen : BTreeSet ElemKey) (line : RouteLine)
       ≡ option_map_or (has_wire line.before) (elem_wire at.route.elem) false
   pub taken : at.wire_taken
       ≡ option_map_or (is_wire_of line.earlier) (elem_wire at.route.elem) false
+  pub depth : at.depth ≡ depth_at_pin (deep_lines same_tracked line.before)

@@ -3,8 +3,9 @@ ghost use Rattle.std.specs.Prelude.{◌≡◌, OnOk, IfErr};
 ghost use Rattle.fpga_text.specs.FirstFault.{IsFaultless, IsRefusal};
 ghost use Rattle.fpga_bounds.specs.NetFit.{elems_faults};
 ghost use Rattle.route_verify.specs.Judge.{AreTaken};
-ghost use Rattle.route_verify.specs.Judged.{line_cause};
+ghost use Rattle.route_verify.specs.Reach.{line_cause_by};
 
+use crate::depths::LineDepths;
 use crate::line::ElemLine;
 use crate::rules::Rules;
 use crate::taken::Taken;
@@ -25,22 +26,27 @@ pub(crate) fn check_elems(
 ) -> Result<(), TextFault>
     requires rules { rules.now.name ≡ net.now.name }
     requires taken { AreTaken taken.now earlier.now }
-    ensures legal { OnOk result (IsFaultless
-        (elems_faults (line_cause rules.now.width rules.now.problem) earlier.now net.now 0)) }
-    ensures refused { IfErr result (IsRefusal
-        (elems_faults (line_cause rules.now.width rules.now.problem) earlier.now net.now 0)) }
+    ensures legal { OnOk result (IsFaultless (elems_faults
+        (line_cause_by rules.now.reach rules.now.width rules.now.problem) earlier.now net.now 0)) }
+    ensures refused { IfErr result (IsRefusal (elems_faults
+        (line_cause_by rules.now.reach rules.now.width rules.now.problem) earlier.now net.now 0)) }
 {
     let elems = net.elems.as_slice();
     let mut seen = BTreeSet::new(alloc);
     let mut wires = BTreeSet::new(alloc);
+    let mut depths = LineDepths::new(alloc, true);
     let mut previous: Option<Elem> = None;
     for (i, e) in elems.iter().enumerate() {
         let again = is_seen(&seen, *e);
         let wire_again = is_on(&wires, *e);
+        let depth = depths.last_but_one();
         let Ok(()) = see(&mut seen, *e) else {
             return Err(TextFault::Memory);
         };
         let Ok(()) = add_wire(&mut wires, *e) else {
+            return Err(TextFault::Memory);
+        };
+        let Ok(()) = depths.take(*e) else {
             return Err(TextFault::Memory);
         };
         let route = ElemContext {
@@ -56,6 +62,7 @@ pub(crate) fn check_elems(
             route,
             wire_again,
             wire_taken: is_on(&taken.wires, *e),
+            depth,
         };
         if let Some(fault) = rules.cause(line, &seen) {
             return Err(fault);

@@ -8,7 +8,8 @@ ghost use Rattle.fpga_types.specs.Fits.{has_sink, is_known};
 ghost use Rattle.fpga_types.specs.Terminals.{sinks_named};
 ghost use Rattle.fpga_types.specs.declared.route.RouteNet.{RouteNet};
 ghost use Rattle.route_verify.specs.Heads as spec;
-ghost use Rattle.route_verify.specs.Judged.{graph_of, line_cause};
+ghost use Rattle.route_verify.specs.Judged.{graph_of};
+ghost use Rattle.route_verify.specs.Reach.{line_cause_by};
 
 use crate::cause::Cause;
 use crate::rules::Rules;
@@ -21,11 +22,13 @@ use std::alloc::{AllocError, Global};
 use std::collections::BTreeSet;
 use std::marker::Model;
 
-/// The problem of a global route at a number of tracks, with its nets by name.
+/// The problem of a global route at a number of tracks, within a reach or without one, with its
+/// nets by name.
 #[derive(Drop)]
 pub(crate) struct Judge<'a> {
     design: &'a Design<'a>,
     wiring: &'a Wiring<'a>,
+    reach: Option<u32>,
     names: NetTable<'a>,
     traces: Traces<'a>,
 }
@@ -35,27 +38,33 @@ impl<'a> Model for Judge<'a> {
 
     ghost Value = { JudgedProblem };
 
-    ghost view = { λ j. record { problem = j.design.now; width = j.wiring.now.width } };
+    ghost view = { λ j. record {
+      problem = j.design.now;
+      width = j.wiring.now.width;
+      reach = j.reach;
+    } };
 
     ghost invariant = { λ j. IsJudge j.design.now j.wiring.now j.names j.traces };
 }
 
 impl<'a> Judge<'a> {
-    /// By this problem and this fabric, which is the problem's.
+    /// By this problem, this fabric, which is the problem's, and this reach, if there is one.
     pub(crate) fn of(
         alloc: Global,
         design: &'a Design<'a>,
         wiring: &'a Wiring<'a>,
+        reach: Option<u32>,
     ) -> Result<Judge<'a>, AllocError>
         requires { wiring.now ≡ graph_of wiring.now.width design.now }
         ensures { IfOk result (λ judge. judge
-            ≡ record { problem = design.now; width = wiring.now.width }) }
+            ≡ record { problem = design.now; width = wiring.now.width; reach = reach }) }
     {
         let names = NetTable::of(alloc, design.netlist.nets.as_slice())?;
         let traces = Traces::of(alloc, design.route.nets.as_slice())?;
         Ok(Judge {
             design,
             wiring,
+            reach,
             names,
             traces,
         })
@@ -86,11 +95,13 @@ impl<'a> Judge<'a> {
         requires { length marks.old ≡ length self.now.problem.netlist.nets }
         ensures answers { (earlier : List RouteNet)
             → HasNetLines self.now.problem.netlist.nets marks.old earlier
-            → AnswersFault (line_cause self.now.width self.now.problem (head_line earlier net.now))
+            → AnswersFault
+            (line_cause_by self.now.reach self.now.width self.now.problem (head_line earlier net.now))
             (λ rules. rules ≡ record {
               problem = self.now.problem;
               name = net.now.name;
               width = self.now.width;
+              reach = self.now.reach;
             }) result }
         ensures marked { (earlier : List RouteNet)
             → HasNetLines self.now.problem.netlist.nets marks.old earlier
@@ -126,11 +137,12 @@ impl<'a> Judge<'a> {
           problem = self.now.problem;
           name = net.now.name;
           width = self.now.width;
+          reach = self.now.reach;
         }) }
     {
         let name = net.name.bytes.as_slice();
         let ends = NetEnds::of(alloc, self.design, name, &self.names.as_slice()[number])?;
-        Rules::of(alloc, self.wiring, &self.traces, ends, name)
+        Rules::of(alloc, self.wiring, self.reach, &self.traces, ends, name)
     }
 
     /// Whether the Net line has the form of the net with this number, which has its name.

@@ -2,6 +2,7 @@
 #![tactic(auto)]
 
 mod cause;
+mod depths;
 mod elems;
 mod judge;
 mod judgement;
@@ -16,6 +17,7 @@ mod wires;
 mod wiring;
 
 pub use cause::Cause;
+pub use depths::LineDepths;
 pub use judgement::Judgement;
 pub use laws::{legal_tracks_are_judged_legal, legal_without_causes};
-pub use verdict::verify;
+pub use verdict::{verify, verify_reach};

@@ -2,9 +2,10 @@
 ghost use Rattle.std.specs.Prelude.{◌≡◌};
 ghost use Rattle.fpga_bounds.specs.ElemContext.{context_at};
 ghost use Rattle.fpga_text.specs.Codes.{first_code};
-ghost use Rattle.route_verify.specs.Judged.{line_causes};
 ghost use Rattle.route_verify.specs.Lines as spec;
-ghost use Rattle.route_verify.specs.Rules.{judged_at};
+ghost use Rattle.route_verify.specs.Reach as reach_spec;
+ghost use Rattle.route_verify.specs.Reach.{causes_within};
+ghost use Rattle.route_verify.specs.Rules.{judged_at, reached_at};
 
 use crate::cause::Cause;
 use crate::wiring::Wiring;
@@ -24,6 +25,8 @@ pub(crate) struct ElemLine {
     pub wire_again: bool,
     /// Whether it is a channel on a wire of an earlier net.
     pub wire_taken: bool,
+    /// The depth of the line two before it, if that is a channel with one.
+    pub depth: Option<u64>,
 }
 
 /// What the causes against an element line look at.
@@ -37,11 +40,14 @@ pub(crate) struct LineContext {
     pub wire_taken: bool,
     /// Whether it is a channel in a cell that is none of its net's in the global route.
     pub stray: bool,
+    /// The depth of the line two before it, if that is a channel with one.
+    pub depth: Option<u64>,
 }
 
-/// The least cause against the line, if there is one.
-pub(crate) fn line_cause(wiring: &Wiring, at: LineContext) -> Option<TextFault>
-    ensures { result ≡ first_code line_causes wiring.now at.fit.route.elem.line (judged_at at) }
+/// The least cause against the line, if there is one, with a reach or without one.
+pub(crate) fn line_cause(wiring: &Wiring, reach: Option<u32>, at: LineContext) -> Option<TextFault>
+    ensures { result
+        ≡ first_code (causes_within reach) wiring.now at.fit.route.elem.line (reached_at at) }
 {
     let elem = at.fit.route.elem;
     let line = elem.line;
@@ -57,7 +63,7 @@ pub(crate) fn line_cause(wiring: &Wiring, at: LineContext) -> Option<TextFault>
     if at.stray {
         return Some(Cause::OffTrace.at(line));
     }
-    if repeats_cell(at) {
+    if repeats(reach, at) {
         return Some(Cause::RepeatedCell.at(line));
     }
     if at.fit.lacking {
@@ -65,6 +71,9 @@ pub(crate) fn line_cause(wiring: &Wiring, at: LineContext) -> Option<TextFault>
     }
     if is_unfit(wiring, at) {
         return Some(Cause::Unfit.at(line));
+    }
+    if is_past_reach(reach, at) {
+        return Some(Cause::PastReach.at(line));
     }
     None
 }
@@ -80,6 +89,17 @@ fn is_unconnected(wiring: &Wiring, at: LineContext) -> bool
     }
 }
 
+/// Whether a channel comes a second time where it may not: without a reach in its cell, with one on
+/// its wire.
+fn repeats(reach: Option<u32>, at: LineContext) -> bool
+    ensures { result ≡ reach_spec.repeats_by reach (judged_at at) }
+{
+    match reach {
+        None => repeats_cell(at),
+        Some(_) => repeats_wire(at),
+    }
+}
+
 /// Whether a channel is in a cell of an earlier line of its net, unless it is in branch position
 /// and names a wire of its net again.
 fn repeats_cell(at: LineContext) -> bool
@@ -87,6 +107,38 @@ fn repeats_cell(at: LineContext) -> bool
 {
     let route = at.fit.route;
     route.elem.kind.is_channel() && route.again && !(is_branch(route) && at.wire_again)
+}
+
+/// Whether a channel equals an earlier line of its net where no branch starts.
+fn repeats_wire(at: LineContext) -> bool
+    ensures { result ≡ reach_spec.repeats_wire (judged_at at) }
+{
+    let route = at.fit.route;
+    route.elem.kind.is_channel() && !is_branch(route) && is_again(at)
+}
+
+/// Whether a SINK is behind a channel that more joins lead to than the reach, if there is one.
+fn is_past_reach(reach: Option<u32>, at: LineContext) -> bool
+    ensures { result ≡ reach_spec.is_past_reach_by reach (reached_at at) }
+{
+    let Some(reach) = reach else {
+        return false;
+    };
+    let Some(depth) = at.depth else {
+        return false;
+    };
+    is_sink_behind_pin(at) && u64::from(reach) < depth
+}
+
+/// Whether it is a SINK, and an IPIN stands before it.
+fn is_sink_behind_pin(at: LineContext) -> bool
+    ensures { result ≡ reach_spec.is_sink_behind_pin (judged_at at) }
+{
+    let route = at.fit.route;
+    let Some(before) = route.previous else {
+        return false;
+    };
+    matches!(route.elem.kind, ElemKind::Sink) && matches!(before.kind, ElemKind::Ipin)
 }
 
 /// Whether a code of the fit would hold at the line, one that no other cause stands for.

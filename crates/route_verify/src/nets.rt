@@ -3,7 +3,7 @@ ghost use Rattle.std.specs.Prelude.{◌≡◌, [], ⊤, OnOk};
 ghost use Rattle.fpga_text.specs.FirstFault.{Answers};
 ghost use Rattle.fpga_bounds.specs.NetFit.{nets_faults};
 ghost use Rattle.fpga_bounds.specs.NetTable.{HasNetLines};
-ghost use Rattle.route_verify.specs.Judged.{line_cause};
+ghost use Rattle.route_verify.specs.Reach.{line_cause_by};
 
 use crate::elems::check_elems;
 use crate::judge::Judge;
@@ -21,8 +21,9 @@ pub(crate) fn check_nets<'a>(
     nets: &'a [RouteNet],
 ) -> Result<(), TextFault>
     requires { HasNetLines judge.now.problem.netlist.nets marks.old [] }
-    ensures answers { Answers
-        (nets_faults (line_cause judge.now.width judge.now.problem) nets.now 0) (λ _. ⊤) result }
+    ensures answers { Answers (nets_faults
+        (line_cause_by judge.now.reach judge.now.width judge.now.problem) nets.now 0)
+        (λ _. ⊤) result }
     ensures marked { OnOk result
         (HasNetLines judge.now.problem.netlist.nets marks.new nets.now) }
 {

@@ -4,9 +4,9 @@ ghost use Rattle.fpga_bounds.specs.NetEnds.{lacks_one};
 ghost use Rattle.fpga_bounds.specs.ProblemContext.{context_by};
 ghost use Rattle.fpga_types.specs.Fit.{RouteLine};
 ghost use Rattle.fpga_types.specs.Terminals.{sinks_named};
-ghost use Rattle.route_verify.specs.Judged as spec;
 ghost use Rattle.route_verify.specs.Judged.{graph_of};
 ghost use Rattle.route_verify.specs.Lines.{is_stray_in};
+ghost use Rattle.route_verify.specs.Reach.{line_cause_by};
 ghost use Rattle.route_verify.specs.Rules.{IsLineOf, net_of};
 
 use crate::line::{ElemLine, LineContext, line_cause};
@@ -19,10 +19,11 @@ use std::alloc::{AllocError, Global};
 use std::collections::BTreeSet;
 use std::marker::Model;
 
-/// A net by its name, with the fabric, its ends and its lines of the global route.
+/// A net by its name, with the fabric, the reach if there is one, its ends and its lines of the global route.
 #[derive(Drop)]
 pub(crate) struct Rules<'a> {
     wiring: &'a Wiring<'a>,
+    reach: Option<u32>,
     ends: NetEnds<'a>,
     trace: BTreeSet<ElemKey>,
 }
@@ -36,6 +37,7 @@ impl<'a> Model for Rules<'a> {
       problem = r.ends.problem;
       name = r.ends.name;
       width = r.wiring.now.width;
+      reach = r.reach;
     } };
 
     ghost invariant = { λ r. AreRules r.ends r.wiring.now r.trace };
@@ -47,6 +49,7 @@ impl<'a> Rules<'a> {
     pub(crate) fn of(
         alloc: Global,
         wiring: &'a Wiring<'a>,
+        reach: Option<u32>,
         traces: &Traces<'a>,
         ends: NetEnds<'a>,
         name: &'a [u8],
@@ -59,11 +62,13 @@ impl<'a> Rules<'a> {
               problem = ends.entry.problem;
               name = ends.entry.name;
               width = wiring.now.width;
+              reach = reach;
             }) }
     {
         let trace = traces.elems_named(alloc, name)?;
         Ok(Rules {
             wiring,
+            reach,
             ends,
             trace,
         })
@@ -73,15 +78,16 @@ impl<'a> Rules<'a> {
     /// net up to the line.
     pub(crate) fn cause(&self, at: ElemLine, seen: &BTreeSet<ElemKey>) -> Option<TextFault>
         ensures { (line : RouteLine) → self.now.name ≡ line.net.name → IsLineOf at seen.now line
-            → result ≡ spec.line_cause self.now.width self.now.problem line }
+            → result ≡ line_cause_by self.now.reach self.now.width self.now.problem line }
     {
         let line = LineContext {
             fit: self.context(at.route, seen),
             wire_again: at.wire_again,
             wire_taken: at.wire_taken,
             stray: self.is_stray(at.route.elem),
+            depth: at.depth,
         };
-        line_cause(self.wiring(), line)
+        line_cause(self.wiring(), self.reach(), line)
     }
 
     /// What the codes of the fit look at, of a line of the net; the set has the elements of the net
@@ -97,6 +103,13 @@ impl<'a> Rules<'a> {
         ensures { result.now ≡ graph_of self.now.width self.now.problem }
     {
         self.wiring
+    }
+
+    /// The reach, if there is one.
+    fn reach(&self) -> Option<u32>
+        ensures { result ≡ self.now.reach }
+    {
+        self.reach
     }
 
     /// Whether a sink of the net has no SINK line among these lines.

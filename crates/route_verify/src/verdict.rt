@@ -4,7 +4,8 @@ ghost use Rattle.fpga_bounds.specs.NetTable.{HasNetLines};
 ghost use Rattle.fpga_text.specs.FirstFault.{Answers};
 ghost use Rattle.fpga_types.specs.Sound.{IsSound};
 ghost use Rattle.route_verify.specs.Judge.{lines_causes};
-ghost use Rattle.route_verify.specs.Judged.{causes, graph_of, judged};
+ghost use Rattle.route_verify.specs.Judged.{graph_of, judged};
+ghost use Rattle.route_verify.specs.Reach.{causes_by, judged_by, reach_judged};
 
 use crate::cause::Cause;
 use crate::judge::Judge;
@@ -51,7 +52,52 @@ pub fn verify(
     requires found { IsSound found.now }
     ensures { IfOk result (λ judgement. judgement ≡ judged width problem.now found.now) }
 {
-    match first_cause(alloc, problem, width, found) {
+    judge_by(alloc, problem, width, None, found)
+}
+
+/// Judges a routed file as `verify` does, but within a reach: a net may take several wires of a
+/// cell, and at most so many joins of wires lead from its source to each sink.
+///
+/// The depth of a channel line is the number of joins that lead to it: behind an OPIN it is 0,
+/// behind a channel line one more than that line's, and behind a SINK that of the first line of its
+/// net that it equals. The causes are those of `verify`, with these two in place of its 805:
+/// - 805: a channel line that equals an earlier line of its net, its track too, without standing
+///   after a SINK;
+/// - 808: a SINK after an IPIN after a channel line whose depth is above the reach.
+///
+/// # Errors
+/// Where memory is short.
+///
+/// Takes the time and memory of `verify`.
+pub fn verify_reach(
+    alloc: Global,
+    problem: &PlacedProblem,
+    width: u32,
+    reach: u32,
+    found: &RouteText,
+) -> Result<Judgement, AllocError>
+    requires width { (1 ≤ width) × (width ≤ WIDTH_LIMIT) }
+    requires found { IsSound found.now }
+    ensures { IfOk result
+        (λ judgement. judgement ≡ reach_judged width reach problem.now found.now) }
+{
+    judge_by(alloc, problem, width, Some(reach), found)
+}
+
+/// Judges a routed file, within a reach or without one.
+fn judge_by(
+    alloc: Global,
+    problem: &PlacedProblem,
+    width: u32,
+    reach: Option<u32>,
+    found: &RouteText,
+) -> Result<Judgement, AllocError>
+    requires width { (1 ≤ width) × (width ≤ WIDTH_LIMIT) }
+    requires found { IsSound found.now }
+    ensures { IfOk result
+        (λ judgement. judgement ≡ judged_by reach width problem.now found.now) }
+{
+    match first_cause(alloc, problem, width, reach, found) {
         Ok(()) => Ok(Judgement::Legal),
         Err(TextFault::Bad { line, code }) => Ok(Judgement::NotLegal { line, cause: code }),
         Err(TextFault::Limit { .. }) => unreachable!(),
@@ -64,11 +110,12 @@ fn first_cause(
     alloc: Global,
     problem: &PlacedProblem,
     width: u32,
+    reach: Option<u32>,
     found: &RouteText,
 ) -> Result<(), TextFault>
     requires width { (1 ≤ width) × (width ≤ WIDTH_LIMIT) }
     requires found { IsSound found.now }
-    ensures { Answers (causes width problem.now found.now) (λ _. ⊤) result }
+    ensures { Answers (causes_by reach width problem.now found.now) (λ _. ⊤) result }
 {
     let arch = problem.arch();
     let route = problem.route();
@@ -76,7 +123,7 @@ fn first_cause(
         return Err(TextFault::Memory);
     };
     let wiring = Wiring::new(arch, route.grid, width);
-    check_with(alloc, &design, &wiring, found)
+    check_with(alloc, &design, &wiring, reach, found)
 }
 
 /// The first cause against the file by this problem and this fabric, which is the problem's.
@@ -84,13 +131,14 @@ fn check_with<'a>(
     alloc: Global,
     design: &'a Design<'a>,
     wiring: &'a Wiring<'a>,
+    reach: Option<u32>,
     found: &'a RouteText,
 ) -> Result<(), TextFault>
     requires fabric { wiring.now ≡ graph_of wiring.now.width design.now }
     requires lines { found.now.lines < 2 ^ 64 - 1 }
-    ensures { Answers (causes wiring.now.width design.now found.now) (λ _. ⊤) result }
+    ensures { Answers (causes_by reach wiring.now.width design.now found.now) (λ _. ⊤) result }
 {
-    let Ok(judge) = Judge::of(alloc, design, wiring) else {
+    let Ok(judge) = Judge::of(alloc, design, wiring, reach) else {
         return Err(TextFault::Memory);
     };
     check_file(alloc, &judge, found)
@@ -99,7 +147,8 @@ fn check_with<'a>(
 /// The first cause against the file.
 fn check_file<'a>(alloc: Global, judge: &Judge<'a>, found: &'a RouteText) -> Result<(), TextFault>
     requires { found.now.lines < 2 ^ 64 - 1 }
-    ensures { Answers (causes judge.now.width judge.now.problem found.now) (λ _. ⊤) result }
+    ensures { Answers (causes_by judge.now.reach judge.now.width judge.now.problem found.now)
+        (λ _. ⊤) result }
 {
     if !is_one_size(judge.design().placement.grid, found.grid) {
         return Err(Cause::Unfit.at(found.grid_line));
@@ -126,7 +175,8 @@ fn check_lines<'a>(
 ) -> Result<(), TextFault>
     requires lines { found.now.lines < 2 ^ 64 - 1 }
     requires marks { HasNetLines judge.now.problem.netlist.nets marks.old [] }
-    ensures { Answers (lines_causes judge.now.width judge.now.problem found.now) (λ _. ⊤) result }
+    ensures { Answers (lines_causes judge.now.reach judge.now.width judge.now.problem found.now)
+        (λ _. ⊤) result }
 {
     if let Err(fault) = check_nets(alloc, judge, marks, found.nets.as_slice()) {
         return Err(fault);

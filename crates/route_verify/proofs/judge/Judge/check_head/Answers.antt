@@ -5,7 +5,7 @@ use Rattle.fpga_bounds.proofs.HeadLemmas.{net-lines-more}
 use Rattle.fpga_text.specs.FirstFault.{IsFaultOf}
 use Rattle.fpga_text.specs.declared.fault.TextFault.TheVariants.{Bad}
 use Rattle.fpga_types.specs.declared.route.RouteNet.{RouteNet}
-use Rattle.route_verify.specs.Judged.{line_cause}
+use Rattle.route_verify.specs.Reach.{line_cause_by}
 use Rattle.route_verify.proofs.RuleLemmas.{head-unknown}
 use Rattle.route_verify.proofs.judge.Judge.check_head.Goals as goal
 
@@ -17,9 +17,9 @@ returns-in_default-clause-answers c = λ earlier has.
     sym (c.in_default.ensures.number
     ∙ (λ i. number_named (c.names.ensures i) (named i))) in
     let at : c.at.result ≡ Bad c.args.net.now.line 807 = search rules in
-    subst (IsFaultOf (line_cause c.args.self.now.width c.args.self.now.problem
-    (head_line earlier c.args.net.now))) (sym at)
-    (head-unknown c.args.self.now.width c.args.self.now.problem earlier c.args.net.now none)
+    subst (IsFaultOf (line_cause_by c.args.self.now.reach c.args.self.now.width
+    c.args.self.now.problem (head_line earlier c.args.net.now))) (sym at)
+    (head-unknown c.args.self.now.reach c.args.self.now.width c.args.self.now.problem earlier c.args.net.now none)
 
 pub returns-clause-marked : goal.returns-clause-marked
 returns-clause-marked c = λ earlier has.
