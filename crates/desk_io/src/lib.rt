@@ -13,8 +13,6 @@ mod read;
 mod shelf;
 mod shelf_faults;
 mod table;
-#[cfg(test)]
-mod tests;
 mod whole_file;
 
 pub use block_writer::BlockWriter;

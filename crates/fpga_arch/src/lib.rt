@@ -8,8 +8,6 @@ mod keyword;
 mod pin_line;
 mod read;
 mod segment_line;
-#[cfg(test)]
-mod tests;
 mod words;
 
 pub use read::read_arch;

@@ -43,9 +43,9 @@ fn box_tracks(arch: &Arch, width: u32, pin: PinAt) -> u32
     }
 }
 
-/// How many tracks of a channel of `width`, from 1 to 64, a connection box with this share opens, at
-/// least 1 and at most all. The share is given in millionths: of the width, rounded to the nearest,
-/// or where it is not `fractional` of one track.
+/// How many tracks of a channel of `width`, from 1 to 64, a connection box with this share opens,
+/// at least 1 and at most all. The share is given in millionths: of the width, rounded to the
+/// nearest, or where it is not `fractional` of one track.
 ///
 /// Takes constant time and no memory.
 pub fn box_count(fractional: bool, width: u32, share: u64) -> u32

@@ -13,7 +13,5 @@ mod net_draft;
 mod net_table;
 mod net_use;
 mod read;
-#[cfg(test)]
-mod tests;
 
 pub use read::read_net;

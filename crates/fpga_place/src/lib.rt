@@ -6,8 +6,6 @@ mod cause;
 mod draft;
 mod head;
 mod read;
-#[cfg(test)]
-mod tests;
 mod words;
 
 pub use read::read_place;

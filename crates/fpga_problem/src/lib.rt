@@ -4,8 +4,6 @@
 mod four_texts;
 mod read;
 mod refusal;
-#[cfg(test)]
-mod tests;
 mod text_file;
 
 pub use four_texts::FourTexts;

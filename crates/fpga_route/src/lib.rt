@@ -9,8 +9,6 @@ mod laws;
 mod open_net;
 mod read;
 mod standing;
-#[cfg(test)]
-mod tests;
 mod words;
 mod write;
 

@@ -13,8 +13,6 @@ mod lines;
 mod number;
 mod said;
 mod style;
-#[cfg(test)]
-mod tests;
 
 pub use array_line::{SizeLine, size_line};
 pub use coded::Coded;

@@ -9,8 +9,6 @@ mod netlist;
 mod placement;
 mod rand;
 mod route;
-#[cfg(test)]
-mod tests;
 mod texts;
 mod trace;
 

@@ -3,5 +3,4 @@ pub mod Climb
 pub mod Found
 pub mod Names
 pub mod Slots
-pub mod Stairs
 pub mod Written

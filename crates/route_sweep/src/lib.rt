@@ -7,8 +7,6 @@ mod climbing;
 mod found;
 mod names;
 mod searching;
-#[cfg(test)]
-mod tests;
 mod writing;
 
 pub use asking::{Ask, BUDGET_LIMIT};

@@ -4,8 +4,6 @@
 mod names;
 mod refused;
 mod symmetry;
-#[cfg(test)]
-mod tests;
 mod unread;
 mod unsettled;
 mod usage;

@@ -23,8 +23,6 @@ mod source;
 mod stopping;
 mod suited;
 mod sweeping;
-#[cfg(test)]
-mod tests;
 mod text_file;
 mod trying;
 mod turning;

@@ -39,8 +39,6 @@ mod limits;
 mod matched;
 mod method;
 mod read;
-#[cfg(test)]
-mod tests;
 
 pub use fault::{Refusal, WordsFault};
 pub use job::{

@@ -11,8 +11,6 @@ mod compact;
 mod layout;
 mod moves;
 mod places;
-#[cfg(test)]
-mod tests;
 
 pub use arena::Arena;
 pub use clause_ref::ClauseRef;

@@ -9,8 +9,6 @@ mod literal;
 mod log;
 mod parts;
 mod reading;
-#[cfg(test)]
-mod tests;
 mod truth;
 
 pub use cause::Cause;

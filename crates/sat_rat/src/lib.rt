@@ -13,8 +13,6 @@ mod groups;
 mod ids;
 mod laws;
 mod resolution;
-#[cfg(test)]
-mod tests;
 
 pub use checker::check_full;
 pub use full_replay::FullReplay;

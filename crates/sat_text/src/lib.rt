@@ -14,8 +14,6 @@ mod read;
 mod row;
 mod step_draft;
 mod step_line;
-#[cfg(test)]
-mod tests;
 mod told;
 mod write;
 mod write_log;

@@ -109,7 +109,8 @@ impl StepDraft {
 
     /// Takes the deletion that the numbers say.
     fn take_deletion(&mut self, line: u64) -> Result<(), TextFault>
-        ensures { AnswersFault (numbers_fault self.old.rule self.old.above line true self.old.numbers.items)
+        ensures { AnswersFault
+            (numbers_fault self.old.rule self.old.above line true self.old.numbers.items)
             (λ _. TakesStep self.old self.new (step_of true self.old.numbers.items)) result }
     {
         let said = match deletion_said(&self.numbers, line) {
@@ -126,7 +127,8 @@ impl StepDraft {
 
     /// Takes the added clause that the numbers say.
     fn take_addition(&mut self, line: u64) -> Result<(), TextFault>
-        ensures { AnswersFault (numbers_fault self.old.rule self.old.above line false self.old.numbers.items)
+        ensures { AnswersFault
+            (numbers_fault self.old.rule self.old.above line false self.old.numbers.items)
             (λ _. TakesStep self.old self.new (step_of false self.old.numbers.items)) result }
     {
         let said = match addition_said(&self.numbers, self.rule, self.above, line) {
@@ -148,7 +150,8 @@ impl StepDraft {
     /// Takes a line if it adds a clause and has no fault, as nearly all do, and answers whether it
     /// does. Where it doesn't, or memory is short, no step is taken, and `take_any_line` says why.
     fn take_faultless_addition(&mut self, line: &mut Line<'_>) -> bool
-        ensures clean { IsTrue result → step_line_fault self.old.rule self.old.above line.old ≡ None }
+        ensures clean { IsTrue result
+            → step_line_fault self.old.rule self.old.above line.old ≡ None }
         ensures step { IsTrue result → TakesStep self.old self.new (said_step line.old.words) }
         ensures kept { result ≡ false → self.new.above ≡ self.old.above }
         ensures rule { self.new.rule ≡ self.old.rule }

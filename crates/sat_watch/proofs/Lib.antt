@@ -15,7 +15,6 @@ pub mod RelinkLemmas
 pub mod SettledLemmas
 pub mod StoreLemmas
 pub mod StoredLemmas
-pub mod TestLemmas
 pub mod TrailLemmas
 pub mod WalkLemmas
 pub mod VisitLemmas

@@ -4,7 +4,6 @@ pub mod Forget
 pub mod Levels
 pub mod Link
 pub mod Relinking
-pub mod Tests
 pub mod Trail
 pub mod TrailStore
 pub mod Watched

@@ -20,11 +20,7 @@ mod entry;
 mod link;
 mod links;
 mod place;
-#[cfg(test)]
-mod random_tests;
 mod sight;
-#[cfg(test)]
-mod tests;
 mod trail;
 mod visit;
 mod watches;

@@ -1,6 +1,0 @@
-use Rattle.sat_watch.specs.Tests.{IsIdle}
-use Rattle.sat_watch.proofs.random_tests.random_calls_meet_the_definitions.Given as goal
-
--- nothing is queued or due
-abbrev pub invariant-loop-2 : goal.invariant-loop-2
-invariant-loop-2 g l = IsIdle 40 l.watches

@@ -1,0 +1,167 @@
+//! Chains, trails and due clauses as worked out by hand.
+
+ghost use Rattle.std.specs.Prelude.{◌≡◌, ◌≢◌, ◌<◌, ◌≤◌, pos, true, IfOk, length, None};
+ghost use Rattle.sat_arena.specs.declared.clause_ref.ClauseRef.{ClauseRef};
+ghost use Rattle.sat_clause.specs.Learned.{IsSimple};
+ghost use Rattle.sat_clause.specs.Literal.{IsWithin, lit, variable as variable_of};
+ghost use Rattle.search_tests.specs.WatchStates.{IsAtStart, IsDueFor, first_decided};
+ghost use Rattle.sat_watch.specs.Watches.{is_attached};
+
+use sat_arena::{Arena, ClauseRef};
+use sat_clause::Lit;
+use sat_watch::{TrailEntry, Watches};
+use std::alloc::{AllocError, Global};
+use std::process::Abort;
+use std::test::Fail;
+
+/// Watches where nothing is true.
+fn start(alloc: Global, vars: u32) -> Result<Watches, AllocError>
+    requires few { vars ≤ 1000 }
+    ensures { IfOk result (IsAtStart vars) }
+{
+    Watches::new(alloc, Arena::new(alloc), vars)
+}
+
+/// A clause of two literals.
+fn two(vars: u32, a: i32, b: i32) -> [Lit; 2]
+    requires a { IsWithin vars (lit a) }
+    requires b { IsWithin vars (lit b) }
+    requires apart { variable_of (lit a) ≢ variable_of (lit b) }
+    ensures { IsSimple vars result }
+{
+    [Lit { code: a }, Lit { code: b }]
+}
+
+/// A clause of two variables behind the first one, and then that one.
+fn with_first(vars: u32, a: u32, b: u32) -> [Lit; 3]
+    requires a { 2 ≤ a }
+    requires b { a < b }
+    requires few { b ≤ vars }
+    requires many { vars ≤ 1000 }
+    ensures { IsSimple vars result }
+{
+    [Lit::positive(a), Lit::positive(b), Lit::positive(1)]
+}
+
+/// Attaches a clause where nothing is true.
+fn attach(watches: &mut Watches, vars: u32, lits: &[Lit], id: u32) -> Result<ClauseRef, AllocError>
+    requires start { IsAtStart vars watches.old }
+    requires simple { IsSimple vars lits.now }
+    requires two { 2 ≤ length lits.now }
+    ensures start { IsAtStart vars watches.new }
+    ensures attached { IfOk result (λ c. is_attached watches.new.clauses c ≡ true) }
+    ensures kept { (c : ClauseRef) → is_attached watches.old.clauses c ≡ true
+        → is_attached watches.new.clauses c ≡ true }
+{
+    watches.attach(lits, id)
+}
+
+/// Forgets a clause, named twice, where nothing is true.
+fn forget(watches: &mut Watches, alloc: Global, vars: u32, c: ClauseRef) -> Result<(), AllocError>
+    requires start { IsAtStart vars watches.old }
+    requires attached { is_attached watches.old.clauses c ≡ true }
+    ensures { IsAtStart vars watches.new }
+{
+    watches.forget(alloc, &[c, c])
+}
+
+/// Goes back to level 0, where nothing is true.
+fn start_again(rt: &impl Abort, watches: &mut Watches, vars: u32)
+    requires vars { watches.old.vars ≡ vars }
+    requires queued { watches.old.queued ≡ 0 }
+    requires due { watches.old.due ≡ None }
+    ensures { IsAtStart vars watches.new }
+{
+    watches.back_to(0);
+    assert_eq!(rt; watches.level(), 0);
+    assert!(rt; watches.trail().is_empty());
+}
+
+/// The second literal becomes true where the first is false, and then the third; a clause of their
+/// negations is false then.
+#[test]
+fn chains_lead_to_a_false_clause(rt: HostRuntime) -> Result<(), Fail> {
+    let mut looks = 0;
+    let mut watches = start(rt.alloc(), 3)?;
+    attach(&mut watches, 3, &two(3, 1, 2), 1)?;
+    let c = attach(&mut watches, 3, &two(3, -2, 3), 2)?;
+    assert_eq!(rt; watches.id(c), 2);
+    assert_eq!(rt; watches.lits(c).len(), 2);
+    watches.assume(Lit { code: -1 });
+    assert!(rt; watches.propagate(&mut looks).is_none());
+    assert_eq!(rt; watches.level(), 1);
+    assert_eq!(rt; watches.trail().len(), 3);
+    assert_eq!(rt; watches.value(Lit { code: 2 }), Some(true));
+    assert_eq!(rt; watches.value(Lit { code: -3 }), Some(false));
+    start_again(&rt, &mut watches, 3);
+    assert!(rt; watches.value(Lit { code: 2 }).is_none());
+    attach(&mut watches, 3, &two(3, -3, -2), 3)?;
+    watches.assume(Lit { code: -1 });
+    assert!(rt; watches.propagate(&mut looks).is_some());
+    Ok(())
+}
+
+/// A clause is not looked at where a literal becomes false that it does not watch.
+#[test]
+fn third_literal_is_not_looked_at(rt: HostRuntime) -> Result<(), Fail> {
+    let mut looks = 0;
+    let mut watches = start(rt.alloc(), 201)?;
+    for i in 1..101u32 {
+        attach(&mut watches, 201, &with_first(201, 2 * i, 2 * i + 1), i)?;
+    }
+    watches.assume(Lit { code: -1 });
+    assert!(rt; watches.propagate(&mut looks).is_none());
+    assert_eq!(rt; looks, 0);
+    Ok(())
+}
+
+/// A clause that is gone makes nothing true, and the one behind it has taken its place.
+#[test]
+fn clause_is_forgotten(rt: HostRuntime) -> Result<(), Fail> {
+    let mut looks = 0;
+    let mut watches = start(rt.alloc(), 3)?;
+    attach(&mut watches, 3, &two(3, 1, 2), 1)?;
+    let c = attach(&mut watches, 3, &two(3, -2, 3), 2)?;
+    let d = attach(&mut watches, 3, &two(3, -2, -3), 3)?;
+    assert_eq!(rt; d.word, 16);
+    assert!(rt; watches.first().is_some());
+    assert_eq!(rt; watches.behind(c), Some(d));
+    assert!(rt; watches.behind(d).is_none());
+    forget(&mut watches, rt.alloc(), 3, c)?;
+    watches.assume(Lit { code: -1 });
+    assert!(rt; watches.propagate(&mut looks).is_none());
+    assert_eq!(rt; watches.value(Lit { code: 2 }), Some(true));
+    assert_eq!(rt; watches.value(Lit { code: 3 }), Some(false));
+    let trail = watches.trail();
+    assert_eq!(rt; trail.len(), 3);
+    assert_eq!(rt; trail[2].reason, Some(ClauseRef { word: 8 }));
+    Ok(())
+}
+
+/// Attaches the clause that variable 2 is true where variable 1 is, which was decided.
+fn attach_due(watches: &mut Watches) -> Result<ClauseRef, AllocError>
+    requires { watches.old ≡ first_decided }
+    ensures { IfOk result (λ c. IsDueFor (lit (pos 2)) c watches.new) }
+{
+    watches.attach(&[Lit { code: -1 }, Lit { code: 2 }], 7)
+}
+
+/// It makes its literal true next, at the level of the decision.
+#[test]
+fn due_clause_makes_its_literal_true(rt: HostRuntime) -> Result<(), Fail> {
+    let mut looks = 0;
+    let mut watches = Watches::new(rt.alloc(), Arena::new(rt.alloc()), 2)?;
+    watches.assume(Lit { code: 1 });
+    let c = attach_due(&mut watches)?;
+    watches.imply(Lit { code: 2 }, c);
+    let trail = watches.trail();
+    assert_eq!(rt; trail.len(), 2);
+    let entry = TrailEntry {
+        lit: Lit { code: 2 },
+        level: 1,
+        reason: Some(c),
+    };
+    assert_eq!(rt; trail[1], entry);
+    assert!(rt; watches.propagate(&mut looks).is_none());
+    Ok(())
+}
