@@ -24,8 +24,8 @@ pub use fit_cause::FitCause;
 pub use grid::{Axis, Cell, Grid, PinAt, Side, SwitchAt, Wire};
 pub use items::Items;
 pub use limits::{
-    CLASS_LIMIT, NET_LIMIT, PAD_LIMIT, PIN_LIMIT, SHARE_LIMIT, SIDE_LIMIT, SLOT_LIMIT, STEP_LIMIT,
-    WIDTH_LIMIT,
+    CLASS_LIMIT, NET_LIMIT, PAD_LIMIT, PIN_LIMIT, REACH_LIMIT, SHARE_LIMIT, SIDE_LIMIT, SLOT_LIMIT,
+    STEP_LIMIT, WIDTH_LIMIT,
 };
 pub use names::number_name;
 pub use netlist::{Block, BlockKind, Net, Netlist, PinRef};

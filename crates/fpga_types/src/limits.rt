@@ -15,6 +15,9 @@ pub const STEP_LIMIT: usize = 1 << 40;
 /// The greatest number of tracks of a channel.
 pub const WIDTH_LIMIT: u32 = 64;
 
+/// The greatest number of joins within which a net may be asked to reach its sinks.
+pub const REACH_LIMIT: u32 = 64;
+
 /// The greatest number of pads at a place of the border.
 pub const PAD_LIMIT: u32 = 16;
 

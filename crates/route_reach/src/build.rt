@@ -1,7 +1,7 @@
 //! The clauses of a problem for a reach.
 ghost use Rattle.std.specs.Prelude.{◌≡◌, ◌+◌, ◌*◌, ◌≤◌, length, map, IfOk};
 ghost use Rattle.fpga_types.specs.Slots.{slots};
-ghost use Rattle.fpga_types.specs.declared.limits.TheConstants.{WIDTH_LIMIT};
+ghost use Rattle.fpga_types.specs.declared.limits.TheConstants.{REACH_LIMIT, WIDTH_LIMIT};
 ghost use Rattle.route_encode.specs.Added.{graph_of};
 ghost use Rattle.route_encode.specs.Adding.{Adds, HasRoom, lit_count};
 ghost use Rattle.route_encode.specs.Encoding.{below};
@@ -9,7 +9,7 @@ ghost use Rattle.route_reach.specs.Encoding.{frame_of, reach_cnf, reach_encoding
 ghost use Rattle.route_reach.specs.Near.{near_of, rows_of};
 ghost use Rattle.route_reach.specs.WireClauses.{HasWires};
 
-use crate::count::{REACH_LIMIT, tally};
+use crate::count::tally;
 use crate::each_wire::{WireRule, add_each_wire};
 use crate::near_table::{near_count, near_table};
 use crate::nearby::add_nearby;

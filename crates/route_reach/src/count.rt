@@ -2,7 +2,7 @@
 ghost use Rattle.std.specs.Prelude.{◌≡◌, ◌+◌, ◌*◌, ◌≤◌, ◌==◌, ℕ, Bool, false, not, filter, filter_map, length, slice_index_or, sum_by};
 ghost use Rattle.fpga_graph.specs.GraphOf.{GraphOf};
 ghost use Rattle.fpga_types.specs.Slots.{adjacent, pairs, slots};
-ghost use Rattle.fpga_types.specs.declared.limits.TheConstants.{NET_LIMIT, SLOT_LIMIT, STEP_LIMIT, WIDTH_LIMIT};
+ghost use Rattle.fpga_types.specs.declared.limits.TheConstants.{NET_LIMIT, REACH_LIMIT, SLOT_LIMIT, STEP_LIMIT, WIDTH_LIMIT};
 ghost use Rattle.fpga_types.specs.declared.route.RouteNet.{RouteNet as Net};
 ghost use Rattle.route_encode.specs.Added.{graph_of};
 ghost use Rattle.route_encode.specs.Encoding.{below};
@@ -15,9 +15,6 @@ use crate::far::source_row_of;
 use fpga_bounds::PlacedProblem;
 use fpga_graph::{Graph, MOST_TRACKS};
 use fpga_types::{Elem, RouteNet};
-
-/// The greatest reach.
-pub const REACH_LIMIT: u32 = 64;
 
 /// The number of clauses of a problem at a width of 1 to 64 tracks, for a reach from 1 to 64.
 ///

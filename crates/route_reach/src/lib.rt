@@ -19,5 +19,5 @@ mod starts;
 mod variables;
 
 pub use build::reach_build;
-pub use count::{REACH_LIMIT, reach_count};
+pub use count::reach_count;
 pub use laws::{models_say_reached, reached_have_models, unsat_says_unreachable};

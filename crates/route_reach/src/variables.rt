@@ -1,6 +1,6 @@
 //! The variables of the clauses for a reach, and their literals.
 ghost use Rattle.std.specs.Prelude.{◌≡◌, ◌+◌, ◌*◌, ◌<◌, ◌≤◌};
-ghost use Rattle.route_reach.specs.declared.count.TheConstants.{REACH_LIMIT};
+ghost use Rattle.fpga_types.specs.declared.limits.TheConstants.{REACH_LIMIT};
 ghost use Rattle.route_reach.specs.WireClauses.{wire_reached, wire_unreached, wire_used};
 ghost use Rattle.sat_clause.specs.Literal.{IsWithin};
 ghost use Rattle.sat_clause.specs.declared.limits.TheConstants.{VARIABLE_LIMIT};

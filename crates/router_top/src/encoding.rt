@@ -1,8 +1,7 @@
 //! The command `encode`: the clauses of a problem.
 ghost use Rattle.std.specs.Prelude.{◌≡◌, ◌≤◌, IfErr, IfOk, OnOk};
-ghost use Rattle.fpga_types.specs.declared.limits.TheConstants.{WIDTH_LIMIT};
+ghost use Rattle.fpga_types.specs.declared.limits.TheConstants.{REACH_LIMIT, WIDTH_LIMIT};
 ghost use Rattle.route_reach.specs.Encoding.{reach_cnf};
-ghost use Rattle.route_reach.specs.declared.count.TheConstants.{REACH_LIMIT};
 ghost use Rattle.route_sweep.specs.Found.{HasFew, IsUnbuilt};
 ghost use Rattle.router_words.specs.Job.{encode_said};
 ghost use Rattle.router_top.specs.Encoded.{clauses_asked};

@@ -4,7 +4,7 @@ use Rattle.std.specs.Option.{option_map_or}
 use Rattle.std.specs.Str.{bytes_eq}
 use Rattle.clap.specs.Words.{App, Row, first_of, matches_of}
 use Rattle.fpga_text.specs.Numbers.{whole_number_of}
-use Rattle.fpga_types.specs.declared.limits.TheConstants.{SIDE_LIMIT, WIDTH_LIMIT}
+use Rattle.fpga_types.specs.declared.limits.TheConstants.{REACH_LIMIT, SIDE_LIMIT, WIDTH_LIMIT}
 use Rattle.router_words.specs.Form.{check_form, encode_form, gen_form, route_form, sweep_form, trial_form, verify_form}
 use Rattle.router_words.specs.Job.{Checks, Encodes, FilesAsked, Generates, JobAsked, MembersAsked, RecipeAsked, Routes, SearchAsked, Sweeps, Tries, Verifies, job_said}
 use Rattle.router_words.specs.Results.{and_then, map_ok}
@@ -17,7 +17,7 @@ use Rattle.router_words.specs.declared.fault.Refusal.TheVariants.{Clash, Command
 use Rattle.router_words.specs.declared.fault.WordsFault.{WordsFault}
 use Rattle.router_words.specs.declared.fault.WordsFault.TheVariants.{Memory, Refused}
 use Rattle.router_words.specs.declared.job.Job.{Job}
-use Rattle.router_words.specs.declared.limits.TheConstants.{BUDGET_DEFAULT, BUDGET_LIMIT, GENERATED_NETS_LIMIT, MEMBER_LIMIT, REACH_LIMIT, SEED_DEFAULT, SEED_LIMIT}
+use Rattle.router_words.specs.declared.limits.TheConstants.{BUDGET_DEFAULT, BUDGET_LIMIT, GENERATED_NETS_LIMIT, MEMBER_LIMIT, SEED_DEFAULT, SEED_LIMIT}
 use Rattle.router_words.specs.declared.method.Method.{Method}
 use Rattle.router_words.specs.declared.method.Method.TheVariants.{Pinned, Strictly}
 

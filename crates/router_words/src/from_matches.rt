@@ -1,13 +1,13 @@
 //! The job that the matches of a command's form say.
 ghost use Rattle.std.specs.Prelude.{◌≡◌, ◌≤◌, IfOk, IfSome, codes, is_some, option_map, true};
 ghost use Rattle.clap.specs.Words.{first_of, found_of, rows_of};
-ghost use Rattle.fpga_types.specs.declared.limits.TheConstants.{WIDTH_LIMIT};
+ghost use Rattle.fpga_types.specs.declared.limits.TheConstants.{REACH_LIMIT, WIDTH_LIMIT};
 ghost use Rattle.router_words.specs.Command.{check_asked, conflicts_asked, encode_asked, files_asked, gen_asked, members_asked, members_with, method_asked, number_if_any, number_within, pins_within_reach, reach_asked, recipe_asked, route_asked, search_asked, sweep_asked, trial_asked, verify_asked, width_asked, word_in};
 ghost use Rattle.router_words.specs.Form.{check_form, encode_form, gen_form, route_form, sweep_form, trial_form, verify_form};
 ghost use Rattle.router_words.specs.Job.{files_said, job_said, members_said, recipe_said, search_said};
 ghost use Rattle.router_words.specs.Results.{map_ok};
 ghost use Rattle.router_words.specs.Taken.{HasFiles, HasRecipe, HasRequired};
-ghost use Rattle.router_words.specs.declared.limits.TheConstants.{BUDGET_LIMIT, MEMBER_LIMIT, REACH_LIMIT, SEED_LIMIT};
+ghost use Rattle.router_words.specs.declared.limits.TheConstants.{BUDGET_LIMIT, MEMBER_LIMIT, SEED_LIMIT};
 
 use crate::fault::Refusal;
 use crate::job::{
@@ -15,13 +15,12 @@ use crate::job::{
     TrialJob, VerifyJob,
 };
 use crate::limits::{
-    BUDGET_DEFAULT, BUDGET_LIMIT, GENERATED_NETS_LIMIT, MEMBER_LIMIT, REACH_LIMIT, SEED_DEFAULT,
-    SEED_LIMIT,
+    BUDGET_DEFAULT, BUDGET_LIMIT, GENERATED_NETS_LIMIT, MEMBER_LIMIT, SEED_DEFAULT, SEED_LIMIT,
 };
 use crate::matched::{first_word, is_given, number_within, required_word};
 use crate::method::Method;
 use clap::ArgMatches;
-use fpga_types::{SIDE_LIMIT, WIDTH_LIMIT};
+use fpga_types::{REACH_LIMIT, SIDE_LIMIT, WIDTH_LIMIT};
 
 // The names of the files of a problem.
 fn file_names<'a>(matches: &ArgMatches<'a>) -> FourNames<'a>

@@ -1,8 +1,8 @@
 //! What the words of a command ask for.
 ghost use Rattle.std.proofs.Props.{props};
 ghost use Rattle.std.specs.Prelude.{◌≤◌, IfSome};
-ghost use Rattle.fpga_types.specs.declared.limits.TheConstants.{SIDE_LIMIT, WIDTH_LIMIT};
-ghost use Rattle.router_words.specs.declared.limits.TheConstants.{BUDGET_LIMIT, GENERATED_NETS_LIMIT, MEMBER_LIMIT, REACH_LIMIT, SEED_LIMIT};
+ghost use Rattle.fpga_types.specs.declared.limits.TheConstants.{REACH_LIMIT, SIDE_LIMIT, WIDTH_LIMIT};
+ghost use Rattle.router_words.specs.declared.limits.TheConstants.{BUDGET_LIMIT, GENERATED_NETS_LIMIT, MEMBER_LIMIT, SEED_LIMIT};
 
 use crate::method::Method;
 

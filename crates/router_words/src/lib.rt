@@ -46,8 +46,7 @@ pub use job::{
     TrialJob, VerifyJob,
 };
 pub use limits::{
-    BUDGET_DEFAULT, BUDGET_LIMIT, GENERATED_NETS_LIMIT, MEMBER_LIMIT, REACH_LIMIT, SEED_DEFAULT,
-    SEED_LIMIT,
+    BUDGET_DEFAULT, BUDGET_LIMIT, GENERATED_NETS_LIMIT, MEMBER_LIMIT, SEED_DEFAULT, SEED_LIMIT,
 };
 pub use method::Method;
 pub use read::read_words;

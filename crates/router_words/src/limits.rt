@@ -8,10 +8,6 @@ pub const BUDGET_LIMIT: u64 = 100_000_000;
 /// How many clauses a search may learn where the words do not say it.
 pub const BUDGET_DEFAULT: u64 = 1_000_000;
 
-/// The greatest number of joins within which a net may be asked to reach its sinks.
-// The clauses of a reach have such a limit of their own (`REACH_LIMIT` of `route_reach`).
-pub const REACH_LIMIT: u32 = 64;
-
 /// The greatest seed of a generated problem, or of searches that take turns.
 pub const SEED_LIMIT: u32 = 2_147_483_647;
 
