@@ -86,7 +86,8 @@ fn numbers(rt: HostRuntime) {
     }
 }
 
-/// The number behind the first word of a text, if one stands there, and what `next_word` gives then.
+/// The number behind the first word of a text, if one stands there, and what `next_word` gives
+/// then.
 fn number_behind_a_word<'a>(text: &'a [u8]) -> (Option<i64>, &'a [u8]) {
     let mut lines = Lines::new(text, Style::Plain);
     let Some(mut line) = lines.next_line() else {

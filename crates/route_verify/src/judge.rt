@@ -95,8 +95,8 @@ impl<'a> Judge<'a> {
         requires { length marks.old ≡ length self.now.problem.netlist.nets }
         ensures answers { (earlier : List RouteNet)
             → HasNetLines self.now.problem.netlist.nets marks.old earlier
-            → AnswersFault
-            (line_cause_by self.now.reach self.now.width self.now.problem (head_line earlier net.now))
+            → AnswersFault (line_cause_by self.now.reach self.now.width self.now.problem
+            (head_line earlier net.now))
             (λ rules. rules ≡ record {
               problem = self.now.problem;
               name = net.now.name;

@@ -19,7 +19,8 @@ use std::alloc::{AllocError, Global};
 use std::collections::BTreeSet;
 use std::marker::Model;
 
-/// A net by its name, with the fabric, the reach if there is one, its ends and its lines of the global route.
+/// A net by its name, with the fabric, the reach if there is one, its ends and its lines of the
+/// global route.
 #[derive(Drop)]
 pub(crate) struct Rules<'a> {
     wiring: &'a Wiring<'a>,

@@ -46,8 +46,8 @@ abbrev pub DeletesSome : List Step → Type 0
 DeletesSome log = EachErased (λ before ids. ids ≢ []) log
 
 -- no step is refused, and an empty clause ends the log; the added clauses are numbered behind the
--- inputs and follow from earlier ones by hints that they need, each of them is new; few steps delete
--- clauses, and each of these deletes some
+-- inputs and follow from earlier ones by hints that they need, each of them is new; few steps
+-- delete clauses, and each of these deletes some
 pub record IsSearchLog (formula : Cnf) (log : List Step) : Type 0 where
   pub good : IsGoodSoFar formula log
   pub ends : EndsAtEmpty log
