@@ -1,4 +1,4 @@
-use Rattle.std.proofs.Common.{◌<◌, ◌≤◌, arith, length}
+use Rattle.std.proofs.Common.{arith}
 use Rattle.route_reach.proofs.FirstLemmas.{first-set}
 use Rattle.route_reach.proofs.numbers.first_slots.Goals as goal
 

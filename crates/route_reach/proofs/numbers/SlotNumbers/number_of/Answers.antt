@@ -1,4 +1,4 @@
-use Rattle.std.proofs.Common.{◌≡◌, ◌<◌, ◌∙◌, ℕ, List, Option, Some, None, ap, length, subst, sym}
+use Rattle.std.proofs.Common.{◌≡◌, ◌∙◌, List, ap, subst, sym}
 use Rattle.fpga_types.specs.Slots.{slot_at}
 use Rattle.fpga_types.specs.declared.problem.Slot.{Slot}
 use Rattle.route_encode.specs.Rivals.{next_rival}

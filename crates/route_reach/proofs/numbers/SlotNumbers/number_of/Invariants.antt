@@ -1,5 +1,5 @@
 -- the slot is none of those before the next slot of its cell
-use Rattle.std.proofs.Common.{ℕ, length, ◌-◌}
+use Rattle.std.proofs.Common.{length, ◌-◌}
 use Rattle.std.specs.Option.{option_map_or}
 use Rattle.route_reach.proofs.FirstLemmas.{IsSought}
 use Rattle.route_reach.proofs.numbers.SlotNumbers.number_of.Given as goal
