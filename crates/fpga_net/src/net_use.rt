@@ -116,11 +116,7 @@ pub fn shares_class<'a>(uses: &[NetUse<'a>], globals: &GlobalNets<'a>) -> bool
 }
 
 /// Whether one of the other pins is of the class of this one and on its net, which is ordinary.
-fn shares_with<'a>(
-    first: &NetUse<'a>,
-    others: &[NetUse<'a>],
-    globals: &GlobalNets<'a>,
-) -> bool
+fn shares_with<'a>(first: &NetUse<'a>, others: &[NetUse<'a>], globals: &GlobalNets<'a>) -> bool
     ensures { result ≡ list_any (share_class (has_text globals.now) (use_said first.now))
         (map use_said others.now) }
 {

@@ -8,8 +8,8 @@ use crate::progress::TellingShelf;
 use desk_io::{FileDesk, FileShelf};
 use router_says::append_words;
 use router_top::{Outcome, run, status};
-use std::process::ExitCode;
 use std::io::IsTerminal;
+use std::process::ExitCode;
 use std::rt::{Env, Files};
 use std::{env, io};
 

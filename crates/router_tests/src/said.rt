@@ -47,13 +47,19 @@ fn no_greater_budget_than_is_taken_is_told(rt: HostRuntime) -> Result<(), Fail> 
         learned: 50_000_000,
     };
     let text = said(&rt, route, half)?;
-    assert!(rt; text.as_str().contains("Try --conflicts 100000000, or hand out.cnf to"));
+    assert!(rt;
+        text.as_str()
+            .contains("Try --conflicts 100000000, or hand out.cnf to")
+    );
     let whole = Outcome::Undecided {
         width: 9,
         learned: 100_000_000,
     };
     let text = said(&rt, route, whole)?;
-    assert!(rt; text.as_str().contains("No greater budget is taken: hand out.cnf to"));
+    assert!(rt;
+        text.as_str()
+            .contains("No greater budget is taken: hand out.cnf to")
+    );
     Ok(())
 }
 
@@ -61,9 +67,15 @@ fn no_greater_budget_than_is_taken_is_told(rt: HostRuntime) -> Result<(), Fail> 
 fn what_a_sweep_has_shown_is_told_where_memory_runs_out(rt: HostRuntime) -> Result<(), Fail> {
     let sweep = "sweep a.arch a.net a.place a.route 9 out";
     let text = said(&rt, sweep, Outcome::OutOfMemory)?;
-    assert!(rt; text.as_str().contains("of which this run wrote out.wK.lrat are refuted"));
+    assert!(rt;
+        text.as_str()
+            .contains("of which this run wrote out.wK.lrat are refuted")
+    );
     let route = "route a.arch a.net a.place a.route 9 out";
     let text = said(&rt, route, Outcome::OutOfMemory)?;
-    assert_eq!(rt; text.as_str(), "Memory ran out, so that nothing was found.\n");
+    assert_eq!(rt;
+        text.as_str(),
+        "Memory ran out, so that nothing was found.\n"
+    );
     Ok(())
 }
