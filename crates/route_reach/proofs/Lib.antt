@@ -25,3 +25,15 @@ mod NearSlots
 mod FirstLemmas
 mod RowValues
 mod ReachRows
+mod DeepLemmas
+mod ElemLemmas
+mod QuietLines
+mod NetSinks
+mod FoundLemmas
+mod RouteLemmas
+mod StrictLemmas
+mod PrintLemmas
+mod GoodLemmas
+mod TreeRows
+mod GreatestLemmas
+mod DepthBounds

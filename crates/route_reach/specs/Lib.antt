@@ -3,8 +3,12 @@ pub mod Encoding
 pub mod Ends
 pub mod Exact
 pub mod FirstSlots
+pub mod Good
 pub mod Near
 pub mod Pins
 pub mod Reach
+pub mod ReadBack
 pub mod SinkClauses
+pub mod TraceDepth
+pub mod Trees
 pub mod WireClauses

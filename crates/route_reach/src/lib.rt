@@ -16,8 +16,13 @@ mod rising;
 mod sinks;
 mod source;
 mod starts;
+mod trace;
 mod variables;
 
 pub use build::reach_build;
 pub use count::reach_count;
-pub use laws::{models_say_reached, reached_have_models, unsat_says_unreachable};
+pub use laws::{
+    models_say_reached, reach_covers_strict, reached_have_models, routes_read_back,
+    routes_say_reached, tracks_say_reached, unsat_says_no_route, unsat_says_unreachable,
+};
+pub use trace::trace_depth;
