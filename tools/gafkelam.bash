@@ -3,13 +3,14 @@ _gafkelam() {
     local word=${COMP_WORDS[COMP_CWORD]} command=${COMP_WORDS[1]}
     COMPREPLY=()
     if [ "$COMP_CWORD" -eq 1 ]; then
-        mapfile -t COMPREPLY < <(compgen -W "route sweep encode check verify gen trial picture --help --version" -- "$word")
+        mapfile -t COMPREPLY < <(compgen -W "route sweep core encode check verify gen trial picture --help --version" -- "$word")
         return
     fi
     local options=--help
     case $command in
     route) options="--conflicts --keep --pin --members --seed --help" ;;
     sweep) options="--conflicts --keep --pin --help" ;;
+    core) options="--conflicts --help" ;;
     trial) options="--conflicts --keep --help" ;;
     encode) options="--pin --reach --help" ;;
     esac

@@ -137,17 +137,22 @@ module _ (ask : Asked) (width : ℕ) (formula : Cnf) (good : RouteText → Type 
       })
       result (ended HasNone h))
 
-  -- a spent budget, which is smaller than what is enough
+  -- a spent budget, which is smaller than what is enough, whatever would refute the formula
+  pub spent-by : (Refutes : List Step → Type 0) (cnf : Cnf) → cnf ≡ formula
+      → HasEnded ask width IsOpen log before now result cnf
+      → (came : Result Found Stop) → came ≡ result_and result (Ok (Spent ask.budget))
+      → FindsBy Refutes (IsLeftOpenBy ask formula) ask width formula good before now came
+  spent-by Refutes cnf built past came is =
+      let h : HasEnded ask width IsOpen log before now result formula =
+      subst (HasEnded ask width IsOpen log before now result) built past in
+      let few_asked : ¬ (most_added ask.keep formula.vars ≤ ask.budget) = h.decided in
+      subst (FindsBy Refutes (IsLeftOpenBy ask formula) ask width formula good before now) (sym is)
+      (finds-spent Refutes (IsLeftOpenBy ask formula) ask width formula good before now log
+      (record { of = h.of; spends = h.end; short = omega (arith, few_asked) })
+      result (ended IsOpen h))
+
   pub spent-at : (cnf : Cnf) → cnf ≡ formula
       → HasEnded ask width IsOpen log before now result cnf
       → (came : Result Found Stop) → came ≡ result_and result (Ok (Spent ask.budget))
       → FindsAt ask width formula good before now came
-  spent-at cnf built past came is =
-      let h : HasEnded ask width IsOpen log before now result formula =
-      subst (HasEnded ask width IsOpen log before now result) built past in
-      let few_asked : ¬ (most_added ask.keep formula.vars ≤ ask.budget) = h.decided in
-      subst (FindsAt ask width formula good before now) (sym is)
-      (finds-spent (IsRefutedBy ask formula good) (IsLeftOpenBy ask formula) ask width formula
-      good before now log
-      (record { of = h.of; spends = h.end; short = omega (arith, few_asked) })
-      result (ended IsOpen h))
+  spent-at = spent-by (IsRefutedBy ask formula good)

@@ -141,12 +141,15 @@ printable vars above live (Erased id ids ∷ steps) few numbered room below each
 none-below : (id : ℕ) → AreBelow id []
 none-below id n c at = cc
 
--- the log of a search reads back
-pub log-reads : (formula : Cnf) (log : List Step) (budget : ℕ) → formula.vars ≤ VARIABLE_LIMIT
-    → length formula.clauses + budget ≤ ID_LIMIT → IsSearchLog formula log
-    → added_count log ≤ budget → ReadsLrat (length formula.clauses) (log_text log) log
-log-reads formula log budget few room search within =
-    printed_log_reads (length formula.clauses) log
-    (printable formula.vars (length formula.clauses) [] log few search.numbered
-    (omega (arith, room, within)) (none-below (suc (length formula.clauses)))
-    (of-search formula log search) (λ k id ids here. (search.sparse k id ids here).0))
+module _ (formula : Cnf) (log : List Step) (budget : ℕ) (few : formula.vars ≤ VARIABLE_LIMIT)
+    (room : length formula.clauses + budget ≤ ID_LIMIT) (search : IsSearchLog formula log)
+    (within : added_count log ≤ budget) where
+  -- the log of a search can be printed
+  pub log-printable : IsPrintableLog (length formula.clauses) log
+  log-printable = printable formula.vars (length formula.clauses) [] log few search.numbered
+      (omega (arith, room, within)) (none-below (suc (length formula.clauses)))
+      (of-search formula log search) (λ k id ids here. (search.sparse k id ids here).0)
+
+  -- so it reads back
+  pub log-reads : ReadsLrat (length formula.clauses) (log_text log) log
+  log-reads = printed_log_reads (length formula.clauses) log log-printable

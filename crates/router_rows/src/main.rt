@@ -19,7 +19,7 @@ use desk_io::FileDesk;
 use rows_problem::{RowsError, text};
 
 // The files of cases. The first says how they are written.
-const FILES: [&str; 10] = [
+const FILES: [&str; 11] = [
     "worked.rows",
     "pinned.rows",
     "reach.rows",
@@ -30,6 +30,7 @@ const FILES: [&str; 10] = [
     "resolution_logs.rows",
     "routed_texts.rows",
     "members.rows",
+    "core.rows",
 ];
 
 fn main(rt: HostRuntime) -> Result<(), RowsError> {

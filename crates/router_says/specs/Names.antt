@@ -4,7 +4,7 @@ use Rattle.router_top.specs.TextFiles.{file_word}
 use Rattle.router_top.specs.declared.text_file.TextFile.{TextFile}
 use Rattle.router_top.specs.declared.text_file.TextFile.TheVariants.{Architecture, Netlist, Placement, Route as RouteFile, Cnf, Lrat, Routed}
 use Rattle.router_words.specs.Command.{job_of}
-use Rattle.router_words.specs.Job.{CheckAsked, FilesAsked, JobAsked, VerifyAsked, Routes, Sweeps, Encodes, Checks, Verifies, Generates, Tries, job_said}
+use Rattle.router_words.specs.Job.{CheckAsked, FilesAsked, JobAsked, VerifyAsked, Routes, Sweeps, Encodes, Blames, Checks, Verifies, Generates, Tries, job_said}
 use Rattle.router_words.specs.Word.{Word}
 use Rattle.router_words.specs.declared.fault.Refusal.{Refusal}
 use Rattle.router_words.specs.declared.job.Job.{Job}
@@ -33,6 +33,7 @@ abbrev pub name_given : JobAsked → TextFile → Option Word
 name_given (Routes ask) file = name_of_four ask.files file
 name_given (Sweeps ask) file = name_of_four ask.files file
 name_given (Encodes ask) file = name_of_four ask.files file
+name_given (Blames ask) file = name_of_four ask.files file
 name_given (Checks ask) file = name_of_two ask file
 name_given (Verifies ask) file = name_of_five ask file
 name_given (Generates ask) file = None

@@ -33,6 +33,7 @@ pub(crate) fn given_name<'a>(job: Option<Job<'a>>, file: TextFile) -> Option<&'a
         Job::Route(job) => name_of_four(job.files, file),
         Job::Sweep(job) => name_of_four(job.files, file),
         Job::Encode(job) => name_of_four(job.files, file),
+        Job::Core(job) => name_of_four(job.files, file),
         Job::Check(job) => name_of_two(job, file),
         Job::Verify(job) => name_of_five(job, file),
         Job::Gen(_) | Job::Trial(_) => None,
@@ -92,6 +93,7 @@ pub(crate) enum Written<'a> {
 pub(crate) fn files_written(job: Option<Job<'_>>) -> Option<Written<'_>> {
     match job? {
         Job::Route(job) => Some(Written::One(job.search.prefix)),
+        Job::Core(job) => Some(Written::One(job.prefix)),
         Job::Sweep(job) => Some(Written::Each(job.search.prefix)),
         Job::Trial(job) => Some(Written::Each(job.search.prefix)),
         Job::Encode(_) | Job::Check(_) | Job::Verify(_) | Job::Gen(_) => None,

@@ -13,8 +13,8 @@ pub(crate) fn append_usage(
     };
     let (takes, example) = form_of(name);
     out.push_str(match code {
-        1 => "The first word is to be a command: route, sweep, encode, check, verify, gen or \
-             trial.\n",
+        1 => "The first word is to be a command: route, sweep, encode, core, check, verify, gen \
+             or trial.\n",
         3 => "A number is missing or out of its range.\n",
         4 => clash_of(name),
         _ => "The command does not take these words.\n",
@@ -34,13 +34,18 @@ fn clash_of(name: &str) -> &'static str {
 fn form_of(name: &str) -> (&'static str, &'static str) {
     match name {
         "sweep" => (
-            "sweep ARCH NET PLACE ROUTE MAX PREFIX [--conflicts N] [--keep] [--pin], MAX from 1 to 64",
+            "sweep ARCH NET PLACE ROUTE MAX PREFIX [--conflicts N] [--keep] [--pin], MAX from 1 \
+             to 64",
             "sweep design.arch design.net design.place design.route 12 out",
         ),
         "encode" => (
             "encode ARCH NET PLACE ROUTE WIDTH PREFIX [--pin | --reach L], WIDTH and L from 1 to \
              64",
             "encode design.arch design.net design.place design.route 9 out",
+        ),
+        "core" => (
+            "core ARCH NET PLACE ROUTE WIDTH PREFIX [--conflicts N], WIDTH from 1 to 64",
+            "core design.arch design.net design.place design.route 8 out",
         ),
         "check" => ("check CNF LRAT", "check out.cnf out.lrat"),
         "verify" => (
@@ -56,8 +61,8 @@ fn form_of(name: &str) -> (&'static str, &'static str) {
             "trial 1 20 300 12 out",
         ),
         _ => (
-            "route ARCH NET PLACE ROUTE WIDTH PREFIX [--conflicts N] [--keep] [--pin] [--members K] \
-             [--seed S], WIDTH from 1 to 64, K to 8",
+            "route ARCH NET PLACE ROUTE WIDTH PREFIX [--conflicts N] [--keep] [--pin] \
+             [--members K] [--seed S], WIDTH from 1 to 64, K to 8",
             "route design.arch design.net design.place design.route 9 out",
         ),
     }

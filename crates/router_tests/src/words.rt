@@ -6,6 +6,7 @@ use std::test::Fail;
 
 // Lines that give a job.
 const TAKEN: &str = "\
+core|--conflicts=5|a|n|p|r|64|out
 sweep|a|n|p|r|64|out|--keep
 route|a|n|p|r|64|out
 route|--pin|a|n|p|r|64|out
@@ -31,6 +32,11 @@ Route|a|n|p|r|5|out";
 
 // Lines of which the command does not take the words.
 const OTHER_FORM: &str = "\
+core|a|n|p|r|5
+core|a|n|p|r|5|out|more
+core|a|n|p|r|5|out|--keep
+core|a|n|p|r|5|out|--pin
+core|a|n|p|r|5|out|--members|2
 route|a
 route|a|n|p|r|5
 route|a|n|p|r|5|out|more
@@ -69,6 +75,9 @@ trial|1|2|2|4|t|--pin";
 
 // Lines with a word that is no number in its range.
 const NO_NUMBER: &str = "\
+core|a|n|p|r|0|out
+core|a|n|p|r|65|out
+core|a|n|p|r|5|out|--conflicts|0
 route|a|n|p|r|65|out|--pin
 route|a|n|p|r|65|out
 route|a|n|p|r|0|out

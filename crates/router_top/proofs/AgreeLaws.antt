@@ -19,7 +19,7 @@ use Rattle.sat_text.specs.CnfText.{cnf_said}
 use Rattle.sat_text.specs.LratText.{lrat_said}
 use Rattle.router_words.specs.Command.{job_of}
 use Rattle.router_words.specs.Refusal.{code_of}
-use Rattle.router_words.specs.Job.{CheckAsked, Checks, Encodes, FilesAsked, Generates, JobAsked, RecipeAsked, Routes, Sweeps, TrialAsked, Tries, Verifies, VerifyAsked}
+use Rattle.router_words.specs.Job.{Blames, CheckAsked, Checks, Encodes, FilesAsked, Generates, JobAsked, RecipeAsked, Routes, Sweeps, TrialAsked, Tries, Verifies, VerifyAsked}
 use Rattle.router_words.specs.Word.{Word}
 use Rattle.router_words.specs.declared.fault.Refusal.{Refusal}
 use Rattle.router_words.specs.declared.method.Method.{Method}
@@ -28,7 +28,7 @@ use Rattle.router_top.specs.Check.{ChecksTo, cnf_source, judgement_outcome, lrat
 use Rattle.router_top.specs.Encoded.{clauses_asked}
 use Rattle.router_top.specs.Generated.{IsTooLarge, Makes}
 use Rattle.router_top.specs.Method.{HasNone, clauses_by}
-use Rattle.router_top.specs.Search.{Search, clauses_held, route_search, sweep_of, sweep_search}
+use Rattle.router_top.specs.Search.{Search, clauses_held, core_search, route_search, sweep_of, sweep_search}
 use Rattle.router_top.specs.Sources.{IsHalted, ReadsThen}
 use Rattle.router_top.specs.Suited.{IsLeastUnlike, IsTrueOfSuited, IsUnsuited, Suits}
 use Rattle.router_top.specs.Truth.{Agrees, IsOpenBelow, IsReached, IsTrueAt, IsTrueOf, IsTrueOfClauses, IsTrueOfEncoding, IsTrueOfJob, IsTrueOfRecipe, IsTrueOfSearch, IsTrueOfSuitedSearch, IsTrueOfTurns, IsTrueOfWork}
@@ -306,6 +306,9 @@ job-agrees (Encodes job) files a b h g =
     (λ said. IsTrueOfClauses (clauses_asked job p) (said ≡ Done) said) a b u v
     (λ s t. clauses-agree (clauses_asked job p) (λ said. said ≡ Done) a b s t
     (λ e f. inl (e ∙ sym f))))
+job-agrees (Blames job) files a b h g =
+    work-agrees files job.files (IsTrueOfSearch (core_search job)) a b h g
+    (λ p u v. search-agrees (core_search job) p (inl refl) a b u v)
 job-agrees (Checks job) files a b h g = inl (check-agrees job files a b h g)
 job-agrees (Verifies job) files a b h g = verify-agrees job files a b h g
 job-agrees (Generates job) files a b h g =

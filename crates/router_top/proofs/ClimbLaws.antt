@@ -9,19 +9,20 @@ use Rattle.fpga_types.specs.Fits.{Fits}
 use Rattle.fpga_types.specs.Given.{IsGiven}
 use Rattle.fpga_types.specs.Problem.{RoutingProblem}
 use Rattle.route_sweep.specs.Climb.{AreRefuted, climbed}
-use Rattle.route_sweep.specs.Found.{HasFew, IsRefutedBy, WritesLog}
+use Rattle.route_sweep.specs.Found.{IsRefutedBy, WritesLog}
 use Rattle.route_sweep.specs.declared.found.Found.{Found}
 use Rattle.route_sweep.specs.declared.found.Found.TheVariants.{Routed as IsRouted, Refuted, Spent}
 use Rattle.route_sweep.specs.declared.found.Stop.{Stop}
 use Rattle.sat_clause.specs.Step.{Step}
+use Rattle.router_words.specs.Job.{SweepAsked}
 use Rattle.router_top.specs.Comes.{IsRefutedAt}
-use Rattle.router_top.specs.Method.{HasNone, IsRoutingBy, clauses_by}
+use Rattle.router_top.specs.Method.{IsRoutingBy, clauses_by}
 use Rattle.router_top.specs.Outcomes.{climbed_outcome, found_outcome}
-use Rattle.router_top.specs.Search.{Search}
+use Rattle.router_top.specs.Search.{Search, sweep_search}
 use Rattle.router_top.specs.SearchFiles.{proof_files}
 use Rattle.router_top.specs.Work.{Finds}
 use Rattle.router_top.specs.Written.{NamedText, with_files}
-use Rattle.router_top.proofs.MethodLaws.{none-legal}
+use Rattle.router_top.proofs.EndLaws.{refutes-none}
 use Rattle.router_top.proofs.WrittenLaws.{with_files-append}
 
 -- ---- numbers and lists
@@ -95,7 +96,10 @@ climbed-outcome width (Err stop) = refl
 
 -- ---- what a climb has shown of lower widths
 
-module _ (search : Search) (p : RoutingProblem) (given : IsGiven p) (fits : Fits p) where
+module _ (job : SweepAsked) (p : RoutingProblem) (given : IsGiven p) (fits : Fits p) where
+  abbrev search : Search
+  search = sweep_search job
+
   -- the widths up to this one were refuted
   abbrev HasClimbed : ℕ → ShelfState → ShelfState → Type 0
   HasClimbed =
@@ -114,8 +118,7 @@ module _ (search : Search) (p : RoutingProblem) (given : IsGiven p) (fits : Fits
     refuted-at = record {
       few = found.0;
       refuted = wrote.ends;
-      none_legal = none-legal search.method (suc below) p wrote.log given fits
-          wrote.ends.refutes.accepts;
+      none_legal = refutes-none search (suc below) p wrote.log given fits wrote.ends;
       reads_back = record { clauses = wrote.clauses_back; steps = wrote.log_back };
     }
 
@@ -134,20 +137,6 @@ module _ (search : Search) (p : RoutingProblem) (given : IsGiven p) (fits : Fits
   climbed-said (suc below) before now (between, lower, found) =
       ap (λ (s : ShelfState). s.said) (wrote below between now found).written
       ∙ climbed-said below before between lower
-
-  -- the clauses are few and no routing is legal
-  pub climbed-unroutable : (below : ℕ) (before now : ShelfState) → HasClimbed below before now
-      → (k : ℕ) → 1 ≤ k → k ≤ below
-      → HasFew (clauses_by search.method k p) × HasNone search.method k p
-  climbed-unroutable zero before now h k low high = absurd (omega (arith, low, high))
-  climbed-unroutable (suc below) before now (between, lower, found) k low high =
-      elim (next-or-below k below high) [
-        | inl same ↦ (let this = refuted-at below between now found in
-            subst (λ (n : ℕ). HasFew (clauses_by search.method n p)
-            × HasNone search.method n p) (sym same)
-            (this.few, this.none_legal))
-        | inr less ↦ climbed-unroutable below before between lower k low less
-      ]
 
   -- there are the clauses and a log of each
   pub record HasLogs (below : ℕ) (before now : Option FileMap) : Type 0 where

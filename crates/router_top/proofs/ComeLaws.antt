@@ -1,122 +1,404 @@
--- A search that comes to a width: the files of lower widths, and what is found there.
-use Rattle.std.proofs.Common.{◌≡◌, ◌∙◌, ◌⊎◌, ℕ, ◌+◌, ◌-◌, ◌≤◌, List, [], ◌∷◌, ◌++◌, Ok, Result, refl, sym, ap, subst, inl, inr, arith}
-use Rattle.std.specs.Prelude.{Some, flat_map}
+-- What each job has come to, by what it leaves.
+use Rattle.std.proofs.Common.{◌≡◌, ◌∙◌, ◌⊎◌, ℕ, ◌+◌, ◌-◌, ◌≤◌, List, [], ◌∷◌, ◌++◌, length, Option, Ok, Err, Result, refl, sym, ap, subst, inl, inr, arith, take}
+use Rattle.std.specs.Prelude.{◌<◌, MatchResult, Some, flat_map}
 use Rattle.std.specs.List.{range_with_len}
+use Rattle.desk_io.specs.Files.{Bytes, FileMap, HasRisen}
 use Rattle.desk_io.specs.ShelfState.{ShelfState, after_say}
+use Rattle.desk_io.proofs.FileLemmas.{has_risen}
+use Rattle.fpga_route.specs.Value.{route_value}
 use Rattle.fpga_types.specs.Given.{IsGiven}
 use Rattle.fpga_types.specs.Problem.{RoutingProblem}
 use Rattle.fpga_types.specs.declared.limits.TheConstants.{WIDTH_LIMIT}
 use Rattle.fpga_types.specs.declared.route.RouteText.{RouteText}
 use Rattle.route_sweep.specs.Climb.{EndsAt}
+use Rattle.route_sweep.specs.declared.found.FileSlot.{FileSlot}
+use Rattle.route_sweep.specs.declared.found.FileSlot.TheVariants.{Clauses}
 use Rattle.route_sweep.specs.declared.found.Found.{Found}
-use Rattle.route_sweep.specs.declared.found.Found.TheVariants.{Refuted}
 use Rattle.route_sweep.specs.declared.found.Stop.{Stop}
+use Rattle.route_sweep.specs.declared.found.Stop.TheVariants.{Fault, TooManyClauses, Memory}
+use Rattle.route_verify.specs.Judged.{judged}
+use Rattle.route_verify.specs.declared.judgement.Judgement.{Judgement as Judged}
+use Rattle.route_verify.specs.declared.judgement.Judgement.TheVariants.{Legal as IsLegal, NotLegal as IsNotLegal}
+use Rattle.sat_clause.specs.Formula.{Cnf}
+use Rattle.sat_clause.specs.Judge.{Judgement, Accepted as IsAccepted, Refused as IsRefused}
 use Rattle.sat_clause.specs.Step.{Step}
+use Rattle.sat_clause.specs.declared.limits.TheConstants.{CLAUSE_LIMIT}
+use Rattle.sat_rat.specs.FullJudge.{HaveLiterals, full_judge}
+use Rattle.sat_rat.proofs.FullSound.{full_refutes}
+use Rattle.sat_text.specs.CnfText.{cnf_said}
+use Rattle.sat_text.specs.LratText.{lrat_said}
 use Rattle.router_words.specs.Command.{job_of}
-use Rattle.router_words.specs.Job.{JobAsked, RouteAsked, Routes, SweepAsked, TrialAsked, Tries}
+use Rattle.router_words.specs.Refusal.{code_of}
+use Rattle.router_words.specs.Job.{CheckAsked, Checks, EncodeAsked, Encodes as EncodesJob, FilesAsked, GenAsked, Generates, JobAsked, RouteAsked, Routes, SweepAsked, Sweeps as SweepsJob, TrialAsked, Tries as TriesJob, Verifies, VerifyAsked, Blames, CoreAsked}
 use Rattle.router_words.specs.Word.{Word}
+use Rattle.router_words.specs.declared.fault.Refusal.{Refusal}
+use Rattle.router_words.specs.declared.method.Method.{Method}
+use Rattle.router_top.specs.Check.{ChecksTo, cnf_source, judgement_outcome, lrat_source}
 use Rattle.router_top.specs.Comes.{ComesTo, lower_files}
+use Rattle.router_top.specs.Encoded.{clauses_asked}
+use Rattle.router_top.specs.Files.{problem_slots}
 use Rattle.router_top.specs.FourFiles.{Poses}
-use Rattle.router_top.specs.Generated.{Makes}
-use Rattle.router_top.specs.JobFiles.{IsClimb}
+use Rattle.router_top.specs.Generated.{PosesNone, generated_files, texts_of}
+use Rattle.router_top.specs.JobFiles.{IsClimb, LeavesWhole}
+use Rattle.router_top.specs.Means.{IsJudged, Means}
 use Rattle.router_top.specs.Method.{IsRoutingBy, clauses_by}
-use Rattle.router_top.specs.Outcomes.{climbed_outcome, found_outcome}
-use Rattle.router_top.specs.Run.{Scene}
-use Rattle.router_top.specs.Search.{files_of, route_search, search_asked, sweep_of, sweep_search}
+use Rattle.router_top.specs.Outcomes.{climbed_outcome, found_outcome, written_outcome}
+use Rattle.router_top.specs.Run.{Leaves, LeavesJob, LeavesWork, Scene, TriesGenerated, WritesGenerated}
+use Rattle.router_top.specs.Saying.{more_said, AreNetLines, IsUnroutable, Leads}
+use Rattle.router_top.specs.Search.{files_of, route_search, search_asked, sweep_of, sweep_search, Search, clauses_held, core_search, lower_widths}
 use Rattle.router_top.specs.SearchFiles.{proof_files, route_file}
+use Rattle.router_top.specs.Sources.{IsHalted, IsStopped, ReadsThen, Says}
+use Rattle.router_top.specs.Suited.{EncodeLeaves, IsUnsuited, LeavesSuited, RouteLeaves, Suits, SweepLeaves}
 use Rattle.router_top.specs.Trial.{trial_line}
-use Rattle.router_top.specs.Work.{Finds, Searches, Sweeps}
-use Rattle.router_top.specs.Written.{NamedText, with_files}
+use Rattle.router_top.specs.Truth.{IsTrueOf, IsTrueOfEncoding, IsTrueOfJob, IsTrueOfSearch, IsTrueOfSuitedSearch, IsTrueOfWork}
+use Rattle.router_top.specs.Verify.{VerifiesTo, judged_outcome, routed_source}
+use Rattle.router_top.specs.Work.{Encodes, LeavesRoute, Sweeps, WritesClauses, clauses_file, Finds}
+use Rattle.router_top.specs.Written.{NamedText, with_files, AreWritten}
 use Rattle.router_top.specs.declared.outcome.Outcome.{Outcome}
-use Rattle.router_top.proofs.ClimbLaws.{climbed-logs, climbed-outcome, climbed-said}
-use Rattle.router_top.proofs.GeneratedLaws.{made-poses}
+use Rattle.router_top.specs.declared.outcome.Outcome.TheVariants.{Done, Usage, WriteFault, OutOfMemory, Unroutable, Limit}
+use Rattle.router_top.specs.declared.slot.Slot.TheVariants.{File}
+use Rattle.router_top.proofs.Came.{Came, Cut, HasCome, Idle, IsSpared, Searched, Wrote, ended_with}
+use Rattle.router_top.proofs.ClimbLaws.{climbed-calm, climbed-logs, climbed-outcome, climbed-said}
+use Rattle.router_top.proofs.FourLaws.{calm-lack}
+use Rattle.router_top.proofs.GeneratedLaws.{made-poses, problem-apart}
+use Rattle.router_top.proofs.LeftLaws.{none-left, log-left}
+use Rattle.router_top.proofs.LiteralLaws.{log_literals}
 use Rattle.router_top.proofs.NameLaws.{proof-apart, proofs-then-proof, proofs-then-route, route-apart}
+use Rattle.router_top.proofs.SaidLaws.{finds-silent, more-none}
+use Rattle.router_top.proofs.SourceLaws.{calm-reads}
+use Rattle.router_top.proofs.StopLaws.{HoldsOfStops, lacks-hold, reads-hold, unsuited-holds}
+use Rattle.router_top.proofs.TurnLaws.{one-held}
 use Rattle.router_top.proofs.WrittenLaws.{AreApart}
-
--- the problem was given; the search comes to a width with the files of lower ones alone, all names
--- differ, and this is found there, which is the outcome; only at the last width is that a refutation
-pub record HasCome (words : List Word) (at : Scene) (outcome : Outcome) : Type 0 where
-  pub width : ℕ
-  pub comes : ComesTo words at.desk.files width
-  pub given : IsGiven comes.p
-  pub narrow : width ≤ WIDTH_LIMIT
-  pub between : ShelfState
-  pub lower : between.files ≡ with_files (lower_files comes) at.shelf.files
-  pub silent : between.said ≡ at.shelf.said
-  pub climbs : (between ≡ at.shelf) ⊎ IsClimb words
-  pub route_apart : (found : RouteText)
-      → AreApart (lower_files comes ++ route_file comes.search found ∷ [])
-  pub proof_apart : (log : List Step)
-      → AreApart (lower_files comes ++ proof_files comes.search comes.p width log)
-  pub came : Result Found Stop
-  pub finds : Finds comes.search comes.p width between at.shelf_now came
-  pub last : came ≡ Ok Refuted → width ≡ comes.search.last
-  pub is : outcome ≡ found_outcome width came
+use Rattle.router_top.specs.Core.{LeavesCore, SaysBlamed, SaysNets, net_lines}
+use Rattle.router_top.proofs.MeansLaws.{refuted-there}
+use Rattle.route_sweep.specs.declared.found.Found.TheVariants.{Routed as IsRouted, Refuted, Spent}
+use Rattle.router_words.specs.declared.method.Method.TheVariants.{Strictly}
+use Rattle.router_top.specs.Headline.{IsRefuted}
+use Rattle.route_core.specs.Blamed.{blamed}
+use Rattle.route_sweep.specs.Found.{HasFew}
 
 less-itself : (n : ℕ) → n - n ≡ 0
 less-itself n = omega arith
 
+-- what keeps a run from its work tells of no refutation
+spared-routable : (o : Outcome) → IsSpared o → ¬ IsUnroutable o
+spared-routable (Unroutable width) spared = absurd spared
+spared-routable o spared = λ bad. bad
+
 module _ (words : List Word) (at : Scene) where
-  -- a search at one width
-  module _ (job : RouteAsked) (p : RoutingProblem) (asked : job_of words ≡ Ok (Routes job))
-      (poses : Poses at.desk.files job.files p) (narrow : job.search.width ≤ WIDTH_LIMIT) where
-    abbrev comes-alone : ComesTo words at.desk.files job.search.width
+  abbrev MeansHere : Outcome → Type 0
+  MeansHere = Means words at.desk.files at.shelf.files at.shelf_now.files
+
+  -- if no fault of the desk has risen, the outcome is true, or memory ran out
+  abbrev IsTold : Outcome → Type 0
+  IsTold o = ¬ HasRisen at.desk.faults at.desk_now.faults
+      → IsTrueOf words at.desk.files o ⊎ (o ≡ OutOfMemory)
+
+  -- the words ask for no trial, or its problem was not made or is too large, and the outcome
+  -- says so
+  abbrev NoTrial : Outcome → Type 0
+  NoTrial o = (job : TrialAsked) → job_of words ≡ Ok (TriesJob job) → PosesNone job.recipe o
+
+  -- no fault of the shelf, no unroutable width, and nothing that means more
+  abbrev Spares : Outcome → Type 0
+  Spares o = IsSpared o × MeansHere o
+
+  stops-spare : HoldsOfStops Spares
+  stops-spare = record {
+    memory = (tt, tt);
+    read = λ file. (tt, tt);
+    input = λ file line code. (tt, tt);
+    limit = λ code count. (tt, tt);
+  }
+
+  -- nothing was written
+  idle : (o : Outcome) → at.shelf_now ≡ at.shelf → NoTrial o → Spares o → IsTold o
+      → Came words at o
+  idle o same none spares told = Idle (record {
+    same = same;
+    spared = spares.0;
+    leads = record { no_trial = none; no_nets = λ job is. spared-routable o spares.0 };
+    means = spares.1;
+    told = told;
+  })
+
+  -- since memory ran out
+  spent : (o : Outcome) → at.shelf_now ≡ at.shelf → NoTrial o → o ≡ OutOfMemory → Came words at o
+  spent o same none is = idle o same none (subst Spares (sym is) (tt, tt)) (λ calm. inr is)
+
+  module _ (job : JobAsked) (asked : job_of words ≡ Ok job) where
+    true-of : (o : Outcome) → IsTrueOfJob job at.desk.files o → IsTrueOf words at.desk.files o
+    true-of o = subst (λ (r : Result JobAsked Refusal). MatchResult r
+        (λ job. IsTrueOfJob job at.desk.files o) (λ cause. o ≡ Usage (code_of cause))) (sym asked)
+
+    -- the work on the problem of four files
+    work-came : (names : FilesAsked) (says : RoutingProblem → Outcome → Type 0)
+        (works : RoutingProblem → ShelfState → ShelfState → Outcome → Type 0) (o : Outcome)
+        → (IsTrueOfWork names says at.desk.files o → IsTrueOfJob job at.desk.files o)
+        → NoTrial o
+        → ((p : RoutingProblem) → Poses at.desk.files names p → works p at.shelf at.shelf_now o
+        → Came words at o)
+        → LeavesWork names works at o → Came words at o
+    work-came names says works o told none came (inl h) =
+        idle o h.1 none
+        (lacks-hold Spares stops-spare at.desk at.desk_now at.desk.files names o h.0)
+        (λ calm. elim (calm-lack at.desk at.desk_now names o calm h.0) [
+          | inl lack ↦ inl (true-of o (told (inl lack)))
+          | inr short ↦ inr short
+        ])
+    work-came names says works o told none came (inr h) = came h.0 h.1 h.2
+
+    -- where the method suits it
+    suited-came : (method : Method) (first last : ℕ)
+        (works : RoutingProblem → ShelfState → ShelfState → Outcome → Type 0) (p : RoutingProblem)
+        (o : Outcome) → (IsUnsuited method first last p o → IsTrueOfJob job at.desk.files o)
+        → NoTrial o
+        → (Suits method first last p → works p at.shelf at.shelf_now o → Came words at o)
+        → LeavesSuited method first last works p at.shelf at.shelf_now o → Came words at o
+    suited-came method first last works p o told none came (inl h) = idle o h.1 none
+        (unsuited-holds Spares (λ width why. (tt, tt)) method first last p o h.0)
+        (λ calm. inl (true-of o (told h.0)))
+    suited-came method first last works p o told none came (inr h) = came h.0 h.1
+
+  -- ---- a search at one width
+
+  module _ (which : JobAsked) (asked : job_of words ≡ Ok which) (search : Search)
+      (searches : search_asked which ≡ Some search) (one : search.first ≡ search.last)
+      (p : RoutingProblem) (poses : Poses (files_of which at.desk.files) search.files p)
+      (told : (o : Outcome) → IsTrueOfSearch search p o → IsTrueOf words at.desk.files o) where
+    none-lower : flat_map (λ k. proof_files search p k []) (lower_widths search search.first) ≡ []
+    none-lower = ap (λ (count : ℕ). flat_map (λ k. proof_files search p k [])
+        (range_with_len search.first count)) (less-itself search.first)
+
+    abbrev comes-alone : ComesTo words at.desk.files search.first
     comes-alone = record {
-      job = Routes job;
+      job = which;
       asked = asked;
-      search = route_search job;
-      searches = refl;
+      search = search;
+      searches = searches;
       p = p;
       poses = poses;
       from = omega arith;
-      to = omega arith;
+      to = omega (arith, one);
       logs = λ k. [];
       lower = λ k low high. absurd (omega (arith, low, high));
     }
 
-    none-lower : lower_files comes-alone ≡ []
-    none-lower = ap (λ (count : ℕ). flat_map (λ k. proof_files (route_search job) p k [])
-        (range_with_len job.search.width count)) (less-itself job.search.width)
-
     alone : (more : List NamedText) → AreApart more → AreApart (lower_files comes-alone ++ more)
     alone more = subst (λ (fs : List NamedText). AreApart (fs ++ more)) (sym none-lower)
 
-    pub route-comes : (o : Outcome) → Searches job p at.shelf at.shelf_now o → HasCome words at o
-    route-comes o did = record {
-      width = job.search.width;
+    abbrev come-alone : IsGiven p → search.first ≤ WIDTH_LIMIT
+        → (HasFew (clauses_by search.method search.first p)
+        → clauses_held search search.first p ≤ CLAUSE_LIMIT)
+        → (wrote : ShelfState) (came : Result Found Stop)
+        → Finds search p search.first at.shelf wrote came → (o : Outcome)
+        → o ≡ found_outcome search.first came → HasCome words (ended_with wrote at) o
+    come-alone given narrow room wrote came finds o is = record {
+      width = search.first;
       comes = comes-alone;
-      given = did.given;
+      given = given;
       narrow = narrow;
+      room = room;
       between = at.shelf;
       lower = sym (ap (λ (fs : List NamedText). with_files fs at.shelf.files) none-lower);
-      silent = refl;
+      calm = refl;
       climbs = inl refl;
-      route_apart = λ found. alone (route_file (route_search job) found ∷ [])
-          (route-apart (route_search job) p found);
-      proof_apart = λ log. alone (proof_files (route_search job) p job.search.width log)
-          (proof-apart (route_search job) p job.search.width log);
-      came = did.came;
-      finds = did.finds;
-      last = λ same. refl;
-      is = did.is;
+      route_apart = λ found. alone (route_file search found ∷ []) (route-apart search p found);
+      proof_apart = λ log. alone (proof_files search p search.first log)
+          (proof-apart search p search.first log);
+      came = came;
+      finds = finds;
+      last = λ same. one;
+      is = is;
+      told = told;
     }
 
-  -- a climb through the widths, which a sweep or a trial asks for
+  module _ (job : RouteAsked) (asked : job_of words ≡ Ok (Routes job)) (p : RoutingProblem)
+      (poses : Poses at.desk.files job.files p)
+      (told : (o : Outcome) → IsTrueOfSearch (route_search job) p o
+      → IsTrueOf words at.desk.files o) where
+    route-came : (o : Outcome) → LeavesRoute job p at.shelf at.shelf_now o → Came words at o
+    route-came o (inl h) = idle o h.same (λ other is. cc) (subst Spares (sym h.is) (tt, tt))
+        (λ calm. inl (told o (
+          job.search.width,
+          record {
+            from = omega arith;
+            to = omega arith;
+            lower = λ k low high. absurd (omega (arith, low, high));
+          },
+          inr (h.few, inl (h.many, h.is)),
+        )))
+    route-came o (inr h) = Searched (record {
+      wrote = at.shelf_now;
+      come = come-alone (Routes job) asked (route_search job) refl refl p poses told h.given
+          h.narrow h.room at.shelf_now h.came h.finds o h.is;
+      files = refl;
+      faults = refl;
+      lead = [];
+      leads = inr (refl, record { no_trial = λ other is. cc; no_nets = λ other is unroutable. cc });
+      said = finds-silent (route_search job) p job.search.width at.shelf at.shelf_now h.came h.finds
+          ∙ sym (more-none at.shelf.said);
+    })
+
+  -- ---- a search that names the nets to blame
+
+  module _ (job : CoreAsked) (asked : job_of words ≡ Ok (Blames job)) (p : RoutingProblem)
+      (poses : Poses at.desk.files job.files p)
+      (told : (o : Outcome) → IsTrueOfSearch (core_search job) p o
+      → IsTrueOf words at.desk.files o)
+      (given : IsGiven p) (narrow : job.width ≤ WIDTH_LIMIT) (wrote : ShelfState) where
+    abbrev come-core : (came : Result Found Stop)
+        → Finds (core_search job) p job.width at.shelf wrote came → (o : Outcome)
+        → o ≡ found_outcome job.width came → HasCome words (ended_with wrote at) o
+    come-core = come-alone (Blames job) asked (core_search job) refl refl p poses told given narrow
+        (one-held (length (clauses_by Strictly job.width p).clauses)) wrote
+
+    -- a width that was not refuted
+    quiet-core : (came : Result Found Stop)
+        → Finds (core_search job) p job.width at.shelf wrote came → (o : Outcome)
+        → ¬ IsUnroutable (found_outcome job.width came)
+        → (at.shelf_now ≡ wrote) × (o ≡ found_outcome job.width came) → Came words at o
+    quiet-core came finds o routable (same, is) = Searched (record {
+      wrote = wrote;
+      come = come-core came finds o is;
+      files = ap (λ (s : ShelfState). s.files) same;
+      faults = ap (λ (s : ShelfState). s.faults) same;
+      lead = [];
+      leads = inr (
+        refl,
+        record {
+          no_trial = λ other is. cc;
+          no_nets = λ other is_core unroutable. routable (subst IsUnroutable is unroutable);
+        },
+      );
+      said = ap (λ (s : ShelfState). s.said) same
+          ∙ finds-silent (core_search job) p job.width at.shelf wrote came finds
+          ∙ sym (more-none at.shelf.said);
+    })
+
+    -- the nets that the log of a refuted width blames
+    module _ (finds : Finds (core_search job) p job.width at.shelf wrote (Ok Refuted))
+        (same : at.shelf_now.files ≡ wrote.files) where
+      abbrev lines : Bytes
+      lines = net_lines p.route (blamed job.width p finds.1.log)
+
+      abbrev come-refuted : HasCome words (ended_with wrote at) (Unroutable job.width)
+      come-refuted = come-core (Ok Refuted) finds (Unroutable job.width) refl
+
+      abbrev refuted-here : IsRefuted words at.desk.files at.shelf.files at.shelf_now.files
+          job.width
+      refuted-here =
+          let there = refuted-there words (ended_with wrote at) (Unroutable job.width) come-refuted
+          finds refl in
+          record {
+            comes = there.comes;
+            last = there.last;
+            log = there.log;
+            refuted = there.refuted;
+            written = subst (λ (fs : Option FileMap). AreWritten (lower_files there.comes
+                ++ proof_files (core_search job) p job.width finds.1.log) at.shelf.files fs)
+                (sym same) there.written;
+          }
+
+      net-lines : AreNetLines words at.desk.files at.shelf.files at.shelf_now.files
+          (Unroutable job.width) lines
+      net-lines = record {
+        job = job;
+        asked = asked;
+        width = job.width;
+        unroutable = refl;
+        refuted = refuted-here;
+        is = refl;
+      }
+
+      silent : wrote.said ≡ at.shelf.said
+      silent = finds-silent (core_search job) p job.width at.shelf wrote (Ok Refuted) finds
+
+    named-core : (finds : Finds (core_search job) p job.width at.shelf wrote (Ok Refuted))
+        (o : Outcome)
+        → SaysNets p.route (blamed job.width p finds.1.log) job.width wrote at.shelf_now o
+        → Came words at o
+    named-core finds o (inl (now, is)) =
+        let same = ap (λ (s : ShelfState). s.files) now in
+        Searched (record {
+          wrote = wrote;
+          come = come-core (Ok Refuted) finds o is;
+          files = same;
+          faults = ap (λ (s : ShelfState). s.faults) now;
+          lead = lines finds same;
+          leads = subst (λ (a : Outcome). Leads words at.desk.files at.shelf.files
+              at.shelf_now.files a (lines finds same)) (sym is) (inl (inr (net-lines finds same)));
+          said = ap (λ (s : ShelfState). s.said) now
+              ∙ ap (λ (s : Option Bytes). more_said s (lines finds same)) (silent finds same);
+        })
+    named-core finds o (inr (fails, is)) =
+        let same = fails.failed.files in
+        Cut (record {
+          is = is;
+          whole = subst (λ (fs : Option FileMap).
+              LeavesWhole words at.desk.files at.shelf.files fs) (sym same)
+              (log-left words (ended_with wrote at) (Unroutable job.width) (come-refuted finds same)
+              finds.0 finds.1.log (inl finds.1.ends)
+              (ap (λ (s : ShelfState). s.files) finds.1.written));
+          risen = subst (λ (n : ℕ). HasRisen n at.shelf_now.faults)
+              (ap (λ (s : ShelfState). s.faults) finds.1.written)
+              (has_risen _ _ fails.failed.risen);
+          outcome = Unroutable job.width;
+          lead = lines finds same;
+          leads = inr (net-lines finds same);
+          count = fails.count;
+          within = fails.within;
+          said = fails.failed.said
+              ∙ ap (λ (s : Option Bytes). more_said s (take fails.count (lines finds same)))
+              (silent finds same);
+        })
+
+  module _ (job : CoreAsked) (asked : job_of words ≡ Ok (Blames job)) (p : RoutingProblem)
+      (poses : Poses at.desk.files job.files p)
+      (told : (o : Outcome) → IsTrueOfSearch (core_search job) p o
+      → IsTrueOf words at.desk.files o) where
+    stops-routable : (stop : Stop) → ¬ IsUnroutable (found_outcome job.width (Err stop))
+    stops-routable (Fault slot) = λ bad. bad
+    stops-routable (TooManyClauses count) = λ bad. bad
+    stops-routable Memory = λ bad. bad
+
+    core-came : (o : Outcome) → LeavesCore job p at.shelf at.shelf_now o → Came words at o
+    core-came o did = go did.came did.finds did.says
+      where
+        go : (came : Result Found Stop)
+            (finds : Finds (core_search job) p job.width at.shelf did.wrote came)
+            → SaysBlamed (core_search job) p job.width at.shelf did.wrote at.shelf_now came finds o
+            → Came words at o
+        go (Ok Refuted) finds says = named-core job asked p poses told did.given did.narrow
+            did.wrote finds o says
+        go (Ok IsRouted) finds says = quiet-core job asked p poses told did.given did.narrow
+            did.wrote (Ok IsRouted) finds o (λ bad. bad) says
+        go (Ok (Spent learned)) finds says = quiet-core job asked p poses told did.given
+            did.narrow did.wrote (Ok (Spent learned)) finds o (λ bad. bad) says
+        go (Err stop) finds says = quiet-core job asked p poses told did.given did.narrow
+            did.wrote (Err stop) finds o (stops-routable stop) says
+
+  -- ---- a climb through the widths, which a sweep or a trial asks for
+
   module _ (which : JobAsked) (job : SweepAsked) (p : RoutingProblem)
       (asked : job_of words ≡ Ok which) (searches : search_asked which ≡ Some (sweep_search job))
       (climb : IsClimb words)
       (poses : Poses (files_of which at.desk.files) job.files p)
-      (narrow : job.search.width ≤ WIDTH_LIMIT) where
-    ends-come : IsGiven p → (width : ℕ) (found : Result Found Stop) (o : Outcome)
-        → o ≡ found_outcome width found → EndsAt (sweep_search job).ask job.search.width
+      (told : (o : Outcome) → IsTrueOfSearch (sweep_search job) p o
+      → IsTrueOf words at.desk.files o)
+      (first : ShelfState) (files : first.files ≡ at.shelf.files)
+      (faults : first.faults ≡ at.shelf.faults) (lead : Bytes)
+      (led : first.said ≡ more_said at.shelf.said lead) where
+    climbed : IsGiven p → job.search.width ≤ WIDTH_LIMIT → (width : ℕ) (found : Result Found Stop)
+        (o : Outcome) → o ≡ found_outcome width found
+        → EndsAt (sweep_search job).ask job.search.width
         (λ width. clauses_by job.search.method width p)
-        (λ width. IsRoutingBy job.search.method width p) at.shelf at.shelf_now width found
+        (λ width. IsRoutingBy job.search.method width p) first at.shelf_now width found
         → HasCome words at o
-    ends-come given width found o is end =
+    climbed given narrow width found o is end =
         let search = sweep_search job in
         let below = end.below in
-        let lower = climbed-logs search p given poses.fits below at.shelf end.between
-        end.refuted in
+        let lower = climbed-logs job p given poses.fits below first end.between end.refuted in
         let low : width ≤ 64 = omega (arith, end.next, end.within, narrow) in
         let count : below ≡ width - 1 = omega (arith, end.next) in
         let few : 1 + (width - 1) ≤ width = omega (arith, end.next) in
@@ -136,11 +418,12 @@ module _ (words : List Word) (at : Scene) where
           };
           given = given;
           narrow = low;
+          room = one-held (length (clauses_by job.search.method width p).clauses);
           between = end.between;
-          lower = lower.files ∙ ap (λ (n : ℕ). with_files
-              (flat_map (λ k. proof_files search p k (lower.logs k)) (range_with_len 1 n))
-              at.shelf.files) count;
-          silent = climbed-said search p given poses.fits below at.shelf end.between end.refuted;
+          lower = lower.files ∙ (λ i. with_files
+              (flat_map (λ k. proof_files search p k (lower.logs k)) (range_with_len 1 (count i)))
+              (files i));
+          calm = climbed-calm job p given poses.fits below first end.between end.refuted ∙ faults;
           climbs = inr climb;
           route_apart = λ found. proofs-then-route search p refl lower.logs 1 (width - 1)
               found (omega (arith, few, low));
@@ -150,23 +433,312 @@ module _ (words : List Word) (at : Scene) where
           finds = end.then;
           last = end.last;
           is = is;
+          told = told;
         }
 
-    pub sweep-comes : (o : Outcome) → Sweeps job p at.shelf at.shelf_now o → HasCome words at o
-    sweep-comes o did =
-        let climb = did.climbs in
-        ends-come did.given climb.0 climb.1 o
-        (did.is ∙ ap climbed_outcome climb.2 ∙ climbed-outcome climb.0 climb.1) climb.3
+    sweep-came : (o : Outcome)
+        → Leads words at.desk.files at.shelf.files at.shelf_now.files o lead
+        → Sweeps job p first at.shelf_now o → Came words at o
+    sweep-came o leads did =
+        let climbs = did.climbs in
+        let end = climbs.3 in
+        Searched (record {
+          wrote = at.shelf_now;
+          come = climbed did.given did.narrow climbs.0 climbs.1 o
+              (did.is ∙ ap climbed_outcome climbs.2 ∙ climbed-outcome climbs.0 climbs.1) end;
+          files = refl;
+          faults = refl;
+          lead = lead;
+          leads = leads;
+          said = finds-silent (sweep_search job) p climbs.0 end.between at.shelf_now climbs.1
+              end.then
+              ∙ climbed-said job p did.given poses.fits end.below first end.between end.refuted
+              ∙ led;
+        })
 
--- the scene behind the trial line
-abbrev pub behind_line : Scene → RoutingProblem → Scene
-behind_line at p = record at { shelf = after_say at.shelf (trial_line p) }
+  -- ---- the clauses of a problem
 
--- the climb of a trial
-pub trial-comes : (words : List Word) (at : Scene) (job : TrialAsked) (p : RoutingProblem)
-    → job_of words ≡ Ok (Tries job) → Makes job.recipe p → (o : Outcome)
-    → Sweeps (sweep_of job) p (after_say at.shelf (trial_line p)) at.shelf_now o
-    → HasCome words (behind_line at p) o
-trial-comes words at job p asked makes o did =
-    sweep-comes words (behind_line at p) (Tries job) (sweep_of job) p asked refl (inr (job, asked))
-    (made-poses job.recipe job.search.prefix p makes) did.narrow o did
+  module _ (job : EncodeAsked) (asked : job_of words ≡ Ok (EncodesJob job)) (p : RoutingProblem)
+      (poses : Poses at.desk.files job.files p)
+      (suits : Suits job.method job.width job.width p) where
+    abbrev formula : Cnf
+    formula = clauses_asked job p
+
+    encode-true : (o : Outcome) → IsTrueOfEncoding job p o → IsTrueOf words at.desk.files o
+    encode-true o h = true-of (EncodesJob job) asked o (inr (p, poses, h))
+
+    written-came : (came : Result (Unit {0}) Stop) (o : Outcome) → o ≡ written_outcome came
+        → WritesClauses job formula at.shelf at.shelf_now came → Came words at o
+    written-came (Ok written) o is h = Wrote (record {
+      slots = File Clauses ∷ [];
+      files = clauses_file job p ∷ [];
+      of = inr (inl (record {
+        job = job;
+        asked = asked;
+        p = p;
+        poses = poses;
+        few = h.0;
+        order = refl;
+      }));
+      matched = refl;
+      apart = (tt, tt);
+      heard = (tt, tt);
+      writes = inl (is, h.2);
+      leads = record { no_trial = λ other is. cc; no_nets = λ other is unroutable. cc };
+      means = λ done written. inl (record {
+        job = job;
+        p = p;
+        asked = asked;
+        poses = poses;
+        few = h.0;
+        reads_back = h.1;
+        written = written;
+      });
+      told = encode-true Done (inr (suits, inr (h.0, refl)));
+    })
+    written-came (Err (Fault slot)) o is h = Wrote (record {
+      slots = File Clauses ∷ [];
+      files = clauses_file job p ∷ [];
+      of = inr (inl (record {
+        job = job;
+        asked = asked;
+        p = p;
+        poses = poses;
+        few = h.1;
+        order = refl;
+      }));
+      matched = refl;
+      apart = (tt, tt);
+      heard = (tt, tt);
+      writes = inr (
+        File Clauses,
+        inl (refl, h.2),
+        is ∙ ap (λ (s : FileSlot). WriteFault (File s)) h.0,
+      );
+      leads = record { no_trial = λ other is. cc; no_nets = λ other is unroutable. cc };
+      means = λ done written. cc;
+      told = encode-true Done (inr (suits, inr (h.1, refl)));
+    })
+    written-came (Err (TooManyClauses count)) o is h = idle o h.1 (λ other is. cc)
+        (subst Spares (sym is) (tt, tt))
+        (λ calm. inl (encode-true o (inr (
+          suits,
+          inl (
+            subst (λ (n : ℕ). CLAUSE_LIMIT < n) h.0.0 h.0.1,
+            is ∙ ap (Limit 901) h.0.0,
+          ),
+        ))))
+    written-came (Err Memory) o is h = spent o h.1 (λ other is. cc) is
+
+  -- ---- the check of a log
+
+  module _ (job : CheckAsked) (asked : job_of words ≡ Ok (Checks job)) where
+    -- what is judged, by the clauses
+    abbrev ReadLog : (stops : Option FileMap) → Cnf → Outcome → Type 0
+    ReadLog files cnf = ReadsThen (IsHalted files) files
+        (lrat_source job.lrat (length cnf.clauses)) lrat_said
+        (λ log outcome. outcome ≡ judgement_outcome (full_judge cnf log))
+
+    verdict-spares : (cnf : Cnf) (log : List Step)
+        → Says at.desk.files (cnf_source job.cnf) cnf_said cnf
+        → Says at.desk.files (lrat_source job.lrat (length cnf.clauses)) lrat_said log
+        → (judgement : Judgement) → full_judge cnf log ≡ judgement
+        → Spares (judgement_outcome judgement)
+    verdict-spares cnf log reads_cnf reads_lrat IsAccepted accepts = (
+      tt,
+      record {
+        job = job;
+        cnf = cnf;
+        log = log;
+        asked = asked;
+        reads_cnf = reads_cnf;
+        reads_lrat = reads_lrat;
+        accepts = accepts;
+        unsat = full_refutes cnf log
+            (subst HaveLiterals (sym reads_lrat.says)
+            (log_literals (length cnf.clauses) reads_lrat.text reads_lrat.faultless)) accepts;
+      },
+    )
+    verdict-spares cnf log reads_cnf reads_lrat (IsRefused step cause) refused = (tt, tt)
+
+    abbrev AfterCnf : Cnf → Outcome → Type 0
+    AfterCnf cnf = ReadsThen (IsStopped at.desk at.desk_now) at.desk.files
+        (lrat_source job.lrat (length cnf.clauses)) lrat_said
+        (λ log outcome. outcome ≡ judgement_outcome (full_judge cnf log))
+
+    check-came : (o : Outcome)
+        → ChecksTo (IsStopped at.desk at.desk_now) at.desk.files job o
+        → at.shelf_now ≡ at.shelf → Came words at o
+    check-came o h same = idle o same (λ other is. cc)
+        (reads-hold Spares stops-spare at.desk at.desk_now at.desk.files (cnf_source job.cnf)
+        cnf_said AfterCnf o
+        (λ cnf reads_cnf. reads-hold Spares stops-spare at.desk at.desk_now at.desk.files
+        (lrat_source job.lrat (length cnf.clauses)) lrat_said
+        (λ log outcome. outcome ≡ judgement_outcome (full_judge cnf log)) o
+        (λ log reads_lrat is. subst Spares (sym is)
+        (verdict-spares cnf log reads_cnf reads_lrat (full_judge cnf log) refl))) h)
+        (λ calm. elim (calm-reads at.desk at.desk_now (cnf_source job.cnf) cnf_said AfterCnf
+        (ReadLog at.desk.files) o calm
+        (λ cnf. calm-reads at.desk at.desk_now (lrat_source job.lrat (length cnf.clauses))
+        lrat_said (λ log outcome. outcome ≡ judgement_outcome (full_judge cnf log))
+        (λ log outcome. outcome ≡ judgement_outcome (full_judge cnf log)) o calm (λ log. inl)) h) [
+          | inl told ↦ inl (true-of (Checks job) asked o told)
+          | inr short ↦ inr short
+        ])
+
+  -- ---- the judging of a routed file
+
+  module _ (job : VerifyAsked) (asked : job_of words ≡ Ok (Verifies job)) where
+    judged-spares : (judgement : Judged) → IsJudged words at.desk.files judgement
+        → Spares (judged_outcome judgement)
+    judged-spares IsLegal h = (tt, h)
+    judged-spares (IsNotLegal line cause) h = (tt, h)
+
+    verify-spares : (o : Outcome) → VerifiesTo (IsStopped at.desk at.desk_now) at.desk.files job o
+        → Spares o
+    verify-spares o (inl h) =
+        lacks-hold Spares stops-spare at.desk at.desk_now at.desk.files job.files o h
+    verify-spares o (inr (p, poses, h)) =
+        reads-hold Spares stops-spare at.desk at.desk_now at.desk.files (routed_source job.routed)
+        route_value (λ found outcome. outcome ≡ judged_outcome (judged job.width p found)) o
+        (λ found reads is. subst Spares (sym is)
+        (judged-spares (judged job.width p found) (record {
+          job = job;
+          p = p;
+          found = found;
+          asked = asked;
+          poses = poses;
+          reads = reads;
+          is = refl;
+        }))) h
+
+    calm-verify : (o : Outcome) → ¬ HasRisen at.desk.faults at.desk_now.faults
+        → VerifiesTo (IsStopped at.desk at.desk_now) at.desk.files job o
+        → VerifiesTo (IsHalted at.desk.files) at.desk.files job o ⊎ (o ≡ OutOfMemory)
+    calm-verify o calm (inl h) = elim (calm-lack at.desk at.desk_now job.files o calm h) [
+      | inl lack ↦ inl (inl lack)
+      | inr short ↦ inr short
+    ]
+    calm-verify o calm (inr (p, poses, h)) =
+        let judges = λ (found : RouteText) (outcome : Outcome).
+        outcome ≡ judged_outcome (judged job.width p found) in
+        elim (calm-reads at.desk at.desk_now (routed_source job.routed) route_value judges judges
+        o calm (λ found. inl) h) [
+          | inl told ↦ inl (inr (p, poses, told))
+          | inr short ↦ inr short
+        ]
+
+    verify-came : (o : Outcome) → VerifiesTo (IsStopped at.desk at.desk_now) at.desk.files job o
+        → at.shelf_now ≡ at.shelf → Came words at o
+    verify-came o h same = idle o same (λ other is. cc) (verify-spares o h)
+        (λ calm. elim (calm-verify o calm h) [
+          | inl told ↦ inl (true-of (Verifies job) asked o told)
+          | inr short ↦ inr short
+        ])
+
+  -- ---- the files of a generated problem
+
+  module _ (job : GenAsked) (asked : job_of words ≡ Ok (Generates job)) where
+    made-came : (o : Outcome) → WritesGenerated job at.shelf at.shelf_now o → Came words at o
+    made-came o (inl (inl many, same)) = idle o same (λ other is. cc)
+        (subst Spares (sym many.1) (tt, tt))
+        (λ calm. inl (true-of (Generates job) asked o (inl many)))
+    made-came o (inl (inr short, same)) = spent o same (λ other is. cc) short
+    made-came o (inr (room, h)) = Wrote (record {
+      slots = problem_slots;
+      files = generated_files job.recipe job.prefix;
+      of = inr (inr (inl (record { job = job; asked = asked; room = room; order = refl })));
+      matched = refl;
+      apart = problem-apart job.prefix (texts_of job.recipe);
+      heard = (tt, (tt, (tt, (tt, tt))));
+      writes = h;
+      leads = record { no_trial = λ other is. cc; no_nets = λ other is unroutable. cc };
+      means = λ done written.
+          inr (record { job = job; asked = asked; room = room; written = written });
+      told = true-of (Generates job) asked Done (inr (room, refl));
+    })
+
+  -- ---- the trial of a generated problem
+
+  module _ (job : TrialAsked) (asked : job_of words ≡ Ok (TriesJob job)) where
+    none-posed : (o : Outcome) → PosesNone job.recipe o → NoTrial o
+    none-posed o none = λ other is.
+        let same : job ≡ other = cc in
+        subst (λ (j : TrialAsked). PosesNone j.recipe o) same none
+
+    trial-came : (o : Outcome) → TriesGenerated job at.shelf at.shelf_now o → Came words at o
+    trial-came o (inl (inl (inl many), same)) = idle o same (none-posed o (inl (inl many)))
+        (subst Spares (sym many.1) (tt, tt))
+        (λ calm. inl (true-of (TriesJob job) asked o (inl many)))
+    trial-came o (inl (inl (inr short), same)) =
+        spent o same (none-posed o (inl (inr short))) short
+    trial-came o (inl (inr large, same)) = idle o same (none-posed o (inr large))
+        (subst Spares (sym large.3) (tt, tt))
+        (λ calm. inl (true-of (TriesJob job) asked o (inr (inl large))))
+    trial-came o (inr (p, makes, inl h)) = sweep-came (TriesJob job) (sweep_of job) p asked refl
+        (inr (job, asked)) (made-poses job.recipe job.search.prefix p makes)
+        (λ says h. true-of (TriesJob job) asked says (inr (inr (p, makes, h))))
+        (after_say at.shelf (trial_line p)) refl refl (trial_line p) refl o
+        (inl (inl (record { job = job; asked = asked; p = p; makes = makes; is = refl }))) h
+    trial-came o (inr (p, makes, inr h)) = Cut (record {
+      is = h.1;
+      whole = none-left words at.desk.files at.shelf.files at.shelf_now.files h.0.failed.files;
+      risen = has_risen _ _ h.0.failed.risen;
+      outcome = o;
+      lead = trial_line p;
+      leads = inl (record { job = job; asked = asked; p = p; makes = makes; is = refl });
+      count = h.0.count;
+      within = h.0.within;
+      said = h.0.failed.said;
+    })
+
+  -- ---- each job
+
+  job-came : (job : JobAsked) (o : Outcome) → job_of words ≡ Ok job → LeavesJob job at o
+      → Came words at o
+  job-came (Routes job) o asked h =
+      work-came (Routes job) asked job.files (IsTrueOfSuitedSearch (route_search job))
+      (RouteLeaves job) o (λ told. told) (λ other is. cc)
+      (λ p poses. suited-came (Routes job) asked job.search.method job.search.width
+      job.search.width (LeavesRoute job) p o (λ unsuited. inr (p, poses, inl unsuited))
+      (λ other is. cc)
+      (λ suits. route-came job asked p poses
+      (λ says told. true-of (Routes job) asked says (inr (p, poses, inr (suits, told)))) o)) h
+  job-came (SweepsJob job) o asked h =
+      work-came (SweepsJob job) asked job.files (IsTrueOfSuitedSearch (sweep_search job))
+      (SweepLeaves job) o (λ told. told) (λ other is. cc)
+      (λ p poses. suited-came (SweepsJob job) asked job.search.method 1 job.search.width
+      (Sweeps job) p o (λ unsuited. inr (p, poses, inl unsuited)) (λ other is. cc)
+      (λ suits. sweep-came (SweepsJob job) job p asked refl (inl (job, asked)) poses
+      (λ says told. true-of (SweepsJob job) asked says (inr (p, poses, inr (suits, told))))
+      at.shelf refl refl [] (sym (more-none at.shelf.said)) o
+      (inr (refl, record { no_trial = λ other is. cc; no_nets = λ other is unroutable. cc })))) h
+  job-came (EncodesJob job) o asked h =
+      work-came (EncodesJob job) asked job.files (IsTrueOfEncoding job) (EncodeLeaves job) o
+      (λ told. told) (λ other is. cc)
+      (λ p poses. suited-came (EncodesJob job) asked job.method job.width job.width (Encodes job)
+      p o (λ unsuited. inr (p, poses, inl unsuited)) (λ other is. cc)
+      (λ suits did. written-came job asked p poses suits did.came o did.is did.writes)) h
+  job-came (Blames job) o asked h =
+      work-came (Blames job) asked job.files (IsTrueOfSearch (core_search job)) (LeavesCore job) o
+      (λ told. told) (λ other is. cc)
+      (λ p poses. core-came job asked p poses
+      (λ says told. true-of (Blames job) asked says (inr (p, poses, told))) o) h
+  job-came (Checks job) o asked h = check-came job asked o h.0 h.1
+  job-came (Verifies job) o asked h = verify-came job asked o h.0 h.1
+  job-came (Generates job) o asked h = made-came job asked o h.0
+  job-came (TriesJob job) o asked h = trial-came job asked o h.0
+
+  pub leaves-came : (o : Outcome) → Leaves words at o → Came words at o
+  leaves-came o (inl h) = spent o h.1 (λ job is. inl (inr h.0)) h.0
+  leaves-came o (inr h) = go (job_of words) refl h
+    where
+      go : (asked : Result JobAsked Refusal) → job_of words ≡ asked
+          → MatchResult asked (λ job. LeavesJob job at o)
+          (λ cause. (o ≡ Usage (code_of cause)) × (at.shelf_now ≡ at.shelf)) → Came words at o
+      go (Ok job) asked h = job-came job o asked h
+      go (Err cause) asked h = idle o h.1 (λ job is. cc)
+          (subst Spares (sym h.0) (tt, tt))
+          (λ calm. inl (subst (λ (r : Result JobAsked Refusal). MatchResult r
+          (λ job. IsTrueOfJob job at.desk.files o) (λ cause. o ≡ Usage (code_of cause)))
+          (sym asked) h.0))

@@ -1,7 +1,10 @@
 mod AgreeLaws
+mod Came
 mod ClimbLaws
 mod ComeLaws
 mod CompleteLaws
+mod CoreLaws
+mod EndLaws
 mod FourLaws
 mod GeneratedLaws
 mod LeftLaws

@@ -1,9 +1,7 @@
 -- What holds of each outcome that keeps a run from its work.
-use Rattle.std.proofs.Common.{◌≡◌, ℕ, List, [], ◌∷◌, Option, sym, subst, inl, inr}
+use Rattle.std.proofs.Common.{ℕ, Option, sym, subst, inl, inr}
 use Rattle.desk_io.specs.DeskState.{DeskState}
 use Rattle.desk_io.specs.Files.{Bytes, FileMap}
-use Rattle.desk_io.specs.ShelfState.{ShelfState}
-use Rattle.desk_io.specs.WholeFile.{after_writing}
 use Rattle.fpga_arch.specs.Value.{arch_value}
 use Rattle.fpga_net.specs.Value.{net_value}
 use Rattle.fpga_place.specs.Value.{place_value}
@@ -12,21 +10,14 @@ use Rattle.fpga_text.specs.declared.fault.TextFault.{TextFault}
 use Rattle.fpga_text.specs.declared.fault.TextFault.TheVariants.{Bad, Limit as PastLimit, Memory as NoMemory}
 use Rattle.fpga_types.specs.Problem.{RoutingProblem, problem_of}
 use Rattle.route_symmetry.specs.declared.full.Asymmetry.{Asymmetry}
-use Rattle.route_verify.specs.Judged.{judged}
-use Rattle.route_verify.specs.declared.judgement.Judgement.{Judgement}
-use Rattle.router_words.specs.Job.{FilesAsked, VerifyAsked}
+use Rattle.router_words.specs.Job.{FilesAsked}
 use Rattle.router_words.specs.declared.method.Method.{Method}
 use Rattle.router_words.specs.declared.method.Method.TheVariants.{Pinned, Strictly}
-use Rattle.router_top.specs.Files.{FailsAmong}
 use Rattle.router_top.specs.FourFiles.{GivesNone, IsUnfit, arch_source, net_source, place_source, route_source}
 use Rattle.router_top.specs.Sources.{IsStopped, ReadsThen, Says, Source, fault_outcome}
 use Rattle.router_top.specs.Suited.{IsUnsuited}
-use Rattle.router_top.specs.Verify.{VerifiesTo, judged_outcome, routed_source}
-use Rattle.router_top.specs.Written.{NamedText}
 use Rattle.router_top.specs.declared.outcome.Outcome.{Outcome}
-use Rattle.router_top.specs.declared.outcome.Outcome.TheVariants.{InputFault, Limit, NotSymmetric, ReadFault, WriteFault, OutOfMemory}
-use Rattle.router_top.specs.declared.slot.Slot.{Slot}
-use Rattle.router_top.specs.declared.slot.Slot.TheVariants.{Said}
+use Rattle.router_top.specs.declared.outcome.Outcome.TheVariants.{InputFault, Limit, NotSymmetric, ReadFault, OutOfMemory}
 use Rattle.router_top.specs.declared.text_file.TextFile.{TextFile}
 use Rattle.router_top.specs.declared.text_file.TextFile.TheVariants.{Route}
 use Rattle.router_top.proofs.FourLaws.{AfterArch, AfterNetlist, AfterPlacement}
@@ -71,16 +62,6 @@ module _ (Q : Outcome → Type 0) (each : HoldsOfStops Q) where
         (λ route. IsUnfit (problem_of arch netlist placement route)) o
         (λ route says unfit. subst Q (sym unfit.2) (fault-holds Route unfit.0)))))
 
-    -- so it does of what the judging of a routed file comes to, where it holds of each judgement
-    pub verdict-holds : (job : VerifyAsked) (o : Outcome)
-        → ((judgement : Judgement) → Q (judged_outcome judgement))
-        → VerifiesTo (IsStopped desk desk_now) files job o → Q o
-    verdict-holds job o each_judgement (inl h) = lacks-hold job.files o h
-    verdict-holds job o each_judgement (inr (p, poses, h)) =
-        reads-hold (routed_source job.routed) route_value
-        (λ found outcome. outcome ≡ judged_outcome (judged job.width p found)) o
-        (λ found says is. subst Q (sym is) (each_judgement (judged job.width p found))) h
-
 -- what holds of tracks that are not alike holds of a method that does not suit the problem
 pub unsuited-holds : (Q : Outcome → Type 0)
     → ((width : ℕ) (why : Asymmetry) → Q (NotSymmetric width why))
@@ -88,25 +69,3 @@ pub unsuited-holds : (Q : Outcome → Type 0)
     → IsUnsuited method first last p o → Q o
 unsuited-holds Q each Strictly first last p o h = absurd h
 unsuited-holds Q each Pinned first last p o h = subst Q (sym h.3) (each h.0 h.1)
-
--- ---- faults of files
-
--- no fault of what is said
-abbrev pub IsHeard : Outcome → Type 0
-IsHeard (WriteFault Said) = ⊥
-IsHeard outcome = Unit {0}
-
--- none of these slots is of what is said
-abbrev AreHeard : List Slot → Type 0
-AreHeard [] = Unit {0}
-AreHeard (slot ∷ slots) = IsHeard (WriteFault slot) × AreHeard slots
-
-pub among-heard : (slots : List Slot) (files : List NamedText) (before now : ShelfState)
-    (slot : Slot) → AreHeard slots → FailsAmong slots files before now slot
-    → IsHeard (WriteFault slot)
-among-heard [] files before now slot heard h = absurd h
-among-heard (first ∷ slots) [] before now slot heard h = absurd h
-among-heard (first ∷ slots) (file ∷ files) before now slot heard (inl h) =
-    subst (λ (s : Slot). IsHeard (WriteFault s)) (sym h.0) heard.0
-among-heard (first ∷ slots) (file ∷ files) before now slot heard (inr h) =
-    among-heard slots files (after_writing before file.name file.text) now slot heard.1 h

@@ -2,13 +2,14 @@
 use Rattle.std.specs.Prelude.{◌≡◌, ℕ, ◌<◌, ◌≤◌, List, flat_map, Ok, Option, Some}
 use Rattle.desk_io.specs.Files.{FileMap}
 use Rattle.fpga_types.specs.Problem.{RoutingProblem}
-use Rattle.route_sweep.specs.Found.{HasFew, IsRefutedBy}
+use Rattle.route_sweep.specs.Found.{HasFew}
 use Rattle.sat_clause.specs.Step.{Step}
 use Rattle.router_words.specs.Command.{job_of}
 use Rattle.router_words.specs.Job.{JobAsked}
 use Rattle.router_words.specs.Word.{Word}
+use Rattle.router_top.specs.Ends.{Refutes}
 use Rattle.router_top.specs.FourFiles.{Poses}
-use Rattle.router_top.specs.Method.{HasNone, IsRoutingBy, clauses_by}
+use Rattle.router_top.specs.Method.{HasNone, clauses_by}
 use Rattle.router_top.specs.Search.{Search, files_of, lower_widths, search_asked}
 use Rattle.router_top.specs.SearchFiles.{ReadBack, proof_files}
 use Rattle.router_top.specs.Written.{NamedText}
@@ -18,8 +19,7 @@ use Rattle.router_top.specs.Written.{NamedText}
 pub record IsRefutedAt (search : Search) (p : RoutingProblem) (width : ℕ) (log : List Step)
     : Type 0 where
   pub few : HasFew (clauses_by search.method width p)
-  pub refuted : IsRefutedBy search.ask (clauses_by search.method width p)
-      (IsRoutingBy search.method width p) log
+  pub refuted : Refutes search p width log
   pub none_legal : HasNone search.method width p
   pub reads_back : ReadBack (clauses_by search.method width p) log
 

@@ -7,10 +7,11 @@ use Rattle.std.specs.Prelude.{◌≡◌, ℕ, List, [], ◌∷◌, ◌++◌, Opt
 use Rattle.desk_io.specs.Files.{FileMap}
 use Rattle.fpga_types.specs.declared.route.RouteText.{RouteText}
 use Rattle.fpga_route.specs.ReadBack.{ReadsBack}
-use Rattle.route_sweep.specs.Found.{HasFew, IsLeftOpenBy}
+use Rattle.route_sweep.specs.Found.{HasFew}
 use Rattle.sat_clause.specs.Step.{Step}
 use Rattle.router_words.specs.Word.{Word}
 use Rattle.router_top.specs.Comes.{ComesTo, IsRefutedAt, lower_files}
+use Rattle.router_top.specs.Ends.{LeavesOpen}
 use Rattle.router_top.specs.Method.{IsRoutingBy, clauses_by}
 use Rattle.router_top.specs.SearchFiles.{ReadBack, proof_files, route_file}
 use Rattle.router_top.specs.Written.{AreWritten}
@@ -45,7 +46,7 @@ pub record IsLeftOpen
   pub few : HasFew (clauses_by comes.search.method width comes.p)
   pub budget : learned ≡ comes.search.ask.budget
   pub log : List Step
-  pub open_by : IsLeftOpenBy comes.search.ask (clauses_by comes.search.method width comes.p) log
+  pub open_by : LeavesOpen comes.search comes.p width log
   pub reads_back : ReadBack (clauses_by comes.search.method width comes.p) log
   pub written : AreWritten (lower_files comes ++ proof_files comes.search comes.p width log)
       before now

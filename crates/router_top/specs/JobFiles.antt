@@ -8,7 +8,7 @@ use Rattle.desk_io.specs.Files.{Bytes, FileMap}
 use Rattle.desk_io.specs.ShelfState.{OthersStay}
 use Rattle.fpga_types.specs.Problem.{RoutingProblem}
 use Rattle.fpga_types.specs.declared.route.RouteText.{RouteText}
-use Rattle.route_sweep.specs.Found.{HasFew, IsLogOf}
+use Rattle.route_sweep.specs.Found.{HasFew}
 use Rattle.route_sweep.specs.declared.found.FileSlot.TheVariants.{Route, Clauses, Log}
 use Rattle.sat_clause.specs.Step.{Step}
 use Rattle.router_words.specs.Command.{job_of}
@@ -16,6 +16,7 @@ use Rattle.router_words.specs.Job.{EncodeAsked, Encodes, GenAsked, Generates, Sw
 use Rattle.router_words.specs.Word.{Word}
 use Rattle.router_top.specs.Comes.{ComesTo}
 use Rattle.router_top.specs.Encoded.{clauses_asked}
+use Rattle.router_top.specs.Ends.{EndsSearch}
 use Rattle.router_top.specs.Files.{problem_slots}
 use Rattle.router_top.specs.FourFiles.{Poses}
 use Rattle.router_top.specs.Generated.{HasRoom, generated_files}
@@ -57,13 +58,13 @@ clauses_and_log search p width log =
     in_slots (File Clauses ∷ File Log ∷ []) (proof_files search p width log)
 
 -- what a search writes at a width that has few enough clauses: a legal routing; or the clauses, and
--- then the log of a search through them
+-- then a log that refutes them or leaves them open
 abbrev pub AreFound : Search → RoutingProblem → (width : ℕ) → List JobFile → Type 0
 AreFound search p width files =
     HasFew (clauses_by search.method width p)
     × (((found : RouteText) × IsRoutingBy search.method width p found
     × (files ≡ routing_file search found))
-    ⊎ ((log : List Step) × IsLogOf search.ask (clauses_by search.method width p) log
+    ⊎ ((log : List Step) × EndsSearch search p width log
     × (files ≡ clauses_and_log search p width log)))
 
 -- the clauses and the log of each lower width that was tried

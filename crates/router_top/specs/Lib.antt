@@ -1,6 +1,8 @@
 pub mod Check
 pub mod Comes
+pub mod Core
 pub mod Encoded
+pub mod Ends
 pub mod Files
 pub mod FourFiles
 pub mod Generated

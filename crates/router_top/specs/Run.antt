@@ -5,9 +5,10 @@ use Rattle.desk_io.specs.ShelfState.{FailsToSay, ShelfState, after_say}
 use Rattle.fpga_types.specs.Problem.{RoutingProblem}
 use Rattle.router_words.specs.Command.{job_of}
 use Rattle.router_words.specs.Refusal.{code_of}
-use Rattle.router_words.specs.Job.{Checks, Encodes as EncodesJob, FilesAsked, GenAsked, Generates, JobAsked, RecipeAsked, Routes, Sweeps as SweepsJob, TrialAsked, Tries as TriesJob, Verifies}
+use Rattle.router_words.specs.Job.{Blames, Checks, Encodes as EncodesJob, FilesAsked, GenAsked, Generates, JobAsked, RecipeAsked, Routes, Sweeps as SweepsJob, TrialAsked, Tries as TriesJob, Verifies}
 use Rattle.router_words.specs.Word.{Word}
 use Rattle.router_top.specs.Check.{ChecksTo}
+use Rattle.router_top.specs.Core.{LeavesCore}
 use Rattle.router_top.specs.Files.{WritesFiles, problem_slots}
 use Rattle.router_top.specs.FourFiles.{GivesNone, Poses}
 use Rattle.router_top.specs.Generated.{HasRoom, Makes, MakesNone, PosesNone, generated_files}
@@ -64,6 +65,7 @@ abbrev pub LeavesJob : JobAsked → Scene → Outcome → Type 0
 LeavesJob (Routes job) at outcome = LeavesWork job.files (RouteLeaves job) at outcome
 LeavesJob (SweepsJob job) at outcome = LeavesWork job.files (SweepLeaves job) at outcome
 LeavesJob (EncodesJob job) at outcome = LeavesWork job.files (EncodeLeaves job) at outcome
+LeavesJob (Blames job) at outcome = LeavesWork job.files (LeavesCore job) at outcome
 LeavesJob (Checks job) at outcome =
     ChecksTo (IsStopped at.desk at.desk_now) at.desk.files job outcome
     × (at.shelf_now ≡ at.shelf)

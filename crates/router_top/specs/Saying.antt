@@ -1,15 +1,19 @@
 -- What a run says, whatever fails: the lead, and then the report line.
 use Rattle.std.specs.Prelude.{◌≡◌, ◌⊎◌, ℕ, ◌≤◌, ◌++◌, List, [], length, take, Ok, Option, option_map}
-use Rattle.desk_io.specs.Files.{Bytes}
+use Rattle.desk_io.specs.Files.{Bytes, FileMap}
+use Rattle.desk_io.specs.ShelfState.{ShelfState}
 use Rattle.fpga_types.specs.Problem.{RoutingProblem}
+use Rattle.route_core.specs.Blamed.{blamed}
 use Rattle.router_words.specs.Command.{job_of}
-use Rattle.router_words.specs.Job.{TrialAsked, Tries}
+use Rattle.router_words.specs.Job.{Blames, CoreAsked, TrialAsked, Tries}
 use Rattle.router_words.specs.Word.{Word}
+use Rattle.router_top.specs.Core.{net_lines}
 use Rattle.router_top.specs.Generated.{Makes, PosesNone}
+use Rattle.router_top.specs.Headline.{IsRefuted}
 use Rattle.router_top.specs.Report.{line_of}
 use Rattle.router_top.specs.Trial.{trial_line}
 use Rattle.router_top.specs.declared.outcome.Outcome.{Outcome}
-use Rattle.router_top.specs.declared.outcome.Outcome.TheVariants.{WriteFault}
+use Rattle.router_top.specs.declared.outcome.Outcome.TheVariants.{Unroutable, WriteFault}
 use Rattle.router_top.specs.declared.slot.Slot.TheVariants.{Said}
 
 -- the bytes said, and a text behind them
@@ -24,40 +28,70 @@ pub record IsTrialLine (words : List Word) (lead : Bytes) : Type 0 where
   pub makes : Makes job.recipe p
   pub is : lead ≡ trial_line p
 
--- what is said before the report line: the trial line; or nothing, since the words ask for no
--- trial, or for one of a problem that was not made or is too large
-abbrev pub IsLead : List Word → Outcome → Bytes → Type 0
-IsLead words outcome lead =
-    IsTrialLine words lead
-    ⊎ ((lead ≡ []) × ((job : TrialAsked) → job_of words ≡ Ok (Tries job)
-    → PosesNone job.recipe outcome))
+-- the words ask for the nets to blame, and the outcome is that the width is unroutable: the clauses
+-- and a log that refutes them were written, both whole, and these lines name the nets that this log
+-- blames, in order
+pub record AreNetLines
+    (words : List Word) (desk before now : Option FileMap) (outcome : Outcome) (lead : Bytes)
+    : Type 0 where
+  pub job : CoreAsked
+  pub asked : job_of words ≡ Ok (Blames job)
+  pub width : ℕ
+  pub unroutable : outcome ≡ Unroutable width
+  pub refuted : IsRefuted words desk before now width
+  pub is : lead ≡ net_lines refuted.comes.p.route (blamed width refuted.comes.p refuted.log)
+
+-- what is said before the report line of this outcome: the trial line, or the nets to blame
+abbrev pub IsLead : List Word → (desk before now : Option FileMap) → Outcome → Bytes → Type 0
+IsLead words desk before now outcome lead =
+    IsTrialLine words lead ⊎ AreNetLines words desk before now outcome lead
+
+-- the width of the job is unroutable
+abbrev pub IsUnroutable : Outcome → Type 0
+IsUnroutable (Unroutable width) = Unit {0}
+IsUnroutable outcome = ⊥
+
+-- nothing is said before it: the words ask for no trial, or for one of a problem that was not made
+-- or is too large; and for no nets to blame, or no width was refuted
+pub record HasNoLead (words : List Word) (outcome : Outcome) : Type 0 where
+  pub no_trial : (job : TrialAsked) → job_of words ≡ Ok (Tries job) → PosesNone job.recipe outcome
+  pub no_nets : (job : CoreAsked) → job_of words ≡ Ok (Blames job) → ¬ IsUnroutable outcome
+
+-- what is said before it, which may be nothing
+abbrev pub Leads : List Word → (desk before now : Option FileMap) → Outcome → Bytes → Type 0
+Leads words desk before now outcome lead =
+    IsLead words desk before now outcome lead ⊎ ((lead ≡ []) × HasNoLead words outcome)
 
 -- the lead and the report line of this outcome were said
-pub record SaysAll (words : List Word) (before now : Option Bytes) (outcome : Outcome)
+pub record SaysAll
+    (words : List Word) (desk : Option FileMap) (before now : ShelfState) (outcome : Outcome)
     : Type 0 where
   pub lead : Bytes
-  pub leads : IsLead words outcome lead
-  pub said : now ≡ more_said before (lead ++ line_of outcome)
+  pub leads : Leads words desk before.files now.files outcome lead
+  pub said : now.said ≡ more_said before.said (lead ++ line_of outcome)
 
 -- the lead was said, and so many bytes at the front of the report line of this outcome
-pub record SaysPart (words : List Word) (before now : Option Bytes) (outcome : Outcome)
+pub record SaysPart
+    (words : List Word) (desk : Option FileMap) (before now : ShelfState) (outcome : Outcome)
     : Type 0 where
   pub lead : Bytes
-  pub leads : IsLead words outcome lead
+  pub leads : Leads words desk before.files now.files outcome lead
   pub count : ℕ
   pub within : count ≤ length (line_of outcome)
-  pub said : now ≡ more_said before (lead ++ take count (line_of outcome))
+  pub said : now.said ≡ more_said before.said (lead ++ take count (line_of outcome))
 
--- so many bytes at the front of the trial line were said, and then as many at the front of the
--- report line of a fault of what is said
-pub record CutsLead (words : List Word) (before now : Option Bytes) : Type 0 where
+-- so many bytes at the front of the lead of some outcome were said, and then as many at the front
+-- of the report line of a fault of what is said
+pub record CutsLead
+    (words : List Word) (desk : Option FileMap) (before now : ShelfState) : Type 0 where
+  pub outcome : Outcome
   pub lead : Bytes
-  pub leads : IsTrialLine words lead
+  pub leads : IsLead words desk before.files now.files outcome lead
   pub count : ℕ
   pub within : count ≤ length lead
   pub line_count : ℕ
   pub line_within : line_count ≤ length (line_of (WriteFault Said))
-  pub said : now ≡ more_said before
+  pub said : now.said ≡ more_said before.said
       (take count lead ++ take line_count (line_of (WriteFault Said)))
 
 -- the run has failed to write
@@ -68,9 +102,11 @@ IsWriteFault outcome = ⊥
 -- the bytes said, by the answer: after a fault of a file a front part of the report line may be all
 -- that came; after a fault of what is said the lead was cut, or else the report line of what the
 -- work has come to
-abbrev pub Speaks : List Word → (before now : Option Bytes) → Outcome → Type 0
-Speaks words before now (WriteFault Said) =
-    CutsLead words before now
-    ⊎ ((outcome : Outcome) × ¬ IsWriteFault outcome × SaysPart words before now outcome)
-Speaks words before now (WriteFault slot) = SaysPart words before now (WriteFault slot)
-Speaks words before now outcome = SaysAll words before now outcome
+abbrev pub Speaks : List Word → (desk : Option FileMap) → (before now : ShelfState) → Outcome
+    → Type 0
+Speaks words desk before now (WriteFault Said) =
+    CutsLead words desk before now
+    ⊎ ((outcome : Outcome) × ¬ IsWriteFault outcome × SaysPart words desk before now outcome)
+Speaks words desk before now (WriteFault slot) =
+    SaysPart words desk before now (WriteFault slot)
+Speaks words desk before now outcome = SaysAll words desk before now outcome

@@ -5,14 +5,16 @@ use Rattle.std.specs.Option.{option_map_or}
 use Rattle.desk_io.specs.Files.{FileMap}
 use Rattle.fpga_types.specs.Problem.{RoutingProblem}
 use Rattle.route_sweep.specs.Asked.{Asked}
-use Rattle.router_words.specs.Job.{FilesAsked, JobAsked, RouteAsked, Routes, SearchAsked, SweepAsked, Sweeps, TrialAsked, Tries}
+use Rattle.router_words.specs.Job.{Blames, CoreAsked, FilesAsked, JobAsked, RouteAsked, Routes, SearchAsked, SweepAsked, Sweeps, TrialAsked, Tries}
 use Rattle.router_words.specs.declared.method.Method.{Method}
+use Rattle.router_words.specs.declared.method.Method.TheVariants.{Strictly}
 use Rattle.router_top.specs.Generated.{generated_desk, generated_names}
 use Rattle.router_top.specs.Method.{clauses_by}
 
 -- a search of the problem of these files at the widths from the first on, one after the other,
 -- until one is not refuted or the last one was; how routings are said by clauses, what is asked of
--- the search at each width, and how many take turns there as one
+-- the search at each width, how many take turns there as one, and whether a refutation is cut down
+-- to what it needs
 pub record Search : Type 0 where
   pub files : FilesAsked
   pub first : ℕ
@@ -20,6 +22,7 @@ pub record Search : Type 0 where
   pub method : Method
   pub ask : Asked
   pub members : ℕ
+  pub trims : Bool
 
 -- what is asked of a search at each width; the names of clauses and logs have the width in them, or
 -- not
@@ -48,6 +51,7 @@ route_search job = record {
   method = job.search.method;
   ask = route_ask job;
   members = option_map_or (λ members. members.count) job.members 1;
+  trims = false;
 }
 
 -- `sweep` searches from width 1 on
@@ -59,16 +63,35 @@ sweep_search job = record {
   method = job.search.method;
   ask = ask_of true job.search;
   members = 1;
+  trims = false;
 }
 
 -- `trial` searches as `sweep` does, over the files that the generated problem would be written to
 abbrev pub sweep_of : TrialAsked → SweepAsked
 sweep_of job = record { files = generated_names job.search.prefix; search = job.search }
 
+-- `core` searches at its width alone and keeps all clauses
+abbrev pub core_search : CoreAsked → Search
+core_search job = record {
+  files = job.files;
+  first = job.width;
+  last = job.width;
+  method = Strictly;
+  ask = record {
+    budget = job.conflicts;
+    keep = true;
+    prefix = job.prefix;
+    numbered = false;
+  };
+  members = 1;
+  trims = true;
+}
+
 -- the search that a job asks for
 abbrev pub search_asked : JobAsked → Option Search
 search_asked (Routes job) = Some (route_search job)
 search_asked (Sweeps job) = Some (sweep_search job)
+search_asked (Blames job) = Some (core_search job)
 search_asked (Tries job) = Some (sweep_search (sweep_of job))
 search_asked job = None
 

@@ -10,14 +10,14 @@ use Rattle.sat_clause.specs.Formula.{Cnf}
 use Rattle.sat_clause.specs.declared.limits.TheConstants.{CLAUSE_LIMIT}
 use Rattle.router_words.specs.Command.{job_of}
 use Rattle.router_words.specs.Refusal.{code_of}
-use Rattle.router_words.specs.Job.{Checks, EncodeAsked, Encodes, FilesAsked, Generates, JobAsked, RecipeAsked, Routes, Sweeps, Tries, Verifies}
+use Rattle.router_words.specs.Job.{Blames, Checks, EncodeAsked, Encodes, FilesAsked, Generates, JobAsked, RecipeAsked, Routes, Sweeps, Tries, Verifies}
 use Rattle.router_words.specs.Word.{Word}
 use Rattle.router_top.specs.Check.{ChecksTo}
 use Rattle.router_top.specs.Encoded.{clauses_asked}
 use Rattle.router_top.specs.FourFiles.{GivesNone, Poses}
 use Rattle.router_top.specs.Generated.{HasRoom, IsTooLarge, IsTooMany, Makes}
 use Rattle.router_top.specs.Method.{HasNone, HasOne, clauses_by}
-use Rattle.router_top.specs.Search.{Search, clauses_held, route_search, sweep_of, sweep_search}
+use Rattle.router_top.specs.Search.{Search, clauses_held, core_search, route_search, sweep_of, sweep_search}
 use Rattle.router_top.specs.Sources.{IsHalted}
 use Rattle.router_top.specs.Suited.{IsTrueOfSuited}
 use Rattle.router_top.specs.Verify.{VerifiesTo}
@@ -93,6 +93,8 @@ IsTrueOfJob (Sweeps job) files outcome =
     IsTrueOfWork job.files (IsTrueOfSuitedSearch (sweep_search job)) files outcome
 IsTrueOfJob (Encodes job) files outcome =
     IsTrueOfWork job.files (IsTrueOfEncoding job) files outcome
+IsTrueOfJob (Blames job) files outcome =
+    IsTrueOfWork job.files (IsTrueOfSearch (core_search job)) files outcome
 IsTrueOfJob (Checks job) files outcome = ChecksTo (IsHalted files) files job outcome
 IsTrueOfJob (Verifies job) files outcome = VerifiesTo (IsHalted files) files job outcome
 IsTrueOfJob (Generates job) files outcome = IsTrueOfRecipe job.recipe (outcome ≡ Done) outcome

@@ -8,7 +8,7 @@ use Rattle.fpga_types.specs.Problem.{RoutingProblem}
 use Rattle.fpga_types.specs.declared.limits.TheConstants.{WIDTH_LIMIT}
 use Rattle.route_sweep.specs.Asked.{Asked}
 use Rattle.route_sweep.specs.Climb.{ClimbsTo}
-use Rattle.route_sweep.specs.Found.{FindsAt, HasFew, IsUnbuilt}
+use Rattle.route_sweep.specs.Found.{FindsBy, HasFew, IsUnbuilt}
 use Rattle.route_sweep.specs.declared.found.Climbed.{Climbed}
 use Rattle.route_sweep.specs.declared.found.FileSlot.TheVariants.{Clauses}
 use Rattle.route_sweep.specs.declared.found.Found.{Found}
@@ -21,6 +21,7 @@ use Rattle.sat_text.specs.Printed.{cnf_text}
 use Rattle.router_words.specs.Job.{EncodeAsked, RouteAsked, SweepAsked}
 use Rattle.router_words.specs.declared.method.Method.{Method}
 use Rattle.router_top.specs.Encoded.{clauses_asked}
+use Rattle.router_top.specs.Ends.{LeavesOpen, Refutes}
 use Rattle.router_top.specs.Method.{IsRoutingBy, clauses_by}
 use Rattle.router_top.specs.Outcomes.{climbed_outcome, found_outcome, written_outcome}
 use Rattle.router_top.specs.Search.{Search, clauses_held, route_search, sweep_search}
@@ -32,8 +33,8 @@ use Rattle.router_top.specs.declared.outcome.Outcome.TheVariants.{Limit}
 abbrev pub Finds : Search → RoutingProblem → (width : ℕ) → (before now : ShelfState)
     → Result Found Stop → Type 0
 Finds search p width before now came =
-    FindsAt search.ask width (clauses_by search.method width p)
-    (IsRoutingBy search.method width p) before now came
+    FindsBy (Refutes search p width) (LeavesOpen search p width) search.ask width
+    (clauses_by search.method width p) (IsRoutingBy search.method width p) before now came
 
 -- the clauses at a width are few enough for one search, but not for all that would take turns; the
 -- outcome has how many these would hold, and nothing was written

@@ -17,8 +17,8 @@ use route_sweep::{Ask, Found, Stop, one_width};
 use router_words::{Members, RouteJob, SearchJob};
 use std::alloc::Global;
 
-// What the run comes to by what was found at a width.
-fn found(width: u32, came: Result<Found, Stop>) -> Outcome
+/// What the run comes to by what was found at a width.
+pub fn found(width: u32, came: Result<Found, Stop>) -> Outcome
     ensures { result ≡ found_outcome width came }
 {
     match came {

@@ -56,6 +56,7 @@ fn work<D: Desk, S: Shelf>(alloc: Global, words: &[String], desk: &mut D, shelf:
             };
             work_on(alloc, &job.files, &work, desk, shelf)
         }
+        Ok(Job::Core(job)) => work_on(alloc, &job.files, &job, desk, shelf),
         Ok(Job::Check(job)) => check_files(alloc, &job, desk),
         Ok(Job::Verify(job)) => verify_file(alloc, &job, desk),
         Ok(Job::Gen(job)) => generate_files(alloc, &job, shelf),
@@ -96,10 +97,14 @@ fn say_report<S: Shelf>(shelf: &mut S, outcome: Outcome) -> Outcome
 /// taken apart before the next is opened, the routed file of `verify` once the four before it fit,
 /// and the first refusal ends the work.
 ///
+/// `core` writes what `route` does, but a refutation is cut down to what it needs. It then says a
+/// line `net NAME` for each net that the refutation blames: these have no legal routing by
+/// themselves.
+///
 /// Where `--pin` is given to `route`, `sweep` or `encode`, the nets of one most crowded cell are
 /// given their tracks beforehand, which changes no answer. All tracks are to be alike for that, at
-/// WIDTH or at each width up to MAX: if not, the outcome is `NotSymmetric` with the least such width
-/// and nothing is written.
+/// WIDTH or at each width up to MAX: if not, the outcome is `NotSymmetric` with the least such
+/// width and nothing is written.
 ///
 /// Where `--reach` is given to `encode`, the clauses are those of a routing in which a net may take
 /// several wires of its cells and reaches each sink within so many joins.
@@ -112,8 +117,8 @@ fn say_report<S: Shelf>(shelf: &mut S, outcome: Outcome) -> Outcome
 /// Whatever fails, the files of a job are written in one order, and no other file changes. Where
 /// the shelf fails on one, those before it are whole, it holds a front part of its text or was not
 /// created, and those behind it are as they were; after any other answer each file that was begun
-/// is whole. What is said is a front part of the trial line and the report line, and all of both
-/// where the shelf has not failed.
+/// is whole. What is said is a front part of the lead and the report line, and all of both where
+/// the shelf has not failed. The lead is the trial line, or the lines of `core`.
 ///
 /// After want of memory the files of a `sweep` or a `trial` are those of lower widths, and of
 /// another command there is none. The files of the desk stay in any case.
@@ -129,8 +134,8 @@ pub fn run<D: Desk, S: Shelf>(
         (S.state shelf.old) (S.state shelf.new) result }
     ensures files { LeavesFiles (words_of words.now) (D.state desk.old).files
         (S.state shelf.old).files (S.state shelf.new).files result }
-    ensures says { Speaks (words_of words.now) (S.state shelf.old).said (S.state shelf.new).said
-        result }
+    ensures says { Speaks (words_of words.now) (D.state desk.old).files (S.state shelf.old)
+        (S.state shelf.new) result }
     ensures complete { IsComplete (words_of words.now) (D.state desk.old) (D.state desk.new)
         (S.state shelf.old) (S.state shelf.new) result }
 {

@@ -3,7 +3,7 @@ use Rattle.std.proofs.Common.{◌≡◌, ℕ, Bool, true, false, List, [], ◌�
 use Rattle.std.specs.Prelude.{Result, Ok, Err, None, Some}
 use Rattle.clap.proofs.OnLiterals.{clap_on_literals}
 use Rattle.router_words.specs.Command.{job_of}
-use Rattle.router_words.specs.Job.{Checks, Encodes, FilesAsked, Generates, JobAsked, Routes, SearchAsked, Sweeps, Tries, Verifies}
+use Rattle.router_words.specs.Job.{Blames, Checks, Encodes, FilesAsked, Generates, JobAsked, Routes, SearchAsked, Sweeps, Tries, Verifies}
 use Rattle.router_words.specs.Word.{Word}
 use Rattle.router_words.specs.declared.fault.Refusal.{Refusal}
 use Rattle.router_words.specs.declared.fault.Refusal.TheVariants.{Clash, Command, Form, Number}
@@ -211,6 +211,25 @@ reach_too_far = refl
 pub pins_and_reaches : encode (codes "--pin" ∷ codes "--reach=2" ∷ []) ≡ Err Clash
 unfolding clap_on_literals
 pins_and_reaches = refl
+
+-- `core a n p r 5 out` and more words
+abbrev core : List Word → Asked
+core more = job_of (codes "core" ∷ codes "a" ∷ codes "n" ∷ codes "p" ∷ codes "r"
+    ∷ codes "5" ∷ codes "out" ∷ more)
+
+pub blames : core (codes "--conflicts" ∷ codes "7" ∷ [])
+    ≡ Ok (Blames (record {
+      files = four_files;
+      width = 5;
+      prefix = codes "out";
+      conflicts = 7;
+    }))
+unfolding clap_on_literals
+blames = refl
+
+pub core_keeps : core (codes "--keep" ∷ []) ≡ Err Form
+unfolding clap_on_literals
+core_keeps = refl
 
 pub checks : job_of (codes "check" ∷ codes "c" ∷ codes "-" ∷ [])
     ≡ Ok (Checks (record { cnf = codes "c"; lrat = codes "-" }))

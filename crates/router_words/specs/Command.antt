@@ -5,13 +5,13 @@ use Rattle.std.specs.Str.{bytes_eq}
 use Rattle.clap.specs.Words.{App, Row, first_of, matches_of}
 use Rattle.fpga_text.specs.Numbers.{whole_number_of}
 use Rattle.fpga_types.specs.declared.limits.TheConstants.{REACH_LIMIT, SIDE_LIMIT, WIDTH_LIMIT}
-use Rattle.router_words.specs.Form.{check_form, encode_form, gen_form, route_form, sweep_form, trial_form, verify_form}
-use Rattle.router_words.specs.Job.{Checks, Encodes, FilesAsked, Generates, JobAsked, MembersAsked, RecipeAsked, Routes, SearchAsked, Sweeps, Tries, Verifies, job_said}
+use Rattle.router_words.specs.Form.{check_form, core_form, encode_form, gen_form, route_form, sweep_form, trial_form, verify_form}
+use Rattle.router_words.specs.Job.{Blames, Checks, Encodes, FilesAsked, Generates, JobAsked, MembersAsked, RecipeAsked, Routes, SearchAsked, Sweeps, Tries, Verifies, job_said}
 use Rattle.router_words.specs.Results.{and_then, map_ok}
 use Rattle.router_words.specs.Taken.{HasRequired, is_taken}
 use Rattle.router_words.specs.Word.{Word}
 use Rattle.router_words.specs.declared.command_name.CommandName.{CommandName}
-use Rattle.router_words.specs.declared.command_name.CommandName.TheVariants.{Check, Encode, Gen, Route, Sweep, Trial, Verify}
+use Rattle.router_words.specs.declared.command_name.CommandName.TheVariants.{Check, Core, Encode, Gen, Route, Sweep, Trial, Verify}
 use Rattle.router_words.specs.declared.fault.Refusal.{Refusal}
 use Rattle.router_words.specs.declared.fault.Refusal.TheVariants.{Clash, Command, Form, Number}
 use Rattle.router_words.specs.declared.fault.WordsFault.{WordsFault}
@@ -162,6 +162,17 @@ encode_asked rows =
       reach = reach;
     }))))
 
+-- what `core` is asked for
+abbrev pub core_asked : List Row → Result JobAsked Refusal
+core_asked rows =
+    and_then (width_asked rows) (λ width.
+    map_ok (λ conflicts. Blames (record {
+      files = files_asked rows;
+      width = width;
+      prefix = word_in (codes "prefix") rows;
+      conflicts = conflicts;
+    })) (conflicts_asked rows))
+
 -- what `check` is asked for
 abbrev pub check_asked : List Row → Result JobAsked Refusal
 check_asked rows =
@@ -197,6 +208,9 @@ sweep_row = record { name = codes "sweep"; form = sweep_form; job = sweep_asked 
 abbrev pub encode_row : CommandRow
 encode_row = record { name = codes "encode"; form = encode_form; job = encode_asked }
 
+abbrev pub core_row : CommandRow
+core_row = record { name = codes "core"; form = core_form; job = core_asked }
+
 abbrev pub check_row : CommandRow
 check_row = record { name = codes "check"; form = check_form; job = check_asked }
 
@@ -214,13 +228,16 @@ abbrev pub row_of : CommandName → CommandRow
 row_of Route = route_row
 row_of Sweep = sweep_row
 row_of Encode = encode_row
+row_of Core = core_row
 row_of Check = check_row
 row_of Verify = verify_row
 row_of Gen = gen_row
 row_of Trial = trial_row
 
 abbrev pub commands : List CommandRow
-commands = route_row ∷ sweep_row ∷ encode_row ∷ check_row ∷ verify_row ∷ gen_row ∷ trial_row ∷ []
+commands =
+    route_row ∷ sweep_row ∷ encode_row ∷ core_row ∷ check_row ∷ verify_row ∷ gen_row ∷ trial_row
+    ∷ []
 
 -- ---- the job of words
 

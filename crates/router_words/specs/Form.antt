@@ -79,6 +79,11 @@ encode_form =
     with_option (codes "reach")
     (with_flag (codes "pin") (with_width_and_prefix (with_files (empty_form (codes "encode")))))
 
+-- ARCH NET PLACE ROUTE WIDTH PREFIX [--conflicts N]
+abbrev pub core_form : App
+core_form =
+    with_option (codes "conflicts") (with_width_and_prefix (with_files (empty_form (codes "core"))))
+
 -- CNF LRAT
 abbrev pub check_form : App
 check_form = with_word (codes "lrat") (with_word (codes "cnf") (empty_form (codes "check")))

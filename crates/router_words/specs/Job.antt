@@ -2,11 +2,12 @@
 use Rattle.std.specs.Prelude.{ℕ, Bool, Option, option_map}
 use Rattle.router_words.specs.Word.{Word}
 use Rattle.router_words.specs.declared.job.CheckJob.{CheckJob}
+use Rattle.router_words.specs.declared.job.CoreJob.{CoreJob}
 use Rattle.router_words.specs.declared.job.EncodeJob.{EncodeJob}
 use Rattle.router_words.specs.declared.job.FourNames.{FourNames}
 use Rattle.router_words.specs.declared.job.GenJob.{GenJob}
 use Rattle.router_words.specs.declared.job.Job.{Job}
-use Rattle.router_words.specs.declared.job.Job.TheVariants.{Check, Encode, Gen, Route, Sweep, Trial, Verify}
+use Rattle.router_words.specs.declared.job.Job.TheVariants.{Check, Core, Encode, Gen, Route, Sweep, Trial, Verify}
 use Rattle.router_words.specs.declared.job.Members.{Members}
 use Rattle.router_words.specs.declared.job.Recipe.{Recipe}
 use Rattle.router_words.specs.declared.job.RouteJob.{RouteJob}
@@ -60,6 +61,14 @@ pub record EncodeAsked : Type 0 where
   pub method : Method
   pub reach : Option ℕ
 
+-- to look for a routing, or else for the nets to blame: the files, the width, what the names of
+-- written files begin with, and how many clauses may be learned
+pub record CoreAsked : Type 0 where
+  pub files : FilesAsked
+  pub width : ℕ
+  pub prefix : Word
+  pub conflicts : ℕ
+
 -- to check a refutation: the names of the CNF file and of the LRAT file
 pub record CheckAsked : Type 0 where
   pub cnf : Word
@@ -94,6 +103,7 @@ pub data JobAsked : Type 0 where
   Routes : RouteAsked → JobAsked
   Sweeps : SweepAsked → JobAsked
   Encodes : EncodeAsked → JobAsked
+  Blames : CoreAsked → JobAsked
   Checks : CheckAsked → JobAsked
   Verifies : VerifyAsked → JobAsked
   Generates : GenAsked → JobAsked
@@ -140,6 +150,14 @@ encode_said job = record {
   reach = job.reach;
 }
 
+abbrev pub core_said : CoreJob → CoreAsked
+core_said job = record {
+  files = files_said job.files;
+  width = job.width;
+  prefix = job.prefix.now;
+  conflicts = job.conflicts;
+}
+
 abbrev pub check_said : CheckJob → CheckAsked
 check_said job = record { cnf = job.cnf.now; lrat = job.lrat.now }
 
@@ -163,6 +181,7 @@ abbrev pub job_said : Job → JobAsked
 job_said (Route job) = Routes (route_said job)
 job_said (Sweep job) = Sweeps (sweep_said job)
 job_said (Encode job) = Encodes (encode_said job)
+job_said (Core job) = Blames (core_said job)
 job_said (Check job) = Checks (check_said job)
 job_said (Verify job) = Verifies (verify_said job)
 job_said (Gen job) = Generates (gen_said job)

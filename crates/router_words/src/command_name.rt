@@ -8,11 +8,11 @@ ghost use Rattle.router_words.specs.Taken.{HasRequired};
 
 use crate::fault::Refusal;
 use crate::form::{
-    check_command, encode_command, gen_command, route_command, search_command, trial_command,
-    verify_command,
+    check_command, core_command, encode_command, gen_command, route_command, search_command,
+    trial_command, verify_command,
 };
 use crate::from_matches::{
-    check_job, encode_job, gen_job, route_job, sweep_job, trial_job, verify_job,
+    check_job, core_job, encode_job, gen_job, route_job, sweep_job, trial_job, verify_job,
 };
 use crate::job::Job;
 use clap::{ArgMatches, Command};
@@ -24,6 +24,7 @@ pub enum CommandName {
     Route,
     Sweep,
     Encode,
+    Core,
     Check,
     Verify,
     Gen,
@@ -43,6 +44,9 @@ impl CommandName {
         }
         if word == "encode" {
             return Some(CommandName::Encode);
+        }
+        if word == "core" {
+            return Some(CommandName::Core);
         }
         if word == "check" {
             return Some(CommandName::Check);
@@ -67,6 +71,7 @@ impl CommandName {
             CommandName::Route => route_command(alloc),
             CommandName::Sweep => search_command(alloc, "sweep"),
             CommandName::Encode => encode_command(alloc),
+            CommandName::Core => core_command(alloc),
             CommandName::Check => check_command(alloc),
             CommandName::Verify => verify_command(alloc),
             CommandName::Gen => gen_command(alloc),
@@ -83,6 +88,7 @@ impl CommandName {
             CommandName::Route => route_job(matches),
             CommandName::Sweep => sweep_job(matches),
             CommandName::Encode => encode_job(matches),
+            CommandName::Core => core_job(matches),
             CommandName::Check => check_job(matches),
             CommandName::Verify => verify_job(matches),
             CommandName::Gen => gen_job(matches),

@@ -1,7 +1,7 @@
 //! The forms of the commands, as `clap` has them.
 ghost use Rattle.std.specs.Prelude.{◌≡◌, IfOk, codes};
 ghost use Rattle.clap.specs.Words.{app_of, rule_of};
-ghost use Rattle.router_words.specs.Form.{check_form, empty_form, encode_form, gen_form, route_form, search_form, trial_form, verify_form, with_files, with_flag, with_option, with_recipe, with_search, with_width_and_prefix, with_word};
+ghost use Rattle.router_words.specs.Form.{check_form, core_form, empty_form, encode_form, gen_form, route_form, search_form, trial_form, verify_form, with_files, with_flag, with_option, with_recipe, with_search, with_width_and_prefix, with_word};
 
 use clap::{Arg, ArgAction, Command};
 use std::alloc::{AllocError, Global};
@@ -111,6 +111,15 @@ pub fn encode_command<'a>(alloc: Global) -> Result<Command<'a>, AllocError>
     let command = add_width_and_prefix(alloc, command)?;
     let command = add_flag(alloc, command, "pin")?;
     add_option(alloc, command, "reach")
+}
+
+/// ARCH NET PLACE ROUTE WIDTH PREFIX [--conflicts N]
+pub fn core_command<'a>(alloc: Global) -> Result<Command<'a>, AllocError>
+    ensures { IfOk result (λ c. app_of c ≡ core_form) }
+{
+    let command = add_files(alloc, named(alloc, "core"))?;
+    let command = add_width_and_prefix(alloc, command)?;
+    add_option(alloc, command, "conflicts")
 }
 
 /// CNF LRAT

@@ -2,8 +2,8 @@
 ghost use Rattle.std.specs.Prelude.{◌≡◌, ◌≤◌, IfOk, IfSome, codes, is_some, option_map, true};
 ghost use Rattle.clap.specs.Words.{first_of, found_of, rows_of};
 ghost use Rattle.fpga_types.specs.declared.limits.TheConstants.{REACH_LIMIT, WIDTH_LIMIT};
-ghost use Rattle.router_words.specs.Command.{check_asked, conflicts_asked, encode_asked, files_asked, gen_asked, members_asked, members_with, method_asked, number_if_any, number_within, pins_within_reach, reach_asked, recipe_asked, route_asked, search_asked, sweep_asked, trial_asked, verify_asked, width_asked, word_in};
-ghost use Rattle.router_words.specs.Form.{check_form, encode_form, gen_form, route_form, sweep_form, trial_form, verify_form};
+ghost use Rattle.router_words.specs.Command.{check_asked, conflicts_asked, core_asked, encode_asked, files_asked, gen_asked, members_asked, members_with, method_asked, number_if_any, number_within, pins_within_reach, reach_asked, recipe_asked, route_asked, search_asked, sweep_asked, trial_asked, verify_asked, width_asked, word_in};
+ghost use Rattle.router_words.specs.Form.{check_form, core_form, encode_form, gen_form, route_form, sweep_form, trial_form, verify_form};
 ghost use Rattle.router_words.specs.Job.{files_said, job_said, members_said, recipe_said, search_said};
 ghost use Rattle.router_words.specs.Results.{map_ok};
 ghost use Rattle.router_words.specs.Taken.{HasFiles, HasRecipe, HasRequired};
@@ -11,8 +11,8 @@ ghost use Rattle.router_words.specs.declared.limits.TheConstants.{BUDGET_LIMIT, 
 
 use crate::fault::Refusal;
 use crate::job::{
-    CheckJob, EncodeJob, FourNames, GenJob, Job, Members, Recipe, RouteJob, SearchJob, SweepJob,
-    TrialJob, VerifyJob,
+    CheckJob, CoreJob, EncodeJob, FourNames, GenJob, Job, Members, Recipe, RouteJob, SearchJob,
+    SweepJob, TrialJob, VerifyJob,
 };
 use crate::limits::{
     BUDGET_DEFAULT, BUDGET_LIMIT, GENERATED_NETS_LIMIT, MEMBER_LIMIT, SEED_DEFAULT, SEED_LIMIT,
@@ -203,6 +203,21 @@ pub fn encode_job<'a>(matches: &ArgMatches<'a>) -> Result<Job<'a>, Refusal>
         prefix: required_word(matches, "prefix"),
         method: method(matches),
         reach,
+    }))
+}
+
+/// What `core` is asked for, or why its words ask for nothing.
+pub fn core_job<'a>(matches: &ArgMatches<'a>) -> Result<Job<'a>, Refusal>
+    requires { HasRequired core_form (rows_of (found_of matches.now)) }
+    ensures { map_ok job_said result ≡ core_asked (rows_of (found_of matches.now)) }
+{
+    let width = width(matches)?;
+    let conflicts = conflicts(matches)?;
+    Ok(Job::Core(CoreJob {
+        files: file_names(matches),
+        width,
+        prefix: required_word(matches, "prefix"),
+        conflicts,
     }))
 }
 

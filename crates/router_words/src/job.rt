@@ -85,6 +85,21 @@ pub struct EncodeJob<'a> {
     ghost near: { IfSome reach (λ n. (1 ≤ n) × (n ≤ REACH_LIMIT)) } by { Prim.hlevel props },
 }
 
+/// To look for a routing, or else for the nets that stand against each other.
+#[derive(Clone, Copy, Debug)]
+pub struct CoreJob<'a> {
+    /// The files of the problem.
+    pub files: FourNames<'a>,
+    /// How many tracks each channel has, from 1 to 64.
+    pub width: u32,
+    /// What the names of the files that are written begin with.
+    pub prefix: &'a str,
+    /// How many clauses the search may learn, from 1 to 100,000,000.
+    pub conflicts: u64,
+    ghost in_range: { (1 ≤ width) × (width ≤ WIDTH_LIMIT) },
+    ghost affordable: { (1 ≤ conflicts) × (conflicts ≤ BUDGET_LIMIT) },
+}
+
 /// To check a refutation.
 #[derive(Clone, Copy, Debug)]
 pub struct CheckJob<'a> {
@@ -147,6 +162,8 @@ pub enum Job<'a> {
     Sweep(SweepJob<'a>),
     /// The clauses of a routing.
     Encode(EncodeJob<'a>),
+    /// A routing, or else the nets that stand against each other.
+    Core(CoreJob<'a>),
     /// Whether a log refutes the clauses of a file.
     Check(CheckJob<'a>),
     /// Whether a routed file is a legal routing.

@@ -2,18 +2,20 @@
 //!
 //! | command | words behind it | options |
 //! |---|---|---|
-//! | `route` | ARCH NET PLACE ROUTE WIDTH PREFIX | `--conflicts N`, `--keep`, `--pin`, `--members K`, `--seed S` |
-//! | `sweep` | ARCH NET PLACE ROUTE MAX PREFIX | `--conflicts N`, `--keep`, `--pin` |
-//! | `encode` | ARCH NET PLACE ROUTE WIDTH PREFIX | `--pin`, `--reach L` |
+//! | `route` | FILES WIDTH PREFIX | `--conflicts N`, `--keep`, `--pin`, `--members K`, `--seed S` |
+//! | `sweep` | FILES MAX PREFIX | `--conflicts N`, `--keep`, `--pin` |
+//! | `encode` | FILES WIDTH PREFIX | `--pin`, `--reach L` |
+//! | `core` | FILES WIDTH PREFIX | `--conflicts N` |
 //! | `check` | CNF LRAT | |
-//! | `verify` | ARCH NET PLACE ROUTE WIDTH ROUTED | |
+//! | `verify` | FILES WIDTH ROUTED | |
 //! | `gen` | SEED NX NETS PREFIX | |
 //! | `trial` | SEED NX NETS MAX PREFIX | `--conflicts N`, `--keep` |
 //!
-//! WIDTH and MAX are whole numbers from 1 to 64, and N one from 1 to 100,000,000, or 1,000,000
-//! where it is not given. SEED is one from 0 to 2,147,483,647, NX one from 1 to 100, and NETS one
-//! from 1 to 10,000. K is one from 1 to 8, and S one from 0 to 2,147,483,647, or 1 where `--members`
-//! is given alone. L is one from 1 to 64. Leading zeros are taken, signs are not.
+//! FILES are four words: ARCH NET PLACE ROUTE. WIDTH and MAX are whole numbers from 1 to 64, and N
+//! one from 1 to 100,000,000, or 1,000,000 where it is not given. SEED is one from 0 to
+//! 2,147,483,647, NX one from 1 to 100, and NETS one from 1 to 10,000. K is one from 1 to 8, and S
+//! one from 0 to 2,147,483,647, or 1 where `--members` is given alone. L is one from 1 to 64.
+//! Leading zeros are taken, signs are not.
 //!
 //! What stands behind the command is taken as `clap` takes it: options may stand anywhere,
 //! `--conflicts=5` is `--conflicts 5`, behind `--` no word is an option, and a word may be empty or
@@ -42,8 +44,8 @@ mod read;
 
 pub use fault::{Refusal, WordsFault};
 pub use job::{
-    CheckJob, EncodeJob, FourNames, GenJob, Job, Members, Recipe, RouteJob, SearchJob, SweepJob,
-    TrialJob, VerifyJob,
+    CheckJob, CoreJob, EncodeJob, FourNames, GenJob, Job, Members, Recipe, RouteJob, SearchJob,
+    SweepJob, TrialJob, VerifyJob,
 };
 pub use limits::{
     BUDGET_DEFAULT, BUDGET_LIMIT, GENERATED_NETS_LIMIT, MEMBER_LIMIT, SEED_DEFAULT, SEED_LIMIT,

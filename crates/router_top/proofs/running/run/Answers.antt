@@ -1,5 +1,6 @@
 use Rattle.router_words.specs.Word.{words_of}
-use Rattle.router_top.specs.Run.{Runs}
+use Rattle.router_top.specs.Run.{Runs, scene}
+use Rattle.router_top.proofs.ComeLaws.{leaves-came}
 use Rattle.router_top.proofs.CompleteLaws.{runs-complete}
 use Rattle.router_top.proofs.LeftLaws.{runs-leave}
 use Rattle.router_top.proofs.MeansLaws.{runs-mean}
@@ -22,10 +23,11 @@ returns g c =
       quiet = c.work-outcome.ensures.quiet;
       reports = c.say_report.ensures;
     } in
+    let came = leaves-came words (scene desk desk_now shelf ran.between) ran.outcome ran.leaves in
     record {
-      means = runs-mean words desk desk_now shelf shelf_now answer ran;
+      means = runs-mean words desk desk_now shelf shelf_now answer ran came;
       runs = ran;
-      files = runs-leave words desk desk_now shelf shelf_now answer ran;
-      says = runs-speak words desk desk_now shelf shelf_now answer ran;
-      complete = runs-complete words desk desk_now shelf shelf_now answer ran;
+      files = runs-leave words desk desk_now shelf shelf_now answer ran came;
+      says = runs-speak words desk desk_now shelf shelf_now answer ran came;
+      complete = runs-complete words desk desk_now shelf shelf_now answer ran came;
     }

@@ -30,3 +30,8 @@ pub returns-in-Ok-Trial-clause-leaves : goal.returns-in-Ok-Trial-clause-leaves
 returns-in-Ok-Trial-clause-leaves g c =
     let asked = rw c.in-Ok-Trial.field-0-is at c.in-Ok-Trial.ensures.answers in
     inr (rw asked (c.trial.ensures, refl))
+
+pub returns-in-Ok-Core-clause-leaves : goal.returns-in-Ok-Core-clause-leaves
+returns-in-Ok-Core-clause-leaves g c =
+    let asked = rw c.in-Ok-Core.field-0-is at c.in-Ok-Core.ensures.answers in
+    inr (rw asked c.work_on-in-Ok-Core.ensures.leaves)

@@ -7,7 +7,7 @@ use Rattle.router_words.specs.Form.{is_form}
 use Rattle.router_words.specs.Taken.{HasRequired}
 use Rattle.router_words.specs.Word.{words_of}
 use Rattle.router_words.specs.declared.command_name.CommandName.{CommandName}
-use Rattle.router_words.specs.declared.command_name.CommandName.TheVariants.{Check, Encode, Gen, Route, Sweep, Trial, Verify}
+use Rattle.router_words.specs.declared.command_name.CommandName.TheVariants.{Check, Core, Encode, Gen, Route, Sweep, Trial, Verify}
 use Rattle.router_words.proofs.read.read_command.Goals as goal
 
 forms : (command : CommandName) → is_form (row_of command).form ≡ true
@@ -15,6 +15,7 @@ unfolding clap_on_literals
 forms Route = refl
 forms Sweep = refl
 forms Encode = refl
+forms Core = refl
 forms Check = refl
 forms Verify = refl
 forms Gen = refl

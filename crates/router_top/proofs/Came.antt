@@ -1,0 +1,131 @@
+-- What the work of a run has come to, whatever its words ask for. The laws on runs go by these four
+-- kinds; which of them a job comes to is said in one place.
+use Rattle.std.proofs.Common.{◌≡◌, ℕ, ◌≤◌, List, [], ◌∷◌, ◌++◌, length, take, Ok, Result}
+use Rattle.std.specs.Prelude.{◌⊎◌}
+use Rattle.desk_io.specs.Files.{Bytes, HasRisen}
+use Rattle.desk_io.specs.ShelfState.{ShelfState}
+use Rattle.fpga_types.specs.Given.{IsGiven}
+use Rattle.fpga_types.specs.declared.limits.TheConstants.{WIDTH_LIMIT}
+use Rattle.fpga_types.specs.declared.route.RouteText.{RouteText}
+use Rattle.route_sweep.specs.Found.{HasFew}
+use Rattle.route_sweep.specs.declared.found.Found.{Found}
+use Rattle.route_sweep.specs.declared.found.Found.TheVariants.{Refuted}
+use Rattle.route_sweep.specs.declared.found.Stop.{Stop}
+use Rattle.sat_clause.specs.Step.{Step}
+use Rattle.sat_clause.specs.declared.limits.TheConstants.{CLAUSE_LIMIT}
+use Rattle.router_words.specs.Word.{Word}
+use Rattle.router_top.specs.Comes.{ComesTo, lower_files}
+use Rattle.router_top.specs.Files.{WritesFiles}
+use Rattle.router_top.specs.JobFiles.{AreFilesOf, IsClimb, LeavesWhole, files_in, in_slots}
+use Rattle.router_top.specs.Means.{Means}
+use Rattle.router_top.specs.Method.{clauses_by}
+use Rattle.router_top.specs.Outcomes.{found_outcome}
+use Rattle.router_top.specs.Run.{Scene}
+use Rattle.router_top.specs.Saying.{HasNoLead, IsLead, Leads, more_said}
+use Rattle.router_top.specs.Search.{clauses_held}
+use Rattle.router_top.specs.SearchFiles.{proof_files, route_file}
+use Rattle.router_top.specs.Truth.{IsTrueOf, IsTrueOfSearch}
+use Rattle.router_top.specs.Work.{Finds}
+use Rattle.router_top.specs.Written.{AreWritten, NamedText, with_files}
+use Rattle.router_top.specs.declared.outcome.Outcome.{Outcome}
+use Rattle.router_top.specs.declared.outcome.Outcome.TheVariants.{Done, Unroutable, WriteFault, OutOfMemory}
+use Rattle.router_top.specs.declared.slot.Slot.{Slot}
+use Rattle.router_top.specs.declared.slot.Slot.TheVariants.{Said}
+use Rattle.router_top.proofs.WrittenLaws.{AreApart}
+
+-- no fault of the shelf, and no width that is unroutable
+abbrev pub IsSpared : Outcome → Type 0
+IsSpared (WriteFault slot) = ⊥
+IsSpared (Unroutable width) = ⊥
+IsSpared outcome = Unit {0}
+
+-- no fault of what is said
+abbrev pub IsHeard : Outcome → Type 0
+IsHeard (WriteFault Said) = ⊥
+IsHeard outcome = Unit {0}
+
+-- none of these slots is of what is said
+abbrev pub AreHeard : List Slot → Type 0
+AreHeard [] = Unit {0}
+AreHeard (slot ∷ slots) = IsHeard (WriteFault slot) × AreHeard slots
+
+-- something kept the run from its work, or it judged a file: nothing was written
+pub record IsIdle (words : List Word) (at : Scene) (o : Outcome) : Type 0 where
+  pub same : at.shelf_now ≡ at.shelf
+  pub spared : IsSpared o
+  pub leads : HasNoLead words o
+  pub means : Means words at.desk.files at.shelf.files at.shelf_now.files o
+  pub told : ¬ HasRisen at.desk.faults at.desk_now.faults
+      → IsTrueOf words at.desk.files o ⊎ (o ≡ OutOfMemory)
+
+-- the problem was given; a search came to a width with the files of lower ones alone, all names
+-- differ, and this was found there, which is the outcome; only at the last width is that a
+-- refutation
+pub record HasCome (words : List Word) (at : Scene) (o : Outcome) : Type 0 where
+  pub width : ℕ
+  pub comes : ComesTo words at.desk.files width
+  pub given : IsGiven comes.p
+  pub narrow : width ≤ WIDTH_LIMIT
+  pub room : HasFew (clauses_by comes.search.method width comes.p)
+      → clauses_held comes.search width comes.p ≤ CLAUSE_LIMIT
+  pub between : ShelfState
+  pub lower : between.files ≡ with_files (lower_files comes) at.shelf.files
+  pub calm : between.faults ≡ at.shelf.faults
+  pub climbs : (between.files ≡ at.shelf.files) ⊎ IsClimb words
+  pub route_apart : (found : RouteText)
+      → AreApart (lower_files comes ++ route_file comes.search found ∷ [])
+  pub proof_apart : (log : List Step)
+      → AreApart (lower_files comes ++ proof_files comes.search comes.p width log)
+  pub came : Result Found Stop
+  pub finds : Finds comes.search comes.p width between at.shelf_now came
+  pub last : came ≡ Ok Refuted → width ≡ comes.search.last
+  pub is : o ≡ found_outcome width came
+  pub told : (outcome : Outcome) → IsTrueOfSearch comes.search comes.p outcome
+      → IsTrueOf words at.desk.files outcome
+
+-- a scene that ends with this shelf
+abbrev pub ended_with : ShelfState → Scene → Scene
+ended_with shelf at = record at { shelf_now = shelf }
+
+-- a search left its files so, and beside them a lead was said
+pub record HasSearched (words : List Word) (at : Scene) (o : Outcome) : Type 0 where
+  pub wrote : ShelfState
+  pub come : HasCome words (ended_with wrote at) o
+  pub files : at.shelf_now.files ≡ wrote.files
+  pub faults : at.shelf_now.faults ≡ wrote.faults
+  pub lead : Bytes
+  pub leads : Leads words at.desk.files at.shelf.files at.shelf_now.files o lead
+  pub said : at.shelf_now.said ≡ more_said at.shelf.said lead
+
+-- files were written in silence, one after the other, or not all of them
+pub record HasWritten (words : List Word) (at : Scene) (o : Outcome) : Type 0 where
+  pub slots : List Slot
+  pub files : List NamedText
+  pub of : AreFilesOf words at.desk.files (in_slots slots files)
+  pub matched : files_in (in_slots slots files) ≡ files
+  pub apart : AreApart files
+  pub heard : AreHeard slots
+  pub writes : WritesFiles slots files at.shelf at.shelf_now o
+  pub leads : HasNoLead words o
+  pub means : o ≡ Done → AreWritten files at.shelf.files at.shelf_now.files
+      → Means words at.desk.files at.shelf.files at.shelf_now.files Done
+  pub told : IsTrueOf words at.desk.files Done
+
+-- the lead was cut, and what the work has come to by then stands whole
+pub record IsCut (words : List Word) (at : Scene) (o : Outcome) : Type 0 where
+  pub is : o ≡ WriteFault Said
+  pub whole : LeavesWhole words at.desk.files at.shelf.files at.shelf_now.files
+  pub risen : HasRisen at.shelf.faults at.shelf_now.faults
+  pub outcome : Outcome
+  pub lead : Bytes
+  pub leads : IsLead words at.desk.files at.shelf.files at.shelf_now.files outcome lead
+  pub count : ℕ
+  pub within : count ≤ length lead
+  pub said : at.shelf_now.said ≡ more_said at.shelf.said (take count lead)
+
+-- one of these
+pub data Came (words : List Word) (at : Scene) (o : Outcome) : Type 0 where
+  Idle : IsIdle words at o → Came words at o
+  Searched : HasSearched words at o → Came words at o
+  Wrote : HasWritten words at o → Came words at o
+  Cut : IsCut words at o → Came words at o
