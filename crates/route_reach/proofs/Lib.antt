@@ -23,6 +23,11 @@ mod RisingLemmas
 mod InsertLemmas
 mod NearSlots
 mod FirstLemmas
+mod OutLemmas
+mod TreeLemmas
+mod BesideLemmas
+mod GrowthLemmas
+mod StretchLemmas
 mod RowValues
 mod ReachRows
 mod DeepLemmas
@@ -37,3 +42,14 @@ mod GoodLemmas
 mod TreeRows
 mod GreatestLemmas
 mod DepthBounds
+mod LineFacts
+mod QuietKinds
+mod PrintingLemmas
+mod FrameLemmas
+mod BranchLemmas
+mod OwnLines
+mod PrintSteps
+mod EndSteps
+mod PinWires
+mod PrintedNets
+mod ApartLemmas

@@ -8,23 +8,12 @@ use Rattle.fpga_text.proofs.FaultLemmas.{first_fault-append, option_or-none}
 use Rattle.fpga_types.specs.Fit.{RouteLine, line_number, route_lines}
 use Rattle.fpga_types.specs.Problem.{RoutingProblem}
 use Rattle.fpga_types.specs.declared.route.RouteText.{RouteText}
+pub use Rattle.route_reach.specs.Quiet.{IsQuiet}
 use Rattle.route_verify.specs.Judged.{array_cause, end_cause, graph_of}
-use Rattle.route_verify.specs.Lines.{is_too_high, is_unconnected, is_unfit}
-use Rattle.route_verify.specs.Reach.{ReachLine, causes_by, is_past_reach, reach_causes, reach_judged, reach_line, reach_line_cause, repeats_wire}
+use Rattle.route_verify.specs.Reach.{causes_by, reach_causes, reach_judged, reach_line, reach_line_cause}
 use Rattle.route_verify.specs.declared.judgement.Judgement.TheVariants.{Legal}
 use Rattle.route_verify.proofs.CodeLemmas.{faultless-each, silent-codes}
 use Rattle.route_verify.proofs.LimitLemmas.{first-is-cause, legal-exactly}
-
--- none of the causes holds at a line
-pub record IsQuiet (g : GraphOf) (reach : ℕ) (at : ReachLine) : Type 0 where
-  pub connected : is_unconnected g at.line ≡ false
-  pub low : is_too_high g at.line ≡ false
-  pub alone : at.line.wire_taken ≡ false
-  pub near : at.line.stray ≡ false
-  pub new : repeats_wire at.line ≡ false
-  pub whole : at.line.fit.lacking ≡ false
-  pub fitting : is_unfit g at.line ≡ false
-  pub short : is_past_reach reach at ≡ false
 
 module _ (width reach : ℕ) (p : RoutingProblem) where
   module _ (found : RouteText) where

@@ -1,22 +1,30 @@
 //! Routing within a reach: a net may take several wires of its cells.
 #![tactic(auto)]
 
+mod branch;
 mod build;
 mod clause_row;
 mod count;
 mod each_wire;
 mod ends;
 mod far;
+mod growing;
 mod laws;
 mod near;
 mod near_table;
 mod nearby;
 mod numbers;
+mod printed;
+mod printer;
+mod printing;
+mod reach_model;
 mod rising;
 mod sinks;
 mod source;
+mod source_line;
 mod starts;
 mod trace;
+mod tree;
 mod variables;
 
 pub use build::reach_build;

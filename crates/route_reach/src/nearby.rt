@@ -90,7 +90,7 @@ fn add_slot_nearby(
 }
 
 /// The wires of these slots that the wire of a slot and a track is joined to.
-fn wires_beside(
+pub(crate) fn wires_beside(
     graph: &Graph<'_>,
     slots: &[Slot],
     width: u32,

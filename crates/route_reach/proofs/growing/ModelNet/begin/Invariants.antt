@@ -1,0 +1,11 @@
+-- the wires of the slots so far that begin are reached
+use Rattle.std.specs.Prelude.{◌-◌, ◌*◌}
+use Rattle.route_reach.specs.Growth.{Grows, HasBegun}
+use Rattle.route_reach.specs.ModelNets.{net_of}
+use Rattle.route_reach.proofs.growing.ModelNet.begin.Given as goal
+
+abbrev pub invariant-loop-slot : goal.invariant-loop-slot
+invariant-loop-slot l = record {
+  grows : Grows (net_of l.self) 0 l.initial.tree l.tree l.level.items;
+  begun : HasBegun (net_of l.self) l.tree 0 ((l.slot - l.self.first) * l.self.model.now.width);
+}
