@@ -1,11 +1,11 @@
 -- The clauses of a row of slots say that it comes to the groups of tracks in their order, and have
 -- a model together with those of a problem exactly where these have one.
-use Rattle.std.proofs.Common.{◌≡◌, ℕ, zero, suc, ◌-◌, ◌<◌, Bool, true, false, cond, List, [], ◌∷◌, length, get_or, take, refl, sym, subst, ◌∙◌, arith, All}
+use Rattle.std.proofs.Common.{◌≡◌, ℕ, zero, suc, ◌-◌, ◌<◌, Bool, true, false, cond, List, [], length, get_or, take, refl, sym, subst, ◌∙◌, arith, All}
 use Rattle.std.specs.Prelude.{◌==◌, ◌↔◌, Contains, drop, flat_map, map}
 use Rattle.std.specs.List.{enumerate_from}
 use Rattle.std.proofs.lemmas.Bool.{false≢true}
 use Rattle.std.proofs.lemmas.Bool.Decides.{Decides-eqb}
-use Rattle.std.proofs.lemmas.List.{get_or-take, length-take}
+use Rattle.std.proofs.lemmas.List.{get_or-take, get_or_default, length-take}
 use Rattle.std.proofs.lemmas.List.Elements.{All-append, All-nil}
 use Rattle.std.proofs.lemmas.Option.{get_or_from_slice_get, slice_get_within}
 use Rattle.list_laws.proofs.Members.{In, In-any, In-contains, In-flat_map, In-get, In-map, any-from_In, contains-In, from_In-flat_map, from_In-map}
@@ -38,12 +38,7 @@ from-front row i e h =
     let count = length-take i row in
     let low : c.0 < i = omega (arith, c.1, count) in
     let inside : c.0 < length row = omega (arith, c.1, count) in
-    (c.0, low, sym (get_or-take i row c.0 0 low) ∙ any-default (take i row) c.0 0 e c.1 ∙ c.2)
-  where
-    any-default : (xs : List ℕ) (k a b : ℕ) → k < length xs → get_or xs k a ≡ get_or xs k b
-    any-default [] k a b low = absurd (omega (arith, low))
-    any-default (x ∷ xs) zero a b low = refl
-    any-default (x ∷ xs) (suc k) a b low = any-default xs k a b (omega (arith, low))
+    (c.0, low, sym (get_or-take i row c.0 0 low) ∙ get_or_default (take i row) c.0 0 e c.1 ∙ c.2)
 
 to-front : (row : List ℕ) (i j : ℕ) → j < i → i < length row → In (take i row) (get_or row j 0)
 to-front row i j before low =
@@ -107,7 +102,8 @@ module _ (width : ℕ) (p : RoutingProblem) (row : List ℕ) (there : AreSlots p
         → IsTrueClause values (only_behind width earlier (track_group pattern width q) s t)
         → t ≡ track s → IsUsed tracks row i (track_group pattern width q)
     used-from q t low_q inside h e =
-        let rest : Clause = flat_map (λ e. map (has width e) (track_group pattern width q)) earlier in
+        let rest : Clause =
+        flat_map (λ e. map (has width e) (track_group pattern width q)) earlier in
         let had : says values width s t ≡ true =
         subst (λ (u : ℕ). says values width s u ≡ true) (sym e) (said-own s (in-range i low)) in
         let some = In-any (IsTrueLit values) rest (unless values width s t rest h had) in
@@ -118,7 +114,8 @@ module _ (width : ℕ) (p : RoutingProblem) (row : List ℕ) (there : AreSlots p
         let at = from-front row i of_slot.0 of_slot.1 in
         let in_row : get_or row at.0 0 < length tracks =
         in-range at.0 (omega (arith, at.1, low)) in
-        let in_slot : of_slot.0 < length tracks = subst (λ (n : ℕ). n < length tracks) at.2 in_row in
+        let in_slot : of_slot.0 < length tracks =
+        subst (λ (n : ℕ). n < length tracks) at.2 in_row in
         let true_lit : says values width of_slot.0 of_track.0 ≡ true =
         subst (IsTrueLit values) (sym of_track.2) some.2 in
         let is : of_track.0 ≡ track of_slot.0 = said-is of_slot.0 of_track.0 in_slot
@@ -134,7 +131,8 @@ module _ (width : ℕ) (p : RoutingProblem) (row : List ℕ) (there : AreSlots p
         → (t ≡ track s → IsUsed tracks row i (track_group pattern width q))
         → IsTrueClause values (only_behind width earlier (track_group pattern width q) s t)
     used-to q t low_q inside h =
-        let rest : Clause = flat_map (λ e. map (has width e) (track_group pattern width q)) earlier in
+        let rest : Clause =
+        flat_map (λ e. map (has width e) (track_group pattern width q)) earlier in
         unless-had values width s t rest (valued s t (in-range i low) inside) (λ had.
         let r = h (said-is s t (in-range i low) inside had) in
         let e : ℕ = get_or row r.0 0 in

@@ -1,7 +1,7 @@
 -- Groups of tracks in the order in which a row of slots comes to them: what it means, the clauses
 -- that say it, and that nothing is lost by them. Crawford, Ginsberg, Luks and Roy call such clauses
 -- symmetry-breaking predicates; those for values that are alike are due to Law and Lee.
-use Rattle.std.specs.Prelude.{◌↔◌, ℕ, suc, ◌-◌, ◌<◌, ◌==◌, List, [], ◌∷◌, ◌++◌, length, map, flat_map, take, drop, All, Contains, slice_index, if◌then◌else◌}
+use Rattle.std.specs.Prelude.{◌↔◌, ℕ, suc, ◌-◌, ◌<◌, ◌==◌, nat_lt, List, [], ◌∷◌, ◌++◌, length, map, filter, flat_map, take, drop, All, Contains, slice_index, if◌then◌else◌}
 use Rattle.std.specs.List.{enumerate_from}
 use Rattle.fpga_types.specs.Problem.{RoutingProblem}
 use Rattle.fpga_types.specs.Slots.{slots}
@@ -64,6 +64,14 @@ ordered_cnf width p row = record {
   clauses = (cnf_of width p).clauses
       ++ (if is_exchangeable width p then precedence p.arch.pattern width row else []);
 }
+
+-- the row where groups may change places, and none elsewhere
+abbrev pub ordered_row : ℕ → RoutingProblem → List ℕ → List ℕ
+ordered_row width p row = if is_exchangeable width p then row else []
+
+-- those of these numbers that are slots of the problem
+abbrev pub slots_among : RoutingProblem → List ℕ → List ℕ
+slots_among p row = filter (λ s. nat_lt s (length (slots p.route))) row
 
 -- some tracks make a legal routing in which the row comes to the groups in their order
 abbrev pub IsOrderedRoutableAt : ℕ → RoutingProblem → List ℕ → Type 0

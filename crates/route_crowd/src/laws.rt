@@ -2,6 +2,7 @@
 ghost use Rattle.std.specs.Prelude.{◌≡◌, ℕ, List, true};
 ghost use Rattle.fpga_types.specs.Fits.{Fits};
 ghost use Rattle.fpga_types.specs.Problem.{RoutingProblem};
+ghost use Rattle.route_crowd.specs.Crowd.{CrowdMeets};
 ghost use Rattle.route_crowd.specs.Groups.{is_exchangeable};
 ghost use Rattle.route_crowd.specs.Precedence.{AreSlots, ClausesSayOrder, OrderChangesNothing, OrderedSaysUnroutable};
 
@@ -26,4 +27,9 @@ pub fn clauses_say_order()
 pub fn ordered_says_unroutable()
     ensures { (width : ℕ) (problem : RoutingProblem) (row : List ℕ) → Fits problem
         → AreSlots problem row → OrderedSaysUnroutable width problem row }
+{}
+
+/// Of the trees of a problem's crowd each meets those before it.
+pub fn crowds_meet()
+    ensures { (problem : RoutingProblem) → CrowdMeets problem }
 {}

@@ -11,3 +11,4 @@ mod pinned_row;
 pub use full::{Asymmetry, narrow_boxes, symmetric, why_not_symmetric};
 pub use laws::{pinned_says_unroutable, pins_change_nothing};
 pub use pinned::Pinned;
+pub use pinned_cell::cells_of;
