@@ -6,7 +6,7 @@ use Rattle.fpga_text.specs.Bytes.{Bytes}
 use Rattle.fpga_text.specs.FirstFault.{first_fault}
 use Rattle.fpga_text.specs.declared.fault.TextFault.{TextFault}
 use Rattle.fpga_types.specs.Problem.{RoutingProblem}
-use Rattle.route_verify.specs.Judged.{judged}
+use Rattle.route_verify.specs.Reach.{judged_by}
 use Rattle.route_verify.specs.declared.judgement.Judgement.{Judgement}
 use Rattle.route_verify.specs.declared.judgement.Judgement.TheVariants.{Legal, NotLegal}
 
@@ -21,7 +21,7 @@ abbrev pub line_of : Option TextFault → Judgement → Bytes
 line_of None judgement = judgement_line judgement
 line_of (Some fault) judgement = codes "no route"
 
--- how a routed text is judged against the problem
-abbrev pub answer_line : (width : ℕ) → RoutingProblem → (routed : Bytes) → Bytes
-answer_line width p routed =
-    line_of (first_fault (route_faults routed)) (judged width p (route_value routed))
+-- how a routed text is judged against the problem, within a reach or without one
+abbrev pub answer_line : Option ℕ → (width : ℕ) → RoutingProblem → (routed : Bytes) → Bytes
+answer_line reach width p routed =
+    line_of (first_fault (route_faults routed)) (judged_by reach width p (route_value routed))

@@ -6,19 +6,20 @@ use fpga_bounds::PlacedProblem;
 use fpga_route::read_route;
 use fpga_text::TextFault;
 use fpga_types::WIDTH_LIMIT;
-use route_verify::{Judgement, verify};
+use route_verify::{Judgement, verify, verify_reach};
 use std::alloc::{AllocError, Global};
 
-/// The line that the routed text is answered by.
+/// The line that the routed text is answered by, within a reach or without one.
 pub(crate) fn answer(
     alloc: Global,
     problem: &PlacedProblem,
     width: u32,
+    reach: Option<u32>,
     routed: &[u8],
 ) -> Result<String, AllocError>
     requires { (1 ≤ width) × (width ≤ WIDTH_LIMIT) }
     ensures { IfOk result
-        (λ line. string_bytes line ≡ answer_line width problem.now routed.now) }
+        (λ line. string_bytes line ≡ answer_line reach width problem.now routed.now) }
 {
     let found = match read_route(alloc, routed) {
         Ok(found) => found,
@@ -27,7 +28,10 @@ pub(crate) fn answer(
             return String::from_str(alloc, "no route");
         }
     };
-    let judgement = verify(alloc, problem, width, &found)?;
+    let judgement = match reach {
+        None => verify(alloc, problem, width, &found)?,
+        Some(reach) => verify_reach(alloc, problem, width, reach, &found)?,
+    };
     told(alloc, judgement)
 }
 

@@ -1,19 +1,17 @@
-//! Prints for each row how a routing is judged of which some lines are changed.
+//! Prints for each row how a routing is judged of which some lines are changed, with a reach and
+//! without one.
 #![tactic(auto)]
 
 mod answer;
 mod changed;
 mod row;
 
-use crate::row::print_row;
+use crate::row::{Reaches, print_rows};
 use desk_io::FileDesk;
-use rows_problem::{RowsError, text};
+use rows_problem::RowsError;
 
 fn main(rt: HostRuntime) -> Result<(), RowsError> {
     let mut desk = FileDesk::new(&rt);
-    let rows = text(rt.alloc(), &mut desk, "verify.rows")?;
-    for row in rows.lines() {
-        print_row(&rt, rt.alloc(), &mut desk, row)?;
-    }
-    Ok(())
+    print_rows(&rt, rt.alloc(), &mut desk, "verify.rows", Reaches::None)?;
+    print_rows(&rt, rt.alloc(), &mut desk, "reach.rows", Reaches::Told)
 }

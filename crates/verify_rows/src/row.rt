@@ -1,16 +1,41 @@
-//! A row: a name, an architecture, a design, a routing, a width, and which lines are changed.
+//! A row: a name, an architecture, a design, a routing, a width, a reach in a table of reaches, and
+//! which lines are changed.
 use crate::answer::answer;
 use crate::changed::{Change, changed};
 use desk_io::Desk;
 use rows_problem::{RowsError, problem_of_files, text, width_of};
 use std::alloc::Global;
 
-/// Prints how the changed routing of a row is judged, behind the row's name.
-pub(crate) fn print_row<D: Desk>(
+/// Whether the rows of a table tell a reach behind their width.
+#[derive(Clone, Copy)]
+pub(crate) enum Reaches {
+    None,
+    Told,
+}
+
+/// Prints for each row of a table how its changed routing is judged.
+pub(crate) fn print_rows<D: Desk>(
+    rt: &impl Print,
+    alloc: Global,
+    desk: &mut D,
+    table: &str,
+    reaches: Reaches,
+) -> Result<(), RowsError> {
+    let rows = text(alloc, desk, table)?;
+    for row in rows.lines() {
+        print_row(rt, alloc, desk, row, reaches)?;
+    }
+    Ok(())
+}
+
+// Prints how the changed routing of a row is judged, behind the row's name: where it tells a reach,
+// within that and then without it.
+fn print_row<D: Desk>(
     rt: &impl Print,
     alloc: Global,
     desk: &mut D,
     row: &str,
+    reaches: Reaches,
 ) -> Result<(), RowsError> {
     let (head, lines) = match row.split_once('|') {
         Some((head, lines)) => (head, Some(lines)),
@@ -25,30 +50,52 @@ pub(crate) fn print_row<D: Desk>(
         println!(rt; "{name}: too few words")?;
         return Ok(());
     };
+    let reach = match reaches {
+        Reaches::None => None,
+        Reaches::Told => Some(words.next().unwrap_or("")),
+    };
     let (first, last) = (words.next().unwrap_or(""), words.next().unwrap_or(""));
     let change = Change::of(first, last, lines);
     let routed = text(alloc, desk, format!(in alloc; "{routed}.routed")?.as_str())?;
     let routed = changed(alloc, routed.as_str(), change)?;
-    let line = judged(alloc, desk, arch, design, width, routed.as_bytes())?;
+    if let Some(reach) = reach {
+        let line = judged(
+            alloc,
+            desk,
+            arch,
+            design,
+            width,
+            Some(reach),
+            routed.as_bytes(),
+        )?;
+        println!(rt; "{name} within {reach}: {line}")?;
+    }
+    let line = judged(alloc, desk, arch, design, width, None, routed.as_bytes())?;
     println!(rt; "{name}: {line}")?;
     Ok(())
 }
 
 // How the routed text is judged against the problem of the architecture and the design, at the
-// width that the word says.
+// width that the word says, within the reach that its word says or without one.
 fn judged<D: Desk>(
     alloc: Global,
     desk: &mut D,
     arch: &str,
     design: &str,
     width: &str,
+    reach: Option<&str>,
     routed: &[u8],
 ) -> Result<String, RowsError> {
     let Some(width) = width_of(width) else {
         return Ok(String::from_str(alloc, "no width")?);
     };
+    // A reach, like a width, is from 1 to 64.
+    let within = reach.and_then(width_of);
+    if reach.is_some() && within.is_none() {
+        return Ok(String::from_str(alloc, "no reach")?);
+    }
     let Ok(problem) = problem_of_files(alloc, desk, arch, design)? else {
         return Ok(String::from_str(alloc, "no problem")?);
     };
-    Ok(answer(alloc, &problem, width, routed)?)
+    Ok(answer(alloc, &problem, width, within, routed)?)
 }
