@@ -1,15 +1,14 @@
 -- The wires near a wire, by their places among all.
-use Rattle.std.proofs.Common.{◌≡◌, ℕ, ◌+◌, ◌-◌, ◌*◌, ◌/◌, ◌%◌, ◌<◌, ◌≤◌, Option, Some, None, List, length, refl, sym, ap, subst, ◌∙◌, arith}
-use Rattle.std.specs.Prelude.{filter_map, is_some, option_map}
+use Rattle.std.proofs.Common.{◌≡◌, ℕ, ◌+◌, ◌-◌, ◌*◌, ◌/◌, ◌%◌, ◌<◌, ◌≤◌, Option, Some, None, List, length, refl, sym, ap, subst, arith}
+use Rattle.std.specs.Prelude.{is_some, option_map}
 use Rattle.std.proofs.Math.Nat.{mul-le-mul_right}
 use Rattle.std.proofs.lemmas.Nat.{div-mul-add, mod-mul-add}
 use Rattle.list_laws.proofs.Members.{In, In-filter, In-filter_map, from_In-filter, from_In-filter_map}
 use Rattle.list_laws.proofs.Places.{none_is_not_some, some_is}
 use Rattle.fpga_graph.specs.GraphOf.{GraphOf}
 use Rattle.fpga_types.specs.Fabric.{meeting}
-use Rattle.fpga_types.specs.Slots.{slot_at, slots}
+use Rattle.fpga_types.specs.Slots.{slot_at}
 use Rattle.fpga_types.specs.Tracks.{mapped_track, track_across}
-use Rattle.fpga_types.specs.declared.grid.Wire.{Wire}
 use Rattle.fpga_types.specs.declared.problem.Slot.{Slot}
 use Rattle.fpga_types.proofs.MeetingLemmas.{across-joined, joined-across, meeting-found}
 use Rattle.fpga_types.proofs.TrackLemmas.{mapped-within}

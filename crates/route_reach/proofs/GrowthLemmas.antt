@@ -1,6 +1,6 @@
 -- A tree that has grown to the reach serves each sink of its net.
 use Rattle.std.proofs.Common.{◌≡◌, ℕ, zero, suc, ◌+◌, ◌-◌, ◌*◌, ◌/◌, ◌%◌, ◌^◌, ◌<◌, ◌≤◌, Bool, true, false, Option, Some, None, List, [], get_or, length, replicate, inl, inr, refl, sym, ap, subst, ◌∙◌, arith}
-use Rattle.std.specs.Prelude.{All, Contains, slice_get, slice_index_or, if◌then◌else◌}
+use Rattle.std.specs.Prelude.{All, Contains, slice_index_or, if◌then◌else◌}
 use Rattle.std.specs.List.{enumerate_from}
 use Rattle.std.specs.Option.{option_map_or}
 use Rattle.std.proofs.Math.Nat.{mod-lt, mul-le-mul_right}
@@ -31,7 +31,7 @@ use Rattle.route_reach.specs.declared.tree.Lead.TheVariants.{Pin as ByPin, Wire 
 use Rattle.route_reach.specs.declared.tree.Reached.{Reached}
 use Rattle.route_reach.proofs.BesideLemmas.{IsNumbered, from-beside, numbered, to-beside}
 use Rattle.route_reach.proofs.Chains.{from-near}
-use Rattle.route_reach.proofs.Heeds.{Heeds, satisfies-heeds, says_reached}
+use Rattle.route_reach.proofs.Heeds.{Heeds, says_reached}
 use Rattle.route_reach.proofs.TreeLemmas.{IsReachedWire, grows-with, within-kept, within-with}
 use Rattle.route_reach.proofs.Wires.{from-slots_in, reaches-is}
 
@@ -325,7 +325,8 @@ module _ (n : NetOf) (is : IsNetOf n) where
       let own = own-wire s t low ((is.stretch s low).1 (above, below)) inside in
       let at = at-tree 0 tree level s t grown own in
       let out = out-is g (wire_at all s t) e from.reaches in
-      next-wire 0 tree level s t (record { depth = 0; lead = ByPin e }) grown own (omega arith) used (
+      next-wire 0 tree level s t (record { depth = 0; lead = ByPin e }) grown own (omega arith)
+      used (
         refl,
         from.among,
         out.kind,

@@ -53,3 +53,4 @@ mod EndSteps
 mod PinWires
 mod PrintedNets
 mod ApartLemmas
+mod DecodedNets

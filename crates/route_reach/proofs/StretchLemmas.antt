@@ -146,6 +146,7 @@ pub stretch-of : (route : RouteText) (all : List Slot) (n first end : ℕ) → a
     → ((s : ℕ) → first ≤ s → s < end → (slot_at all s).net ≡ n)
     → (end < length all → (slot_at all end).net ≢ n) → IsStretch route n first end
 stretch-of route all n first end same start order within own other =
-    stretched route n first end start order (subst (λ (ss : List Slot). end ≤ length ss) same within)
+    stretched route n first end start order
+    (subst (λ (ss : List Slot). end ≤ length ss) same within)
     (λ s above low. subst (λ (ss : List Slot). (slot_at ss s).net ≡ n) same (own s above low))
     (subst (λ (ss : List Slot). end < length ss → (slot_at ss end).net ≢ n) same other)

@@ -1,11 +1,11 @@
 -- A tree with one wire more.
-use Rattle.std.proofs.Common.{◌≡◌, ◌≢◌, ◌⊎◌, ℕ, ◌+◌, ◌-◌, ◌*◌, ◌<◌, ◌≤◌, Bool, true, false, Option, Some, None, List, [], ◌∷◌, ◌++◌, length, set, inl, inr, refl, sym, ap, subst, ◌∙◌, arith, length-set}
-use Rattle.std.specs.Prelude.{◌==◌, All, Contains, is_some, slice_index_or, if◌then◌else◌}
+use Rattle.std.proofs.Common.{◌≡◌, ◌≢◌, ◌⊎◌, ℕ, ◌<◌, ◌≤◌, Bool, true, false, Option, Some, None, List, [], ◌∷◌, ◌++◌, length, set, inl, inr, refl, sym, ap, subst, ◌∙◌, arith, length-set}
+use Rattle.std.specs.Prelude.{◌==◌}
 use Rattle.std.proofs.lemmas.Bool.{false≢true}
 use Rattle.std.proofs.lemmas.Bool.Decides.{Decides-eqb}
 use Rattle.std.proofs.lemmas.List.{get_or-set_other, get_or-set_same}
 use Rattle.std.proofs.lemmas.List.Elements.{All-append}
-use Rattle.list_laws.proofs.Members.{In, In-all, In-append_left, In-append_right, In-contains, all-from_In, contains-In}
+use Rattle.list_laws.proofs.Members.{In-all, In-append_left, In-append_right, In-contains, all-from_In, contains-In}
 use Rattle.list_laws.proofs.Places.{none_is_not_some, some_is}
 use Rattle.fpga_graph.specs.GraphOf.{GraphOf}
 use Rattle.fpga_types.specs.Slots.{slot_at}
@@ -80,7 +80,8 @@ module _ (tree : TreeOf) (k : ℕ) (r : Reached) where
   from-more : k < length tree.wires → (j : ℕ) (q : Reached) → reached_at more j ≡ Some q
       → (reached_at tree j ≡ Some q) ⊎ ((k ≡ j) × (r ≡ q))
   from-more low j q is = elim (same-or-other j k) [
-    | inl same ↦ inr (sym same, some_is (sym (here-more low) ∙ ap (reached_at more) (sym same) ∙ is))
+    | inl same ↦
+        inr (sym same, some_is (sym (here-more low) ∙ ap (reached_at more) (sym same) ∙ is))
     | inr differ ↦ inl (sym (other-more j differ) ∙ is)
   ]
 

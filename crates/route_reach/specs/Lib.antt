@@ -1,4 +1,5 @@
 pub mod Counts
+pub mod Decoding
 pub mod Encoding
 pub mod Ends
 pub mod Exact

@@ -4,9 +4,11 @@ use Rattle.std.specs.Prelude.{◌≡◌, ◌↔◌, ℕ, ◌*◌, ◌<◌, ◌�
 use Rattle.std.specs.List.{list_any}
 use Rattle.std.specs.Option.{option_map_or}
 use Rattle.fpga_graph.specs.GraphOf.{GraphOf}
+use Rattle.fpga_types.specs.Fits.{Fits}
+use Rattle.fpga_types.specs.Given.{IsGiven}
 use Rattle.fpga_types.specs.Problem.{RoutingProblem}
 use Rattle.fpga_types.specs.Slots.{slot_at, slots}
-use Rattle.fpga_types.specs.declared.limits.TheConstants.{SLOT_LIMIT, WIDTH_LIMIT}
+use Rattle.fpga_types.specs.declared.limits.TheConstants.{REACH_LIMIT, SLOT_LIMIT, WIDTH_LIMIT}
 use Rattle.fpga_types.specs.declared.grid.Wire.{Wire}
 use Rattle.fpga_types.specs.declared.problem.Slot.{Slot}
 use Rattle.fpga_types.specs.declared.route.Elem.{Elem}
@@ -14,12 +16,10 @@ use Rattle.fpga_types.specs.declared.route.RouteNet.{RouteNet}
 use Rattle.sat_clause.specs.Formula.{Satisfies}
 use Rattle.route_encode.specs.Added.{graph_of}
 use Rattle.route_encode.specs.Encoding.{below}
-use Rattle.route_encode.specs.Said.{says}
 use Rattle.route_reach.specs.Encoding.{Frame, frame_of, reach_cnf, reaches, wire_at}
 use Rattle.route_reach.specs.Ends.{opin_of, outs_at}
 use Rattle.route_reach.specs.Near.{near_of, rows_of}
 use Rattle.route_reach.specs.WireClauses.{wires_beside}
-use Rattle.route_reach.specs.declared.count.TheConstants.{REACH_LIMIT}
 
 -- values for the clauses of a problem at a width, for a reach
 pub record ModelOf : Type 0 where
@@ -53,13 +53,15 @@ abbrev pub AreNear : ModelOf → List (ArrayVec ℕ) → Type 0
 AreNear m table = let p : RoutingProblem = m.problem in
     rows_of table ≡ map (near_of p.route) (below (length (slots p.route)))
 
--- the values satisfy the clauses, and the model is read by the graph, the slots, and the slots near
--- each slot
+-- the problem fits, the values satisfy the clauses, and the model is read by the graph, the slots,
+-- and the slots near each slot
 pub record IsReadBy (m : ModelOf) (g : GraphOf) (all : List Slot) (table : List (ArrayVec ℕ))
     : Type 0 where
   pub graph : g ≡ graph_in m
   pub slots : all ≡ slots_in_model m
   pub near : AreNear m table
+  pub given : IsGiven m.problem
+  pub fits : Fits m.problem
   pub limits : IsWithinLimits m
   pub satisfies : Satisfies m.values (reach_cnf m.width m.reach m.problem)
 
@@ -103,7 +105,8 @@ net_given model number net first end = record {
 -- the net is the one at its position, and its slots are these and no others
 pub record IsNetOf (n : NetOf) : Type 0 where
   pub limits : IsWithinLimits n.model
-  pub here : let p : RoutingProblem = n.model.problem in slice_get p.route.nets n.number ≡ Some n.net
+  pub here : let p : RoutingProblem = n.model.problem in
+      slice_get p.route.nets n.number ≡ Some n.net
   pub order : n.first ≤ n.end
   pub within : n.end ≤ length (slots_in_model n.model)
   pub stretch : (s : ℕ) → s < length (slots_in_model n.model)

@@ -5,11 +5,13 @@ mod branch;
 mod build;
 mod clause_row;
 mod count;
+mod decoding;
 mod each_wire;
 mod ends;
 mod far;
 mod growing;
 mod laws;
+mod method;
 mod near;
 mod near_table;
 mod nearby;
@@ -33,4 +35,5 @@ pub use laws::{
     models_say_reached, reach_covers_strict, reached_have_models, routes_read_back,
     routes_say_reached, tracks_say_reached, unsat_says_no_route, unsat_says_unreachable,
 };
+pub use method::Reach;
 pub use trace::trace_depth;

@@ -147,7 +147,7 @@ impl<'a> NetPrinter<'a> {
 }
 
 /// A name that is equal to this one.
-fn copied_name(alloc: Global, name: &Name) -> Result<Name, AllocError>
+pub(crate) fn copied_name(alloc: Global, name: &Name) -> Result<Name, AllocError>
     ensures { IfOk result (λ copy. copy ≡ name.now) }
 {
     let bytes = Vec::from_slice(alloc, name.bytes.as_slice())?;

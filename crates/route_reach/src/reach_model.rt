@@ -1,7 +1,9 @@
 //! Truth values that satisfy the clauses for a reach, and what is asked of them wire by wire.
 ghost use Rattle.std.specs.Prelude.{◌≡◌, ◌+◌, ◌*◌, ◌<◌, ◌≤◌, ℕ, false, All, IfNone, IfSome, length, map, Some, slice_get, slice_index_or};
+ghost use Rattle.fpga_types.specs.Fits.{Fits};
+ghost use Rattle.fpga_types.specs.Given.{IsGiven};
 ghost use Rattle.fpga_types.specs.Slots.{slot_at, slots};
-ghost use Rattle.fpga_types.specs.declared.limits.TheConstants.{WIDTH_LIMIT};
+ghost use Rattle.fpga_types.specs.declared.limits.TheConstants.{REACH_LIMIT, WIDTH_LIMIT};
 ghost use Rattle.fpga_types.specs.declared.route.RouteNet.{RouteNet as Net};
 ghost use Rattle.sat_clause.specs.Formula.{Satisfies};
 ghost use Rattle.route_encode.specs.Added.{graph_of};
@@ -10,7 +12,6 @@ ghost use Rattle.route_reach.specs.Encoding.{reach_cnf, wire_at};
 ghost use Rattle.route_reach.specs.Modelled.{AreNear, IsSourceOf, IsWithinLimits, graph_in, is_begun, places_beside, slots_in_model, wire_count};
 ghost use Rattle.route_reach.specs.Near.{near_of, rows_of};
 ghost use Rattle.route_reach.specs.WireClauses.{wires_beside};
-ghost use Rattle.route_reach.specs.declared.count.TheConstants.{REACH_LIMIT};
 
 use crate::far::source_row_of;
 use crate::nearby::wires_beside;
@@ -91,6 +92,22 @@ impl<'a> ReachModel<'a> {
             width,
             reach,
         }
+    }
+
+    /// The problem.
+    pub(crate) fn problem(&self) -> &'a PlacedProblem
+        ensures value { result.now ≡ self.now.problem }
+        ensures given { IsGiven self.now.problem }
+        ensures fits { Fits self.now.problem }
+    {
+        self.problem
+    }
+
+    /// The graph of its wires.
+    pub(crate) fn graph(&self) -> &Graph<'a>
+        ensures { result.now ≡ graph_in self.now }
+    {
+        &self.graph
     }
 
     /// How many tracks there are.

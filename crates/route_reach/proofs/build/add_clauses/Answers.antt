@@ -58,7 +58,8 @@ add_each_wire-requires-2-clause-room c =
     let wires : ℕ = c.args.sinks.now.variables.wires in
     let n = wires-are wires w c.args.sinks.now.numbers.now
     (slots p.route) c.args.sinks.now.wires c.requires.numbers in
-    let f3 = subst (λ (cs : List Clause). Adds c.add_starts.new.formula cs c.add_each_wire.new.formula)
+    let f3 = subst (λ (cs : List Clause).
+    Adds c.add_starts.new.formula cs c.add_each_wire.new.formula)
     (sym (used-for w r p wires n)) c.add_each_wire.ensures in
     subst (HasRoom c.add_each_wire.new.formula) (stays-for w r p wires n)
     (fourth-room (sinks w r p) (starts w r p) (used w r p) (stays w r p) (comes w r p) (apart w r p)
@@ -73,9 +74,11 @@ add_nearby-requires-clause-room c =
     let wires : ℕ = c.args.sinks.now.variables.wires in
     let n = wires-are wires w c.args.sinks.now.numbers.now
     (slots p.route) c.args.sinks.now.wires c.requires.numbers in
-    let f3 = subst (λ (cs : List Clause). Adds c.add_starts.new.formula cs c.add_each_wire.new.formula)
+    let f3 = subst (λ (cs : List Clause).
+    Adds c.add_starts.new.formula cs c.add_each_wire.new.formula)
     (sym (used-for w r p wires n)) c.add_each_wire.ensures in
-    let f4 = subst (λ (cs : List Clause). Adds c.add_each_wire.new.formula cs c.add_each_wire-2.new.formula)
+    let f4 = subst (λ (cs : List Clause).
+    Adds c.add_each_wire.new.formula cs c.add_each_wire-2.new.formula)
     (sym (stays-for w r p wires n)) c.add_each_wire-2.ensures in
     fifth-room (sinks w r p) (starts w r p) (used w r p) (stays w r p) (comes w r p) (apart w r p)
     c.args.formula.now c.requires.room c.add_sinks.new.formula c.add_sinks.ensures
@@ -90,9 +93,11 @@ add_apart_tracks-requires-clause-room c =
     let wires : ℕ = c.args.sinks.now.variables.wires in
     let n = wires-are wires w c.args.sinks.now.numbers.now
     (slots p.route) c.args.sinks.now.wires c.requires.numbers in
-    let f3 = subst (λ (cs : List Clause). Adds c.add_starts.new.formula cs c.add_each_wire.new.formula)
+    let f3 = subst (λ (cs : List Clause).
+    Adds c.add_starts.new.formula cs c.add_each_wire.new.formula)
     (sym (used-for w r p wires n)) c.add_each_wire.ensures in
-    let f4 = subst (λ (cs : List Clause). Adds c.add_each_wire.new.formula cs c.add_each_wire-2.new.formula)
+    let f4 = subst (λ (cs : List Clause).
+    Adds c.add_each_wire.new.formula cs c.add_each_wire-2.new.formula)
     (sym (stays-for w r p wires n)) c.add_each_wire-2.ensures in
     rw c.requires.chains (subst (HasRoom c.add_nearby.new.formula) (apart-for w r p)
     (sixth-room (sinks w r p) (starts w r p) (used w r p) (stays w r p) (comes w r p) (apart w r p)
@@ -108,9 +113,11 @@ returns c =
     let wires : ℕ = c.args.sinks.now.variables.wires in
     let n = wires-are wires w c.args.sinks.now.numbers.now
     (slots p.route) c.args.sinks.now.wires c.requires.numbers in
-    let f3 = subst (λ (cs : List Clause). Adds c.add_starts.new.formula cs c.add_each_wire.new.formula)
+    let f3 = subst (λ (cs : List Clause).
+    Adds c.add_starts.new.formula cs c.add_each_wire.new.formula)
     (sym (used-for w r p wires n)) c.add_each_wire.ensures in
-    let f4 = subst (λ (cs : List Clause). Adds c.add_each_wire.new.formula cs c.add_each_wire-2.new.formula)
+    let f4 = subst (λ (cs : List Clause).
+    Adds c.add_each_wire.new.formula cs c.add_each_wire-2.new.formula)
     (sym (stays-for w r p wires n)) c.add_each_wire-2.ensures in
     let last = rw c.requires.chains at c.add_apart_tracks.ensures in
     let f6 = subst (λ (cs : List Clause). Adds c.add_nearby.new.formula cs

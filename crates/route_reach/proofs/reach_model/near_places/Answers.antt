@@ -1,7 +1,6 @@
-use Rattle.std.proofs.Common.{◌≡◌, ◌*◌, ◌<◌, List, length, subst, arith}
+use Rattle.std.proofs.Common.{◌*◌, ◌<◌, List, length, subst, arith}
 use Rattle.std.specs.Prelude.{All}
 use Rattle.fpga_types.specs.Problem.{RoutingProblem}
-use Rattle.fpga_types.specs.Slots.{slots}
 use Rattle.fpga_types.specs.declared.problem.Slot.{Slot}
 use Rattle.route_reach.proofs.NearbyLemmas.{near-within, table-long, table-row}
 use Rattle.route_reach.proofs.reach_model.near_places.Goals as goal

@@ -1,9 +1,7 @@
-use Rattle.std.proofs.Common.{◌≡◌, ◌<◌, Bool, true, false, Option, Some, None, List, length, get_or, refl, sym, arith}
-use Rattle.std.specs.Prelude.{All, IfSome, filter_map}
+use Rattle.std.proofs.Common.{◌<◌, List, length, get_or, arith}
 use Rattle.list_laws.proofs.Members.{In-get}
 use Rattle.fpga_bounds.proofs.LineLemmas.{NO_ELEM}
 use Rattle.fpga_types.specs.declared.route.Elem.{Elem}
-use Rattle.route_reach.specs.Ends.{opin_of}
 use Rattle.route_reach.proofs.OutLemmas.{known-out}
 use Rattle.route_reach.proofs.source_line.source_line.Goals as goal
 

@@ -1,4 +1,3 @@
-use Rattle.std.proofs.Common.{◌<◌, ◌≤◌, ℕ}
 use Rattle.fpga_types.specs.Problem.{RoutingProblem}
 use Rattle.route_reach.proofs.StretchLemmas.{stretch-of}
 use Rattle.route_reach.proofs.growing.ModelNet.at.Goals as goal

@@ -1,4 +1,4 @@
-use Rattle.std.proofs.Common.{◌+◌, ◌-◌, ◌*◌, ◌≤◌, ◌<◌, ℕ, arith}
+use Rattle.std.proofs.Common.{◌+◌, ◌-◌, ◌*◌, ℕ}
 use Rattle.route_reach.specs.ModelNets.{net_of}
 use Rattle.route_reach.specs.Modelled.{NetOf}
 use Rattle.route_reach.proofs.GrowthLemmas.{begun-both, begun-kept, begun-none, begun-whole}

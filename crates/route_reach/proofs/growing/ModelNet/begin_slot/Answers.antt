@@ -1,4 +1,4 @@
-use Rattle.std.proofs.Common.{◌≡◌, ◌+◌, ◌-◌, ◌*◌, ◌≤◌, ◌<◌, ℕ, false, sym, ap, ◌∙◌, arith}
+use Rattle.std.proofs.Common.{◌≡◌, ◌+◌, ◌-◌, ◌*◌, ◌<◌, ℕ, false, sym, ◌∙◌, arith}
 use Rattle.route_reach.specs.ModelNets.{net_of}
 use Rattle.route_reach.specs.Modelled.{NetOf, is_begun}
 use Rattle.route_reach.proofs.GrowthLemmas.{begun-far, begun-kept, begun-next, begun-row}
@@ -17,8 +17,8 @@ loop-track-preserved-then-not-row-track c =
     let n : NetOf = net_of c.args.self.now in
     let is = c.args.self.now.is in
     let t : ℕ = c.loop-track.track in
-    let inside : t < n.model.width = omega (arith, c.loop-track-test.true, c.width-track-end.ensures)
-    in
+    let inside : t < n.model.width =
+    omega (arith, c.loop-track-test.true, c.width-track-end.ensures) in
     let far : is_begun n.model c.args.slot t ≡ false =
     sym (c.source_row-row.ensures t) ∙ c.if-not-row-track.true in
     record {

@@ -1,6 +1,5 @@
 use Rattle.std.proofs.Common.{◌≡◌, ◌+◌, ◌-◌, ◌*◌, ◌<◌, ℕ, true, sym, ap, ◌∙◌, length, arith}
 use Rattle.std.specs.Prelude.{slice_get}
-use Rattle.fpga_types.specs.Slots.{slot_at}
 use Rattle.route_encode.specs.Said.{says}
 use Rattle.route_reach.specs.ModelNets.{net_of}
 use Rattle.route_reach.specs.Modelled.{ModelOf, NetOf, slots_in_model}

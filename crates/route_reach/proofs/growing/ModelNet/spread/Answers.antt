@@ -1,5 +1,4 @@
-use Rattle.std.proofs.Common.{◌≡◌, ◌+◌, ◌<◌, ℕ, List, get_or, length, take, refl, arith}
-use Rattle.std.specs.Prelude.{All}
+use Rattle.std.proofs.Common.{◌≡◌, ◌+◌, ℕ, List, get_or, length, take, refl, arith}
 use Rattle.list_laws.proofs.FrontParts.{all-front, all-next, all-whole}
 use Rattle.list_laws.proofs.Members.{In-all, In-get}
 use Rattle.list_laws.proofs.Places.{get-there}

@@ -1,10 +1,9 @@
-use Rattle.std.proofs.Common.{◌≡◌, ◌+◌, ◌-◌, ◌*◌, ◌<◌, ℕ, true, sym, ap, ◌∙◌, length, arith}
-use Rattle.std.specs.Prelude.{slice_index_or}
+use Rattle.std.proofs.Common.{◌+◌, ◌-◌, ◌*◌, ℕ, sym, ap, ◌∙◌}
 use Rattle.list_laws.proofs.Members.{In-contains}
 use Rattle.route_reach.specs.ModelNets.{net_of}
-use Rattle.route_reach.specs.Modelled.{ModelOf, NetOf, places_beside, slots_in_model}
+use Rattle.route_reach.specs.Modelled.{NetOf, places_beside}
 use Rattle.route_reach.specs.Tree.{tree_slot, tree_track}
-use Rattle.route_reach.proofs.GrowthLemmas.{Spreads, near-wire, spread-unused, spread-with}
+use Rattle.route_reach.proofs.GrowthLemmas.{Spreads, near-wire, spread-with}
 use Rattle.route_reach.proofs.growing.ModelNet.spread_to.Goals as goal
 
 pub is_used-requires : goal.is_used-requires

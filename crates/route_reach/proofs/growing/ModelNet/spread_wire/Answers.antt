@@ -1,7 +1,5 @@
-use Rattle.std.proofs.Common.{◌≡◌, ◌+◌, ◌-◌, ◌*◌, ◌≤◌, ◌<◌, ℕ, List, get_or, length, take, refl, sym, ap, ◌∙◌, arith}
-use Rattle.std.specs.Prelude.{All}
+use Rattle.std.proofs.Common.{◌≡◌, ◌+◌, ℕ, List, get_or, length, take, refl, ◌∙◌, arith}
 use Rattle.list_laws.proofs.FrontParts.{all-front, all-next, all-whole}
-use Rattle.list_laws.proofs.Members.{In-get, contains-In}
 use Rattle.list_laws.proofs.Places.{get-there}
 use Rattle.route_reach.specs.Growth.{IsSpreadTo}
 use Rattle.route_reach.specs.ModelNets.{net_of}

@@ -1,4 +1,4 @@
-use Rattle.std.proofs.Common.{◌≡◌, ◌+◌, ◌<◌, ◌≤◌, ℕ, subst, arith}
+use Rattle.std.proofs.Common.{◌≡◌, ◌+◌, ℕ, subst, arith}
 use Rattle.std.specs.Prelude.{All}
 use Rattle.route_reach.specs.Growth.{IsGrown, IsSpreadFrom}
 use Rattle.route_reach.specs.ModelNets.{net_of}
