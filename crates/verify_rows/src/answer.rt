@@ -1,11 +1,13 @@
 //! How a routed text is judged, as a row is answered.
 ghost use Rattle.std.specs.Prelude.{◌≡◌, ◌≤◌, IfOk, string_bytes};
+ghost use Rattle.fpga_types.specs.Sound.{IsSound};
+ghost use Rattle.route_verify.specs.Reach.{judged_by};
 ghost use Rattle.verify_rows.specs.Line.{answer_line, judgement_line};
 
 use fpga_bounds::PlacedProblem;
 use fpga_route::read_route;
 use fpga_text::TextFault;
-use fpga_types::WIDTH_LIMIT;
+use fpga_types::{RouteText, WIDTH_LIMIT};
 use route_verify::{Judgement, verify, verify_reach};
 use std::alloc::{AllocError, Global};
 
@@ -28,11 +30,27 @@ pub(crate) fn answer(
             return String::from_str(alloc, "no route");
         }
     };
-    let judgement = match reach {
-        None => verify(alloc, problem, width, &found)?,
-        Some(reach) => verify_reach(alloc, problem, width, reach, &found)?,
-    };
+    let judgement = judge(alloc, problem, width, reach, &found)?;
     told(alloc, judgement)
+}
+
+// How the routed file is judged.
+fn judge(
+    alloc: Global,
+    problem: &PlacedProblem,
+    width: u32,
+    reach: Option<u32>,
+    found: &RouteText,
+) -> Result<Judgement, AllocError>
+    requires width { (1 ≤ width) × (width ≤ WIDTH_LIMIT) }
+    requires found { IsSound found.now }
+    ensures { IfOk result
+        (λ judgement. judgement ≡ judged_by reach width problem.now found.now) }
+{
+    match reach {
+        None => verify(alloc, problem, width, found),
+        Some(reach) => verify_reach(alloc, problem, width, reach, found),
+    }
 }
 
 // The line of a judgement.

@@ -90,10 +90,13 @@ fn judged<D: Desk>(
         return Ok(String::from_str(alloc, "no width")?);
     };
     // A reach, like a width, is from 1 to 64.
-    let within = reach.and_then(width_of);
-    if reach.is_some() && within.is_none() {
-        return Ok(String::from_str(alloc, "no reach")?);
-    }
+    let within = match reach {
+        None => None,
+        Some(word) => match width_of(word) {
+            Some(reach) => Some(reach),
+            None => return Ok(String::from_str(alloc, "no reach")?),
+        },
+    };
     let Ok(problem) = problem_of_files(alloc, desk, arch, design)? else {
         return Ok(String::from_str(alloc, "no problem")?);
     };
