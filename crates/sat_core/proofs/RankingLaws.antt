@@ -91,6 +91,13 @@ ranked_decided w order v some ranked =
     ranked_taken w.vars (e ∷ w.trail) order v some (value_assumed w.trail e)
     (ranked_more (e ∷ w.trail) (value_stays (e ∷ []) w.trail) ranked)
 
+-- a literal is decided whose variable stays held
+pub ranked_assumed : (w : WatchState) (order : OrderState) (l : Lit) → IsRanked w.vars w.trail order →
+    IsRanked (assumed l w).vars (assumed l w).trail order
+ranked_assumed w order l ranked =
+    let e : TrailEntry = record { lit = l; level = suc w.level; reason = None } in
+    ranked_more (e ∷ w.trail) (value_stays (e ∷ []) w.trail) ranked
+
 -- one is held fewer
 pub held_fewer : (held : List Bool) (i : ℕ) → get_or held i false ≡ true →
     held_count (set held i false) < held_count held

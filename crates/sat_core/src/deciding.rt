@@ -1,12 +1,13 @@
 //! Decisions over watches, one after another.
 
-ghost use Rattle.std.specs.Prelude.{◌≡◌, ◌<◌, ◌≤◌, IfNone, IfOk, IfSome, None, false, length, true};
+ghost use Rattle.std.specs.Prelude.{◌≡◌, ◌+◌, ◌<◌, ◌≤◌, IfNone, IfOk, IfSome, None, false, length, true};
 ghost use Rattle.sat_clause.specs.Trail.{IsClosed};
 ghost use Rattle.sat_core.specs.Deciding.{AreValuesOf, GoesOn, IsDecided, IsFalse};
 ghost use Rattle.sat_core.specs.Ranking.{IsRanked, held_count};
 ghost use Rattle.sat_watch.specs.Trail.{lits_of};
 ghost use Rattle.sat_watch.specs.Watches.{IsSettledAt};
 
+use crate::again::Again;
 use crate::ranking::Ranking;
 use sat_arena::ClauseRef;
 use sat_clause::{Lit, VARIABLE_LIMIT};
@@ -37,9 +38,38 @@ fn decide(ranking: &mut Ranking, watches: &mut Watches) -> bool
     false
 }
 
-/// Decides variable after variable, in the order of the ranking and each as true, until a clause is
-/// false, whose reference it gives, or each variable has a value.
-pub(crate) fn decide_on(ranking: &mut Ranking, watches: &mut Watches) -> Option<ClauseRef>
+/// Decides a variable as true: the first open one of those that are decided again, or else the one
+/// that stands first in the ranking. False where each variable has a value.
+fn decide_next(again: &mut Again, ranking: &mut Ranking, watches: &mut Watches, vars: u32) -> bool
+    requires vars { vars ≡ watches.old.vars }
+    requires ranked { IsRanked watches.old.vars watches.old.trail ranking.old }
+    requires few { watches.old.vars ≤ VARIABLE_LIMIT }
+    requires empty { watches.old.queued ≡ 0 }
+    requires quiet { watches.old.due ≡ None }
+    ensures decided { result ≡ true → IsDecided watches.old watches.new }
+    ensures fewer { result ≡ true
+        → held_count ranking.new.held + again.new < held_count ranking.old.held + again.old }
+    ensures ranked { IsRanked watches.new.vars watches.new.trail ranking.new }
+    ensures closed { result ≡ false → IsClosed watches.old.vars (lits_of watches.old.trail) }
+    ensures same { result ≡ false → watches.new ≡ watches.old }
+{
+    if let Some(l) = again.take_open(watches, vars) {
+        watches.assume(l);
+        return true;
+    }
+    decide(ranking, watches)
+}
+
+/// Decides variable after variable of the variables 1 to `vars`, each as true, first those that are
+/// decided again and then in the order of the ranking, until a clause is false, whose reference it
+/// gives, or each variable has a value.
+pub(crate) fn decide_on(
+    again: &mut Again,
+    ranking: &mut Ranking,
+    watches: &mut Watches,
+    vars: u32,
+) -> Option<ClauseRef>
+    requires vars { vars ≡ watches.old.vars }
     requires ranked { IsRanked watches.old.vars watches.old.trail ranking.old }
     requires few { watches.old.vars ≤ VARIABLE_LIMIT }
     requires quiet { watches.old.due ≡ None }
@@ -54,7 +84,7 @@ pub(crate) fn decide_on(ranking: &mut Ranking, watches: &mut Watches) -> Option<
         if let Some(c) = watches.propagate(&mut looks) {
             return Some(c);
         }
-        if !decide(ranking, watches) {
+        if !decide_next(again, ranking, watches, vars) {
             return None;
         }
     }

@@ -2,6 +2,7 @@
 //! by turn.
 #![tactic(auto)]
 
+mod again;
 mod analysis;
 mod answer;
 mod bumping;

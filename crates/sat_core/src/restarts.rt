@@ -9,12 +9,17 @@ use std::marker::Model;
 /// A term of Luby's sequence stands for so many conflicts.
 const UNIT: u64 = 64;
 
+/// One in so many restarts begins anew.
+const ANEW: u32 = 4;
+
 /// The restarts of a search: the k-th comes where so many conflicts more as 64 times the k-th term
 /// of Luby's sequence are behind the one before.
 #[derive(Drop)]
 pub(crate) struct Restarts {
     terms: Luby,
     next: u64,
+    // how many restarts came since one began anew
+    since: u32,
 }
 
 impl Model for Restarts {
@@ -47,7 +52,11 @@ impl Restarts {
     {
         let mut terms = Luby::new();
         let next = next_wait(&mut terms);
-        Restarts { terms, next }
+        Restarts {
+            terms,
+            next,
+            since: 0,
+        }
     }
 
     /// Whether a restart is due after so many conflicts. Then the next one is looked ahead to.
@@ -63,6 +72,12 @@ impl Restarts {
         }
         let wait = next_wait(&mut self.terms);
         self.next = behind + wait;
+        self.since = self.since.wrapping_add(1) % ANEW;
         true
+    }
+
+    /// Whether the restart that came last begins anew: then nothing is decided again.
+    pub(crate) fn begins_anew(&self) -> bool {
+        self.since == 0
     }
 }

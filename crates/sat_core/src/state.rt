@@ -8,6 +8,7 @@ ghost use Rattle.sat_core.specs.Levels.{level_of, lits_of};
 ghost use Rattle.sat_core.specs.SearchStore.{AreTrue, IsLesson, IsSettledState, Learns, SameKept};
 ghost use Rattle.sat_core.specs.Stands.{StandsFor};
 
+use crate::again::Again;
 use crate::clause_list::ClauseList;
 use crate::deciding::{decide_on, values};
 use crate::forgetting::{forget_some, last_id, settle_at_start};
@@ -39,6 +40,7 @@ pub(crate) struct SearchState {
     watches: Watches,
     findings: Findings,
     ranking: Ranking,
+    again: Again,
     restarts: Restarts,
     worth: Worth,
 }
@@ -75,6 +77,7 @@ impl SearchState {
             watches,
             findings: Findings::new(alloc, formula.vars())?,
             ranking: Ranking::new(alloc, formula.vars(), seed)?,
+            again: Again::new(alloc, formula.vars())?,
             restarts: Restarts::new(),
             worth: Worth::new(alloc),
         })
@@ -95,13 +98,15 @@ impl SearchState {
         self.inputs + self.added + 1
     }
 
-    /// Goes back to level 0 where a restart is due.
+    /// Goes back to level 0 where a restart is due. What was decided is decided again, unless the
+    /// restart begins anew.
     pub(crate) fn restart_where_due(&mut self)
         ensures { SameKept self.old self.new }
     {
         if !self.restarts.is_due(self.added) {
             return;
         }
+        self.again.keep(&self.restarts, &self.watches);
         go_back(&mut self.ranking, &mut self.watches, 0);
     }
 
@@ -139,6 +144,7 @@ impl SearchState {
         ensures same { result ≢ Ok true → SameKept self.old self.new }
         ensures same_log { result ≢ Ok true → log.new.steps ≡ log.old.steps }
     {
+        self.again.keep(&self.restarts, &self.watches);
         if !settle_at_start(&mut self.ranking, &mut self.watches) {
             return Ok(false);
         }
@@ -204,7 +210,8 @@ impl SearchState {
             }
             self.attached += 1;
         }
-        let Some(c) = decide_on(&mut self.ranking, &mut self.watches) else {
+        let vars = self.aside.vars();
+        let Some(c) = decide_on(&mut self.again, &mut self.ranking, &mut self.watches, vars) else {
             return Ok(None);
         };
         let id = self.watches.id(c);
@@ -250,6 +257,7 @@ impl SearchState {
             unreachable!();
         };
         self.worth.insert(id)?;
+        self.again.clear();
         go_back(&mut self.ranking, &mut self.watches, lesson.back);
         let c = self.watches.attach(&lesson.clause, id)?;
         self.watches.imply(*last, c);

@@ -1,4 +1,4 @@
-use Rattle.std.proofs.Common.{subst, sym}
+use Rattle.std.proofs.Common.{◌∙◌, subst, sym}
 use Rattle.sat_clause.specs.Trail.{IsClosed}
 use Rattle.sat_watch.specs.Trail.{lits_of}
 use Rattle.sat_watch.specs.Watches.{IsSettledAt, WatchState}
@@ -21,40 +21,45 @@ pub returns-in-Some-clause-ranked : goal.returns-in-Some-clause-ranked
 returns-in-Some-clause-ranked c =
     ranked_propagated c.in-Some.ensures.propagates c.loop-c.invariant.ranked
 
-pub decide-requires-clause-ranked : goal.decide-requires-clause-ranked
-decide-requires-clause-ranked c =
+pub decide_next-requires-clause-ranked : goal.decide_next-requires-clause-ranked
+decide_next-requires-clause-ranked c =
     ranked_propagated c.in_default.ensures.propagates c.loop-c.invariant.ranked
 
-pub decide-requires-clause-few : goal.decide-requires-clause-few
-decide-requires-clause-few c =
+pub decide_next-requires-clause-few : goal.decide_next-requires-clause-few
+decide_next-requires-clause-few c =
     rw (c.in_default.ensures.propagates.vars, c.loop-c.invariant.goes.vars) c.requires.few
 
-pub returns-then-not-decide-clause-goes : goal.returns-then-not-decide-clause-goes
-returns-then-not-decide-clause-goes c =
-    subst (GoesOn c.args.watches.now) (sym (c.decide.ensures.same c.if-not-decide.true))
+pub returns-then-not-decide_next-clause-goes : goal.returns-then-not-decide_next-clause-goes
+returns-then-not-decide_next-clause-goes c =
+    subst (GoesOn c.args.watches.now) (sym (c.decide_next.ensures.same c.if-not-decide_next.true))
     (goes_then c.loop-c.invariant.goes (goes_propagated c.in_default.ensures.propagates))
 
-pub returns-then-not-decide-clause-settled : goal.returns-then-not-decide-clause-settled
-returns-then-not-decide-clause-settled c =
+pub returns-then-not-decide_next-clause-settled : goal.returns-then-not-decide_next-clause-settled
+returns-then-not-decide_next-clause-settled c =
     subst (λ (s : WatchState). IsSettledAt s s.level)
-    (sym (c.decide.ensures.same c.if-not-decide.true)) c.in_default.ensures.settled
+    (sym (c.decide_next.ensures.same c.if-not-decide_next.true)) c.in_default.ensures.settled
 
-pub returns-then-not-decide-clause-closed : goal.returns-then-not-decide-clause-closed
-returns-then-not-decide-clause-closed c =
+pub returns-then-not-decide_next-clause-closed : goal.returns-then-not-decide_next-clause-closed
+returns-then-not-decide_next-clause-closed c =
     subst (λ (s : WatchState). IsClosed s.vars (lits_of s.trail))
-    (sym (c.decide.ensures.same c.if-not-decide.true))
-    (c.decide.ensures.closed c.if-not-decide.true)
+    (sym (c.decide_next.ensures.same c.if-not-decide_next.true))
+    (c.decide_next.ensures.closed c.if-not-decide_next.true)
 
 pub loop-c-preserved : goal.loop-c-preserved
 loop-c-preserved c =
     let s = c.propagate.new.self in
-    let decided = c.decide.ensures.decided c.if-not-decide.false in
+    let decided = c.decide_next.ensures.decided c.if-not-decide_next.false in
     let goes : GoesOn c.args.watches.now s =
     goes_then c.loop-c.invariant.goes (goes_propagated c.in_default.ensures.propagates) in
     record {
       goes = subst (GoesOn c.args.watches.now) (sym decided.1) (goes_assumed decided.0 goes);
-      ranked = c.decide.ensures.ranked;
+      ranked = c.decide_next.ensures.ranked;
     }
 
 pub loop-c-smaller : goal.loop-c-smaller
-loop-c-smaller c = c.decide.ensures.fewer c.if-not-decide.false
+loop-c-smaller c = c.decide_next.ensures.fewer c.if-not-decide_next.false
+
+pub decide_next-requires-clause-vars : goal.decide_next-requires-clause-vars
+decide_next-requires-clause-vars c =
+    c.requires.vars ∙ sym c.loop-c.invariant.goes.vars
+    ∙ sym c.in_default.ensures.propagates.vars

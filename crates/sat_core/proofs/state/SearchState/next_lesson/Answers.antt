@@ -1,4 +1,4 @@
-use Rattle.std.proofs.Common.{◌≡◌, ◌+◌, Ok, length, add-one, ap, subst, sym, inl, inr, arith}
+use Rattle.std.proofs.Common.{◌≡◌, ◌+◌, ◌∙◌, Ok, length, add-one, ap, subst, sym, inl, inr, arith}
 use Rattle.sat_clause.specs.Trail.{IsClosed}
 use Rattle.sat_core.specs.SearchStore.{IsSearchStore, IsSearching}
 use Rattle.sat_core.specs.Start.{IsTaken}
@@ -208,6 +208,10 @@ returns-clause-lesson c =
 
 pub decide_on-requires-clause-few : goal.decide_on-requires-clause-few
 decide_on-requires-clause-few c = c.loop-self.invariant.searching.store.few_vars
+
+pub decide_on-requires-clause-vars : goal.decide_on-requires-clause-vars
+decide_on-requires-clause-vars c =
+    c.vars-vars.ensures.value ∙ c.loop-self.invariant.searching.store.same_vars
 
 pub returns-in_err-lesson-2-clause-same : goal.returns-in_err-lesson-2-clause-same
 returns-in_err-lesson-2-clause-same c =
