@@ -185,7 +185,8 @@ module _ (m : ModelOf) (n : ℕ) (net : RouteNet) (tree : TreeOf)
   pub decoded-printed : (f : NetFrame) (found : RouteNet)
       → f ≡ frame m.problem m.width m.reach n net tree → IsPrintedNet f found
       → IsDecodedNet m n net found
-  decoded-printed f found same printed = go (subst (λ (g : NetFrame). IsPrintedNet g found) same printed)
+  decoded-printed f found same printed =
+      go (subst (λ (g : NetFrame). IsPrintedNet g found) same printed)
     where
       go : IsPrintedNet (frame m.problem m.width m.reach n net tree) found
           → IsDecodedNet m n net found

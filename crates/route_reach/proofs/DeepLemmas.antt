@@ -19,7 +19,8 @@ use Rattle.route_verify.specs.Depths.{DeepLine, deep_line, deep_lines, depth_aft
 use Rattle.route_verify.proofs.DepthLemmas.{deep-are, deep-push, last-In}
 
 -- nothing more is taken past the end
-pub take-none : {A : Type 0} (xs : List A) (k : ℕ) → slice_get xs k ≡ None → take (suc k) xs ≡ take k xs
+pub take-none : {A : Type 0} (xs : List A) (k : ℕ) → slice_get xs k ≡ None
+    → take (suc k) xs ≡ take k xs
 take-none [] zero h = refl
 take-none [] (suc k) h = refl
 take-none (x ∷ xs) zero h = cc
@@ -95,7 +96,8 @@ module _ (g : GraphOf) (from : List PinAt) (set : List Wire) (same : Elem → El
         let front : take k elems ≡ take f.0 elems ++ a ∷ [] =
         ap (λ (n : ℕ). take n elems) f.1 ∙ take-get elems f.0 a f.3 in
         let at_end : last_or None (map (λ (line : DeepLine). line.elem) seen) ≡ Some a =
-        ap (last_or None) (deep-are same (take k elems) ∙ front) ∙ last-push None (take f.0 elems) a in
+        ap (last_or None) (deep-are same (take k elems) ∙ front) ∙ last-push None (take f.0 elems) a
+        in
         let last = last-made (λ (line : DeepLine). line.elem) None seen a at_end in
         let at_e : slice_get elems (suc f.0) ≡ Some e = ap (slice_get elems) (sym f.1) ∙ at in
         let depth_is : depth_behind same seen e ≡ depth_after same seen last.0 e =

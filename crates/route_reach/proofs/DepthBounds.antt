@@ -247,7 +247,8 @@ module _ (p : RoutingProblem) (sound : IsSound p.route) (fits : Fits p) (n : ℕ
           → AreBelow (length (so_far (suc k))) (deep_lines same_elem (take (suc k) net.elems))
       go None is below =
           let same : take (suc k) net.elems ≡ take k net.elems = take-none net.elems k is in
-          subst (λ (xs : List Elem). AreBelow (length (slots_of (earlier ++ record net { elems = xs } ∷ []))) (deep_lines same_elem xs))
+          subst (λ (xs : List Elem). AreBelow
+          (length (slots_of (earlier ++ record net { elems = xs } ∷ []))) (deep_lines same_elem xs))
           (sym same) below
       go (Some e) is below = λ line among d has.
           let all : deep_lines same_elem (take (suc k) net.elems)
@@ -281,7 +282,8 @@ module _ (p : RoutingProblem) (sound : IsSound p.route) (fits : Fits p) (n : ℕ
     where
       go : (o : Option Elem) → slice_get net.elems k ≡ o → length (so_far 0) ≤ length (so_far k)
           → length (so_far 0) ≤ length (so_far (suc k))
-      go None is less = subst (λ (xs : List Elem). length (so_far 0) ≤ length (slots_of (earlier ++ record net { elems = xs } ∷ [])))
+      go None is less = subst (λ (xs : List Elem). length (so_far 0)
+          ≤ length (slots_of (earlier ++ record net { elems = xs } ∷ [])))
           (sym (take-none net.elems k is)) less
       go (Some e) is less = let more = never-fewer k e is in omega arith
 

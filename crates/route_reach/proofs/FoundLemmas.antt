@@ -90,7 +90,8 @@ pub channel-no_source : (k : ElemKind) → is_source k ≡ true → is_channel k
 channel-no_source Source h is = false≢true is
 channel-no_source k h is = false≢true h
 
-pub channel-others : (k : ElemKind) → is_channel k ≡ true → (is_ipin k ≡ false) × (is_sink k ≡ false)
+pub channel-others : (k : ElemKind) → is_channel k ≡ true → (is_ipin k ≡ false)
+    × (is_sink k ≡ false)
 channel-others ChanX h = (refl, refl)
 channel-others ChanY h = (refl, refl)
 channel-others k h = absurd (false≢true h)

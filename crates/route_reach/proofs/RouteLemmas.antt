@@ -158,7 +158,8 @@ module _ (width reach : ℕ) (p : RoutingProblem) (sound : IsSound p.route) (fit
           ap (λ (es : List Elem). list_all (has_sink es) (sinks_named p other.name)) none
           ∙ not-false _ lacks)
       | inr r ↦
-          (let quiet_last = quiet width reach p sound found good n net other here there r.0 r.1 r.2 in
+          (let quiet_last = quiet width reach p sound found good n net other here there r.0 r.1 r.2
+          in
           let lacks : not (list_all (has_sink elems) (sinks_named p other.name)) ≡ false =
           sym ((λ k. not (ordinary_here k) && length (r.3 k) == 0
           && not (list_all (has_sink (take r.0 elems ++ r.1 ∷ [])) (sinks_named p other.name)))
@@ -289,7 +290,8 @@ module _ (width reach : ℕ) (p : RoutingProblem) (sound : IsSound p.route) (fit
         && option_map_or (λ (b : Elem). is_ipin b.kind) (before k) false
         && option_map_or (λ e. nat_lt reach e) (at_pin k) false)
         ∙ (λ k. sink k && ipin k && nat_lt reach d))
-        ∙ (quiet width reach p sound found good n net other here there (suc (suc i)) y at_y).short in
+        ∙ (quiet width reach p sound found good n net other here there (suc (suc i)) y at_y).short
+        in
         at_most reach d past
       where
         at_most : (m k : ℕ) → nat_lt m k ≡ false → k ≤ m

@@ -126,7 +126,8 @@ module _ (width reach : ℕ) (p : RoutingProblem) (sound : IsSound p.route) (fit
         (last_or None (take i elems)) (is_source e.kind)) in
         let rest : Bool = length (drop (suc i) elems) == 0 && not (is_sink e.kind) in
         let both : (test || rest) ≡ false =
-        sym (ap (λ (b : Bool). not b && (test || rest)) (ordinary i e at)) ∙ (elem-fits i e at).order
+        sym (ap (λ (b : Bool). not b && (test || rest)) (ordinary i e at)) ∙
+        (elem-fits i e at).order
         in
         not-false _ (or_parts test rest both).0
 

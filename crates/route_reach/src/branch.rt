@@ -18,8 +18,8 @@ use fpga_types::{Axis, Elem, ElemKind, Label, Slot};
 use std::alloc::AllocError;
 
 impl<'a> NetPrinter<'a> {
-    /// Prints on, from the first line on the way that is printed already, up to a wire. There are at
-    /// most so many calls in one another as joins within the reach, and one.
+    /// Prints on, from the first line on the way that is printed already, up to a wire. There are
+    /// at most so many calls in one another as joins within the reach, and one.
     pub(crate) fn come_to_wire(&self, printed: &mut Printed, k: usize) -> Result<(), AllocError>
         requires is { IsPrinter self.now }
         requires reached { (r : ReachedOf) × (reached_at self.now.tree.now k ≡ Some r) }

@@ -43,7 +43,8 @@ pub read-line : (earlier : List RouteNet) (net : RouteNet) (elems : List Elem) (
       wire_taken = wire_taken;
       depth = depth;
     }) seen (elem_line earlier net i (get_or elems i NO_ELEM))
-read-line earlier net elems i previous again taken wire_again wire_taken depth seen own within p a t w
+read-line earlier net elems i previous again taken wire_again wire_taken depth seen own within p a t
+    w
     v d has = record {
       route = line-of earlier net elems i (slots_so_far earlier net i) previous again taken _ seen
           own within refl p a t refl has;

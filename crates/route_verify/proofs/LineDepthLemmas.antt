@@ -109,7 +109,8 @@ apart tracked q e channel other = go (same_by tracked q e) refl
         absurd (false≢true (sym other ∙ ap is_channel (sym same.kind) ∙ channel))
 
 -- one channel line more where the table has its key, and where it has not
-module _ (tracked : Bool) (m : BTreeMap ElemKey (Option ℕ)) (lines : List DeepLine) (line : DeepLine)
+module _ (tracked : Bool) (m : BTreeMap ElemKey (Option ℕ)) (lines : List DeepLine)
+    (line : DeepLine)
     (channel : is_channel line.elem.kind ≡ true) (before : AreFirsts tracked m lines) where
   more : (q : Elem) → first_equal tracked (lines ++ line ∷ []) q
       ≡ option_or (first_equal tracked lines q)

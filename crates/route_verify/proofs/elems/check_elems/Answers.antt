@@ -48,7 +48,8 @@ returns-in-Some-clause-refused c =
     (elem_line c.args.earlier.now c.args.net.now i e) c.requires.rules
     (read-line c.args.earlier.now c.args.net.now elems i c.loop-i.previous
     c.is_seen-again.result c.is_taken.result c.is_on-wire_again.result c.is_on.result
-    c.last_but_one-depth.result c.see.new.seen c.as_slice-elems.ensures lt c.loop-i.invariant.previous
+    c.last_but_one-depth.result c.see.new.seen c.as_slice-elems.ensures lt
+    c.loop-i.invariant.previous
     (c.is_seen-again.ensures ∙ c.loop-i.invariant.seen e)
     (c.is_taken.ensures ∙ c.requires.taken.pins e)
     (c.is_on-wire_again.ensures
@@ -59,7 +60,8 @@ returns-in-Some-clause-refused c =
     c.loop-i.invariant.tracked)
     (λ q. c.in-Ok.ensures q ∙ ap (λ (b : Bool). b || same_elem q e) (c.loop-i.invariant.seen q)
     ∙ sym (list_any_more (same_elem q) elems i NO_ELEM lt))) in
-    refused-elem (line_cause_by c.args.rules.now.reach c.args.rules.now.width c.args.rules.now.problem) _
+    refused-elem (line_cause_by c.args.rules.now.reach c.args.rules.now.width
+    c.args.rules.now.problem) _
     c.args.earlier.now
     c.args.net.now i e there c.loop-i.invariant.past c.in-Some.fault
     (found-fault _ _ (sym c.in-Some.is ∙ cause))
@@ -76,7 +78,8 @@ loop-i-preserved c =
     (elem_line c.args.earlier.now c.args.net.now i e) c.requires.rules
     (read-line c.args.earlier.now c.args.net.now elems i c.loop-i.previous
     c.is_seen-again.result c.is_taken.result c.is_on-wire_again.result c.is_on.result
-    c.last_but_one-depth.result c.see.new.seen c.as_slice-elems.ensures lt c.loop-i.invariant.previous
+    c.last_but_one-depth.result c.see.new.seen c.as_slice-elems.ensures lt
+    c.loop-i.invariant.previous
     (c.is_seen-again.ensures ∙ c.loop-i.invariant.seen e)
     (c.is_taken.ensures ∙ c.requires.taken.pins e)
     (c.is_on-wire_again.ensures
@@ -89,7 +92,8 @@ loop-i-preserved c =
     ∙ sym (list_any_more (same_elem q) elems i NO_ELEM lt))) in
     record {
       elems = c.loop-i.invariant.elems;
-      past = past-elem (line_cause_by c.args.rules.now.reach c.args.rules.now.width c.args.rules.now.problem) _
+      past = past-elem (line_cause_by c.args.rules.now.reach c.args.rules.now.width
+      c.args.rules.now.problem) _
           c.args.earlier.now
           c.args.net.now i e there c.loop-i.invariant.past (sym cause ∙ c.in_default-cause.is);
       previous = rw (add-one, take-get elems i e here) (sym (last-push None (take i elems) e));
@@ -104,7 +108,8 @@ loop-i-preserved c =
 
 pub returns-clause-legal : goal.returns-clause-legal
 returns-clause-legal c =
-    past-elems (line_cause_by c.args.rules.now.reach c.args.rules.now.width c.args.rules.now.problem) _
+    past-elems (line_cause_by c.args.rules.now.reach c.args.rules.now.width
+    c.args.rules.now.problem) _
     c.args.earlier.now c.args.net.now c.loop-i.i
     (get-none c.args.net.now.elems c.loop-i.i (rw (← c.as_slice-elems.ensures) (omega arith)))
     c.loop-i.invariant.past

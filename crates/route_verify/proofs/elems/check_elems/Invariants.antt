@@ -17,7 +17,8 @@ invariant-loop-i l = record {
   elems : l.elems ≡ l.net.elems;
   past : IsPast
       (elems_faults (line_cause_by l.rules.reach l.rules.width l.rules.problem) l.earlier l.net 0)
-      (elems_faults (line_cause_by l.rules.reach l.rules.width l.rules.problem) l.earlier l.net l.i);
+      (elems_faults (line_cause_by l.rules.reach l.rules.width l.rules.problem) l.earlier l.net
+      l.i);
   previous : l.previous ≡ last_or None (take l.i l.elems);
   seen : (e : Elem) → has_elem l.seen e ≡ list_any (same_elem e) (take l.i l.elems);
   tracked : l.depths.tracked ≡ true;

@@ -6,4 +6,5 @@ use Rattle.route_verify.proofs.laws.legal_without_causes.Goals as goal
 
 pub returns : goal.returns
 returns c = λ width problem found.
-    legal-exactly (first_fault (causes width problem found)) (first-is-cause None width problem found)
+    legal-exactly (first_fault (causes width problem found))
+    (first-is-cause None width problem found)

@@ -19,7 +19,8 @@ returns-in-Err-clause-answers c =
     let within : c.loop-n.n < length nets = omega arith in
     let here : slice_get nets c.loop-n.n ≡ Some net =
     slice_get_read nets (length nets) c.loop-n.n net refl within c.index-nets-n.is in
-    refused-head (line_cause_by c.args.judge.now.reach c.args.judge.now.width c.args.judge.now.problem) _ nets
+    refused-head (line_cause_by c.args.judge.now.reach c.args.judge.now.width
+    c.args.judge.now.problem) _ nets
     c.loop-n.n net here
     c.loop-n.invariant.past c.in-Err.fault
     (c.in-Err.ensures.answers (take c.loop-n.n nets) c.loop-n.invariant.lined)
@@ -37,7 +38,8 @@ returns-in-Err-check_elems-clause-answers c =
     let here : slice_get nets c.loop-n.n ≡ Some net =
     slice_get_read nets (length nets) c.loop-n.n net refl within c.index-nets-n.is in
     let head = c.in-Ok.ensures.answers (take c.loop-n.n nets) c.loop-n.invariant.lined in
-    refused-elems (line_cause_by c.args.judge.now.reach c.args.judge.now.width c.args.judge.now.problem) _ nets
+    refused-elems (line_cause_by c.args.judge.now.reach c.args.judge.now.width
+    c.args.judge.now.problem) _ nets
     c.loop-n.n net here
     c.loop-n.invariant.past head.0 c.in-Err-check_elems.fault
     (subst (λ (of : JudgedNet). IsRefusal
@@ -55,11 +57,13 @@ loop-n-preserved c =
     let more : take (c.loop-n.n + 1) nets ≡ take c.loop-n.n nets ++ net ∷ [] =
     rw add-one (take-get nets c.loop-n.n net here) in
     record {
-      past = past-net (line_cause_by c.args.judge.now.reach c.args.judge.now.width c.args.judge.now.problem) _ nets
+      past = past-net (line_cause_by c.args.judge.now.reach c.args.judge.now.width
+      c.args.judge.now.problem) _ nets
           c.loop-n.n net here
           c.loop-n.invariant.past head.0
           (subst (λ (of : JudgedNet). IsFaultless
-          (elems_faults (line_cause_by of.reach of.width of.problem) (take c.loop-n.n nets) net 0)) head.1
+          (elems_faults (line_cause_by of.reach of.width of.problem) (take c.loop-n.n nets) net 0))
+          head.1
           c.in_default.ensures.legal);
       taken = subst (AreTaken c.add.new.self) (sym more)
           (c.in-Ok-add.ensures (take c.loop-n.n nets) c.loop-n.invariant.taken);
@@ -72,7 +76,8 @@ pub returns-clause-answers : goal.returns-clause-answers
 returns-clause-answers c =
     let nets : List RouteNet = c.args.nets.now in (
       c.loop-n.invariant.past.same ∙ ap first_fault
-          (nets-none (line_cause_by c.args.judge.now.reach c.args.judge.now.width c.args.judge.now.problem) nets c.loop-n.n
+          (nets-none (line_cause_by c.args.judge.now.reach c.args.judge.now.width
+          c.args.judge.now.problem) nets c.loop-n.n
           (get-none nets c.loop-n.n (omega arith))),
       tt,
     )

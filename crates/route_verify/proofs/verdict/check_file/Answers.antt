@@ -12,5 +12,6 @@ returns c =
     (sym (c.behind-judge.view_is ∙ c.design.ensures))
     ∙ sym c.is_one_size.ensures ∙ c.if-not-is_one_size.false in
     answers-past _ c.check_lines.result
-    (past-array-line c.args.judge.now.reach c.args.judge.now.width c.args.judge.now.problem c.args.found.now same)
+    (past-array-line c.args.judge.now.reach c.args.judge.now.width c.args.judge.now.problem
+    c.args.found.now same)
     c.check_lines.ensures

@@ -14,9 +14,11 @@ use Rattle.route_verify.proofs.verdict.check_lines.Goals as goal
 
 pub returns-in-Err : goal.returns-in-Err
 returns-in-Err c =
-    refused-lines c.args.judge.now.reach c.args.judge.now.width c.args.judge.now.problem c.args.found.now c.in-Err.fault
+    refused-lines c.args.judge.now.reach c.args.judge.now.width c.args.judge.now.problem
+    c.args.found.now c.in-Err.fault
     (subst (λ (nets : List RouteNet). IsRefusal (nets_faults
-    (line_cause_by c.args.judge.now.reach c.args.judge.now.width c.args.judge.now.problem) nets 0) c.in-Err.fault)
+    (line_cause_by c.args.judge.now.reach c.args.judge.now.width c.args.judge.now.problem) nets 0)
+    c.in-Err.fault)
     c.as_slice.ensures c.in-Err.ensures.answers)
 
 pub returns-then-lacks_net : goal.returns-then-lacks_net
@@ -28,9 +30,11 @@ returns-then-lacks_net c =
     let lined = subst (λ (nets : List RouteNet). HasNetLines c.args.judge.now.problem.netlist.nets
     c.check_nets.new.marks nets) c.as_slice.ensures c.in_default.ensures.marked in
     subst (λ (fault : TextFault). IsRefusal
-    (lines_causes c.args.judge.now.reach c.args.judge.now.width c.args.judge.now.problem c.args.found.now) fault)
+    (lines_causes c.args.judge.now.reach c.args.judge.now.width c.args.judge.now.problem
+    c.args.found.now) fault)
     (sym c.at.ensures)
-    (refused-at-end c.args.judge.now.reach c.args.judge.now.width c.args.judge.now.problem c.args.found.now clean
+    (refused-at-end c.args.judge.now.reach c.args.judge.now.width c.args.judge.now.problem
+    c.args.found.now clean
     (ap (list_any (lacks_line nets)) (sym c.names.ensures)
     ∙ sym (c.lacks_net.ensures nets (subst (λ (names : List Net). HasNetLines names
     c.check_nets.new.marks nets) (sym c.names.ensures) lined))
@@ -44,7 +48,8 @@ returns c =
     c.as_slice.ensures c.in_default.ensures.answers.0 in
     let lined = subst (λ (nets : List RouteNet). HasNetLines c.args.judge.now.problem.netlist.nets
     c.check_nets.new.marks nets) c.as_slice.ensures c.in_default.ensures.marked in (
-      clean-at-end c.args.judge.now.reach c.args.judge.now.width c.args.judge.now.problem c.args.found.now clean
+      clean-at-end c.args.judge.now.reach c.args.judge.now.width c.args.judge.now.problem
+      c.args.found.now clean
           (ap (list_any (lacks_line nets)) (sym c.names.ensures)
           ∙ sym (c.lacks_net.ensures nets (subst (λ (names : List Net). HasNetLines names
           c.check_nets.new.marks nets) (sym c.names.ensures) lined))

@@ -19,7 +19,8 @@ returns-in_default-clause-answers c = λ earlier has.
     let at : c.at.result ≡ Bad c.args.net.now.line 807 = search rules in
     subst (IsFaultOf (line_cause_by c.args.self.now.reach c.args.self.now.width
     c.args.self.now.problem (head_line earlier c.args.net.now))) (sym at)
-    (head-unknown c.args.self.now.reach c.args.self.now.width c.args.self.now.problem earlier c.args.net.now none)
+    (head-unknown c.args.self.now.reach c.args.self.now.width c.args.self.now.problem earlier
+    c.args.net.now none)
 
 pub returns-clause-marked : goal.returns-clause-marked
 returns-clause-marked c = λ earlier has.

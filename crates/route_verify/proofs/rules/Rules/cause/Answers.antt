@@ -17,5 +17,6 @@ returns c = λ line named is.
       stray = c.is_stray.result;
       depth = c.args.at.depth;
     })))
-    ∙ by-rules c.args.at c.args.seen.now line is c.args.self.now.reach c.args.self.now.width (net_of c.args.self.now)
+    ∙ by-rules c.args.at c.args.seen.now line is c.args.self.now.reach c.args.self.now.width
+    (net_of c.args.self.now)
     c.is_stray.result named c.is_stray.ensures
