@@ -8,6 +8,7 @@ mod EndLaws
 mod FourLaws
 mod GeneratedLaws
 mod LeftLaws
+mod LimitRows
 mod LiteralLaws
 mod MeansLaws
 mod MethodLaws

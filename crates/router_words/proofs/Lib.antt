@@ -1,2 +1,3 @@
+mod LimitRows
 pub mod RequiredWords
 pub mod Rows
