@@ -7,7 +7,7 @@ use Rattle.router_words.specs.Job.{Blames, Checks, Encodes, FilesAsked, Generate
 use Rattle.router_words.specs.Word.{Word}
 use Rattle.router_words.specs.declared.fault.Refusal.{Refusal}
 use Rattle.router_words.specs.declared.fault.Refusal.TheVariants.{Clash, Command, Form, Number}
-use Rattle.router_words.specs.declared.method.Method.TheVariants.{Pinned, Strictly}
+use Rattle.router_words.specs.declared.method.Method.TheVariants.{Pinned, Strictly, Within}
 
 abbrev Asked : Type 0
 Asked = Result JobAsked Refusal
@@ -151,6 +151,31 @@ pub pinned : route (codes "--pin" ∷ codes "5" ∷ codes "out" ∷ [])
 unfolding clap_on_literals
 pinned = refl
 
+-- a route within a reach
+pub reaches : route (codes "5" ∷ codes "out" ∷ codes "--reach=01" ∷ [])
+    ≡ Ok (Routes (record {
+      files = four_files;
+      search = record (told 5 (codes "out") 1_000_000 false) { method = Within 1 };
+      members = None;
+    }))
+unfolding clap_on_literals
+reaches = refl
+
+pub no_reach : route (codes "5" ∷ codes "out" ∷ codes "--reach=0" ∷ []) ≡ Err Number
+unfolding clap_on_literals
+no_reach = refl
+
+pub route_pins_and_reaches : route (codes "5" ∷ codes "out" ∷ codes "--reach=1" ∷ codes "--pin" ∷ [])
+    ≡ Err Clash
+unfolding clap_on_literals
+route_pins_and_reaches = refl
+
+-- a number that is out of range is told before options that exclude each other
+pub no_members_pin_and_reach : route (codes "5" ∷ codes "out" ∷ codes "--reach=1" ∷ codes "--pin"
+    ∷ codes "--members=0" ∷ []) ≡ Err Number
+unfolding clap_on_literals
+no_members_pin_and_reach = refl
+
 -- `sweep a n p r` and more words
 abbrev sweep : List Word → Asked
 sweep more = job_of (codes "sweep" ∷ codes "a" ∷ codes "n" ∷ codes "p" ∷ codes "r" ∷ more)
@@ -162,6 +187,19 @@ pub sweeps : sweep (codes "8" ∷ codes "out" ∷ codes "--conflicts" ∷ codes 
     }))
 unfolding clap_on_literals
 sweeps = refl
+
+pub sweep_reaches : sweep (codes "8" ∷ codes "out" ∷ codes "--reach" ∷ codes "2" ∷ [])
+    ≡ Ok (Sweeps (record {
+      files = four_files;
+      search = record (told 8 (codes "out") 1_000_000 false) { method = Within 2 };
+    }))
+unfolding clap_on_literals
+sweep_reaches = refl
+
+pub sweep_pins_and_reaches : sweep (codes "8" ∷ codes "out" ∷ codes "--pin" ∷ codes "--reach=2" ∷ [])
+    ≡ Err Clash
+unfolding clap_on_literals
+sweep_pins_and_reaches = refl
 
 pub too_many_widths : sweep (codes "65" ∷ codes "out" ∷ []) ≡ Err Number
 unfolding clap_on_literals
@@ -183,7 +221,6 @@ pub encode_pins : job_of (codes "encode" ∷ codes "a" ∷ codes "n" ∷ codes "
       width = 5;
       prefix = codes "out";
       method = Pinned;
-      reach = None;
     }))
 unfolding clap_on_literals
 encode_pins = refl
@@ -198,8 +235,7 @@ pub encode_reaches : encode (codes "--reach" ∷ codes "64" ∷ [])
       files = four_files;
       width = 5;
       prefix = codes "out";
-      method = Strictly;
-      reach = Some 64;
+      method = Within 64;
     }))
 unfolding clap_on_literals
 encode_reaches = refl
@@ -245,9 +281,24 @@ pub verifies : verify (codes "64" ∷ codes "f" ∷ [])
       files = four_files;
       width = 64;
       routed = codes "f";
+      reach = None;
     }))
 unfolding clap_on_literals
 verifies = refl
+
+pub verifies_within : verify (codes "5" ∷ codes "f" ∷ codes "--reach=64" ∷ [])
+    ≡ Ok (Verifies (record {
+      files = four_files;
+      width = 5;
+      routed = codes "f";
+      reach = Some 64;
+    }))
+unfolding clap_on_literals
+verifies_within = refl
+
+pub verifies_too_far : verify (codes "5" ∷ codes "f" ∷ codes "--reach=65" ∷ []) ≡ Err Number
+unfolding clap_on_literals
+verifies_too_far = refl
 
 pub no_routed : verify (codes "5" ∷ []) ≡ Err Form
 unfolding clap_on_literals
@@ -294,3 +345,12 @@ pub tries : job_of (codes "trial" ∷ codes "1" ∷ codes "6" ∷ codes "30" ∷
     }))
 unfolding clap_on_literals
 tries = refl
+
+pub tries_within : job_of (codes "trial" ∷ codes "1" ∷ codes "6" ∷ codes "30" ∷ codes "10"
+    ∷ codes "t" ∷ codes "--reach" ∷ codes "3" ∷ [])
+    ≡ Ok (Tries (record {
+      recipe = record { seed = 1; side = 6; nets = 30 };
+      search = record (told 10 (codes "t") 1_000_000 false) { method = Within 3 };
+    }))
+unfolding clap_on_literals
+tries_within = refl

@@ -19,7 +19,7 @@ use Rattle.router_words.specs.declared.fault.WordsFault.TheVariants.{Memory, Ref
 use Rattle.router_words.specs.declared.job.Job.{Job}
 use Rattle.router_words.specs.declared.limits.TheConstants.{BUDGET_DEFAULT, BUDGET_LIMIT, GENERATED_NETS_LIMIT, MEMBER_LIMIT, SEED_DEFAULT, SEED_LIMIT}
 use Rattle.router_words.specs.declared.method.Method.{Method}
-use Rattle.router_words.specs.declared.method.Method.TheVariants.{Pinned, Strictly}
+use Rattle.router_words.specs.declared.method.Method.TheVariants.{Pinned, Strictly, Within}
 
 -- ---- what stands in the matches of a form
 
@@ -60,9 +60,14 @@ conflicts_asked rows =
     option_map_or (number_within 1 BUDGET_LIMIT) (first_of (codes "conflicts") rows)
     (Ok BUDGET_DEFAULT)
 
+-- the method of words without `--pin`: within a reach, where there is one
+abbrev pub method_within : (reach : Option ℕ) → Method
+method_within None = Strictly
+method_within (Some reach) = Within reach
+
 -- the method that the words choose: with pinned tracks where `--pin` was given
-abbrev pub method_asked : List Row → Method
-method_asked rows = if has_flag (codes "pin") rows then Pinned else Strictly
+abbrev pub method_asked : (reach : Option ℕ) → List Row → Method
+method_asked reach rows = if has_flag (codes "pin") rows then Pinned else method_within reach
 
 -- WIDTH PREFIX [--conflicts N] [--keep], or with MAX, by a method
 abbrev pub search_asked : Method → List Row → Result SearchAsked Refusal
@@ -133,23 +138,32 @@ pub record CommandRow : Type 0 where
   pub form : App
   pub job : List Row → Result JobAsked Refusal
 
--- what `route` is asked for
+-- WIDTH PREFIX [--conflicts N] [--keep] [--reach L] [--pin], or with MAX
+abbrev pub search_by_method : List Row → Result SearchAsked Refusal
+search_by_method rows =
+    and_then (reach_asked rows) (λ reach. search_asked (method_asked reach rows) rows)
+
+-- what `route` is asked for: pinned tracks and a reach exclude each other
 abbrev pub route_asked : List Row → Result JobAsked Refusal
 route_asked rows =
-    and_then (search_asked (method_asked rows) rows) (λ search.
-    map_ok (λ members. Routes (record {
+    and_then (search_by_method rows) (λ search.
+    and_then (members_asked rows) (λ members.
+    if pins_within_reach rows then Err Clash else Ok (Routes (record {
       files = files_asked rows;
       search = search;
       members = members;
-    })) (members_asked rows))
+    }))))
 
--- what `sweep` is asked for
+-- what `sweep` is asked for: the same
 abbrev pub sweep_asked : List Row → Result JobAsked Refusal
 sweep_asked rows =
-    map_ok (λ search. Sweeps (record { files = files_asked rows; search = search }))
-    (search_asked (method_asked rows) rows)
+    and_then (search_by_method rows) (λ search.
+    if pins_within_reach rows then Err Clash else Ok (Sweeps (record {
+      files = files_asked rows;
+      search = search;
+    })))
 
--- what `encode` is asked for: pinned tracks and a reach exclude each other
+-- what `encode` is asked for: the same
 abbrev pub encode_asked : List Row → Result JobAsked Refusal
 encode_asked rows =
     and_then (width_asked rows) (λ width.
@@ -158,8 +172,7 @@ encode_asked rows =
       files = files_asked rows;
       width = width;
       prefix = word_in (codes "prefix") rows;
-      method = method_asked rows;
-      reach = reach;
+      method = method_asked reach rows;
     }))))
 
 -- what `core` is asked for
@@ -180,11 +193,14 @@ check_asked rows =
 
 -- what `verify` is asked for
 abbrev pub verify_asked : List Row → Result JobAsked Refusal
-verify_asked rows = map_ok (λ width. Verifies (record {
-  files = files_asked rows;
-  width = width;
-  routed = word_in (codes "routed") rows;
-})) (width_asked rows)
+verify_asked rows =
+    and_then (width_asked rows) (λ width.
+    map_ok (λ reach. Verifies (record {
+      files = files_asked rows;
+      width = width;
+      routed = word_in (codes "routed") rows;
+      reach = reach;
+    })) (reach_asked rows))
 
 -- what `gen` is asked for
 abbrev pub gen_asked : List Row → Result JobAsked Refusal
@@ -196,8 +212,9 @@ gen_asked rows = map_ok
 abbrev pub trial_asked : List Row → Result JobAsked Refusal
 trial_asked rows =
     and_then (recipe_asked rows) (λ recipe.
+    and_then (reach_asked rows) (λ reach.
     map_ok (λ search. Tries (record { recipe = recipe; search = search }))
-    (search_asked Strictly rows))
+    (search_asked (method_within reach) rows)))
 
 abbrev pub route_row : CommandRow
 route_row = record { name = codes "route"; form = route_form; job = route_asked }

@@ -48,10 +48,11 @@ with_files form =
 abbrev pub with_width_and_prefix : App → App
 with_width_and_prefix form = with_word (codes "prefix") (with_word (codes "width") form)
 
--- WIDTH PREFIX [--conflicts N] [--keep], or with MAX
+-- WIDTH PREFIX [--conflicts N] [--keep] [--reach L], or with MAX
 abbrev pub with_search : App → App
 with_search form =
-    with_flag (codes "keep") (with_option (codes "conflicts") (with_width_and_prefix form))
+    with_option (codes "reach") (with_flag (codes "keep")
+    (with_option (codes "conflicts") (with_width_and_prefix form)))
 
 -- SEED NX NETS
 abbrev pub with_recipe : App → App
@@ -60,7 +61,7 @@ with_recipe form =
 
 -- ---- the forms
 
--- ARCH NET PLACE ROUTE WIDTH PREFIX [--conflicts N] [--keep] [--pin]
+-- ARCH NET PLACE ROUTE WIDTH PREFIX [--conflicts N] [--keep] [--reach L] [--pin]
 abbrev pub search_form : Word → App
 search_form name = with_flag (codes "pin") (with_search (with_files (empty_form name)))
 
@@ -88,16 +89,16 @@ core_form =
 abbrev pub check_form : App
 check_form = with_word (codes "lrat") (with_word (codes "cnf") (empty_form (codes "check")))
 
--- ARCH NET PLACE ROUTE WIDTH ROUTED
+-- ARCH NET PLACE ROUTE WIDTH ROUTED [--reach L]
 abbrev pub verify_form : App
-verify_form = with_word (codes "routed") (with_word (codes "width")
-    (with_files (empty_form (codes "verify"))))
+verify_form = with_option (codes "reach") (with_word (codes "routed") (with_word (codes "width")
+    (with_files (empty_form (codes "verify")))))
 
 -- SEED NX NETS PREFIX
 abbrev pub gen_form : App
 gen_form = with_word (codes "prefix") (with_recipe (empty_form (codes "gen")))
 
--- SEED NX NETS MAX PREFIX [--conflicts N] [--keep]
+-- SEED NX NETS MAX PREFIX [--conflicts N] [--keep] [--reach L]
 abbrev pub trial_form : App
 trial_form = with_search (with_recipe (empty_form (codes "trial")))
 

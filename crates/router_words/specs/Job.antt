@@ -51,15 +51,13 @@ pub record SweepAsked : Type 0 where
   pub files : FilesAsked
   pub search : SearchAsked
 
--- to write the clauses: the files, the width, what the name of the written file begins with, how
--- routings are said by clauses, and within how many joins a net is to reach its sinks, where it may
--- take several wires of a cell
+-- to write the clauses: the files, the width, what the name of the written file begins with, and
+-- how routings are said by clauses
 pub record EncodeAsked : Type 0 where
   pub files : FilesAsked
   pub width : ℕ
   pub prefix : Word
   pub method : Method
-  pub reach : Option ℕ
 
 -- to look for a routing, or else for the nets to blame: the files, the width, what the names of
 -- written files begin with, and how many clauses may be learned
@@ -74,11 +72,14 @@ pub record CheckAsked : Type 0 where
   pub cnf : Word
   pub lrat : Word
 
--- to judge a routed file: the files of the problem, the width, and the name of the routed file
+-- to judge a routed file: the files of the problem, the width, the name of the routed file, and
+-- within how many joins of wires a net is to reach its sinks, where it may have several wires of a
+-- cell
 pub record VerifyAsked : Type 0 where
   pub files : FilesAsked
   pub width : ℕ
   pub routed : Word
+  pub reach : Option ℕ
 
 -- what a generated problem is made from: a number, how many logic blocks each side of its array
 -- has, and how many nets it has
@@ -147,7 +148,6 @@ encode_said job = record {
   width = job.width;
   prefix = job.prefix.now;
   method = job.method;
-  reach = job.reach;
 }
 
 abbrev pub core_said : CoreJob → CoreAsked
@@ -166,6 +166,7 @@ verify_said job = record {
   files = files_said job.files;
   width = job.width;
   routed = job.routed.now;
+  reach = job.reach;
 }
 
 abbrev pub recipe_said : Recipe → RecipeAsked

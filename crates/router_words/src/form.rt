@@ -66,13 +66,14 @@ fn add_width_and_prefix<'a>(alloc: Global, command: Command<'a>) -> Result<Comma
     add_word(alloc, command, "prefix")
 }
 
-// With the width and the prefix, and what a search may be told.
+// With the width and the prefix, and what each search may be told.
 fn add_search<'a>(alloc: Global, command: Command<'a>) -> Result<Command<'a>, AllocError>
     ensures { IfOk result (λ c. app_of c ≡ with_search (app_of command.entry)) }
 {
     let command = add_width_and_prefix(alloc, command)?;
     let command = add_option(alloc, command, "conflicts")?;
-    add_flag(alloc, command, "keep")
+    let command = add_flag(alloc, command, "keep")?;
+    add_option(alloc, command, "reach")
 }
 
 // With what a generated problem is made from.
@@ -84,8 +85,8 @@ fn add_recipe<'a>(alloc: Global, command: Command<'a>) -> Result<Command<'a>, Al
     add_word(alloc, command, "nets")
 }
 
-/// ARCH NET PLACE ROUTE WIDTH PREFIX [--conflicts N] [--keep] [--pin], behind this name of a
-/// command.
+/// ARCH NET PLACE ROUTE WIDTH PREFIX [--conflicts N] [--keep] [--reach L] [--pin], behind this name
+/// of a command.
 pub fn search_command<'a>(alloc: Global, name: &'a str) -> Result<Command<'a>, AllocError>
     ensures { IfOk result (λ c. app_of c ≡ search_form name.entry.now) }
 {
@@ -94,7 +95,8 @@ pub fn search_command<'a>(alloc: Global, name: &'a str) -> Result<Command<'a>, A
     add_flag(alloc, command, "pin")
 }
 
-/// ARCH NET PLACE ROUTE WIDTH PREFIX [--conflicts N] [--keep] [--pin] [--members K] [--seed S]
+/// ARCH NET PLACE ROUTE WIDTH PREFIX [--conflicts N] [--keep] [--reach L] [--pin] [--members K]
+/// [--seed S]
 pub fn route_command<'a>(alloc: Global) -> Result<Command<'a>, AllocError>
     ensures { IfOk result (λ c. app_of c ≡ route_form) }
 {
@@ -130,13 +132,14 @@ pub fn check_command<'a>(alloc: Global) -> Result<Command<'a>, AllocError>
     add_word(alloc, command, "lrat")
 }
 
-/// ARCH NET PLACE ROUTE WIDTH ROUTED
+/// ARCH NET PLACE ROUTE WIDTH ROUTED [--reach L]
 pub fn verify_command<'a>(alloc: Global) -> Result<Command<'a>, AllocError>
     ensures { IfOk result (λ c. app_of c ≡ verify_form) }
 {
     let problem = add_files(alloc, named(alloc, "verify"))?;
     let command = add_word(alloc, problem, "width")?;
-    add_word(alloc, command, "routed")
+    let command = add_word(alloc, command, "routed")?;
+    add_option(alloc, command, "reach")
 }
 
 /// SEED NX NETS PREFIX
@@ -147,7 +150,7 @@ pub fn gen_command<'a>(alloc: Global) -> Result<Command<'a>, AllocError>
     add_word(alloc, command, "prefix")
 }
 
-/// SEED NX NETS MAX PREFIX [--conflicts N] [--keep]
+/// SEED NX NETS MAX PREFIX [--conflicts N] [--keep] [--reach L]
 pub fn trial_command<'a>(alloc: Global) -> Result<Command<'a>, AllocError>
     ensures { IfOk result (λ c. app_of c ≡ trial_form) }
 {

@@ -2,9 +2,10 @@
 ghost use Rattle.std.specs.Prelude.{◌≡◌, ◌≤◌, IfOk, IfSome, codes, is_some, option_map, true};
 ghost use Rattle.clap.specs.Words.{first_of, found_of, rows_of};
 ghost use Rattle.fpga_types.specs.declared.limits.TheConstants.{REACH_LIMIT, WIDTH_LIMIT};
-ghost use Rattle.router_words.specs.Command.{check_asked, conflicts_asked, core_asked, encode_asked, files_asked, gen_asked, members_asked, members_with, method_asked, number_if_any, number_within, pins_within_reach, reach_asked, recipe_asked, route_asked, search_asked, sweep_asked, trial_asked, verify_asked, width_asked, word_in};
+ghost use Rattle.router_words.specs.Command.{check_asked, conflicts_asked, core_asked, encode_asked, files_asked, gen_asked, members_asked, members_with, method_asked, method_within, number_if_any, number_within, pins_within_reach, reach_asked, recipe_asked, route_asked, search_asked, search_by_method, sweep_asked, trial_asked, verify_asked, width_asked, word_in};
 ghost use Rattle.router_words.specs.Form.{check_form, core_form, encode_form, gen_form, route_form, sweep_form, trial_form, verify_form};
 ghost use Rattle.router_words.specs.Job.{files_said, job_said, members_said, recipe_said, search_said};
+ghost use Rattle.router_words.specs.Near.{IsNear};
 ghost use Rattle.router_words.specs.Results.{map_ok};
 ghost use Rattle.router_words.specs.Taken.{HasFiles, HasRecipe, HasRequired};
 ghost use Rattle.router_words.specs.declared.limits.TheConstants.{BUDGET_LIMIT, MEMBER_LIMIT, SEED_LIMIT};
@@ -79,18 +80,33 @@ fn recipe(matches: &ArgMatches) -> Result<Recipe, Refusal>
     Ok(Recipe { seed, side, nets })
 }
 
-// The method that the words choose, of a command that takes `--pin`.
-fn method(matches: &ArgMatches) -> Method
-    ensures { result ≡ method_asked (rows_of (found_of matches.now)) }
+// The method of words without `--pin`, which have this reach, if any.
+fn method_within(reach: Option<u32>) -> Method
+    requires { IfSome reach (λ n. (1 ≤ n) × (n ≤ REACH_LIMIT)) }
+    ensures method { result ≡ method_within reach }
+    ensures near { IsNear result }
+{
+    match reach {
+        Some(reach) => Method::Within(reach),
+        None => Method::Strictly,
+    }
+}
+
+// The method that the words choose, which have this reach, if any.
+fn method(matches: &ArgMatches, reach: Option<u32>) -> Method
+    requires { IfSome reach (λ n. (1 ≤ n) × (n ≤ REACH_LIMIT)) }
+    ensures method { result ≡ method_asked reach (rows_of (found_of matches.now)) }
+    ensures near { IsNear result }
 {
     if is_given(matches, "pin") {
         return Method::Pinned;
     }
-    Method::Strictly
+    method_within(reach)
 }
 
 // What a search by a method is told, or that a number is none in its range.
 fn search<'a>(matches: &ArgMatches<'a>, method: Method) -> Result<SearchJob<'a>, Refusal>
+    requires near { IsNear method }
     requires width { is_some (first_of (codes "width") (rows_of (found_of matches.now))) ≡ true }
     requires prefix { is_some (first_of (codes "prefix") (rows_of (found_of matches.now))) ≡ true }
     ensures { map_ok search_said result ≡ search_asked method (rows_of (found_of matches.now)) }
@@ -161,13 +177,26 @@ fn pins_within_reach(matches: &ArgMatches) -> bool
     is_given(matches, "pin") && first_word(matches, "reach").is_some()
 }
 
+// What a search is told by words that choose its method, or that a number is none in its range.
+fn search_by_method<'a>(matches: &ArgMatches<'a>) -> Result<SearchJob<'a>, Refusal>
+    requires width { is_some (first_of (codes "width") (rows_of (found_of matches.now))) ≡ true }
+    requires prefix { is_some (first_of (codes "prefix") (rows_of (found_of matches.now))) ≡ true }
+    ensures { map_ok search_said result ≡ search_by_method (rows_of (found_of matches.now)) }
+{
+    let reach = reach(matches)?;
+    search(matches, method(matches, reach))
+}
+
 /// What `route` is asked for, or why its words ask for nothing.
 pub fn route_job<'a>(matches: &ArgMatches<'a>) -> Result<Job<'a>, Refusal>
     requires { HasRequired route_form (rows_of (found_of matches.now)) }
     ensures { map_ok job_said result ≡ route_asked (rows_of (found_of matches.now)) }
 {
-    let search = search(matches, method(matches))?;
+    let search = search_by_method(matches)?;
     let members = members(matches)?;
+    if pins_within_reach(matches) {
+        return Err(Refusal::Clash);
+    }
     Ok(Job::Route(RouteJob {
         files: file_names(matches),
         search,
@@ -180,7 +209,10 @@ pub fn sweep_job<'a>(matches: &ArgMatches<'a>) -> Result<Job<'a>, Refusal>
     requires { HasRequired sweep_form (rows_of (found_of matches.now)) }
     ensures { map_ok job_said result ≡ sweep_asked (rows_of (found_of matches.now)) }
 {
-    let search = search(matches, method(matches))?;
+    let search = search_by_method(matches)?;
+    if pins_within_reach(matches) {
+        return Err(Refusal::Clash);
+    }
     Ok(Job::Sweep(SweepJob {
         files: file_names(matches),
         search,
@@ -201,8 +233,7 @@ pub fn encode_job<'a>(matches: &ArgMatches<'a>) -> Result<Job<'a>, Refusal>
         files: file_names(matches),
         width,
         prefix: required_word(matches, "prefix"),
-        method: method(matches),
-        reach,
+        method: method(matches, reach),
     }))
 }
 
@@ -238,10 +269,12 @@ pub fn verify_job<'a>(matches: &ArgMatches<'a>) -> Result<Job<'a>, Refusal>
     ensures { map_ok job_said result ≡ verify_asked (rows_of (found_of matches.now)) }
 {
     let width = width(matches)?;
+    let reach = reach(matches)?;
     Ok(Job::Verify(VerifyJob {
         files: file_names(matches),
         width,
         routed: required_word(matches, "routed"),
+        reach,
     }))
 }
 
@@ -263,6 +296,7 @@ pub fn trial_job<'a>(matches: &ArgMatches<'a>) -> Result<Job<'a>, Refusal>
     ensures { map_ok job_said result ≡ trial_asked (rows_of (found_of matches.now)) }
 {
     let recipe = recipe(matches)?;
-    let search = search(matches, Method::Strictly)?;
+    let reach = reach(matches)?;
+    let search = search(matches, method_within(reach))?;
     Ok(Job::Trial(TrialJob { recipe, search }))
 }

@@ -2,6 +2,7 @@
 ghost use Rattle.std.proofs.Props.{props};
 ghost use Rattle.std.specs.Prelude.{◌≤◌, IfSome};
 ghost use Rattle.fpga_types.specs.declared.limits.TheConstants.{REACH_LIMIT, SIDE_LIMIT, WIDTH_LIMIT};
+ghost use Rattle.router_words.specs.Near.{IsNear};
 ghost use Rattle.router_words.specs.declared.limits.TheConstants.{BUDGET_LIMIT, GENERATED_NETS_LIMIT, MEMBER_LIMIT, SEED_LIMIT};
 
 use crate::method::Method;
@@ -34,6 +35,7 @@ pub struct SearchJob<'a> {
     pub method: Method,
     ghost in_range: { (1 ≤ width) × (width ≤ WIDTH_LIMIT) },
     ghost affordable: { (1 ≤ conflicts) × (conflicts ≤ BUDGET_LIMIT) },
+    ghost near: { IsNear method } by { Prim.hlevel props },
 }
 
 /// Searches that take turns over one log, in an order that is drawn.
@@ -78,11 +80,8 @@ pub struct EncodeJob<'a> {
     pub prefix: &'a str,
     /// How routings are said by clauses.
     pub method: Method,
-    /// Within how many joins a net is to reach its sinks, from 1 to 64, where it may take several
-    /// wires of a cell.
-    pub reach: Option<u32>,
     ghost in_range: { (1 ≤ width) × (width ≤ WIDTH_LIMIT) },
-    ghost near: { IfSome reach (λ n. (1 ≤ n) × (n ≤ REACH_LIMIT)) } by { Prim.hlevel props },
+    ghost near: { IsNear method } by { Prim.hlevel props },
 }
 
 /// To look for a routing, or else for the nets that stand against each other.
@@ -118,7 +117,11 @@ pub struct VerifyJob<'a> {
     pub width: u32,
     /// The name of the routed file.
     pub routed: &'a str,
+    /// Within how many joins of wires a net is to reach its sinks, from 1 to 64, where it may have
+    /// several wires of a cell.
+    pub reach: Option<u32>,
     ghost in_range: { (1 ≤ width) × (width ≤ WIDTH_LIMIT) },
+    ghost near: { IfSome reach (λ n. (1 ≤ n) × (n ≤ REACH_LIMIT)) } by { Prim.hlevel props },
 }
 
 /// What a generated problem is made from.

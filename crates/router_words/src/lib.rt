@@ -2,20 +2,20 @@
 //!
 //! | command | words behind it | options |
 //! |---|---|---|
-//! | `route` | FILES WIDTH PREFIX | `--conflicts N`, `--keep`, `--pin`, `--members K`, `--seed S` |
-//! | `sweep` | FILES MAX PREFIX | `--conflicts N`, `--keep`, `--pin` |
-//! | `encode` | FILES WIDTH PREFIX | `--pin`, `--reach L` |
+//! | `route` | FILES WIDTH PREFIX | METHOD, `--conflicts N`, `--keep`, `--members K`, `--seed S` |
+//! | `sweep` | FILES MAX PREFIX | METHOD, `--conflicts N`, `--keep` |
+//! | `encode` | FILES WIDTH PREFIX | METHOD |
 //! | `core` | FILES WIDTH PREFIX | `--conflicts N` |
 //! | `check` | CNF LRAT | |
-//! | `verify` | FILES WIDTH ROUTED | |
+//! | `verify` | FILES WIDTH ROUTED | `--reach L` |
 //! | `gen` | SEED NX NETS PREFIX | |
-//! | `trial` | SEED NX NETS MAX PREFIX | `--conflicts N`, `--keep` |
+//! | `trial` | SEED NX NETS MAX PREFIX | `--reach L`, `--conflicts N`, `--keep` |
 //!
-//! FILES are four words: ARCH NET PLACE ROUTE. WIDTH and MAX are whole numbers from 1 to 64, and N
-//! one from 1 to 100,000,000, or 1,000,000 where it is not given. SEED is one from 0 to
-//! 2,147,483,647, NX one from 1 to 100, and NETS one from 1 to 10,000. K is one from 1 to 8, and S
-//! one from 0 to 2,147,483,647, or 1 where `--members` is given alone. L is one from 1 to 64.
-//! Leading zeros are taken, signs are not.
+//! FILES are four words: ARCH NET PLACE ROUTE. METHOD is `--pin` or `--reach L`, or neither. WIDTH
+//! and MAX are whole numbers from 1 to 64, and N one from 1 to 100,000,000, or 1,000,000 where it
+//! is not given. SEED is one from 0 to 2,147,483,647, NX one from 1 to 100, and NETS one from 1 to
+//! 10,000. K is one from 1 to 8, and S one from 0 to 2,147,483,647, or 1 where `--members` is given
+//! alone. L is one from 1 to 64. Leading zeros are taken, signs are not.
 //!
 //! What stands behind the command is taken as `clap` takes it: options may stand anywhere,
 //! `--conflicts=5` is `--conflicts 5`, behind `--` no word is an option, and a word may be empty or

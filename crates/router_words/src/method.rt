@@ -8,4 +8,7 @@ pub enum Method {
     /// The same, and of one cell that the most nets take, the first net has track 0, the second
     /// track 1 and so on, as far as there are tracks. All tracks of a channel have to be alike.
     Pinned,
+    /// A net may have several tracks in a cell of its global route, and reaches each of its sinks
+    /// from its source over at most so many joins of wires, from 1 to 64.
+    Within(u32),
 }

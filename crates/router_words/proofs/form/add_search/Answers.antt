@@ -7,5 +7,6 @@ pub returns : goal.returns
 returns c =
     let option = c.in_ok-command-2.ensures
     ∙ ap (with_option (codes "conflicts")) c.in_ok-command.ensures in
-    IfOk-weaker c.add_flag.result _ _ (λ r h. h ∙ ap (with_flag (codes "keep")) option)
-    c.add_flag.ensures
+    let flag = c.in_ok-command-3.ensures ∙ ap (with_flag (codes "keep")) option in
+    IfOk-weaker c.add_option-2.result _ _ (λ r h. h ∙ ap (with_option (codes "reach")) flag)
+    c.add_option-2.ensures
