@@ -190,6 +190,18 @@ fn judge_cause(code: u32) -> Option<&'static str>
     }
 }
 
+/// What a code says of the line of a routed file that is judged within a reach: what `cause` says,
+/// but of a code that then holds elsewhere.
+pub fn cause_within_reach(code: u32) -> Option<&'static str>
+    ensures there { is_some result ≡ is_code code }
+    ensures phrase { IfSome result (λ words. IsTrue (is_phrase words.now)) }
+{
+    match code {
+        805 => Some("the net has had this wire before, and no branch begins here"),
+        _ => cause(code),
+    }
+}
+
 fn size_cause(code: u32) -> Option<&'static str>
     ensures there { is_some result ≡ is_size_code code }
     ensures phrase { IfSome result (λ words. IsTrue (is_phrase words.now)) }

@@ -6,5 +6,5 @@ mod refusals;
 #[cfg(test)]
 mod tests;
 
-pub use causes::cause;
+pub use causes::{cause, cause_within_reach};
 pub use refusals::refusal;

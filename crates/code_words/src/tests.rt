@@ -1,4 +1,4 @@
-use crate::{cause, refusal};
+use crate::{cause, cause_within_reach, refusal};
 use std::test::Fail;
 
 #[test]
@@ -8,6 +8,11 @@ fn each_code_has_words(rt: HostRuntime) -> Result<(), Fail> {
         Some("the cells of this channel and the one before it do not meet")
     );
     assert_eq!(rt; cause(516), None);
+    assert_eq!(rt;
+        cause_within_reach(805),
+        Some("the net has had this wire before, and no branch begins here")
+    );
+    assert_eq!(rt; cause_within_reach(803), cause(803));
     assert_eq!(rt;
         refusal(10),
         Some("a group of hints ends, and no clause was false")
