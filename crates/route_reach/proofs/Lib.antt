@@ -16,7 +16,7 @@ mod Heeds
 mod Chains
 mod ModelLemmas
 mod ReachedLemmas
-mod ProblemExactness
+pub mod ProblemExactness
 mod CountLemmas
 mod NearLemmas
 mod RisingLemmas
@@ -35,9 +35,9 @@ mod ElemLemmas
 mod QuietLines
 mod NetSinks
 mod FoundLemmas
-mod RouteLemmas
-mod StrictLemmas
-mod PrintLemmas
+pub mod RouteLemmas
+pub mod StrictLemmas
+pub mod PrintLemmas
 mod GoodLemmas
 mod TreeRows
 mod GreatestLemmas

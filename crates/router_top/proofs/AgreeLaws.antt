@@ -11,7 +11,7 @@ use Rattle.list_laws.proofs.Places.{some_is}
 use Rattle.route_sweep.specs.Found.{HasFew}
 use Rattle.route_symmetry.specs.Full.{asymmetry_of, is_full}
 use Rattle.route_symmetry.specs.declared.full.Asymmetry.{Asymmetry}
-use Rattle.route_verify.specs.Judged.{judged}
+use Rattle.route_verify.specs.Reach.{judged_by}
 use Rattle.sat_clause.specs.Formula.{Cnf}
 use Rattle.sat_clause.specs.declared.limits.TheConstants.{CLAUSE_LIMIT}
 use Rattle.sat_rat.specs.FullJudge.{full_judge}
@@ -23,9 +23,8 @@ use Rattle.router_words.specs.Job.{Blames, CheckAsked, Checks, Encodes, FilesAsk
 use Rattle.router_words.specs.Word.{Word}
 use Rattle.router_words.specs.declared.fault.Refusal.{Refusal}
 use Rattle.router_words.specs.declared.method.Method.{Method}
-use Rattle.router_words.specs.declared.method.Method.TheVariants.{Pinned, Strictly}
+use Rattle.router_words.specs.declared.method.Method.TheVariants.{Pinned, Strictly, Within}
 use Rattle.router_top.specs.Check.{ChecksTo, cnf_source, judgement_outcome, lrat_source}
-use Rattle.router_top.specs.Encoded.{clauses_asked}
 use Rattle.router_top.specs.Generated.{IsTooLarge, Makes}
 use Rattle.router_top.specs.Method.{HasNone, clauses_by}
 use Rattle.router_top.specs.Search.{Search, clauses_held, core_search, route_search, sweep_of, sweep_search}
@@ -205,6 +204,7 @@ module _ (first last : ℕ) (p : RoutingProblem) where
       let same = one-least width other why why_other h g in
       let reason = one-reason width other why why_other h g same in
       is ∙ (λ i. NotSymmetric (same i) (reason i)) ∙ sym is_other
+  one-unsuited (Within reach) a b h g = absurd h
 
   -- a method does not suit a problem and suit it
   not-both-suit : (method : Method) (a : Outcome) → IsUnsuited method first last p a
@@ -212,6 +212,7 @@ module _ (first last : ℕ) (p : RoutingProblem) where
   not-both-suit Strictly a h suits = absurd h
   not-both-suit Pinned a (width, why, h, is) alike =
       not-alike width p h.unlike (alike width h.from h.to)
+  not-both-suit (Within reach) a h suits = absurd h
 
   suited-agrees : (method : Method) (says : Outcome → Type 0) (a b : Outcome)
       → IsTrueOfSuited method first last p (says a) a
@@ -240,7 +241,7 @@ verify-agrees : (job : VerifyAsked) (files : FileMap) (a b : Outcome)
 verify-agrees job files a b h g =
     work-agrees files job.files (JudgesTo (IsHalted (Some files)) (Some files) job) a b h g
     (λ p u v. inl (reads-alike files (routed_source job.routed) route_value
-    (λ found outcome. outcome ≡ judged_outcome (judged job.width p found)) a b u v
+    (λ found outcome. outcome ≡ judged_outcome (judged_by job.reach job.width p found)) a b u v
     (λ found e f. e ∙ sym f)))
 
 -- ---- a generated problem
@@ -303,8 +304,8 @@ job-agrees (Sweeps job) files a b h g =
 job-agrees (Encodes job) files a b h g =
     work-agrees files job.files (IsTrueOfEncoding job) a b h g
     (λ p u v. suited-agrees job.width job.width p job.method
-    (λ said. IsTrueOfClauses (clauses_asked job p) (said ≡ Done) said) a b u v
-    (λ s t. clauses-agree (clauses_asked job p) (λ said. said ≡ Done) a b s t
+    (λ said. IsTrueOfClauses (clauses_by job.method job.width p) (said ≡ Done) said) a b u v
+    (λ s t. clauses-agree (clauses_by job.method job.width p) (λ said. said ≡ Done) a b s t
     (λ e f. inl (e ∙ sym f))))
 job-agrees (Blames job) files a b h g =
     work-agrees files job.files (IsTrueOfSearch (core_search job)) a b h g

@@ -22,7 +22,7 @@ use Rattle.router_top.specs.Search.{Search, sweep_search}
 use Rattle.router_top.specs.SearchFiles.{proof_files}
 use Rattle.router_top.specs.Work.{Finds}
 use Rattle.router_top.specs.Written.{NamedText, with_files}
-use Rattle.router_top.proofs.EndLaws.{refutes-none}
+use Rattle.router_top.proofs.EndLaws.{refutes-none, refutes-strictly}
 use Rattle.router_top.proofs.WrittenLaws.{with_files-append}
 
 -- ---- numbers and lists
@@ -119,6 +119,7 @@ module _ (job : SweepAsked) (p : RoutingProblem) (given : IsGiven p) (fits : Fit
       few = found.0;
       refuted = wrote.ends;
       none_legal = refutes-none search (suc below) p wrote.log given fits wrote.ends;
+      none_strictly = refutes-strictly search (suc below) p wrote.log given fits wrote.ends;
       reads_back = record { clauses = wrote.clauses_back; steps = wrote.log_back };
     }
 

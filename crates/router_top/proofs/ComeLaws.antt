@@ -16,7 +16,7 @@ use Rattle.route_sweep.specs.declared.found.FileSlot.TheVariants.{Clauses}
 use Rattle.route_sweep.specs.declared.found.Found.{Found}
 use Rattle.route_sweep.specs.declared.found.Stop.{Stop}
 use Rattle.route_sweep.specs.declared.found.Stop.TheVariants.{Fault, TooManyClauses, Memory}
-use Rattle.route_verify.specs.Judged.{judged}
+use Rattle.route_verify.specs.Reach.{judged_by}
 use Rattle.route_verify.specs.declared.judgement.Judgement.{Judgement as Judged}
 use Rattle.route_verify.specs.declared.judgement.Judgement.TheVariants.{Legal as IsLegal, NotLegal as IsNotLegal}
 use Rattle.sat_clause.specs.Formula.{Cnf}
@@ -35,7 +35,6 @@ use Rattle.router_words.specs.declared.fault.Refusal.{Refusal}
 use Rattle.router_words.specs.declared.method.Method.{Method}
 use Rattle.router_top.specs.Check.{ChecksTo, cnf_source, judgement_outcome, lrat_source}
 use Rattle.router_top.specs.Comes.{ComesTo, lower_files}
-use Rattle.router_top.specs.Encoded.{clauses_asked}
 use Rattle.router_top.specs.Files.{problem_slots}
 use Rattle.router_top.specs.FourFiles.{Poses}
 use Rattle.router_top.specs.Generated.{PosesNone, generated_files, texts_of}
@@ -462,7 +461,7 @@ module _ (words : List Word) (at : Scene) where
       (poses : Poses at.desk.files job.files p)
       (suits : Suits job.method job.width job.width p) where
     abbrev formula : Cnf
-    formula = clauses_asked job p
+    formula = clauses_by job.method job.width p
 
     encode-true : (o : Outcome) → IsTrueOfEncoding job p o → IsTrueOf words at.desk.files o
     encode-true o h = true-of (EncodesJob job) asked o (inr (p, poses, h))
@@ -600,9 +599,10 @@ module _ (words : List Word) (at : Scene) where
         lacks-hold Spares stops-spare at.desk at.desk_now at.desk.files job.files o h
     verify-spares o (inr (p, poses, h)) =
         reads-hold Spares stops-spare at.desk at.desk_now at.desk.files (routed_source job.routed)
-        route_value (λ found outcome. outcome ≡ judged_outcome (judged job.width p found)) o
+        route_value
+        (λ found outcome. outcome ≡ judged_outcome (judged_by job.reach job.width p found)) o
         (λ found reads is. subst Spares (sym is)
-        (judged-spares (judged job.width p found) (record {
+        (judged-spares (judged_by job.reach job.width p found) (record {
           job = job;
           p = p;
           found = found;
@@ -621,7 +621,7 @@ module _ (words : List Word) (at : Scene) where
     ]
     calm-verify o calm (inr (p, poses, h)) =
         let judges = λ (found : RouteText) (outcome : Outcome).
-        outcome ≡ judged_outcome (judged job.width p found) in
+        outcome ≡ judged_outcome (judged_by job.reach job.width p found) in
         elim (calm-reads at.desk at.desk_now (routed_source job.routed) route_value judges judges
         o calm (λ found. inl) h) [
           | inl told ↦ inl (inr (p, poses, told))

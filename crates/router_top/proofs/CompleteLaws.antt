@@ -128,7 +128,8 @@ module _ (words : List Word) (at : Scene) (calm : ¬ HasRisen at.desk.faults at.
             inr (
               h.room f.0,
               inl (
-                one-legal search.method h.width h.comes.p f.1.found f.1.routing,
+                one-legal search.method h.width h.comes.p f.1.found h.given h.comes.poses.fits
+                    f.1.routing,
                 refl,
               ),
             ),

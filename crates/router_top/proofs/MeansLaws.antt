@@ -21,7 +21,7 @@ use Rattle.router_top.specs.Written.{AreWritten, NamedText, with_files}
 use Rattle.router_top.specs.declared.outcome.Outcome.{Outcome}
 use Rattle.router_top.specs.declared.outcome.Outcome.TheVariants.{WriteFault}
 use Rattle.router_top.proofs.Came.{Came, Cut, HasCome, HasWritten, Idle, Searched, Wrote, ended_with}
-use Rattle.router_top.proofs.EndLaws.{refutes-none}
+use Rattle.router_top.proofs.EndLaws.{refutes-none, refutes-strictly}
 use Rattle.router_top.proofs.GeneratedLaws.{files-after}
 use Rattle.router_top.proofs.MethodLaws.{routing-printable}
 use Rattle.router_top.proofs.WrittenLaws.{AreApart, are-written, with_files-append}
@@ -56,6 +56,8 @@ module _ (words : List Word) (at : Scene) where
         refuted = f.1.ends;
         none_legal = refutes-none h.comes.search h.width h.comes.p f.1.log h.given
             h.comes.poses.fits f.1.ends;
+        none_strictly = refutes-strictly h.comes.search h.width h.comes.p f.1.log h.given
+            h.comes.poses.fits f.1.ends;
         reads_back = record { clauses = f.1.clauses_back; steps = f.1.log_back };
       };
       written = behind (proof_files h.comes.search h.comes.p h.width f.1.log)
@@ -72,7 +74,7 @@ module _ (words : List Word) (at : Scene) where
       found = f.1.found;
       routing = f.1.routing;
       reads_back = f.1.reads_back (routing-printable h.comes.search.method h.width h.comes.p
-          f.1.found h.comes.poses.route.text h.narrow
+          f.1.found h.comes.poses.route.text h.given h.comes.poses.fits h.narrow
           (h.comes.poses.route.faultless, h.comes.poses.route.says) f.1.routing);
       written = behind (route_file h.comes.search f.1.found ∷ []) (h.route_apart f.1.found) _
           f.1.written refl;

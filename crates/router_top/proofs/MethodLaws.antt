@@ -1,5 +1,5 @@
 -- What the commands need to know of each method.
-use Rattle.std.proofs.Common.{ℕ, ◌≤◌, List, sym, subst, arith}
+use Rattle.std.proofs.Common.{ℕ, ◌≤◌, List, map, sym, subst, arith}
 use Rattle.desk_io.specs.Files.{Bytes}
 use Rattle.fpga_route.specs.ReadBack.{IsPrintable}
 use Rattle.fpga_route.specs.Value.{Reads}
@@ -13,14 +13,20 @@ use Rattle.fpga_types.specs.declared.route.RouteText.{RouteText}
 use Rattle.route_encode.specs.Encoding.{cnf_of}
 use Rattle.route_encode.specs.Good.{IsRoutingOf}
 use Rattle.route_encode.proofs.ProblemExactness.{unsat-says-unroutable}
+use Rattle.route_reach.specs.Encoding.{reach_cnf}
+use Rattle.route_reach.specs.Trees.{wires_of}
+use Rattle.route_reach.proofs.PrintLemmas.{routes-read-back}
+use Rattle.route_reach.proofs.ProblemExactness.{unsat-says-unreachable}
+use Rattle.route_reach.proofs.RouteLemmas.{routes-say-reached}
+use Rattle.route_reach.proofs.StrictLemmas.{reach-covers-strict}
 use Rattle.route_symmetry.specs.Pinned.{pinned_cnf}
 use Rattle.route_symmetry.proofs.EncodeLemmas.{unsat_unroutable}
 use Rattle.sat_clause.specs.Judge.{Accepts}
 use Rattle.sat_clause.specs.Step.{Step}
 use Rattle.sat_clause.proofs.Refutes.{refutes}
 use Rattle.router_words.specs.declared.method.Method.{Method}
-use Rattle.router_words.specs.declared.method.Method.TheVariants.{Pinned, Strictly}
-use Rattle.router_top.specs.Method.{HasNone, HasOne, IsRoutingBy, clauses_by}
+use Rattle.router_words.specs.declared.method.Method.TheVariants.{Pinned, Strictly, Within}
+use Rattle.router_top.specs.Method.{CoversStrict, HasNone, HasOne, IsRoutingBy, clauses_by}
 
 -- a log that refutes the clauses of a problem that fits shows that it has no legal routing
 pub none-legal : (method : Method) (width : ℕ) (p : RoutingProblem) (log : List Step) → IsGiven p
@@ -29,12 +35,27 @@ none-legal Strictly width p log given fits accepts =
     (unsat-says-unroutable width p fits).0 (refutes (cnf_of width p) log accepts)
 none-legal Pinned width p log given fits accepts =
     (unsat_unroutable width p given fits).0 (refutes (pinned_cnf width p) log accepts)
+none-legal (Within reach) width p log given fits accepts =
+    (unsat-says-unreachable width reach p).0 (refutes (reach_cnf width reach p) log accepts)
 
--- a routing shows that there is a legal one
-pub one-legal : (method : Method) (width : ℕ) (p : RoutingProblem) (found : RouteText)
-    → IsRoutingBy method width p found → HasOne method width p
-one-legal Strictly width p found routing = (tracks_of p.route found, routing.legal)
-one-legal Pinned width p found routing = (tracks_of p.route found, routing.legal)
+-- where a problem that fits has no legal routing within a reach that is long enough for its global
+-- route, it has none without a reach either
+pub covers-strict : (method : Method) (width : ℕ) (p : RoutingProblem) → IsGiven p → Fits p
+    → HasNone method width p → CoversStrict method width p
+covers-strict Strictly width p given fits none = tt
+covers-strict Pinned width p given fits none = tt
+covers-strict (Within reach) width p given fits none =
+    λ long. reach-covers-strict width reach p given.route fits long none
+
+-- a routing of a problem that fits shows that there is a legal one
+pub one-legal : (method : Method) (width : ℕ) (p : RoutingProblem) (found : RouteText) → IsGiven p
+    → Fits p → IsRoutingBy method width p found → HasOne method width p
+one-legal Strictly width p found given fits routing = (tracks_of p.route found, routing.legal)
+one-legal Pinned width p found given fits routing = (tracks_of p.route found, routing.legal)
+one-legal (Within reach) width p found given fits routing = (
+  map wires_of found.nets,
+  routes-say-reached width reach p given.route fits found routing,
+)
 
 -- the global route that was read, with the tracks of a routing, can be printed
 tracks-printable : (width : ℕ) (p : RoutingProblem) (found : RouteText) (text : Bytes)
@@ -44,11 +65,14 @@ tracks-printable width p found text narrow read routing =
     (can_print_tracks p.route (tracks_of p.route found) (can_print text p.route read)
     (λ k d inside. let t = routing.legal.within k d inside in omega (arith, t, narrow)))
 
--- the routing of a problem whose route was read can be printed
+-- the routing of a problem that fits and whose route was read can be printed
 pub routing-printable : (method : Method) (width : ℕ) (p : RoutingProblem) (found : RouteText)
-    (text : Bytes) → width ≤ WIDTH_LIMIT → Reads text p.route → IsRoutingBy method width p found
-    → IsPrintable found
-routing-printable Strictly width p found text narrow read routing =
+    (text : Bytes) → IsGiven p → Fits p → width ≤ WIDTH_LIMIT → Reads text p.route
+    → IsRoutingBy method width p found → IsPrintable found
+routing-printable Strictly width p found text given fits narrow read routing =
     tracks-printable width p found text narrow read routing
-routing-printable Pinned width p found text narrow read routing =
+routing-printable Pinned width p found text given fits narrow read routing =
     tracks-printable width p found text narrow read routing
+routing-printable (Within reach) width p found text given fits narrow read routing =
+    (routes-read-back width reach p given.route fits (omega (arith, narrow))
+    (can_print text p.route read) found routing).0

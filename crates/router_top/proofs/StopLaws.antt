@@ -12,7 +12,7 @@ use Rattle.fpga_types.specs.Problem.{RoutingProblem, problem_of}
 use Rattle.route_symmetry.specs.declared.full.Asymmetry.{Asymmetry}
 use Rattle.router_words.specs.Job.{FilesAsked}
 use Rattle.router_words.specs.declared.method.Method.{Method}
-use Rattle.router_words.specs.declared.method.Method.TheVariants.{Pinned, Strictly}
+use Rattle.router_words.specs.declared.method.Method.TheVariants.{Pinned, Strictly, Within}
 use Rattle.router_top.specs.FourFiles.{GivesNone, IsUnfit, arch_source, net_source, place_source, route_source}
 use Rattle.router_top.specs.Sources.{IsStopped, ReadsThen, Says, Source, fault_outcome}
 use Rattle.router_top.specs.Suited.{IsUnsuited}
@@ -69,3 +69,4 @@ pub unsuited-holds : (Q : Outcome → Type 0)
     → IsUnsuited method first last p o → Q o
 unsuited-holds Q each Strictly first last p o h = absurd h
 unsuited-holds Q each Pinned first last p o h = subst Q (sym h.3) (each h.0 h.1)
+unsuited-holds Q each (Within reach) first last p o h = absurd h

@@ -9,18 +9,19 @@ use Rattle.router_words.specs.Job.{JobAsked}
 use Rattle.router_words.specs.Word.{Word}
 use Rattle.router_top.specs.Ends.{Refutes}
 use Rattle.router_top.specs.FourFiles.{Poses}
-use Rattle.router_top.specs.Method.{HasNone, clauses_by}
+use Rattle.router_top.specs.Method.{CoversStrict, HasNone, clauses_by}
 use Rattle.router_top.specs.Search.{Search, files_of, lower_widths, search_asked}
 use Rattle.router_top.specs.SearchFiles.{ReadBack, proof_files}
 use Rattle.router_top.specs.Written.{NamedText}
 
 -- few enough clauses stand for the problem at this width, the log refutes them, and it has no legal
--- routing
+-- routing; within a reach that is long enough for its global route, none without a reach either
 pub record IsRefutedAt (search : Search) (p : RoutingProblem) (width : ℕ) (log : List Step)
     : Type 0 where
   pub few : HasFew (clauses_by search.method width p)
   pub refuted : Refutes search p width log
   pub none_legal : HasNone search.method width p
+  pub none_strictly : CoversStrict search.method width p
   pub reads_back : ReadBack (clauses_by search.method width p) log
 
 -- the words ask for a search; its four files, which a trial makes itself, read as the values of the

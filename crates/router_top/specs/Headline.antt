@@ -2,7 +2,9 @@
 -- every width up to 64: a written route gives each net one wire for each cell of its global route,
 -- joined by switches and shared with no other net; or the written clauses are refuted by the
 -- written log, and there is no such routing; or it is left open, with the given number of learned
--- clauses. A sweep says this of the widths from 1 on, so that a routed width is the least.
+-- clauses. A sweep says this of the widths from 1 on, so that a routed width is the least. Within a
+-- reach a net may have several wires of a cell, and reaches each of its sinks over so many joins at
+-- the most: which routings a job asks for its method says.
 use Rattle.std.specs.Prelude.{◌≡◌, ℕ, List, [], ◌∷◌, ◌++◌, Option}
 use Rattle.desk_io.specs.Files.{FileMap}
 use Rattle.fpga_types.specs.declared.route.RouteText.{RouteText}

@@ -15,7 +15,6 @@ use Rattle.router_words.specs.Command.{job_of}
 use Rattle.router_words.specs.Job.{EncodeAsked, Encodes, GenAsked, Generates, SweepAsked, Sweeps, TrialAsked, Tries}
 use Rattle.router_words.specs.Word.{Word}
 use Rattle.router_top.specs.Comes.{ComesTo}
-use Rattle.router_top.specs.Encoded.{clauses_asked}
 use Rattle.router_top.specs.Ends.{EndsSearch}
 use Rattle.router_top.specs.Files.{problem_slots}
 use Rattle.router_top.specs.FourFiles.{Poses}
@@ -91,7 +90,7 @@ pub record AreEncoded (words : List Word) (desk : Option FileMap) (files : List 
   pub asked : job_of words ≡ Ok (Encodes job)
   pub p : RoutingProblem
   pub poses : Poses desk job.files p
-  pub few : HasFew (clauses_asked job p)
+  pub few : HasFew (clauses_by job.method job.width p)
   pub order : files ≡ in_slots (File Clauses ∷ []) (clauses_file job p ∷ [])
 
 -- of `gen`: the four files of a problem that has blocks for its nets

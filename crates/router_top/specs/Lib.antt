@@ -1,7 +1,6 @@
 pub mod Check
 pub mod Comes
 pub mod Core
-pub mod Encoded
 pub mod Ends
 pub mod Files
 pub mod FourFiles

@@ -5,7 +5,7 @@ use Rattle.fpga_route.specs.Value.{route_value}
 use Rattle.fpga_types.specs.Problem.{RoutingProblem}
 use Rattle.fpga_types.specs.declared.route.RouteText.{RouteText}
 use Rattle.route_sweep.specs.Found.{HasFew}
-use Rattle.route_verify.specs.Judged.{judged}
+use Rattle.route_verify.specs.Reach.{judged_by}
 use Rattle.route_verify.specs.declared.judgement.Judgement.{Judgement}
 use Rattle.route_verify.specs.declared.judgement.Judgement.TheVariants.{Legal as IsLegal, NotLegal as IsNotLegal}
 use Rattle.sat_clause.specs.Formula.{Cnf, IsUnsat}
@@ -17,10 +17,10 @@ use Rattle.router_words.specs.Command.{job_of}
 use Rattle.router_words.specs.Job.{CheckAsked, Checks, EncodeAsked, Encodes, GenAsked, Generates, VerifyAsked, Verifies}
 use Rattle.router_words.specs.Word.{Word}
 use Rattle.router_top.specs.Check.{cnf_source, lrat_source}
-use Rattle.router_top.specs.Encoded.{clauses_asked}
 use Rattle.router_top.specs.FourFiles.{Poses}
 use Rattle.router_top.specs.Generated.{HasRoom, generated_files}
 use Rattle.router_top.specs.Headline.{IsLeftOpen, IsRefuted, IsRouted}
+use Rattle.router_top.specs.Method.{clauses_by}
 use Rattle.router_top.specs.Sources.{Says}
 use Rattle.router_top.specs.Verify.{routed_source}
 use Rattle.router_top.specs.Work.{clauses_file}
@@ -34,8 +34,8 @@ pub record IsEncoded (words : List Word) (desk before now : Option FileMap) : Ty
   pub p : RoutingProblem
   pub asked : job_of words ≡ Ok (Encodes job)
   pub poses : Poses desk job.files p
-  pub few : HasFew (clauses_asked job p)
-  pub reads_back : ReadsCnf (clauses_file job p).text (clauses_asked job p)
+  pub few : HasFew (clauses_by job.method job.width p)
+  pub reads_back : ReadsCnf (clauses_file job p).text (clauses_by job.method job.width p)
   pub written : AreWritten (clauses_file job p ∷ []) before now
 
 -- the words ask for a generated problem, there are blocks for its nets, and its four files alone
@@ -59,7 +59,8 @@ pub record IsProved (words : List Word) (desk : Option FileMap) : Type 0 where
   pub unsat : IsUnsat cnf
 
 -- the words ask for the judging of a routed file, the four files of the problem read and fit, the
--- routed file reads, and it is judged so against the problem
+-- routed file reads, and it is judged so against the problem, within the reach that was given or
+-- without one
 pub record IsJudged (words : List Word) (desk : Option FileMap) (judgement : Judgement)
     : Type 0 where
   pub job : VerifyAsked
@@ -68,7 +69,7 @@ pub record IsJudged (words : List Word) (desk : Option FileMap) (judgement : Jud
   pub asked : job_of words ≡ Ok (Verifies job)
   pub poses : Poses desk job.files p
   pub reads : Says desk (routed_source job.routed) route_value found
-  pub is : judged job.width p found ≡ judgement
+  pub is : judged_by job.reach job.width p found ≡ judgement
 
 -- what an answer means, by the files of the desk and those of the shelf before the run and after
 -- it; of the answers that something keeps the run from its work, *Runs* speaks

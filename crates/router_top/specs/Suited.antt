@@ -7,7 +7,7 @@ use Rattle.route_symmetry.specs.Full.{asymmetry_of, is_full}
 use Rattle.route_symmetry.specs.declared.full.Asymmetry.{Asymmetry}
 use Rattle.router_words.specs.Job.{EncodeAsked, RouteAsked, SweepAsked}
 use Rattle.router_words.specs.declared.method.Method.{Method}
-use Rattle.router_words.specs.declared.method.Method.TheVariants.{Pinned, Strictly}
+use Rattle.router_words.specs.declared.method.Method.TheVariants.{Pinned, Strictly, Within}
 use Rattle.router_top.specs.Work.{Encodes, LeavesRoute, Sweeps}
 use Rattle.router_top.specs.declared.outcome.Outcome.{Outcome}
 use Rattle.router_top.specs.declared.outcome.Outcome.TheVariants.{NotSymmetric}
@@ -30,6 +30,7 @@ pub record IsLeastUnlike
 abbrev pub Suits : Method → (first last : ℕ) → RoutingProblem → Type 0
 Suits Strictly first last p = ⊤
 Suits Pinned first last p = AreAlike first last p
+Suits (Within reach) first last p = ⊤
 
 -- the method does not suit the problem at each of these widths, and the outcome has the least at
 -- which it does not
@@ -38,6 +39,7 @@ IsUnsuited Strictly first last p outcome = ⊥
 IsUnsuited Pinned first last p outcome =
     (width : ℕ) × (why : Asymmetry) × IsLeastUnlike first last p width why
     × (outcome ≡ NotSymmetric width why)
+IsUnsuited (Within reach) first last p outcome = ⊥
 
 -- the method does not suit the problem at each of these widths, and the outcome says so; or it
 -- does, and this is true

@@ -13,7 +13,6 @@ use Rattle.router_words.specs.Refusal.{code_of}
 use Rattle.router_words.specs.Job.{Blames, Checks, EncodeAsked, Encodes, FilesAsked, Generates, JobAsked, RecipeAsked, Routes, Sweeps, Tries, Verifies}
 use Rattle.router_words.specs.Word.{Word}
 use Rattle.router_top.specs.Check.{ChecksTo}
-use Rattle.router_top.specs.Encoded.{clauses_asked}
 use Rattle.router_top.specs.FourFiles.{GivesNone, Poses}
 use Rattle.router_top.specs.Generated.{HasRoom, IsTooLarge, IsTooMany, Makes}
 use Rattle.router_top.specs.Method.{HasNone, HasOne, clauses_by}
@@ -71,7 +70,7 @@ IsTrueOfSuitedSearch search p outcome =
 abbrev pub IsTrueOfEncoding : EncodeAsked → RoutingProblem → Outcome → Type 0
 IsTrueOfEncoding job p outcome =
     IsTrueOfSuited job.method job.width job.width p
-    (IsTrueOfClauses (clauses_asked job p) (outcome ≡ Done) outcome) outcome
+    (IsTrueOfClauses (clauses_by job.method job.width p) (outcome ≡ Done) outcome) outcome
 
 -- the four files give no problem, and the outcome says why; or they pose one, of which it is true
 abbrev pub IsTrueOfWork : FilesAsked → (RoutingProblem → Outcome → Type 0) → Option FileMap

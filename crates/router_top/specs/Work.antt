@@ -20,7 +20,6 @@ use Rattle.sat_text.specs.CnfText.{ReadsCnf}
 use Rattle.sat_text.specs.Printed.{cnf_text}
 use Rattle.router_words.specs.Job.{EncodeAsked, RouteAsked, SweepAsked}
 use Rattle.router_words.specs.declared.method.Method.{Method}
-use Rattle.router_top.specs.Encoded.{clauses_asked}
 use Rattle.router_top.specs.Ends.{LeavesOpen, Refutes}
 use Rattle.router_top.specs.Method.{IsRoutingBy, clauses_by}
 use Rattle.router_top.specs.Outcomes.{climbed_outcome, found_outcome, written_outcome}
@@ -91,7 +90,7 @@ clauses_name job = job.prefix ++ codes ".cnf"
 abbrev pub clauses_file : EncodeAsked → RoutingProblem → NamedText
 clauses_file job p = record {
   name = clauses_name job;
-  text = cnf_text (clauses_asked job p);
+  text = cnf_text (clauses_by job.method job.width p);
 }
 
 -- the clauses were written, and read back; or they were not written whole; or nothing was written,
@@ -111,5 +110,5 @@ pub record Encodes
     (job : EncodeAsked) (p : RoutingProblem) (before now : ShelfState) (outcome : Outcome)
     : Type 0 where
   pub came : Result (Unit {0}) Stop
-  pub writes : WritesClauses job (clauses_asked job p) before now came
+  pub writes : WritesClauses job (clauses_by job.method job.width p) before now came
   pub is : outcome ≡ written_outcome came

@@ -157,7 +157,9 @@ impl<'a> ProblemWork for CoreJob<'a> {
 
     fn work<S: Shelf>(&self, alloc: Global, problem: &PlacedProblem, shelf: &mut S) -> Outcome {
         was_given(problem);
-        let encoder = Chosen(Method::Strictly);
+        let encoder = Chosen {
+            method: Method::Strictly,
+        };
         let formula = match few_clauses(alloc, &encoder, problem, self.width) {
             Ok(formula) => formula,
             Err(stop) => return stopped(stop),

@@ -38,7 +38,7 @@ pub enum Outcome {
     /// The routed file is a legal routing of the problem.
     LegalRoute,
     /// The routed file is no legal routing: this is its first line with a cause against it, and the
-    /// least cause there, from 801 to 807.
+    /// least cause there, from 801 to 808.
     NotLegal {
         line: u64,
         cause: u32,

@@ -56,7 +56,9 @@ fn search_alone<S: Shelf>(
     was_given(problem);
     let search = job.search;
     let ask = ask_for(&search, search.keep);
-    let encoder = Chosen(search.method);
+    let encoder = Chosen {
+        method: search.method,
+    };
     let came = one_width(alloc, &encoder, problem, search.width, &ask, shelf);
     found(search.width, came)
 }
@@ -76,7 +78,9 @@ fn search_by_turns<S: Shelf>(
 {
     was_given(problem);
     let search = job.search;
-    let encoder = Chosen(search.method);
+    let encoder = Chosen {
+        method: search.method,
+    };
     match without_room(&encoder, problem, search.width, members) {
         Some(count) => Outcome::Limit { code: 904, count },
         None => {

@@ -106,8 +106,10 @@ fn say_report<S: Shelf>(shelf: &mut S, outcome: Outcome) -> Outcome
 /// WIDTH or at each width up to MAX: if not, the outcome is `NotSymmetric` with the least such
 /// width and nothing is written.
 ///
-/// Where `--reach` is given to `encode`, the clauses are those of a routing in which a net may take
-/// several wires of its cells and reaches each sink within so many joins.
+/// Where `--reach` is given to `route`, `sweep`, `trial` or `encode`, a routing is one in which a
+/// net may take several wires of its cells and reaches each sink within so many joins; the clauses
+/// say that there is one, and PREFIX.route has a tree of wires for each net. Where it is given to
+/// `verify`, the routed file is judged as such a routing.
 ///
 /// `gen` makes a problem from its recipe and writes PREFIX.arch, PREFIX.net, PREFIX.place and
 /// PREFIX.route. `trial` makes one too, says a line with the numbers of its slots, its steps and

@@ -49,7 +49,7 @@ fn unsuited(problem: &PlacedProblem, method: Method, first: u32, last: u32) -> O
     ensures suits { IsNone result → Suits method first last problem.now }
 {
     match method {
-        Method::Strictly => None,
+        Method::Strictly | Method::Within(_) => None,
         Method::Pinned => least_unlike(problem, first, last),
     }
 }

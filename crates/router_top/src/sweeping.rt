@@ -45,14 +45,10 @@ pub fn search_widths<S: Shelf>(
         prefix: search.prefix,
         numbered: true,
     };
-    climbed(climb(
-        alloc,
-        &Chosen(search.method),
-        problem,
-        search.width,
-        &ask,
-        shelf,
-    ))
+    let encoder = Chosen {
+        method: search.method,
+    };
+    climbed(climb(alloc, &encoder, problem, search.width, &ask, shelf))
 }
 
 // Searches at one width after another.

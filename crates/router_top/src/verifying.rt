@@ -1,7 +1,7 @@
 //! The command `verify`: whether a routed file is a legal routing of a problem.
-ghost use Rattle.std.specs.Prelude.{◌≡◌, ◌⊎◌};
+ghost use Rattle.std.specs.Prelude.{◌≡◌, ◌⊎◌, IfOk};
 ghost use Rattle.fpga_types.specs.Sound.{IsSound};
-ghost use Rattle.route_verify.specs.Judged.{judged};
+ghost use Rattle.route_verify.specs.Reach.{judged_by};
 ghost use Rattle.router_words.specs.Job.{verify_said};
 ghost use Rattle.router_top.specs.Report.{IsReadFault};
 ghost use Rattle.router_top.specs.Sources.{IsStopped};
@@ -15,17 +15,34 @@ use crate::text_file::TextFile;
 use desk_io::Desk;
 use fpga_bounds::PlacedProblem;
 use fpga_types::RouteText;
-use route_verify::{Judgement, verify};
+use route_verify::{Judgement, verify, verify_reach};
 use router_words::VerifyJob;
-use std::alloc::Global;
+use std::alloc::{AllocError, Global};
+
+// How the routed file is judged, within the reach that was given or without one.
+fn judgement(
+    alloc: Global,
+    job: &VerifyJob<'_>,
+    problem: &PlacedProblem,
+    found: &RouteText,
+) -> Result<Judgement, AllocError>
+    requires { IsSound found.now }
+    ensures { IfOk result (λ judgement. judgement
+        ≡ judged_by job.now.reach job.now.width problem.now found.now) }
+{
+    match job.reach {
+        None => verify(alloc, problem, job.width, found),
+        Some(reach) => verify_reach(alloc, problem, job.width, reach, found),
+    }
+}
 
 // What the run comes to by how the routed file is judged.
 fn judge(alloc: Global, job: &VerifyJob<'_>, problem: &PlacedProblem, found: &RouteText) -> Outcome
     requires { IsSound found.now }
-    ensures { (result ≡ OutOfMemory)
-        ⊎ (result ≡ judged_outcome (judged job.now.width problem.now found.now)) }
+    ensures { (result ≡ OutOfMemory) ⊎ (result ≡ judged_outcome
+        (judged_by job.now.reach job.now.width problem.now found.now)) }
 {
-    match verify(alloc, problem, job.width, found) {
+    match judgement(alloc, job, problem, found) {
         Ok(Judgement::Legal) => Outcome::LegalRoute,
         Ok(Judgement::NotLegal { line, cause }) => Outcome::NotLegal { line, cause },
         Err(_) => Outcome::OutOfMemory,
