@@ -8,11 +8,12 @@ _gafkelam() {
     fi
     local options=--help
     case $command in
-    route) options="--conflicts --keep --pin --members --seed --help" ;;
-    sweep) options="--conflicts --keep --pin --help" ;;
+    route) options="--conflicts --keep --pin --reach --members --seed --help" ;;
+    sweep) options="--conflicts --keep --pin --reach --help" ;;
     core) options="--conflicts --help" ;;
-    trial) options="--conflicts --keep --help" ;;
+    trial) options="--conflicts --keep --reach --help" ;;
     encode) options="--pin --reach --help" ;;
+    verify) options="--reach --help" ;;
     esac
     if [ "${word:0:1}" = - ]; then
         mapfile -t COMPREPLY < <(compgen -W "$options" -- "$word")

@@ -7,7 +7,7 @@ ghost use Rattle.router_words.specs.Job.{check_said, files_said, verify_said};
 ghost use Rattle.router_words.specs.Word.{words_of};
 
 use router_top::TextFile;
-use router_words::{CheckJob, FourNames, Job, VerifyJob, WordsFault, read_words};
+use router_words::{CheckJob, FourNames, Job, Method, VerifyJob, WordsFault, read_words};
 use std::alloc::{AllocError, Global};
 
 /// The job that the words ask for, if they ask for one.
@@ -97,5 +97,24 @@ pub(crate) fn files_written(job: Option<Job<'_>>) -> Option<Written<'_>> {
         Job::Sweep(job) => Some(Written::Each(job.search.prefix)),
         Job::Trial(job) => Some(Written::Each(job.search.prefix)),
         Job::Encode(_) | Job::Check(_) | Job::Verify(_) | Job::Gen(_) => None,
+    }
+}
+
+/// Within how many joins of wires a job has nets reach their sinks, where it says so.
+pub(crate) fn reach_asked(job: Option<Job<'_>>) -> Option<u32> {
+    match job? {
+        Job::Route(job) => reach_of(job.search.method),
+        Job::Sweep(job) => reach_of(job.search.method),
+        Job::Encode(job) => reach_of(job.method),
+        Job::Verify(job) => job.reach,
+        Job::Trial(job) => reach_of(job.search.method),
+        Job::Core(_) | Job::Check(_) | Job::Gen(_) => None,
+    }
+}
+
+fn reach_of(method: Method) -> Option<u32> {
+    match method {
+        Method::Within(reach) => Some(reach),
+        Method::Strictly | Method::Pinned => None,
     }
 }

@@ -1,5 +1,5 @@
 //! Words for a search that found no routing.
-use crate::names::{Written, files_written};
+use crate::names::{Written, files_written, reach_asked};
 use router_words::{BUDGET_LIMIT, Job};
 use std::alloc::AllocError;
 
@@ -10,17 +10,32 @@ pub(crate) fn append_unroutable(
     width: u32,
 ) -> Result<(), AllocError> {
     match files_written(job) {
-        Some(Written::One(prefix)) => append_refuted(out, prefix, width),
-        Some(Written::Each(prefix)) => append_all_refuted(out, prefix, width),
+        Some(Written::One(prefix)) => {
+            write!(out, "No routing with {width} tracks is legal")?;
+            append_reach(out, job)?;
+            append_refuted(out, prefix)
+        }
+        Some(Written::Each(prefix)) => {
+            write!(out, "No routing with up to {width} tracks is legal")?;
+            append_reach(out, job)?;
+            append_all_refuted(out, prefix, width)
+        }
         None => write!(out, "No routing with {width} tracks is legal."),
     }
 }
 
-fn append_refuted(out: &mut String, prefix: &str, width: u32) -> Result<(), AllocError> {
-    write!(out, "No routing with {width} tracks is legal: ")?;
+// Within how many joins that is, where a reach was given.
+fn append_reach(out: &mut String, job: Option<Job<'_>>) -> Result<(), AllocError> {
+    match reach_asked(job) {
+        Some(reach) => write!(out, " within {reach} joins of wires"),
+        None => Ok(()),
+    }
+}
+
+fn append_refuted(out: &mut String, prefix: &str) -> Result<(), AllocError> {
     write!(
         out,
-        "{prefix}.lrat refutes the clauses of one, {prefix}.cnf.\n"
+        ": {prefix}.lrat refutes the clauses of one, {prefix}.cnf.\n"
     )?;
     write!(
         out,
@@ -29,10 +44,9 @@ fn append_refuted(out: &mut String, prefix: &str, width: u32) -> Result<(), Allo
 }
 
 fn append_all_refuted(out: &mut String, prefix: &str, width: u32) -> Result<(), AllocError> {
-    write!(out, "No routing with up to {width} tracks is legal: ")?;
     write!(
         out,
-        "{prefix}.wK.lrat refutes {prefix}.wK.cnf for each width K.\n"
+        ": {prefix}.wK.lrat refutes {prefix}.wK.cnf for each width K.\n"
     )?;
     write!(
         out,
@@ -47,11 +61,12 @@ pub(crate) fn append_undecided(
     width: u32,
     learned: u64,
 ) -> Result<(), AllocError> {
+    write!(out, "Whether a routing with {width} tracks is legal")?;
+    append_reach(out, job)?;
     write!(
         out,
-        "Whether a routing with {width} tracks is legal is open: "
+        " is open: the search learned {learned} clauses, its budget."
     )?;
-    write!(out, "the search learned {learned} clauses, its budget.")?;
     match files_written(job) {
         Some(Written::One(prefix)) => append_next(out, prefix, learned),
         Some(Written::Each(prefix)) => append_next_of_width(out, prefix, width, learned),

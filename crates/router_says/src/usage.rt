@@ -25,8 +25,9 @@ pub(crate) fn append_usage(
 // Which options of a command exclude each other, or need another.
 fn clash_of(name: &str) -> &'static str {
     match name {
-        "encode" => "--pin and --reach exclude each other.\n",
-        _ => "--seed is the seed of searches that take turns: give their number by --members.\n",
+        "sweep" | "encode" => "--pin and --reach exclude each other.\n",
+        _ => "--pin and --reach exclude each other, and --seed is the seed of searches that take \
+              turns: give their number by --members.\n",
     }
 }
 
@@ -34,8 +35,8 @@ fn clash_of(name: &str) -> &'static str {
 fn form_of(name: &str) -> (&'static str, &'static str) {
     match name {
         "sweep" => (
-            "sweep ARCH NET PLACE ROUTE MAX PREFIX [--conflicts N] [--keep] [--pin], MAX from 1 \
-             to 64",
+            "sweep ARCH NET PLACE ROUTE MAX PREFIX [--conflicts N] [--keep] [--pin | --reach L], \
+             MAX and L from 1 to 64",
             "sweep design.arch design.net design.place design.route 12 out",
         ),
         "encode" => (
@@ -49,7 +50,7 @@ fn form_of(name: &str) -> (&'static str, &'static str) {
         ),
         "check" => ("check CNF LRAT", "check out.cnf out.lrat"),
         "verify" => (
-            "verify ARCH NET PLACE ROUTE WIDTH ROUTED, WIDTH from 1 to 64",
+            "verify ARCH NET PLACE ROUTE WIDTH ROUTED [--reach L], WIDTH and L from 1 to 64",
             "verify design.arch design.net design.place design.route 9 out.route",
         ),
         "gen" => (
@@ -57,12 +58,13 @@ fn form_of(name: &str) -> (&'static str, &'static str) {
             "gen 1 20 300 made",
         ),
         "trial" => (
-            "trial SEED NX NETS MAX PREFIX [--conflicts N] [--keep], NX from 1 to 100, MAX to 64",
+            "trial SEED NX NETS MAX PREFIX [--conflicts N] [--keep] [--reach L], NX from 1 to \
+             100, MAX and L to 64",
             "trial 1 20 300 12 out",
         ),
         _ => (
-            "route ARCH NET PLACE ROUTE WIDTH PREFIX [--conflicts N] [--keep] [--pin] \
-             [--members K] [--seed S], WIDTH from 1 to 64, K to 8",
+            "route ARCH NET PLACE ROUTE WIDTH PREFIX [--conflicts N] [--keep] [--pin | --reach L] \
+             [--members K] [--seed S], WIDTH and L from 1 to 64, K to 8",
             "route design.arch design.net design.place design.route 9 out",
         ),
     }

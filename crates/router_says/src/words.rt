@@ -7,13 +7,13 @@ ghost use Rattle.router_says.specs.Said.{GivesWhy, IsSaid, Means, about_said, as
 ghost use Rattle.router_top.specs.declared.text_file.TextFile.{TextFile as AnyFile};
 ghost use Rattle.router_words.specs.Word.{Word, words_of};
 
-use crate::names::{given_name, job_in};
+use crate::names::{given_name, job_in, reach_asked};
 use crate::refused::{append_file, append_limit, append_line, append_step, file_of};
 use crate::symmetry::append_asymmetry;
 use crate::unread::append_unread;
 use crate::unsettled::{append_no_memory, append_undecided, append_unroutable};
 use crate::usage::append_usage;
-use code_words::{cause, refusal};
+use code_words::{cause, cause_within_reach, refusal};
 use route_symmetry::Asymmetry;
 use router_top::{Outcome, TextFile};
 use router_words::Job;
@@ -117,8 +117,10 @@ fn meaning<R: Files + AllocGlobal>(
 {
     match *outcome {
         Outcome::NotAccepted { step, cause } => refused_step(rt.alloc(), step, cause),
-        Outcome::NotLegal { line, cause } => bad_line(rt.alloc(), line, cause),
-        Outcome::InputFault { line, code, .. } => bad_line(rt.alloc(), line, code),
+        Outcome::NotLegal { line, cause } => {
+            bad_line(rt.alloc(), line, cause, why_not_legal(job, cause))
+        }
+        Outcome::InputFault { line, code, .. } => bad_line(rt.alloc(), line, code, cause(code)),
         Outcome::Limit { code, count } => passed_limit(rt.alloc(), code, count),
         Outcome::NotSymmetric { width, why } => asymmetry(rt.alloc(), width, why),
         Outcome::Unroutable { .. }
@@ -134,11 +136,27 @@ fn meaning<R: Files + AllocGlobal>(
     }
 }
 
-// Which line is bad, and why.
-fn bad_line(alloc: Global, line: u64, code: u32) -> Result<String, AllocError>
+// The words for the cause against a line of a routed file.
+fn why_not_legal(job: Option<Job<'_>>, code: u32) -> Option<&'static str>
+    ensures { IfSome result (λ words. IsTrue (is_phrase words.now)) }
+{
+    match reach_asked(job) {
+        Some(_) => cause_within_reach(code),
+        None => cause(code),
+    }
+}
+
+// Which line is bad, and why: by these words, if the code has any.
+fn bad_line(
+    alloc: Global,
+    line: u64,
+    code: u32,
+    words: Option<&'static str>,
+) -> Result<String, AllocError>
+    requires { IfSome words (λ words. IsTrue (is_phrase words.now)) }
     ensures { IfOk result (λ text. GivesWhy (line_said line code) (string_bytes text)) }
 {
-    let why = words_or(cause(code), "this line is not taken");
+    let why = words_or(words, "this line is not taken");
     let mut text = String::new(alloc);
     append_line(&mut text, line, code, why)?;
     Ok(text)
