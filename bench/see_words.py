@@ -1,13 +1,15 @@
 #!/usr/bin/env python3
 """Shows the words on standard error for each kind of report, by the built program on files.
 
-    see_words.py PROGRAM
+    see_words.py PROGRAM [--quiet]
 
-Runs the cases of crates/router_rows/data on files of a folder of its own, those in which calls fail and those of files past a limit left out,
-and prints each kind of report that came (its numbers but the code left out) with the words that went with it,
-once. Says last how many runs ended with the report and the status that their case asks for, which is a test
-of what no contract speaks of: `main` and the files of the system.
+Runs the cases of crates/router_rows/data on files of a folder of its own, those left out in which calls fail, and
+prints each kind of report that came (its numbers but the code left out) with the words that went with it, once.
+Says last how many runs came out as their case asks: status, standard output, and the bytes of the files, where
+no file that was read has changed. That is a test of what no contract speaks of: `main` and the files of the
+system. With --quiet only what came out otherwise is printed, and the last line.
 """
+import argparse
 import collections
 import os
 import re
@@ -16,7 +18,10 @@ import sys
 import tempfile
 
 DATA = os.path.join(os.path.dirname(os.path.dirname(os.path.abspath(__file__))), "crates", "router_rows", "data")
-FILES = ("worked", "failing_calls", "route_texts", "proof_texts", "routed_texts")
+FILES = (
+    "worked", "pinned", "reach", "failing_calls", "route_texts", "limits", "proof_texts", "resolution_logs",
+    "routed_texts", "members", "core",
+)  # in the order of the program of rows: a file cites parts of those before it
 ESCAPES = {"n": b"\n", "t": b"\t", "r": b"\r", "0": b"\0", "\\": b"\\"}
 
 
@@ -31,6 +36,15 @@ def plain(text):
             out += text[i].encode()
             i += 1
     return out
+
+
+def repeated(first, end, text):
+    """The text for each number from the first up to the end, which it has where it says so."""
+    numbers = range(int(first), int(end))
+    if "\\k" not in text:
+        return plain(text) * len(numbers)
+    parts = [plain(part) for part in text.split("\\k")]
+    return b"".join(str(k).encode().join(parts) for k in numbers)
 
 
 class Texts:
@@ -48,9 +62,7 @@ class Texts:
             elif kind == "+":
                 out += plain(rest)
             elif kind == "*":
-                first, end, text = rest.split(" ", 2)
-                parts = [plain(part) for part in text.split("\\k")]
-                out += b"".join(str(k).encode().join(parts) for k in range(int(first), int(end)))
+                out += repeated(*rest.split(" ", 2))
             elif kind == "&":
                 out += self.parts[rest]
             elif kind == "^":
@@ -69,57 +81,131 @@ def runs_of(lines):
     return runs
 
 
-def run_case(program, texts, lines, seen, tally):
-    texts.written = {}
-    for lines_of_run in runs_of(lines):
-        words, report, status, files, at, fails = [], None, None, {}, None, False
-        for line in lines_of_run:
-            if line[0] in "|+*&^" and at is not None:
-                files.setdefault(at, []).append(line)
+def places(text, part):
+    """At how many places of a text this part of it begins."""
+    count, at = 0, text.find(part)
+    while at >= 0:
+        count, at = count + 1, text.find(part, at + 1)
+    return count
+
+
+class Wanted:
+    """A file that a run must leave: its whole text, its front, a part of it, a part so many times, or none."""
+
+    def __init__(self, how, rest):
+        self.how, self.lines, self.count = how, [], 0
+        self.name = rest
+        if how == "counts":
+            self.name, count = rest.rsplit(" ", 1)
+            self.count = int(count)
+
+    def is_met(self, before, left, texts):
+        text = left.get(self.name)
+        if self.how == "lacks":
+            return text == before.get(self.name)
+        if text is None:
+            return False
+        part = texts.bytes_of(self.lines)
+        if self.how == "writes":
+            return text == part
+        if self.how == "begins":
+            return text.startswith(part)
+        if self.how == "holds":
+            return part in text
+        return places(text, part) == self.count
+
+
+class Asked:
+    """A run as a case asks for it, by its lines."""
+
+    def __init__(self, lines):
+        self.words, self.lead, self.report, self.status = [], "", None, None
+        self.files, self.wanted, self.fails = {}, [], False
+        at = None
+        for line in lines:
+            if line[0] in "|+*&^":
+                at.append(line)
                 continue
             word, _, rest = line.partition(" ")
-            at = None
             if word == "words":
-                words = rest.split(" ")
+                self.words = rest.split(" ")
             elif word == "file":
-                at = rest
-                files.setdefault(at, [])
+                at = self.files[rest] = []
             elif word == "design":
                 for ending in ("arch", "net", "place"):
-                    files[ending] = [f"&{rest}.{ending}"]
-            elif word in ("writes", "begins", "holds"):
-                at = None
-            elif word in ("desk", "shelf"):
-                fails = True
+                    self.files[ending] = [f"&{rest}.{ending}"]
+            elif word in ("writes", "begins", "holds", "counts", "lacks"):
+                self.wanted.append(Wanted(word, rest))
+                at = self.wanted[-1].lines
+            elif word == "says":
+                self.lead += rest + "\n"
             elif word == "comes":
-                report = rest
+                self.report = rest
             elif word == "status":
-                status = int(rest)
-        if fails:
+                self.status = int(rest)
+            elif word in ("desk", "shelf"):
+                self.fails = True
+
+    def others(self, ended, before, left, texts):
+        """What came out otherwise than it is asked for."""
+        said = ended.stdout.decode(errors="replace")
+        if ended.returncode != self.status:
+            yield f"status {ended.returncode}, not {self.status}"
+        if said != f"{self.lead}{self.report}\n":
+            yield f"said {said!r}, not {self.lead + self.report!r}"
+        names = {wanted.name for wanted in self.wanted}
+        for name, text in before.items():
+            if name not in names and left.get(name) != text:
+                yield f"{name} has changed, which was read"
+        for wanted in self.wanted:
+            if not wanted.is_met(before, left, texts):
+                yield f"{wanted.name} is not as in: {wanted.how}"
+
+
+def files_in(folder):
+    found = {}
+    for name in os.listdir(folder):
+        with open(os.path.join(folder, name), "rb") as it:
+            found[name] = it.read()
+    return found
+
+
+def kind_of(report):
+    """A report without its numbers but codes."""
+    kind = re.sub(r"\b(line|count|step) \d+", r"\1 _", report)
+    kind = re.sub(r"^(routed|unroutable|undecided) \d+( after \d+)?", r"\1 _\2", kind)
+    return re.sub(r"after \d+", "after _", kind)
+
+
+def run_case(program, texts, case, lines, seen, tally):
+    texts.written = {}
+    for lines_of_run in runs_of(lines):
+        asked = Asked(lines_of_run)
+        if asked.fails:
             return
+        before = {name: texts.bytes_of(text) for name, text in asked.files.items()}
         with tempfile.TemporaryDirectory() as folder:
-            for name, text in files.items():
+            for name, text in before.items():
                 with open(os.path.join(folder, name), "wb") as out:
-                    out.write(texts.bytes_of(text))
-            ended = subprocess.run([program, *words], cwd=folder, capture_output=True)
-            said = ended.stdout.decode(errors="replace").rstrip("\n").split("\n")[-1]
-            kind = re.sub(r"\b(line|count|step) \d+", r"\1 _", said)
-            kind = re.sub(r"^(routed|unroutable|undecided) \d+( after \d+)?", r"\1 _\2", kind)
-            kind = re.sub(r"after \d+", "after _", kind)
-            seen.setdefault((words[0] if words else "", kind), ended.stderr.decode(errors="replace").rstrip("\n"))
-            if said == report and ended.returncode == status:
-                tally["as asked"] += 1
-            else:
-                tally["other"] += 1
-                print(f"OTHER: {' '.join(words)}: wanted {status} {report}, came {ended.returncode} {said}")
-            texts.written = {}
-            for name in os.listdir(folder):
-                with open(os.path.join(folder, name), "rb") as left:
-                    texts.written[name] = left.read()
+                    out.write(text)
+            ended = subprocess.run([program, *asked.words], cwd=folder, capture_output=True)
+            left = files_in(folder)
+        kind = kind_of(ended.stdout.decode(errors="replace").rstrip("\n").split("\n")[-1])
+        words = ended.stderr.decode(errors="replace").rstrip("\n")
+        seen.setdefault((asked.words[0] if asked.words else "", kind), words)
+        others = list(asked.others(ended, before, left, texts))
+        tally["other" if others else "as asked"] += 1
+        for other in others:
+            print(f"OTHER: {case}: {' '.join(asked.words)}: {other}")
+        texts.written = left
 
 
 def main():
-    program = os.path.abspath(sys.argv[1])
+    parser = argparse.ArgumentParser(description=__doc__.splitlines()[0])
+    parser.add_argument("program", metavar="PROGRAM")
+    parser.add_argument("--quiet", action="store_true", help="says only what came out otherwise")
+    given = parser.parse_args()
+    program = os.path.abspath(given.program)
     texts, seen, tally = Texts(), {}, collections.Counter()
     for name in FILES:
         common, section, held = [], None, []
@@ -130,7 +216,7 @@ def main():
             if section[0] == "part":
                 texts.parts[section[1]] = texts.bytes_of(held)
             elif section[0] == "case" and not any(line.startswith(("each", "meets")) for line in held):
-                run_case(program, texts, common + held, seen, tally)
+                run_case(program, texts, section[1], common + held, seen, tally)
 
         with open(os.path.join(DATA, f"{name}.rows"), encoding="utf-8") as rows:
             for line in rows.read().split("\n"):
@@ -145,11 +231,13 @@ def main():
                 else:
                     held.append(line)
             close()
-    for (command, kind), words in sorted(seen.items(), key=lambda it: (it[0][1], it[0][0])):
+    shown = [] if given.quiet else sorted(seen.items(), key=lambda it: (it[0][1], it[0][0]))
+    for (command, kind), words in shown:
         print(f"{command or '(no words)'}: {kind}")
         for line in words.split("\n"):
             print(f"    {line}")
     print(f"{tally['as asked']} runs as their cases ask, {tally['other']} others")
+    sys.exit(1 if tally["other"] else 0)
 
 
 if __name__ == "__main__":
