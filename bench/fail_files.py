@@ -6,10 +6,12 @@ wrong where one of these is otherwise than it must be, or where a file has chang
 the job. Then each call of the system that a command makes on files is refused alone, one number
 after the other, and all from a number on; and interrupted, after which the run must go on.
 
-    bench/fail_files.py [--router PATH] [--rows WORD]
+    bench/fail_files.py [--router PATH] [--rows WORD] [--plain]
 
-It needs Linux, strace, gdb, and the right to mount a file system of fixed size and to become
-another user; a row that cannot be run here is named. The last line counts the rows.
+It needs Linux, strace, gdb, and the right to mount a file system of fixed size; a row that cannot
+be run here is named. With --plain only the rows that need none of these are run, as in
+`.ci/program`, and only those that are wrong are printed. The superuser, whom no permission stops,
+runs as another user the rows on permissions. The last line counts the rows.
 """
 import argparse
 import os
@@ -36,7 +38,8 @@ class Row:
         return os.path.join(self.folder, name)
 
     def held(self):
-        """Each file below the folder with what it holds; of what is no file its kind."""
+        """Each file below the folder with what it holds; of what is no file its kind. Of a file that
+        may not be read how long it is and when it was written."""
         found = {}
         for top, folders, files in os.walk(self.folder):
             for name in files + folders:
@@ -44,8 +47,11 @@ class Row:
                 kind = os.lstat(path).st_mode
                 short = os.path.relpath(path, self.folder)
                 if stat.S_ISREG(kind):
-                    with open(path, "rb") as it:
-                        found[short] = it.read()
+                    try:
+                        with open(path, "rb") as it:
+                            found[short] = it.read()
+                    except PermissionError:
+                        found[short] = (os.lstat(path).st_size, os.lstat(path).st_mtime_ns)
                 else:
                     found[short] = stat.S_IFMT(kind)
         return found
@@ -77,6 +83,26 @@ def as_nobody():
     os.setuid(NOBODY)
 
 
+def is_superuser():
+    return os.geteuid() == 0
+
+
+def give_to_nobody(*paths):
+    """So that another user can run in a folder that the superuser made."""
+    if is_superuser():
+        for path in paths:
+            os.chown(path, NOBODY, NOBODY)
+
+
+def runs_as_nobody(router, folder):
+    """Whether the program, which ends with 4 where it gets no words, runs as another user there."""
+    try:
+        ran = subprocess.run([router], cwd=folder, capture_output=True, preexec_fn=as_nobody)
+    except (OSError, subprocess.SubprocessError):
+        return False
+    return ran.returncode == 4
+
+
 def missing(*words):
     return [w for w in words if not shutil.which(w)]
 
@@ -84,8 +110,8 @@ def missing(*words):
 class Table:
     """The rows that were run, as lines of a table."""
 
-    def __init__(self, only):
-        self.only = only
+    def __init__(self, only, is_quiet):
+        self.only, self.is_quiet = only, is_quiet
         self.right = self.wrong = self.left_out = 0
 
     def takes(self, name):
@@ -93,7 +119,14 @@ class Table:
 
     def add(self, name, faults, status, said, left):
         line = said.decode("ascii", "replace").strip().replace("\n", "; ") or "nothing"
-        print(f"| {name} | {status} | {line} | {left} |", flush=True)
+        self.show(f"| {name} | {status} | {line} | {left} |")
+        self.count(name, faults)
+
+    def show(self, line):
+        if not self.is_quiet:
+            print(line, flush=True)
+
+    def count(self, name, faults):
         for fault in faults:
             print(f"WRONG: {name}: {fault}", flush=True)
         if faults:
@@ -125,6 +158,9 @@ def simple_rows(table, router, fresh):
         if not table.takes(name):
             return
         row = Row(router, fresh())
+        if how and not runs_as_nobody(router, row.folder):
+            table.leave_out(name, "the superuser can't be another user here")
+            return
         if prepare:
             prepare(row)
         came = row.run(words, **how)
@@ -153,7 +189,7 @@ def simple_rows(table, router, fresh):
 
     one("an input that is not there", with_netlist("no.net"), 5, lacks)
     one("a folder in place of an input", with_netlist("."), 5, lacks)
-    nobody = {"preexec_fn": as_nobody}
+    nobody = {"preexec_fn": as_nobody} if is_superuser() else {}
     one(
         "an input without permission",
         route,
@@ -380,13 +416,8 @@ def one_call(table, router, fresh, title, words, order, whole, good, call, how, 
     for (status, said), count in counted.items():
         line = said.decode("ascii", "replace").strip().replace("\n", "; ") or "nothing"
         parts.append(f"{count} x {status} `{line}`")
-    print(f"| {title} | {len(outcomes)} calls | {', '.join(parts)} |", flush=True)
-    for fault in faults:
-        print(f"WRONG: {title}: {fault}", flush=True)
-    if faults:
-        table.wrong += 1
-    else:
-        table.right += 1
+    table.show(f"| {title} | {len(outcomes)} calls | {', '.join(parts)} |")
+    table.count(title, faults)
 
 
 def short_rows(table, router, fresh):
@@ -418,6 +449,7 @@ def main():
     words = argparse.ArgumentParser(description=__doc__.splitlines()[0])
     words.add_argument("--router", default=os.path.join(TOP, "crates/router/out/router"))
     words.add_argument("--rows", help="only rows with this in their name")
+    words.add_argument("--plain", action="store_true", help="only rows that need no tool")
     asked = words.parse_args()
     router = os.path.abspath(asked.router)
     if not os.access(router, os.X_OK):
@@ -438,21 +470,20 @@ def main():
             for ending, text in proof.items():
                 with open(os.path.join(folder, f"three.{ending}"), "wb") as it:
                     it.write(text)
-            for there in [folder, *(os.path.join(folder, n) for n in os.listdir(folder))]:
-                os.chown(there, NOBODY, NOBODY)
+            give_to_nobody(folder, *(os.path.join(folder, n) for n in os.listdir(folder)))
             return folder
 
         proof = {}
         first = Row(router, fresh())
         first.run(["route", *THREE, "2", "three"])
         proof = {e: first.held()[f"three.{e}"] for e in ("cnf", "lrat")}
-        table = Table(asked.rows)
-        print("| what fails | status | said | what has changed |\n|---|---|---|---|")
-        simple_rows(table, router, fresh)
-        output_rows(table, router, fresh)
-        disk_rows(table, router, fresh)
-        short_rows(table, router, fresh)
-        call_rows(table, router, fresh)
+        table = Table(asked.rows, asked.plain)
+        table.show("| what fails | status | said | what has changed |\n|---|---|---|---|")
+        kinds = [simple_rows, output_rows]
+        if not asked.plain:
+            kinds += [disk_rows, short_rows, call_rows]
+        for kind in kinds:
+            kind(table, router, fresh)
     print(f"{table.right} rows as they must be, {table.wrong} not, {table.left_out} not run")
     sys.exit(1 if table.wrong else 0)
 
