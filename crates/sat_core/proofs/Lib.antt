@@ -1,7 +1,6 @@
 pub mod AnalysisLaws
 pub mod AttachLaws
 pub mod AttachedLaws
-pub mod ClashLaws
 pub mod DecideLaws
 pub mod DistinctLaws
 pub mod DoomedLaws

@@ -1,12 +1,12 @@
 //! Two searches that share a log, each of which takes what the other learns.
 
-ghost use Rattle.std.specs.Prelude.{◌≡◌, [], IfOk, Ok, true};
-ghost use Rattle.sat_core.specs.Tests.{IsShared, clash as clash_of_two, contradiction as contradiction_of_two};
+ghost use Rattle.std.specs.Prelude.{◌≡◌, [], Ok, true};
+ghost use Rattle.sat_core.specs.Tests.{IsShared};
 
 use crate::plain_log::LiveRows;
 use crate::tests::{assert_small, crowd};
 use crate::{Search, Turn};
-use sat_clause::{Formula, Lit, Log};
+use sat_clause::{Formula, Log};
 use std::alloc::{AllocError, Global};
 use std::process::Abort;
 use std::test::Fail;
@@ -84,52 +84,5 @@ fn searches_take_what_others_learn(rt: HostRuntime) -> Result<(), Fail> {
     assert!(rt; 5 <= turns, "{turns}");
     live.read_on(&rt, rt.alloc(), &log)?;
     assert!(rt; live.end_empty());
-    Ok(())
-}
-
-/// A formula that no values satisfy, and none of whose clauses is a unit.
-fn contradiction(alloc: Global) -> Result<Formula, AllocError>
-    ensures { IfOk result (λ formula. formula.cnf ≡ contradiction_of_two) }
-{
-    let mut formula = Formula::new(alloc);
-    formula.reserve(2, 4, 8)?;
-    formula.push(&[Lit { code: 1 }, Lit { code: 2 }]);
-    formula.push(&[Lit { code: 1 }, Lit { code: -2 }]);
-    formula.push(&[Lit { code: -1 }, Lit { code: 2 }]);
-    formula.push(&[Lit { code: -1 }, Lit { code: -2 }]);
-    Ok(formula)
-}
-
-/// Two steps of other searches: by the first variable 1 is true, and by the second it is false.
-fn clash(alloc: Global) -> Result<Log, AllocError>
-    ensures { IfOk result (λ log. log.steps ≡ clash_of_two) }
-{
-    let mut log = Log::new(alloc);
-    log.reserve(2, 6)?;
-    log.add(5, &[Lit { code: 1 }], &[1, 2]);
-    log.add(6, &[Lit { code: -1 }], &[3, 4]);
-    Ok(log)
-}
-
-/// The first turn of a search behind these steps.
-fn turn_behind_clash(alloc: Global, formula: &Formula, log: &mut Log) -> Result<Turn, AllocError>
-    requires formula { formula.now.cnf ≡ contradiction_of_two }
-    requires steps { log.old.steps ≡ clash_of_two }
-{
-    let mut search = Search::new(alloc, formula, 0)?;
-    search.turn(formula, log)
-}
-
-/// A clause that is false when it is taken, at level 0, refutes the formula.
-#[test]
-fn false_step_of_another_search_refutes(rt: HostRuntime) -> Result<(), Fail> {
-    let formula = contradiction(rt.alloc())?;
-    let mut log = clash(rt.alloc())?;
-    let turn = turn_behind_clash(rt.alloc(), &formula, &mut log)?;
-    assert!(rt; matches!(turn, Turn::Refuted));
-    assert_eq!(rt; log.len(), 3);
-    let step = log.step(2);
-    assert_eq!(rt; (step.id, step.lits.len()), (7, 0));
-    assert_eq!(rt; step.hints, [5, 6].as_slice());
     Ok(())
 }

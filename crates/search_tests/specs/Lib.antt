@@ -1,1 +1,2 @@
+pub mod Clash
 pub mod WatchStates

@@ -1,13 +1,8 @@
 //! Small formulas and logs, written and read back.
 
-use crate::numbers::{formula_of, literals};
+use crate::numbers::{formula_of, have_numbers, literals};
 use sat_clause::{Cause, Lit, Log, holds};
 use std::test::Fail;
-
-/// Whether the literals have these numbers.
-fn are(lits: &[Lit], codes: &[i32]) -> bool {
-    lits.len() == codes.len() && lits.iter().zip(codes).all(|(l, code)| l.code == *code)
-}
 
 #[test]
 fn formula_is_read_back(rt: HostRuntime) -> Result<(), Fail> {
@@ -17,7 +12,10 @@ fn formula_is_read_back(rt: HostRuntime) -> Result<(), Fail> {
     assert_eq!(rt; formula.len(), 5);
     for i in 0..5u32 {
         assert!(rt; i < formula.len());
-        assert!(rt; are(formula.clause(i), clauses[i as usize]), "clause {i}");
+        assert!(rt;
+            have_numbers(formula.clause(i), clauses[i as usize]),
+            "clause {i}"
+        );
     }
     Ok(())
 }
@@ -54,7 +52,7 @@ fn log_is_read_back(rt: HostRuntime) -> Result<(), Fail> {
     assert!(rt; log.len() == 2);
     let added = log.step(0);
     assert_eq!(rt; (added.id, added.erase), (4, false));
-    assert!(rt; are(added.lits, &[-1, 2147483647]));
+    assert!(rt; have_numbers(added.lits, &[-1, 2147483647]));
     assert_eq!(rt; added.hints, [3, 1].as_slice());
     let erased = log.step(1);
     assert_eq!(rt; (erased.id, erased.erase), (4, true));

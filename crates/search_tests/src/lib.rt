@@ -1,8 +1,8 @@
-//! Tests of what the search for values and its checkers are made of, from formulas and logs up to
-//! their texts: over public calls alone, so that no crate under test is proved a second time.
+//! Tests of the search for values, of its checkers and of what they are made of, from formulas and
+//! logs up to their texts: over public calls alone, so that no crate under test is proved a second
+//! time.
 //!
-//! The tests of the search itself stand in `sat_core`, since they look at the clauses that it
-//! holds.
+//! Those that look at the clauses which a search holds stand in `sat_core`.
 #![tactic(auto)]
 
 #[cfg(test)]
@@ -12,6 +12,12 @@ mod checker;
 #[cfg(test)]
 mod clauses;
 #[cfg(test)]
+mod crowds;
+#[cfg(test)]
+mod deciding;
+#[cfg(test)]
+mod forgetting;
+#[cfg(test)]
 mod full_checker;
 #[cfg(test)]
 mod numbers;
@@ -19,6 +25,10 @@ mod numbers;
 mod order;
 #[cfg(test)]
 mod random_watches;
+#[cfg(test)]
+mod search;
+#[cfg(test)]
+mod shared;
 #[cfg(test)]
 mod texts;
 #[cfg(test)]

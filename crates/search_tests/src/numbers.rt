@@ -39,6 +39,28 @@ pub(crate) fn literals(
     Ok(lits)
 }
 
+/// Whether the literals have these numbers.
+pub(crate) fn have_numbers(lits: &[Lit], codes: &[i32]) -> bool {
+    lits.len() == codes.len() && lits.iter().zip(codes).all(|(l, code)| l.code == *code)
+}
+
+/// Adds the clause with these numbers to a formula of so many variables.
+pub(crate) fn add_clause(
+    rt: &impl Abort,
+    alloc: Global,
+    formula: &mut Formula,
+    vars: u32,
+    codes: &[i32],
+) -> Result<(), AllocError> {
+    assert!(rt; vars <= 100000000);
+    assert!(rt; formula.vars() <= vars);
+    assert!(rt; formula.len() < 1000);
+    let lits = literals(rt, alloc, vars, codes)?;
+    formula.reserve(vars, 1, lits.len() as u64)?;
+    formula.push(&lits);
+    Ok(())
+}
+
 /// The formula of these clauses.
 pub(crate) fn formula_of(
     rt: &impl Abort,
@@ -47,13 +69,8 @@ pub(crate) fn formula_of(
     clauses: &[&[i32]],
 ) -> Result<Formula, AllocError> {
     let mut formula = Formula::new(alloc);
-    assert!(rt; vars <= 100000000);
     for codes in clauses {
-        let lits = literals(rt, alloc, vars, codes)?;
-        assert!(rt; formula.vars() <= vars);
-        assert!(rt; formula.len() < 100);
-        formula.reserve(vars, 1, lits.len() as u64)?;
-        formula.push(&lits);
+        add_clause(rt, alloc, &mut formula, vars, codes)?;
     }
     Ok(formula)
 }

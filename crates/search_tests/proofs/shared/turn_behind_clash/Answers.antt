@@ -1,5 +1,5 @@
-use Rattle.sat_core.proofs.ClashLaws.{may_take_clash}
-use Rattle.sat_core.proofs.shared_tests.turn_behind_clash.Goals as goal
+use Rattle.search_tests.proofs.ClashLaws.{may_take_clash}
+use Rattle.search_tests.proofs.shared.turn_behind_clash.Goals as goal
 
 pub turn-requires : goal.turn-requires
 turn-requires c =

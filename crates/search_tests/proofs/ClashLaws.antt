@@ -10,10 +10,10 @@ use Rattle.sat_clause.specs.Literal.{Clause, IsWithin, is_positive, lit, variabl
 use Rattle.sat_clause.specs.Live.{Live, clause_at}
 use Rattle.sat_clause.specs.Step.{Step, Added}
 use Rattle.sat_core.specs.Stands.{IsOpenLog, SearchAt, StandsFor, live_after}
-use Rattle.sat_core.specs.Tests.{clash, contradiction}
 use Rattle.sat_core.specs.Underway.{MayTurn}
 use Rattle.sat_core.proofs.AnalysisLaws.{only_one}
 use Rattle.sat_core.proofs.LogLemmas.{each_added_push, spares_push}
+use Rattle.search_tests.specs.Clash.{clash, contradiction}
 
 -- each clause has another literal than this one
 abbrev HaveOthers : Lit → Live → Type 0
