@@ -19,10 +19,11 @@ use desk_io::FileDesk;
 use rows_problem::{RowsError, text};
 
 // The files of cases. The first says how they are written.
-const FILES: [&str; 11] = [
+const FILES: [&str; 12] = [
     "worked.rows",
     "pinned.rows",
     "reach.rows",
+    "within.rows",
     "failing_calls.rows",
     "route_texts.rows",
     "limits.rows",

@@ -10,6 +10,10 @@ core|--conflicts=5|a|n|p|r|64|out
 sweep|a|n|p|r|64|out|--keep
 route|a|n|p|r|64|out
 route|--pin|a|n|p|r|64|out
+route|a|n|p|r|64|out|--reach|64|--members|2
+sweep|a|n|--reach=1|p|r|64|out
+trial|0|1|1|64|t|--reach|2
+verify|a|n|p|r|64|f|--reach|002
 sweep|a|n|p|r|64|out|--pin|--keep
 encode|a|n|p|r|1|out|--pin
 encode|a|n|p|r|1|out|--reach|1
@@ -59,8 +63,11 @@ sweep|a|n|p|r|5
 encode|a|n|p|r|1|out|--reach
 encode|a|n|p|r|1|out|--reach|2|--reach|2
 encode|a|n|p|r|5|--reach|2|--pin
-route|a|n|p|r|5|out|--reach|2
-verify|a|n|p|r|5|f|--reach|2
+route|a|n|p|r|5|out|--reach
+core|a|n|p|r|5|out|--reach|2
+check|c|l|--reach|2
+gen|1|2|1|g|--reach|2
+verify|a|n|p|r|5|f|--reach|2|--reach|2
 verify|a|n|p|r|5
 verify|a|n|p|r|5|f|more
 verify|a|n|p|r|5|f|--keep
@@ -90,6 +97,13 @@ sweep|a|n|p|r|0|out
 sweep|a|n|p|r|65|out
 sweep|a|n|p|r|x|out
 encode|a|n|p|r|65|out
+route|a|n|p|r|5|out|--reach|0
+route|a|n|p|r|5|out|--reach|2|--pin|--members|9
+route|a|n|p|r|5|out|--reach|2|--pin|--conflicts|0
+sweep|a|n|p|r|5|out|--reach|65
+trial|0|1|1|64|t|--reach|x
+verify|a|n|p|r|5|f|--reach=+2
+verify|a|n|p|r|5|f|--reach|65
 encode|a|n|p|r|1|out|--reach|0
 encode|a|n|p|r|1|out|--reach|65
 encode|a|n|p|r|1|out|--reach=
@@ -107,7 +121,11 @@ trial|1|2|2|65|t
 trial|1|2|2|4|t|--conflicts|0";
 
 // Lines with two options that go not together.
-const CLASH: &str = "encode|a|n|p|r|5|out|--reach|2|--pin";
+const CLASH: &str = "\
+route|a|n|p|r|5|out|--reach|2|--pin
+route|a|n|p|r|5|out|--reach|2|--seed|3
+sweep|a|n|p|r|5|out|--pin|--reach|2
+encode|a|n|p|r|5|out|--reach|2|--pin";
 
 // The words of a line, which stand between bars.
 fn parted(alloc: Global, line: &str) -> Result<Vec<String>, Fail> {
@@ -180,6 +198,12 @@ fn route_has_its_words(rt: HostRuntime) -> Result<(), Fail> {
             false,
             Method::Pinned,
         ),
+        (
+            "route|a|n|p|--reach=3|r|5|out",
+            BUDGET_DEFAULT,
+            false,
+            Method::Within(3),
+        ),
     ];
     for (line, conflicts, keep, method) in rows {
         let words = parted(rt.alloc(), line)?;
@@ -224,7 +248,7 @@ fn encode_check_and_verify_have_their_words(rt: HostRuntime) -> Result<(), Fail>
         return Err("no job of judging".into());
     };
     assert_eq!(rt; (job.files.placement, job.files.route), ("p", "r"));
-    assert_eq!(rt; (job.width, job.routed), (5u32, "f"));
+    assert_eq!(rt; (job.width, job.routed, job.reach), (5u32, "f", None));
     Ok(())
 }
 
