@@ -81,33 +81,45 @@ def searched(meets):
     return best
 
 
-def report(path):
-    (nx, ny), nets = read(path)
-    slots, steps = slots_and_steps(nets)
-    roots = roots_of(len(slots), steps)
-    cells, size = {}, {}
-    for number, (net, *cell) in enumerate(slots):
-        cells.setdefault(tuple(cell), []).append(roots[number])
-        size[roots[number]] = size.get(roots[number], 0) + 1
-    meets = {root: set() for root in size}
-    for trees in cells.values():
-        for tree in trees:
-            meets[tree].update(other for other in trees if slots[other][0] != slots[tree][0])
+class Crowds:
+    """The slots of a route, and for each tree those that it meets."""
 
-    def from_cell(cell):
-        return gathered(cells[cell] + sorted(size), meets)
+    def __init__(self, path):
+        (self.nx, self.ny), nets = read(path)
+        self.slots, self.steps = slots_and_steps(nets)
+        self.roots = roots_of(len(self.slots), self.steps)
+        self.cells, self.size = {}, {}
+        for number, (net, *cell) in enumerate(self.slots):
+            self.cells.setdefault(tuple(cell), []).append(self.roots[number])
+            self.size[self.roots[number]] = self.size.get(self.roots[number], 0) + 1
+        self.meets = {root: set() for root in self.size}
+        for trees in self.cells.values():
+            for tree in trees:
+                self.meets[tree].update(other for other in trees if self.slots[other][0] != self.slots[tree][0])
 
-    def number_of(cell):
+    def from_cell(self, cell):
+        return gathered(self.cells[cell] + sorted(self.size), self.meets)
+
+    def number_of(self, cell):
         kind, x, y = cell
-        return y * nx + x - 1 if kind == "CHANX" else nx * (ny + 1) + (y - 1) * (nx + 1) + x
+        return y * self.nx + x - 1 if kind == "CHANX" else self.nx * (self.ny + 1) + (y - 1) * (self.nx + 1) + x
 
-    most = max(size.values())
-    starts = [number for number in range(len(slots)) if most <= 2 * size[roots[number]]][:STARTS]
-    crowd = max((from_cell(slots[number][1:]) for number in starts), key=len)
-    crowded = min(cells, key=lambda cell: (-len(cells[cell]), number_of(cell)))
-    print(f"{path}: {len(slots)} slots, {len(size)} trees, crowd {len(crowd)}, "
-          f"from the most crowded cell {len(from_cell(crowded))}, by chance {len(searched(meets))}", flush=True)
+    def crowd(self):
+        most = max(self.size.values(), default=0)
+        starts = [number for number in range(len(self.slots)) if most <= 2 * self.size[self.roots[number]]][:STARTS]
+        return max((self.from_cell(self.slots[number][1:]) for number in starts), key=len, default=[])
+
+    def from_most_crowded(self):
+        return self.from_cell(min(self.cells, key=lambda cell: (-len(self.cells[cell]), self.number_of(cell))))
 
 
-for name in sys.argv[1:]:
-    report(name)
+def report(path):
+    crowds = Crowds(path)
+    print(f"{path}: {len(crowds.slots)} slots, {len(crowds.size)} trees, crowd {len(crowds.crowd())}, "
+          f"from the most crowded cell {len(crowds.from_most_crowded())}, by chance {len(searched(crowds.meets))}",
+          flush=True)
+
+
+if __name__ == "__main__":
+    for name in sys.argv[1:]:
+        report(name)

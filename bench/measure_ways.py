@@ -2,7 +2,8 @@
 """Measures the ways of a search at one width beside each other.
 
     measure_ways.py members PROGRAM [RINGS]     one search, and 2, 4 and 8 that take turns
-    measure_ways.py pins PROGRAM [RINGS]        without pinned tracks, and with them; crowded cells too
+    measure_ways.py pins PROGRAM [RINGS]        without pinned tracks, with them, and with tracks in order; crowded
+                                                cells too
 
 Runs the built program by each way on 60 shuffled rings (make_rings.py), or on as many as are said, and with `pins` also
 on cells that more nets want than there are tracks (make_crowd.py), at the width below what is needed. Prints for each
@@ -26,7 +27,7 @@ WAYS = {
         "4 members": ("--members", "4"),
         "8 members": ("--members", "8"),
     },
-    "pins": {"without": (), "pinned": ("--pin",)},
+    "pins": {"without": (), "pinned": ("--pin",), "in order": ("--symmetry",)},
 }
 CROWDS = range(5, 9)
 

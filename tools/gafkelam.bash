@@ -8,11 +8,11 @@ _gafkelam() {
     fi
     local options=--help
     case $command in
-    route) options="--conflicts --keep --pin --reach --members --seed --help" ;;
-    sweep) options="--conflicts --keep --pin --reach --help" ;;
+    route) options="--conflicts --keep --pin --symmetry --reach --members --seed --help" ;;
+    sweep) options="--conflicts --keep --pin --symmetry --reach --help" ;;
     core) options="--conflicts --help" ;;
     trial) options="--conflicts --keep --reach --help" ;;
-    encode) options="--pin --reach --help" ;;
+    encode) options="--pin --symmetry --reach --help" ;;
     verify) options="--reach --help" ;;
     esac
     if [ "${word:0:1}" = - ]; then

@@ -1,6 +1,7 @@
 pub mod AddingLemmas
 pub mod ClauseLemmas
 pub mod CrowdLaws
+pub mod CrowdSlots
 pub mod EncoderLemmas
 pub mod GatherLemmas
 pub mod GroupLemmas

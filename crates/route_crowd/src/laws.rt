@@ -2,9 +2,9 @@
 ghost use Rattle.std.specs.Prelude.{◌≡◌, ℕ, List, true};
 ghost use Rattle.fpga_types.specs.Fits.{Fits};
 ghost use Rattle.fpga_types.specs.Problem.{RoutingProblem};
-ghost use Rattle.route_crowd.specs.Crowd.{CrowdMeets};
+ghost use Rattle.route_crowd.specs.Crowd.{CrowdMeets, crowd};
 ghost use Rattle.route_crowd.specs.Groups.{is_exchangeable};
-ghost use Rattle.route_crowd.specs.Precedence.{AreSlots, ClausesSayOrder, OrderChangesNothing, OrderedSaysUnroutable};
+ghost use Rattle.route_crowd.specs.Precedence.{AreSlots, ClausesSayOrder, OrderChangesNothing, OrderedSaysUnroutable, slots_among};
 
 /// Of a problem that fits, whose groups of tracks may change places, there is a legal routing
 /// exactly where there is one in which a row of slots, whichever it is, comes to the groups in
@@ -32,4 +32,10 @@ pub fn ordered_says_unroutable()
 /// Of the trees of a problem's crowd each meets those before it.
 pub fn crowds_meet()
     ensures { (problem : RoutingProblem) → CrowdMeets problem }
+{}
+
+/// The trees of a problem's crowd stand by slots of the problem, so that all of them count in an
+/// order.
+pub fn crowds_are_slots()
+    ensures { (problem : RoutingProblem) → slots_among problem (crowd problem) ≡ crowd problem }
 {}

@@ -14,6 +14,9 @@ mod trees;
 
 pub use crowding::crowd;
 pub use exchange::{exchangeable, why_not_exchangeable};
-pub use laws::{clauses_say_order, crowds_meet, order_changes_nothing, ordered_says_unroutable};
+pub use laws::{
+    clauses_say_order, crowds_are_slots, crowds_meet, order_changes_nothing,
+    ordered_says_unroutable,
+};
 pub use limits::{CROWD_LIMIT, START_LIMIT};
 pub use ordered::Precedence;

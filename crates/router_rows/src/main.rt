@@ -19,9 +19,10 @@ use desk_io::FileDesk;
 use rows_problem::{RowsError, text};
 
 // The files of cases. The first says how they are written.
-const FILES: [&str; 12] = [
+const FILES: [&str; 13] = [
     "worked.rows",
     "pinned.rows",
+    "symmetry.rows",
     "reach.rows",
     "within.rows",
     "failing_calls.rows",

@@ -4,6 +4,8 @@ use Rattle.code_words.specs.Phrases.{is_phrase}
 use Rattle.route_symmetry.specs.declared.full.Asymmetry.{Asymmetry}
 use Rattle.route_symmetry.specs.declared.full.Asymmetry.TheVariants.{Inputs, Outputs, Pads, Pattern}
 use Rattle.router_says.specs.Names.{file_said, name_in}
+use Rattle.router_top.specs.declared.outcome.Obstacle.{Obstacle}
+use Rattle.router_top.specs.declared.outcome.Obstacle.TheVariants.{Order, Pins}
 use Rattle.router_top.specs.declared.outcome.Outcome.{Outcome}
 use Rattle.router_top.specs.declared.outcome.Outcome.TheVariants.{NotAccepted, NotLegal, NotSymmetric, InputFault, Limit, ReadFault}
 use Rattle.router_top.specs.declared.text_file.TextFile.{TextFile}
@@ -58,18 +60,29 @@ abbrev pub limit_gap : Option TextFile → List ℕ
 limit_gap (Some file) = codes ": "
 limit_gap None = []
 
--- what keeps tracks from being alike
-abbrev pub reason_said : Asymmetry → List ℕ
-reason_said Pattern = codes "the switch block type is not subset"
-reason_said Outputs = codes "an output pin does not open all of them (Fc_output)"
-reason_said Inputs = codes "an input pin does not open all of them (Fc_input)"
-reason_said Pads = codes "a pad does not open all of them (Fc_pad)"
+-- what keeps tracks from being alike enough: the switch blocks, of which this is said, or the boxes
+abbrev pub lack_said : (blocks : List ℕ) → Asymmetry → List ℕ
+lack_said blocks Pattern = blocks
+lack_said blocks Outputs = codes "an output pin does not open all of them (Fc_output)"
+lack_said blocks Inputs = codes "an input pin does not open all of them (Fc_input)"
+lack_said blocks Pads = codes "a pad does not open all of them (Fc_pad)"
 
--- at which width not all tracks are alike, and what keeps them from it
-abbrev pub asymmetry_said : (width : ℕ) → Asymmetry → List ℕ
-asymmetry_said width why =
+-- what keeps tracks from being pinned or kept in order
+abbrev pub reason_said : Obstacle → List ℕ
+reason_said (Pins why) = lack_said (codes "the switch block type is not subset") why
+reason_said (Order why) =
+    lack_said (codes "the switch block type is neither subset nor universal") why
+
+-- the option that asks for it
+abbrev pub option_said : Obstacle → List ℕ
+option_said (Pins why) = codes "--pin"
+option_said (Order why) = codes "--symmetry"
+
+-- at which width tracks are not alike enough, what keeps them from it, and which option can't be used
+abbrev pub obstacle_said : (width : ℕ) → Obstacle → List ℕ
+obstacle_said width why =
     codes "not symmetric at " ++ (decimal width ++ (codes " tracks: " ++ (reason_said why
-    ++ codes ", so --pin can't be used")))
+    ++ (codes ", so " ++ (option_said why ++ codes " can't be used")))))
 
 -- a text that says so with some phrase as the reason
 abbrev pub GivesWhy : ((why : List ℕ) → List ℕ) → List ℕ → Type 0
@@ -82,7 +95,7 @@ Means (NotLegal line cause) text = GivesWhy (line_said line cause) text
 Means (InputFault file line code) text = GivesWhy (line_said line code) text
 Means (Limit code count) text =
     GivesWhy (λ why. limit_gap (limit_file code) ++ limit_said code count why) text
-Means (NotSymmetric width why) text = text ≡ asymmetry_said width why
+Means (NotSymmetric width why) text = text ≡ obstacle_said width why
 Means _ text = ⊤
 
 -- after what stood in a text comes the file that is meant, then what is wrong, and a newline

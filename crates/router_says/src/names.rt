@@ -115,6 +115,6 @@ pub(crate) fn reach_asked(job: Option<Job<'_>>) -> Option<u32> {
 fn reach_of(method: Method) -> Option<u32> {
     match method {
         Method::Within(reach) => Some(reach),
-        Method::Strictly | Method::Pinned => None,
+        Method::Strictly | Method::Pinned | Method::Ordered => None,
     }
 }

@@ -25,9 +25,11 @@ pub(crate) fn append_usage(
 // Which options of a command exclude each other, or need another.
 fn clash_of(name: &str) -> &'static str {
     match name {
-        "sweep" | "encode" => "--pin and --reach exclude each other.\n",
-        _ => "--pin and --reach exclude each other, and --seed is the seed of searches that take \
-              turns: give their number by --members.\n",
+        "sweep" | "encode" => "--pin, --symmetry and --reach exclude one another.\n",
+        _ => {
+            "--pin, --symmetry and --reach exclude one another, and --seed is the seed of \
+             searches that take turns: give their number by --members.\n"
+        }
     }
 }
 
@@ -35,13 +37,13 @@ fn clash_of(name: &str) -> &'static str {
 fn form_of(name: &str) -> (&'static str, &'static str) {
     match name {
         "sweep" => (
-            "sweep ARCH NET PLACE ROUTE MAX PREFIX [--conflicts N] [--keep] [--pin | --reach L], \
-             MAX and L from 1 to 64",
+            "sweep ARCH NET PLACE ROUTE MAX PREFIX [--conflicts N] [--keep] \
+             [--pin | --symmetry | --reach L], MAX and L from 1 to 64",
             "sweep design.arch design.net design.place design.route 12 out",
         ),
         "encode" => (
-            "encode ARCH NET PLACE ROUTE WIDTH PREFIX [--pin | --reach L], WIDTH and L from 1 to \
-             64",
+            "encode ARCH NET PLACE ROUTE WIDTH PREFIX [--pin | --symmetry | --reach L], WIDTH and L \
+             from 1 to 64",
             "encode design.arch design.net design.place design.route 9 out",
         ),
         "core" => (
@@ -63,8 +65,9 @@ fn form_of(name: &str) -> (&'static str, &'static str) {
             "trial 1 20 300 12 out",
         ),
         _ => (
-            "route ARCH NET PLACE ROUTE WIDTH PREFIX [--conflicts N] [--keep] [--pin | --reach L] \
-             [--members K] [--seed S], WIDTH and L from 1 to 64, K to 8",
+            "route ARCH NET PLACE ROUTE WIDTH PREFIX [--conflicts N] [--keep] \
+             [--pin | --symmetry | --reach L] [--members K] [--seed S], WIDTH and L from 1 to 64, \
+             K to 8",
             "route design.arch design.net design.place design.route 9 out",
         ),
     }

@@ -3,19 +3,18 @@ ghost use Rattle.std.specs.Prelude.{◌≡◌, ◌++◌, IfOk, IfSome, IsOk, IsT
 ghost use Rattle.code_words.specs.Phrases.{is_phrase};
 ghost use Rattle.router_says.specs.Names.{name_in, name_of};
 ghost use Rattle.router_says.specs.Quiet.{is_quiet};
-ghost use Rattle.router_says.specs.Said.{GivesWhy, IsSaid, Means, about_said, asymmetry_said, file_about, limit_file, limit_gap, limit_said, line_said, step_said};
+ghost use Rattle.router_says.specs.Said.{GivesWhy, IsSaid, Means, about_said, file_about, limit_file, limit_gap, limit_said, line_said, obstacle_said, step_said};
 ghost use Rattle.router_top.specs.declared.text_file.TextFile.{TextFile as AnyFile};
 ghost use Rattle.router_words.specs.Word.{Word, words_of};
 
 use crate::names::{given_name, job_in, reach_asked};
 use crate::refused::{append_file, append_limit, append_line, append_step, file_of};
-use crate::symmetry::append_asymmetry;
+use crate::symmetry::append_obstacle;
 use crate::unread::append_unread;
 use crate::unsettled::{append_no_memory, append_undecided, append_unroutable};
 use crate::usage::append_usage;
 use code_words::{cause, cause_within_reach, refusal};
-use route_symmetry::Asymmetry;
-use router_top::{Outcome, TextFile};
+use router_top::{Obstacle, Outcome, TextFile};
 use router_words::Job;
 use std::alloc::{AllocError, Global};
 use std::rt::Files;
@@ -122,7 +121,7 @@ fn meaning<R: Files + AllocGlobal>(
         }
         Outcome::InputFault { line, code, .. } => bad_line(rt.alloc(), line, code, cause(code)),
         Outcome::Limit { code, count } => passed_limit(rt.alloc(), code, count),
-        Outcome::NotSymmetric { width, why } => asymmetry(rt.alloc(), width, why),
+        Outcome::NotSymmetric { width, why } => obstacle(rt.alloc(), width, why),
         Outcome::Unroutable { .. }
         | Outcome::Undecided { .. }
         | Outcome::Usage { .. }
@@ -183,12 +182,12 @@ fn passed_limit(alloc: Global, code: u32, count: u64) -> Result<String, AllocErr
     Ok(text)
 }
 
-// What keeps tracks from being alike that are to be pinned.
-fn asymmetry(alloc: Global, width: u32, why: Asymmetry) -> Result<String, AllocError>
-    ensures { IfOk result (λ text. string_bytes text ≡ asymmetry_said width why) }
+// What keeps tracks from being pinned or kept in order.
+fn obstacle(alloc: Global, width: u32, why: Obstacle) -> Result<String, AllocError>
+    ensures { IfOk result (λ text. string_bytes text ≡ obstacle_said width why) }
 {
     let mut text = String::new(alloc);
-    append_asymmetry(&mut text, width, why)?;
+    append_obstacle(&mut text, width, why)?;
     Ok(text)
 }
 

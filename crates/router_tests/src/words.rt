@@ -15,6 +15,9 @@ sweep|a|n|--reach=1|p|r|64|out
 trial|0|1|1|64|t|--reach|2
 verify|a|n|p|r|64|f|--reach|002
 sweep|a|n|p|r|64|out|--pin|--keep
+route|a|n|p|r|64|out|--symmetry|--members|2
+sweep|--symmetry|a|n|p|r|64|out
+encode|a|n|p|r|1|out|--symmetry
 encode|a|n|p|r|1|out|--pin
 encode|a|n|p|r|1|out|--reach|1
 encode|--reach=064|a|n|p|r|1|out
@@ -40,6 +43,7 @@ core|a|n|p|r|5
 core|a|n|p|r|5|out|more
 core|a|n|p|r|5|out|--keep
 core|a|n|p|r|5|out|--pin
+core|a|n|p|r|5|out|--symmetry
 core|a|n|p|r|5|out|--members|2
 route|a
 route|a|n|p|r|5
@@ -52,6 +56,8 @@ route|a|n|p|r|5|out|--keep=x
 route|a|n|p|r|5|out|--pin|--pin
 route|a|n|p|r|5|out|--pin=x
 route|a|n|p|r|5|out|--pinned
+route|a|n|p|r|5|out|--symmetry|--symmetry
+route|a|n|p|r|5|out|--symmetry=x
 route|a|n|p|r|5|out|--conflicts|5|--conflicts|6
 route|a|n|p|r|5|out|--conflicts
 route|a|n|p|r|5|out|--conf|5
@@ -72,13 +78,15 @@ verify|a|n|p|r|5
 verify|a|n|p|r|5|f|more
 verify|a|n|p|r|5|f|--keep
 verify|a|n|p|r|5|f|--pin
+verify|a|n|p|r|5|f|--symmetry
 check|c|l|--pin
 gen|1|2|1
 gen|1|2|1|g|--keep
 gen|1|2|1|g|--pin
 gen|-1|2|1|g
 trial|1|2|2|t
-trial|1|2|2|4|t|--pin";
+trial|1|2|2|4|t|--pin
+trial|1|2|2|4|t|--symmetry";
 
 // Lines with a word that is no number in its range.
 const NO_NUMBER: &str = "\
@@ -125,6 +133,10 @@ const CLASH: &str = "\
 route|a|n|p|r|5|out|--reach|2|--pin
 route|a|n|p|r|5|out|--reach|2|--seed|3
 sweep|a|n|p|r|5|out|--pin|--reach|2
+route|a|n|p|r|5|out|--pin|--symmetry
+sweep|a|n|p|r|5|out|--symmetry|--reach|2
+encode|a|n|p|r|5|out|--symmetry|--pin
+encode|a|n|p|r|5|out|--symmetry|--reach|2|--pin
 encode|a|n|p|r|5|out|--reach|2|--pin";
 
 // The words of a line, which stand between bars.
@@ -203,6 +215,12 @@ fn route_has_its_words(rt: HostRuntime) -> Result<(), Fail> {
             BUDGET_DEFAULT,
             false,
             Method::Within(3),
+        ),
+        (
+            "route|a|n|p|r|5|out|--symmetry",
+            BUDGET_DEFAULT,
+            false,
+            Method::Ordered,
         ),
     ];
     for (line, conflicts, keep, method) in rows {

@@ -9,8 +9,6 @@ use Rattle.fpga_types.specs.Slots.{slots}
 use Rattle.fpga_types.specs.declared.limits.TheConstants.{SLOT_LIMIT}
 use Rattle.list_laws.proofs.Places.{some_is}
 use Rattle.route_sweep.specs.Found.{HasFew}
-use Rattle.route_symmetry.specs.Full.{asymmetry_of, is_full}
-use Rattle.route_symmetry.specs.declared.full.Asymmetry.{Asymmetry}
 use Rattle.route_verify.specs.Reach.{judged_by}
 use Rattle.sat_clause.specs.Formula.{Cnf}
 use Rattle.sat_clause.specs.declared.limits.TheConstants.{CLAUSE_LIMIT}
@@ -23,15 +21,15 @@ use Rattle.router_words.specs.Job.{Blames, CheckAsked, Checks, Encodes, FilesAsk
 use Rattle.router_words.specs.Word.{Word}
 use Rattle.router_words.specs.declared.fault.Refusal.{Refusal}
 use Rattle.router_words.specs.declared.method.Method.{Method}
-use Rattle.router_words.specs.declared.method.Method.TheVariants.{Pinned, Strictly, Within}
 use Rattle.router_top.specs.Check.{ChecksTo, cnf_source, judgement_outcome, lrat_source}
 use Rattle.router_top.specs.Generated.{IsTooLarge, Makes}
 use Rattle.router_top.specs.Method.{HasNone, clauses_by}
 use Rattle.router_top.specs.Search.{Search, clauses_held, core_search, route_search, sweep_of, sweep_search}
 use Rattle.router_top.specs.Sources.{IsHalted, ReadsThen}
-use Rattle.router_top.specs.Suited.{IsLeastUnlike, IsTrueOfSuited, IsUnsuited, Suits}
+use Rattle.router_top.specs.Suited.{IsLeastUnsuited, IsTrueOfSuited, IsUnsuited, Suits, is_suited, obstacle_to}
 use Rattle.router_top.specs.Truth.{Agrees, IsOpenBelow, IsReached, IsTrueAt, IsTrueOf, IsTrueOfClauses, IsTrueOfEncoding, IsTrueOfJob, IsTrueOfRecipe, IsTrueOfSearch, IsTrueOfSuitedSearch, IsTrueOfTurns, IsTrueOfWork}
 use Rattle.router_top.specs.Verify.{JudgesTo, VerifiesTo, judged_outcome, routed_source}
+use Rattle.router_top.specs.declared.outcome.Obstacle.{Obstacle}
 use Rattle.router_top.specs.declared.outcome.Outcome.{Outcome}
 use Rattle.router_top.specs.declared.outcome.Outcome.TheVariants.{Done, NotSymmetric, Undecided, Usage}
 use Rattle.router_top.proofs.FourLaws.{lack-poses, one-lack, one-problem}
@@ -174,54 +172,50 @@ module _ (search : Search) (p : RoutingProblem) where
 
 -- ---- a method that does not suit the problem
 
--- tracks are not alike and alike
-not-alike : (width : ℕ) (p : RoutingProblem) → is_full width p ≡ false → is_full width p ≡ true → ⊥
-not-alike width p unlike alike = cc
+-- a method does not suit a problem and suit it
+not-suited : (method : Method) (width : ℕ) (p : RoutingProblem) → is_suited method width p ≡ false
+    → is_suited method width p ≡ true → ⊥
+not-suited method width p unsuited suited = cc
 
-module _ (first last : ℕ) (p : RoutingProblem) where
-  -- there is one least width at which not all tracks are alike
-  one-least : (width other : ℕ) (why why_other : Asymmetry)
-      → IsLeastUnlike first last p width why → IsLeastUnlike first last p other why_other
-      → width ≡ other
+module _ (method : Method) (first last : ℕ) (p : RoutingProblem) where
+  -- there is one least width at which the method does not suit the problem
+  one-least : (width other : ℕ) (why why_other : Obstacle)
+      → IsLeastUnsuited method first last p width why
+      → IsLeastUnsuited method first last p other why_other → width ≡ other
   one-least width other why why_other h g = go (order width other)
     where
       go : (width < other) ⊎ (width ≡ other) ⊎ (other < width) → width ≡ other
-      go (inl less) = absurd (not-alike width p h.unlike (g.lower width h.from less))
+      go (inl less) = absurd (not-suited method width p h.unsuited (g.lower width h.from less))
       go (inr (inl same)) = same
-      go (inr (inr more)) = absurd (not-alike other p g.unlike (h.lower other g.from more))
+      go (inr (inr more)) = absurd (not-suited method other p g.unsuited (h.lower other g.from more))
 
-  -- and one reason there
-  one-reason : (width other : ℕ) (why why_other : Asymmetry)
-      → IsLeastUnlike first last p width why → IsLeastUnlike first last p other why_other
-      → width ≡ other → why ≡ why_other
+  -- and one obstacle there
+  one-reason : (width other : ℕ) (why why_other : Obstacle)
+      → IsLeastUnsuited method first last p width why
+      → IsLeastUnsuited method first last p other why_other → width ≡ other → why ≡ why_other
   one-reason width other why why_other h g same =
-      some_is (sym h.because ∙ ap (λ (n : ℕ). asymmetry_of n p) same ∙ g.because)
+      some_is (sym h.because ∙ ap (λ (n : ℕ). obstacle_to method n p) same ∙ g.because)
 
-  one-unsuited : (method : Method) (a b : Outcome) → IsUnsuited method first last p a
+  one-unsuited : (a b : Outcome) → IsUnsuited method first last p a
       → IsUnsuited method first last p b → a ≡ b
-  one-unsuited Strictly a b h g = absurd h
-  one-unsuited Pinned a b (width, why, h, is) (other, why_other, g, is_other) =
+  one-unsuited a b (width, why, h, is) (other, why_other, g, is_other) =
       let same = one-least width other why why_other h g in
       let reason = one-reason width other why why_other h g same in
       is ∙ (λ i. NotSymmetric (same i) (reason i)) ∙ sym is_other
-  one-unsuited (Within reach) a b h g = absurd h
 
-  -- a method does not suit a problem and suit it
-  not-both-suit : (method : Method) (a : Outcome) → IsUnsuited method first last p a
+  not-both-suit : (a : Outcome) → IsUnsuited method first last p a
       → Suits method first last p → ⊥
-  not-both-suit Strictly a h suits = absurd h
-  not-both-suit Pinned a (width, why, h, is) alike =
-      not-alike width p h.unlike (alike width h.from h.to)
-  not-both-suit (Within reach) a h suits = absurd h
+  not-both-suit a (width, why, h, is) suits =
+      not-suited method width p h.unsuited (suits width h.from h.to)
 
-  suited-agrees : (method : Method) (says : Outcome → Type 0) (a b : Outcome)
+  suited-agrees : (says : Outcome → Type 0) (a b : Outcome)
       → IsTrueOfSuited method first last p (says a) a
       → IsTrueOfSuited method first last p (says b) b → (says a → says b → Agrees a b)
       → Agrees a b
-  suited-agrees method says a b (inl h) (inl g) agree = inl (one-unsuited method a b h g)
-  suited-agrees method says a b (inl h) (inr g) agree = absurd (not-both-suit method a h g.0)
-  suited-agrees method says a b (inr h) (inl g) agree = absurd (not-both-suit method b g h.0)
-  suited-agrees method says a b (inr h) (inr g) agree = agree h.1 g.1
+  suited-agrees says a b (inl h) (inl g) agree = inl (one-unsuited a b h g)
+  suited-agrees says a b (inl h) (inr g) agree = absurd (not-both-suit a h g.0)
+  suited-agrees says a b (inr h) (inl g) agree = absurd (not-both-suit b g h.0)
+  suited-agrees says a b (inr h) (inr g) agree = agree h.1 g.1
 
 check-agrees : (job : CheckAsked) (files : FileMap) (a b : Outcome)
     → ChecksTo (IsHalted (Some files)) (Some files) job a
@@ -295,15 +289,15 @@ job-agrees : (job : JobAsked) (files : FileMap) (a b : Outcome) → IsTrueOfJob 
     IsTrueOfJob job (Some files) b → Agrees a b
 job-agrees (Routes job) files a b h g =
     work-agrees files job.files (IsTrueOfSuitedSearch (route_search job)) a b h g
-    (λ p u v. suited-agrees job.search.width job.search.width p job.search.method
+    (λ p u v. suited-agrees job.search.method job.search.width job.search.width p
     (IsTrueOfSearch (route_search job) p) a b u v (search-agrees (route_search job) p (inr refl) a b))
 job-agrees (Sweeps job) files a b h g =
     work-agrees files job.files (IsTrueOfSuitedSearch (sweep_search job)) a b h g
-    (λ p u v. suited-agrees 1 job.search.width p job.search.method
+    (λ p u v. suited-agrees job.search.method 1 job.search.width p
     (IsTrueOfSearch (sweep_search job) p) a b u v (search-agrees (sweep_search job) p (inl refl) a b))
 job-agrees (Encodes job) files a b h g =
     work-agrees files job.files (IsTrueOfEncoding job) a b h g
-    (λ p u v. suited-agrees job.width job.width p job.method
+    (λ p u v. suited-agrees job.method job.width job.width p
     (λ said. IsTrueOfClauses (clauses_by job.method job.width p) (said ≡ Done) said) a b u v
     (λ s t. clauses-agree (clauses_by job.method job.width p) (λ said. said ≡ Done) a b s t
     (λ e f. inl (e ∙ sym f))))

@@ -42,6 +42,7 @@ use Rattle.router_top.specs.JobFiles.{IsClimb, LeavesWhole}
 use Rattle.router_top.specs.Means.{IsJudged, Means}
 use Rattle.router_top.specs.Method.{IsRoutingBy, clauses_by}
 use Rattle.router_top.specs.Outcomes.{climbed_outcome, found_outcome, written_outcome}
+use Rattle.router_top.specs.Prepared.{LeavesPrepared}
 use Rattle.router_top.specs.Run.{Leaves, LeavesJob, LeavesWork, Scene, TriesGenerated, WritesGenerated}
 use Rattle.router_top.specs.Saying.{more_said, AreNetLines, IsUnroutable, Leads}
 use Rattle.router_top.specs.Search.{files_of, route_search, search_asked, sweep_of, sweep_search, Search, clauses_held, core_search, lower_widths}
@@ -158,6 +159,14 @@ module _ (words : List Word) (at : Scene) where
         (unsuited-holds Spares (λ width why. (tt, tt)) method first last p o h.0)
         (λ calm. inl (true-of o (told h.0)))
     suited-came method first last works p o told none came (inr h) = came h.0 h.1
+
+  -- where memory sufficed for what the method wants before the work
+  prepared-came : (method : Method)
+      (works : RoutingProblem → ShelfState → ShelfState → Outcome → Type 0) (p : RoutingProblem)
+      (o : Outcome) → NoTrial o → (works p at.shelf at.shelf_now o → Came words at o)
+      → LeavesPrepared method works p at.shelf at.shelf_now o → Came words at o
+  prepared-came method works p o none came (inl h) = spent o h.1 none h.0.1
+  prepared-came method works p o none came (inr h) = came h
 
   -- ---- a search at one width
 
@@ -700,25 +709,30 @@ module _ (words : List Word) (at : Scene) where
       work-came (Routes job) asked job.files (IsTrueOfSuitedSearch (route_search job))
       (RouteLeaves job) o (λ told. told) (λ other is. cc)
       (λ p poses. suited-came (Routes job) asked job.search.method job.search.width
-      job.search.width (LeavesRoute job) p o (λ unsuited. inr (p, poses, inl unsuited))
-      (λ other is. cc)
-      (λ suits. route-came job asked p poses
-      (λ says told. true-of (Routes job) asked says (inr (p, poses, inr (suits, told)))) o)) h
+      job.search.width (LeavesPrepared job.search.method (LeavesRoute job)) p o
+      (λ unsuited. inr (p, poses, inl unsuited)) (λ other is. cc)
+      (λ suits. prepared-came job.search.method (LeavesRoute job) p o (λ other is. cc)
+      (route-came job asked p poses
+      (λ says told. true-of (Routes job) asked says (inr (p, poses, inr (suits, told)))) o))) h
   job-came (SweepsJob job) o asked h =
       work-came (SweepsJob job) asked job.files (IsTrueOfSuitedSearch (sweep_search job))
       (SweepLeaves job) o (λ told. told) (λ other is. cc)
       (λ p poses. suited-came (SweepsJob job) asked job.search.method 1 job.search.width
-      (Sweeps job) p o (λ unsuited. inr (p, poses, inl unsuited)) (λ other is. cc)
-      (λ suits. sweep-came (SweepsJob job) job p asked refl (inl (job, asked)) poses
+      (LeavesPrepared job.search.method (Sweeps job)) p o
+      (λ unsuited. inr (p, poses, inl unsuited)) (λ other is. cc)
+      (λ suits. prepared-came job.search.method (Sweeps job) p o (λ other is. cc)
+      (sweep-came (SweepsJob job) job p asked refl (inl (job, asked)) poses
       (λ says told. true-of (SweepsJob job) asked says (inr (p, poses, inr (suits, told))))
       at.shelf refl refl [] (sym (more-none at.shelf.said)) o
-      (inr (refl, record { no_trial = λ other is. cc; no_nets = λ other is unroutable. cc })))) h
+      (inr (refl, record { no_trial = λ other is. cc; no_nets = λ other is unroutable. cc }))))) h
   job-came (EncodesJob job) o asked h =
       work-came (EncodesJob job) asked job.files (IsTrueOfEncoding job) (EncodeLeaves job) o
       (λ told. told) (λ other is. cc)
-      (λ p poses. suited-came (EncodesJob job) asked job.method job.width job.width (Encodes job)
-      p o (λ unsuited. inr (p, poses, inl unsuited)) (λ other is. cc)
-      (λ suits did. written-came job asked p poses suits did.came o did.is did.writes)) h
+      (λ p poses. suited-came (EncodesJob job) asked job.method job.width job.width
+      (LeavesPrepared job.method (Encodes job)) p o (λ unsuited. inr (p, poses, inl unsuited))
+      (λ other is. cc)
+      (λ suits. prepared-came job.method (Encodes job) p o (λ other is. cc)
+      (λ did. written-came job asked p poses suits did.came o did.is did.writes))) h
   job-came (Blames job) o asked h =
       work-came (Blames job) asked job.files (IsTrueOfSearch (core_search job)) (LeavesCore job) o
       (λ told. told) (λ other is. cc)

@@ -13,6 +13,7 @@ mod LiteralLaws
 mod MeansLaws
 mod MethodLaws
 mod NameLaws
+mod PreparedLaws
 mod SaidLaws
 mod SlotCountLaws
 mod SourceLaws

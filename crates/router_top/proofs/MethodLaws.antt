@@ -13,6 +13,10 @@ use Rattle.fpga_types.specs.declared.route.RouteText.{RouteText}
 use Rattle.route_encode.specs.Encoding.{cnf_of}
 use Rattle.route_encode.specs.Good.{IsRoutingOf}
 use Rattle.route_encode.proofs.ProblemExactness.{unsat-says-unroutable}
+use Rattle.route_crowd.specs.Crowd.{crowd}
+use Rattle.route_crowd.specs.Precedence.{ordered_cnf}
+use Rattle.route_crowd.proofs.ClauseLemmas.{unsat_unroutable as unsat-ordered}
+use Rattle.route_crowd.proofs.CrowdSlots.{crowd-slots}
 use Rattle.route_reach.specs.Encoding.{reach_cnf}
 use Rattle.route_reach.specs.Trees.{wires_of}
 use Rattle.route_reach.proofs.PrintLemmas.{routes-read-back}
@@ -25,7 +29,7 @@ use Rattle.sat_clause.specs.Judge.{Accepts}
 use Rattle.sat_clause.specs.Step.{Step}
 use Rattle.sat_clause.proofs.Refutes.{refutes}
 use Rattle.router_words.specs.declared.method.Method.{Method}
-use Rattle.router_words.specs.declared.method.Method.TheVariants.{Pinned, Strictly, Within}
+use Rattle.router_words.specs.declared.method.Method.TheVariants.{Ordered, Pinned, Strictly, Within}
 use Rattle.router_top.specs.Method.{CoversStrict, HasNone, HasOne, IsRoutingBy, clauses_by}
 
 -- a log that refutes the clauses of a problem that fits shows that it has no legal routing
@@ -37,6 +41,9 @@ none-legal Pinned width p log given fits accepts =
     (unsat_unroutable width p given fits).0 (refutes (pinned_cnf width p) log accepts)
 none-legal (Within reach) width p log given fits accepts =
     (unsat-says-unreachable width reach p).0 (refutes (reach_cnf width reach p) log accepts)
+none-legal Ordered width p log given fits accepts =
+    (unsat-ordered width p (crowd p) fits (crowd-slots p)).0
+    (refutes (ordered_cnf width p (crowd p)) log accepts)
 
 -- where a problem that fits has no legal routing within a reach that is long enough for its global
 -- route, it has none without a reach either
@@ -46,6 +53,7 @@ covers-strict Strictly width p given fits none = tt
 covers-strict Pinned width p given fits none = tt
 covers-strict (Within reach) width p given fits none =
     λ long. reach-covers-strict width reach p given.route fits long none
+covers-strict Ordered width p given fits none = tt
 
 -- a routing of a problem that fits shows that there is a legal one
 pub one-legal : (method : Method) (width : ℕ) (p : RoutingProblem) (found : RouteText) → IsGiven p
@@ -56,6 +64,7 @@ one-legal (Within reach) width p found given fits routing = (
   map wires_of found.nets,
   routes-say-reached width reach p given.route fits found routing,
 )
+one-legal Ordered width p found given fits routing = (tracks_of p.route found, routing.legal)
 
 -- the global route that was read, with the tracks of a routing, can be printed
 tracks-printable : (width : ℕ) (p : RoutingProblem) (found : RouteText) (text : Bytes)
@@ -76,3 +85,5 @@ routing-printable Pinned width p found text given fits narrow read routing =
 routing-printable (Within reach) width p found text given fits narrow read routing =
     (routes-read-back width reach p given.route fits (omega (arith, narrow))
     (can_print text p.route read) found routing).0
+routing-printable Ordered width p found text given fits narrow read routing =
+    tracks-printable width p found text narrow read routing

@@ -9,13 +9,12 @@ use Rattle.fpga_route.specs.Value.{route_value}
 use Rattle.fpga_text.specs.declared.fault.TextFault.{TextFault}
 use Rattle.fpga_text.specs.declared.fault.TextFault.TheVariants.{Bad, Limit as PastLimit, Memory as NoMemory}
 use Rattle.fpga_types.specs.Problem.{RoutingProblem, problem_of}
-use Rattle.route_symmetry.specs.declared.full.Asymmetry.{Asymmetry}
 use Rattle.router_words.specs.Job.{FilesAsked}
 use Rattle.router_words.specs.declared.method.Method.{Method}
-use Rattle.router_words.specs.declared.method.Method.TheVariants.{Pinned, Strictly, Within}
 use Rattle.router_top.specs.FourFiles.{GivesNone, IsUnfit, arch_source, net_source, place_source, route_source}
 use Rattle.router_top.specs.Sources.{IsStopped, ReadsThen, Says, Source, fault_outcome}
 use Rattle.router_top.specs.Suited.{IsUnsuited}
+use Rattle.router_top.specs.declared.outcome.Obstacle.{Obstacle}
 use Rattle.router_top.specs.declared.outcome.Outcome.{Outcome}
 use Rattle.router_top.specs.declared.outcome.Outcome.TheVariants.{InputFault, Limit, NotSymmetric, ReadFault, OutOfMemory}
 use Rattle.router_top.specs.declared.text_file.TextFile.{TextFile}
@@ -62,11 +61,9 @@ module _ (Q : Outcome → Type 0) (each : HoldsOfStops Q) where
         (λ route. IsUnfit (problem_of arch netlist placement route)) o
         (λ route says unfit. subst Q (sym unfit.2) (fault-holds Route unfit.0)))))
 
--- what holds of tracks that are not alike holds of a method that does not suit the problem
+-- what holds of such outcomes holds of a method that does not suit the problem
 pub unsuited-holds : (Q : Outcome → Type 0)
-    → ((width : ℕ) (why : Asymmetry) → Q (NotSymmetric width why))
+    → ((width : ℕ) (why : Obstacle) → Q (NotSymmetric width why))
     → (method : Method) (first last : ℕ) (p : RoutingProblem) (o : Outcome)
     → IsUnsuited method first last p o → Q o
-unsuited-holds Q each Strictly first last p o h = absurd h
-unsuited-holds Q each Pinned first last p o h = subst Q (sym h.3) (each h.0 h.1)
-unsuited-holds Q each (Within reach) first last p o h = absurd h
+unsuited-holds Q each method first last p o h = subst Q (sym h.3) (each h.0 h.1)

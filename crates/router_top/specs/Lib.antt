@@ -10,6 +10,7 @@ pub mod JobFiles
 pub mod Means
 pub mod Method
 pub mod Outcomes
+pub mod Prepared
 pub mod Report
 pub mod Run
 pub mod Saying

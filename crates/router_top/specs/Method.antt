@@ -7,6 +7,8 @@ use Rattle.fpga_types.specs.declared.route.RouteText.{RouteText}
 use Rattle.route_encode.specs.Encoding.{cnf_of}
 use Rattle.route_encode.specs.Exact.{IsLegalRouting, IsUnroutableAt}
 use Rattle.route_encode.specs.Good.{IsRoutingOf}
+use Rattle.route_crowd.specs.Crowd.{crowd}
+use Rattle.route_crowd.specs.Precedence.{ordered_cnf}
 use Rattle.route_reach.specs.Encoding.{reach_cnf}
 use Rattle.route_reach.specs.Good.{IsReachRoute}
 use Rattle.route_reach.specs.Reach.{IsReachLegal}
@@ -14,20 +16,22 @@ use Rattle.route_reach.specs.TraceDepth.{trace_depth}
 use Rattle.route_symmetry.specs.Pinned.{pinned_cnf}
 use Rattle.sat_clause.specs.Formula.{Cnf}
 use Rattle.router_words.specs.declared.method.Method.{Method}
-use Rattle.router_words.specs.declared.method.Method.TheVariants.{Pinned, Strictly, Within}
+use Rattle.router_words.specs.declared.method.Method.TheVariants.{Ordered, Pinned, Strictly, Within}
 
 -- the clauses that say a routing of the problem at a width
 abbrev pub clauses_by : Method → (width : ℕ) → RoutingProblem → Cnf
 clauses_by Strictly width p = cnf_of width p
 clauses_by Pinned width p = pinned_cnf width p
 clauses_by (Within reach) width p = reach_cnf width reach p
+clauses_by Ordered width p = ordered_cnf width p (crowd p)
 
--- the route is a legal routing of the problem, whichever tracks were pinned to find it; or it is
--- one within the reach
+-- the route is a legal routing of the problem, whichever tracks were pinned or put in order to find
+-- it; or it is one within the reach
 abbrev pub IsRoutingBy : Method → (width : ℕ) → RoutingProblem → RouteText → Type 0
 IsRoutingBy Strictly width p found = IsRoutingOf width p found
 IsRoutingBy Pinned width p found = IsRoutingOf width p found
 IsRoutingBy (Within reach) width p found = IsReachRoute width reach p found
+IsRoutingBy Ordered width p found = IsRoutingOf width p found
 
 -- what may make a routing of a problem: a track for each slot, in their order; within a reach wires
 -- for each net
@@ -35,12 +39,15 @@ abbrev pub Witness : Method → Type 0
 Witness Strictly = List ℕ
 Witness Pinned = List ℕ
 Witness (Within reach) = List (List Wire)
+Witness Ordered = List ℕ
 
--- it makes a legal routing, with the pinned tracks or with others, or one within the reach
+-- it makes a legal routing, with the pinned tracks or that order or with others, or one within the
+-- reach
 abbrev pub IsLegalBy : (method : Method) → (width : ℕ) → RoutingProblem → Witness method → Type 0
 IsLegalBy Strictly width p tracks = IsLegalRouting width p tracks
 IsLegalBy Pinned width p tracks = IsLegalRouting width p tracks
 IsLegalBy (Within reach) width p sets = IsReachLegal width reach p sets
+IsLegalBy Ordered width p tracks = IsLegalRouting width p tracks
 
 -- some make a legal routing
 abbrev pub HasOne : Method → (width : ℕ) → RoutingProblem → Type 0
@@ -55,4 +62,5 @@ HasNone method width p = (witness : Witness method) → ¬ IsLegalBy method widt
 abbrev pub CoversStrict : Method → (width : ℕ) → RoutingProblem → Type 0
 CoversStrict Strictly width p = ⊤
 CoversStrict Pinned width p = ⊤
+CoversStrict Ordered width p = ⊤
 CoversStrict (Within reach) width p = trace_depth p.route ≤ reach → IsUnroutableAt width p

@@ -1,45 +1,56 @@
--- Whether the method of a job suits its problem: where tracks are pinned, all of them have to be
--- alike at each width that the job may come to.
-use Rattle.std.specs.Prelude.{◌≡◌, ◌⊎◌, ℕ, ◌<◌, ◌≤◌, true, false, ⊤, Some}
+-- Whether the method of a job suits its problem at each width that the job may come to, and what the
+-- job leaves by that.
+use Rattle.std.specs.Prelude.{◌≡◌, ◌⊎◌, ℕ, ◌<◌, ◌≤◌, Bool, true, false, Option, Some, None, option_map}
 use Rattle.desk_io.specs.ShelfState.{ShelfState}
 use Rattle.fpga_types.specs.Problem.{RoutingProblem}
+use Rattle.route_crowd.specs.Groups.{is_exchangeable, obstacle_of}
 use Rattle.route_symmetry.specs.Full.{asymmetry_of, is_full}
-use Rattle.route_symmetry.specs.declared.full.Asymmetry.{Asymmetry}
 use Rattle.router_words.specs.Job.{EncodeAsked, RouteAsked, SweepAsked}
 use Rattle.router_words.specs.declared.method.Method.{Method}
-use Rattle.router_words.specs.declared.method.Method.TheVariants.{Pinned, Strictly, Within}
+use Rattle.router_words.specs.declared.method.Method.TheVariants.{Ordered, Pinned, Strictly, Within}
+use Rattle.router_top.specs.Prepared.{LeavesPrepared}
 use Rattle.router_top.specs.Work.{Encodes, LeavesRoute, Sweeps}
+use Rattle.router_top.specs.declared.outcome.Obstacle.{Obstacle}
+use Rattle.router_top.specs.declared.outcome.Obstacle.TheVariants.{Order, Pins}
 use Rattle.router_top.specs.declared.outcome.Outcome.{Outcome}
 use Rattle.router_top.specs.declared.outcome.Outcome.TheVariants.{NotSymmetric}
 
--- all tracks of the problem are alike at each of these widths
-abbrev pub AreAlike : (first last : ℕ) → RoutingProblem → Type 0
-AreAlike first last p = (width : ℕ) → first ≤ width → width ≤ last → is_full width p ≡ true
+-- the method suits the problem at a width: where tracks are pinned, all of them are alike there, and
+-- where they are kept in order, their groups may change places
+abbrev pub is_suited : Method → (width : ℕ) → RoutingProblem → Bool
+is_suited Strictly width p = true
+is_suited Pinned width p = is_full width p
+is_suited (Within reach) width p = true
+is_suited Ordered width p = is_exchangeable width p
 
--- this is the least of these widths at which not all tracks of the problem are alike, and this
--- keeps them from it there
-pub record IsLeastUnlike
-    (first last : ℕ) (p : RoutingProblem) (width : ℕ) (why : Asymmetry) : Type 0 where
+-- what keeps it from the problem there
+abbrev pub obstacle_to : Method → (width : ℕ) → RoutingProblem → Option Obstacle
+obstacle_to Strictly width p = None
+obstacle_to Pinned width p = option_map Pins (asymmetry_of width p)
+obstacle_to (Within reach) width p = None
+obstacle_to Ordered width p = option_map Order (obstacle_of width p)
+
+-- this is the least of these widths at which the method does not suit the problem, and this keeps
+-- it from it there
+pub record IsLeastUnsuited (method : Method)
+    (first last : ℕ) (p : RoutingProblem) (width : ℕ) (why : Obstacle) : Type 0 where
   pub from : first ≤ width
   pub to : width ≤ last
-  pub lower : (k : ℕ) → first ≤ k → k < width → is_full k p ≡ true
-  pub unlike : is_full width p ≡ false
-  pub because : asymmetry_of width p ≡ Some why
+  pub lower : (k : ℕ) → first ≤ k → k < width → is_suited method k p ≡ true
+  pub unsuited : is_suited method width p ≡ false
+  pub because : obstacle_to method width p ≡ Some why
 
 -- the method suits the problem at each of these widths
 abbrev pub Suits : Method → (first last : ℕ) → RoutingProblem → Type 0
-Suits Strictly first last p = ⊤
-Suits Pinned first last p = AreAlike first last p
-Suits (Within reach) first last p = ⊤
+Suits method first last p =
+    (width : ℕ) → first ≤ width → width ≤ last → is_suited method width p ≡ true
 
 -- the method does not suit the problem at each of these widths, and the outcome has the least at
 -- which it does not
 abbrev pub IsUnsuited : Method → (first last : ℕ) → RoutingProblem → Outcome → Type 0
-IsUnsuited Strictly first last p outcome = ⊥
-IsUnsuited Pinned first last p outcome =
-    (width : ℕ) × (why : Asymmetry) × IsLeastUnlike first last p width why
+IsUnsuited method first last p outcome =
+    (width : ℕ) × (why : Obstacle) × IsLeastUnsuited method first last p width why
     × (outcome ≡ NotSymmetric width why)
-IsUnsuited (Within reach) first last p outcome = ⊥
 
 -- the method does not suit the problem at each of these widths, and the outcome says so; or it
 -- does, and this is true
@@ -59,14 +70,16 @@ LeavesSuited method first last works p before now outcome =
 
 -- what `route` leaves of its problem
 abbrev pub RouteLeaves : RouteAsked → RoutingProblem → (before now : ShelfState) → Outcome → Type 0
-RouteLeaves job =
-    LeavesSuited job.search.method job.search.width job.search.width (LeavesRoute job)
+RouteLeaves job = LeavesSuited job.search.method job.search.width job.search.width
+    (LeavesPrepared job.search.method (LeavesRoute job))
 
 -- what `sweep` leaves of its problem; each width up to the greatest counts, also if it is not come to
 abbrev pub SweepLeaves : SweepAsked → RoutingProblem → (before now : ShelfState) → Outcome → Type 0
-SweepLeaves job = LeavesSuited job.search.method 1 job.search.width (Sweeps job)
+SweepLeaves job = LeavesSuited job.search.method 1 job.search.width
+    (LeavesPrepared job.search.method (Sweeps job))
 
 -- what `encode` leaves of its problem
 abbrev pub EncodeLeaves : EncodeAsked → RoutingProblem → (before now : ShelfState) → Outcome
     → Type 0
-EncodeLeaves job = LeavesSuited job.method job.width job.width (Encodes job)
+EncodeLeaves job = LeavesSuited job.method job.width job.width
+    (LeavesPrepared job.method (Encodes job))

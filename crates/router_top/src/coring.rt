@@ -18,7 +18,6 @@ ghost use Rattle.router_top.specs.Core.{LeavesCore, net_line, net_lines, net_nam
 ghost use Rattle.router_top.specs.Method.{IsRoutingBy, clauses_by};
 ghost use Rattle.router_top.specs.Search.{core_search};
 
-use crate::encoder::Chosen;
 use crate::outcome::Outcome;
 use crate::problem_work::{ProblemWork, was_given};
 use crate::routing::found;
@@ -28,9 +27,9 @@ use desk_io::Shelf;
 use fpga_bounds::PlacedProblem;
 use fpga_types::RouteText;
 use route_core::{blame_in, trim, trimmed_is_its_own};
-use route_encode::Encoder;
+use route_encode::{Encoder, Strict};
 use route_sweep::{Ask, Found, few_clauses, write_proof, write_routing};
-use router_words::{CoreJob, Method};
+use router_words::CoreJob;
 use sat_clause::{Formula, Log};
 use sat_core::{Answer, solve};
 use std::alloc::{AllocError, Global};
@@ -157,9 +156,7 @@ impl<'a> ProblemWork for CoreJob<'a> {
 
     fn work<S: Shelf>(&self, alloc: Global, problem: &PlacedProblem, shelf: &mut S) -> Outcome {
         was_given(problem);
-        let encoder = Chosen {
-            method: Method::Strictly,
-        };
+        let encoder = Strict;
         let formula = match few_clauses(alloc, &encoder, problem, self.width) {
             Ok(formula) => formula,
             Err(stop) => return stopped(stop),

@@ -1,10 +1,15 @@
 //! The encoders of the methods.
-ghost use Rattle.std.proofs.Props.{props};
+ghost use Rattle.std.specs.Prelude.{◌≡◌, IfOk, OnErr};
 ghost use Rattle.router_words.specs.Near.{IsNear};
-ghost use Rattle.router_top.specs.Method.{IsRoutingBy, clauses_by};
+ghost use Rattle.router_top.specs.Method.{IsRoutingBy};
+ghost use Rattle.router_top.specs.Prepared.{IsEncoderOf, clauses_along};
+ghost use Rattle.router_words.specs.declared.method.Method.TheVariants.{Ordered};
 
+use crate::chosen::Chosen;
+use arrayvec::ArrayVec;
 use fpga_bounds::PlacedProblem;
 use fpga_types::RouteText;
+use route_crowd::Precedence;
 use route_encode::{Encoder, Strict};
 use route_reach::Reach;
 use route_symmetry::Pinned;
@@ -12,16 +17,45 @@ use router_words::Method;
 use sat_clause::Formula;
 use std::alloc::{AllocError, Global};
 
-/// The encoder of the method that a job has chosen.
-#[derive(Clone, Copy, Debug)]
-pub struct Chosen {
-    /// How routings are said by clauses.
-    pub method: Method,
-    ghost near: { IsNear method } by { Prim.hlevel props },
+impl Chosen {
+    /// The encoder of a method for a problem. The time is that of [`crowd`](route_crowd::crowd)
+    /// where slots of a crowd are to be kept in order, and else does not grow with the problem.
+    ///
+    /// # Errors
+    /// Where memory is short, which that order alone needs.
+    pub fn of(alloc: Global, method: Method, problem: &PlacedProblem) -> Result<Chosen, AllocError>
+        requires near { IsNear method }
+        ensures ok { IfOk result (IsEncoderOf method problem.now) }
+        ensures err { OnErr result (method ≡ Ordered) }
+    {
+        match method {
+            Method::Ordered => {
+                let Ok(order) = Precedence::of_crowd(alloc, problem) else {
+                    return Err(AllocError);
+                };
+                Ok(Chosen { method, order })
+            }
+            Method::Strictly | Method::Pinned | Method::Within(_) => {
+                Ok(Chosen::without_order(method))
+            }
+        }
+    }
+
+    // The encoder of a method that keeps no slots in order.
+    fn without_order(method: Method) -> Chosen
+        requires near { IsNear method }
+        ensures { result.method ≡ method }
+    {
+        let order = Precedence {
+            row: ArrayVec::new(),
+        };
+        Chosen { method, order }
+    }
 }
 
 impl Encoder for Chosen {
-    ghost formula_of = { λ chosen p width. clauses_by chosen.method width p };
+    ghost formula_of = { λ chosen p width.
+        clauses_along chosen.method chosen.order.row.items width p };
 
     ghost is_good = { λ chosen p width found. IsRoutingBy chosen.method width p found };
 
@@ -30,6 +64,7 @@ impl Encoder for Chosen {
             Method::Strictly => Strict.count(problem, width),
             Method::Pinned => Pinned.count(problem, width),
             Method::Within(reach) => Reach { reach }.count(problem, width),
+            Method::Ordered => self.order.count(problem, width),
         }
     }
 
@@ -43,6 +78,7 @@ impl Encoder for Chosen {
             Method::Strictly => Strict.build(alloc, problem, width),
             Method::Pinned => Pinned.build(alloc, problem, width),
             Method::Within(reach) => Reach { reach }.build(alloc, problem, width),
+            Method::Ordered => self.order.build(alloc, problem, width),
         }
     }
 
@@ -57,6 +93,7 @@ impl Encoder for Chosen {
             Method::Strictly => Strict.decode(alloc, problem, width, values),
             Method::Pinned => Pinned.decode(alloc, problem, width, values),
             Method::Within(reach) => Reach { reach }.decode(alloc, problem, width, values),
+            Method::Ordered => self.order.decode(alloc, problem, width, values),
         }
     }
 }

@@ -1,11 +1,13 @@
 //! The command `encode`: the clauses of a problem.
-ghost use Rattle.std.specs.Prelude.{◌≡◌};
+ghost use Rattle.std.specs.Prelude.{◌≡◌, IfErr, IfOk, OnOk};
+ghost use Rattle.route_sweep.specs.Found.{HasFew, IsUnbuilt};
 ghost use Rattle.router_words.specs.Job.{encode_said};
 ghost use Rattle.router_top.specs.Method.{clauses_by};
 ghost use Rattle.router_top.specs.Outcomes.{written_outcome};
+ghost use Rattle.router_top.specs.Prepared.{IsEncoderOf};
 ghost use Rattle.router_top.specs.Work.{WritesClauses};
 
-use crate::encoder::Chosen;
+use crate::chosen::Chosen;
 use crate::file_name::file_name;
 use crate::outcome::Outcome;
 use crate::problem_work::ProblemWork;
@@ -14,22 +16,41 @@ use desk_io::{Shelf, write_file};
 use fpga_bounds::PlacedProblem;
 use route_sweep::{FileSlot, Stop, few_clauses};
 use router_words::EncodeJob;
+use sat_clause::Formula;
 use sat_text::CnfText;
 use std::alloc::Global;
+
+// The clauses that the job asks for, of which there are at most 40,000,000.
+fn asked_clauses(
+    alloc: Global,
+    job: &EncodeJob<'_>,
+    encoder: &Chosen,
+    problem: &PlacedProblem,
+) -> Result<Formula, Stop>
+    requires { IsEncoderOf job.now.method problem.now encoder.now }
+    ensures formula { IfOk result
+        (λ formula. formula.cnf ≡ clauses_by job.now.method job.now.width problem.now) }
+    ensures few { OnOk result (HasFew (clauses_by job.now.method job.now.width problem.now)) }
+    ensures stop { IfErr result
+        (IsUnbuilt (clauses_by job.now.method job.now.width problem.now)) }
+{
+    few_clauses(alloc, encoder, problem, job.width)
+}
 
 // Builds the clauses that the job asks for and writes them, where there are not too many.
 fn write_clauses<S: Shelf>(
     alloc: Global,
     job: &EncodeJob<'_>,
+    encoder: &Chosen,
     problem: &PlacedProblem,
     shelf: &mut S,
 ) -> Result<(), Stop>
+    requires { IsEncoderOf job.now.method problem.now encoder.now }
     ensures { WritesClauses (encode_said job.now)
         (clauses_by job.now.method job.now.width problem.now)
         (S.state shelf.old) (S.state shelf.new) result }
 {
-    let encoder = Chosen { method: job.method };
-    let formula = match few_clauses(alloc, &encoder, problem, job.width) {
+    let formula = match asked_clauses(alloc, job, encoder, problem) {
         Ok(formula) => formula,
         Err(stop) => return Err(stop),
     };
@@ -57,11 +78,15 @@ fn written(came: Result<(), Stop>) -> Outcome
 // Builds the clauses and writes them.
 impl<'a> ProblemWork for EncodeJob<'a> {
     ghost use Rattle.router_words.specs.Job.{encode_said};
+    ghost use Rattle.router_top.specs.Prepared.{LeavesPrepared};
     ghost use Rattle.router_top.specs.Work.{Encodes};
 
-    ghost leaves = { λ job. Encodes (encode_said job) };
+    ghost leaves = { λ job. LeavesPrepared job.method (Encodes (encode_said job)) };
 
     fn work<S: Shelf>(&self, alloc: Global, problem: &PlacedProblem, shelf: &mut S) -> Outcome {
-        written(write_clauses(alloc, self, problem, shelf))
+        let Ok(encoder) = Chosen::of(alloc, self.method, problem) else {
+            return Outcome::OutOfMemory;
+        };
+        written(write_clauses(alloc, self, &encoder, problem, shelf))
     }
 }

@@ -7,6 +7,7 @@
 #![tactic(auto)]
 
 mod checking;
+mod chosen;
 mod coring;
 mod encoder;
 mod encoding;
@@ -30,7 +31,7 @@ mod trying;
 mod turning;
 mod verifying;
 
-pub use outcome::{Outcome, report, status};
+pub use outcome::{Obstacle, Outcome, report, status};
 pub use running::run;
 pub use slot::Slot;
 pub use text_file::TextFile;

@@ -9,6 +9,15 @@ use arrayvec::ArrayString;
 use itoa::Buffer;
 use route_symmetry::Asymmetry;
 
+/// What keeps a method from saying the routings of a problem at a width.
+#[derive(Clone, Copy, Debug, PartialEq, Eq)]
+pub enum Obstacle {
+    /// Tracks were to be pinned, and this keeps them from being all alike.
+    Pins(Asymmetry),
+    /// Tracks were to be kept in order, and this keeps their groups from changing places.
+    Order(Asymmetry),
+}
+
 /// What a run comes to.
 #[derive(Clone, Copy, Debug, PartialEq, Eq)]
 pub enum Outcome {
@@ -54,11 +63,11 @@ pub enum Outcome {
         code: u32,
         count: u64,
     },
-    /// Tracks were to be pinned, and at this width not all of them are alike; of a sweep it is the
-    /// least such width. This keeps them from it.
+    /// Tracks were to be pinned or to be kept in order, and at this width they are not alike enough;
+    /// of a sweep it is the least such width. This keeps them from it.
     NotSymmetric {
         width: u32,
-        why: Asymmetry,
+        why: Obstacle,
     },
     /// The words are not taken.
     Usage {

@@ -3,10 +3,11 @@ ghost use Rattle.std.specs.Prelude.{◌≡◌, None, Some};
 ghost use Rattle.route_sweep.specs.Asked.{asked};
 ghost use Rattle.router_words.specs.Job.{route_said, search_said};
 ghost use Rattle.router_top.specs.Outcomes.{found_outcome};
+ghost use Rattle.router_top.specs.Prepared.{IsEncoderOf};
 ghost use Rattle.router_top.specs.Search.{asks_to_keep};
 ghost use Rattle.router_top.specs.Work.{LeavesRoute};
 
-use crate::encoder::Chosen;
+use crate::chosen::Chosen;
 use crate::outcome::Outcome;
 use crate::problem_work::{ProblemWork, was_given};
 use crate::stopping::stopped;
@@ -46,20 +47,19 @@ fn ask_for<'a>(search: &SearchJob<'a>, keep: bool) -> Ask<'a>
 fn search_alone<S: Shelf>(
     alloc: Global,
     job: &RouteJob<'_>,
+    encoder: &Chosen,
     problem: &PlacedProblem,
     shelf: &mut S,
 ) -> Outcome
-    requires { job.now.members ≡ None }
+    requires alone { job.now.members ≡ None }
+    requires encoder { IsEncoderOf job.now.search.method problem.now encoder.now }
     ensures { LeavesRoute (route_said job.now) problem.now (S.state shelf.old)
         (S.state shelf.new) result }
 {
     was_given(problem);
     let search = job.search;
     let ask = ask_for(&search, search.keep);
-    let encoder = Chosen {
-        method: search.method,
-    };
-    let came = one_width(alloc, &encoder, problem, search.width, &ask, shelf);
+    let came = one_width(alloc, encoder, problem, search.width, &ask, shelf);
     found(search.width, came)
 }
 
@@ -69,23 +69,22 @@ fn search_by_turns<S: Shelf>(
     alloc: Global,
     job: &RouteJob<'_>,
     members: Members,
+    encoder: &Chosen,
     problem: &PlacedProblem,
     shelf: &mut S,
 ) -> Outcome
-    requires { job.now.members ≡ Some members }
+    requires members { job.now.members ≡ Some members }
+    requires encoder { IsEncoderOf job.now.search.method problem.now encoder.now }
     ensures { LeavesRoute (route_said job.now) problem.now (S.state shelf.old)
         (S.state shelf.new) result }
 {
     was_given(problem);
     let search = job.search;
-    let encoder = Chosen {
-        method: search.method,
-    };
-    match without_room(&encoder, problem, search.width, members) {
+    match without_room(encoder, problem, search.width, members) {
         Some(count) => Outcome::Limit { code: 904, count },
         None => {
             let ask = ask_for(&search, true);
-            let came = find_by_turns(alloc, &encoder, problem, search.width, members, &ask, shelf);
+            let came = find_by_turns(alloc, encoder, problem, search.width, members, &ask, shelf);
             found(search.width, came)
         }
     }
@@ -94,14 +93,18 @@ fn search_by_turns<S: Shelf>(
 // Searches for a legal routing, and writes it; or else the clauses and the log of the search.
 impl<'a> ProblemWork for RouteJob<'a> {
     ghost use Rattle.router_words.specs.Job.{route_said};
+    ghost use Rattle.router_top.specs.Prepared.{LeavesPrepared};
     ghost use Rattle.router_top.specs.Work.{LeavesRoute};
 
-    ghost leaves = { λ job. LeavesRoute (route_said job) };
+    ghost leaves = { λ job. LeavesPrepared job.search.method (LeavesRoute (route_said job)) };
 
     fn work<S: Shelf>(&self, alloc: Global, problem: &PlacedProblem, shelf: &mut S) -> Outcome {
+        let Ok(encoder) = Chosen::of(alloc, self.search.method, problem) else {
+            return Outcome::OutOfMemory;
+        };
         match self.members {
-            Some(members) => search_by_turns(alloc, self, members, problem, shelf),
-            None => search_alone(alloc, self, problem, shelf),
+            Some(members) => search_by_turns(alloc, self, members, &encoder, problem, shelf),
+            None => search_alone(alloc, self, &encoder, problem, shelf),
         }
     }
 }

@@ -1,19 +1,22 @@
 //! Whether the method of a job suits its problem.
-ghost use Rattle.std.specs.Prelude.{◌≤◌, IfSome, IsNone};
+ghost use Rattle.std.specs.Prelude.{◌≡◌, ◌≤◌, ◌↔◌, IfSome, IsNone, option_map, true};
 ghost use Rattle.fpga_types.specs.declared.limits.TheConstants.{WIDTH_LIMIT};
-ghost use Rattle.router_words.specs.declared.method.Method.TheVariants.{Pinned};
-ghost use Rattle.router_top.specs.Suited.{AreAlike, IsUnsuited, Suits};
+ghost use Rattle.router_top.specs.Suited.{IsUnsuited, Suits, is_suited, obstacle_to};
+ghost use Rattle.router_top.specs.declared.outcome.Obstacle.TheVariants.{Order, Pins};
 
-use crate::outcome::Outcome;
+use crate::outcome::{Obstacle, Outcome};
 use crate::problem_work::ProblemWork;
 use desk_io::Shelf;
 use fpga_bounds::PlacedProblem;
-use route_symmetry::why_not_symmetric;
+use fpga_types::WIDTH_LIMIT;
+use route_crowd::why_not_exchangeable;
+use route_symmetry::{Asymmetry, why_not_symmetric};
 use router_words::Method;
 use std::alloc::Global;
 
 /// Work at some widths by a method that has to suit its problem: where tracks are to be pinned, all
-/// of them are to be alike at each of these widths. Where they are not, nothing is written.
+/// of them are to be alike at each of these widths, and where they are to be kept in order, their
+/// groups are to be free to change places. Where that is not so, nothing is written.
 #[derive(Drop)]
 pub struct Suited<W> {
     /// How routings are said by clauses.
@@ -27,31 +30,54 @@ pub struct Suited<W> {
     ghost in_range: { (1 ≤ first) × (last ≤ WIDTH_LIMIT) },
 }
 
-// What the run comes to where not all tracks are alike at some of these widths, with the least such
-// width.
-fn least_unlike(problem: &PlacedProblem, first: u32, last: u32) -> Option<Outcome>
-    requires widths { (1 ≤ first) × (last ≤ WIDTH_LIMIT) }
-    ensures unlike { IfSome result (IsUnsuited Pinned first last problem.now) }
-    ensures alike { IsNone result → AreAlike first last problem.now }
+// What keeps the method from the problem at a width, if something does.
+fn obstacle(problem: &PlacedProblem, method: Method, width: u32) -> Option<Obstacle>
+    requires width { (1 ≤ width) × (width ≤ WIDTH_LIMIT) }
+    ensures first { result ≡ obstacle_to method width problem.now }
+    ensures none { IsNone result ↔ (is_suited method width problem.now ≡ true) }
 {
-    for width in first..last + 1 {
-        if let Some(why) = why_not_symmetric(problem, width) {
-            return Some(Outcome::NotSymmetric { width, why });
-        }
+    match method {
+        Method::Strictly | Method::Within(_) => None,
+        Method::Pinned => to_pins(why_not_symmetric(problem, width)),
+        Method::Ordered => to_order(why_not_exchangeable(problem, width)),
     }
-    None
 }
 
-// What the run comes to where the method does not suit the problem at some of these widths.
+// This as an obstacle to pinned tracks.
+fn to_pins(why: Option<Asymmetry>) -> Option<Obstacle>
+    ensures is { result ≡ option_map Pins why }
+    ensures none { IsNone result ↔ IsNone why }
+{
+    match why {
+        Some(why) => Some(Obstacle::Pins(why)),
+        None => None,
+    }
+}
+
+// This as an obstacle to tracks in order.
+fn to_order(why: Option<Asymmetry>) -> Option<Obstacle>
+    ensures is { result ≡ option_map Order why }
+    ensures none { IsNone result ↔ IsNone why }
+{
+    match why {
+        Some(why) => Some(Obstacle::Order(why)),
+        None => None,
+    }
+}
+
+// What the run comes to where the method does not suit the problem at some of these widths, with
+// the least such width.
 fn unsuited(problem: &PlacedProblem, method: Method, first: u32, last: u32) -> Option<Outcome>
     requires widths { (1 ≤ first) × (last ≤ WIDTH_LIMIT) }
     ensures unsuited { IfSome result (IsUnsuited method first last problem.now) }
     ensures suits { IsNone result → Suits method first last problem.now }
 {
-    match method {
-        Method::Strictly | Method::Within(_) => None,
-        Method::Pinned => least_unlike(problem, first, last),
+    for width in first..last + 1 {
+        if let Some(why) = obstacle(problem, method, width) {
+            return Some(Outcome::NotSymmetric { width, why });
+        }
     }
+    None
 }
 
 // Does the work where the method suits the problem.

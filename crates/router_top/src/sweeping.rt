@@ -2,10 +2,11 @@
 ghost use Rattle.std.specs.Prelude.{◌≡◌, true};
 ghost use Rattle.router_words.specs.Job.{search_said};
 ghost use Rattle.router_top.specs.Outcomes.{climbed_outcome};
+ghost use Rattle.router_top.specs.Prepared.{IsEncoderOf};
 ghost use Rattle.router_top.specs.Search.{ask_of};
 ghost use Rattle.router_top.specs.Work.{Climbs};
 
-use crate::encoder::Chosen;
+use crate::chosen::Chosen;
 use crate::outcome::Outcome;
 use crate::problem_work::{ProblemWork, was_given};
 use crate::stopping::stopped;
@@ -27,14 +28,17 @@ fn climbed(came: Result<Climbed, Stop>) -> Outcome
     }
 }
 
-/// Searches at the widths from 1 on, up to the first that is not refuted or up to the last; writes
-/// a routing, or else the clauses and the log of each width that was searched.
+/// Searches at the widths from 1 on, up to the first that is not refuted or up to the last, by the
+/// encoder of the problem; writes a routing, or else the clauses and the log of each width that was
+/// searched.
 pub fn search_widths<S: Shelf>(
     alloc: Global,
     problem: &PlacedProblem,
+    encoder: &Chosen,
     search: &SearchJob<'_>,
     shelf: &mut S,
 ) -> Outcome
+    requires { IsEncoderOf search.now.method problem.now encoder.now }
     ensures { Climbs search.now.method (ask_of true (search_said search.now)) search.now.width
         problem.now (S.state shelf.old) (S.state shelf.new) result }
 {
@@ -45,20 +49,21 @@ pub fn search_widths<S: Shelf>(
         prefix: search.prefix,
         numbered: true,
     };
-    let encoder = Chosen {
-        method: search.method,
-    };
-    climbed(climb(alloc, &encoder, problem, search.width, &ask, shelf))
+    climbed(climb(alloc, encoder, problem, search.width, &ask, shelf))
 }
 
 // Searches at one width after another.
 impl<'a> ProblemWork for SweepJob<'a> {
     ghost use Rattle.router_words.specs.Job.{sweep_said};
+    ghost use Rattle.router_top.specs.Prepared.{LeavesPrepared};
     ghost use Rattle.router_top.specs.Work.{Sweeps};
 
-    ghost leaves = { λ job. Sweeps (sweep_said job) };
+    ghost leaves = { λ job. LeavesPrepared job.search.method (Sweeps (sweep_said job)) };
 
     fn work<S: Shelf>(&self, alloc: Global, problem: &PlacedProblem, shelf: &mut S) -> Outcome {
-        search_widths(alloc, problem, &self.search, shelf)
+        let Ok(encoder) = Chosen::of(alloc, self.search.method, problem) else {
+            return Outcome::OutOfMemory;
+        };
+        search_widths(alloc, problem, &encoder, &self.search, shelf)
     }
 }

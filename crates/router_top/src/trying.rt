@@ -7,6 +7,7 @@ ghost use Rattle.router_top.specs.Generated.{IsMade, PosesNone};
 ghost use Rattle.router_top.specs.Run.{TriesGenerated};
 ghost use Rattle.router_top.specs.Trial.{trial_line};
 
+use crate::chosen::Chosen;
 use crate::four_texts::pose_texts;
 use crate::generating::make_texts;
 use crate::outcome::{LINE_ROOM, Outcome, push_count};
@@ -53,8 +54,11 @@ pub fn trial<S: Shelf>(alloc: Global, job: &TrialJob<'_>, shelf: &mut S) -> Outc
         Ok(problem) => problem,
         Err(outcome) => return outcome,
     };
+    let Ok(encoder) = Chosen::of(alloc, job.search.method, &problem) else {
+        return Outcome::OutOfMemory;
+    };
     let Ok(()) = shelf.say(size_line(&problem).as_bytes()) else {
         return Outcome::WriteFault { slot: Slot::Said };
     };
-    search_widths(alloc, &problem, &job.search, shelf)
+    search_widths(alloc, &problem, &encoder, &job.search, shelf)
 }

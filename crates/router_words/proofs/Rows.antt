@@ -7,7 +7,7 @@ use Rattle.router_words.specs.Job.{Blames, Checks, Encodes, FilesAsked, Generate
 use Rattle.router_words.specs.Word.{Word}
 use Rattle.router_words.specs.declared.fault.Refusal.{Refusal}
 use Rattle.router_words.specs.declared.fault.Refusal.TheVariants.{Clash, Command, Form, Number}
-use Rattle.router_words.specs.declared.method.Method.TheVariants.{Pinned, Strictly, Within}
+use Rattle.router_words.specs.declared.method.Method.TheVariants.{Ordered, Pinned, Strictly, Within}
 
 abbrev Asked : Type 0
 Asked = Result JobAsked Refusal
@@ -151,6 +151,21 @@ pub pinned : route (codes "--pin" ∷ codes "5" ∷ codes "out" ∷ [])
 unfolding clap_on_literals
 pinned = refl
 
+-- a route with tracks in order
+pub ordered : route (codes "5" ∷ codes "--symmetry" ∷ codes "out" ∷ [])
+    ≡ Ok (Routes (record {
+      files = four_files;
+      search = record (told 5 (codes "out") 1_000_000 false) { method = Ordered };
+      members = None;
+    }))
+unfolding clap_on_literals
+ordered = refl
+
+pub pinned_and_ordered : route (codes "5" ∷ codes "out" ∷ codes "--symmetry" ∷ codes "--pin" ∷ [])
+    ≡ Err Clash
+unfolding clap_on_literals
+pinned_and_ordered = refl
+
 -- a route within a reach
 pub reaches : route (codes "5" ∷ codes "out" ∷ codes "--reach=01" ∷ [])
     ≡ Ok (Routes (record {
@@ -195,6 +210,11 @@ pub sweep_reaches : sweep (codes "8" ∷ codes "out" ∷ codes "--reach" ∷ cod
     }))
 unfolding clap_on_literals
 sweep_reaches = refl
+
+pub sweep_orders_and_reaches : sweep (codes "8" ∷ codes "out" ∷ codes "--symmetry"
+    ∷ codes "--reach=2" ∷ []) ≡ Err Clash
+unfolding clap_on_literals
+sweep_orders_and_reaches = refl
 
 pub sweep_pins_and_reaches : sweep (codes "8" ∷ codes "out" ∷ codes "--pin" ∷ codes "--reach=2" ∷ [])
     ≡ Err Clash

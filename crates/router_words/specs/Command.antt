@@ -1,5 +1,5 @@
 -- The commands, and the job that the words of one ask for.
-use Rattle.std.specs.Prelude.{◌≡◌, ℕ, nat_le, ◌&&◌, Bool, false, List, [], ◌∷◌, codes, find, Result, Ok, Err, Option, None, Some, is_some, ok_or, unwrap_or, IfSome, ⊤, if◌then◌else◌}
+use Rattle.std.specs.Prelude.{◌≡◌, ℕ, nat_le, ◌&&◌, ◌||◌, Bool, false, List, [], ◌∷◌, codes, find, Result, Ok, Err, Option, None, Some, is_some, ok_or, unwrap_or, IfSome, ⊤, if◌then◌else◌}
 use Rattle.std.specs.Option.{option_map_or}
 use Rattle.std.specs.Str.{bytes_eq}
 use Rattle.clap.specs.Words.{App, Row, first_of, matches_of}
@@ -19,7 +19,7 @@ use Rattle.router_words.specs.declared.fault.WordsFault.TheVariants.{Memory, Ref
 use Rattle.router_words.specs.declared.job.Job.{Job}
 use Rattle.router_words.specs.declared.limits.TheConstants.{BUDGET_DEFAULT, BUDGET_LIMIT, GENERATED_NETS_LIMIT, MEMBER_LIMIT, SEED_DEFAULT, SEED_LIMIT}
 use Rattle.router_words.specs.declared.method.Method.{Method}
-use Rattle.router_words.specs.declared.method.Method.TheVariants.{Pinned, Strictly, Within}
+use Rattle.router_words.specs.declared.method.Method.TheVariants.{Ordered, Pinned, Strictly, Within}
 
 -- ---- what stands in the matches of a form
 
@@ -60,14 +60,18 @@ conflicts_asked rows =
     option_map_or (number_within 1 BUDGET_LIMIT) (first_of (codes "conflicts") rows)
     (Ok BUDGET_DEFAULT)
 
--- the method of words without `--pin`: within a reach, where there is one
+-- the method of words without `--pin` and `--symmetry`: within a reach, where there is one
 abbrev pub method_within : (reach : Option ℕ) → Method
 method_within None = Strictly
 method_within (Some reach) = Within reach
 
--- the method that the words choose: with pinned tracks where `--pin` was given
+-- the method that the words choose: with pinned tracks where `--pin` was given, and with tracks in
+-- order where `--symmetry` was
 abbrev pub method_asked : (reach : Option ℕ) → List Row → Method
-method_asked reach rows = if has_flag (codes "pin") rows then Pinned else method_within reach
+method_asked reach rows =
+    if has_flag (codes "pin") rows then Pinned else
+    if has_flag (codes "symmetry") rows then Ordered else
+    method_within reach
 
 -- WIDTH PREFIX [--conflicts N] [--keep], or with MAX, by a method
 abbrev pub search_asked : Method → List Row → Result SearchAsked Refusal
@@ -125,10 +129,12 @@ members_asked rows =
 abbrev pub reach_asked : List Row → Result (Option ℕ) Refusal
 reach_asked rows = number_if_any 1 REACH_LIMIT (codes "reach") rows
 
--- `--pin` and `--reach` were both given
-abbrev pub pins_within_reach : List Row → Bool
-pins_within_reach rows =
-    has_flag (codes "pin") rows && is_some (first_of (codes "reach") rows)
+-- two of `--pin`, `--symmetry` and `--reach` were given
+abbrev pub has_two_methods : List Row → Bool
+has_two_methods rows =
+    (has_flag (codes "pin") rows && has_flag (codes "symmetry") rows)
+    || ((has_flag (codes "pin") rows || has_flag (codes "symmetry") rows)
+    && is_some (first_of (codes "reach") rows))
 
 -- ---- the commands
 
@@ -138,17 +144,17 @@ pub record CommandRow : Type 0 where
   pub form : App
   pub job : List Row → Result JobAsked Refusal
 
--- WIDTH PREFIX [--conflicts N] [--keep] [--reach L] [--pin], or with MAX
+-- WIDTH PREFIX [--conflicts N] [--keep] [--reach L] [--pin] [--symmetry], or with MAX
 abbrev pub search_by_method : List Row → Result SearchAsked Refusal
 search_by_method rows =
     and_then (reach_asked rows) (λ reach. search_asked (method_asked reach rows) rows)
 
--- what `route` is asked for: pinned tracks and a reach exclude each other
+-- what `route` is asked for: pinned tracks, tracks in order and a reach exclude each other
 abbrev pub route_asked : List Row → Result JobAsked Refusal
 route_asked rows =
     and_then (search_by_method rows) (λ search.
     and_then (members_asked rows) (λ members.
-    if pins_within_reach rows then Err Clash else Ok (Routes (record {
+    if has_two_methods rows then Err Clash else Ok (Routes (record {
       files = files_asked rows;
       search = search;
       members = members;
@@ -158,7 +164,7 @@ route_asked rows =
 abbrev pub sweep_asked : List Row → Result JobAsked Refusal
 sweep_asked rows =
     and_then (search_by_method rows) (λ search.
-    if pins_within_reach rows then Err Clash else Ok (Sweeps (record {
+    if has_two_methods rows then Err Clash else Ok (Sweeps (record {
       files = files_asked rows;
       search = search;
     })))
@@ -168,7 +174,7 @@ abbrev pub encode_asked : List Row → Result JobAsked Refusal
 encode_asked rows =
     and_then (width_asked rows) (λ width.
     and_then (reach_asked rows) (λ reach.
-    if pins_within_reach rows then Err Clash else Ok (Encodes (record {
+    if has_two_methods rows then Err Clash else Ok (Encodes (record {
       files = files_asked rows;
       width = width;
       prefix = word_in (codes "prefix") rows;

@@ -61,9 +61,13 @@ with_recipe form =
 
 -- ---- the forms
 
--- ARCH NET PLACE ROUTE WIDTH PREFIX [--conflicts N] [--keep] [--reach L] [--pin]
+-- [--pin] [--symmetry]
+abbrev pub with_symmetry : App → App
+with_symmetry form = with_flag (codes "symmetry") (with_flag (codes "pin") form)
+
+-- ARCH NET PLACE ROUTE WIDTH PREFIX [--conflicts N] [--keep] [--reach L] [--pin] [--symmetry]
 abbrev pub search_form : Word → App
-search_form name = with_flag (codes "pin") (with_search (with_files (empty_form name)))
+search_form name = with_symmetry (with_search (with_files (empty_form name)))
 
 -- the same, with [--members K] [--seed S]
 abbrev pub route_form : App
@@ -74,11 +78,11 @@ route_form =
 abbrev pub sweep_form : App
 sweep_form = search_form (codes "sweep")
 
--- ARCH NET PLACE ROUTE WIDTH PREFIX [--pin] [--reach L]
+-- ARCH NET PLACE ROUTE WIDTH PREFIX [--pin] [--symmetry] [--reach L]
 abbrev pub encode_form : App
 encode_form =
     with_option (codes "reach")
-    (with_flag (codes "pin") (with_width_and_prefix (with_files (empty_form (codes "encode")))))
+    (with_symmetry (with_width_and_prefix (with_files (empty_form (codes "encode")))))
 
 -- ARCH NET PLACE ROUTE WIDTH PREFIX [--conflicts N]
 abbrev pub core_form : App

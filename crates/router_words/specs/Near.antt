@@ -2,12 +2,13 @@
 use Rattle.std.specs.Prelude.{ℕ, ◌≤◌, IfSome, Option, None, Some}
 use Rattle.fpga_types.specs.declared.limits.TheConstants.{REACH_LIMIT}
 use Rattle.router_words.specs.declared.method.Method.{Method}
-use Rattle.router_words.specs.declared.method.Method.TheVariants.{Pinned, Strictly, Within}
+use Rattle.router_words.specs.declared.method.Method.TheVariants.{Ordered, Pinned, Strictly, Within}
 
 -- the reach of a method, if it has one
 abbrev pub reach_of : Method → Option ℕ
 reach_of Strictly = None
 reach_of Pinned = None
+reach_of Ordered = None
 reach_of (Within reach) = Some reach
 
 -- which is from 1 to 64

@@ -1,7 +1,7 @@
 //! The forms of the commands, as `clap` has them.
 ghost use Rattle.std.specs.Prelude.{◌≡◌, IfOk, codes};
 ghost use Rattle.clap.specs.Words.{app_of, rule_of};
-ghost use Rattle.router_words.specs.Form.{check_form, core_form, empty_form, encode_form, gen_form, route_form, search_form, trial_form, verify_form, with_files, with_flag, with_option, with_recipe, with_search, with_width_and_prefix, with_word};
+ghost use Rattle.router_words.specs.Form.{check_form, core_form, empty_form, encode_form, gen_form, route_form, search_form, trial_form, verify_form, with_files, with_flag, with_option, with_recipe, with_search, with_symmetry, with_width_and_prefix, with_word};
 
 use clap::{Arg, ArgAction, Command};
 use std::alloc::{AllocError, Global};
@@ -85,18 +85,26 @@ fn add_recipe<'a>(alloc: Global, command: Command<'a>) -> Result<Command<'a>, Al
     add_word(alloc, command, "nets")
 }
 
-/// ARCH NET PLACE ROUTE WIDTH PREFIX [--conflicts N] [--keep] [--reach L] [--pin], behind this name
-/// of a command.
+// With the ways to break the symmetry of tracks.
+fn add_symmetry<'a>(alloc: Global, command: Command<'a>) -> Result<Command<'a>, AllocError>
+    ensures { IfOk result (λ c. app_of c ≡ with_symmetry (app_of command.entry)) }
+{
+    let command = add_flag(alloc, command, "pin")?;
+    add_flag(alloc, command, "symmetry")
+}
+
+/// ARCH NET PLACE ROUTE WIDTH PREFIX [--conflicts N] [--keep] [--reach L] [--pin] [--symmetry],
+/// behind this name of a command.
 pub fn search_command<'a>(alloc: Global, name: &'a str) -> Result<Command<'a>, AllocError>
     ensures { IfOk result (λ c. app_of c ≡ search_form name.entry.now) }
 {
     let command = add_files(alloc, named(alloc, name))?;
     let command = add_search(alloc, command)?;
-    add_flag(alloc, command, "pin")
+    add_symmetry(alloc, command)
 }
 
-/// ARCH NET PLACE ROUTE WIDTH PREFIX [--conflicts N] [--keep] [--reach L] [--pin] [--members K]
-/// [--seed S]
+/// ARCH NET PLACE ROUTE WIDTH PREFIX [--conflicts N] [--keep] [--reach L] [--pin] [--symmetry]
+/// [--members K] [--seed S]
 pub fn route_command<'a>(alloc: Global) -> Result<Command<'a>, AllocError>
     ensures { IfOk result (λ c. app_of c ≡ route_form) }
 {
@@ -105,13 +113,13 @@ pub fn route_command<'a>(alloc: Global) -> Result<Command<'a>, AllocError>
     add_option(alloc, command, "seed")
 }
 
-/// ARCH NET PLACE ROUTE WIDTH PREFIX [--pin] [--reach L]
+/// ARCH NET PLACE ROUTE WIDTH PREFIX [--pin] [--symmetry] [--reach L]
 pub fn encode_command<'a>(alloc: Global) -> Result<Command<'a>, AllocError>
     ensures { IfOk result (λ c. app_of c ≡ encode_form) }
 {
     let command = add_files(alloc, named(alloc, "encode"))?;
     let command = add_width_and_prefix(alloc, command)?;
-    let command = add_flag(alloc, command, "pin")?;
+    let command = add_symmetry(alloc, command)?;
     add_option(alloc, command, "reach")
 }
 

@@ -2,7 +2,7 @@
 ghost use Rattle.std.specs.Prelude.{◌≡◌, ◌≤◌, IfOk, IfSome, codes, is_some, option_map, true};
 ghost use Rattle.clap.specs.Words.{first_of, found_of, rows_of};
 ghost use Rattle.fpga_types.specs.declared.limits.TheConstants.{REACH_LIMIT, WIDTH_LIMIT};
-ghost use Rattle.router_words.specs.Command.{check_asked, conflicts_asked, core_asked, encode_asked, files_asked, gen_asked, members_asked, members_with, method_asked, method_within, number_if_any, number_within, pins_within_reach, reach_asked, recipe_asked, route_asked, search_asked, search_by_method, sweep_asked, trial_asked, verify_asked, width_asked, word_in};
+ghost use Rattle.router_words.specs.Command.{check_asked, conflicts_asked, core_asked, encode_asked, files_asked, gen_asked, members_asked, members_with, method_asked, method_within, number_if_any, number_within, has_two_methods, reach_asked, recipe_asked, route_asked, search_asked, search_by_method, sweep_asked, trial_asked, verify_asked, width_asked, word_in};
 ghost use Rattle.router_words.specs.Form.{check_form, core_form, encode_form, gen_form, route_form, sweep_form, trial_form, verify_form};
 ghost use Rattle.router_words.specs.Job.{files_said, job_said, members_said, recipe_said, search_said};
 ghost use Rattle.router_words.specs.Near.{IsNear};
@@ -80,7 +80,7 @@ fn recipe(matches: &ArgMatches) -> Result<Recipe, Refusal>
     Ok(Recipe { seed, side, nets })
 }
 
-// The method of words without `--pin`, which have this reach, if any.
+// The method of words without `--pin` and `--symmetry`, which have this reach, if any.
 fn method_within(reach: Option<u32>) -> Method
     requires { IfSome reach (λ n. (1 ≤ n) × (n ≤ REACH_LIMIT)) }
     ensures method { result ≡ method_within reach }
@@ -100,6 +100,9 @@ fn method(matches: &ArgMatches, reach: Option<u32>) -> Method
 {
     if is_given(matches, "pin") {
         return Method::Pinned;
+    }
+    if is_given(matches, "symmetry") {
+        return Method::Ordered;
     }
     method_within(reach)
 }
@@ -170,11 +173,13 @@ fn reach(matches: &ArgMatches) -> Result<Option<u32>, Refusal>
     number_if_any(matches, "reach", 1, REACH_LIMIT)
 }
 
-// Whether pinned tracks and a reach are both asked for.
-fn pins_within_reach(matches: &ArgMatches) -> bool
-    ensures { result ≡ pins_within_reach (rows_of (found_of matches.now)) }
+// Whether two of pinned tracks, tracks in order and a reach are asked for.
+fn has_two_methods(matches: &ArgMatches) -> bool
+    ensures { result ≡ has_two_methods (rows_of (found_of matches.now)) }
 {
-    is_given(matches, "pin") && first_word(matches, "reach").is_some()
+    let pins = is_given(matches, "pin");
+    let orders = is_given(matches, "symmetry");
+    (pins && orders) || ((pins || orders) && first_word(matches, "reach").is_some())
 }
 
 // What a search is told by words that choose its method, or that a number is none in its range.
@@ -194,7 +199,7 @@ pub fn route_job<'a>(matches: &ArgMatches<'a>) -> Result<Job<'a>, Refusal>
 {
     let search = search_by_method(matches)?;
     let members = members(matches)?;
-    if pins_within_reach(matches) {
+    if has_two_methods(matches) {
         return Err(Refusal::Clash);
     }
     Ok(Job::Route(RouteJob {
@@ -210,7 +215,7 @@ pub fn sweep_job<'a>(matches: &ArgMatches<'a>) -> Result<Job<'a>, Refusal>
     ensures { map_ok job_said result ≡ sweep_asked (rows_of (found_of matches.now)) }
 {
     let search = search_by_method(matches)?;
-    if pins_within_reach(matches) {
+    if has_two_methods(matches) {
         return Err(Refusal::Clash);
     }
     Ok(Job::Sweep(SweepJob {
@@ -226,7 +231,7 @@ pub fn encode_job<'a>(matches: &ArgMatches<'a>) -> Result<Job<'a>, Refusal>
 {
     let width = width(matches)?;
     let reach = reach(matches)?;
-    if pins_within_reach(matches) {
+    if has_two_methods(matches) {
         return Err(Refusal::Clash);
     }
     Ok(Job::Encode(EncodeJob {

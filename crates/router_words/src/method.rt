@@ -11,4 +11,7 @@ pub enum Method {
     /// A net may have several tracks in a cell of its global route, and reaches each of its sinks
     /// from its source over at most so many joins of wires, from 1 to 64.
     Within(u32),
+    /// The same, and the slots of a crowd, trees of which each two share a cell, come to the groups
+    /// of tracks in their order. Those groups have to be free to change places.
+    Ordered,
 }

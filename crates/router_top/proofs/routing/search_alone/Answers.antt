@@ -1,14 +1,22 @@
 use Rattle.std.proofs.Common.{ap}
 use Rattle.std.specs.Prelude.{option_map}
 use Rattle.route_sweep.specs.Asked.{asked}
+use Rattle.route_sweep.specs.Found.{FindsAt}
 use Rattle.router_words.specs.Job.{members_said, route_said}
+use Rattle.router_top.proofs.PreparedLaws.{by-encoder}
 use Rattle.router_top.proofs.TurnLaws.{by-one}
 use Rattle.router_top.proofs.routing.search_alone.Goals as goal
 
 pub returns : goal.returns
 returns g c =
-    by-one (route_said c.args.job.now) c.args.problem.now (g.S.Shelf.state c.args.shelf.now)
-    (g.S.Shelf.state c.one_width-came.new.shelf) c.found.result
-    c.was_given.ensures (ap (option_map members_said) c.requires) c.args.job.now.search.in_range.1
-    (asked c.ask_for-ask.result) c.ask_for-ask.ensures.asked c.one_width-came.result
-    c.one_width-came.ensures c.found.ensures
+    let width = c.args.job.now.search.width in
+    let before = g.S.Shelf.state c.args.shelf.now in
+    let now = g.S.Shelf.state c.one_width-came.new.shelf in
+    by-one (route_said c.args.job.now) c.args.problem.now before now c.found.result
+    c.was_given.ensures (ap (option_map members_said) c.requires.alone)
+    c.args.job.now.search.in_range.1 (asked c.ask_for-ask.result) c.ask_for-ask.ensures.asked
+    c.one_width-came.result
+    (by-encoder c.args.job.now.search.method c.args.problem.now c.args.encoder.now
+    c.requires.encoder
+    (λ formula good. FindsAt (asked c.ask_for-ask.result) width (formula width) (good width) before
+    now c.one_width-came.result) c.one_width-came.ensures) c.found.ensures

@@ -1,21 +1,38 @@
-use Rattle.std.proofs.Common.{ap, refl}
-use Rattle.std.specs.Prelude.{option_map}
+use Rattle.std.proofs.Common.{◌≡◌, ◌≤◌, ap, length, refl}
+use Rattle.std.specs.Prelude.{◌*◌, option_map}
+use Rattle.sat_clause.specs.declared.limits.TheConstants.{CLAUSE_LIMIT}
 use Rattle.route_sweep.specs.Asked.{asked}
+use Rattle.route_sweep.specs.Found.{FindsAt, HasFew}
 use Rattle.router_words.specs.Job.{members_said, route_said}
+use Rattle.router_top.proofs.PreparedLaws.{by-encoder}
 use Rattle.router_top.proofs.TurnLaws.{by-turns, crowded}
 use Rattle.router_top.proofs.routing.search_by_turns.Goals as goal
 
 pub returns-in-Some : goal.returns-in-Some
 returns-in-Some g c =
+    let width = c.args.job.now.search.width in
+    let by = by-encoder c.args.job.now.search.method c.args.problem.now c.args.encoder.now
+    c.requires.encoder in
     crowded (route_said c.args.job.now) c.args.problem.now (g.S.Shelf.state c.args.shelf.now)
     (g.S.Shelf.state c.args.shelf.now) _ (members_said c.args.members)
-    (ap (option_map members_said) c.requires) c.in-Some.ensures.crowded.0 c.in-Some.count
-    c.in-Some.ensures.crowded.1 c.in-Some.ensures.crowded.2 refl refl
+    (ap (option_map members_said) c.requires.members)
+    (by (λ formula good. HasFew (formula width)) c.in-Some.ensures.crowded.0) c.in-Some.count
+    c.in-Some.ensures.crowded.1
+    (by (λ formula good. c.in-Some.count ≡ c.args.members.count * length (formula width).clauses)
+    c.in-Some.ensures.crowded.2) refl refl
 
 pub returns-in-None : goal.returns-in-None
 returns-in-None g c =
-    by-turns (route_said c.args.job.now) c.args.problem.now (g.S.Shelf.state c.args.shelf.now)
-    (g.S.Shelf.state c.find_by_turns-came.new.shelf) c.found.result c.was_given.ensures
-    (members_said c.args.members) (ap (option_map members_said) c.requires) c.args.job.now.search.in_range.1
-    c.in-None.ensures.room (asked c.ask_for-ask.result) c.ask_for-ask.ensures.asked
-    c.find_by_turns-came.result c.find_by_turns-came.ensures c.found.ensures
+    let width = c.args.job.now.search.width in
+    let before = g.S.Shelf.state c.args.shelf.now in
+    let now = g.S.Shelf.state c.find_by_turns-came.new.shelf in
+    let by = by-encoder c.args.job.now.search.method c.args.problem.now c.args.encoder.now
+    c.requires.encoder in
+    by-turns (route_said c.args.job.now) c.args.problem.now before now c.found.result
+    c.was_given.ensures (members_said c.args.members)
+    (ap (option_map members_said) c.requires.members) c.args.job.now.search.in_range.1
+    (by (λ formula good. HasFew (formula width)
+    → c.args.members.count * length (formula width).clauses ≤ CLAUSE_LIMIT) c.in-None.ensures.room)
+    (asked c.ask_for-ask.result) c.ask_for-ask.ensures.asked c.find_by_turns-came.result
+    (by (λ formula good. FindsAt (asked c.ask_for-ask.result) width (formula width) (good width)
+    before now c.find_by_turns-came.result) c.find_by_turns-came.ensures) c.found.ensures

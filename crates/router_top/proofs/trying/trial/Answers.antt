@@ -10,14 +10,17 @@ pub returns-in-Err : goal.returns-in-Err
 returns-in-Err g c = inl (c.in-Err.ensures.none, refl)
 
 pub returns-in_default : goal.returns-in_default
-returns-in_default g c =
+returns-in_default g c = inl (inl (inr refl), refl)
+
+pub returns-in_default-say : goal.returns-in_default-say
+returns-in_default-say g c =
     let line = c.as_bytes.ensures.value ∙ c.deref.ensures.0 ∙ c.size_line.ensures.line in
     inr (
       c.in-Ok.problem,
       record { made = c.in-Ok.ensures.made; few = c.size_line.ensures.few },
       inr (
         subst (λ (said : Bytes). FailsToSay (g.S.Shelf.state c.args.shelf.now) said
-            (g.S.Shelf.state c.say.new.self)) line c.in_default.ensures.err,
+            (g.S.Shelf.state c.say.new.self)) line c.in_default-say.ensures.err,
         refl,
       ),
     )

@@ -1,0 +1,20 @@
+use Rattle.std.proofs.Common.{true}
+use Rattle.route_sweep.specs.Climb.{ClimbsTo}
+use Rattle.router_words.specs.Job.{search_said}
+use Rattle.router_top.specs.Search.{ask_of}
+use Rattle.router_top.proofs.PreparedLaws.{by-encoder}
+use Rattle.router_top.proofs.sweeping.search_widths.Goals as goal
+
+pub returns : goal.returns
+returns g c = record {
+  given = c.was_given.ensures;
+  some = c.args.search.now.in_range.0;
+  narrow = c.args.search.now.in_range.1;
+  came = c.climb.result;
+  climbs = by-encoder c.args.search.now.method c.args.problem.now c.args.encoder.now
+      c.requires
+      (λ formula good. ClimbsTo (ask_of true (search_said c.args.search.now))
+      c.args.search.now.width formula good (g.S.Shelf.state c.args.shelf.now)
+      (g.S.Shelf.state c.climb.new.shelf) c.climb.result) c.climb.ensures;
+  is = c.climbed.ensures;
+}
