@@ -6,7 +6,7 @@
 Runs the built program on 30 shuffled rings (make_rings.py), or on as many as are said, with and without `--keep`, and
 `minisat` on the same clauses without and with its preprocessing. Prints for each ring the conflicts, the seconds of user
 and system time of the whole run, files included, and the megabytes that it takes at most; then what `check` takes
-of both logs; and at the end the geometric means. Behind these come problems of a million clauses and more.
+of both logs; and at the end the geometric means, by parts and in all. Behind these come problems of a million clauses and more.
 """
 import math
 import os
@@ -17,6 +17,7 @@ import tempfile
 
 HERE = os.path.dirname(os.path.abspath(__file__))
 MINISAT = (("minisat", "-no-pre", "-no-elim", "p.cnf"), ("minisat", "p.cnf"))
+PARTS = (5, 7, 9)
 FOUR = [f"p.{ending}" for ending in ("arch", "net", "place", "route")]
 
 
@@ -108,7 +109,10 @@ def main():
     rings = int(sys.argv[2]) if len(sys.argv) > 2 else 30
     with tempfile.TemporaryDirectory() as folder:
         os.chdir(folder)
-        summed("rings", [ring(program, (5, 7, 9)[k % 3], 20 + k // 3) for k in range(rings)])
+        rows = [ring(program, PARTS[k % 3], 20 + k // 3) for k in range(rings)]
+        for first, parts in enumerate(PARTS[: len(rows)]):
+            summed(f"rings of {parts} parts", rows[first :: len(PARTS)])
+        summed("rings", rows)
         summed("large", [large(program, seed, width) for seed in (1, 2) for width in (7, 8, 10)])
         os.chdir("/")
 

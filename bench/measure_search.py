@@ -1,10 +1,11 @@
 #!/usr/bin/env python3
 """Compares the search of built programs on the same problems, beside that of `minisat`.
 
-    measure_search.py [--whole] PROGRAM..
+    measure_search.py [--whole] [--fresh] PROGRAM..
 
 The problems are 10 shuffled rings (make_rings.py), crowded cells (make_crowd.py), and meshes of 8 to 100 cells a side
-(make_design.py, and `gen` of the first program), with a track too few, with just enough, and with many. Prints for
+(make_design.py, and `gen` of the first program), with a track too few, with just enough, and with many. With `--fresh`
+they are twelve meshes of other seeds, which were named before any search had been tried on them. Prints for
 each problem what each program came to, its conflicts and its seconds of user and system time, then those of `minisat`
 without and with its preprocessing. At the end come the geometric means, and how those of each program stand to those
 of `minisat`: conflicts where all refuted the clauses, seconds everywhere.
@@ -45,6 +46,20 @@ LARGE = [
     for kind, width in (
         ("1 20 400", 6), ("1 20 400", 7), ("1 20 400", 32), ("2 20 400", 7), ("7 40 1600", 7), ("7 40 1600", 8),
         ("1 100 10000", 7), ("1 100 10000", 8),
+    )
+]
+
+FRESH = [
+    ("make_design.py", kind, width)
+    for kind, width in (
+        ("10 subset 1 0.9 31", 7), ("12 subset 1 0.9 32", 8), ("12 wilton 1 0.9 33", 9), ("12 universal 0.8 0.9 34", 8),
+        ("20 subset 1 0.9 35", 9), ("20 subset 1 0.9 35", 10),
+    )
+] + [
+    ("gen", kind, width)
+    for kind, width in (
+        ("11 20 400", 6), ("11 20 400", 7), ("12 40 1600", 7), ("12 40 1600", 8), ("13 100 10000", 7),
+        ("13 100 10000", 8),
     )
 ]
 
@@ -126,10 +141,11 @@ def summed(name, rows, count):
 
 
 def main():
-    is_whole = sys.argv[1] == "--whole"
-    programs = [os.path.abspath(word) for word in sys.argv[1 + is_whole :]]
+    is_whole = "--whole" in sys.argv
+    programs = [os.path.abspath(word) for word in sys.argv[1:] if not word.startswith("--")]
     rows = {"rings": [], "others": []}
-    for maker, kind, width in RINGS + CROWDS + MESHES + LARGE:
+    problems = FRESH if "--fresh" in sys.argv else RINGS + CROWDS + MESHES + LARGE
+    for maker, kind, width in problems:
         with tempfile.TemporaryDirectory() as folder:
             os.chdir(folder)
             make(programs[0], maker, kind)
@@ -139,7 +155,8 @@ def main():
         print(f"{name}: {said[0]}; " + "; ".join(f"{many} {seconds:.3f}" for many, seconds in found), flush=True)
         rows["rings" if maker == "make_rings.py" else "others"].append(found)
     for name, these in (*rows.items(), ("all", rows["rings"] + rows["others"])):
-        summed(name, these, len(programs))
+        if these:
+            summed(name, these, len(programs))
 
 
 main()
