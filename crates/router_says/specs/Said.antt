@@ -78,7 +78,8 @@ abbrev pub option_said : Obstacle → List ℕ
 option_said (Pins why) = codes "--pin"
 option_said (Order why) = codes "--symmetry"
 
--- at which width tracks are not alike enough, what keeps them from it, and which option can't be used
+-- at which width tracks are not alike enough, what keeps them from it, and which option can't be
+-- used
 abbrev pub obstacle_said : (width : ℕ) → Obstacle → List ℕ
 obstacle_said width why =
     codes "not symmetric at " ++ (decimal width ++ (codes " tracks: " ++ (reason_said why

@@ -42,8 +42,8 @@ fn form_of(name: &str) -> (&'static str, &'static str) {
             "sweep design.arch design.net design.place design.route 12 out",
         ),
         "encode" => (
-            "encode ARCH NET PLACE ROUTE WIDTH PREFIX [--pin | --symmetry | --reach L], WIDTH and L \
-             from 1 to 64",
+            "encode ARCH NET PLACE ROUTE WIDTH PREFIX [--pin | --symmetry | --reach L], WIDTH and \
+             L from 1 to 64",
             "encode design.arch design.net design.place design.route 9 out",
         ),
         "core" => (

@@ -187,7 +187,8 @@ module _ (method : Method) (first last : ℕ) (p : RoutingProblem) where
       go : (width < other) ⊎ (width ≡ other) ⊎ (other < width) → width ≡ other
       go (inl less) = absurd (not-suited method width p h.unsuited (g.lower width h.from less))
       go (inr (inl same)) = same
-      go (inr (inr more)) = absurd (not-suited method other p g.unsuited (h.lower other g.from more))
+      go (inr (inr more)) =
+          absurd (not-suited method other p g.unsuited (h.lower other g.from more))
 
   -- and one obstacle there
   one-reason : (width other : ℕ) (why why_other : Obstacle)
@@ -290,11 +291,13 @@ job-agrees : (job : JobAsked) (files : FileMap) (a b : Outcome) → IsTrueOfJob 
 job-agrees (Routes job) files a b h g =
     work-agrees files job.files (IsTrueOfSuitedSearch (route_search job)) a b h g
     (λ p u v. suited-agrees job.search.method job.search.width job.search.width p
-    (IsTrueOfSearch (route_search job) p) a b u v (search-agrees (route_search job) p (inr refl) a b))
+    (IsTrueOfSearch (route_search job) p) a b u v
+    (search-agrees (route_search job) p (inr refl) a b))
 job-agrees (Sweeps job) files a b h g =
     work-agrees files job.files (IsTrueOfSuitedSearch (sweep_search job)) a b h g
     (λ p u v. suited-agrees job.search.method 1 job.search.width p
-    (IsTrueOfSearch (sweep_search job) p) a b u v (search-agrees (sweep_search job) p (inl refl) a b))
+    (IsTrueOfSearch (sweep_search job) p) a b u v
+    (search-agrees (sweep_search job) p (inl refl) a b))
 job-agrees (Encodes job) files a b h g =
     work-agrees files job.files (IsTrueOfEncoding job) a b h g
     (λ p u v. suited-agrees job.method job.width job.width p

@@ -295,7 +295,8 @@ lower-in search p logs (k ∷ widths) =
 -- ---- the work that was done
 
 pub among-heard : (slots : List Slot) (files : List NamedText) (before now : ShelfState)
-    (slot : Slot) → AreHeard slots → FailsAmong slots files before now slot → IsHeard (WriteFault slot)
+    (slot : Slot) → AreHeard slots → FailsAmong slots files before now slot
+    → IsHeard (WriteFault slot)
 among-heard [] files before now slot heard h = absurd h
 among-heard (first ∷ slots) [] before now slot heard h = absurd h
 among-heard (first ∷ slots) (file ∷ files) before now slot heard (inl h) =

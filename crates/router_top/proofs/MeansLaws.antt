@@ -45,7 +45,8 @@ module _ (words : List Word) (at : Scene) where
 
     -- a refutation, and the log that was written
     abbrev pub refuted-there :
-        Finds h.comes.search h.comes.p h.width h.between at.shelf_now (Ok Refuted) → h.width ≡ h.comes.search.last
+        Finds h.comes.search h.comes.p h.width h.between at.shelf_now (Ok Refuted)
+        → h.width ≡ h.comes.search.last
         → IsRefuted words at.desk.files at.shelf.files at.shelf_now.files h.width
     refuted-there f last = record {
       comes = h.comes;

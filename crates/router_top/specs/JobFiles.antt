@@ -156,9 +156,9 @@ IsClimb words =
     ⊎ ((job : TrialAsked) × (job_of words ≡ Ok (Tries job)))
 
 -- what is left of the files, by the answer: nothing is written where the words are not taken, where
--- a file is not read or is refused, where tracks are not alike as the method asks, and where a limit
--- is passed, but for that of the clauses in a climb; a fault of a file leaves a part; and after each
--- other answer the files that were begun are whole
+-- a file is not read or is refused, where tracks are not alike as the method asks, and where a
+-- limit is passed, but for that of the clauses in a climb; a fault of a file leaves a part; and
+-- after each other answer the files that were begun are whole
 abbrev pub LeavesFiles : List Word → (desk before now : Option FileMap) → Outcome → Type 0
 LeavesFiles words desk before now (Usage code) = now ≡ before
 LeavesFiles words desk before now (ReadFault file) = now ≡ before

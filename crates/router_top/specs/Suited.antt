@@ -1,5 +1,5 @@
--- Whether the method of a job suits its problem at each width that the job may come to, and what the
--- job leaves by that.
+-- Whether the method of a job suits its problem at each width that the job may come to, and what
+-- the job leaves by that.
 use Rattle.std.specs.Prelude.{◌≡◌, ◌⊎◌, ℕ, ◌<◌, ◌≤◌, Bool, true, false, Option, Some, None, option_map}
 use Rattle.desk_io.specs.ShelfState.{ShelfState}
 use Rattle.fpga_types.specs.Problem.{RoutingProblem}
@@ -15,8 +15,8 @@ use Rattle.router_top.specs.declared.outcome.Obstacle.TheVariants.{Order, Pins}
 use Rattle.router_top.specs.declared.outcome.Outcome.{Outcome}
 use Rattle.router_top.specs.declared.outcome.Outcome.TheVariants.{NotSymmetric}
 
--- the method suits the problem at a width: where tracks are pinned, all of them are alike there, and
--- where they are kept in order, their groups may change places
+-- the method suits the problem at a width: where tracks are pinned, all of them are alike there,
+-- and where they are kept in order, their groups may change places
 abbrev pub is_suited : Method → (width : ℕ) → RoutingProblem → Bool
 is_suited Strictly width p = true
 is_suited Pinned width p = is_full width p
@@ -73,7 +73,8 @@ abbrev pub RouteLeaves : RouteAsked → RoutingProblem → (before now : ShelfSt
 RouteLeaves job = LeavesSuited job.search.method job.search.width job.search.width
     (LeavesPrepared job.search.method (LeavesRoute job))
 
--- what `sweep` leaves of its problem; each width up to the greatest counts, also if it is not come to
+-- what `sweep` leaves of its problem; each width up to the greatest counts, also if it is not come
+-- to
 abbrev pub SweepLeaves : SweepAsked → RoutingProblem → (before now : ShelfState) → Outcome → Type 0
 SweepLeaves job = LeavesSuited job.search.method 1 job.search.width
     (LeavesPrepared job.search.method (Sweeps job))

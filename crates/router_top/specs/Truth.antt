@@ -63,7 +63,8 @@ IsTrueOfSearch search p outcome =
 -- does, and the outcome is true of the search
 abbrev pub IsTrueOfSuitedSearch : Search → RoutingProblem → Outcome → Type 0
 IsTrueOfSuitedSearch search p outcome =
-    IsTrueOfSuited search.method search.first search.last p (IsTrueOfSearch search p outcome) outcome
+    IsTrueOfSuited search.method search.first search.last p (IsTrueOfSearch search p outcome)
+    outcome
 
 -- the method does not suit the problem at the width, and the outcome says so; or it does, and there
 -- are too many clauses, or they were written

@@ -63,8 +63,8 @@ pub enum Outcome {
         code: u32,
         count: u64,
     },
-    /// Tracks were to be pinned or to be kept in order, and at this width they are not alike enough;
-    /// of a sweep it is the least such width. This keeps them from it.
+    /// Tracks were to be pinned or to be kept in order, and at this width they are not alike
+    /// enough; of a sweep it is the least such width. This keeps them from it.
     NotSymmetric {
         width: u32,
         why: Obstacle,

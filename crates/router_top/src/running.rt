@@ -102,11 +102,11 @@ fn say_report<S: Shelf>(shelf: &mut S, outcome: Outcome) -> Outcome
 /// themselves.
 ///
 /// Where `--pin` is given to `route`, `sweep` or `encode`, the nets of one most crowded cell are
-/// given their tracks beforehand, and where `--symmetry` is, the trees of a crowd come to the tracks
-/// or to pairs of them in their order. That changes no answer. For pins all tracks are to be alike,
-/// and for that order they or their pairs are to be free to change places, at WIDTH or at each width
-/// up to MAX: if not, the outcome is `NotSymmetric` with the least such width and nothing is
-/// written.
+/// given their tracks beforehand, and where `--symmetry` is, the trees of a crowd come to the
+/// tracks or to pairs of them in their order. That changes no answer. For pins all tracks are to be
+/// alike, and for that order they or their pairs are to be free to change places, at WIDTH or at
+/// each width up to MAX: if not, the outcome is `NotSymmetric` with the least such width and
+/// nothing is written.
 ///
 /// Where `--reach` is given to `route`, `sweep`, `trial` or `encode`, a routing is one in which a
 /// net may take several wires of its cells and reaches each sink within so many joins; the clauses

@@ -113,7 +113,8 @@ pub help : route (codes "5" ∷ codes "out" ∷ codes "--help" ∷ []) ≡ Err F
 unfolding clap_on_literals
 help = refl
 
-pub by_turns : route (codes "5" ∷ codes "out" ∷ codes "--members" ∷ codes "3" ∷ codes "--seed=7" ∷ [])
+pub by_turns : route (codes "5" ∷ codes "out" ∷ codes "--members" ∷ codes "3"
+    ∷ codes "--seed=7" ∷ [])
     ≡ turns 3 7
 unfolding clap_on_literals
 by_turns = refl
@@ -180,7 +181,8 @@ pub no_reach : route (codes "5" ∷ codes "out" ∷ codes "--reach=0" ∷ []) �
 unfolding clap_on_literals
 no_reach = refl
 
-pub route_pins_and_reaches : route (codes "5" ∷ codes "out" ∷ codes "--reach=1" ∷ codes "--pin" ∷ [])
+pub route_pins_and_reaches : route (codes "5" ∷ codes "out" ∷ codes "--reach=1"
+    ∷ codes "--pin" ∷ [])
     ≡ Err Clash
 unfolding clap_on_literals
 route_pins_and_reaches = refl
@@ -216,7 +218,8 @@ pub sweep_orders_and_reaches : sweep (codes "8" ∷ codes "out" ∷ codes "--sym
 unfolding clap_on_literals
 sweep_orders_and_reaches = refl
 
-pub sweep_pins_and_reaches : sweep (codes "8" ∷ codes "out" ∷ codes "--pin" ∷ codes "--reach=2" ∷ [])
+pub sweep_pins_and_reaches : sweep (codes "8" ∷ codes "out" ∷ codes "--pin"
+    ∷ codes "--reach=2" ∷ [])
     ≡ Err Clash
 unfolding clap_on_literals
 sweep_pins_and_reaches = refl

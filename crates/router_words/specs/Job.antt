@@ -39,8 +39,8 @@ pub record MembersAsked : Type 0 where
   pub count : ℕ
   pub seed : ℕ
 
--- to look for a routing: the files, what the search is told, and the searches that take turns, where
--- there is not one alone
+-- to look for a routing: the files, what the search is told, and the searches that take turns,
+-- where there is not one alone
 pub record RouteAsked : Type 0 where
   pub files : FilesAsked
   pub search : SearchAsked

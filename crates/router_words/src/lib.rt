@@ -11,11 +11,11 @@
 //! | `gen` | SEED NX NETS PREFIX | |
 //! | `trial` | SEED NX NETS MAX PREFIX | `--reach L`, `--conflicts N`, `--keep` |
 //!
-//! FILES are four words: ARCH NET PLACE ROUTE. METHOD is `--pin`, `--symmetry` or `--reach L`, or none. WIDTH
-//! and MAX are whole numbers from 1 to 64, and N one from 1 to 100,000,000, or 1,000,000 where it
-//! is not given. SEED is one from 0 to 2,147,483,647, NX one from 1 to 100, and NETS one from 1 to
-//! 10,000. K is one from 1 to 8, and S one from 0 to 2,147,483,647, or 1 where `--members` is given
-//! alone. L is one from 1 to 64. Leading zeros are taken, signs are not.
+//! FILES are four words: ARCH NET PLACE ROUTE. METHOD is `--pin`, `--symmetry` or `--reach L`, or
+//! none. WIDTH and MAX are whole numbers from 1 to 64, and N one from 1 to 100,000,000, or
+//! 1,000,000 where it is not given. SEED is one from 0 to 2,147,483,647, NX one from 1 to 100, and
+//! NETS one from 1 to 10,000. K is one from 1 to 8, and S one from 0 to 2,147,483,647, or 1 where
+//! `--members` is given alone. L is one from 1 to 64. Leading zeros are taken, signs are not.
 //!
 //! What stands behind the command is taken as `clap` takes it: options may stand anywhere,
 //! `--conflicts=5` is `--conflicts 5`, behind `--` no word is an option, and a word may be empty or
