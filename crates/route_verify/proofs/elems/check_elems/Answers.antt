@@ -93,7 +93,7 @@ loop-i-preserved c =
     record {
       elems = c.loop-i.invariant.elems;
       past = past-elem (line_cause_by c.args.rules.now.reach c.args.rules.now.width
-      c.args.rules.now.problem) _
+          c.args.rules.now.problem) _
           c.args.earlier.now
           c.args.net.now i e there c.loop-i.invariant.past (sym cause ∙ c.in_default-cause.is);
       previous = rw (add-one, take-get elems i e here) (sym (last-push None (take i elems) e));

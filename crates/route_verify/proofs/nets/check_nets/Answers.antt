@@ -58,7 +58,7 @@ loop-n-preserved c =
     rw add-one (take-get nets c.loop-n.n net here) in
     record {
       past = past-net (line_cause_by c.args.judge.now.reach c.args.judge.now.width
-      c.args.judge.now.problem) _ nets
+          c.args.judge.now.problem) _ nets
           c.loop-n.n net here
           c.loop-n.invariant.past head.0
           (subst (λ (of : JudgedNet). IsFaultless

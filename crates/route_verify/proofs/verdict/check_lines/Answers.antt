@@ -49,7 +49,7 @@ returns c =
     let lined = subst (λ (nets : List RouteNet). HasNetLines c.args.judge.now.problem.netlist.nets
     c.check_nets.new.marks nets) c.as_slice.ensures c.in_default.ensures.marked in (
       clean-at-end c.args.judge.now.reach c.args.judge.now.width c.args.judge.now.problem
-      c.args.found.now clean
+          c.args.found.now clean
           (ap (list_any (lacks_line nets)) (sym c.names.ensures)
           ∙ sym (c.lacks_net.ensures nets (subst (λ (names : List Net). HasNetLines names
           c.check_nets.new.marks nets) (sym c.names.ensures) lined))
