@@ -1,0 +1,4 @@
+pub mod CountedLemmas
+pub mod CrowdedLemmas
+pub mod MeetingLemmas
+pub mod TrackLaws

@@ -1,0 +1,16 @@
+use Rattle.std.proofs.Common.{arith, length, length-append, ap}
+use Rattle.route_encode.specs.Encoding.{cnf_of}
+use Rattle.route_symmetry.proofs.SlotCells.{all-there}
+use Rattle.route_count.proofs.counting.counted_row.Goals as goal
+
+pub of-requires-clause-few : goal.of-requires-clause-few
+of-requires-clause-few c =
+    let more = ap length c.requires.begun.clauses.1 in
+    let both = length-append (cnf_of c.args.width c.args.problem.now).clauses
+    c.requires.begun.clauses.0 in
+    omega (arith, more, both, c.of-refutation.ensures)
+
+pub new-requires-clause-there : goal.new-requires-clause-there
+new-requires-clause-there c =
+    rw (c.slots-slots.ensures.value, c.route.ensures.value)
+    (all-there c.args.problem.now.route c.route.ensures.given.route)

@@ -1,0 +1,25 @@
+use Rattle.std.proofs.Common.{◌<◌, ◌∙◌, All, List, ℕ, length, subst, suc, sym}
+use Rattle.fpga_types.specs.Slots.{slots}
+use Rattle.route_crowd.specs.Crowd.{crowd}
+use Rattle.route_count.specs.Crowded.{IsCrowding, slots_of_cell}
+use Rattle.route_count.specs.declared.crowded.Crowding.{Crowding}
+use Rattle.route_count.proofs.CountedLemmas.{cell-within, crowd-within, first-within}
+use Rattle.route_count.proofs.counting.counting.Goals as goal
+
+pub counted_row-requires-clause-row : goal.counted_row-requires-clause-row
+counted_row-requires-clause-row c =
+    let is = subst (λ (found : Crowding). IsCrowding c.args.width c.args.problem.now found)
+    c.in-Cell.is c.requires.crowding in
+    subst (λ (row : List ℕ). All (λ s. s < length (slots c.args.problem.now.route)) row)
+    (sym (c.deref.ensures.0 ∙ is.2))
+    (first-within (suc c.args.width) (length (slots c.args.problem.now.route))
+    (slots_of_cell c.args.problem.now is.0) (cell-within c.args.problem.now is.0))
+
+pub counted_row-requires-in-Crowd-clause-row : goal.counted_row-requires-in-Crowd-clause-row
+counted_row-requires-in-Crowd-clause-row c =
+    let is = subst (λ (found : Crowding). IsCrowding c.args.width c.args.problem.now found)
+    c.in-Crowd.is c.requires.crowding in
+    subst (λ (row : List ℕ). All (λ s. s < length (slots c.args.problem.now.route)) row)
+    (sym (c.deref-in-Crowd.ensures.0 ∙ is.2))
+    (first-within (suc c.args.width) (length (slots c.args.problem.now.route))
+    (crowd c.args.problem.now) (crowd-within c.args.problem.now))

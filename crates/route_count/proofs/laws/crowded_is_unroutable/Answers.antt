@@ -1,0 +1,5 @@
+use Rattle.route_count.proofs.TrackLaws.{crowded_unroutable}
+use Rattle.route_count.proofs.laws.crowded_is_unroutable.Goals as goal
+
+pub returns : goal.returns
+returns c = crowded_unroutable

@@ -1,0 +1,10 @@
+-- each slot is come to from an earlier one
+use Rattle.std.proofs.Common.{◌≡◌, length}
+use Rattle.route_count.specs.Leads.{AreLeads}
+use Rattle.route_count.proofs.trees.note_leads.Given as goal
+
+abbrev pub invariant-loop-number : goal.invariant-loop-number
+invariant-loop-number l = record {
+  each : length l.leads ≡ length l.initial.leads;
+  leads : AreLeads l.leads;
+}

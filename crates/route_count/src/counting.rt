@@ -1,0 +1,82 @@
+//! The refutation of a crowded width.
+ghost use Rattle.std.specs.Prelude.{ℕ, ◌≡◌, ◌≤◌, ◌<◌, All, length, suc};
+ghost use Rattle.fpga_types.specs.Slots.{slots};
+ghost use Rattle.fpga_types.specs.declared.limits.TheConstants.{WIDTH_LIMIT};
+ghost use Rattle.route_count.specs.Begun.{IsBegunBy};
+ghost use Rattle.route_count.specs.Crowded.{IsCrowding};
+ghost use Rattle.route_encode.specs.Encoding.{cnf_of};
+
+use crate::clause_ids::ClauseIds;
+use crate::crowded::Crowding;
+use crate::first_level::Beginning;
+use crate::meetings::Meetings;
+use crate::trees::Trees;
+use fpga_bounds::PlacedProblem;
+use fpga_types::WIDTH_LIMIT;
+use route_encode::Variables;
+use sat_clause::{Formula, Log};
+use sat_count::{Refutation, count_down};
+use std::alloc::{AllocError, Global};
+
+/// The steps by which slots that are one more than the tracks refute the clauses of a problem.
+///
+/// # Errors
+/// Where memory is short.
+pub(crate) fn counting(
+    alloc: Global,
+    formula: &Formula,
+    problem: &PlacedProblem,
+    width: u32,
+    crowding: &Crowding,
+) -> Result<Log, AllocError>
+    requires width { (1 ≤ width) × (width ≤ WIDTH_LIMIT) }
+    requires begun { IsBegunBy formula.now.cnf (cnf_of width problem.now) }
+    requires crowding { IsCrowding width problem.now crowding.now }
+{
+    let count = problem.slots().len() as u32;
+    match crowding {
+        Crowding::Cell(row) => {
+            let trees = Trees::apart(alloc, count)?;
+            counted_row(alloc, formula, problem, width, row, &trees)
+        }
+        Crowding::Crowd(row) => {
+            let trees = Trees::of_steps(alloc, count, problem.steps())?;
+            counted_row(alloc, formula, problem, width, row, &trees)
+        }
+    }
+}
+
+/// The steps by which the slots of a row, each of which stands for its tree, refute the clauses.
+fn counted_row(
+    alloc: Global,
+    formula: &Formula,
+    problem: &PlacedProblem,
+    width: u32,
+    row: &[u32],
+    trees: &Trees,
+) -> Result<Log, AllocError>
+    requires width { (1 ≤ width) × (width ≤ WIDTH_LIMIT) }
+    requires begun { IsBegunBy formula.now.cnf (cnf_of width problem.now) }
+    requires row { All (λ s. s < length (slots problem.now.route)) row.now }
+    requires size { length row.now ≡ suc width }
+    requires trees { length trees.now ≡ length (slots problem.now.route) }
+{
+    let mut refutation = Refutation::of(alloc, formula);
+    let slots = problem.slots();
+    let ids = ClauseIds::of(alloc, problem, width)?;
+    let meetings = Meetings::new(alloc, problem.route().grid, slots, trees, row)?;
+    let variables = Variables {
+        slots: slots.len() as u32,
+        width,
+    };
+    let beginning = Beginning {
+        variables,
+        ids: &ids,
+        trees,
+        row,
+        meetings: &meetings,
+    };
+    let first = beginning.first_level(alloc, &mut refutation)?;
+    count_down(alloc, &mut refutation, first)?;
+    Ok(refutation.log())
+}
