@@ -1,0 +1,33 @@
+//! What is printed of a problem at a width.
+ghost use Rattle.std.specs.Prelude.{◌≤◌};
+
+use fpga_bounds::PlacedProblem;
+use fpga_types::WIDTH_LIMIT;
+use route_count::counted_out;
+use route_encode::{Encoder, Strict};
+use rows_problem::RowsError;
+use sat_clause::CLAUSE_LIMIT;
+use std::alloc::Global;
+
+/// Prints how many steps refute the clauses of the problem, or that they are not counted out.
+pub(crate) fn print_counted(
+    rt: &impl Print,
+    alloc: Global,
+    problem: &PlacedProblem,
+    width: u32,
+) -> Result<(), RowsError>
+    requires { (1 ≤ width) × (width ≤ WIDTH_LIMIT) }
+{
+    if Strict.count(problem, width) > CLAUSE_LIMIT {
+        println!(rt; "too many clauses")?;
+        return Ok(());
+    }
+    let formula = Strict.build(alloc, problem, width)?;
+    let Some(log) = counted_out(alloc, &formula, problem, width)? else {
+        println!(rt; "{width}: not counted out")?;
+        return Ok(());
+    };
+    let steps = log.len();
+    println!(rt; "{width}: {steps} steps")?;
+    Ok(())
+}
