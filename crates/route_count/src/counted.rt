@@ -18,7 +18,8 @@ use std::alloc::{AllocError, Global};
 /// Refutes the clauses of a problem at a width, from 1 to 64, by counting: where a cell has more
 /// slots than there are tracks, or where the switch blocks are subset ones and the crowd of the
 /// problem has more trees. The first clauses of the formula are those of
-/// [`Strict`](route_encode::Strict), which alone are used. `None` says that there is neither.
+/// [`Strict`](route_encode::Strict), which alone are used. `None` says that there is neither, or
+/// that the checker refused the log, which no clause rules out and no known problem shows.
 ///
 /// # Errors
 /// Where memory is short.
