@@ -1,5 +1,5 @@
--- Where switch blocks keep tracks, a tree has one track, and trees that meet have different ones; so
--- a crowded width has no legal routing.
+-- Where switch blocks keep tracks, a tree has one track, and trees that meet have different ones;
+-- so a crowded width has no legal routing.
 use Rattle.std.proofs.Common.{◌≡◌, ◌≢◌, ℕ, zero, suc, ◌+◌, ◌<◌, ◌≤◌, Bool, true, false, Option, Some, None, List, [], ◌∷◌, ◌++◌, length, get_or, refl, sym, ap, subst, ◌∙◌, inl, inr, arith, All, AllPairs}
 use Rattle.std.specs.Prelude.{◌==◌, not, find, map, filter_map, option_map, slice_get}
 use Rattle.std.specs.List.{enumerate_from}

@@ -120,8 +120,8 @@ impl<'a> Beginning<'a> {
         Ok(())
     }
 
-    /// The clause that a slot has a track where the first slot of its tree has it, as a hint; `None`
-    /// for that slot itself.
+    /// The clause that a slot has a track where the first slot of its tree has it, as a hint;
+    /// `None` for that slot itself.
     fn led_track(&self, led: &[u32], slot: u32, track: u32) -> Option<i64>
         requires led { length led.now ≡ self.now.variables.slots }
         requires slot { slot < self.now.variables.slots }

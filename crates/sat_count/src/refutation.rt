@@ -81,8 +81,8 @@ impl Refutation {
         Ok((first, name))
     }
 
-    /// Adds the four clauses that say that the first literal is true exactly where the second is, or
-    /// both others are, and gives the id of the first.
+    /// Adds the four clauses that say that the first literal is true exactly where the second is,
+    /// or both others are, and gives the id of the first.
     fn add_meaning(
         &mut self,
         has: Lit,
