@@ -1,7 +1,8 @@
 //! Prints the picture of a route as SVG.
 //!
 //! It is called as `route_picture ARCH NET PLACE ROUTE WIDTH`, where WIDTH is a whole number from 1
-//! to 64. Where no picture is printed, it says why on standard error.
+//! to 64, and by `gafkelam picture` with the same words. Where no picture is printed, it says why
+//! on standard error.
 //!
 //! | status | cause |
 //! |---|---|
@@ -36,7 +37,7 @@ fn main(rt: HostRuntime) -> ExitCode {
     match print_picture(rt.alloc(), &mut desk, &mut shelf, &words) {
         Ok(()) => ExitCode::SUCCESS,
         Err(stop) => {
-            let _ = eprintln!(rt; "route_picture: {stop}");
+            let _ = eprintln!(rt; "gafkelam picture: {stop}");
             ExitCode::from(stop.status())
         }
     }

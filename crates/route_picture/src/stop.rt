@@ -9,7 +9,7 @@ use thiserror::Error;
 /// Why no picture is printed.
 #[derive(Clone, Copy, Debug, Error)]
 pub(crate) enum Stop {
-    #[error("usage: route_picture ARCH NET PLACE ROUTE WIDTH > PICTURE.svg, \
+    #[error("usage: gafkelam picture ARCH NET PLACE ROUTE WIDTH > PICTURE.svg, \
         with WIDTH from 1 to 64")]
     Usage,
     #[error("{0} file: it is not there, or can't be read")]
