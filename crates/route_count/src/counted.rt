@@ -18,8 +18,12 @@ use std::alloc::{AllocError, Global};
 /// Refutes the clauses of a problem at a width, from 1 to 64, by counting: where a cell has more
 /// slots than there are tracks, or where the switch blocks are subset ones and the crowd of the
 /// problem has more trees. The first clauses of the formula are those of
-/// [`Strict`](route_encode::Strict), which alone are used. `None` says that there is neither, or
-/// that the checker refused the log, which no clause rules out and no known problem shows.
+/// [`Strict`](route_encode::Strict), which alone are used.
+///
+/// The log is judged before it is handed out. `None` comes where there is neither, and where the
+/// judge refuses the log, of which no case is known. The time and the memory are those of
+/// [`crowd`](route_crowd::crowd) and of the steps, which grow with the fourth power of the tracks:
+/// 4.6 million at 64.
 ///
 /// # Errors
 /// Where memory is short.
