@@ -256,19 +256,6 @@ advances w above front c now next stand is now_is next_is found =
       smaller = omega (arith, ap length ahead, ap length behind);
     }
 
--- fewer are ahead behind each
-pub fewer_on : (ks : List Attached) (c : ClauseRef) (now next : Option ClauseRef) →
-    AreInPlace 0 ks → is_attached ks c ≡ true → now ≡ Some c →
-    next ≡ first_attached (attached_behind ks c) →
-    length (from_on ks next) < length (from_on ks now)
-fewer_on ks c now next stand is now_is next_is =
-    let here = from_here ks c is in
-    let ahead : from_on ks now ≡ here.0 ∷ attached_behind ks c =
-    ap (from_on ks) now_is ∙ here.1 in
-    let behind : from_on ks next ≡ attached_behind ks c =
-    ap (from_on ks) next_is ∙ from_behind 0 ks c stand is in
-    omega (arith, ap length ahead, ap length behind)
-
 -- THOSE THAT MAY GO
 
 all_attached : (ks : List Attached) → All (λ c. is_attached ks c ≡ true) (places_of ks)

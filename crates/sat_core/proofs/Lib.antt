@@ -25,7 +25,6 @@ pub mod RelevantLaws
 pub mod SameLaws
 pub mod SearchLaws
 pub mod StartLaws
-pub mod TestLemmas
 pub mod TrailPlaces
 pub mod TurnLaws
 pub mod UnderwayLemmas

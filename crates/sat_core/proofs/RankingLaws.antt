@@ -92,8 +92,8 @@ ranked_decided w order v some ranked =
     (ranked_more (e ∷ w.trail) (value_stays (e ∷ []) w.trail) ranked)
 
 -- a literal is decided whose variable stays held
-pub ranked_assumed : (w : WatchState) (order : OrderState) (l : Lit) → IsRanked w.vars w.trail order →
-    IsRanked (assumed l w).vars (assumed l w).trail order
+pub ranked_assumed : (w : WatchState) (order : OrderState) (l : Lit) →
+    IsRanked w.vars w.trail order → IsRanked (assumed l w).vars (assumed l w).trail order
 ranked_assumed w order l ranked =
     let e : TrailEntry = record { lit = l; level = suc w.level; reason = None } in
     ranked_more (e ∷ w.trail) (value_stays (e ∷ []) w.trail) ranked

@@ -17,5 +17,4 @@ pub mod SearchLog
 pub mod SearchStore
 pub mod Stands
 pub mod Start
-pub mod Tests
 pub mod Underway

@@ -12,25 +12,17 @@ mod deciding;
 mod deletions;
 mod distinct;
 mod forgetting;
-#[cfg(test)]
-mod forgetting_tests;
 mod implied;
 mod inputs;
 mod lesson;
 mod marks;
 mod places;
-#[cfg(test)]
-mod plain_log;
 mod ranking;
 mod restarts;
 mod search;
-#[cfg(test)]
-mod shared_tests;
 mod solving;
 mod start;
 mod state;
-#[cfg(test)]
-mod tests;
 mod turn;
 mod visit;
 mod walking;

@@ -10,14 +10,10 @@ ghost use Rattle.sat_core.specs.SearchStore.{SameKept};
 ghost use Rattle.sat_core.specs.Stands.{StandsFor};
 ghost use Rattle.sat_core.specs.Underway.{IsTurn, IsUnderway, MayFollow, MayTurn};
 
-#[cfg(test)]
-use crate::clause_list::ClauseList;
 use crate::deletions::Deletions;
 use crate::state::SearchState;
 use crate::turn::{Turn, take_turn};
 use sat_clause::{Formula, Log};
-#[cfg(test)]
-use sat_watch::Watches;
 use std::alloc::{AllocError, Global};
 use std::marker::Model;
 
@@ -203,11 +199,5 @@ impl Search {
         }
         deletions.push(added);
         Ok(())
-    }
-
-    /// The clauses that were laid aside, and the attached ones with the trail.
-    #[cfg(test)]
-    pub(crate) fn parts(&self) -> (&ClauseList, &Watches) {
-        self.state.parts()
     }
 }

@@ -272,10 +272,4 @@ impl SearchState {
     {
         self.findings.reuse(lesson);
     }
-
-    /// The clauses that were laid aside, and the attached ones with the trail.
-    #[cfg(test)]
-    pub(crate) fn parts(&self) -> (&ClauseList, &Watches) {
-        (&self.aside, &self.watches)
-    }
 }

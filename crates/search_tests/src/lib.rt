@@ -1,8 +1,6 @@
 //! Tests of the search for values, of its checkers and of what they are made of, from formulas and
 //! logs up to their texts: over public calls alone, so that no crate under test is proved a second
 //! time.
-//!
-//! Those that look at the clauses which a search holds stand in `sat_core`.
 #![tactic(auto)]
 
 #[cfg(test)]
@@ -20,6 +18,8 @@ mod forgetting;
 #[cfg(test)]
 mod full_checker;
 #[cfg(test)]
+mod logs;
+#[cfg(test)]
 mod numbers;
 #[cfg(test)]
 mod order;
@@ -31,5 +31,7 @@ mod search;
 mod shared;
 #[cfg(test)]
 mod texts;
+#[cfg(test)]
+mod turns;
 #[cfg(test)]
 mod watches;
