@@ -18,4 +18,6 @@ mod problem;
 #[cfg(test)]
 mod route;
 #[cfg(test)]
+mod slow_system;
+#[cfg(test)]
 mod text;

@@ -1,0 +1,252 @@
+//! Files of a system that moves one byte a call, is interrupted by signals and fails late, made over
+//! those of the real one.
+ghost use Rattle.std.specs.Prelude.{◌≤◌, length};
+
+use desk_io::{Desk, FileDesk, FileShelf, ReadStop, Shelf, read_file};
+use std::alloc::{AllocError, Allocator, Global};
+use std::fmt::Display;
+use std::fs::{self, Metadata, OpenFile, OpenOptions};
+use std::io::{self, ErrorKind, Print, Read, Seek, SeekFrom, Write};
+use std::rt::Files;
+use std::test::Fail;
+
+/// What a system refuses, if it refuses something.
+#[derive(Clone, Copy, PartialEq, Eq)]
+enum Refused {
+    Nothing,
+    /// A read, behind so many.
+    Reads(u32),
+    /// To write what was held back.
+    Flush,
+    /// To put a file on its disk, for this reason.
+    Sync(ErrorKind),
+    /// Standard output.
+    Output,
+}
+
+/// A system that moves one byte a call. A signal interrupts each second call.
+#[derive(Drop)]
+struct SlowSystem<'a, R> {
+    rt: &'a R,
+    refused: Refused,
+}
+
+/// A file of it.
+#[derive(Drop)]
+struct SlowFile<F> {
+    file: F,
+    refused: Refused,
+    calls: u32,
+}
+
+impl<F> SlowFile<F> {
+    /// Whether a signal interrupts this call.
+    fn is_interrupted(&mut self) -> bool {
+        self.calls = self.calls.wrapping_add(1);
+        self.calls % 2 == 1
+    }
+}
+
+/// At most one byte of these.
+fn first_of(bytes: &[u8]) -> &[u8]
+    ensures { length result.now ≤ length bytes.now }
+{
+    if bytes.is_empty() { bytes } else { &bytes[..1] }
+}
+
+impl<F: Read> Read for SlowFile<F> {
+    fn read(&mut self, buf: &mut [u8]) -> io::Result<usize> {
+        if self.is_interrupted() {
+            return Err(ErrorKind::Interrupted.into());
+        }
+        if let Refused::Reads(behind) = self.refused
+            && self.calls / 2 > behind
+        {
+            return Err(ErrorKind::Other.into());
+        }
+        let most = buf.len().min(1);
+        self.file.read(&mut buf[..most])
+    }
+}
+
+impl<F: Write> Write for SlowFile<F> {
+    fn write(&mut self, buf: &[u8]) -> io::Result<usize> {
+        if self.is_interrupted() {
+            return Err(ErrorKind::Interrupted.into());
+        }
+        self.file.write(first_of(buf))
+    }
+
+    fn flush(&mut self) -> io::Result<()> {
+        if self.refused == Refused::Flush {
+            return Err(ErrorKind::Other.into());
+        }
+        self.file.flush()
+    }
+}
+
+impl<F: Seek> Seek for SlowFile<F> {
+    fn seek(&mut self, to: SeekFrom) -> io::Result<u64> {
+        self.file.seek(to)
+    }
+}
+
+impl<F: OpenFile> OpenFile for SlowFile<F> {
+    fn metadata(&self) -> io::Result<Metadata> {
+        self.file.metadata()
+    }
+
+    fn set_len(&self, size: u64) -> io::Result<()> {
+        self.file.set_len(size)
+    }
+
+    fn sync_all(&self) -> io::Result<()> {
+        match self.refused {
+            Refused::Sync(kind) => Err(kind.into()),
+            _ => self.file.sync_all(),
+        }
+    }
+
+    fn sync_data(&self) -> io::Result<()> {
+        self.sync_all()
+    }
+}
+
+impl<'a, R: Files> Files for SlowSystem<'a, R> {
+    type File = SlowFile<R::File>;
+
+    type Dir = R::Dir;
+
+    fn open_file(&self, how: &OpenOptions, path: &str) -> io::Result<SlowFile<R::File>> {
+        Ok(SlowFile {
+            file: self.rt.open_file(how, path)?,
+            refused: self.refused,
+            calls: 0,
+        })
+    }
+
+    fn open_dir(&self, path: &str) -> io::Result<R::Dir> {
+        self.rt.open_dir(path)
+    }
+
+    fn metadata(&self, path: &str) -> io::Result<Metadata> {
+        self.rt.metadata(path)
+    }
+
+    fn symlink_metadata(&self, path: &str) -> io::Result<Metadata> {
+        self.rt.symlink_metadata(path)
+    }
+
+    fn copy(&self, from: &str, to: &str) -> io::Result<u64> {
+        self.rt.copy(from, to)
+    }
+
+    fn rename(&self, from: &str, to: &str) -> io::Result<()> {
+        self.rt.rename(from, to)
+    }
+
+    fn remove_file(&self, path: &str) -> io::Result<()> {
+        self.rt.remove_file(path)
+    }
+
+    fn create_dir(&self, path: &str) -> io::Result<()> {
+        self.rt.create_dir(path)
+    }
+
+    fn remove_dir(&self, path: &str) -> io::Result<()> {
+        self.rt.remove_dir(path)
+    }
+
+    fn remove_dir_all<B: Allocator>(&self, alloc: B, path: &str) -> io::Result<()> {
+        self.rt.remove_dir_all(alloc, path)
+    }
+}
+
+impl<'a, R: Print> Print for SlowSystem<'a, R> {
+    fn print<D: Display + Drop>(&self, value: D) -> io::Result<()> {
+        self.rt.print(value)
+    }
+
+    fn println<D: Display + Drop>(&self, value: D) -> io::Result<()> {
+        self.rt.println(value)
+    }
+
+    fn write_all(&self, bytes: &[u8]) -> io::Result<()> {
+        if self.refused == Refused::Output {
+            return Err(ErrorKind::Other.into());
+        }
+        self.rt.write_all(bytes)
+    }
+
+    fn write_some(&self, bytes: &[u8]) -> io::Result<usize> {
+        if self.refused == Refused::Output {
+            return Err(ErrorKind::Other.into());
+        }
+        self.rt.write_some(first_of(bytes))
+    }
+}
+
+/// What is written and read.
+const TEXT: &[u8] = b"each of these bytes";
+
+/// Creates a file, appends the text and finishes, and says whether all was taken.
+fn is_written<R: Files + Print>(system: &R, name: &str) -> bool {
+    let mut shelf = FileShelf::new(system);
+    if shelf.create(name).is_err() || shelf.append(TEXT).is_err() {
+        return false;
+    }
+    shelf.finish().is_ok()
+}
+
+#[test]
+fn interrupted_calls_move_all_bytes(rt: HostRuntime) -> Result<(), Fail> {
+    let slow = SlowSystem {
+        rt: &rt,
+        refused: Refused::Nothing,
+    };
+    assert!(rt; is_written(&slow, "slow.tmp"));
+    for text in [
+        read_file(rt.alloc(), &mut FileDesk::new(&rt), "slow.tmp", 100)?,
+        read_file(rt.alloc(), &mut FileDesk::new(&slow), "slow.tmp", 100)?,
+    ] {
+        assert_eq!(rt; text.as_slice(), TEXT);
+    }
+    fs::remove_file(&rt, "slow.tmp")?;
+    Ok(())
+}
+
+#[test]
+fn late_failures_are_faults(rt: HostRuntime) -> Result<(), Fail> {
+    let cases = [
+        (Refused::Nothing, true),
+        (Refused::Flush, false),
+        (Refused::Sync(ErrorKind::Other), false),
+        (Refused::Sync(ErrorKind::Interrupted), false),
+        // A pipe or a terminal has no disk.
+        (Refused::Sync(ErrorKind::InvalidInput), true),
+    ];
+    for (refused, want) in cases {
+        let slow = SlowSystem { rt: &rt, refused };
+        assert_eq!(rt; is_written(&slow, "late.tmp"), want);
+    }
+    let slow = SlowSystem {
+        rt: &rt,
+        refused: Refused::Reads(3),
+    };
+    assert_eq!(rt;
+        read_file(rt.alloc(), &mut FileDesk::new(&slow), "late.tmp", 100).err(),
+        Some(ReadStop::Fault)
+    );
+    fs::remove_file(&rt, "late.tmp")?;
+    Ok(())
+}
+
+#[test]
+fn refused_output_is_a_fault(rt: HostRuntime) -> Result<(), Fail> {
+    for (refused, want) in [(Refused::Nothing, true), (Refused::Output, false)] {
+        let slow = SlowSystem { rt: &rt, refused };
+        let mut shelf = FileShelf::new(&slow);
+        assert_eq!(rt; shelf.say(b"").is_ok() && shelf.say(b"\n").is_ok(), want);
+    }
+    Ok(())
+}
