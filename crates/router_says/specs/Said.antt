@@ -1,5 +1,5 @@
 -- What is said of an outcome that was not asked for.
-use Rattle.std.specs.Prelude.{◌≡◌, ℕ, ◌++◌, ◌==◌, ◌||◌, ⊤, IsTrue, List, [], codes, decimal, Option, Some, None, if◌then◌else◌}
+use Rattle.std.specs.Prelude.{◌≡◌, ℕ, ◌++◌, ⊤, IsTrue, List, [], codes, decimal, Option, Some, None}
 use Rattle.code_words.specs.Phrases.{is_phrase}
 use Rattle.route_symmetry.specs.declared.full.Asymmetry.{Asymmetry}
 use Rattle.route_symmetry.specs.declared.full.Asymmetry.TheVariants.{Inputs, Outputs, Pads, Pattern}
@@ -9,27 +9,15 @@ use Rattle.router_top.specs.declared.outcome.Obstacle.TheVariants.{Order, Pins}
 use Rattle.router_top.specs.declared.outcome.Outcome.{Outcome}
 use Rattle.router_top.specs.declared.outcome.Outcome.TheVariants.{NotAccepted, NotLegal, NotSymmetric, InputFault, Limit, ReadFault}
 use Rattle.router_top.specs.declared.text_file.TextFile.{TextFile}
-use Rattle.router_top.specs.declared.text_file.TextFile.TheVariants.{Architecture, Netlist, Placement, Route, Cnf, Lrat, Routed}
+use Rattle.router_top.specs.declared.text_file.TextFile.TheVariants.{Lrat, Routed}
 use Rattle.router_words.specs.Word.{Word}
-
--- the file that a number past a limit is of, if it is of one
-abbrev pub limit_file : (code : ℕ) → Option TextFile
-limit_file code =
-    if code == 109 || code == 911 then Some Architecture else
-    if code == 209 || code == 912 then Some Netlist else
-    if code == 308 || code == 913 then Some Placement else
-    if code == 407 || code == 515 || code == 914 then Some Route else
-    if code == 605 || code == 915 then Some Cnf else
-    if code == 705 || code == 916 then Some Lrat else
-    if code == 917 then Some Routed else
-    None
 
 -- the file that an outcome is about, if it is about one
 abbrev pub file_about : Outcome → Option TextFile
 file_about (NotAccepted step cause) = Some Lrat
 file_about (NotLegal line cause) = Some Routed
 file_about (InputFault file line code) = Some file
-file_about (Limit code count) = limit_file code
+file_about (Limit file code count) = file
 file_about (ReadFault file) = Some file
 file_about _ = None
 
@@ -94,8 +82,8 @@ abbrev pub Means : Outcome → List ℕ → Type 0
 Means (NotAccepted step cause) text = GivesWhy (step_said step cause) text
 Means (NotLegal line cause) text = GivesWhy (line_said line cause) text
 Means (InputFault file line code) text = GivesWhy (line_said line code) text
-Means (Limit code count) text =
-    GivesWhy (λ why. limit_gap (limit_file code) ++ limit_said code count why) text
+Means (Limit file code count) text =
+    GivesWhy (λ why. limit_gap file ++ limit_said code count why) text
 Means (NotSymmetric width why) text = text ≡ obstacle_said width why
 Means _ text = ⊤
 

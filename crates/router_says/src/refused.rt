@@ -1,7 +1,7 @@
 //! Words for what is wrong in a file.
 ghost use Rattle.std.specs.Prelude.{◌≡◌, ◌++◌, OnOk, string_bytes};
 ghost use Rattle.router_says.specs.Names.{file_said, name_of};
-ghost use Rattle.router_says.specs.Said.{limit_file, limit_gap, limit_said, line_said, step_said};
+ghost use Rattle.router_says.specs.Said.{limit_gap, limit_said, line_said, step_said};
 
 use crate::names::given_name;
 use router_top::TextFile;
@@ -24,14 +24,15 @@ pub(crate) fn append_line(
 /// Appends which number passes its limit.
 pub(crate) fn append_limit(
     out: &mut String,
+    file: Option<TextFile>,
     code: u32,
     count: u64,
     why: &str,
 ) -> Result<(), AllocError>
     ensures { OnOk result (string_bytes out.new ≡ string_bytes out.old
-        ++ (limit_gap (limit_file code) ++ limit_said code count why.now)) }
+        ++ (limit_gap file ++ limit_said code count why.now)) }
 {
-    out.push_str(gap(file_of(code)))?;
+    out.push_str(gap(file))?;
     write!(out, "{why}: {count} (code {code})")
 }
 
@@ -42,22 +43,6 @@ fn gap(file: Option<TextFile>) -> &'static str
     match file {
         Some(_) => ": ",
         None => "",
-    }
-}
-
-/// The file that a limit with this code is of, if it is of one.
-pub(crate) fn file_of(code: u32) -> Option<TextFile>
-    ensures { result ≡ limit_file code }
-{
-    match code {
-        109 | 911 => Some(TextFile::Architecture),
-        209 | 912 => Some(TextFile::Netlist),
-        308 | 913 => Some(TextFile::Placement),
-        407 | 515 | 914 => Some(TextFile::Route),
-        605 | 915 => Some(TextFile::Cnf),
-        705 | 916 => Some(TextFile::Lrat),
-        917 => Some(TextFile::Routed),
-        _ => None,
     }
 }
 

@@ -3,12 +3,12 @@ ghost use Rattle.std.specs.Prelude.{◌≡◌, ◌++◌, IfOk, IfSome, IsOk, IsT
 ghost use Rattle.code_words.specs.Phrases.{is_phrase};
 ghost use Rattle.router_says.specs.Names.{name_in, name_of};
 ghost use Rattle.router_says.specs.Quiet.{is_quiet};
-ghost use Rattle.router_says.specs.Said.{GivesWhy, IsSaid, Means, about_said, file_about, limit_file, limit_gap, limit_said, line_said, obstacle_said, step_said};
+ghost use Rattle.router_says.specs.Said.{GivesWhy, IsSaid, Means, about_said, file_about, limit_gap, limit_said, line_said, obstacle_said, step_said};
 ghost use Rattle.router_top.specs.declared.text_file.TextFile.{TextFile as AnyFile};
 ghost use Rattle.router_words.specs.Word.{Word, words_of};
 
 use crate::names::{given_name, job_in, reach_asked};
-use crate::refused::{append_file, append_limit, append_line, append_step, file_of};
+use crate::refused::{append_file, append_limit, append_line, append_step};
 use crate::symmetry::append_obstacle;
 use crate::unread::append_unread;
 use crate::unsettled::{append_no_memory, append_undecided, append_unroutable};
@@ -74,7 +74,7 @@ fn file_meant(outcome: &Outcome) -> Option<TextFile>
         Outcome::NotAccepted { .. } => Some(TextFile::Lrat),
         Outcome::NotLegal { .. } => Some(TextFile::Routed),
         Outcome::InputFault { file, .. } | Outcome::ReadFault { file } => Some(file),
-        Outcome::Limit { code, .. } => file_of(code),
+        Outcome::Limit { file, .. } => file,
         Outcome::Routed { .. }
         | Outcome::Unroutable { .. }
         | Outcome::Undecided { .. }
@@ -120,7 +120,7 @@ fn meaning<R: Files + AllocGlobal>(
             bad_line(rt.alloc(), line, cause, why_not_legal(job, cause))
         }
         Outcome::InputFault { line, code, .. } => bad_line(rt.alloc(), line, code, cause(code)),
-        Outcome::Limit { code, count } => passed_limit(rt.alloc(), code, count),
+        Outcome::Limit { file, code, count } => passed_limit(rt.alloc(), file, code, count),
         Outcome::NotSymmetric { width, why } => obstacle(rt.alloc(), width, why),
         Outcome::Unroutable { .. }
         | Outcome::Undecided { .. }
@@ -172,13 +172,18 @@ fn refused_step(alloc: Global, step: u64, code: u32) -> Result<String, AllocErro
 }
 
 // What passes its limit.
-fn passed_limit(alloc: Global, code: u32, count: u64) -> Result<String, AllocError>
+fn passed_limit(
+    alloc: Global,
+    file: Option<TextFile>,
+    code: u32,
+    count: u64,
+) -> Result<String, AllocError>
     ensures { IfOk result (λ text. GivesWhy
-        (λ why. limit_gap (limit_file code) ++ limit_said code count why) (string_bytes text)) }
+        (λ why. limit_gap file ++ limit_said code count why) (string_bytes text)) }
 {
     let why = words_or(cause(code), "a number passes its limit");
     let mut text = String::new(alloc);
-    append_limit(&mut text, code, count, why)?;
+    append_limit(&mut text, file, code, count, why)?;
     Ok(text)
 }
 

@@ -187,6 +187,7 @@ fn statuses_and_reports(rt: HostRuntime) {
         (Outcome::Unroutable { width: 64 }, 1, "unroutable 64"),
         (
             Outcome::Limit {
+                file: Some(TextFile::Route),
                 code: 914,
                 count: 67_108_865,
             },

@@ -29,6 +29,21 @@ fn a_bad_line_is_told_by_its_file(rt: HostRuntime) -> Result<(), Fail> {
 }
 
 #[test]
+fn a_limit_is_told_by_its_file(rt: HostRuntime) -> Result<(), Fail> {
+    let outcome = Outcome::Limit {
+        file: Some(TextFile::Routed),
+        code: 407,
+        count: 101,
+    };
+    let text = said(&rt, "verify a.arch a.net a.place a.route 9 out.route", outcome)?;
+    let wanted =
+        "routed file out.route: an array that is larger, or more nets, than are taken: 101 \
+        (code 407)\n";
+    assert_eq!(rt; text.as_str(), wanted);
+    Ok(())
+}
+
+#[test]
 fn nothing_is_said_of_a_routing(rt: HostRuntime) -> Result<(), Fail> {
     let text = said(
         &rt,

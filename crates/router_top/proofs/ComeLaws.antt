@@ -1,6 +1,6 @@
 -- What each job has come to, by what it leaves.
 use Rattle.std.proofs.Common.{◌≡◌, ◌∙◌, ◌⊎◌, ℕ, ◌+◌, ◌-◌, ◌≤◌, List, [], ◌∷◌, ◌++◌, length, Option, Ok, Err, Result, refl, sym, ap, subst, inl, inr, arith, take}
-use Rattle.std.specs.Prelude.{◌<◌, MatchResult, Some, flat_map}
+use Rattle.std.specs.Prelude.{◌<◌, MatchResult, None, Some, flat_map}
 use Rattle.std.specs.List.{range_with_len}
 use Rattle.desk_io.specs.Files.{Bytes, FileMap, HasRisen}
 use Rattle.desk_io.specs.ShelfState.{ShelfState, after_say}
@@ -108,7 +108,7 @@ module _ (words : List Word) (at : Scene) where
     memory = (tt, tt);
     read = λ file. (tt, tt);
     input = λ file line code. (tt, tt);
-    limit = λ code count. (tt, tt);
+    limit = λ file code count. (tt, tt);
   }
 
   -- nothing was written
@@ -533,7 +533,7 @@ module _ (words : List Word) (at : Scene) where
           suits,
           inl (
             subst (λ (n : ℕ). CLAUSE_LIMIT < n) h.0.0 h.0.1,
-            is ∙ ap (Limit 901) h.0.0,
+            is ∙ ap (Limit None 901) h.0.0,
           ),
         ))))
     written-came (Err Memory) o is h = spent o h.1 (λ other is. cc) is

@@ -1,6 +1,6 @@
 -- Where no fault has risen, what a run leaves is true, or memory ran out.
 use Rattle.std.proofs.Common.{◌≡◌, ◌∙◌, ◌⊎◌, ℕ, ◌<◌, ◌≤◌, List, [], ◌∷◌, Option, Ok, Err, Result, refl, sym, ap, subst, inl, inr, arith}
-use Rattle.std.specs.Prelude.{Some}
+use Rattle.std.specs.Prelude.{None, Some}
 use Rattle.desk_io.specs.DeskState.{DeskState}
 use Rattle.desk_io.specs.Files.{Bytes, FileMap, HasRisen}
 use Rattle.desk_io.specs.ShelfState.{ShelfState, after_say}
@@ -159,8 +159,8 @@ module _ (words : List Word) (at : Scene) (calm : ¬ HasRisen at.desk.faults at.
           (IsRoutingBy search.method h.width h.comes.p)
           (λ log. Refutes search h.comes.p h.width log ⊎ LeavesOpen search h.comes.p h.width log)
           h.between wrote slot f.1)))
-      found-settles (Err (TooManyClauses count)) f last = true-there (Limit 901 count)
-          (inl (subst (λ (n : ℕ). CLAUSE_LIMIT < n) f.0.0 f.0.1, ap (Limit 901) f.0.0))
+      found-settles (Err (TooManyClauses count)) f last = true-there (Limit None 901 count)
+          (inl (subst (λ (n : ℕ). CLAUSE_LIMIT < n) f.0.0 f.0.1, ap (Limit None 901) f.0.0))
           (ap (λ (s : ShelfState). s.faults) f.1)
       found-settles (Err Memory) f last = record {
         kept = omega (arith, faults, ap (λ (s : ShelfState). s.faults) f.1, h.calm);

@@ -237,7 +237,7 @@ module _ (words : List Word) (desk before : Option FileMap) where
   idle-left now (ReadFault file) spared same = same
   idle-left now (InputFault file line code) spared same = same
   idle-left now (NotSymmetric width why) spared same = same
-  idle-left now (Limit code count) spared same = inl same
+  idle-left now (Limit file code count) spared same = inl same
   idle-left now o spared same = none-left now same
 
 -- ---- files in a row
@@ -480,8 +480,8 @@ module _ (words : List Word) (desk before now : Option FileMap) where
   unsaid-left (ReadFault file) h = none-left words desk before now h
   unsaid-left (InputFault file line code) h = none-left words desk before now h
   unsaid-left (NotSymmetric width why) h = none-left words desk before now h
-  unsaid-left (Limit code count) (inl same) = none-left words desk before now same
-  unsaid-left (Limit code count) (inr h) = h.2
+  unsaid-left (Limit file code count) (inl same) = none-left words desk before now same
+  unsaid-left (Limit file code count) (inr h) = h.2
   unsaid-left (WriteFault slot) h = h
   unsaid-left o h = h
 

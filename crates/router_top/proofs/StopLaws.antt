@@ -1,5 +1,5 @@
 -- What holds of each outcome that keeps a run from its work.
-use Rattle.std.proofs.Common.{ℕ, Option, sym, subst, inl, inr}
+use Rattle.std.proofs.Common.{ℕ, Option, Some, sym, subst, inl, inr}
 use Rattle.desk_io.specs.DeskState.{DeskState}
 use Rattle.desk_io.specs.Files.{Bytes, FileMap}
 use Rattle.fpga_arch.specs.Value.{arch_value}
@@ -26,19 +26,19 @@ pub record HoldsOfStops (Q : Outcome → Type 0) : Type 0 where
   pub memory : Q OutOfMemory
   pub read : (file : TextFile) → Q (ReadFault file)
   pub input : (file : TextFile) (line code : ℕ) → Q (InputFault file line code)
-  pub limit : (code count : ℕ) → Q (Limit code count)
+  pub limit : (file : Option TextFile) (code count : ℕ) → Q (Limit file code count)
 
 module _ (Q : Outcome → Type 0) (each : HoldsOfStops Q) where
   fault-holds : (file : TextFile) (fault : TextFault) → Q (fault_outcome file fault)
   fault-holds file (Bad line code) = each.input file line code
-  fault-holds file (PastLimit code count) = each.limit code count
+  fault-holds file (PastLimit code count) = each.limit (Some file) code count
   fault-holds file NoMemory = each.memory
 
   module _ (desk desk_now : DeskState) (files : Option FileMap) where
     stop-holds : (source : Source) (o : Outcome) → IsStopped desk desk_now source o → Q o
     stop-holds source o (inl h) = subst Q (sym h) each.memory
     stop-holds source o (inr (inl h)) = subst Q (sym h.1) (each.read source.file)
-    stop-holds source o (inr (inr (inl h))) = subst Q (sym h.1) (each.limit _ _)
+    stop-holds source o (inr (inr (inl h))) = subst Q (sym h.1) (each.limit _ _ _)
     stop-holds source o (inr (inr (inr h))) = subst Q (sym h.2) (fault-holds source.file h.0)
 
     pub reads-hold : {T : Type 0} (source : Source) (value : Bytes → T)

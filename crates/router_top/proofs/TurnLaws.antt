@@ -75,7 +75,7 @@ module _ (job : RouteAsked) (p : RoutingProblem) (before now : ShelfState) (o : 
   pub crowded : (members : MembersAsked) → job.members ≡ Some members
       → HasFew (clauses_by job.search.method job.search.width p) → (count : ℕ)
       → CLAUSE_LIMIT < count → count ≡ members.count * clause-number → now ≡ before
-      → o ≡ Limit 904 count → LeavesRoute job p before now o
+      → o ≡ Limit None 904 count → LeavesRoute job p before now o
   crowded members some few count many product same is =
       let sum : count ≡ held job.members =
       subst (λ (m : Option MembersAsked). count ≡ held m) (sym some) product in
@@ -83,5 +83,5 @@ module _ (job : RouteAsked) (p : RoutingProblem) (before now : ShelfState) (o : 
         few = few;
         many = subst (λ (n : ℕ). CLAUSE_LIMIT < n) sum many;
         same = same;
-        is = subst (λ (n : ℕ). o ≡ Limit 904 n) sum is;
+        is = subst (λ (n : ℕ). o ≡ Limit None 904 n) sum is;
       })

@@ -18,6 +18,7 @@ use Rattle.router_top.specs.Sources.{HasBytes, IsStopped}
 use Rattle.router_top.specs.Written.{NamedText, with_files}
 use Rattle.router_top.specs.declared.outcome.Outcome.{Outcome}
 use Rattle.router_top.specs.declared.outcome.Outcome.TheVariants.{Limit, OutOfMemory}
+use Rattle.router_top.specs.declared.text_file.TextFile.TheVariants.{Route}
 
 -- there is a block to drive each net
 abbrev pub HasRoom : RecipeAsked → Type 0
@@ -26,7 +27,7 @@ HasRoom recipe = recipe.nets ≤ recipe.side * recipe.side
 -- there are more nets than blocks, and the outcome has their number
 abbrev pub IsTooMany : RecipeAsked → Outcome → Type 0
 IsTooMany recipe outcome =
-    (recipe.side * recipe.side < recipe.nets) × (outcome ≡ Limit 903 recipe.nets)
+    (recipe.side * recipe.side < recipe.nets) × (outcome ≡ Limit None 903 recipe.nets)
 
 -- no problem was made, and the outcome says why
 abbrev pub MakesNone : RecipeAsked → Outcome → Type 0
@@ -91,7 +92,7 @@ pub record IsMade (recipe : RecipeAsked) (p : RoutingProblem) : Type 0 where
 abbrev pub IsTooLarge : RecipeAsked → Outcome → Type 0
 IsTooLarge recipe outcome =
     (p : RoutingProblem) × IsMade recipe p × (SLOT_LIMIT < length (slots p.route))
-    × (outcome ≡ Limit (code_of PastLimit) (SLOT_LIMIT + 1))
+    × (outcome ≡ Limit (Some Route) (code_of PastLimit) (SLOT_LIMIT + 1))
 
 -- this problem is made, and has no more slots than may be
 pub record Makes (recipe : RecipeAsked) (p : RoutingProblem) : Type 0 where

@@ -164,7 +164,7 @@ LeavesFiles words desk before now (Usage code) = now ≡ before
 LeavesFiles words desk before now (ReadFault file) = now ≡ before
 LeavesFiles words desk before now (InputFault file line code) = now ≡ before
 LeavesFiles words desk before now (NotSymmetric width why) = now ≡ before
-LeavesFiles words desk before now (Limit code count) =
+LeavesFiles words desk before now (Limit file code count) =
     (now ≡ before) ⊎ ((code ≡ 901) × IsClimb words × LeavesWhole words desk before now)
 LeavesFiles words desk before now (WriteFault Said) = LeavesWhole words desk before now
 LeavesFiles words desk before now (WriteFault slot) = LeavesPart words desk before now slot

@@ -1,5 +1,5 @@
 -- What a run comes to by what its work comes to.
-use Rattle.std.specs.Prelude.{ℕ, Result, Ok, Err}
+use Rattle.std.specs.Prelude.{ℕ, None, Result, Ok, Err}
 use Rattle.route_sweep.specs.declared.found.Climbed.{Climbed}
 use Rattle.route_sweep.specs.declared.found.Climbed.TheVariants.{Routed as IsLeast, Unroutable as HasNone, Undecided as IsOpen}
 use Rattle.route_sweep.specs.declared.found.Found.{Found}
@@ -13,7 +13,7 @@ use Rattle.router_top.specs.declared.slot.Slot.TheVariants.{File}
 -- where the work on the clauses of a problem stopped
 abbrev pub stop_outcome : Stop → Outcome
 stop_outcome (Fault slot) = WriteFault (File slot)
-stop_outcome (TooManyClauses count) = Limit 901 count
+stop_outcome (TooManyClauses count) = Limit None 901 count
 stop_outcome Memory = OutOfMemory
 
 -- where a search at a width ended, or stopped

@@ -17,7 +17,7 @@ status_of (NotAccepted step cause) = 1
 status_of LegalRoute = 0
 status_of (NotLegal line cause) = 1
 status_of (InputFault file line code) = 3
-status_of (Limit code count) = 3
+status_of (Limit file code count) = 3
 status_of (NotSymmetric width why) = 3
 status_of (Usage code) = 4
 status_of (ReadFault file) = 5
@@ -41,7 +41,7 @@ report_of (NotLegal line cause) =
 report_of (InputFault file line code) =
     codes "fault: " ++ file_word file ++ codes " line " ++ decimal line ++ codes " code "
     ++ decimal code
-report_of (Limit code count) = codes "limit: code " ++ decimal code ++ codes " count "
+report_of (Limit file code count) = codes "limit: code " ++ decimal code ++ codes " count "
     ++ decimal count
 report_of (NotSymmetric width why) = codes "not symmetric " ++ decimal width
 report_of (Usage code) = codes "usage: code " ++ decimal code

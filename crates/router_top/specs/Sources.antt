@@ -57,19 +57,19 @@ pub record IsRefused (files : Option FileMap) (source : Source) (fault : TextFau
 -- what a run comes to where this file has this fault
 abbrev pub fault_outcome : TextFile → TextFault → Outcome
 fault_outcome file (Bad line code) = InputFault file line code
-fault_outcome file (PastLimit code count) = Limit code count
+fault_outcome file (PastLimit code count) = Limit (Some file) code count
 fault_outcome file Memory = OutOfMemory
 
 -- the text of this file is longer than it may be, and the outcome says so
 abbrev pub IsTooLong : TextFile → (limit : ℕ) → Bytes → Outcome → Type 0
 IsTooLong file limit text outcome =
-    (limit < length text) × (outcome ≡ Limit (910 + file_number file) (limit + 1))
+    (limit < length text) × (outcome ≡ Limit (Some file) (910 + file_number file) (limit + 1))
 
 -- the text is longer than it may be, or has a fault; and the outcome says so
 abbrev pub IsHalted : Option FileMap → Source → Outcome → Type 0
 IsHalted files source outcome =
     (IsLonger files source.name source.limit
-    × (outcome ≡ Limit (910 + file_number source.file) (source.limit + 1)))
+    × (outcome ≡ Limit (Some source.file) (910 + file_number source.file) (source.limit + 1)))
     ⊎ ((fault : TextFault) × IsRefused files source fault
     × (outcome ≡ fault_outcome source.file fault))
 

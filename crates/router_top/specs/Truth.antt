@@ -1,5 +1,5 @@
 -- What each outcome but those of faults says of the words and of the files.
-use Rattle.std.specs.Prelude.{◌≡◌, ◌⊎◌, ℕ, ◌<◌, ◌≤◌, List, length, MatchResult, Option, Some}
+use Rattle.std.specs.Prelude.{◌≡◌, ◌⊎◌, ℕ, ◌<◌, ◌≤◌, List, length, MatchResult, Option, None, Some}
 use Rattle.std.specs.Option.{ForSome}
 use Rattle.desk_io.specs.DeskState.{DeskState}
 use Rattle.desk_io.specs.Files.{FileMap, HasRisen}
@@ -27,14 +27,14 @@ use Rattle.router_top.specs.declared.outcome.Outcome.TheVariants.{Routed, Unrout
 -- and this is true
 abbrev pub IsTrueOfClauses : Cnf → (says : Type 0) → Outcome → Type 0
 IsTrueOfClauses formula says outcome =
-    ((CLAUSE_LIMIT < length formula.clauses) × (outcome ≡ Limit 901 (length formula.clauses)))
+    ((CLAUSE_LIMIT < length formula.clauses) × (outcome ≡ Limit None 901 (length formula.clauses)))
     ⊎ (HasFew formula × says)
 
 -- the searches that take turns hold more clauses together than may be built, and the outcome has
 -- that number; or they do not, and this is true
 abbrev pub IsTrueOfTurns : (held : ℕ) → (says : Type 0) → Outcome → Type 0
 IsTrueOfTurns held says outcome =
-    ((CLAUSE_LIMIT < held) × (outcome ≡ Limit 904 held)) ⊎ ((held ≤ CLAUSE_LIMIT) × says)
+    ((CLAUSE_LIMIT < held) × (outcome ≡ Limit None 904 held)) ⊎ ((held ≤ CLAUSE_LIMIT) × says)
 
 -- the search comes to this width: each lower one that it tries has few enough clauses, and no legal
 -- routing
@@ -114,7 +114,7 @@ abbrev pub IsOpenBelow : Outcome → Outcome → Type 0
 IsOpenBelow (Undecided width learned) (Routed of) = width ≤ of
 IsOpenBelow (Undecided width learned) (Unroutable of) = width ≤ of
 IsOpenBelow (Undecided width learned) (Undecided of others) = (width ≤ of) × (learned ≡ others)
-IsOpenBelow (Undecided width learned) (Limit code count) = code ≡ 901
+IsOpenBelow (Undecided width learned) (Limit file code count) = code ≡ 901
 IsOpenBelow outcome other = ⊥
 
 -- the answer is this outcome; or a search is left open by one of the two, for which width its

@@ -1,5 +1,5 @@
 -- What the work on a problem leaves on the shelf, by its outcome.
-use Rattle.std.specs.Prelude.{◌≡◌, ◌⊎◌, ℕ, ◌++◌, ◌<◌, ◌≤◌, codes, Result, Ok, Err}
+use Rattle.std.specs.Prelude.{◌≡◌, ◌⊎◌, ℕ, ◌++◌, ◌<◌, ◌≤◌, codes, None, Result, Ok, Err}
 use Rattle.desk_io.specs.Files.{Bytes}
 use Rattle.desk_io.specs.ShelfState.{ShelfState}
 use Rattle.desk_io.specs.WholeFile.{FailsToWrite, after_writing}
@@ -43,7 +43,7 @@ pub record IsCrowded
   pub few : HasFew (clauses_by search.method width p)
   pub many : CLAUSE_LIMIT < clauses_held search width p
   pub same : now ≡ before
-  pub is : outcome ≡ Limit 904 (clauses_held search width p)
+  pub is : outcome ≡ Limit None 904 (clauses_held search width p)
 
 -- a search of the problem, which was given, at the width of the job, which is at most 64; all that
 -- take turns hold few enough clauses together

@@ -34,6 +34,7 @@ fn check_length(file: TextFile, text: &[u8]) -> Result<(), Outcome>
 {
     if text.len() as u64 > TEXT_BYTES {
         return Err(Outcome::Limit {
+            file: Some(file),
             code: 910 + file.number(),
             count: TEXT_BYTES + 1,
         });

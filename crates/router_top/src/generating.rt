@@ -23,6 +23,7 @@ pub fn make_texts(alloc: Global, recipe: Recipe) -> Result<FourTexts, Outcome>
     match generate(alloc, recipe.seed, recipe.side, recipe.nets) {
         Ok(texts) => Ok(texts),
         Err(GenStop::Room) => Err(Outcome::Limit {
+            file: None,
             code: 903,
             count: u64::from(recipe.nets),
         }),

@@ -58,8 +58,9 @@ pub enum Outcome {
         line: u64,
         code: u32,
     },
-    /// A count passes its limit.
+    /// A count passes its limit, of a file where it is what this holds.
     Limit {
+        file: Option<TextFile>,
         code: u32,
         count: u64,
     },
@@ -139,7 +140,7 @@ pub fn report(outcome: &Outcome) -> ArrayString<LINE_ROOM>
             push_count(&mut line, " line ", at);
             push_count(&mut line, " code ", code as u64);
         }
-        Outcome::Limit { code, count } => {
+        Outcome::Limit { code, count, .. } => {
             push_count(&mut line, "limit: code ", code as u64);
             push_count(&mut line, " count ", count);
         }

@@ -81,7 +81,11 @@ fn search_by_turns<S: Shelf>(
     was_given(problem);
     let search = job.search;
     match without_room(encoder, problem, search.width, members) {
-        Some(count) => Outcome::Limit { code: 904, count },
+        Some(count) => Outcome::Limit {
+            file: None,
+            code: 904,
+            count,
+        },
         None => {
             let ask = ask_for(&search, true);
             let came = find_by_turns(alloc, encoder, problem, search.width, members, &ask, shelf);

@@ -30,6 +30,7 @@ pub fn read_bytes<D: Desk>(
         Ok(bytes) => Ok(bytes),
         Err(ReadStop::Fault) => Err(Outcome::ReadFault { file }),
         Err(ReadStop::TooLong) => Err(Outcome::Limit {
+            file: Some(file),
             code: 910 + file.number(),
             count: limit + 1,
         }),
@@ -43,7 +44,11 @@ pub fn refused(file: TextFile, fault: TextFault) -> Outcome
 {
     match fault {
         TextFault::Bad { line, code } => Outcome::InputFault { file, line, code },
-        TextFault::Limit { code, count } => Outcome::Limit { code, count },
+        TextFault::Limit { code, count } => Outcome::Limit {
+            file: Some(file),
+            code,
+            count,
+        },
         TextFault::Memory => Outcome::OutOfMemory,
     }
 }

@@ -14,7 +14,11 @@ pub fn stopped(stop: Stop) -> Outcome
         Stop::Fault { slot } => Outcome::WriteFault {
             slot: Slot::File(slot),
         },
-        Stop::TooManyClauses { count } => Outcome::Limit { code: 901, count },
+        Stop::TooManyClauses { count } => Outcome::Limit {
+            file: None,
+            code: 901,
+            count,
+        },
         Stop::Memory => Outcome::OutOfMemory,
     }
 }

@@ -16,5 +16,5 @@ returns-in-Err-TooLong-clause-stop g c = inr (inr (inl (
         (c.in-Err-TooLong.ensures.too_long
             (λ i. Err (c.in-Err-TooLong.field-0-is i)) files told there.0 there.1).0,
       )),
-  ap (λ (n : ℕ). Limit (910 + n) (c.args.limit + 1)) c.number.ensures,
+  ap (λ (n : ℕ). Limit (Some c.args.file) (910 + n) (c.args.limit + 1)) c.number.ensures,
 )))
