@@ -112,6 +112,13 @@ pub next-none : (text front rest : Bytes) → words front ++ words_later rest �
 next-none text [] rest same none = same
 next-none text (b ∷ front) rest same none = absurd (grind (arith, none))
 
+-- no words are left of a part, and the line ends with it
+pub front-none : (front later : Bytes) → true ≡ (length front == 0) → true ≡ (length later == 0)
+    → [] ≡ words front ++ words_later later
+front-none [] [] none ends = refl
+front-none (b ∷ front) later none ends = absurd (grind (arith, none))
+front-none [] (b ∷ later) none ends = absurd (grind (arith, ends))
+
 -- the lines behind the first are not touched by a part that is put before
 drop-put_before : (part : TextLine) (more : List TextLine) → drop 1 (put_before true part more)
     ≡ drop 1 more

@@ -38,8 +38,31 @@ pub fn first_blank(text: &[u8]) -> usize
     text.len()
 }
 
-/// The text without the blanks before its first word.
+/// The text without the blanks before its first word. Mostly that word begins at once.
+#[inline(always)]
 pub fn from_first_word<'a>(text: &'a [u8]) -> &'a [u8]
+    ensures words { words result.now ≡ words text.now }
+    ensures begins { IsTrue (begins_word result.now) }
+{
+    if begins_at_once(text) {
+        return text;
+    }
+    past_blanks(text)
+}
+
+/// Whether the first byte of a text is above those that blanks are among.
+#[inline(always)]
+fn begins_at_once(text: &[u8]) -> bool
+    ensures { IsTrue result → IsTrue (begins_word text.now) }
+{
+    match text {
+        [first, ..] => *first > b' ',
+        _ => false,
+    }
+}
+
+/// The same, whatever stands first.
+fn past_blanks<'a>(text: &'a [u8]) -> &'a [u8]
     ensures words { words result.now ≡ words text.now }
     ensures begins { IsTrue (begins_word result.now) }
 {
@@ -52,6 +75,7 @@ pub fn from_first_word<'a>(text: &'a [u8]) -> &'a [u8]
 }
 
 /// What stands before a place and what stands after it.
+#[inline(always)]
 pub fn part_at<'a>(text: &'a [u8], place: usize) -> (&'a [u8], &'a [u8])
     requires { place ≤ length text.now }
     ensures before { result.0.now ≡ take place text.now }

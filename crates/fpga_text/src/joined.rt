@@ -68,6 +68,7 @@ pub fn part_of<'a>(raw: &'a [u8]) -> Part<'a>
 }
 
 /// What is left of a line, from its next word on: without words where there are none.
+#[inline(always)]
 pub fn front_part<'a>(words: &'a [u8], later: &'a [u8]) -> Rest<'a>
     requires { IsTrue (begins_word words.now) }
     ensures same { words_of result.words.now ++ words_later result.later.now
@@ -75,10 +76,16 @@ pub fn front_part<'a>(words: &'a [u8], later: &'a [u8]) -> Rest<'a>
     ensures begins { IsTrue (begins_word result.words.now) }
     ensures none { result.words.now ≡ [] → words_of words.now ++ words_later later.now ≡ [] }
 {
-    if words.is_empty() {
-        return next_part(later);
+    if !words.is_empty() {
+        return Rest { words, later };
     }
-    Rest { words, later }
+    if later.is_empty() {
+        return Rest {
+            words: &[],
+            later: &[],
+        };
+    }
+    next_part(later)
 }
 
 /// The next part with words of a line that goes on in this text: without words where none has any.

@@ -100,6 +100,7 @@ impl<'a> Line<'a> {
     }
 
     /// Whether there are words that were not yet taken.
+    #[inline(always)]
     pub fn has_words(&self) -> bool
         ensures { result ≡ not (is_empty self.now.words) }
     {
@@ -173,8 +174,7 @@ impl<'a> Line<'a> {
         let Some(front) = front_number(self.rest) else {
             return self.next_long_number();
         };
-        let (_, rest) = part_at(self.rest, front.len);
-        self.rest = from_first_word(rest);
+        self.rest = front.behind;
         Some(front.value)
     }
 
@@ -185,6 +185,9 @@ impl<'a> Line<'a> {
             (λ _. self.new ≡ record self.old { words = drop 1 self.old.words }) }
         ensures kept { IfNone result (self.new ≡ self.old) }
     {
+        if !self.has_words() {
+            return None;
+        }
         let mut behind = self.again();
         let Some(word) = behind.next_word() else {
             return None;

@@ -75,16 +75,19 @@ fn followed_by_digits(number: Option<u64>, digits: &[u8]) -> Option<u64>
 }
 
 /// The digit that a byte is, or None where it is none.
+#[inline(always)]
 pub fn digit_of(byte: u8) -> Option<u64>
     ensures digit { IfSome result (λ d. is_ascii_digit byte ≡ true) }
     ensures value { IfSome result (λ d. d ≡ digit_value byte) }
     ensures small { IfSome result (λ d. d < 10) }
     ensures none { IfNone result (is_ascii_digit byte ≡ false) }
 {
-    if !byte.is_ascii_digit() {
+    // One comparison, at the width of what the digit is added to.
+    let digit = u64::from(byte).wrapping_sub(48);
+    if digit > 9 {
         return None;
     }
-    Some(u64::from(byte - b'0'))
+    Some(digit)
 }
 
 /// The number with one more digit at its end, or None where it passes 64 bits.
