@@ -25,7 +25,8 @@ pub record AddsClause (rule : HintRule) (above : ℕ) (line : TextLine) (id : �
   pub clean : step_line_fault rule above line ≡ None
   pub said : said_step line.words ≡ Some (Added id clause hints)
 
-adds_clause : (rule : HintRule) (above : ℕ) (line : TextLine) (id : ℕ) (clause : Clause) (hints : List ℤ)
+adds_clause : (rule : HintRule) (above : ℕ) (line : TextLine) (id : ℕ) (clause : Clause)
+    (hints : List ℤ)
     → lacks_number line.words ≡ false
     → numbers_of line.words ≡ pos id
     ∷ (map (λ (l : Lit). l.code) clause ++ pos 0 ∷ (hints ++ pos 0 ∷ []))
@@ -51,14 +52,15 @@ adds_clause rule above line id clause hints number numbers fits =
     }
 
 -- an id, literals and hints were taken, each of the two closed by a 0, and nothing is left
-pub addition_taken : (rule : HintRule) (above : ℕ) (line : TextLine) (behind ahead end : Words) (id : ℕ)
-    (clause : Clause) (hints : List ℤ)
+pub addition_taken : (rule : HintRule) (above : ℕ) (line : TextLine) (behind ahead end : Words)
+    (id : ℕ) (clause : Clause) (hints : List ℤ)
     → Some (pos id) ≡ option_and_then signed_number_of (slice_get line.words 0) → behind
     ≡ drop 1 line.words
     → TakesFront behind ahead (map (λ (l : Lit). l.code) clause ++ pos 0 ∷ [])
     → TakesFront ahead end (hints ++ pos 0 ∷ []) → false ≡ not (is_empty end)
     → IsPrintableStep above (Added id clause hints) → AddsClause rule above line id clause hints
-addition_taken rule above line behind ahead (word ∷ more) id clause hints first rest lits ids past fits =
+addition_taken rule above line behind ahead (word ∷ more) id clause hints first rest lits ids past
+    fits =
     absurd (let clash : false ≡ true = past in cc)
 addition_taken rule above line behind ahead [] id clause hints first rest lits ids past fits =
     let all = front_both (front_one line.words behind (pos id) first rest) (front_both lits ids) in

@@ -17,10 +17,12 @@ use Rattle.sat_text.proofs.LratLemmas.{step_past, step_taken}
 module _ (lines more : LinesAhead) (draft : StepDraft) where
   -- a line without a fault says the next step
   pub reads_next : (now : StepDraft) (line : TextLine) → TakesTold lines more line →
-      step_line_fault draft.rule draft.above line ≡ None → TakesStep draft now (said_step line.words) →
+      step_line_fault draft.rule draft.above line ≡ None →
+      TakesStep draft now (said_step line.words) →
       ReadsNext (ahead_of lines draft) (ahead_of more now)
   reads_next now line took clean takes = record {
-    faults = (step_past draft.rule (faults_above draft.rule draft.above (told lines.ahead) (lines.total + 1)) draft.above
+    faults = (step_past draft.rule
+        (faults_above draft.rule draft.above (told lines.ahead) (lines.total + 1)) draft.above
         now.above (lines.total + 1) (told lines.ahead) (told more.ahead) line took.ahead
         (past-nothing _) clean takes.above).same
         ∙ ap (λ (n : ℕ). first_fault (faults_above draft.rule now.above (told more.ahead) (n + 1)))
@@ -45,7 +47,8 @@ module _ (lines more : LinesAhead) (draft : StepDraft) where
   refuses line found took is =
       refusal-line {all = faults_above draft.rule draft.above (told lines.ahead) (lines.total + 1)}
       {fault = step_line_fault draft.rule draft.above line}
-      {rest = faults_above draft.rule (raised_by draft.above line.words) (told more.ahead) (lines.total + 1)}
+      {rest = faults_above draft.rule (raised_by draft.above line.words) (told more.ahead)
+      (lines.total + 1)}
       found (record {
         same = ap (λ (l : List TextLine).
             first_fault (faults_above draft.rule draft.above l (lines.total + 1))) took.ahead;

@@ -340,7 +340,8 @@ log_back above n end (step ∷ steps) fits =
     record {
       clean = rw here.clean (subst
           (λ (o : Option Step). IsFaultless
-          (faults_above PlainHints (raised above o) (numbered Plain (n + 1) (map step_line steps)) end))
+          (faults_above PlainHints (raised above o)
+          (numbered Plain (n + 1) (map step_line steps)) end))
           (sym here.said) later.clean);
       says = ap (λ (o : Option Step). cons_option o
           (steps_of (line_words (numbered Plain (n + 1) (map step_line steps))))) here.said
@@ -363,6 +364,7 @@ printed_log_reads inputs log fits =
     record {
       faultless = subst IsFaultless (sym
           (lrat_faults-from PlainHints inputs (log_text log)
-          ∙ ap (λ ls. faults_above PlainHints inputs ls (line_count (log_text log) + 1)) told_are)) back.clean;
+          ∙ ap (λ ls. faults_above PlainHints inputs ls (line_count (log_text log) + 1))
+          told_are)) back.clean;
       steps = sym (ap (λ ls. steps_of (line_words ls)) told_are ∙ back.says);
     }

@@ -119,10 +119,12 @@ record IsGoodNumbers (above : ℕ) (deletes : Bool) (numbers : List ℤ) : Type 
   pub fits : IsPrintableStep above step
 
 good_erased : (above n : ℕ) (id : ℤ) (more : List ℤ) → has_no_id true (id ∷ more) ≡ false
-    → step_fault Plain above n (step_of true (id ∷ more)) ≡ None → IsGoodNumbers above true (id ∷ more)
+    → step_fault Plain above n (step_of true (id ∷ more)) ≡ None
+    → IsGoodNumbers above true (id ∷ more)
 good_erased above n id more ids clean = go (ends_with_zero more) refl clean where
   go : (b : Bool) → ends_with_zero more ≡ b
-      → step_fault Plain above n (if b then Some (Erased (nat_abs id) (but_last more)) else None) ≡ None
+      → step_fault Plain above n (if b then Some (Erased (nat_abs id) (but_last more)) else None)
+      ≡ None
       → IsGoodNumbers above true (id ∷ more)
   go false e clash = absurd (let no : Some (Bad n 702) ≡ None = clash in cc)
   go true e rest =
@@ -143,12 +145,14 @@ good_erased above n id more ids clean = go (ends_with_zero more) refl clean wher
         );
       }
 
-good_added : (above n : ℕ) (id : ℤ) (more : List ℤ) → step_fault Plain above n (step_of false (id ∷ more))
+good_added : (above n : ℕ) (id : ℤ) (more : List ℤ)
+    → step_fault Plain above n (step_of false (id ∷ more))
     ≡ None → IsGoodNumbers above false (id ∷ more)
 good_added above n id more clean =
     go (slice_split is_zero more) refl (split_nonzero more) clean where
       go : (parts : List (List ℤ)) → slice_split is_zero more ≡ parts
-          → All (All (λ z. is_zero z ≡ false)) parts → step_fault Plain above n (added_by id parts) ≡ None
+          → All (All (λ z. is_zero z ≡ false)) parts
+          → step_fault Plain above n (added_by id parts) ≡ None
           → IsGoodNumbers above false (id ∷ more)
       go [] e some clash = absurd (let no : Some (Bad n 702) ≡ None = clash in cc)
       go (lits ∷ []) e some clash = absurd (let no : Some (Bad n 702) ≡ None = clash in cc)
@@ -173,13 +177,15 @@ good_added above n id more clean =
               over,
               none_past 4294967295 (pos (nat_abs id) ∷ []) limits.0 0 id (omega arith),
               literals lits (some 0 [] (omega arith)) (none_past 100000000 lits few.0),
-              hint_numbers hints (none_negative (list_any is_below_zero hints) sign.0) (some 1 [] (omega arith))
+              hint_numbers hints (none_negative (list_any is_below_zero hints) sign.0)
+                  (some 1 [] (omega arith))
                   (none_past 4294967295 hints few.1),
             );
           }
 
 good_numbers : (above n : ℕ) (deletes : Bool) (numbers : List ℤ) → has_no_id deletes numbers ≡ false
-    → step_fault Plain above n (step_of deletes numbers) ≡ None → IsGoodNumbers above deletes numbers
+    → step_fault Plain above n (step_of deletes numbers) ≡ None
+    → IsGoodNumbers above deletes numbers
 good_numbers above n true [] ids clash = absurd (let no : Some (Bad n 702) ≡ None = clash in cc)
 good_numbers above n false [] ids clash = absurd (let no : Some (Bad n 702) ≡ None = clash in cc)
 good_numbers above n true (id ∷ more) ids clean = good_erased above n id more ids clean
@@ -197,7 +203,8 @@ good_line above line clean =
     (numbers_of (due_words line.words)) ids.0 ids.1
 
 -- and lines without one say a log that may be printed
-good_lines : (above end : ℕ) (lines : List TextLine) → IsFaultless (faults_above Plain above lines end)
+good_lines : (above end : ℕ) (lines : List TextLine)
+    → IsFaultless (faults_above Plain above lines end)
     → IsPrintableLog above (steps_of (line_words lines))
 good_lines above end [] clean = tt
 good_lines above end (line ∷ more) clean =

@@ -199,8 +199,9 @@ by_numbers rule above n words =
     go false false (Some (Erased id ids)) = last (erased_limit id ids)
 
 -- so the answer that is given by the numbers of a line is one of the line
-pub numbers_answer : (rule : HintRule) (above n : ℕ) (line : TextLine) (deletes : Bool) (numbers : List ℤ)
-    (says : Option Step → Type 0) (result : Result (Unit {0}) TextFault) → n ≡ line.number
+pub numbers_answer : (rule : HintRule) (above n : ℕ) (line : TextLine) (deletes : Bool)
+    (numbers : List ℤ) (says : Option Step → Type 0) (result : Result (Unit {0}) TextFault)
+    → n ≡ line.number
     → (if lacks_number (due_words line.words) then Some (Bad line.number 701) else None) ≡ None
     → deletes ≡ is_deletion line.words → numbers ≡ numbers_of (due_words line.words)
     → AnswersFault (numbers_fault rule above n deletes numbers)
@@ -235,7 +236,8 @@ lrat_faults-from rule inputs text =
     (numbered_words (told_lines text)) (line_count text + 1)
 
 -- one more line was taken
-pub step_past : (rule : HintRule) (all : Faults) (above now end : ℕ) (ahead more : List TextLine) (line : TextLine)
+pub step_past : (rule : HintRule) (all : Faults) (above now end : ℕ) (ahead more : List TextLine)
+    (line : TextLine)
     → ahead ≡ line ∷ more → IsPast all (faults_above rule above ahead end)
     → step_line_fault rule above line
     ≡ None

@@ -15,6 +15,8 @@ fn is_comment(line: &[u8]) -> bool
 }
 
 /// The next line that has words and is no comment, or None after the last one.
+// Inlined, so that a line is not copied from one place in memory to another.
+#[inline(always)]
 pub fn next_told<'a>(lines: &mut Lines<'a>) -> Option<Line<'a>>
     ensures line { IfSome result (TakesTold lines.old lines.new) }
     ensures end { IfNone result (IsToldOut lines.old lines.new) }

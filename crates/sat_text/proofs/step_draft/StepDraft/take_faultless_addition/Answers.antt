@@ -18,14 +18,15 @@ above c =
     (rw (c.from.ensures, least, same c) at c.if-id-from.false)
 
 -- the line was taken to its end
-taken : (c : After-add) → AddsClause c.args.self.now.rule c.args.self.now.above c.args.line.now (nat_abs c.in-Some.id)
+taken : (c : After-add)
+    → AddsClause c.args.self.now.rule c.args.self.now.above c.args.line.now (nat_abs c.in-Some.id)
     c.front_literals.new.lits.items c.front_hints.new.hints.items
 taken c =
     let over = above c in
     let few = rw (same c) at c.if-id-gt-MOST_ID.false in
-    addition_taken c.args.self.now.rule c.args.self.now.above c.args.line.now c.next_number.new.self.words
-    c.front_literals.new.line.words c.front_hints.new.line.words (nat_abs c.in-Some.id)
-    c.front_literals.new.lits.items c.front_hints.new.hints.items
+    addition_taken c.args.self.now.rule c.args.self.now.above c.args.line.now
+    c.next_number.new.self.words c.front_literals.new.line.words c.front_hints.new.line.words
+    (nat_abs c.in-Some.id) c.front_literals.new.lits.items c.front_hints.new.hints.items
     (ap (λ n. Some n) (sym over.plain) ∙ c.in-Some.ensures.number)
     (ap (λ l. l.words) c.in-Some.ensures.after)
     (c.if-not-front_literals.ensures.taken refl)
