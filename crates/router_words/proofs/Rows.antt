@@ -27,6 +27,7 @@ told width prefix conflicts keep = record {
   prefix = prefix;
   conflicts = conflicts;
   keep = keep;
+  count = false;
   method = Strictly;
 }
 
@@ -186,6 +187,26 @@ pub route_pins_and_reaches : route (codes "5" ∷ codes "out" ∷ codes "--reach
     ≡ Err Clash
 unfolding clap_on_literals
 route_pins_and_reaches = refl
+
+-- a route that counts first, in any method with one track in each cell
+pub counts : route (codes "--count" ∷ codes "5" ∷ codes "out" ∷ codes "--pin" ∷ [])
+    ≡ Ok (Routes (record {
+      files = four_files;
+      search = record (told 5 (codes "out") 1_000_000 false) { count = true; method = Pinned };
+      members = None;
+    }))
+unfolding clap_on_literals
+counts = refl
+
+pub counts_and_reaches : route (codes "5" ∷ codes "out" ∷ codes "--count" ∷ codes "--reach=1" ∷ [])
+    ≡ Err Clash
+unfolding clap_on_literals
+counts_and_reaches = refl
+
+pub counts_twice : route (codes "5" ∷ codes "out" ∷ codes "--count" ∷ codes "--count" ∷ [])
+    ≡ Err Form
+unfolding clap_on_literals
+counts_twice = refl
 
 -- a number that is out of range is told before options that exclude each other
 pub no_members_pin_and_reach : route (codes "5" ∷ codes "out" ∷ codes "--reach=1" ∷ codes "--pin"
@@ -368,6 +389,24 @@ pub tries : job_of (codes "trial" ∷ codes "1" ∷ codes "6" ∷ codes "30" ∷
     }))
 unfolding clap_on_literals
 tries = refl
+
+pub tries_counting : job_of (codes "trial" ∷ codes "1" ∷ codes "6" ∷ codes "30" ∷ codes "10"
+    ∷ codes "t" ∷ codes "--count" ∷ [])
+    ≡ Ok (Tries (record {
+      recipe = record { seed = 1; side = 6; nets = 30 };
+      search = record (told 10 (codes "t") 1_000_000 false) { count = true };
+    }))
+unfolding clap_on_literals
+tries_counting = refl
+
+pub tries_counting_within : job_of (codes "trial" ∷ codes "1" ∷ codes "6" ∷ codes "30" ∷ codes "10"
+    ∷ codes "t" ∷ codes "--count" ∷ codes "--reach" ∷ codes "3" ∷ []) ≡ Err Clash
+unfolding clap_on_literals
+tries_counting_within = refl
+
+pub encode_counts : encode (codes "--count" ∷ []) ≡ Err Form
+unfolding clap_on_literals
+encode_counts = refl
 
 pub tries_within : job_of (codes "trial" ∷ codes "1" ∷ codes "6" ∷ codes "30" ∷ codes "10"
     ∷ codes "t" ∷ codes "--reach" ∷ codes "3" ∷ [])

@@ -6,6 +6,7 @@ use Rattle.clap.specs.Words.{App, Row, first_of, matches_of}
 use Rattle.fpga_text.specs.Numbers.{whole_number_of}
 use Rattle.fpga_types.specs.declared.limits.TheConstants.{REACH_LIMIT, SIDE_LIMIT, WIDTH_LIMIT}
 use Rattle.router_words.specs.Form.{check_form, core_form, encode_form, gen_form, route_form, sweep_form, trial_form, verify_form}
+use Rattle.router_words.specs.Near.{has_one_track}
 use Rattle.router_words.specs.Job.{Blames, Checks, Encodes, FilesAsked, Generates, JobAsked, MembersAsked, RecipeAsked, Routes, SearchAsked, Sweeps, Tries, Verifies, job_said}
 use Rattle.router_words.specs.Results.{and_then, map_ok}
 use Rattle.router_words.specs.Taken.{HasRequired, is_taken}
@@ -73,7 +74,8 @@ method_asked reach rows =
     if has_flag (codes "symmetry") rows then Ordered else
     method_within reach
 
--- WIDTH PREFIX [--conflicts N] [--keep], or with MAX, by a method
+-- WIDTH PREFIX [--conflicts N] [--keep] [--count], or with MAX, by a method; within a reach nothing
+-- is counted, and the commands refuse both together
 abbrev pub search_asked : Method → List Row → Result SearchAsked Refusal
 search_asked method rows =
     and_then (width_asked rows) (λ width.
@@ -82,6 +84,7 @@ search_asked method rows =
       prefix = word_in (codes "prefix") rows;
       conflicts = conflicts;
       keep = has_flag (codes "keep") rows;
+      count = has_flag (codes "count") rows && has_one_track method;
       method = method;
     }) (conflicts_asked rows))
 
@@ -136,6 +139,12 @@ has_two_methods rows =
     || ((has_flag (codes "pin") rows || has_flag (codes "symmetry") rows)
     && is_some (first_of (codes "reach") rows))
 
+-- options of a search were given of which one excludes another: two such, or `--count` and
+-- `--reach`
+abbrev pub has_clash : List Row → Bool
+has_clash rows = has_two_methods rows
+    || (has_flag (codes "count") rows && is_some (first_of (codes "reach") rows))
+
 -- ---- the commands
 
 -- a command: its name, its form, and the job that the matches of the form say, or why they say none
@@ -144,17 +153,18 @@ pub record CommandRow : Type 0 where
   pub form : App
   pub job : List Row → Result JobAsked Refusal
 
--- WIDTH PREFIX [--conflicts N] [--keep] [--reach L] [--pin] [--symmetry], or with MAX
+-- WIDTH PREFIX [--conflicts N] [--keep] [--count] [--reach L] [--pin] [--symmetry], or with MAX
 abbrev pub search_by_method : List Row → Result SearchAsked Refusal
 search_by_method rows =
     and_then (reach_asked rows) (λ reach. search_asked (method_asked reach rows) rows)
 
--- what `route` is asked for: pinned tracks, tracks in order and a reach exclude each other
+-- what `route` is asked for: pinned tracks, tracks in order and a reach exclude each other, and so
+-- do counting and a reach
 abbrev pub route_asked : List Row → Result JobAsked Refusal
 route_asked rows =
     and_then (search_by_method rows) (λ search.
     and_then (members_asked rows) (λ members.
-    if has_two_methods rows then Err Clash else Ok (Routes (record {
+    if has_clash rows then Err Clash else Ok (Routes (record {
       files = files_asked rows;
       search = search;
       members = members;
@@ -164,12 +174,12 @@ route_asked rows =
 abbrev pub sweep_asked : List Row → Result JobAsked Refusal
 sweep_asked rows =
     and_then (search_by_method rows) (λ search.
-    if has_two_methods rows then Err Clash else Ok (Sweeps (record {
+    if has_clash rows then Err Clash else Ok (Sweeps (record {
       files = files_asked rows;
       search = search;
     })))
 
--- what `encode` is asked for: the same
+-- what `encode` is asked for: pinned tracks, tracks in order and a reach exclude each other
 abbrev pub encode_asked : List Row → Result JobAsked Refusal
 encode_asked rows =
     and_then (width_asked rows) (λ width.
@@ -214,13 +224,16 @@ gen_asked rows = map_ok
     (λ recipe. Generates (record { recipe = recipe; prefix = word_in (codes "prefix") rows }))
     (recipe_asked rows)
 
--- what `trial` is asked for
+-- what `trial` is asked for: counting and a reach exclude each other
 abbrev pub trial_asked : List Row → Result JobAsked Refusal
 trial_asked rows =
     and_then (recipe_asked rows) (λ recipe.
     and_then (reach_asked rows) (λ reach.
-    map_ok (λ search. Tries (record { recipe = recipe; search = search }))
-    (search_asked (method_within reach) rows)))
+    and_then (search_asked (method_within reach) rows) (λ search.
+    if has_clash rows then Err Clash else Ok (Tries (record {
+      recipe = recipe;
+      search = search;
+    })))))
 
 abbrev pub route_row : CommandRow
 route_row = record { name = codes "route"; form = route_form; job = route_asked }

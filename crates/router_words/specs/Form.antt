@@ -48,11 +48,14 @@ with_files form =
 abbrev pub with_width_and_prefix : App → App
 with_width_and_prefix form = with_word (codes "prefix") (with_word (codes "width") form)
 
--- WIDTH PREFIX [--conflicts N] [--keep] [--reach L], or with MAX
+-- [--conflicts N] [--keep] [--count]
+abbrev pub with_effort : App → App
+with_effort form =
+    with_flag (codes "count") (with_flag (codes "keep") (with_option (codes "conflicts") form))
+
+-- WIDTH PREFIX [--conflicts N] [--keep] [--count] [--reach L], or with MAX
 abbrev pub with_search : App → App
-with_search form =
-    with_option (codes "reach") (with_flag (codes "keep")
-    (with_option (codes "conflicts") (with_width_and_prefix form)))
+with_search form = with_option (codes "reach") (with_effort (with_width_and_prefix form))
 
 -- SEED NX NETS
 abbrev pub with_recipe : App → App
@@ -65,7 +68,8 @@ with_recipe form =
 abbrev pub with_symmetry : App → App
 with_symmetry form = with_flag (codes "symmetry") (with_flag (codes "pin") form)
 
--- ARCH NET PLACE ROUTE WIDTH PREFIX [--conflicts N] [--keep] [--reach L] [--pin] [--symmetry]
+-- ARCH NET PLACE ROUTE WIDTH PREFIX [--conflicts N] [--keep] [--count] [--reach L] [--pin]
+-- [--symmetry]
 abbrev pub search_form : Word → App
 search_form name = with_symmetry (with_search (with_files (empty_form name)))
 
@@ -102,7 +106,7 @@ verify_form = with_option (codes "reach") (with_word (codes "routed") (with_word
 abbrev pub gen_form : App
 gen_form = with_word (codes "prefix") (with_recipe (empty_form (codes "gen")))
 
--- SEED NX NETS MAX PREFIX [--conflicts N] [--keep] [--reach L]
+-- SEED NX NETS MAX PREFIX [--conflicts N] [--keep] [--count] [--reach L]
 abbrev pub trial_form : App
 trial_form = with_search (with_recipe (empty_form (codes "trial")))
 

@@ -26,12 +26,14 @@ pub record FilesAsked : Type 0 where
 
 -- what a search is told: the width, or the greatest one that is tried; what the names of written
 -- files begin with; how many clauses may be learned at each width, and whether none is forgotten;
--- and how routings are said by clauses
+-- whether a width that numbers alone forbid is refuted by counting; and how routings are said by
+-- clauses
 pub record SearchAsked : Type 0 where
   pub width : ℕ
   pub prefix : Word
   pub conflicts : ℕ
   pub keep : Bool
+  pub count : Bool
   pub method : Method
 
 -- searches that take turns: how many, and the number by which their order is drawn
@@ -126,6 +128,7 @@ search_said search = record {
   prefix = search.prefix.now;
   conflicts = search.conflicts;
   keep = search.keep;
+  count = search.count;
   method = search.method;
 }
 

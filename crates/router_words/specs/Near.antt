@@ -1,5 +1,5 @@
--- The range of a reach.
-use Rattle.std.specs.Prelude.{ℕ, ◌≤◌, IfSome, Option, None, Some}
+-- The range of a reach, and the methods that have none.
+use Rattle.std.specs.Prelude.{ℕ, ◌≤◌, Bool, IfSome, Option, None, Some, is_none}
 use Rattle.fpga_types.specs.declared.limits.TheConstants.{REACH_LIMIT}
 use Rattle.router_words.specs.declared.method.Method.{Method}
 use Rattle.router_words.specs.declared.method.Method.TheVariants.{Ordered, Pinned, Strictly, Within}
@@ -14,3 +14,7 @@ reach_of (Within reach) = Some reach
 -- which is from 1 to 64
 abbrev pub IsNear : Method → Type 0
 IsNear method = IfSome (reach_of method) (λ reach. (1 ≤ reach) × (reach ≤ REACH_LIMIT))
+
+-- each net has one track in each cell of its global route: there is no reach
+abbrev pub has_one_track : Method → Bool
+has_one_track method = is_none (reach_of method)

@@ -1,7 +1,7 @@
 //! The forms of the commands, as `clap` has them.
 ghost use Rattle.std.specs.Prelude.{◌≡◌, IfOk, codes};
 ghost use Rattle.clap.specs.Words.{app_of, rule_of};
-ghost use Rattle.router_words.specs.Form.{check_form, core_form, empty_form, encode_form, gen_form, route_form, search_form, trial_form, verify_form, with_files, with_flag, with_option, with_recipe, with_search, with_symmetry, with_width_and_prefix, with_word};
+ghost use Rattle.router_words.specs.Form.{check_form, core_form, empty_form, encode_form, gen_form, route_form, search_form, trial_form, verify_form, with_effort, with_files, with_flag, with_option, with_recipe, with_search, with_symmetry, with_width_and_prefix, with_word};
 
 use clap::{Arg, ArgAction, Command};
 use std::alloc::{AllocError, Global};
@@ -66,13 +66,22 @@ fn add_width_and_prefix<'a>(alloc: Global, command: Command<'a>) -> Result<Comma
     add_word(alloc, command, "prefix")
 }
 
+// With what a search is to do: how many clauses it learns, whether it keeps them, and whether it
+// counts first.
+fn add_effort<'a>(alloc: Global, command: Command<'a>) -> Result<Command<'a>, AllocError>
+    ensures { IfOk result (λ c. app_of c ≡ with_effort (app_of command.entry)) }
+{
+    let command = add_option(alloc, command, "conflicts")?;
+    let command = add_flag(alloc, command, "keep")?;
+    add_flag(alloc, command, "count")
+}
+
 // With the width and the prefix, and what each search may be told.
 fn add_search<'a>(alloc: Global, command: Command<'a>) -> Result<Command<'a>, AllocError>
     ensures { IfOk result (λ c. app_of c ≡ with_search (app_of command.entry)) }
 {
     let command = add_width_and_prefix(alloc, command)?;
-    let command = add_option(alloc, command, "conflicts")?;
-    let command = add_flag(alloc, command, "keep")?;
+    let command = add_effort(alloc, command)?;
     add_option(alloc, command, "reach")
 }
 
@@ -93,8 +102,8 @@ fn add_symmetry<'a>(alloc: Global, command: Command<'a>) -> Result<Command<'a>, 
     add_flag(alloc, command, "symmetry")
 }
 
-/// ARCH NET PLACE ROUTE WIDTH PREFIX [--conflicts N] [--keep] [--reach L] [--pin] [--symmetry],
-/// behind this name of a command.
+/// ARCH NET PLACE ROUTE WIDTH PREFIX [--conflicts N] [--keep] [--count] [--reach L] [--pin]
+/// [--symmetry], behind this name of a command.
 pub fn search_command<'a>(alloc: Global, name: &'a str) -> Result<Command<'a>, AllocError>
     ensures { IfOk result (λ c. app_of c ≡ search_form name.entry.now) }
 {
@@ -103,8 +112,8 @@ pub fn search_command<'a>(alloc: Global, name: &'a str) -> Result<Command<'a>, A
     add_symmetry(alloc, command)
 }
 
-/// ARCH NET PLACE ROUTE WIDTH PREFIX [--conflicts N] [--keep] [--reach L] [--pin] [--symmetry]
-/// [--members K] [--seed S]
+/// ARCH NET PLACE ROUTE WIDTH PREFIX [--conflicts N] [--keep] [--count] [--reach L] [--pin]
+/// [--symmetry] [--members K] [--seed S]
 pub fn route_command<'a>(alloc: Global) -> Result<Command<'a>, AllocError>
     ensures { IfOk result (λ c. app_of c ≡ route_form) }
 {
@@ -158,7 +167,7 @@ pub fn gen_command<'a>(alloc: Global) -> Result<Command<'a>, AllocError>
     add_word(alloc, command, "prefix")
 }
 
-/// SEED NX NETS MAX PREFIX [--conflicts N] [--keep] [--reach L]
+/// SEED NX NETS MAX PREFIX [--conflicts N] [--keep] [--count] [--reach L]
 pub fn trial_command<'a>(alloc: Global) -> Result<Command<'a>, AllocError>
     ensures { IfOk result (λ c. app_of c ≡ trial_form) }
 {

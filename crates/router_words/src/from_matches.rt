@@ -2,10 +2,10 @@
 ghost use Rattle.std.specs.Prelude.{◌≡◌, ◌≤◌, IfOk, IfSome, codes, is_some, option_map, true};
 ghost use Rattle.clap.specs.Words.{first_of, found_of, rows_of};
 ghost use Rattle.fpga_types.specs.declared.limits.TheConstants.{REACH_LIMIT, WIDTH_LIMIT};
-ghost use Rattle.router_words.specs.Command.{check_asked, conflicts_asked, core_asked, encode_asked, files_asked, gen_asked, members_asked, members_with, method_asked, method_within, number_if_any, number_within, has_two_methods, reach_asked, recipe_asked, route_asked, search_asked, search_by_method, sweep_asked, trial_asked, verify_asked, width_asked, word_in};
+ghost use Rattle.router_words.specs.Command.{check_asked, conflicts_asked, core_asked, encode_asked, files_asked, gen_asked, members_asked, members_with, method_asked, method_within, number_if_any, number_within, has_clash, has_two_methods, reach_asked, recipe_asked, route_asked, search_asked, search_by_method, sweep_asked, trial_asked, verify_asked, width_asked, word_in};
 ghost use Rattle.router_words.specs.Form.{check_form, core_form, encode_form, gen_form, route_form, sweep_form, trial_form, verify_form};
 ghost use Rattle.router_words.specs.Job.{files_said, job_said, members_said, recipe_said, search_said};
-ghost use Rattle.router_words.specs.Near.{IsNear};
+ghost use Rattle.router_words.specs.Near.{IsNear, has_one_track};
 ghost use Rattle.router_words.specs.Results.{map_ok};
 ghost use Rattle.router_words.specs.Taken.{HasFiles, HasRecipe, HasRequired};
 ghost use Rattle.router_words.specs.declared.limits.TheConstants.{BUDGET_LIMIT, MEMBER_LIMIT, SEED_LIMIT};
@@ -107,7 +107,18 @@ fn method(matches: &ArgMatches, reach: Option<u32>) -> Method
     method_within(reach)
 }
 
-// What a search by a method is told, or that a number is none in its range.
+// Whether each net has one track in each cell of its global route.
+fn has_one_track(method: Method) -> bool
+    ensures { result ≡ has_one_track method }
+{
+    match method {
+        Method::Within(_) => false,
+        Method::Strictly | Method::Pinned | Method::Ordered => true,
+    }
+}
+
+// What a search by a method is told, or that a number is none in its range. Within a reach nothing
+// is counted.
 fn search<'a>(matches: &ArgMatches<'a>, method: Method) -> Result<SearchJob<'a>, Refusal>
     requires near { IsNear method }
     requires width { is_some (first_of (codes "width") (rows_of (found_of matches.now))) ≡ true }
@@ -121,6 +132,7 @@ fn search<'a>(matches: &ArgMatches<'a>, method: Method) -> Result<SearchJob<'a>,
         prefix: required_word(matches, "prefix"),
         conflicts,
         keep: is_given(matches, "keep"),
+        count: is_given(matches, "count") && has_one_track(method),
         method,
     })
 }
@@ -182,6 +194,14 @@ fn has_two_methods(matches: &ArgMatches) -> bool
     (pins && orders) || ((pins || orders) && first_word(matches, "reach").is_some())
 }
 
+// Whether options of a search are given of which one excludes another.
+fn has_clash(matches: &ArgMatches) -> bool
+    ensures { result ≡ has_clash (rows_of (found_of matches.now)) }
+{
+    let counts = is_given(matches, "count");
+    has_two_methods(matches) || (counts && first_word(matches, "reach").is_some())
+}
+
 // What a search is told by words that choose its method, or that a number is none in its range.
 fn search_by_method<'a>(matches: &ArgMatches<'a>) -> Result<SearchJob<'a>, Refusal>
     requires width { is_some (first_of (codes "width") (rows_of (found_of matches.now))) ≡ true }
@@ -199,7 +219,7 @@ pub fn route_job<'a>(matches: &ArgMatches<'a>) -> Result<Job<'a>, Refusal>
 {
     let search = search_by_method(matches)?;
     let members = members(matches)?;
-    if has_two_methods(matches) {
+    if has_clash(matches) {
         return Err(Refusal::Clash);
     }
     Ok(Job::Route(RouteJob {
@@ -215,7 +235,7 @@ pub fn sweep_job<'a>(matches: &ArgMatches<'a>) -> Result<Job<'a>, Refusal>
     ensures { map_ok job_said result ≡ sweep_asked (rows_of (found_of matches.now)) }
 {
     let search = search_by_method(matches)?;
-    if has_two_methods(matches) {
+    if has_clash(matches) {
         return Err(Refusal::Clash);
     }
     Ok(Job::Sweep(SweepJob {
@@ -303,5 +323,8 @@ pub fn trial_job<'a>(matches: &ArgMatches<'a>) -> Result<Job<'a>, Refusal>
     let recipe = recipe(matches)?;
     let reach = reach(matches)?;
     let search = search(matches, method_within(reach))?;
+    if has_clash(matches) {
+        return Err(Refusal::Clash);
+    }
     Ok(Job::Trial(TrialJob { recipe, search }))
 }

@@ -1,8 +1,8 @@
 //! What the words of a command ask for.
 ghost use Rattle.std.proofs.Props.{props};
-ghost use Rattle.std.specs.Prelude.{◌≤◌, IfSome};
+ghost use Rattle.std.specs.Prelude.{◌≡◌, ◌≤◌, IfSome, IsTrue, true};
 ghost use Rattle.fpga_types.specs.declared.limits.TheConstants.{REACH_LIMIT, SIDE_LIMIT, WIDTH_LIMIT};
-ghost use Rattle.router_words.specs.Near.{IsNear};
+ghost use Rattle.router_words.specs.Near.{IsNear, has_one_track};
 ghost use Rattle.router_words.specs.declared.limits.TheConstants.{BUDGET_LIMIT, GENERATED_NETS_LIMIT, MEMBER_LIMIT, SEED_LIMIT};
 
 use crate::method::Method;
@@ -31,11 +31,14 @@ pub struct SearchJob<'a> {
     pub conflicts: u64,
     /// Whether no clause is forgotten.
     pub keep: bool,
+    /// Whether a width that numbers alone forbid is refuted by counting, without a search.
+    pub count: bool,
     /// How routings are said by clauses.
     pub method: Method,
     ghost in_range: { (1 ≤ width) × (width ≤ WIDTH_LIMIT) },
     ghost affordable: { (1 ≤ conflicts) × (conflicts ≤ BUDGET_LIMIT) },
     ghost near: { IsNear method } by { Prim.hlevel props },
+    ghost countable: { IsTrue count → has_one_track method ≡ true },
 }
 
 /// Searches that take turns over one log, in an order that is drawn.

@@ -2,32 +2,32 @@
 //!
 //! | command | words behind it | options |
 //! |---|---|---|
-//! | `route` | FILES WIDTH PREFIX | METHOD, `--conflicts N`, `--keep`, `--members K`, `--seed S` |
-//! | `sweep` | FILES MAX PREFIX | METHOD, `--conflicts N`, `--keep` |
+//! | `route` | FILES WIDTH PREFIX | METHOD, SEARCH, `--members K`, `--seed S` |
+//! | `sweep` | FILES MAX PREFIX | METHOD, SEARCH |
 //! | `encode` | FILES WIDTH PREFIX | METHOD |
 //! | `core` | FILES WIDTH PREFIX | `--conflicts N` |
 //! | `check` | CNF LRAT | |
 //! | `verify` | FILES WIDTH ROUTED | `--reach L` |
 //! | `gen` | SEED NX NETS PREFIX | |
-//! | `trial` | SEED NX NETS MAX PREFIX | `--reach L`, `--conflicts N`, `--keep` |
+//! | `trial` | SEED NX NETS MAX PREFIX | `--reach L`, SEARCH |
 //!
 //! FILES are four words: ARCH NET PLACE ROUTE. METHOD is `--pin`, `--symmetry` or `--reach L`, or
-//! none. WIDTH and MAX are whole numbers from 1 to 64, and N one from 1 to 100,000,000, or
+//! none. SEARCH is any of `--conflicts N`, `--keep` and `--count`, the last with no reach. WIDTH and MAX are whole numbers from 1 to 64, and N one from 1 to 100,000,000, or
 //! 1,000,000 where it is not given. SEED is one from 0 to 2,147,483,647, NX one from 1 to 100, and
 //! NETS one from 1 to 10,000. K is one from 1 to 8, and S one from 0 to 2,147,483,647, or 1 where
 //! `--members` is given alone. L is one from 1 to 64. Leading zeros are taken, signs are not.
 //!
 //! What stands behind the command is taken as `clap` takes it: options may stand anywhere,
 //! `--conflicts=5` is `--conflicts 5`, behind `--` no word is an option, and a word may be empty or
-//! `-`. An option is given once at the most and written out, `--keep`, `--pin` and `--symmetry`
-//! have no value, and no word asks for help.
+//! `-`. An option is given once at the most and written out, `--keep`, `--count`, `--pin` and
+//! `--symmetry` have no value, and no word asks for help.
 //!
 //! | code | cause |
 //! |---|---|
 //! | 1 | there is no first word, or it names no command |
 //! | 2 | the form of the command does not take the words behind it |
 //! | 3 | a word that is to be a number is no whole number in its range |
-//! | 4 | `--seed` is given without `--members`, or two of `--pin`, `--symmetry` and `--reach` |
+//! | 4 | `--seed` without `--members`; two of `--pin`, `--symmetry`, `--reach`; `--count`, `--reach` |
 //!
 //! The least code that holds is answered.
 #![tactic(auto)]
