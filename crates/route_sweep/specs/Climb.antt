@@ -1,4 +1,5 @@
 -- What a climb through the widths comes to: each width below is refuted, and this came of the next.
+-- What forbids a width by numbers alone is said of each.
 use Rattle.std.specs.Prelude.{◌≡◌, ℕ, zero, suc, ◌<◌, true, Result, Ok, Err}
 use Rattle.desk_io.specs.ShelfState.{ShelfState}
 use Rattle.fpga_types.specs.declared.route.RouteText.{RouteText}
@@ -16,24 +17,26 @@ abbrev pub numbered : Asked → Asked
 numbered ask = record ask { numbered = true }
 
 -- the widths from 1 to this one were refuted one after the other, each with its files
-abbrev pub AreRefuted : Asked → (formula : ℕ → Cnf) → (good : ℕ → RouteText → Type 0)
-    → (width : ℕ) → (before now : ShelfState) → Type 0
-AreRefuted ask formula good zero before now = now ≡ before
-AreRefuted ask formula good (suc width) before now =
-    (between : ShelfState) × AreRefuted ask formula good width before between
-    × FindsAt ask (suc width) (formula (suc width)) (good (suc width)) between now (Ok Refuted)
+abbrev pub AreRefuted : Asked → (forbidden : ℕ → Type 0) → (formula : ℕ → Cnf)
+    → (good : ℕ → RouteText → Type 0) → (width : ℕ) → (before now : ShelfState) → Type 0
+AreRefuted ask forbidden formula good zero before now = now ≡ before
+AreRefuted ask forbidden formula good (suc width) before now =
+    (between : ShelfState) × AreRefuted ask forbidden formula good width before between
+    × FindsAt ask (suc width) (forbidden (suc width)) (formula (suc width)) (good (suc width))
+    between now (Ok Refuted)
 
 -- the climb ends at this width, one of those up to the last: those below it were refuted, and then
 -- this came of it, which is a refutation at the last alone
 pub record EndsAt
-    (ask : Asked) (most : ℕ) (formula : ℕ → Cnf) (good : ℕ → RouteText → Type 0)
-    (before now : ShelfState) (width : ℕ) (came : Result Found Stop) : Type 0 where
+    (ask : Asked) (most : ℕ) (forbidden : ℕ → Type 0) (formula : ℕ → Cnf)
+    (good : ℕ → RouteText → Type 0) (before now : ShelfState) (width : ℕ)
+    (came : Result Found Stop) : Type 0 where
   pub below : ℕ
   pub next : width ≡ suc below
   pub within : below < most
   pub between : ShelfState
-  pub refuted : AreRefuted ask formula good below before between
-  pub then : FindsAt ask width (formula width) (good width) between now came
+  pub refuted : AreRefuted ask forbidden formula good below before between
+  pub then : FindsAt ask width (forbidden width) (formula width) (good width) between now came
   pub last : came ≡ Ok Refuted → width ≡ most
 
 -- what a climb answers that ends at a width with what is found there
@@ -44,8 +47,8 @@ climbed width (Ok (Spent learned)) = Ok (Undecided width learned)
 climbed width (Err stop) = Err stop
 
 -- the climb ends at a width with something found there, and this is the answer
-abbrev pub ClimbsTo : Asked → (most : ℕ) → (formula : ℕ → Cnf) → (good : ℕ → RouteText → Type 0)
-    → (before now : ShelfState) → Result Climbed Stop → Type 0
-ClimbsTo ask most formula good before now answer =
+abbrev pub ClimbsTo : Asked → (most : ℕ) → (forbidden : ℕ → Type 0) → (formula : ℕ → Cnf)
+    → (good : ℕ → RouteText → Type 0) → (before now : ShelfState) → Result Climbed Stop → Type 0
+ClimbsTo ask most forbidden formula good before now answer =
     (width : ℕ) × (found : Result Found Stop) × (answer ≡ climbed width found)
-    × EndsAt ask most formula good before now width found
+    × EndsAt ask most forbidden formula good before now width found

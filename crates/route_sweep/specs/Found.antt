@@ -1,17 +1,18 @@
 -- What a search at one width finds, and what is written of it. The clauses and the routings that
 -- count are those of an encoder: nothing here knows of cells or tracks.
-use Rattle.std.specs.Prelude.{◌≡◌, ◌⊎◌, ℕ, ◌<◌, ◌≤◌, IsTrue, List, length, Result, Ok, Err}
+use Rattle.std.specs.Prelude.{◌≡◌, ◌⊎◌, ℕ, ◌<◌, ◌≤◌, Bool, true, false, IsTrue, List, length, Result, Ok, Err}
 use Rattle.desk_io.specs.ShelfState.{ShelfState}
 use Rattle.desk_io.specs.WholeFile.{FailsToWrite, after_writing}
 use Rattle.fpga_route.specs.Printed.{printed}
 use Rattle.fpga_route.specs.ReadBack.{IsPrintable, ReadsBack}
 use Rattle.fpga_types.specs.declared.route.RouteText.{RouteText}
 use Rattle.sat_clause.specs.declared.limits.TheConstants.{CLAUSE_LIMIT}
-use Rattle.sat_clause.specs.Formula.{Cnf}
+use Rattle.sat_clause.specs.Formula.{Cnf, IsUnsat}
 use Rattle.sat_clause.specs.Learned.{deletions}
 use Rattle.sat_clause.specs.Step.{Step}
 use Rattle.sat_core.specs.Answer.{IsRefutation, SpendsAll, most_added}
 use Rattle.sat_core.specs.SearchLog.{IsSearchLog}
+use Rattle.sat_rat.specs.FullJudge.{FullAccepts}
 use Rattle.sat_text.specs.CnfText.{ReadsCnf}
 use Rattle.sat_text.specs.LratText.{ReadsLrat}
 use Rattle.sat_text.specs.Printed.{cnf_text, log_text}
@@ -48,6 +49,45 @@ pub record IsRefutedBy
   pub refutes : IsRefutation formula ask.budget log
   pub none_good : (found : RouteText) → ¬ good found
 
+-- counting was asked for, numbers alone forbid the width, and the log refutes the formula as full
+-- LRAT has it
+pub record IsCountedOut (ask : Asked) (forbidden : Type 0) (formula : Cnf) (log : List Step)
+    : Type 0 where
+  pub asked : ask.count ≡ true
+  pub forbids : forbidden
+  pub accepted : FullAccepts formula log
+  pub unsat : IsUnsat formula
+
+-- the log refutes the formula as full LRAT has it, and no route is a routing: by counting, where
+-- numbers alone forbid the width, or as the log of a search
+pub record IsRefutedInFull
+    (ask : Asked) (forbidden : Type 0) (formula : Cnf) (good : RouteText → Type 0)
+    (log : List Step) : Type 0 where
+  pub accepted : FullAccepts formula log
+  pub unsat : IsUnsat formula
+  pub none_good : (found : RouteText) → ¬ good found
+  pub by : forbidden ⊎ IsRefutedBy ask formula good log
+
+-- the log refutes the formula as a search does, or in full where counting comes first
+abbrev pub IsRefutedIf : (counts : Bool) → Asked → (forbidden : Type 0) → Cnf
+    → (good : RouteText → Type 0) → List Step → Type 0
+IsRefutedIf false ask forbidden formula good log = IsRefutedBy ask formula good log
+IsRefutedIf true ask forbidden formula good log = IsRefutedInFull ask forbidden formula good log
+
+-- by what is asked for
+abbrev pub IsRefutedAs : Asked → (forbidden : Type 0) → Cnf → (good : RouteText → Type 0)
+    → List Step → Type 0
+IsRefutedAs ask = IsRefutedIf ask.count ask
+
+-- the printed log reads back
+abbrev pub LogReadsBack : Cnf → List Step → Type 0
+LogReadsBack formula log = ReadsLrat (length formula.clauses) (log_text log) log
+
+-- so does one that refutes; where counting comes first, unless numbers alone forbid the width
+abbrev pub LogReadsBackIf : (counts : Bool) → (forbidden : Type 0) → Cnf → List Step → Type 0
+LogReadsBackIf false forbidden formula log = LogReadsBack formula log
+LogReadsBackIf true forbidden formula log = forbidden ⊎ LogReadsBack formula log
+
 -- the log has as many learned clauses as the budget allows, none of them empty; with a larger one
 -- than that no search is left open
 pub record IsLeftOpenBy (ask : Asked) (formula : Cnf) (log : List Step) : Type 0 where
@@ -63,15 +103,16 @@ pub record WritesRouting
   pub written : now ≡ after_writing before (route_name ask) (printed found)
   pub reads_back : IsPrintable found → ReadsBack found
 
--- the clauses were written, then a log that ends the search so, and no other file; both read back
+-- the clauses were written, then a log that ends the search so, and no other file; the clauses read
+-- back, and this is known of how the log does
 pub record WritesLog
-    (ask : Asked) (width : ℕ) (formula : Cnf) (Ends : List Step → Type 0)
+    (ask : Asked) (width : ℕ) (formula : Cnf) (Ends Reads : List Step → Type 0)
     (before now : ShelfState) : Type 0 where
   pub log : List Step
   pub ends : Ends log
   pub written : now ≡ after_proof before ask width formula log
   pub clauses_back : ReadsCnf (cnf_text formula) formula
-  pub log_back : ReadsLrat (length formula.clauses) (log_text log) log
+  pub log_back : Reads log
 
 -- a routing was being written
 pub record FailsToWriteRouting
@@ -97,23 +138,27 @@ FailsOn ask width formula good Ends before now slot =
 
 -- what is found at a width, and what is written of it: a routing, or the clauses and a log of this
 -- kind, which refutes them, or of that, which leaves them open; nothing is written where there are
--- too many clauses or where memory is short
-abbrev pub FindsBy : (Refutes LeavesOpen : List Step → Type 0) → Asked → (width : ℕ) → Cnf
-    → (good : RouteText → Type 0) → (before now : ShelfState) → Result Found Stop → Type 0
-FindsBy Refutes LeavesOpen ask width formula good before now (Ok Routed) =
+-- too many clauses or where memory is short; this forbids the width by numbers alone
+abbrev pub FindsBy : (Refutes LeavesOpen : List Step → Type 0) → Asked → (width : ℕ)
+    → (forbidden : Type 0) → Cnf → (good : RouteText → Type 0) → (before now : ShelfState)
+    → Result Found Stop → Type 0
+FindsBy Refutes LeavesOpen ask width forbidden formula good before now (Ok Routed) =
     HasFew formula × WritesRouting ask good before now
-FindsBy Refutes LeavesOpen ask width formula good before now (Ok Refuted) =
-    HasFew formula × WritesLog ask width formula Refutes before now
-FindsBy Refutes LeavesOpen ask width formula good before now (Ok (Spent learned)) =
-    HasFew formula × (learned ≡ ask.budget) × WritesLog ask width formula LeavesOpen before now
-FindsBy Refutes LeavesOpen ask width formula good before now (Err (Fault slot)) =
+FindsBy Refutes LeavesOpen ask width forbidden formula good before now (Ok Refuted) =
+    HasFew formula
+    × WritesLog ask width formula Refutes (LogReadsBackIf ask.count forbidden formula) before now
+FindsBy Refutes LeavesOpen ask width forbidden formula good before now (Ok (Spent learned)) =
+    HasFew formula × (learned ≡ ask.budget)
+    × WritesLog ask width formula LeavesOpen (LogReadsBack formula) before now
+FindsBy Refutes LeavesOpen ask width forbidden formula good before now (Err (Fault slot)) =
     HasFew formula
     × FailsOn ask width formula good (λ log. Refutes log ⊎ LeavesOpen log) before now slot
-FindsBy Refutes LeavesOpen ask width formula good before now (Err stop) =
+FindsBy Refutes LeavesOpen ask width forbidden formula good before now (Err stop) =
     IsUnbuilt formula stop × (now ≡ before)
 
 -- what one search finds at a width, by its log, and what is written of it
-abbrev pub FindsAt : Asked → (width : ℕ) → Cnf → (good : RouteText → Type 0)
-    → (before now : ShelfState) → Result Found Stop → Type 0
-FindsAt ask width formula good =
-    FindsBy (IsRefutedBy ask formula good) (IsLeftOpenBy ask formula) ask width formula good
+abbrev pub FindsAt : Asked → (width : ℕ) → (forbidden : Type 0) → Cnf
+    → (good : RouteText → Type 0) → (before now : ShelfState) → Result Found Stop → Type 0
+FindsAt ask width forbidden formula good =
+    FindsBy (IsRefutedAs ask forbidden formula good) (IsLeftOpenBy ask formula) ask width forbidden
+    formula good

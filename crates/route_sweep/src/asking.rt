@@ -16,5 +16,7 @@ pub struct Ask<'a> {
     pub prefix: &'a str,
     /// Whether the names of the clauses and of the log have the width in them.
     pub numbered: bool,
+    /// Whether a width that numbers alone forbid is refuted by counting, without a search.
+    pub count: bool,
     ghost affordable: { (1 ≤ budget) × (budget ≤ BUDGET_LIMIT) },
 }

@@ -1,5 +1,8 @@
 //! The search for the least width that has a routing.
-ghost use Rattle.std.specs.Prelude.{◌≤◌};
+ghost use Rattle.std.specs.Prelude.{◌≤◌, ℕ, IsTrue};
+ghost use Rattle.route_count.specs.Begun.{IsBegunBy};
+ghost use Rattle.route_count.specs.Crowded.{IsCrowded};
+ghost use Rattle.route_encode.specs.Encoding.{cnf_of};
 ghost use Rattle.route_sweep.specs.Asked.{asked};
 ghost use Rattle.route_sweep.specs.Climb.{ClimbsTo, numbered};
 
@@ -26,14 +29,18 @@ pub fn climb<E: Encoder, S: Shelf>(
     ask: &Ask<'_>,
     shelf: &mut S,
 ) -> Result<Climbed, Stop>
-    requires { (1 ≤ most) × (most ≤ WIDTH_LIMIT) }
-    ensures { ClimbsTo (numbered (asked ask.now)) most (E.formula_of encoder.now problem.now)
-        (E.is_good encoder.now problem.now) (S.state shelf.old) (S.state shelf.new) result }
+    requires most { (1 ≤ most) × (most ≤ WIDTH_LIMIT) }
+    requires begun { IsTrue ask.now.count → (width : ℕ)
+        → IsBegunBy (E.formula_of encoder.now problem.now width) (cnf_of width problem.now) }
+    ensures { ClimbsTo (numbered (asked ask.now)) most (λ width. IsCrowded width problem.now)
+        (E.formula_of encoder.now problem.now) (E.is_good encoder.now problem.now)
+        (S.state shelf.old) (S.state shelf.new) result }
 {
     let Ask {
         budget,
         keep,
         prefix,
+        count,
         ..
     } = *ask;
     for width in 1..most + 1 {
@@ -42,6 +49,7 @@ pub fn climb<E: Encoder, S: Shelf>(
             keep,
             prefix,
             numbered: true,
+            count,
         };
         match one_width(alloc, encoder, problem, width, &ask, shelf) {
             Ok(Found::Refuted) => {}

@@ -4,6 +4,7 @@
 mod asking;
 mod building;
 mod climbing;
+mod counting;
 mod found;
 mod names;
 mod searching;
@@ -12,6 +13,7 @@ mod writing;
 pub use asking::{Ask, BUDGET_LIMIT};
 pub use building::few_clauses;
 pub use climbing::climb;
+pub use counting::count_first;
 pub use found::{Climbed, FileSlot, Found, Stop};
 pub use searching::one_width;
 pub use writing::{write_proof, write_routing};

@@ -1,10 +1,14 @@
 //! The search at one width.
-ghost use Rattle.std.specs.Prelude.{◌≤◌};
+ghost use Rattle.std.specs.Prelude.{◌≤◌, IsTrue};
+ghost use Rattle.route_count.specs.Begun.{IsBegunBy};
+ghost use Rattle.route_count.specs.Crowded.{IsCrowded};
+ghost use Rattle.route_encode.specs.Encoding.{cnf_of};
 ghost use Rattle.route_sweep.specs.Asked.{asked};
 ghost use Rattle.route_sweep.specs.Found.{FindsAt};
 
 use crate::asking::Ask;
 use crate::building::few_clauses;
+use crate::counting::count_first;
 use crate::found::{Found, Stop};
 use crate::writing::{write_proof, write_routing};
 use desk_io::Shelf;
@@ -16,7 +20,9 @@ use sat_core::{Answer, solve};
 use std::alloc::Global;
 
 /// Searches for a routing of a problem at a width from 1 to 64, and writes the routing; or else the
-/// clauses, and then the log of the search.
+/// clauses, and then the log of the search. Where it is asked for, a width that numbers alone forbid
+/// is not searched: the log is a refutation by counting then. The clauses are to begin with those of
+/// [`Strict`](route_encode::Strict) for that.
 ///
 /// The clauses are counted first, and none is built where there are more than 40,000,000. Files of
 /// other names stay as they are.
@@ -33,14 +39,24 @@ pub fn one_width<E: Encoder, S: Shelf>(
     ask: &Ask<'_>,
     shelf: &mut S,
 ) -> Result<Found, Stop>
-    requires { (1 ≤ width) × (width ≤ WIDTH_LIMIT) }
-    ensures { FindsAt (asked ask.now) width (E.formula_of encoder.now problem.now width)
-        (E.is_good encoder.now problem.now width) (S.state shelf.old) (S.state shelf.new) result }
+    requires width { (1 ≤ width) × (width ≤ WIDTH_LIMIT) }
+    requires begun { IsTrue ask.now.count
+        → IsBegunBy (E.formula_of encoder.now problem.now width) (cnf_of width problem.now) }
+    ensures { FindsAt (asked ask.now) width (IsCrowded width problem.now)
+        (E.formula_of encoder.now problem.now width) (E.is_good encoder.now problem.now width)
+        (S.state shelf.old) (S.state shelf.new) result }
 {
     let formula = match few_clauses(alloc, encoder, problem, width) {
         Ok(formula) => formula,
         Err(stop) => return Err(stop),
     };
+    match count_first(alloc, &formula, problem, width, ask) {
+        Ok(None) => {}
+        Ok(Some(log)) => {
+            return write_proof(alloc, &formula, &log, width, ask, shelf).and(Ok(Found::Refuted));
+        }
+        Err(stop) => return Err(stop),
+    }
     let mut log = Log::new(alloc);
     match solve(alloc, &formula, ask.budget, ask.keep, &mut log) {
         Ok(Answer::Model(values)) => {

@@ -4,22 +4,25 @@ use Rattle.route_sweep.proofs.ClimbLemmas.{climb-ends, climb-goes-on, climb-is-o
 use Rattle.route_sweep.proofs.climbing.climb.Goals as goal
 
 pub loop-width-init : goal.loop-width-init
-loop-width-init g c = (omega arith, omega (arith, c.requires), climb-starts _ _ _ _)
+loop-width-init g c = (omega arith, omega (arith, c.requires.most), climb-starts _ _ _ _ _)
 
 pub loop-width-preserved : goal.loop-width-preserved
 loop-width-preserved g c = (
   omega arith,
   omega (arith, c.loop-width-test.true),
-  climb-goes-on _ _ _ _ _ _ _ _ c.loop-width.invariant.2 c.one_width.ensures
+  climb-goes-on _ _ _ _ _ _ _ _ _ c.loop-width.invariant.2 c.one_width.ensures
       (c.in-Ok-Refuted.is ∙ ap Ok c.in-Ok-Refuted.field-0-is),
 )
+
+pub one_width-requires-clause-begun : goal.one_width-requires-clause-begun
+one_width-requires-clause-begun g c = λ counts. c.requires.begun counts c.loop-width.width
 
 pub returns-in-Ok-Routed : goal.returns-in-Ok-Routed
 returns-in-Ok-Routed g c = (
   c.loop-width.width,
   Ok Routed,
   refl,
-  climb-ends _ _ _ _ _ _ _ _ c.loop-width.invariant.2 c.one_width.ensures _ _
+  climb-ends _ _ _ _ _ _ _ _ _ c.loop-width.invariant.2 c.one_width.ensures _ _
       (omega (arith, c.loop-width-test.true))
       (c.in-Ok-Routed.is ∙ ap Ok c.in-Ok-Routed.field-0-is) (λ bad. cc),
 )
@@ -29,7 +32,7 @@ returns-in-Ok-Spent g c = (
   c.loop-width.width,
   Ok (Spent c.in-Ok-Spent.learned),
   refl,
-  climb-ends _ _ _ _ _ _ _ _ c.loop-width.invariant.2 c.one_width.ensures _ _
+  climb-ends _ _ _ _ _ _ _ _ _ c.loop-width.invariant.2 c.one_width.ensures _ _
       (omega (arith, c.loop-width-test.true))
       (c.in-Ok-Spent.is ∙ ap Ok c.in-Ok-Spent.field-0-is) (λ bad. cc),
 )
@@ -39,7 +42,7 @@ returns-in-Err g c = (
   c.loop-width.width,
   Err c.in-Err.stop,
   refl,
-  climb-ends _ _ _ _ _ _ _ _ c.loop-width.invariant.2 c.one_width.ensures _ _
+  climb-ends _ _ _ _ _ _ _ _ _ c.loop-width.invariant.2 c.one_width.ensures _ _
       (omega (arith, c.loop-width-test.true)) c.in-Err.is (λ bad. cc),
 )
 
@@ -48,6 +51,6 @@ returns g c = (
   c.args.most,
   Ok Refuted,
   refl,
-  climb-is-over _ _ _ c.args.most _ _ _ c.requires.0 c.loop-width.invariant.2
+  climb-is-over _ _ _ _ c.args.most _ _ _ c.requires.most.0 c.loop-width.invariant.2
       (omega (arith, c.loop-width.invariant.1, c.loop-width-test.false)),
 )

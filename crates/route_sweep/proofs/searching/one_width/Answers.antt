@@ -1,31 +1,55 @@
-use Rattle.std.proofs.Common.{◌≤◌, subst}
+use Rattle.std.proofs.Common.{◌≤◌, subst, sym}
+use Rattle.std.specs.Prelude.{IfSome}
 use Rattle.sat_clause.specs.declared.limits.TheConstants.{VARIABLE_LIMIT}
 use Rattle.sat_core.specs.Answer.{IsAnswer, IsDecided}
 use Rattle.sat_core.specs.declared.answer.Answer.TheVariants.{Refuted, Spent}
 use Rattle.route_sweep.specs.Asked.{asked}
-use Rattle.route_sweep.specs.Found.{IsLeftOpenBy, IsRefutedBy}
-use Rattle.route_sweep.proofs.FoundLemmas.{HasEnded, finds-routing, refuted-at, spent-at}
+use Rattle.route_count.specs.Begun.{IsBegunBy}
+use Rattle.route_count.specs.Crowded.{IsCrowded}
+use Rattle.route_encode.specs.Encoding.{cnf_of}
+use Rattle.sat_clause.specs.Formula.{Cnf}
+use Rattle.route_sweep.specs.Found.{IsCountedOut, IsLeftOpenBy, IsRefutedAs}
+use Rattle.route_sweep.proofs.FoundLemmas.{HasEnded, counted-at, finds-routing, refuted-at, spent-at}
 use Rattle.route_sweep.proofs.searching.one_width.Goals as goal
+
+pub returns-in-Ok-Some : goal.returns-in-Ok-Some
+returns-in-Ok-Some g c =
+    let ask = asked c.args.ask.now in
+    counted-at ask c.args.width (IsCrowded c.args.width c.args.problem.now)
+    (g.E.Encoder.formula_of c.args.encoder.now c.args.problem.now c.args.width)
+    (g.E.Encoder.is_good c.args.encoder.now c.args.problem.now c.args.width)
+    (g.S.Shelf.state c.args.shelf.now) (g.S.Shelf.state c.write_proof.new.shelf)
+    c.in-Ok-Some.log.steps c.in-Ok.ensures.few c.write_proof.result
+    c.in-Ok.ensures.none_without_model c.in-Ok.formula.cnf c.in-Ok.ensures.formula
+    (subst (λ o. IfSome o (λ log. IsCountedOut ask (IsCrowded c.args.width c.args.problem.now)
+    c.in-Ok.formula.cnf log.steps)) c.in-Ok-Some.field-0-is c.in-Ok-Some.ensures.counted)
+    c.write_proof.ensures c.and.result c.and.ensures
+
+pub count_first-requires-clause-begun : goal.count_first-requires-clause-begun
+count_first-requires-clause-begun g c = λ counts.
+    subst (λ (f : Cnf). IsBegunBy f (cnf_of c.args.width c.args.problem.now))
+    (sym c.in-Ok.ensures.formula) (c.requires.begun counts)
 
 pub returns-in-Ok-Model : goal.returns-in-Ok-Model
 returns-in-Ok-Model g c =
     let ask = asked c.args.ask.now in
     let formula = g.E.Encoder.formula_of c.args.encoder.now c.args.problem.now c.args.width in
     let good = g.E.Encoder.is_good c.args.encoder.now c.args.problem.now c.args.width in
-    finds-routing (IsRefutedBy ask formula good) (IsLeftOpenBy ask formula) ask c.args.width formula
-    good (g.S.Shelf.state c.args.shelf.now) (g.S.Shelf.state c.write_routing.new.shelf)
+    let forbidden = IsCrowded c.args.width c.args.problem.now in
+    finds-routing (IsRefutedAs ask forbidden formula good) (IsLeftOpenBy ask formula) ask
+    c.args.width forbidden formula good (g.S.Shelf.state c.args.shelf.now) (g.S.Shelf.state c.write_routing.new.shelf)
     c.in-Ok.ensures.few c.in-Ok-decode.found c.in-Ok-decode.ensures.good c.write_routing.result
-    c.write_routing.ensures c.and.result c.and.ensures
+    c.write_routing.ensures c.and-in-Ok-Model.result c.and-in-Ok-Model.ensures
 
 pub returns-in-Ok-Refuted : goal.returns-in-Ok-Refuted
 returns-in-Ok-Refuted g c =
     let ask = asked c.args.ask.now in
     let formula = g.E.Encoder.formula_of c.args.encoder.now c.args.problem.now c.args.width in
     let before = g.S.Shelf.state c.args.shelf.now in
-    let now = g.S.Shelf.state c.write_proof.new.shelf in
+    let now = g.S.Shelf.state c.write_proof-in-Ok-Refuted.new.shelf in
     let log = c.solve.new.log.steps in
     let cnf = c.in-Ok.formula.cnf in
-    let ended : HasEnded ask c.args.width Refuted log before now c.write_proof.result cnf =
+    let ended : HasEnded ask c.args.width Refuted log before now c.write_proof-in-Ok-Refuted.result cnf =
     record {
       few_vars = subst (λ s. s.cnf.vars ≤ VARIABLE_LIMIT) c.formula.view_is
           c.formula.invariant.few_vars;
@@ -39,11 +63,11 @@ returns-in-Ok-Refuted g c =
           c.in-Ok-Refuted.ensures.answer;
       decided = λ large. subst IsDecided c.in-Ok-Refuted.field-0-is
           (c.in-Ok-Refuted.ensures.decided large);
-      writes = c.write_proof.ensures;
+      writes = c.write_proof-in-Ok-Refuted.ensures;
     } in
-    refuted-at ask c.args.width formula
+    refuted-at ask c.args.width (IsCrowded c.args.width c.args.problem.now) formula
     (g.E.Encoder.is_good c.args.encoder.now c.args.problem.now c.args.width) before now log
-    c.in-Ok.ensures.few c.write_proof.result c.in-Ok.ensures.none_without_model cnf
+    c.in-Ok.ensures.few c.write_proof-in-Ok-Refuted.result c.in-Ok.ensures.none_without_model cnf
     c.in-Ok.ensures.formula ended c.and-in-Ok-Refuted.result c.and-in-Ok-Refuted.ensures
 
 pub returns-in-Ok-Spent : goal.returns-in-Ok-Spent
@@ -71,7 +95,7 @@ returns-in-Ok-Spent g c =
           (c.in-Ok-Spent.ensures.decided large);
       writes = c.write_proof-in-Ok-Spent.ensures;
     } in
-    spent-at ask c.args.width formula
+    spent-at ask c.args.width (IsCrowded c.args.width c.args.problem.now) formula
     (g.E.Encoder.is_good c.args.encoder.now c.args.problem.now c.args.width) before now log
     c.in-Ok.ensures.few c.write_proof-in-Ok-Spent.result cnf c.in-Ok.ensures.formula ended
     c.and-in-Ok-Spent.result c.and-in-Ok-Spent.ensures
