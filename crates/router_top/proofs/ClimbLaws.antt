@@ -8,8 +8,9 @@ use Rattle.desk_io.specs.ShelfState.{ShelfState}
 use Rattle.fpga_types.specs.Fits.{Fits}
 use Rattle.fpga_types.specs.Given.{IsGiven}
 use Rattle.fpga_types.specs.Problem.{RoutingProblem}
+use Rattle.route_count.specs.Crowded.{IsCrowded}
 use Rattle.route_sweep.specs.Climb.{AreRefuted, climbed}
-use Rattle.route_sweep.specs.Found.{IsRefutedBy, WritesLog}
+use Rattle.route_sweep.specs.Found.{IsRefutedAs, LogReadsBackIf, WritesLog}
 use Rattle.route_sweep.specs.declared.found.Found.{Found}
 use Rattle.route_sweep.specs.declared.found.Found.TheVariants.{Routed as IsRouted, Refuted, Spent}
 use Rattle.route_sweep.specs.declared.found.Stop.{Stop}
@@ -103,15 +104,17 @@ module _ (job : SweepAsked) (p : RoutingProblem) (given : IsGiven p) (fits : Fit
   -- the widths up to this one were refuted
   abbrev HasClimbed : ℕ → ShelfState → ShelfState → Type 0
   HasClimbed =
-      AreRefuted search.ask (λ width. clauses_by search.method width p)
-      (λ width. IsRoutingBy search.method width p)
+      AreRefuted search.ask (λ width. IsCrowded width p)
+      (λ width. clauses_by search.method width p) (λ width. IsRoutingBy search.method width p)
 
   -- a width was refuted, behind lower ones
   module _ (below : ℕ) (between now : ShelfState)
       (found : Finds search p (suc below) between now (Ok Refuted)) where
     abbrev wrote : WritesLog search.ask (suc below) (clauses_by search.method (suc below) p)
-        (IsRefutedBy search.ask (clauses_by search.method (suc below) p)
-        (IsRoutingBy search.method (suc below) p)) between now
+        (IsRefutedAs search.ask (IsCrowded (suc below) p) (clauses_by search.method (suc below) p)
+        (IsRoutingBy search.method (suc below) p))
+        (LogReadsBackIf search.ask.count (IsCrowded (suc below) p)
+        (clauses_by search.method (suc below) p)) between now
     wrote = found.1
 
     refuted-at : IsRefutedAt search p (suc below) wrote.log

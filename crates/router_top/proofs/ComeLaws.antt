@@ -10,6 +10,7 @@ use Rattle.fpga_types.specs.Given.{IsGiven}
 use Rattle.fpga_types.specs.Problem.{RoutingProblem}
 use Rattle.fpga_types.specs.declared.limits.TheConstants.{WIDTH_LIMIT}
 use Rattle.fpga_types.specs.declared.route.RouteText.{RouteText}
+use Rattle.route_count.specs.Crowded.{IsCrowded}
 use Rattle.route_sweep.specs.Climb.{EndsAt}
 use Rattle.route_sweep.specs.declared.found.FileSlot.{FileSlot}
 use Rattle.route_sweep.specs.declared.found.FileSlot.TheVariants.{Clauses}
@@ -399,7 +400,7 @@ module _ (words : List Word) (at : Scene) where
       (led : first.said ≡ more_said at.shelf.said lead) where
     climbed : IsGiven p → job.search.width ≤ WIDTH_LIMIT → (width : ℕ) (found : Result Found Stop)
         (o : Outcome) → o ≡ found_outcome width found
-        → EndsAt (sweep_search job).ask job.search.width
+        → EndsAt (sweep_search job).ask job.search.width (λ width. IsCrowded width p)
         (λ width. clauses_by job.search.method width p)
         (λ width. IsRoutingBy job.search.method width p) first at.shelf_now width found
         → HasCome words at o

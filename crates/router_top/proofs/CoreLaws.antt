@@ -11,6 +11,7 @@ use Rattle.fpga_types.specs.declared.route.RouteText.{RouteText}
 use Rattle.route_core.specs.Blamed.{blamed}
 use Rattle.route_core.specs.Core.{AreUnroutable}
 use Rattle.route_core.specs.Trimmed.{AddedRise, AreFrom, IsPartOf, IsSubList, IsTrimmed}
+use Rattle.route_count.specs.Crowded.{IsCrowded}
 use Rattle.route_sweep.specs.Found.{HasFew, IsUnbuilt}
 use Rattle.route_sweep.specs.Written.{WritesProof}
 use Rattle.route_sweep.specs.declared.found.Found.{Found}
@@ -225,7 +226,8 @@ module _ (job : CoreAsked) (p : RoutingProblem) (given : IsGiven p)
         let h = subst (IsCutFrom log small now (Err stop)) built past in
         stops-core stop
         (finds-refuted (Refutes (core_search job) p job.width)
-        (LeavesOpen (core_search job) p job.width) (core_search job).ask job.width formula
+        (LeavesOpen (core_search job) p job.width) (core_search job).ask job.width
+        (IsCrowded job.width p) formula
         (IsRoutingBy Strictly job.width p) before now small (cut-down now (Err stop) h) (Err stop)
         (record { few = few; reads = small-reads now (Err stop) h; writes = h.writes })) is
 

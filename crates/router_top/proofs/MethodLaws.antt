@@ -1,5 +1,5 @@
 -- What the commands need to know of each method.
-use Rattle.std.proofs.Common.{ℕ, ◌≤◌, List, map, sym, subst, arith}
+use Rattle.std.proofs.Common.{ℕ, ◌≤◌, map, sym, subst, arith}
 use Rattle.desk_io.specs.Files.{Bytes}
 use Rattle.fpga_route.specs.ReadBack.{IsPrintable}
 use Rattle.fpga_route.specs.Value.{Reads}
@@ -10,40 +10,30 @@ use Rattle.fpga_types.specs.Legal.{tracks_of}
 use Rattle.fpga_types.specs.Problem.{RoutingProblem}
 use Rattle.fpga_types.specs.declared.limits.TheConstants.{WIDTH_LIMIT}
 use Rattle.fpga_types.specs.declared.route.RouteText.{RouteText}
-use Rattle.route_encode.specs.Encoding.{cnf_of}
 use Rattle.route_encode.specs.Good.{IsRoutingOf}
 use Rattle.route_encode.proofs.ProblemExactness.{unsat-says-unroutable}
 use Rattle.route_crowd.specs.Crowd.{crowd}
-use Rattle.route_crowd.specs.Precedence.{ordered_cnf}
 use Rattle.route_crowd.proofs.ClauseLemmas.{unsat_unroutable as unsat-ordered}
 use Rattle.route_crowd.proofs.CrowdSlots.{crowd-slots}
-use Rattle.route_reach.specs.Encoding.{reach_cnf}
 use Rattle.route_reach.specs.Trees.{wires_of}
 use Rattle.route_reach.proofs.PrintLemmas.{routes-read-back}
 use Rattle.route_reach.proofs.ProblemExactness.{unsat-says-unreachable}
 use Rattle.route_reach.proofs.RouteLemmas.{routes-say-reached}
 use Rattle.route_reach.proofs.StrictLemmas.{reach-covers-strict}
-use Rattle.route_symmetry.specs.Pinned.{pinned_cnf}
 use Rattle.route_symmetry.proofs.EncodeLemmas.{unsat_unroutable}
-use Rattle.sat_clause.specs.Judge.{Accepts}
-use Rattle.sat_clause.specs.Step.{Step}
-use Rattle.sat_clause.proofs.Refutes.{refutes}
+use Rattle.sat_clause.specs.Formula.{IsUnsat}
 use Rattle.router_words.specs.declared.method.Method.{Method}
 use Rattle.router_words.specs.declared.method.Method.TheVariants.{Ordered, Pinned, Strictly, Within}
 use Rattle.router_top.specs.Method.{CoversStrict, HasNone, HasOne, IsRoutingBy, clauses_by}
 
--- a log that refutes the clauses of a problem that fits shows that it has no legal routing
-pub none-legal : (method : Method) (width : ℕ) (p : RoutingProblem) (log : List Step) → IsGiven p
-    → Fits p → Accepts (clauses_by method width p) log → HasNone method width p
-none-legal Strictly width p log given fits accepts =
-    (unsat-says-unroutable width p fits).0 (refutes (cnf_of width p) log accepts)
-none-legal Pinned width p log given fits accepts =
-    (unsat_unroutable width p given fits).0 (refutes (pinned_cnf width p) log accepts)
-none-legal (Within reach) width p log given fits accepts =
-    (unsat-says-unreachable width reach p).0 (refutes (reach_cnf width reach p) log accepts)
-none-legal Ordered width p log given fits accepts =
+-- a problem that fits, of whose clauses no values satisfy all, has no legal routing
+pub none-legal : (method : Method) (width : ℕ) (p : RoutingProblem) → IsGiven p → Fits p
+    → IsUnsat (clauses_by method width p) → HasNone method width p
+none-legal Strictly width p given fits = (unsat-says-unroutable width p fits).0
+none-legal Pinned width p given fits = (unsat_unroutable width p given fits).0
+none-legal (Within reach) width p given fits = (unsat-says-unreachable width reach p).0
+none-legal Ordered width p given fits =
     (unsat-ordered width p (crowd p) fits (crowd-slots p)).0
-    (refutes (ordered_cnf width p (crowd p)) log accepts)
 
 -- where a problem that fits has no legal routing within a reach that is long enough for its global
 -- route, it has none without a reach either

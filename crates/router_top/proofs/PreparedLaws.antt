@@ -1,11 +1,19 @@
 -- The encoder that a job has made of its problem says what its method says.
-use Rattle.std.proofs.Common.{◌≡◌, ◌∙◌, ℕ, List, refl, ap, subst}
+use Rattle.std.proofs.Common.{◌≡◌, ◌∙◌, ℕ, true, List, [], refl, sym, ap, subst, arith}
+use Rattle.std.specs.Prelude.{if◌then◌else◌}
+use Rattle.std.proofs.lemmas.List.{append-nil}
 use Rattle.fpga_types.specs.Problem.{RoutingProblem}
 use Rattle.fpga_types.specs.declared.route.RouteText.{RouteText}
+use Rattle.route_count.specs.Begun.{IsBegunBy}
 use Rattle.route_crowd.specs.Crowd.{crowd}
-use Rattle.route_crowd.specs.Precedence.{ordered_cnf, slots_among}
+use Rattle.route_crowd.specs.Groups.{is_exchangeable}
+use Rattle.route_crowd.specs.Precedence.{ordered_cnf, precedence, slots_among}
 use Rattle.route_crowd.proofs.CrowdSlots.{among-crowd}
+use Rattle.route_encode.specs.Encoding.{cnf_of}
+use Rattle.route_symmetry.specs.Full.{is_full}
+use Rattle.route_symmetry.specs.Pinned.{pin_clauses}
 use Rattle.sat_clause.specs.Formula.{Cnf}
+use Rattle.router_words.specs.Near.{has_one_track}
 use Rattle.router_words.specs.declared.method.Method.{Method}
 use Rattle.router_words.specs.declared.method.Method.TheVariants.{Ordered, Pinned, Strictly, Within}
 use Rattle.router_top.specs.Method.{IsRoutingBy, clauses_by}
@@ -36,3 +44,30 @@ by-encoder method p chosen own Q h =
     (λ i width. row-clauses method p row own.row width i)
     (subst (λ (m : Method). Q (λ width. clauses_along m row width p)
     (λ width. IsRoutingBy m width p)) own.is h)
+
+-- where each net has one track in each cell, the clauses begin with those that say no more
+begins : (method : Method) (p : RoutingProblem) (row : List ℕ) (width : ℕ)
+    → has_one_track method ≡ true → IsBegunBy (clauses_along method row width p) (cnf_of width p)
+begins Strictly p row width one =
+    record { vars = omega arith; clauses = ([], sym (append-nil (cnf_of width p).clauses)) }
+begins Pinned p row width one = record {
+  vars = omega arith;
+  clauses = ((if is_full width p then pin_clauses width p else []), refl);
+}
+begins (Within reach) p row width one = cc
+begins Ordered p row width one = record {
+  vars = omega arith;
+  clauses = (
+    (if is_exchangeable width p
+        then precedence p.arch.pattern width (slots_among p row) else []),
+    refl,
+  );
+}
+
+-- so do those of the encoder of such a method
+pub encoder-begins : (method : Method) (p : RoutingProblem) (chosen : Chosen)
+    → IsEncoderOf method p chosen → has_one_track method ≡ true → (width : ℕ)
+    → IsBegunBy (clauses_along chosen.method chosen.order.row.items width p) (cnf_of width p)
+encoder-begins method p chosen own one width =
+    begins chosen.method p chosen.order.row.items width
+    (subst (λ (m : Method). has_one_track m ≡ true) (sym own.is) one)

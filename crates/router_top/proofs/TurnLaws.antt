@@ -6,6 +6,7 @@ use Rattle.desk_io.specs.ShelfState.{ShelfState}
 use Rattle.fpga_types.specs.Given.{IsGiven}
 use Rattle.fpga_types.specs.Problem.{RoutingProblem}
 use Rattle.fpga_types.specs.declared.limits.TheConstants.{WIDTH_LIMIT}
+use Rattle.route_count.specs.Crowded.{IsCrowded}
 use Rattle.route_sweep.specs.Asked.{Asked}
 use Rattle.route_sweep.specs.Found.{FindsAt, HasFew}
 use Rattle.route_sweep.specs.declared.found.Found.{Found}
@@ -29,7 +30,7 @@ module _ (job : RouteAsked) (p : RoutingProblem) (before now : ShelfState) (o : 
 
   -- this is found by what is asked
   abbrev FindsBy : Asked → Result Found Stop → Type 0
-  FindsBy ask came = FindsAt ask job.search.width
+  FindsBy ask came = FindsAt ask job.search.width (IsCrowded job.search.width p)
       (clauses_by job.search.method job.search.width p)
       (IsRoutingBy job.search.method job.search.width p) before now came
 

@@ -2,6 +2,7 @@
 use Rattle.std.specs.Prelude.{◌≡◌, ℕ, ◌<◌, ◌≤◌, List, flat_map, Ok, Option, Some}
 use Rattle.desk_io.specs.Files.{FileMap}
 use Rattle.fpga_types.specs.Problem.{RoutingProblem}
+use Rattle.route_count.specs.Crowded.{IsCrowded}
 use Rattle.route_sweep.specs.Found.{HasFew}
 use Rattle.sat_clause.specs.Step.{Step}
 use Rattle.router_words.specs.Command.{job_of}
@@ -11,7 +12,7 @@ use Rattle.router_top.specs.Ends.{Refutes}
 use Rattle.router_top.specs.FourFiles.{Poses}
 use Rattle.router_top.specs.Method.{CoversStrict, HasNone, clauses_by}
 use Rattle.router_top.specs.Search.{Search, files_of, lower_widths, search_asked}
-use Rattle.router_top.specs.SearchFiles.{ReadBack, proof_files}
+use Rattle.router_top.specs.SearchFiles.{ReadBackIf, proof_files}
 use Rattle.router_top.specs.Written.{NamedText}
 
 -- few enough clauses stand for the problem at this width, the log refutes them, and it has no legal
@@ -22,7 +23,8 @@ pub record IsRefutedAt (search : Search) (p : RoutingProblem) (width : ℕ) (log
   pub refuted : Refutes search p width log
   pub none_legal : HasNone search.method width p
   pub none_strictly : CoversStrict search.method width p
-  pub reads_back : ReadBack (clauses_by search.method width p) log
+  pub reads_back : ReadBackIf search.ask.count (IsCrowded width p)
+      (clauses_by search.method width p) log
 
 -- the words ask for a search; its four files, which a trial makes itself, read as the values of the
 -- problem and fit; and it comes to this width, since each lower one that it tries is refuted by a

@@ -5,7 +5,8 @@ use Rattle.fpga_types.specs.declared.route.RouteText.{RouteText}
 use Rattle.route_core.specs.Blamed.{blamed}
 use Rattle.route_core.specs.Core.{AreUnroutable}
 use Rattle.route_core.specs.Trimmed.{IsTrimmed}
-use Rattle.route_sweep.specs.Found.{IsLeftOpenBy, IsRefutedBy}
+use Rattle.route_count.specs.Crowded.{IsCrowded}
+use Rattle.route_sweep.specs.Found.{IsLeftOpenBy, IsRefutedAs}
 use Rattle.sat_clause.specs.Step.{Step}
 use Rattle.router_top.specs.Method.{IsRoutingBy, clauses_by}
 use Rattle.router_top.specs.Search.{Search}
@@ -18,12 +19,13 @@ pub record IsCutDown (search : Search) (p : RoutingProblem) (width : ℕ) (log :
   pub none_good : (found : RouteText) → ¬ IsRoutingBy search.method width p found
   pub just : AreUnroutable width p (blamed width p log)
 
--- the log refutes the clauses, and is cut down to what that needs or stands as the search left it
+-- the log refutes the clauses, and is cut down to what that needs or stands as the search left it;
+-- or as counting did, which comes before the search where the words say so
 abbrev pub RefutesBy : (trims : Bool) → Search → RoutingProblem → (width : ℕ) → List Step → Type 0
 RefutesBy true search p width log = IsCutDown search p width log
 RefutesBy false search p width log =
-    IsRefutedBy search.ask (clauses_by search.method width p) (IsRoutingBy search.method width p)
-    log
+    IsRefutedAs search.ask (IsCrowded width p) (clauses_by search.method width p)
+    (IsRoutingBy search.method width p) log
 
 -- the log refutes the clauses at this width, as the search hands it over
 abbrev pub Refutes : Search → RoutingProblem → (width : ℕ) → List Step → Type 0

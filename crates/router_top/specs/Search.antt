@@ -32,6 +32,7 @@ ask_of numbered search = record {
   keep = search.keep;
   prefix = search.prefix;
   numbered = numbered;
+  count = search.count;
 }
 
 -- what is asked of the search at the width of `route`, which keeps all clauses or not
@@ -82,6 +83,7 @@ core_search job = record {
     keep = true;
     prefix = job.prefix;
     numbered = false;
+    count = false;
   };
   members = 1;
   trims = true;

@@ -6,6 +6,7 @@ use Rattle.desk_io.specs.WholeFile.{FailsToWrite, after_writing}
 use Rattle.fpga_types.specs.Given.{IsGiven}
 use Rattle.fpga_types.specs.Problem.{RoutingProblem}
 use Rattle.fpga_types.specs.declared.limits.TheConstants.{WIDTH_LIMIT}
+use Rattle.route_count.specs.Crowded.{IsCrowded}
 use Rattle.route_sweep.specs.Asked.{Asked}
 use Rattle.route_sweep.specs.Climb.{ClimbsTo}
 use Rattle.route_sweep.specs.Found.{FindsBy, HasFew, IsUnbuilt}
@@ -33,11 +34,12 @@ abbrev pub Finds : Search → RoutingProblem → (width : ℕ) → (before now :
     → Result Found Stop → Type 0
 Finds search p width before now came =
     FindsBy (Refutes search p width) (LeavesOpen search p width) search.ask width
-    (clauses_by search.method width p) (IsRoutingBy search.method width p) before now came
+    (IsCrowded width p) (clauses_by search.method width p) (IsRoutingBy search.method width p)
+    before now came
 
 -- the clauses at a width are few enough for one search, but not for all that would take turns; the
 -- outcome has how many these would hold, and nothing was written
-pub record IsCrowded
+pub record LacksRoom
     (search : Search) (p : RoutingProblem) (width : ℕ) (before now : ShelfState)
     (outcome : Outcome) : Type 0 where
   pub few : HasFew (clauses_by search.method width p)
@@ -61,7 +63,7 @@ pub record Searches
 -- what `route` leaves: it had no room for its searches, or it searched
 abbrev pub LeavesRoute : RouteAsked → RoutingProblem → (before now : ShelfState) → Outcome → Type 0
 LeavesRoute job p before now outcome =
-    IsCrowded (route_search job) p job.search.width before now outcome
+    LacksRoom (route_search job) p job.search.width before now outcome
     ⊎ Searches job p before now outcome
 
 -- a climb through the widths of the problem, which was given, up to the greatest, which is at most
@@ -73,7 +75,7 @@ pub record Climbs
   pub some : 1 ≤ most
   pub narrow : most ≤ WIDTH_LIMIT
   pub came : Result Climbed Stop
-  pub climbs : ClimbsTo ask most (λ width. clauses_by method width p)
+  pub climbs : ClimbsTo ask most (λ width. IsCrowded width p) (λ width. clauses_by method width p)
       (λ width. IsRoutingBy method width p) before now came
   pub is : outcome ≡ climbed_outcome came
 

@@ -108,6 +108,7 @@ fn ask_for<'a>(job: &CoreJob<'a>) -> Ask<'a>
         keep: true,
         prefix: job.prefix,
         numbered: false,
+        count: false,
     }
 }
 

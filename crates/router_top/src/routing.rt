@@ -34,12 +34,14 @@ pub fn found(width: u32, came: Result<Found, Stop>) -> Outcome
 fn ask_for<'a>(search: &SearchJob<'a>, keep: bool) -> Ask<'a>
     ensures asked { asked result ≡ asks_to_keep keep (search_said search.now) }
     ensures keep { result.keep ≡ keep }
+    ensures count { result.count ≡ search.now.count }
 {
     Ask {
         budget: search.conflicts,
         keep,
         prefix: search.prefix,
         numbered: false,
+        count: search.count,
     }
 }
 

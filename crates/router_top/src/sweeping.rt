@@ -48,6 +48,7 @@ pub fn search_widths<S: Shelf>(
         keep: search.keep,
         prefix: search.prefix,
         numbered: true,
+        count: search.count,
     };
     climbed(climb(alloc, encoder, problem, search.width, &ask, shelf))
 }

@@ -1,11 +1,19 @@
-use Rattle.std.proofs.Common.{ap}
-use Rattle.std.specs.Prelude.{option_map}
+use Rattle.std.proofs.Common.{ap, subst}
+use Rattle.std.specs.Prelude.{IsTrue, option_map}
+use Rattle.route_count.specs.Crowded.{IsCrowded}
 use Rattle.route_sweep.specs.Asked.{asked}
 use Rattle.route_sweep.specs.Found.{FindsAt}
 use Rattle.router_words.specs.Job.{members_said, route_said}
-use Rattle.router_top.proofs.PreparedLaws.{by-encoder}
+use Rattle.router_top.proofs.PreparedLaws.{by-encoder, encoder-begins}
 use Rattle.router_top.proofs.TurnLaws.{by-one}
 use Rattle.router_top.proofs.routing.search_alone.Goals as goal
+
+pub one_width-came-requires-clause-begun : goal.one_width-came-requires-clause-begun
+one_width-came-requires-clause-begun g c = λ counts.
+    encoder-begins c.args.job.now.search.method c.args.problem.now c.args.encoder.now
+    c.requires.encoder
+    (c.args.job.now.search.countable (subst IsTrue c.ask_for-ask.ensures.count counts))
+    c.args.job.now.search.width
 
 pub returns : goal.returns
 returns g c =
@@ -18,5 +26,6 @@ returns g c =
     c.one_width-came.result
     (by-encoder c.args.job.now.search.method c.args.problem.now c.args.encoder.now
     c.requires.encoder
-    (λ formula good. FindsAt (asked c.ask_for-ask.result) width (formula width) (good width) before
-    now c.one_width-came.result) c.one_width-came.ensures) c.found.ensures
+    (λ formula good. FindsAt (asked c.ask_for-ask.result) width
+    (IsCrowded width c.args.problem.now) (formula width) (good width) before now
+    c.one_width-came.result) c.one_width-came.ensures) c.found.ensures

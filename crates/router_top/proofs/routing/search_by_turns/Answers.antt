@@ -1,10 +1,11 @@
-use Rattle.std.proofs.Common.{◌≡◌, ◌≤◌, ap, length, refl}
-use Rattle.std.specs.Prelude.{◌*◌, option_map}
+use Rattle.std.proofs.Common.{◌≡◌, ◌≤◌, ap, length, refl, subst}
+use Rattle.std.specs.Prelude.{◌*◌, IsTrue, option_map}
 use Rattle.sat_clause.specs.declared.limits.TheConstants.{CLAUSE_LIMIT}
+use Rattle.route_count.specs.Crowded.{IsCrowded}
 use Rattle.route_sweep.specs.Asked.{asked}
 use Rattle.route_sweep.specs.Found.{FindsAt, HasFew}
 use Rattle.router_words.specs.Job.{members_said, route_said}
-use Rattle.router_top.proofs.PreparedLaws.{by-encoder}
+use Rattle.router_top.proofs.PreparedLaws.{by-encoder, encoder-begins}
 use Rattle.router_top.proofs.TurnLaws.{by-turns, crowded}
 use Rattle.router_top.proofs.routing.search_by_turns.Goals as goal
 
@@ -21,6 +22,13 @@ returns-in-Some g c =
     (by (λ formula good. c.in-Some.count ≡ c.args.members.count * length (formula width).clauses)
     c.in-Some.ensures.crowded.2) refl refl
 
+pub find_by_turns-came-requires-clause-begun : goal.find_by_turns-came-requires-clause-begun
+find_by_turns-came-requires-clause-begun g c = λ counts.
+    encoder-begins c.args.job.now.search.method c.args.problem.now c.args.encoder.now
+    c.requires.encoder
+    (c.args.job.now.search.countable (subst IsTrue c.ask_for-ask.ensures.count counts))
+    c.args.job.now.search.width
+
 pub returns-in-None : goal.returns-in-None
 returns-in-None g c =
     let width = c.args.job.now.search.width in
@@ -34,5 +42,6 @@ returns-in-None g c =
     (by (λ formula good. HasFew (formula width)
     → c.args.members.count * length (formula width).clauses ≤ CLAUSE_LIMIT) c.in-None.ensures.room)
     (asked c.ask_for-ask.result) c.ask_for-ask.ensures.asked c.find_by_turns-came.result
-    (by (λ formula good. FindsAt (asked c.ask_for-ask.result) width (formula width) (good width)
-    before now c.find_by_turns-came.result) c.find_by_turns-came.ensures) c.found.ensures
+    (by (λ formula good. FindsAt (asked c.ask_for-ask.result) width
+    (IsCrowded width c.args.problem.now) (formula width) (good width) before now
+    c.find_by_turns-came.result) c.find_by_turns-came.ensures) c.found.ensures

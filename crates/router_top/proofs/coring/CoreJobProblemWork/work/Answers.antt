@@ -2,6 +2,7 @@ use Rattle.std.proofs.Common.{◌≤◌, refl, subst}
 use Rattle.sat_clause.specs.declared.limits.TheConstants.{VARIABLE_LIMIT}
 use Rattle.sat_core.specs.Answer.{IsAnswer, IsDecided}
 use Rattle.sat_core.specs.declared.answer.Answer.TheVariants.{Spent as IsOpen}
+use Rattle.route_count.specs.Crowded.{IsCrowded}
 use Rattle.route_sweep.specs.Asked.{Asked, asked}
 use Rattle.route_sweep.specs.Found.{FindsBy, IsLeftOpenBy}
 use Rattle.route_sweep.specs.Written.{WritesRoute}
@@ -49,8 +50,8 @@ returns-in-Ok-Model g c =
     IsRouted (λ same. cc) c.write_routing-written.result c.and.result c.and.ensures
     (finds-routing (Refutes (core_search job) p c.args.self.now.width)
     (LeavesOpen (core_search job) p c.args.self.now.width) (core_search job).ask
-    c.args.self.now.width (clauses_by Strictly c.args.self.now.width p)
-    (IsRoutingBy Strictly c.args.self.now.width p) before now c.in-Ok.ensures.few
+    c.args.self.now.width (IsCrowded c.args.self.now.width p)
+    (clauses_by Strictly c.args.self.now.width p) (IsRoutingBy Strictly c.args.self.now.width p) before now c.in-Ok.ensures.few
     c.in-Ok-decode.routing c.in-Ok-decode.ensures.good c.write_routing-written.result
     (subst (λ (a : Asked). WritesRoute a c.in-Ok-decode.routing before now
     c.write_routing-written.result) c.ask_for-ask.ensures c.write_routing-written.ensures)
@@ -84,12 +85,13 @@ returns-in-Ok-Spent g c =
           (c.in-Ok-Spent.ensures.decided large);
       writes = c.write_proof-written.ensures;
     } in
-    let found = spent-by ask width formula good before now log c.in-Ok.ensures.few
+    let forbidden = IsCrowded width p in
+    let found = spent-by ask width forbidden formula good before now log c.in-Ok.ensures.few
     c.write_proof-written.result (Refutes (core_search job) p width) cnf c.in-Ok.ensures.formula
     ended c.and-in-Ok-Spent.result c.and-in-Ok-Spent.ensures in
     found-core job p c.was_given.ensures c.args.self.now.in_range.1 before now
     c.found-in-Ok-Spent.result (Spent ask.budget) (λ same. cc) c.write_proof-written.result
     c.and-in-Ok-Spent.result c.and-in-Ok-Spent.ensures
     (subst (λ (a : Asked). FindsBy (Refutes (core_search job) p width) (IsLeftOpenBy a formula) a
-    width formula good before now c.and-in-Ok-Spent.result) c.ask_for-ask.ensures found)
+    width forbidden formula good before now c.and-in-Ok-Spent.result) c.ask_for-ask.ensures found)
     c.found-in-Ok-Spent.ensures
