@@ -25,10 +25,14 @@ pub(crate) fn append_usage(
 // Which options of a command exclude each other, or need another.
 fn clash_of(name: &str) -> &'static str {
     match name {
-        "sweep" | "encode" => "--pin, --symmetry and --reach exclude one another.\n",
+        "encode" => "--pin, --symmetry and --reach exclude one another.\n",
+        "sweep" => {
+            "--pin, --symmetry and --reach exclude one another, and so do --count and --reach.\n"
+        }
+        "trial" => "--count and --reach exclude each other.\n",
         _ => {
-            "--pin, --symmetry and --reach exclude one another, and --seed is the seed of \
-             searches that take turns: give their number by --members.\n"
+            "--pin, --symmetry and --reach exclude one another, and so do --count and --reach; \
+             --seed is the seed of searches that take turns: give their number by --members.\n"
         }
     }
 }
@@ -37,7 +41,7 @@ fn clash_of(name: &str) -> &'static str {
 fn form_of(name: &str) -> (&'static str, &'static str) {
     match name {
         "sweep" => (
-            "sweep ARCH NET PLACE ROUTE MAX PREFIX [--conflicts N] [--keep] \
+            "sweep ARCH NET PLACE ROUTE MAX PREFIX [--conflicts N] [--keep] [--count] \
              [--pin | --symmetry | --reach L], MAX and L from 1 to 64",
             "sweep design.arch design.net design.place design.route 12 out",
         ),
@@ -60,12 +64,12 @@ fn form_of(name: &str) -> (&'static str, &'static str) {
             "gen 1 20 300 made",
         ),
         "trial" => (
-            "trial SEED NX NETS MAX PREFIX [--conflicts N] [--keep] [--reach L], NX from 1 to \
-             100, MAX and L to 64",
+            "trial SEED NX NETS MAX PREFIX [--conflicts N] [--keep] [--count | --reach L], NX \
+             from 1 to 100, MAX and L to 64",
             "trial 1 20 300 12 out",
         ),
         _ => (
-            "route ARCH NET PLACE ROUTE WIDTH PREFIX [--conflicts N] [--keep] \
+            "route ARCH NET PLACE ROUTE WIDTH PREFIX [--conflicts N] [--keep] [--count] \
              [--pin | --symmetry | --reach L] [--members K] [--seed S], WIDTH and L from 1 to 64, \
              K to 8",
             "route design.arch design.net design.place design.route 9 out",
