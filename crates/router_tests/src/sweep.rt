@@ -109,6 +109,7 @@ fn found_at(
         keep: true,
         prefix: "out",
         numbered: false,
+        count: false,
     };
     let found = one_width(alloc, &Stairs, &problem, width, &ask, &mut shelf);
     Ok((found, shelf))
@@ -130,6 +131,7 @@ fn climbed_to(
         keep: false,
         prefix: "out",
         numbered: false,
+        count: false,
     };
     let climbed = climb(alloc, &Stairs, &problem, most, &ask, &mut shelf);
     Ok((climbed, shelf))

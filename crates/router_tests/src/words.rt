@@ -29,7 +29,10 @@ encode|a|n|p|r|1|out
 check|c|l
 verify|a|n|p|r|64|f
 gen|2147483647|100|10000|g
-trial|0|1|1|64|t|--keep";
+trial|0|1|1|64|t|--keep
+route|a|n|p|r|64|out|--count|--members|2
+sweep|a|n|p|r|64|out|--symmetry|--count
+trial|0|1|1|64|t|--count";
 
 // Lines without the name of a command.
 const NO_COMMAND: &str = "
@@ -86,7 +89,10 @@ gen|1|2|1|g|--pin
 gen|-1|2|1|g
 trial|1|2|2|t
 trial|1|2|2|4|t|--pin
-trial|1|2|2|4|t|--symmetry";
+trial|1|2|2|4|t|--symmetry
+route|a|n|p|r|5|out|--count|--count
+encode|a|n|p|r|5|out|--count
+core|a|n|p|r|5|out|--count";
 
 // Lines with a word that is no number in its range.
 const NO_NUMBER: &str = "\
@@ -108,6 +114,7 @@ encode|a|n|p|r|65|out
 route|a|n|p|r|5|out|--reach|0
 route|a|n|p|r|5|out|--reach|2|--pin|--members|9
 route|a|n|p|r|5|out|--reach|2|--pin|--conflicts|0
+route|a|n|p|r|5|out|--reach|0|--count
 sweep|a|n|p|r|5|out|--reach|65
 trial|0|1|1|64|t|--reach|x
 verify|a|n|p|r|5|f|--reach=+2
@@ -137,7 +144,10 @@ route|a|n|p|r|5|out|--pin|--symmetry
 sweep|a|n|p|r|5|out|--symmetry|--reach|2
 encode|a|n|p|r|5|out|--symmetry|--pin
 encode|a|n|p|r|5|out|--symmetry|--reach|2|--pin
-encode|a|n|p|r|5|out|--reach|2|--pin";
+encode|a|n|p|r|5|out|--reach|2|--pin
+route|a|n|p|r|5|out|--reach|2|--count
+sweep|a|n|p|r|5|out|--count|--reach|2
+trial|1|2|2|4|t|--reach|2|--count";
 
 // The words of a line, which stand between bars.
 fn parted(alloc: Global, line: &str) -> Result<Vec<String>, Fail> {
