@@ -19,10 +19,11 @@ use desk_io::FileDesk;
 use rows_problem::{RowsError, text};
 
 // The files of cases. The first says how they are written.
-const FILES: [&str; 13] = [
+const FILES: [&str; 14] = [
     "worked.rows",
     "pinned.rows",
     "symmetry.rows",
+    "count.rows",
     "reach.rows",
     "within.rows",
     "failing_calls.rows",
