@@ -1,5 +1,5 @@
 -- The way back over an accepted log keeps the steps that are needed.
-use Rattle.std.proofs.Common.{◌≡◌, ◌≢◌, ◌<◌, ◌+◌, ◌-◌, ℕ, zero, suc, ◌==◌, ℤ, pos, negsuc, Bool, true, false, cond, List, [], ◌∷◌, ◌++◌, length, get_or, take, drop, Option, None, Some, refl, sym, ap, subst, ◌∙◌, arith, All}
+use Rattle.std.proofs.Common.{◌≡◌, ◌≢◌, ◌<◌, ◌≤◌, ◌+◌, ◌-◌, ℕ, zero, suc, ◌==◌, ℤ, pos, negsuc, Bool, true, false, cond, List, [], ◌∷◌, ◌++◌, length, get_or, take, drop, Option, None, Some, refl, sym, ap, subst, ◌∙◌, arith, All}
 use Rattle.std.specs.Prelude.{◌||◌, fold, reverse, slice_get}
 use Rattle.std.specs.List.{list_any}
 use Rattle.std.specs.Option.{option_map_or}
@@ -14,8 +14,8 @@ use Rattle.sat_check.proofs.StepLaws.{take_more}
 use Rattle.sat_clause.specs.Formula.{Cnf}
 use Rattle.sat_clause.specs.Judge.{Accepted, Accepts, after, inputs, is_empty_clause, judge_from}
 use Rattle.sat_clause.specs.Learned.{live_before}
-use Rattle.sat_clause.specs.Literal.{Clause}
-use Rattle.sat_clause.specs.Live.{Live}
+use Rattle.sat_clause.specs.Literal.{Clause, IsWithin, variable}
+use Rattle.sat_clause.specs.Live.{Live, named}
 use Rattle.sat_clause.specs.Rup.{rup}
 use Rattle.sat_clause.specs.Step.{Step, Added, Erased}
 use Rattle.route_encode.proofs.CompeteLemmas.{differs}
@@ -25,10 +25,11 @@ use Rattle.route_core.specs.Needed.{Kept, needed_from}
 use Rattle.route_core.specs.Sources.{place_from, place_named, said_under}
 use Rattle.route_core.specs.Trimmed.{AddedRise}
 use Rattle.route_core.specs.Trimming.{needed_steps, step_if}
-use Rattle.route_core.proofs.ListedLemmas.{place-step, step-place}
-use Rattle.route_core.specs.Walking.{kept_back, units_along}
+use Rattle.route_core.proofs.ListedLemmas.{place-step, said-within, step-place}
+use Rattle.route_core.specs.SourceStore.{StepWithin}
+use Rattle.route_core.specs.Walking.{kept_back}
 use Rattle.route_core.proofs.SourceLemmas.{live_is_said}
-use Rattle.route_core.proofs.WalkLemmas.{IsWalk, walk}
+use Rattle.route_core.proofs.WalkLemmas.{some-hints, walk}
 use Rattle.route_core.proofs.TrimmingLemmas.{accepted-parts, refused-not}
 
 -- ---- the first empty clause, and the steps up to it
@@ -251,30 +252,46 @@ IsGood live (Erased id ids) = Unit {0}
 module _ (formula : Cnf) (log : List Step) (rise : AddedRise (length formula.clauses) log)
     (at : ℕ) (good : IsGoodAt formula log at) (erase : Bool) (id : ℕ) (lits : Clause)
     (hints : List ℤ)
-    (is : slice_get log at ≡ Some (cond erase (Erased id hints) (Added id lits hints))) where
+    (is : slice_get log at ≡ Some (cond erase (Erased id hints) (Added id lits hints))) (n : ℕ)
+    (inputs_in : All (All (IsWithin n)) formula.clauses) (added_in : All (StepWithin n) log) where
   shown : Added id lits hints ≡ Added good.id good.clause good.hints
   shown = view-added erase id lits hints good.id good.clause good.hints (sym is ∙ good.step)
 
   view-step : slice_get log at ≡ Some (Added id lits hints)
   view-step = good.step ∙ ap (λ (s : Step). Some s) (sym shown)
 
-  pub view-walk : IsWalk (live_before formula log at) (said_under formula log) lits hints
+  view-good : rup (live_before formula log at) lits hints ≡ None
+  view-good = subst (IsGood (live_before formula log at)) (sym shown) good.good
+
+  pub view-some : 1 ≤ length hints
+  view-some = some-hints (live_before formula log at) lits hints view-good
+
+  -- no literal of a live clause is of the number 0
+  live-some : (h : ℤ) (c : Clause) → named (live_before formula log at) h ≡ Some c
+      → All (λ m. 1 ≤ variable m) c
+  live-some (pos zero) c e = cc
+  live-some (pos (suc k)) c e =
+      let within = said-within n formula log inputs_in added_in k c
+      (live_is_said formula log rise at (suc k) c e) in
+      λ i d low. (within i d low).0
+  live-some (negsuc k) c e = cc
+
+  view-walk : needed_from (live_before formula log at) lits hints
+      ≡ kept_back (said_under formula log) lits hints
   view-walk =
-      walk (live_before formula log at) (said_under formula log)
-      (λ q clause h. live_is_said formula log rise at q clause h) lits hints
-      (subst (IsGood (live_before formula log at)) (sym shown) good.good)
+      walk (live_before formula log at) lits live-some (said_under formula log)
+      (λ q clause h. live_is_said formula log rise at q clause h) hints view-good
 
   -- what is done with the needed hints of the step keeps it
   pub keep-made : (old new : List Step) (before after_marks : List Bool) (fewer : List ℤ)
-      → fewer ≡ (kept_back (said_under formula log)
-      (units_along (said_under formula log) lits hints) hints).hints
+      → fewer ≡ (kept_back (said_under formula log) lits hints).hints
       → length after_marks ≡ length before → new ≡ old ++ Added id lits fewer ∷ []
       → ((j : ℕ) → j < length before → get_or after_marks j false
       ≡ (get_or before j false || list_any (names log j) fewer))
       → KeepsStep formula log at old new before after_marks
   keep-made old new before after_marks fewer fewer_is many steps marks =
       let needed : fewer ≡ (needed_from (live_before formula log at) lits hints).hints =
-      fewer_is ∙ sym (ap (λ (k : Kept). k.hints) view-walk.kept) in
+      fewer_is ∙ sym (ap (λ (k : Kept). k.hints) view-walk) in
       record {
         many = many;
         steps = λ other clause gs there.

@@ -9,3 +9,4 @@ pub mod SourceLemmas
 pub mod TrimmingLemmas
 pub mod UsedLemmas
 pub mod WalkLemmas
+pub mod WantedLemmas

@@ -243,6 +243,52 @@ module _ (formula : Cnf) (log : List Step) (id : ℕ) where
   pub said-none : count < id → place_from 0 log id ≡ None → None ≡ said_under formula log id
   said-none above none = sym (said-above above ∙ place-none 0 log id none)
 
+-- ---- no id stands for a clause of greater variables
+
+added-within : (n : ℕ) (steps : List Step) → All (StepWithin n) steps → (id : ℕ) (clause : Clause)
+    → added_under steps id ≡ Some clause → All (IsWithin n) clause
+added-within n [] all id clause is = cc
+added-within n (Added other c hints ∷ steps) all id clause is =
+    go (id == other) is
+    (λ e. added-within n steps (λ k d low. all (suc k) d (omega (arith, low))) id clause e)
+  where
+    go : (b : Bool) → cond b (Some c) (added_under steps id) ≡ Some clause
+        → (added_under steps id ≡ Some clause → All (IsWithin n) clause) → All (IsWithin n) clause
+    go true e more =
+        subst (λ (d : Clause). All (IsWithin n) d) (let same : c ≡ clause = cc in same)
+        (all 0 (Added other c hints) (omega arith))
+    go false e more = more e
+added-within n (Erased other ids ∷ steps) all id clause is =
+    added-within n steps (λ k d low. all (suc k) d (omega (arith, low))) id clause is
+
+pub said-within : (n : ℕ) (formula : Cnf) (log : List Step) → All (All (IsWithin n)) formula.clauses
+    → All (StepWithin n) log → (k : ℕ) (clause : Clause)
+    → said_under formula log (suc k) ≡ Some clause → All (IsWithin n) clause
+said-within n formula log inputs_in added_in k clause is =
+    go (nat_le (suc k) (length formula.clauses)) is
+  where
+    go : (b : Bool)
+        → cond b (clause_at (inputs formula) (suc k)) (added_under log (suc k)) ≡ Some clause
+        → All (IsWithin n) clause
+    go true e =
+        let there : slice_get formula.clauses k ≡ Some clause = sym (inputs_at formula k) ∙ e in
+        subst (λ (c : Clause). All (IsWithin n) c)
+        (get_or_from_slice_get formula.clauses k clause [] there)
+        (inputs_in k [] (slice_get_within formula.clauses k clause there))
+    go false e = added-within n log added_in (suc k) clause e
+
+-- ids below the first are none of those that rise from there
+pub none-below : (added : List AddedStep) → IdsRise added → (id : ℕ) (first : AddedStep)
+    → id < (get_or added 0 first).id → NoneHasId added id
+none-below added rise id first below zero d low same =
+    let is = ap (λ (s : AddedStep). s.id) (get_or_default added 0 first d low) in
+    omega (arith, below, is, same)
+none-below added rise id first below (suc number) d low same =
+    let is = ap (λ (s : AddedStep). s.id)
+    (get_or_default added 0 first d (omega (arith, low))) in
+    let more = rise 0 (suc number) d (omega arith) low in
+    omega (arith, below, is, same, more)
+
 -- ---- variables up to a greater number
 
 pub within-more : (m n : ℕ) (clause : Clause) → m ≤ n → All (IsWithin m) clause

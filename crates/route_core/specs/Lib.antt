@@ -9,3 +9,4 @@ pub mod Sources
 pub mod Trimmed
 pub mod Trimming
 pub mod Walking
+pub mod Wanting

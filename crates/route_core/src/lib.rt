@@ -6,6 +6,7 @@ mod laws;
 mod needed;
 mod sources;
 mod trimming;
+mod wanted;
 
 pub use blaming::{blame, blame_in};
 pub use laws::{

@@ -1,118 +1,95 @@
 //! The hints that a step needs.
-ghost use Rattle.std.specs.Prelude.{◌≡◌, ◌≤◌, ◌<◌, ◌+◌, [], ◌++◌, ℕ, All, IfOk, IfSome, OnOk, length, reverse};
-ghost use Rattle.sat_check.specs.FalseStore.{FalseState};
-ghost use Rattle.sat_clause.specs.Literal.{IsWithin, is_among};
-ghost use Rattle.sat_clause.specs.declared.literal.Lit.{Lit};
-ghost use Rattle.route_core.specs.Sources.{said_under};
+ghost use Rattle.std.specs.Prelude.{◌≡◌, ◌≤◌, ◌++◌, [], List, All, IfOk, OnOk, length};
+ghost use Rattle.sat_clause.specs.declared.literal.Lit.{Lit as LitOf};
+ghost use Rattle.sat_clause.specs.Literal.{Clause, IsWithin};
+ghost use Rattle.route_core.specs.Needed.{Kept, kept_if};
 ghost use Rattle.route_core.specs.Ready.{IsReady};
-ghost use Rattle.route_core.specs.Walking.{IsWanted, clause_of, first_open, kept_back, units_along};
+ghost use Rattle.route_core.specs.Sources.{said_under};
+ghost use Rattle.route_core.specs.Walking.{HasKept, clause_of, kept_back, serves};
+ghost use Rattle.route_core.specs.Wanting.{Tells};
 
 use crate::sources::Sources;
-use sat_check::FalseSet;
-use sat_clause::{FalseLiterals, LITERAL_LIMIT, Lit};
+use crate::wanted::Wanted;
+use sat_clause::{LITERAL_LIMIT, Lit};
 use std::alloc::{AllocError, Global};
 
 /// What is at hand to find the needed hints of one step after another.
 #[derive(Drop)]
 pub(crate) struct NeededHints {
-    /// The literals that are false; none between two steps.
-    falses: FalseSet,
-    /// The literals of the clauses that kept hints name; none between two steps.
-    wanted: FalseSet,
-    /// The literals that the hints of the last step make true, in order.
-    units: Vec<Lit>,
+    /// What the kept hints of a step want.
+    wanted: Wanted,
     /// The needed hints of the last step, in order.
     hints: Vec<i64>,
 }
 
-/// The first literal of a clause that is not false.
-fn first_open(falses: &FalseSet, clause: &[Lit]) -> Option<Lit>
-    requires { All (IsWithin falses.now.size) clause.now }
-    ensures value { result ≡ first_open falses.now.set clause.now }
-    ensures within { IfSome result (IsWithin falses.now.size) }
-{
-    for l in clause {
-        if !falses.is_false(*l) {
-            return Some(*l);
-        }
-    }
-    None
-}
-
-/// Follows hints from these false literals on, and lists what they make true.
-fn follow(
-    sources: &Sources<'_>,
-    falses: &mut FalseSet,
-    units: &mut Vec<Lit>,
-    hints: &[i64],
-) -> Result<(), AllocError>
-    requires size { falses.old.size ≡ sources.now.size }
-    requires small { sources.now.size ≤ LITERAL_LIMIT }
-    requires units { units.old.items ≡ [] }
-    ensures size { falses.new.size ≡ falses.old.size }
-    ensures within { OnOk result (All (IsWithin sources.now.size) units.new.items) }
-    ensures ok { OnOk result (units.new.items ≡ units_along
-        (said_under sources.now.formula sources.now.log) falses.old.set hints.now) }
-{
-    for hint in hints {
-        let Some(clause) = sources.clause(*hint) else {
-            return Ok(());
-        };
-        let Some(l) = first_open(falses, clause) else {
-            return Ok(());
-        };
-        falses.put(l.negation())?;
-        units.push(l)?;
-    }
-    Ok(())
-}
-
-/// Puts the literals of the clause that a hint names into a set, those that are not there.
-fn want(sources: &Sources<'_>, wanted: &mut FalseSet, hint: i64) -> Result<(), AllocError>
+/// The literals of the clause that a hint names are wanted.
+fn want(sources: &Sources<'_>, wanted: &mut Wanted, hint: i64)
     requires size { wanted.old.size ≡ sources.now.size }
     ensures size { wanted.new.size ≡ wanted.old.size }
-    ensures ok { OnOk result (IsWanted
-        (clause_of (said_under sources.now.formula sources.now.log) hint ++ wanted.old.set)
-        wanted.new.set) }
+    ensures wanted { (own : Clause) (before : List LitOf) → Tells own before wanted.old
+        → Tells own
+        (clause_of (said_under sources.now.formula sources.now.log) hint ++ before)
+        wanted.new }
+{
+    let Some(clause) = sources.clause(hint) else {
+        return;
+    };
+    wanted.want(clause);
+}
+
+/// Keeps a hint if its clause serves those that were kept.
+// It made one of its literals true, and all its others were false. What is false stays so, and no
+// clause behind wants its negation, unless the step's own has that. So it is known without a walk
+// along the hints which of them the one is.
+#[inline(always)]
+fn keep_if_needed(
+    sources: &Sources<'_>,
+    wanted: &mut Wanted,
+    hint: i64,
+    kept: &mut Vec<i64>,
+) -> Result<(), AllocError>
+    requires size { wanted.old.size ≡ sources.now.size }
+    ensures size { wanted.new.size ≡ wanted.old.size }
+    ensures ok { OnOk result ((own : Clause) (rest : Kept) → HasKept own rest kept.old.items wanted.old
+        → (let clause : Clause = clause_of (said_under sources.now.formula sources.now.log) hint in
+        HasKept own (kept_if (serves own rest.wanted clause) hint clause rest) kept.new.items
+        wanted.new)) }
 {
     let Some(clause) = sources.clause(hint) else {
         return Ok(());
     };
-    for l in clause {
-        if wanted.is_false(*l) {
-            continue;
-        }
-        wanted.put(*l)?;
+    if !wanted.wants_opposite(clause) {
+        return Ok(());
     }
+    wanted.want(clause);
+    kept.push(hint)?;
     Ok(())
 }
 
-/// Goes back from the false clause, which the hint behind those of the units names, and keeps each
-/// hint whose literal the clause of a kept one wants: from the last to the first.
+/// Goes back from the last hint of a step that adds these literals, and keeps it and each hint that
+/// serves those behind it: from the last to the first.
 fn go_back(
     sources: &Sources<'_>,
-    wanted: &mut FalseSet,
-    units: &[Lit],
+    wanted: &mut Wanted,
+    lits: &[Lit],
     hints: &[i64],
     kept: &mut Vec<i64>,
 ) -> Result<(), AllocError>
     requires size { wanted.old.size ≡ sources.now.size }
-    requires small { sources.now.size ≤ LITERAL_LIMIT }
-    requires empty { (wanted.old.set ≡ []) × (kept.old.items ≡ []) }
-    requires within { All (IsWithin sources.now.size) units.now }
-    requires many { length units.now < length hints.now }
+    requires within { All (IsWithin sources.now.size) lits.now }
+    requires some { 1 ≤ length hints.now }
+    requires empty { kept.old.items ≡ [] }
     ensures size { wanted.new.size ≡ wanted.old.size }
-    ensures ok { OnOk result (kept.new.items ≡ reverse
-        (kept_back (said_under sources.now.formula sources.now.log) units.now hints.now).hints) }
+    ensures ok { OnOk result (HasKept lits.now
+        (kept_back (said_under sources.now.formula sources.now.log) lits.now hints.now)
+        kept.new.items wanted.new) }
 {
-    kept.push(hints[units.len()])?;
-    want(sources, wanted, hints[units.len()])?;
-    for at in (0..units.len()).rev() {
-        if !wanted.is_false(units[at].negation()) {
-            continue;
-        }
-        kept.push(hints[at])?;
-        want(sources, wanted, hints[at])?;
+    wanted.begin(lits)?;
+    let last = hints.len() - 1;
+    want(sources, wanted, hints[last]);
+    kept.push(hints[last])?;
+    for at in (0..last).rev() {
+        keep_if_needed(sources, wanted, hints[at], kept)?;
     }
     Ok(())
 }
@@ -124,9 +101,7 @@ impl NeededHints {
         ensures { IfOk result (IsReady size) }
     {
         Ok(NeededHints {
-            falses: FalseSet::new(alloc, size)?,
-            wanted: FalseSet::new(alloc, size)?,
-            units: Vec::new(alloc),
+            wanted: Wanted::new(alloc, size)?,
             hints: Vec::new(alloc),
         })
     }
@@ -140,27 +115,13 @@ impl NeededHints {
     ) -> Result<(), AllocError>
         requires ready { IsReady sources.now.size self.old }
         requires within { All (IsWithin sources.now.size) lits.now }
-        requires small { sources.now.size ≤ LITERAL_LIMIT }
-        requires many { length (units_along (said_under sources.now.formula sources.now.log)
-            lits.now hints.now) < length hints.now }
+        requires some { 1 ≤ length hints.now }
         ensures ready { OnOk result (IsReady sources.now.size self.new) }
-        ensures hints { OnOk result (let said = said_under sources.now.formula sources.now.log in
-            self.new.hints.items
-            ≡ (kept_back said (units_along said lits.now hints.now) hints.now).hints) }
+        ensures hints { OnOk result (self.new.hints.items
+            ≡ (kept_back (said_under sources.now.formula sources.now.log) lits.now hints.now).hints) }
     {
-        self.units.clear();
         self.hints.clear();
-        self.falses.put_all(lits)?;
-        follow(sources, &mut self.falses, &mut self.units, hints)?;
-        self.falses.clear();
-        go_back(
-            sources,
-            &mut self.wanted,
-            &self.units,
-            hints,
-            &mut self.hints,
-        )?;
-        self.wanted.clear();
+        go_back(sources, &mut self.wanted, lits, hints, &mut self.hints)?;
         self.hints.reverse();
         Ok(())
     }

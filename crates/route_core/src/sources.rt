@@ -76,6 +76,7 @@ impl<'a> Sources<'a> {
     /// The log.
     pub(crate) fn log(&self) -> &'a Log
         ensures value { result.now.steps ≡ self.now.log }
+        ensures inputs { All (All (IsWithin self.now.size)) self.now.formula.clauses }
         ensures within { All (StepWithin self.now.size) self.now.log }
         ensures rise { AddedRise (length self.now.formula.clauses) self.now.log }
         ensures few { self.now.size ≤ LITERAL_LIMIT }
@@ -139,8 +140,11 @@ fn number_of(added: &[AddedStep], id: u64) -> Option<usize>
     requires { IdsRise added.now }
     ensures { MatchOption result (NoneHasId added.now id) (HasId added.now id) }
 {
-    if added.is_empty() || id < added[0].id as u64 {
-        return search(added, id);
+    if added.is_empty() {
+        return None;
+    }
+    if id < added[0].id as u64 {
+        return None;
     }
     let guess = id - added[0].id as u64;
     if guess < added.len() as u64 && added[guess as usize].id as u64 == id {

@@ -16,11 +16,11 @@ use std::alloc::{AllocError, Global};
 /// pass back over the log, from its first empty clause on. The ids of the clauses that the log adds
 /// rise, from above those of the formula.
 ///
-/// Time and memory go by the length of the log and the greatest variable. Each hint of a step that
-/// is needed takes a time by the length of its clause.
+/// Time and memory go by the length of the log and the greatest variable, each of which takes 8
+/// bytes. Each hint of a step that is needed takes a time by the length of its clause.
 ///
 /// # Errors
-/// Where memory is short.
+/// Where memory is short, or more than 2147483647 steps are needed.
 pub fn trim(alloc: Global, formula: &Formula, log: &Log) -> Result<Log, AllocError>
     requires accepted { Accepts formula.now.cnf log.now.steps }
     requires rising { AddedRise (length formula.now.cnf.clauses) log.now.steps }

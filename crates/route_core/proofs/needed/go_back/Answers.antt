@@ -1,50 +1,56 @@
-use Rattle.std.proofs.Common.{rules, ◌≡◌, ◌-◌, ◌<◌, ◌∙◌, ℕ, ℤ, suc, pos, List, get_or, sym, ap, subst, arith}
+use Rattle.std.proofs.Common.{rules, ◌≡◌, ◌-◌, ◌++◌, ◌∷◌, ◌∙◌, ℕ, ℤ, suc, pos, List, [], drop, get_or, length, sym, ap, append-nil, refl, subst, arith}
 use mir.Val.{SFits}
 use mir.Syntax.{w64}
 use Rattle.std.proofs.lemmas.Int.{to_z-of_z}
 use Rattle.sat_clause.specs.declared.literal.Lit.{Lit}
-use Rattle.sat_clause.specs.Literal.{is_among}
 use Rattle.sat_check.specs.Finder.{Finder}
+use Rattle.route_core.specs.Needed.{Kept}
 use Rattle.route_core.specs.Sources.{said_under}
-use Rattle.route_core.proofs.WalkLemmas.{IsBack, back-kept, back-left}
+use Rattle.route_core.specs.Walking.{HasKept, clause_of, kept_back}
+use Rattle.route_core.specs.Wanting.{Tells}
+use Rattle.route_core.proofs.WalkLemmas.{back-last, back-next}
 use Rattle.route_core.proofs.needed.go_back.Goals as goal
 
--- what is kept behind the place before
-back : (said : Finder) (units : List Lit) (hints : List ℤ) (at : ℕ) (kept : List ℤ)
-    (wanted : List Lit) → 0 < at → IsBack said units hints at kept wanted
-    → IsBack said units hints (suc (at - 1)) kept wanted
-back said units hints at kept wanted some h =
-    subst (λ (n : ℕ). IsBack said units hints n kept wanted)
-    (let e : at ≡ suc (at - 1) = omega (arith, some) in e) h
-
-pub loop-at-preserved-then-not-is_false : goal.loop-at-preserved-then-not-is_false
-loop-at-preserved-then-not-is_false c =
+-- the last hint is kept
+pub loop-at-init : goal.loop-at-init
+loop-at-init c =
     let said : Finder = said_under c.args.sources.now.formula c.args.sources.now.log in
-    let left = back-left said c.args.units.now c.args.hints.now (c.loop-at.at - 1) (omega arith)
-    c.requires.many (record { code = pos 0 }) c.loop-at.kept.items c.loop-at.wanted.set
-    (back said c.args.units.now c.args.hints.now c.loop-at.at c.loop-at.kept.items
-    c.loop-at.wanted.set c.loop-at-test.true
-    (record { row = c.loop-at.invariant.kept; set = c.loop-at.invariant.set }))
-    (sym (c.if-not-is_false.ensures
-    ∙ ap (is_among c.loop-at.wanted.set) c.negation.ensures.value)) in
-    record { size = c.loop-at.invariant.size; kept = left.row; set = left.set }
+    let last : ℕ = length c.args.hints.now - 1 in
+    let hint : ℤ = get_or c.args.hints.now last (pos 0) in
+    let fits : SFits w64 (get_or c.args.hints.now (length c.args.hints.now - 1) (pos 0)) =
+    search rules in
+    let put = simp to_z-of_z at c.want.ensures.wanted in
+    let pushed = simp to_z-of_z at c.in_ok-push.ensures.items in
+    record {
+      size = refl;
+      kept = subst (λ (k : Kept). HasKept c.args.lits.now k c.push.new.self.items
+          c.want.new.wanted)
+          (sym (back-last said c.args.lits.now c.args.hints.now last
+          (omega (arith, c.requires.some))))
+          (record {
+            row_is = pushed ∙ ap (λ (ks : List ℤ). ks ++ hint ∷ []) c.requires.empty;
+            tells = subst (λ (ws : List Lit). Tells c.args.lits.now ws c.want.new.wanted)
+                (append-nil (clause_of said hint))
+                (put c.args.lits.now [] c.in_ok-begin.ensures.ok);
+          });
+    }
 
+-- one before it is kept if its clause serves
 pub loop-at-preserved : goal.loop-at-preserved
 loop-at-preserved c =
     let said : Finder = said_under c.args.sources.now.formula c.args.sources.now.log in
+    let at : ℕ = c.loop-at.at - 1 in
     let fits : SFits w64 (get_or c.args.hints.now (c.loop-at.at - 1) (pos 0)) = search rules in
-    let put = simp to_z-of_z at c.in_ok-want-2.ensures.ok in
-    let pushed = simp to_z-of_z at c.in_ok-push-2.ensures.items in
-    let more = back-kept said c.args.units.now c.args.hints.now (c.loop-at.at - 1) (omega arith)
-    c.requires.many (record { code = pos 0 }) c.loop-at.kept.items c.loop-at.wanted.set
-    (back said c.args.units.now c.args.hints.now c.loop-at.at c.loop-at.kept.items
-    c.loop-at.wanted.set c.loop-at-test.true
-    (record { row = c.loop-at.invariant.kept; set = c.loop-at.invariant.set }))
-    (sym (c.if-not-is_false.ensures
-    ∙ ap (is_among c.loop-at.wanted.set) c.negation.ensures.value))
-    c.want-in-loop-at.new.wanted.set put in
+    let kept = simp to_z-of_z at c.in_ok-keep_if_needed.ensures.ok in
+    let here : c.loop-at.at ≡ suc at = omega (arith, c.loop-at-test.true) in
     record {
-      size = c.in_ok-want-2.ensures.size ∙ c.loop-at.invariant.size;
-      kept = pushed ∙ more.row;
-      set = more.set;
+      size = c.in_ok-keep_if_needed.ensures.size ∙ c.loop-at.invariant.size;
+      kept = subst (λ (k : Kept). HasKept c.args.lits.now k c.keep_if_needed.new.kept.items
+          c.keep_if_needed.new.wanted)
+          (sym (back-next said c.args.lits.now c.args.hints.now at
+          (omega (arith, here, c.loop-at.auto.at, c.requires.some))))
+          (kept c.args.lits.now (kept_back said c.args.lits.now (drop (suc at) c.args.hints.now))
+          (subst (λ (n : ℕ). HasKept c.args.lits.now
+          (kept_back said c.args.lits.now (drop n c.args.hints.now)) c.loop-at.kept.items
+          c.loop-at.wanted) here c.loop-at.invariant.kept));
     }
