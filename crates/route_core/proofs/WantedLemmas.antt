@@ -1,5 +1,5 @@
 -- What the table of what is wanted tells.
-use Rattle.std.proofs.Common.{◌≡◌, ◌≢◌, ◌<◌, ◌≤◌, ◌+◌, ℕ, pos, Bool, true, false, ◌==◌, List, [], ◌++◌, length, get_or, take, refl, sym, ap, subst, ◌∙◌, inl, inr, arith}
+use Rattle.std.proofs.Common.{◌≡◌, ◌≢◌, ◌<◌, ◌≤◌, ◌+◌, ℕ, pos, Bool, true, false, ◌==◌, List, ◌++◌, length, get_or, take, refl, sym, ap, subst, ◌∙◌, inl, inr, arith}
 use Rattle.std.specs.Prelude.{not, ◌&&◌, ◌||◌, nat_lt, if◌then◌else◌}
 use Rattle.std.specs.List.{list_any}
 use Rattle.std.specs.Ordering.{int_eq}
@@ -139,8 +139,6 @@ wanted-left c i low stamp before now high so_far m = go (int_eq l.code m.code) r
         (among-next c i m low ∙ ap (λ (x : Bool). is_among (take i c) m || x) e
         ∙ or-false (is_among (take i c) m)))
 
--- ---- a step begins
-
 not-equal : (a b : ℕ) → (a ≡ b → ⊥) → (a == b) ≡ false
 not-equal a b h = go (a == b) refl
   where
@@ -150,37 +148,6 @@ not-equal a b h = go (a == b) refl
 
 equal : (a b : ℕ) → a ≡ b → (a == b) ≡ true
 equal a b h = (Decides-eqb a b).1 h
-
-own-most : (stamp : ℕ) (a : Bool) (n : ℕ) → n < stamp → own_by stamp a n ≤ stamp + 1
-own-most stamp true n h = omega arith
-own-most stamp false n h = omega (arith, h)
-
-own-is : (stamp : ℕ) (a : Bool) (n : ℕ) → n < stamp → (own_by stamp a n == stamp) ≡ a
-own-is stamp true n h = equal stamp stamp refl
-own-is stamp false n h = not-equal n stamp (λ e. omega (arith, h, e))
-
-own-not : (stamp : ℕ) (a : Bool) (n : ℕ) → n < stamp → (own_by stamp a n == stamp + 1) ≡ false
-own-not stamp true n h = not-equal stamp (stamp + 1) (λ e. omega (arith, e))
-own-not stamp false n h = not-equal n (stamp + 1) (λ e. omega (arith, h, e))
-
--- nothing has the number of a new step, or one behind it, but the literals of its own clause
-pub own-told : (size stamp : ℕ) (before after : List ℕ) (own : Clause)
-    → ((m : Lit) → told before m < stamp)
-    → ((m : Lit) → told after m ≡ own_by stamp (is_among own m) (told before m))
-    → Tells own [] (record { size = size; stamp = stamp; table = after })
-own-told size stamp before after own low is = record {
-  own_told = λ m. ap (λ n. n == stamp) (is m) ∙ own-is stamp (is_among own m) (told before m) (low m);
-  wanted_told = λ m. ap (λ n. n == stamp + 1) (is m)
-      ∙ own-not stamp (is_among own m) (told before m) (low m);
-}
-
-pub own-room : (stamp : ℕ) (before after : List ℕ) (own : Clause)
-    → ((m : Lit) → told before m < stamp)
-    → ((m : Lit) → told after m ≡ own_by stamp (is_among own m) (told before m)) → (m : Lit)
-    → told after m ≤ stamp + 1
-own-room stamp before after own low is m =
-    subst (λ (k : ℕ). k ≤ stamp + 1) (sym (is m))
-    (own-most stamp (is_among own m) (told before m) (low m))
 
 -- ---- the literals of a clause are wanted
 
@@ -210,9 +177,6 @@ says-more : (stamp n : ℕ) (a own wanted : Bool) → n ≤ stamp + 1 → Says s
 says-more stamp n false own wanted most says = says
 says-more stamp n true own wanted most says = go (nat_lt n stamp) refl
   where
-    is_own-now : (b : Bool) → own ≡ b → n ≡ stamp → b ≡ true
-    is_own-now b e same = sym e ∙ sym says.of_own ∙ equal n stamp same
-
     go : (b : Bool) → nat_lt n stamp ≡ b
         → Says stamp (if b then stamp + 1 else n) own (true || wanted)
     go true e =
