@@ -1,2 +1,6 @@
+mod CountLemmas
+mod CrowdLemmas
+mod NameLemmas
+mod NeedLemmas
 mod PartLemmas
 mod PictureLemmas

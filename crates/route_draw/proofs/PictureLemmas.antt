@@ -1,62 +1,98 @@
 -- What each part of a picture adds to its text.
 use Rattle.std.proofs.Common.{◌≡◌, ℕ, Bool, true, false, List, [], ◌++◌, length, ap, ap₂, sym, subst, ◌∙◌, refl, append_assoc}
 use Rattle.std.specs.Prelude.{codes}
+use Rattle.fpga_types.specs.CellNumbers.{cell_count}
 use Rattle.fpga_types.specs.Problem.{RoutingProblem}
+use Rattle.fpga_types.specs.declared.grid.Cell.{Cell}
 use Rattle.fpga_types.specs.declared.netlist.Block.{Block}
 use Rattle.fpga_types.specs.declared.netlist.Net.{Net}
 use Rattle.fpga_types.specs.declared.route.RouteNet.{RouteNet}
+use Rattle.fpga_types.specs.declared.route.RouteText.{RouteText}
+use Rattle.route_draw.specs.Blamed.{Blame, mark_of}
+use Rattle.route_draw.specs.Caption.{AreCounts, IsKey, blamed_counted, counted, crowd_counted, global_count, line_opening}
+use Rattle.route_draw.specs.Crowded.{AddsMarks, AreCrowded, AreMarks}
+use Rattle.route_draw.specs.Needs.{AreNeeds, wanted}
 use Rattle.route_draw.specs.Parts.{Adds, AreParts}
-use Rattle.route_draw.specs.Picture.{AreCounts, IsBlock, IsBody, IsGlobal, IsGlobalIf, IsPicture, IsRouted, IsRoutedUnless, block_class, counted, group, line_opening}
+use Rattle.route_draw.specs.Picture.{IsBlock, IsBody, IsGlobal, IsGlobalIf, IsPicture, IsRouted, IsRoutedUnless, block_class, group}
 
 pub block-added : (block : Block) (class name drawn old new : List ℕ) →
-    class ≡ block_class block.kind → name ≡ block.name → new ≡ old ++ group class [] name drawn →
-    Adds (IsBlock block) old new
+    class ≡ block_class block.kind → name ≡ block.name →
+    new ≡ old ++ group [] class [] name drawn → Adds (IsBlock block) old new
 block-added block class name drawn old new kind named added = record {
-  part = group class [] name drawn;
-  is_part = (drawn, ap₂ (λ (c n : List ℕ). group c [] n drawn) kind named);
+  part = group [] class [] name drawn;
+  is_part = (drawn, ap₂ (λ (c n : List ℕ). group [] c [] n drawn) kind named);
   added = added;
 }
 
-pub global-added : (net : Net) (name drawn old new : List ℕ) → net.global ≡ true →
-    name ≡ net.name → new ≡ old ++ group (codes "g") [] name drawn → Adds (IsGlobal net) old new
-global-added net name drawn old new global named added = record {
-  part = group (codes "g") [] name drawn;
-  is_part = subst (λ (b : Bool). IsGlobalIf b net.name (group (codes "g") [] name drawn))
-      (sym global) (drawn, ap (λ (n : List ℕ). group (codes "g") [] n drawn) named);
-  added = added;
-}
-
-pub net-added : (net : RouteNet) (colour name drawn old new : List ℕ) → net.global ≡ false →
-    name ≡ net.name → new ≡ old ++ group (codes "n\" stroke=\"") colour name drawn →
-    Adds (IsRouted net) old new
-net-added net colour name drawn old new other named added = record {
-  part = group (codes "n\" stroke=\"") colour name drawn;
-  is_part = subst
-      (λ (b : Bool). IsRoutedUnless b net.name (group (codes "n\" stroke=\"") colour name drawn))
-      (sym other) (
-        colour,
-        (drawn, ap (λ (n : List ℕ). group (codes "n\" stroke=\"") colour n drawn) named),
+pub global-added : (blame : Blame) (net : Net) (mark name drawn old new : List ℕ) →
+    net.global ≡ true → name ≡ net.name → mark ≡ mark_of blame name →
+    new ≡ old ++ group mark (codes "g") [] name drawn → Adds (IsGlobal blame net) old new
+global-added blame net mark name drawn old new global named marked added = record {
+  part = group mark (codes "g") [] name drawn;
+  is_part = subst (λ (b : Bool). IsGlobalIf b (mark_of blame net.name) net.name
+      (group mark (codes "g") [] name drawn)) (sym global) (
+        drawn,
+        ap₂ (λ (m n : List ℕ). group m (codes "g") [] n drawn)
+            (marked ∙ ap (mark_of blame) named) named,
       );
   added = added;
 }
 
-pub counts-added : (problem : RoutingProblem) (nets blocks width y : ℕ) (old mid new : List ℕ) →
-    nets ≡ length problem.route.nets → blocks ≡ length problem.netlist.blocks →
-    mid ≡ old ++ line_opening y → new ≡ mid ++ counted nets blocks width →
-    Adds (AreCounts problem width) old new
-counts-added problem nets blocks width y old mid new are_nets are_blocks opened added = record {
-  part = line_opening y ++ counted nets blocks width;
-  is_part = (y, ap₂ (λ (n b : ℕ). line_opening y ++ counted n b width) are_nets are_blocks);
-  added = added ∙ ap (λ (t : List ℕ). t ++ counted nets blocks width) opened
-      ∙ append_assoc old (line_opening y) (counted nets blocks width);
+pub net-added : (blame : Blame) (net : RouteNet) (mark colour name drawn old new : List ℕ) →
+    net.global ≡ false → name ≡ net.name → mark ≡ mark_of blame name →
+    new ≡ old ++ group mark (codes "n\" stroke=\"") colour name drawn →
+    Adds (IsRouted blame net) old new
+net-added blame net mark colour name drawn old new other named marked added = record {
+  part = group mark (codes "n\" stroke=\"") colour name drawn;
+  is_part = subst
+      (λ (b : Bool). IsRoutedUnless b (mark_of blame net.name) net.name
+      (group mark (codes "n\" stroke=\"") colour name drawn)) (sym other) (
+        colour,
+        (
+          drawn,
+          ap₂ (λ (m n : List ℕ). group m (codes "n\" stroke=\"") colour n drawn)
+              (marked ∙ ap (mark_of blame) named) named,
+        ),
+      );
+  added = added;
 }
 
-pub body-added : (problem : RoutingProblem) (blocks : List Block) (globals : List Net)
+pub counts-added : (problem : RoutingProblem) (blame : Blame) (nets : List Net)
+    (blocks width y : ℕ) (s0 s1 s2 s3 s4 : List ℕ) → nets ≡ problem.netlist.nets →
+    blocks ≡ length problem.netlist.blocks → s1 ≡ s0 ++ line_opening y →
+    s2 ≡ s1 ++ counted (length nets) (global_count nets) blocks width →
+    s3 ≡ s2 ++ blamed_counted blame nets → s4 ≡ s3 ++ codes "</text>\n" →
+    Adds (AreCounts problem width blame) s0 s4
+counts-added problem blame nets blocks width y s0 s1 s2 s3 s4 are_nets are_blocks e1 e2 e3 e4 =
+    record {
+      part = line_opening y ++ counted (length nets) (global_count nets) blocks width
+          ++ blamed_counted blame nets ++ codes "</text>\n";
+      is_part = (
+        y,
+        ap₂ (λ (ns : List Net) (b : ℕ). line_opening y ++ counted (length ns) (global_count ns) b width
+            ++ blamed_counted blame ns ++ codes "</text>\n") are_nets are_blocks,
+      );
+      added = e4 ∙ ap (λ (t : List ℕ). t ++ codes "</text>\n")
+          (e3 ∙ ap (λ (t : List ℕ). t ++ blamed_counted blame nets)
+          (e2 ∙ ap (λ (t : List ℕ). t ++ counted (length nets) (global_count nets) blocks width) e1
+          ∙ append_assoc s0 (line_opening y) (counted (length nets) (global_count nets) blocks width))
+          ∙ append_assoc s0 (line_opening y ++ counted (length nets) (global_count nets) blocks width)
+          (blamed_counted blame nets))
+          ∙ append_assoc s0 (line_opening y ++ counted (length nets) (global_count nets) blocks width
+          ++ blamed_counted blame nets) (codes "</text>\n");
+    }
+
+pub key-made : (crowded y : ℕ) (s1 s2 : List ℕ) → s2 ≡ s1 ++ crowd_counted y crowded →
+    IsKey crowded s2
+key-made crowded y s1 s2 added = (s1, (y, added))
+
+pub body-added : (problem : RoutingProblem) (blame : Blame) (blocks : List Block) (globals : List Net)
     (nets : List RouteNet) (old a b new : List ℕ) → blocks ≡ problem.netlist.blocks →
     globals ≡ problem.netlist.nets → nets ≡ problem.route.nets →
-    Adds (AreParts IsBlock blocks) old a → Adds (AreParts IsGlobal globals) a b →
-    Adds (AreParts IsRouted nets) b new → Adds (IsBody problem) old new
-body-added problem blocks globals nets old a b new all_blocks all_globals all_nets first next last =
+    Adds (AreParts IsBlock blocks) old a → Adds (AreParts (IsGlobal blame) globals) a b →
+    Adds (AreParts (IsRouted blame) nets) b new → Adds (IsBody problem blame) old new
+body-added problem blame blocks globals nets old a b new all_blocks all_globals all_nets first next
+    last =
     record {
       part = first.part ++ next.part ++ last.part;
       is_part = record {
@@ -65,9 +101,9 @@ body-added problem blocks globals nets old a b new all_blocks all_globals all_ne
         nets = last.part;
         are_blocks = subst (λ (xs : List Block). AreParts IsBlock xs first.part) all_blocks
             first.is_part;
-        are_globals = subst (λ (xs : List Net). AreParts IsGlobal xs next.part) all_globals
+        are_globals = subst (λ (xs : List Net). AreParts (IsGlobal blame) xs next.part) all_globals
             next.is_part;
-        are_nets = subst (λ (xs : List RouteNet). AreParts IsRouted xs last.part) all_nets
+        are_nets = subst (λ (xs : List RouteNet). AreParts (IsRouted blame) xs last.part) all_nets
             last.is_part;
         text_is = refl;
       };
@@ -77,13 +113,15 @@ body-added problem blocks globals nets old a b new all_blocks all_globals all_ne
           ∙ append_assoc old (first.part ++ next.part) last.part;
     }
 
-pub picture-made : (problem : RoutingProblem) (width : ℕ) (head marks key : List ℕ)
-    (s0 s1 s2 s3 s4 s5 s6 s7 s8 : List ℕ) → s0 ≡ [] → s1 ≡ s0 ++ codes "<svg " → s2 ≡ s1 ++ head →
-    Adds (IsBody problem) s2 s3 → s4 ≡ s3 ++ marks → s5 ≡ s4 ++ codes "</g>\n" →
-    Adds (AreCounts problem width) s5 s6 → s7 ≡ s6 ++ key → s8 ≡ s7 ++ codes "</svg>\n" →
-    IsPicture problem width s8
-picture-made problem width head marks key
-    s0 s1 s2 s3 s4 s5 s6 s7 s8 e0 e1 e2 body e4 e5 line e7 e8 =
+pub picture-made : (problem : RoutingProblem) (width crowded : ℕ) (blame : Blame)
+    (head m0 marks key : List ℕ) (s0 s1 s2 s3 s4 s5 s6 s7 s8 : List ℕ) → m0 ≡ [] →
+    AddsMarks problem.route.grid (wanted problem.route) width (cell_count problem.route.grid)
+    crowded m0 marks → IsKey crowded key → s0 ≡ [] → s1 ≡ s0 ++ codes "<svg " → s2 ≡ s1 ++ head →
+    Adds (IsBody problem blame) s2 s3 → s4 ≡ s3 ++ marks → s5 ≡ s4 ++ codes "</g>\n" →
+    Adds (AreCounts problem width blame) s5 s6 → s7 ≡ s6 ++ key → s8 ≡ s7 ++ codes "</svg>\n" →
+    IsPicture problem width blame s8
+picture-made problem width crowded blame head m0 marks key
+    s0 s1 s2 s3 s4 s5 s6 s7 s8 none marked keyed e0 e1 e2 body e4 e5 line e7 e8 =
     record {
       head = head;
       body = body.part;
@@ -91,6 +129,14 @@ picture-made problem width head marks key
       line = line.part;
       key = key;
       is_body = body.is_part;
+      are_crowded = record {
+        crowded = crowded;
+        are_marks = subst
+            (AreMarks problem.route.grid (wanted problem.route) width
+            (cell_count problem.route.grid) crowded)
+            (sym (marked.added ∙ ap (λ (t : List ℕ). t ++ marked.part) none)) marked.is_part;
+        is_key = keyed;
+      };
       are_counts = line.is_part;
       text_is = e8 ∙ ap (λ (t : List ℕ). t ++ codes "</svg>\n")
           (e7 ∙ ap (λ (t : List ℕ). t ++ key)
@@ -101,3 +147,19 @@ picture-made problem width head marks key
           (e2 ∙ ap (λ (t : List ℕ). t ++ head)
           (e1 ∙ ap (λ (t : List ℕ). t ++ codes "<svg ") e0)))))));
     }
+
+-- the marks on the cells of a route, by a table of what they want
+pub marks-said : (route said : RouteText) (width crowded : ℕ) (needs items old new text : List ℕ)
+    → said ≡ route → needs ≡ items → text ≡ new → AreNeeds route.grid (wanted route) items
+    → ((wants : Cell → ℕ) → AreNeeds said.grid wants needs
+    → AddsMarks said.grid wants width (cell_count said.grid) crowded old new)
+    → AddsMarks route.grid (wanted route) width (cell_count route.grid) crowded old text
+marks-said route said width crowded needs items old new text is_route are_items is_text are adds =
+    subst (λ (t : List ℕ).
+    AddsMarks route.grid (wanted route) width (cell_count route.grid) crowded old t)
+    (sym is_text)
+    (subst (λ (r : RouteText).
+    AddsMarks r.grid (wanted route) width (cell_count r.grid) crowded old new) is_route
+    (adds (wanted route)
+    (subst (λ (r : RouteText). AreNeeds r.grid (wanted route) needs) (sym is_route)
+    (subst (λ (ns : List ℕ). AreNeeds route.grid (wanted route) ns) (sym are_items) are))))

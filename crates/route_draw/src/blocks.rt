@@ -1,10 +1,12 @@
 //! The blocks of a placement, and the global nets that connect them.
 ghost use Rattle.std.specs.Prelude.{◌≡◌, OnOk, string_bytes};
+ghost use Rattle.route_draw.specs.Blamed.{blame_of};
 ghost use Rattle.route_draw.specs.Parts.{Adds, AreParts};
 ghost use Rattle.route_draw.specs.Picture.{IsBlock, IsGlobal, block_class};
 
+use crate::emphasis::Emphasis;
 use crate::escape::append_escaped;
-use crate::group::append_group;
+use crate::group::{Label, append_group};
 use crate::path::{append_dot, append_rectangle};
 use crate::scale::{BLOCK, PAD, Point, block_start};
 use fpga_bounds::PlacedProblem;
@@ -49,7 +51,13 @@ fn append_block(
     let drawn = block_drawn(alloc, problem, block, number)?;
     let class = class_of(block.kind);
     let name = block.name.bytes.as_slice();
-    append_group(out, class, "", name, drawn.as_str())?;
+    let label = Label {
+        mark: "",
+        class,
+        colour: "",
+        name,
+    };
+    append_group(out, label, drawn.as_str())?;
     Ok(())
 }
 
@@ -145,37 +153,47 @@ fn start(place: Place) -> Point {
     }
 }
 
-/// Appends the global nets of the netlist: a dot on each block that they connect.
-pub(crate) fn append_global_nets(
+/// Appends the global nets of the netlist, each with its mark: a dot on each block that it
+/// connects.
+pub(crate) fn append_global_nets<'a>(
     out: &mut String,
     alloc: Global,
     problem: &PlacedProblem,
-    nets: &[Net],
+    emphasis: &Emphasis<'a>,
+    nets: &'a [Net],
 ) -> Result<(), AllocError>
-    ensures { OnOk result
-        (Adds (AreParts IsGlobal nets.now) (string_bytes out.old) (string_bytes out.new)) }
+    ensures { OnOk result (Adds (AreParts (IsGlobal (blame_of emphasis.now)) nets.now)
+        (string_bytes out.old) (string_bytes out.new)) }
 {
     for net in nets {
-        append_global_net(out, alloc, problem, net)?;
+        append_global_net(out, alloc, problem, emphasis, net)?;
     }
     Ok(())
 }
 
 // Appends a net if it is global.
-fn append_global_net(
+fn append_global_net<'a>(
     out: &mut String,
     alloc: Global,
     problem: &PlacedProblem,
-    net: &Net,
+    emphasis: &Emphasis<'a>,
+    net: &'a Net,
 ) -> Result<(), AllocError>
-    ensures { OnOk result (Adds (IsGlobal net.now) (string_bytes out.old) (string_bytes out.new)) }
+    ensures { OnOk result (Adds (IsGlobal (blame_of emphasis.now) net.now)
+        (string_bytes out.old) (string_bytes out.new)) }
 {
     if !net.global {
         return Ok(());
     }
     let drawn = global_net_drawn(alloc, problem, net)?;
     let name = net.name.bytes.as_slice();
-    append_group(out, "g", "", name, drawn.as_str())?;
+    let label = Label {
+        mark: emphasis.mark(name),
+        class: "g",
+        colour: "",
+        name,
+    };
+    append_group(out, label, drawn.as_str())?;
     Ok(())
 }
 

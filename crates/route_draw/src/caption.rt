@@ -1,48 +1,106 @@
 //! What stands below a picture.
-ghost use Rattle.std.specs.Prelude.{◌≡◌, ◌++◌, OnOk, string_bytes};
+ghost use Rattle.std.specs.Prelude.{◌≡◌, ◌++◌, IfOk, OnOk, filter, if◌then◌else◌, length, string_bytes};
+ghost use Rattle.fpga_types.specs.declared.netlist.Net.{Net as AnyNet};
+ghost use Rattle.route_draw.specs.Blamed.{blame_of, is_blamed};
+ghost use Rattle.route_draw.specs.Caption.{AreCounts, IsKey, blamed_counted, blamed_said, counted, crowd_counted, crowded_cells, global_count, line_opening};
 ghost use Rattle.route_draw.specs.Parts.{Adds};
-ghost use Rattle.route_draw.specs.Picture.{AreCounts, counted, line_opening};
 
+use crate::emphasis::{Emphasis, NetNames};
 use crate::head::letter_size;
 use crate::scale::side;
 use fpga_bounds::PlacedProblem;
-use fpga_types::Grid;
+use fpga_types::{Grid, Net};
 use std::alloc::{AllocError, Global};
 
 /// Appends how many nets, blocks and tracks there are.
-pub(crate) fn append_counts(
+pub(crate) fn append_counts<'a>(
     out: &mut String,
-    problem: &PlacedProblem,
+    problem: &'a PlacedProblem,
     width: u32,
+    emphasis: &Emphasis<'a>,
 ) -> Result<(), AllocError>
-    ensures { OnOk result
-        (Adds (AreCounts problem.now width) (string_bytes out.old) (string_bytes out.new)) }
+    ensures { OnOk result (Adds (AreCounts problem.now width (blame_of emphasis.now))
+        (string_bytes out.old) (string_bytes out.new)) }
 {
-    let route = problem.route();
     let netlist = problem.netlist();
-    append_text(out, first_line(route.grid))?;
+    let nets = netlist.nets.as_slice();
+    append_text(out, first_line(problem.route().grid))?;
     append_counted(
         out,
-        route.nets.as_slice().len(),
+        nets.len(),
+        global_count(nets),
         netlist.blocks.as_slice().len(),
         width,
     )?;
+    append_blamed(out, nets, emphasis)?;
+    out.push_str("</text>\n")?;
     Ok(())
 }
 
 fn append_counted(
     out: &mut String,
     nets: usize,
+    globals: usize,
     blocks: usize,
     width: u32,
 ) -> Result<(), AllocError>
     ensures { OnOk result
-        (string_bytes out.new ≡ string_bytes out.old ++ counted nets blocks width) }
+        (string_bytes out.new ≡ string_bytes out.old ++ counted nets globals blocks width) }
 {
     write!(
         out,
-        "{nets} nets, {blocks} blocks, {width} tracks in each channel</text>\n"
+        "nets: {nets} (global: {globals}), blocks: {blocks}, tracks in each channel: {width}"
     )
+}
+
+// How many nets are global.
+fn global_count(nets: &[Net]) -> usize
+    ensures { result ≡ global_count nets.now }
+{
+    nets.iter().filter(|net| net.global).count()
+}
+
+// Appends how many nets are to blame, if that is shown.
+fn append_blamed<'a>(
+    out: &mut String,
+    nets: &'a [Net],
+    emphasis: &Emphasis<'a>,
+) -> Result<(), AllocError>
+    ensures { OnOk result (string_bytes out.new
+        ≡ string_bytes out.old ++ blamed_counted (blame_of emphasis.now) nets.now) }
+{
+    let Emphasis::Blamed(names) = emphasis else {
+        return Ok(());
+    };
+    append_blamed_count(out, blamed_count(nets, names))?;
+    Ok(())
+}
+
+fn append_blamed_count(out: &mut String, count: usize) -> Result<(), AllocError>
+    ensures { OnOk result (string_bytes out.new ≡ string_bytes out.old ++ blamed_said count) }
+{
+    write!(out, ", nets to blame, bold: {count}")
+}
+
+// How many nets have one of the names.
+fn blamed_count<'a>(nets: &'a [Net], names: &NetNames<'a>) -> usize
+    ensures { result ≡ length (filter (λ (net : AnyNet). is_blamed names.now net.name) nets.now) }
+{
+    let mut count = 0;
+    for net in nets {
+        count += blamed_one(net, names);
+    }
+    count
+}
+
+// 1 of a net that has one of the names, and else 0.
+fn blamed_one<'a>(net: &'a Net, names: &NetNames<'a>) -> usize
+    ensures { result ≡ (if is_blamed names.now net.now.name then 1 else 0) }
+{
+    if names.contains(net.name.bytes.as_slice()) {
+        return 1;
+    }
+    0
 }
 
 // Where the first line stands.
@@ -50,19 +108,19 @@ fn first_line(grid: Grid) -> u64 {
     side(grid.ny).saturating_add(letter_size(grid).saturating_mul(2))
 }
 
-/// What stands below the counts: a key to the colours, and how many cells are crowded.
-pub(crate) fn key(alloc: Global, grid: Grid, crowded: u64) -> Result<String, AllocError> {
+/// What stands below the counts: a key to the colours, and how many cells are crowded, if some are.
+pub(crate) fn key(alloc: Global, grid: Grid, crowded: u32) -> Result<String, AllocError>
+    ensures { IfOk result (λ text. IsKey crowded (string_bytes text)) }
+{
     let size = letter_size(grid);
     let first = first_line(grid);
     let mut out = String::new(alloc);
     append_key(&mut out, first.saturating_add(size.saturating_mul(3) / 2))?;
-    if crowded != 0 {
-        append_crowd(
-            &mut out,
-            crowded,
-            first.saturating_add(size.saturating_mul(3)),
-        )?;
-    }
+    append_crowd(
+        &mut out,
+        first.saturating_add(size.saturating_mul(3)),
+        crowded,
+    )?;
     Ok(out)
 }
 
@@ -79,12 +137,24 @@ const KEY: &str = "<tspan fill=\"#e3bd62\">&#9632;</tspan> logic block \
     <tspan fill=\"#9aa0a6\">&#9679;</tspan> global net \
     &#9632; driver &#9679; switch</text>\n";
 
-fn append_crowd(out: &mut String, crowded: u64, y: u64) -> Result<(), AllocError> {
+fn append_crowd(out: &mut String, y: u64, crowded: u32) -> Result<(), AllocError>
+    ensures { OnOk result
+        (string_bytes out.new ≡ string_bytes out.old ++ crowd_counted y crowded) }
+{
+    if crowded == 0 {
+        return Ok(());
+    }
     append_text(out, y)?;
-    out.push_str("<tspan fill=\"#e00000\">&#9632; ")?;
+    append_crowded_cells(out, crowded)?;
+    Ok(())
+}
+
+fn append_crowded_cells(out: &mut String, crowded: u32) -> Result<(), AllocError>
+    ensures { OnOk result (string_bytes out.new ≡ string_bytes out.old ++ crowded_cells crowded) }
+{
     write!(
         out,
-        "{crowded} cells want more tracks than there are</tspan></text>\n"
+        "<tspan fill=\"#e00000\">&#9632; cells that want more tracks: {crowded}</tspan></text>\n"
     )
 }
 

@@ -5,28 +5,38 @@ ghost use Rattle.route_draw.specs.Picture.{closing, group, opening};
 use crate::escape::append_escaped;
 use std::alloc::AllocError;
 
-/// Appends a group of this class and colour, which may be empty, with its name and what is drawn.
+/// What a group begins with: a mark before its class, which may be empty, its class, a colour
+/// behind that, which may be empty, and its name.
+#[derive(Clone, Copy, Debug)]
+pub(crate) struct Label<'a> {
+    pub(crate) mark: &'a str,
+    pub(crate) class: &'a str,
+    pub(crate) colour: &'a str,
+    pub(crate) name: &'a [u8],
+}
+
+/// Appends a group with this label and with what is drawn.
 pub(crate) fn append_group(
     out: &mut String,
-    class: &str,
-    colour: &str,
-    name: &[u8],
+    label: Label<'_>,
     drawn: &str,
 ) -> Result<(), AllocError>
-    ensures { OnOk result (string_bytes out.new
-        ≡ string_bytes out.old ++ group class.now colour.now name.now drawn.now) }
+    ensures { OnOk result (string_bytes out.new ≡ string_bytes out.old
+        ++ group label.entry.mark.now label.entry.class.now label.entry.colour.now
+        label.entry.name.now drawn.now) }
 {
-    append_opening(out, class, colour)?;
-    append_escaped(out, name)?;
+    append_opening(out, label.mark, label.class, label.colour)?;
+    append_escaped(out, label.name)?;
     append_rest(out, drawn)?;
     Ok(())
 }
 
-fn append_opening(out: &mut String, class: &str, colour: &str) -> Result<(), AllocError>
+fn append_opening(out: &mut String, mark: &str, class: &str, colour: &str) -> Result<(), AllocError>
     ensures { OnOk result
-        (string_bytes out.new ≡ string_bytes out.old ++ opening class.now colour.now) }
+        (string_bytes out.new ≡ string_bytes out.old ++ opening mark.now class.now colour.now) }
 {
     out.push_str("<g class=\"")?;
+    out.push_str(mark)?;
     out.push_str(class)?;
     out.push_str(colour)?;
     out.push_str("\"><title>")?;

@@ -44,6 +44,7 @@ fn append_style(out: &mut String, size: u64, width: u32) -> Result<(), AllocErro
     let wire = (280 / (width as u64 + 1)).clamp(3, 30);
     let dot = wire * 2;
     let wide = wire * 3;
+    let spot = wire * 4;
     out.push_str(PLAIN_STYLE)?;
     write!(out, ".k{{text-anchor:start;font-size:{size}px}}\n")?;
     write!(
@@ -54,10 +55,12 @@ fn append_style(out: &mut String, size: u64, width: u32) -> Result<(), AllocErro
         out,
         ".n .d{{stroke-width:{dot}}}.n:hover path{{stroke-width:{wide}}}\n"
     )?;
+    write!(out, ".n .p{{stroke-width:{wide};stroke-linecap:square}}\n")?;
     write!(
         out,
-        ".n .p{{stroke-width:{wide};stroke-linecap:square}}</style>\n"
-    )
+        ".b path{{stroke-width:{dot}}}.b .d,.b .p{{stroke-width:{spot}}}\n"
+    )?;
+    out.push_str(".b.g path{stroke-width:120}.f{opacity:.2}</style>\n")
 }
 
 // The classes that are drawn alike at each width.

@@ -1,7 +1,12 @@
 //! Which lane of its cell each slot is drawn on: its track, or, of a route without tracks, its rank
 //! among the slots of the cell.
+ghost use Rattle.std.specs.Prelude.{IfOk};
+ghost use Rattle.fpga_types.specs.Slots.{slots};
+ghost use Rattle.route_draw.specs.Needs.{AreNeeds, lines_of, most_asked, slots_in, wanted};
+
+use crate::needs::{has_tracks, need_at, no_needs, take_nets, take_slots};
 use crate::scale::track_place;
-use crate::tracks::{count_of_cells, place_of, tracks_of};
+use crate::tracks::tracks_of;
 use fpga_bounds::PlacedProblem;
 use fpga_types::{Cell, Grid, Slot};
 use std::alloc::{AllocError, Global};
@@ -14,7 +19,8 @@ pub(crate) struct Strand {
     pub(crate) across: u64,
 }
 
-/// The lanes of a route: the strand of each slot, and how many lanes each cell of the array needs.
+/// The lanes of a route: the strand of each slot, and how many tracks each cell of the array wants,
+/// by number.
 #[derive(Drop)]
 pub(crate) struct Lanes {
     pub(crate) strands: Vec<Strand>,
@@ -28,74 +34,41 @@ impl Lanes {
         alloc: Global,
         problem: &PlacedProblem,
         width: u32,
-    ) -> Result<Lanes, AllocError> {
-        let grid = problem.route().grid;
-        let slots = problem.slots();
+    ) -> Result<Lanes, AllocError>
+        ensures { IfOk result (λ lanes.
+            AreNeeds problem.now.route.grid (wanted problem.now.route) lanes.needs.items) }
+    {
+        if has_tracks(problem.route().nets.as_slice()) {
+            return Lanes::of_tracks(alloc, problem, width);
+        }
+        Lanes::of_ranks(alloc, problem, width)
+    }
+
+    // The lanes of a route with tracks.
+    fn of_tracks(alloc: Global, problem: &PlacedProblem, width: u32) -> Result<Lanes, AllocError>
+        ensures { IfOk result (λ lanes. AreNeeds problem.now.route.grid
+            (λ cell. most_asked cell (lines_of problem.now.route.nets)) lanes.needs.items) }
+    {
+        let route = problem.route();
+        let mut needs = no_needs(alloc, route.grid)?;
+        take_nets(&mut needs, route.grid, route.nets.as_slice());
         let tracks = tracks_of(alloc, problem)?;
-        let lanes = if tracks.iter().any(|track| *track != 0) {
-            tracks
-        } else {
-            ranks(alloc, grid, slots)?
-        };
-        let needs = needs(alloc, grid, slots, &lanes)?;
-        let strands = strands(alloc, grid, width, slots, &lanes, &needs)?;
+        let strands = strands(alloc, route.grid, width, problem.slots(), &tracks, &needs)?;
         Ok(Lanes { strands, needs })
     }
 
-    /// How many lanes a cell needs.
-    pub(crate) fn need(&self, grid: Grid, cell: Cell) -> u64 {
-        need_at(&self.needs, grid, cell)
+    // The lanes of a route without tracks.
+    fn of_ranks(alloc: Global, problem: &PlacedProblem, width: u32) -> Result<Lanes, AllocError>
+        ensures { IfOk result (λ lanes. AreNeeds problem.now.route.grid
+            (λ cell. slots_in cell (slots problem.now.route)) lanes.needs.items) }
+    {
+        let grid = problem.route().grid;
+        let slots = problem.slots();
+        let mut needs = no_needs(alloc, grid)?;
+        let ranks = take_slots(alloc, &mut needs, grid, slots)?;
+        let strands = strands(alloc, grid, width, slots, &ranks, &needs)?;
+        Ok(Lanes { strands, needs })
     }
-}
-
-// The rank of each slot among those of its cell, from 0 on.
-fn ranks(alloc: Global, grid: Grid, slots: &[Slot]) -> Result<Vec<u32>, AllocError> {
-    let mut counts = vec![in alloc; 0u32; count_of_cells(grid)]?;
-    let mut ranks = Vec::new(alloc);
-    for slot in slots {
-        ranks.push(next_rank(&mut counts, grid, slot.cell))?;
-    }
-    Ok(ranks)
-}
-
-// How often the cell was counted before. It is counted once more.
-fn next_rank(counts: &mut Vec<u32>, grid: Grid, cell: Cell) -> u32 {
-    let Some(at) = place_of(grid, cell) else {
-        return 0;
-    };
-    let Some(count) = counts.get_mut(at) else {
-        return 0;
-    };
-    let rank = *count;
-    *count = rank.saturating_add(1);
-    rank
-}
-
-// How many lanes each cell needs, so that each of its slots has one.
-fn needs(alloc: Global, grid: Grid, slots: &[Slot], lanes: &[u32]) -> Result<Vec<u64>, AllocError> {
-    let mut needs = vec![in alloc; 0u64; count_of_cells(grid)]?;
-    for (slot, lane) in slots.iter().zip(lanes) {
-        raise(&mut needs, grid, slot.cell, *lane as u64 + 1);
-    }
-    Ok(needs)
-}
-
-// Raises the need of a cell to this.
-fn raise(needs: &mut Vec<u64>, grid: Grid, cell: Cell, to: u64) {
-    let Some(at) = place_of(grid, cell) else {
-        return;
-    };
-    let Some(need) = needs.get_mut(at) else {
-        return;
-    };
-    *need = (*need).max(to);
-}
-
-fn need_at(needs: &[u64], grid: Grid, cell: Cell) -> u64 {
-    let Some(at) = place_of(grid, cell) else {
-        return 0;
-    };
-    needs.get(at).copied().unwrap_or(0)
 }
 
 // The strand of each slot. Where a cell needs more lanes than tracks, they stand closer.

@@ -1,15 +1,19 @@
 //! Pictures of routes, as texts of SVG: the array with its blocks and pads, the channels with their
-//! tracks, each net in a colour, and the cells that want more tracks than there are.
+//! tracks, each net in a colour, which may be bold or pale, and the cells that want more tracks than
+//! there are.
 #![tactic(auto)]
 
 mod array;
 mod blocks;
 mod caption;
 mod colour;
+mod crowded;
+mod emphasis;
 mod escape;
 mod group;
 mod head;
 mod lanes;
+mod needs;
 mod nets;
 mod path;
 mod picture;
@@ -18,5 +22,6 @@ mod scale;
 mod share;
 mod tracks;
 
+pub use emphasis::{Emphasis, NetNames};
 pub use escape::append_escaped;
 pub use picture::draw;

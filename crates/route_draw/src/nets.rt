@@ -1,10 +1,12 @@
 //! The nets of a route.
 ghost use Rattle.std.specs.Prelude.{OnOk, string_bytes};
+ghost use Rattle.route_draw.specs.Blamed.{blame_of};
 ghost use Rattle.route_draw.specs.Parts.{Adds, AreParts};
 ghost use Rattle.route_draw.specs.Picture.{IsRouted};
 
 use crate::colour::append_colour;
-use crate::group::append_group;
+use crate::emphasis::Emphasis;
+use crate::group::{Label, append_group};
 use crate::lanes::Strand;
 use crate::path::{append_across, append_dot, append_line, append_up};
 use crate::pins::{pin_point, switch_point};
@@ -15,16 +17,17 @@ use fpga_fabric::meet;
 use fpga_types::{Arch, Axis, Cell, Grid, PinStep, RouteNet, RouteStep, Side, SwitchAt};
 use std::alloc::{AllocError, Global};
 
-/// Appends each net of the route that is not global, in a colour of its own.
-pub(crate) fn append_nets(
+/// Appends each net of the route that is not global, in a colour of its own and with its mark.
+pub(crate) fn append_nets<'a>(
     out: &mut String,
     alloc: Global,
     problem: &PlacedProblem,
+    emphasis: &Emphasis<'a>,
     strands: &[Strand],
-    nets: &[RouteNet],
+    nets: &'a [RouteNet],
 ) -> Result<(), AllocError>
-    ensures { OnOk result
-        (Adds (AreParts IsRouted nets.now) (string_bytes out.old) (string_bytes out.new)) }
+    ensures { OnOk result (Adds (AreParts (IsRouted (blame_of emphasis.now)) nets.now)
+        (string_bytes out.old) (string_bytes out.new)) }
 {
     let mut rest = Share {
         strands,
@@ -34,7 +37,7 @@ pub(crate) fn append_nets(
     let mut number = 0u32;
     for net in nets {
         let (own, others) = rest.split(strands, number);
-        append_net(out, alloc, problem, strands, net, number, own)?;
+        append_net(out, alloc, problem, emphasis, strands, net, number, own)?;
         rest = others;
         number = number.saturating_add(1);
     }
@@ -42,16 +45,18 @@ pub(crate) fn append_nets(
 }
 
 // Appends a net if it is not global.
-fn append_net(
+fn append_net<'a>(
     out: &mut String,
     alloc: Global,
     problem: &PlacedProblem,
+    emphasis: &Emphasis<'a>,
     all: &[Strand],
-    net: &RouteNet,
+    net: &'a RouteNet,
     number: u32,
     own: Share<'_>,
 ) -> Result<(), AllocError>
-    ensures { OnOk result (Adds (IsRouted net.now) (string_bytes out.old) (string_bytes out.new)) }
+    ensures { OnOk result (Adds (IsRouted (blame_of emphasis.now) net.now)
+        (string_bytes out.old) (string_bytes out.new)) }
 {
     if net.global {
         return Ok(());
@@ -59,7 +64,13 @@ fn append_net(
     let colour = colour(alloc, number)?;
     let drawn = net_drawn(alloc, problem, all, own)?;
     let name = net.name.bytes.as_slice();
-    append_group(out, "n\" stroke=\"", colour.as_str(), name, drawn.as_str())?;
+    let label = Label {
+        mark: emphasis.mark(name),
+        class: "n\" stroke=\"",
+        colour: colour.as_str(),
+        name,
+    };
+    append_group(out, label, drawn.as_str())?;
     Ok(())
 }
 

@@ -1,29 +1,13 @@
 //! Which track each slot has in the text of a route.
-ghost use Rattle.std.specs.Prelude.{◌≡◌, ◌<◌, IfSome};
-ghost use Rattle.fpga_types.specs.CellNumbers.{cell_count};
-
+use crate::needs::{count_of_cells, place_of};
 use fpga_bounds::PlacedProblem;
-use fpga_types::{Cell, Grid, RouteNet, cell_number};
+use fpga_types::{Cell, Grid, RouteNet};
 use std::alloc::{AllocError, Global};
-
-/// The number of a cell, if it is one of the array.
-pub(crate) fn place_of(grid: Grid, cell: Cell) -> Option<usize> {
-    if !grid.has_cell(cell) {
-        return None;
-    }
-    Some(cell_number(grid, cell) as usize)
-}
-
-/// How many cells an array has.
-pub(crate) fn count_of_cells(grid: Grid) -> usize {
-    let Grid { nx, ny } = grid;
-    (nx * (ny + 1) + ny * (nx + 1)) as usize
-}
 
 /// The track of each slot, by number, as the first channel line of the slot has it.
 pub(crate) fn tracks_of(alloc: Global, problem: &PlacedProblem) -> Result<Vec<u32>, AllocError> {
     let route = problem.route();
-    let mut seen = vec![in alloc; 0u64; count_of_cells(route.grid)]?;
+    let mut seen = vec![in alloc; 0u64; count_of_cells(route.grid) as usize]?;
     let mut tracks = Vec::new(alloc);
     for (n, net) in route.nets.as_slice().iter().enumerate() {
         append_tracks(&mut tracks, &mut seen, route.grid, net, n as u64 + 1)?;

@@ -1,4 +1,6 @@
-pub mod Stop
-pub mod Words
+pub mod Blame
 pub mod Files
 pub mod Printed
+pub mod Said
+pub mod Stop
+pub mod Words

@@ -4,37 +4,49 @@ use Rattle.desk_io.specs.DeskState.{DeskState}
 use Rattle.desk_io.specs.Files.{FileMap}
 use Rattle.desk_io.specs.ShelfState.{FailsToSay, ShelfState, after_say}
 use Rattle.fpga_problem.specs.Refused.{IsRefused}
-use Rattle.fpga_problem.specs.Texts.{AreFaultless, Texts, problem_said}
+use Rattle.fpga_problem.specs.Texts.{AreFaultless, netlist_said, problem_said}
 use Rattle.fpga_problem.specs.declared.refusal.Refusal.{Refusal}
 use Rattle.fpga_text.specs.Bytes.{Bytes}
 use Rattle.route_draw.specs.Picture.{IsPicture}
-use Rattle.route_picture.specs.Files.{AreTexts, IsUnread}
+use Rattle.route_picture.specs.Blame.{NamesNetsIf, NamesOthersIf, blame_said}
+use Rattle.route_picture.specs.Files.{AreTexts, GivenTexts, IsUnread}
 use Rattle.route_picture.specs.Words.{Asked, asked}
 use Rattle.route_picture.specs.declared.stop.Stop.{Stop}
 use Rattle.route_picture.specs.declared.stop.Stop.TheVariants.{Faulty, Memory, Unprinted, Usage}
 
--- a picture of the problem that the files of the words say, in channels of the width that they say
+-- a picture of the problem that the files of the words say, in channels of the width that they say;
+-- where a file of names is asked for, the nets with these names are to blame, and there are some
 pub record IsDrawn (ask : Asked) (limit : ℕ) (files : Option FileMap) (picture : Bytes) :
     Type 0 where
-  pub texts : Texts
+  pub texts : GivenTexts
   pub are_texts : AreTexts ask limit files texts
-  pub faultless : AreFaultless texts
-  pub is_picture : IsPicture (problem_said texts) ask.width picture
+  pub faultless : AreFaultless texts.four
+  pub names_nets : NamesNetsIf (netlist_said texts.four).nets texts.names
+  pub is_picture : IsPicture (problem_said texts.four) ask.width (blame_said texts.names) picture
 
 -- one of the texts of the files is refused, and the stop says which and why
 pub record AreRefused (ask : Asked) (limit : ℕ) (files : Option FileMap) (stop : Stop) :
     Type 0 where
-  pub texts : Texts
+  pub texts : GivenTexts
   pub are_texts : AreTexts ask limit files texts
   pub refusal : Refusal
-  pub refused : IsRefused texts refusal
+  pub refused : IsRefused texts.four refusal
   pub told : stop ≡ Faulty refusal
 
--- no picture is drawn: a file is not read, its text is refused, or there was no memory
+-- the file of names gives none, or one that no net of the netlist has
+pub record AreMisnamed (ask : Asked) (limit : ℕ) (files : Option FileMap) (stop : Stop) :
+    Type 0 where
+  pub texts : GivenTexts
+  pub are_texts : AreTexts ask limit files texts
+  pub faultless : AreFaultless texts.four
+  pub names_others : NamesOthersIf (netlist_said texts.four).nets texts.names stop
+
+-- no picture is drawn: a file is not read, its text is refused, its names are those of no nets, or
+-- there was no memory
 abbrev pub IsUndrawn : Asked → (limit : ℕ) → (before now : DeskState) → Stop → Type 0
 IsUndrawn ask limit before now stop =
     IsUnread ask limit before now stop ⊎ AreRefused ask limit before.files stop
-    ⊎ (stop ≡ Memory)
+    ⊎ AreMisnamed ask limit before.files stop ⊎ (stop ≡ Memory)
 
 -- the picture that the words ask for was said, and nothing else
 pub record IsPrinted (words : List Bytes) (limit : ℕ) (files : Option FileMap)

@@ -3,7 +3,7 @@ use Rattle.std.specs.Prelude.{ℕ}
 use Rattle.fpga_text.specs.declared.fault.TextFault.{TextFault}
 use Rattle.fpga_text.specs.declared.fault.TextFault.TheVariants.{Bad, Limit, Memory as NoMemory}
 use Rattle.route_picture.specs.declared.stop.Stop.{Stop}
-use Rattle.route_picture.specs.declared.stop.Stop.TheVariants.{Usage, Unread, TooLong, Faulty, Memory, Unprinted}
+use Rattle.route_picture.specs.declared.stop.Stop.TheVariants.{Usage, Unread, TooLong, Faulty, NoNet, NoNames, Memory, Unprinted}
 
 -- the status of a fault of a text: 3 where the text is bad, 7 for want of memory
 abbrev pub status_of_fault : TextFault → ℕ
@@ -17,5 +17,7 @@ status_of Usage = 4
 status_of (Unread _) = 5
 status_of (TooLong _) = 3
 status_of (Faulty refusal) = status_of_fault refusal.fault
+status_of (NoNet _) = 3
+status_of NoNames = 3
 status_of Memory = 7
 status_of Unprinted = 6

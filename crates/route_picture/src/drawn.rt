@@ -1,12 +1,15 @@
 //! From words to a picture on standard output.
-ghost use Rattle.std.specs.Prelude.{◌≡◌, IfErr, IfOk, MatchResult, OnOk, map, string_bytes};
-ghost use Rattle.route_picture.specs.Files.{AreRead, IsText, IsUnread, StopsAt, name_of};
+ghost use Rattle.std.specs.Prelude.{◌≡◌, IfErr, IfOk, MatchResult, OnOk, map, option_map, string_bytes};
+ghost use Rattle.std.specs.Option.{option_copied};
+ghost use Rattle.route_picture.specs.Files.{AreRead, IsText, IsTextIf, IsUnread, StopsAt, StopsAtIf};
 ghost use Rattle.route_picture.specs.Printed.{IsDrawn, IsPrinted, IsStopped, IsUndrawn};
 ghost use Rattle.route_picture.specs.Words.{words_said};
 
+use crate::blame::emphasis;
 use crate::file_texts::FileTexts;
+use crate::given_file::GivenFile;
 use crate::stop::Stop;
-use crate::words::{Words, read_words};
+use crate::words::{FourNames, Words, read_words};
 use desk_io::{Desk, ReadStop, Shelf, read_file};
 use fpga_problem::{TextFile, read_problem};
 use route_draw::draw;
@@ -55,11 +58,16 @@ fn picture<D: Desk>(alloc: Global, desk: &mut D, words: Words<'_>) -> Result<Str
         Ok(texts) => texts,
         Err(stop) => return Err(stop),
     };
-    let problem = match read_problem(alloc, &texts.lent()) {
+    let problem = match read_problem(alloc, &texts.four()) {
         Ok(problem) => problem,
         Err(refusal) => return Err(Stop::Faulty(refusal)),
     };
-    let Ok(picture) = draw(alloc, &problem, words.width) else {
+    let nets = problem.netlist().nets.as_slice();
+    let emphasis = match emphasis(alloc, nets, texts.names()) {
+        Ok(emphasis) => emphasis,
+        Err(stop) => return Err(stop),
+    };
+    let Ok(picture) = draw(alloc, &problem, words.width, &emphasis) else {
         return Err(Stop::Memory);
     };
     Ok(picture)
@@ -72,20 +80,30 @@ fn read_texts<D: Desk>(alloc: Global, desk: &mut D, words: Words<'_>) -> Result<
         (D.state desk.new))
         (IsUnread (words_said words.entry) LIMIT (D.state desk.old) (D.state desk.new)) }
 {
-    let architecture = match bytes(alloc, desk, words, TextFile::Architecture) {
+    let FourNames {
+        arch,
+        net,
+        place,
+        route,
+    } = words.files;
+    let architecture = match bytes(alloc, desk, arch, GivenFile::Text(TextFile::Architecture)) {
         Ok(bytes) => bytes,
         Err(stop) => return Err(stop),
     };
-    let netlist = match bytes(alloc, desk, words, TextFile::Netlist) {
+    let netlist = match bytes(alloc, desk, net, GivenFile::Text(TextFile::Netlist)) {
         Ok(bytes) => bytes,
         Err(stop) => return Err(stop),
     };
-    let placement = match bytes(alloc, desk, words, TextFile::Placement) {
+    let placement = match bytes(alloc, desk, place, GivenFile::Text(TextFile::Placement)) {
         Ok(bytes) => bytes,
         Err(stop) => return Err(stop),
     };
-    let route = match bytes(alloc, desk, words, TextFile::Route) {
+    let route = match bytes(alloc, desk, route, GivenFile::Text(TextFile::Route)) {
         Ok(bytes) => bytes,
+        Err(stop) => return Err(stop),
+    };
+    let names = match names_bytes(alloc, desk, words.names) {
+        Ok(names) => names,
         Err(stop) => return Err(stop),
     };
     Ok(FileTexts {
@@ -93,24 +111,41 @@ fn read_texts<D: Desk>(alloc: Global, desk: &mut D, words: Words<'_>) -> Result<
         netlist,
         placement,
         route,
+        names,
     })
 }
 
-// The bytes of one of the files.
-fn bytes<D: Desk>(
+// The bytes of the file of names, if one is asked for.
+fn names_bytes<D: Desk>(
     alloc: Global,
     desk: &mut D,
-    words: Words<'_>,
-    file: TextFile,
-) -> Result<Vec<u8>, Stop>
-    ensures files { (D.state desk.new).files ≡ (D.state desk.old).files }
-    ensures bytes { IfOk result (λ bytes. IsText (D.state desk.old).files
-        (name_of (words_said words.entry) file) LIMIT bytes.items) }
+    name: Option<&str>,
+) -> Result<Option<Vec<u8>>, Stop>
+    ensures names { IfOk result (λ names. IsTextIf (D.state desk.old).files
+        (option_copied name.entry) LIMIT (option_map (λ bytes. bytes.items) names)) }
     ensures faults { IfOk result (λ _. (D.state desk.new).faults ≡ (D.state desk.old).faults) }
-    ensures stop { IfErr result (StopsAt file (name_of (words_said words.entry) file) LIMIT
+    ensures stop { IfErr result (λ stop. StopsAtIf (option_copied name.entry) LIMIT
+        (D.state desk.old).files (D.state desk.old).faults (D.state desk.new) stop) }
+{
+    let Some(name) = name else {
+        return Ok(None);
+    };
+    match bytes(alloc, desk, name, GivenFile::Names) {
+        Ok(bytes) => Ok(Some(bytes)),
+        Err(stop) => Err(stop),
+    }
+}
+
+// The bytes of one of the files, which has this name.
+fn bytes<D: Desk>(alloc: Global, desk: &mut D, name: &str, file: GivenFile) -> Result<Vec<u8>, Stop>
+    ensures files { (D.state desk.new).files ≡ (D.state desk.old).files }
+    ensures bytes { IfOk result
+        (λ bytes. IsText (D.state desk.old).files name.now LIMIT bytes.items) }
+    ensures faults { IfOk result (λ _. (D.state desk.new).faults ≡ (D.state desk.old).faults) }
+    ensures stop { IfErr result (StopsAt file name.now LIMIT
         (D.state desk.old).files (D.state desk.old).faults (D.state desk.new)) }
 {
-    match read_file(alloc, desk, words.name(file), LIMIT) {
+    match read_file(alloc, desk, name, LIMIT) {
         Ok(bytes) => Ok(bytes),
         Err(ReadStop::Fault) => Err(Stop::Unread(file)),
         Err(ReadStop::TooLong) => Err(Stop::TooLong(file)),

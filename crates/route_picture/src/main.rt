@@ -1,13 +1,14 @@
 //! Prints the picture of a route as SVG.
 //!
-//! It is called as `route_picture ARCH NET PLACE ROUTE WIDTH`, where WIDTH is a whole number from 1
-//! to 64, and by `gafkelam picture` with the same words. Where no picture is printed, it says why
-//! on standard error.
+//! It is called as `route_picture ARCH NET PLACE ROUTE WIDTH [NAMES]`, where WIDTH is a whole number
+//! from 1 to 64, and as `gafkelam picture` with the same words. The nets that the lines `net NAME`
+//! of NAMES name, as `core` says them, are drawn bold, and the others pale. Where no picture is
+//! printed, it says why on standard error.
 //!
 //! | status | cause |
 //! |---|---|
 //! | 0 | the picture was printed |
-//! | 3 | a file has a fault, does not fit the others, or passes a limit |
+//! | 3 | a file has a fault, does not fit the others, or passes a limit; or NAMES names no net |
 //! | 4 | the words are not taken |
 //! | 5 | a file is not there, or the system refused a read |
 //! | 6 | the system refused to take the picture |
@@ -15,18 +16,32 @@
 //! | 8 | the system did not give the program its words |
 #![tactic(auto)]
 
+mod blame;
 mod drawn;
 mod file_texts;
+mod given_file;
+mod said;
 mod stop;
 mod words;
 
 use crate::drawn::print_picture;
+use crate::said::append_stop;
+use crate::stop::Stop;
 use crate::words::given_words;
 use desk_io::{FileDesk, FileShelf};
 use std::process::ExitCode;
+use std::rt::Files;
 
 // The status where the system does not give the words.
 const NO_WORDS: u8 = 8;
+
+// Says why no picture is printed, if there is memory for that and someone to take it.
+fn say<R: Files + AllocGlobal + Eprint>(rt: &R, words: &[String], stop: Stop) {
+    let mut text = String::new(rt.alloc());
+    if append_stop(rt, &mut text, words, stop).is_ok() {
+        let _ = eprint!(rt; "{text}");
+    }
+}
 
 fn main(rt: HostRuntime) -> ExitCode {
     let Ok(words) = given_words(&rt) else {
@@ -37,7 +52,7 @@ fn main(rt: HostRuntime) -> ExitCode {
     match print_picture(rt.alloc(), &mut desk, &mut shelf, &words) {
         Ok(()) => ExitCode::SUCCESS,
         Err(stop) => {
-            let _ = eprintln!(rt; "gafkelam picture: {stop}");
+            say(&rt, &words, stop);
             ExitCode::from(stop.status())
         }
     }

@@ -2,25 +2,28 @@
 ghost use Rattle.std.specs.Prelude.{◌≡◌};
 ghost use Rattle.route_picture.specs.Stop.{status_of, status_of_fault};
 
-use fpga_problem::{Refusal, TextFile};
+use crate::given_file::GivenFile;
+use fpga_problem::Refusal;
 use fpga_text::TextFault;
-use thiserror::Error;
 
 /// Why no picture is printed.
-#[derive(Clone, Copy, Debug, Error)]
+#[derive(Clone, Copy, Debug)]
 pub(crate) enum Stop {
-    #[error("usage: gafkelam picture ARCH NET PLACE ROUTE WIDTH > PICTURE.svg, \
-        with WIDTH from 1 to 64")]
+    /// The words are not taken.
     Usage,
-    #[error("{0} file: it is not there, or can't be read")]
-    Unread(TextFile),
-    #[error("{0} file: it has more than 67,108,864 bytes")]
-    TooLong(TextFile),
-    #[error(transparent)]
+    /// A file is not there, or the system refused a read.
+    Unread(GivenFile),
+    /// A file is longer than what is read.
+    TooLong(GivenFile),
+    /// A text has a fault, or does not fit the others.
     Faulty(Refusal),
-    #[error("out of memory")]
+    /// The file of names has at this line the name of no net.
+    NoNet { line: u64 },
+    /// The file of names has none.
+    NoNames,
+    /// Memory ran out.
     Memory,
-    #[error("standard output takes no more")]
+    /// Standard output does not take the picture.
     Unprinted,
 }
 
@@ -31,7 +34,7 @@ impl Stop {
     {
         match self {
             Stop::Faulty(refusal) => fault_status(refusal.fault),
-            Stop::TooLong(_) => 3,
+            Stop::TooLong(_) | Stop::NoNet { .. } | Stop::NoNames => 3,
             Stop::Usage => 4,
             Stop::Unread(_) => 5,
             Stop::Unprinted => 6,

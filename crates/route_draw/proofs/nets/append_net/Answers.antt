@@ -1,11 +1,12 @@
 use Rattle.std.proofs.Common.{ap, sym, ◌∙◌}
 use Rattle.fpga_types.specs.declared.route.RouteNet.{RouteNet}
+use Rattle.route_draw.specs.Blamed.{blame_of}
 use Rattle.route_draw.proofs.PictureLemmas.{net-added}
 use Rattle.route_draw.proofs.nets.append_net.Goals as goal
 
 pub returns : goal.returns
 returns c =
-    net-added c.args.net.now c.as_str.result.now _ c.as_str-2.result.now _ _
+    net-added (blame_of c.args.emphasis.now) c.args.net.now _ _ _ _ _ _
     (sym (ap (λ (n : RouteNet). n.global) c.net.view_is) ∙ c.if-net.false)
     (c.as_slice-name.ensures ∙ ap (λ (n : RouteNet). n.name) c.net.view_is)
-    c.in_ok-append_group.ensures
+    c.mark.ensures c.in_ok-append_group.ensures
