@@ -1,19 +1,18 @@
 -- The names that lines give, taken one after another.
-use Rattle.std.proofs.Common.{◌≡◌, ◌≢◌, ℕ, ◌+◌, Bool, true, false, List, [], ◌∷◌, ◌++◌, Option, Some, None, length, take, refl, sym, ap, subst, ◌∙◌, add-one}
-use Rattle.std.specs.Prelude.{◌||◌, bytes_eq, not, slice_get}
+use Rattle.std.proofs.Common.{◌≡◌, ◌≢◌, ◌⊎◌, ℕ, ◌+◌, Bool, true, false, List, [], ◌∷◌, ◌++◌, Some, None, take, refl, inl, inr, sym, ap, subst, ◌∙◌, add-one}
+use Rattle.std.specs.Prelude.{◌||◌, bytes_eq, slice_get}
 use Rattle.std.specs.List.{list_any}
-use Rattle.std.proofs.Math.Seq.{take-length}
 use Rattle.std.proofs.Math.Bool.{or-false}
 use Rattle.std.proofs.lemmas.Bool.{false≢true}
 use Rattle.list_laws.proofs.Places.{take-get}
 use Rattle.fpga_text.specs.Bytes.{Bytes}
-use Rattle.fpga_text.specs.Reading.{LinesAhead, past_first}
-use Rattle.fpga_text.specs.Words.{TextLine}
+use Rattle.fpga_text.specs.Words.{TextLine, Words}
 use Rattle.fpga_types.specs.declared.netlist.Net.{Net}
 use Rattle.fpga_types.proofs.NameLaws.{name_itself}
-use Rattle.route_draw.specs.Blamed.{Blame, GainsBlamed, is_blamed}
-use Rattle.route_picture.specs.Blame.{AreNames, Given, NamesNets, NamesOthers, TakesFront, TakesNames, first_strange, given, given_by, given_in, has_net, name_in, names_of}
-use Rattle.route_picture.specs.declared.stop.Stop.TheVariants.{NoNames}
+use Rattle.route_draw.specs.Blamed.{GainsBlamed, is_blamed}
+use Rattle.route_picture.specs.Blame.{AreNames, Given, IsStrange, NamesOthers, TakesFront, TakesNames, first_strange, given, given_by, given_in, has_net, name_in, names_of}
+use Rattle.route_picture.specs.declared.stop.Stop.{Stop}
+use Rattle.route_picture.specs.declared.stop.Stop.TheVariants.{Memory, NoNet}
 
 or-next : (a b c : Bool) → ((a || b) || c) ≡ (a || (b || c))
 or-next true b c = refl
@@ -23,17 +22,6 @@ any-push : {T : Type 0} (p : T → Bool) (xs : List T) (x : T)
     → list_any p (xs ++ x ∷ []) ≡ (list_any p xs || p x)
 any-push p [] x = or-false (p x)
 any-push p (y ∷ ys) x = ap (λ (b : Bool). p y || b) (any-push p ys x) ∙ sym (or-next (p y) (list_any p ys) (p x))
-
--- no net has a name
-pub names-none : (nets : List Net) (names : List Bytes) → names ≡ [] → AreNames (take 0 nets) names
-names-none [] names none = λ name. rw none refl
-names-none (net ∷ nets) names none = λ name. rw none refl
-
--- the names of all nets
-pub names-whole : (nets : List Net) (i : ℕ) (names : List Bytes) → i ≡ length nets
-    → AreNames (take i nets) names → AreNames nets names
-names-whole nets i names e are = subst (λ (ns : List Net). AreNames ns names)
-    (ap (λ (n : ℕ). take n nets) e ∙ take-length nets) are
 
 -- one net more has its name
 pub names-more : (nets : List Net) (i : ℕ) (net : Net) (name : Bytes) (old new : List Bytes)
@@ -102,16 +90,68 @@ pub blames-same : (names others : List Bytes)
     → Some (is_blamed names) ≡ Some (is_blamed others)
 blames-same names others same = λ i. Some (λ name. same name i)
 
--- the next line is taken, and what it gives stands before what the others give
-pub line-taken : (ahead : List TextLine) (total : ℕ) (line : TextLine) (new : LinesAhead)
-    → slice_get ahead 0 ≡ Some line → new ≡ past_first ahead total
-    → given ahead ≡ given_by line.number (name_in line.words) ++ given new.ahead
-line-taken [] total line new at is = cc
-line-taken (x ∷ xs) total line new at is =
+-- what the next line gives stands before what the others give
+line-first : (ahead : List TextLine) (line : TextLine) → slice_get ahead 0 ≡ Some line
+    → (rest : List Given) × (given ahead ≡ given_by line.number (name_in line.words) ++ rest)
+line-first [] line at = absurd cc
+line-first (x ∷ xs) line at =
     let same : x ≡ line = cc in
-    rw (is, same) refl
+    (given xs, ap (λ (l : TextLine). given_by l.number (name_in l.words) ++ given xs) same)
 
 -- there is no line any more
 pub lines-end : (ahead : List TextLine) → slice_get ahead 0 ≡ None → given ahead ≡ []
 lines-end [] none = refl
 lines-end (x ∷ xs) none = cc
+
+-- a line gives a name that no net has
+pub strange-named : (nets : List Net) (known : List Bytes) (number line : ℕ) (words : Words)
+    (name : Bytes) → Some name ≡ name_in words → number ≡ line → AreNames nets known
+    → is_blamed known name ≡ false
+    → IsStrange nets (given_by line (name_in words)) (NoNet number)
+strange-named nets known number line words name named same are unknown = inl (
+  record { line = line; name = name },
+  ap (given_by line) (sym named),
+  sym (are name) ∙ unknown,
+  ap NoNet same,
+)
+
+-- the next line stops the names, behind those that were taken
+pub stops-strange : (nets : List Net) (text : Bytes) (all : List Given) (ahead : List TextLine)
+    (line : TextLine) (names : List Bytes) (stop : Stop) → all ≡ given_in text
+    → slice_get ahead 0 ≡ Some line → TakesFront nets all (given ahead) names
+    → IsStrange nets (given_by line.number (name_in line.words)) stop
+    → NamesOthers nets text stop ⊎ (stop ≡ Memory)
+stops-strange nets text all ahead line names stop is at front (inr memory) = inr memory
+stops-strange nets text all ahead line names stop is at front (inl strange) =
+    let first = line-first ahead line at in
+    inl (subst (NamesOthers nets text) (sym strange.3) (
+      strange.0.name,
+      ap (first_strange nets) (sym is)
+          ∙ strange-one nets all first.0 strange.0 names strange.2
+          (subst (λ (rest : List Given). TakesFront nets all rest names)
+          (first.1 ∙ ap (λ (here : List Given). here ++ first.0) strange.1) front),
+    ))
+
+-- all lines were taken, and no name is taken
+pub none-said : (nets : List Net) (text : Bytes) (all : List Given) (ahead : List TextLine)
+    (names : List Bytes) → all ≡ given_in text → slice_get ahead 0 ≡ None
+    → TakesFront nets all (given ahead) names → names ≡ [] → given_in text ≡ []
+none-said nets text all ahead names is end front none =
+    sym is ∙ none-given all (λ name. ap (λ (ns : List Bytes). is_blamed ns name) (sym none)
+    ∙ (takes-all nets all names (subst (λ (rest : List Given). TakesFront nets all rest names)
+    (lines-end ahead end) front)).0 name)
+
+-- all lines were taken, and some names
+pub names-taken : (nets : List Net) (text : Bytes) (all : List Given) (ahead : List TextLine)
+    (names : List Bytes) → all ≡ given_in text → slice_get ahead 0 ≡ None
+    → TakesFront nets all (given ahead) names → names ≢ [] → TakesNames nets text names
+names-taken nets text all ahead names is end front some =
+    let taken = takes-all nets all names
+    (subst (λ (rest : List Given). TakesFront nets all rest names) (lines-end ahead end) front) in
+    record {
+      same = λ name. taken.0 name ∙ ap (λ (gs : List Given). is_blamed (names_of gs) name) is;
+      names_nets = record {
+        some = λ none. some-given all names some taken.0 (is ∙ none);
+        none_strange = ap (first_strange nets) (sym is) ∙ taken.1;
+      };
+    }

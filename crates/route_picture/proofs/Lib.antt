@@ -1,2 +1,3 @@
 mod BlameLemmas
+mod DrawnLemmas
 mod SaidLemmas
