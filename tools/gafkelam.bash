@@ -8,10 +8,10 @@ _gafkelam() {
     fi
     local options=--help
     case $command in
-    route) options="--conflicts --keep --pin --symmetry --reach --members --seed --help" ;;
-    sweep) options="--conflicts --keep --pin --symmetry --reach --help" ;;
+    route) options="--conflicts --keep --count --pin --symmetry --reach --members --seed --help" ;;
+    sweep) options="--conflicts --keep --count --pin --symmetry --reach --help" ;;
     core) options="--conflicts --help" ;;
-    trial) options="--conflicts --keep --reach --help" ;;
+    trial) options="--conflicts --keep --count --reach --help" ;;
     encode) options="--pin --symmetry --reach --help" ;;
     verify) options="--reach --help" ;;
     esac
