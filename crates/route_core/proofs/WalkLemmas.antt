@@ -125,7 +125,8 @@ module _ (live : Live) (own : List Lit)
         → Owns (needed_by c g r (λ l. needed_from live (negation l ∷ set) hints)) set
     owns-by c is Conflict e f more m in_set wants =
         of-clause set c h
-        (λ x i. inl (In-all (λ y. is_among set y ≡ true) c x (conflict_all set c e) i)) m in_set wants
+        (λ x i. inl (In-all (λ y. is_among set y ≡ true) c x (conflict_all set c e) i)) m in_set
+        wants
     owns-by c is (Unit l) e f more m in_set wants =
         let rest : Kept = needed_from live (negation l ∷ set) hints in
         owns-if set (is_among rest.wanted (negation l)) g c rest
@@ -145,7 +146,8 @@ module _ (live : Live) (own : List Lit)
       → Owns (needed_from live set hints) set
   owns set [] f h = cc
   owns set (g ∷ hints) f h =
-      owns-at set g hints h (named live g) refl f (λ l e apart. owns (negation l ∷ set) hints e apart)
+      owns-at set g hints h (named live g) refl f
+      (λ l e apart. owns (negation l ∷ set) hints e apart)
 
   -- so the clause of a hint serves where the literal is wanted that it makes false
   served : (set : List Lit) (g : ℤ) (c : Clause) (l : Lit) (hints : List ℤ) → IsApart own set
@@ -166,7 +168,8 @@ module _ (live : Live) (own : List Lit)
         where
           by : (b : Bool) → is_among own (negation l) ≡ b → b ≡ false
           by false is_own = refl
-          by true is_own = absurd (both_ways _ (unit_is_open set l c e).1 (h.part (negation l) is_own))
+          by true is_own =
+              absurd (both_ways _ (unit_is_open set l c e).1 (h.part (negation l) is_own))
 
       none : is_among wanted (negation l) ≡ false → (x : Lit) → In c x → test x ≡ false
       none absent x i = elim (In-all (IsFalseOr set l) c x (unit_is_open set l c e).0.rest i) [
@@ -203,7 +206,8 @@ module _ (live : Live) (own : List Lit)
         step-needed r e =
             ap (λ (o : Option Clause). needed_at set o g
             (λ l. needed_from live (negation l ∷ set) hints)) is
-            ∙ ap (λ (x : Reading). needed_by c g x (λ l. needed_from live (negation l ∷ set) hints)) e
+            ∙ ap (λ (x : Reading). needed_by c g x
+            (λ l. needed_from live (negation l ∷ set) hints)) e
 
     -- the last hint
     walk-last : (set : List Lit) (g : ℤ) (c : Clause) → named live g ≡ Some c → (r : Reading)
@@ -300,7 +304,8 @@ pub back-last : (said : Finder) (own : Clause) (hints : List ℤ) (i : ℕ) → 
     }
 back-last said own hints i last =
     ap (kept_back said own) (drop-cons hints i (pos 0) (omega (arith, last)))
-    ∙ ap (λ (more : List ℤ). kept_back said own (get_or hints i (pos 0) ∷ more)) (nothing hints last)
+    ∙ ap (λ (more : List ℤ). kept_back said own (get_or hints i (pos 0) ∷ more))
+    (nothing hints last)
   where
     nothing : (xs : List ℤ) → suc i ≡ length xs → drop (suc i) xs ≡ []
     nothing xs e = empty (drop (suc i) xs) (omega (arith, e, length-drop (suc i) xs))

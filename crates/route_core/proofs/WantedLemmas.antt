@@ -159,11 +159,12 @@ wanted-most stamp true n h = go (nat_lt n stamp)
     go true = omega arith
     go false = h
 
-pub wanted_room : (stamp : ℕ) (before after : List ℕ) (clause : Clause)
+-- no number is above that of what is wanted
+pub low : (stamp : ℕ) (before after : List ℕ) (clause : Clause)
     → ((m : Lit) → told before m ≤ stamp + 1)
     → ((m : Lit) → told after m ≡ wanted_by stamp (is_among clause m) (told before m)) → (m : Lit)
     → told after m ≤ stamp + 1
-wanted_room stamp before after clause most is m =
+low stamp before after clause most is m =
     subst (λ (k : ℕ). k ≤ stamp + 1) (sym (is m))
     (wanted-most stamp (is_among clause m) (told before m) (most m))
 
@@ -205,12 +206,13 @@ says-more stamp n true own wanted most says = go (nat_lt n stamp) refl
           })
     ]
 
-pub wanted_tells : (size stamp : ℕ) (before after : List ℕ) (clause own : Clause)
+-- the literals of a clause are wanted too
+pub told_more : (size stamp : ℕ) (before after : List ℕ) (clause own : Clause)
     (wanted : List Lit) → ((m : Lit) → told before m ≤ stamp + 1)
     → ((m : Lit) → told after m ≡ wanted_by stamp (is_among clause m) (told before m))
     → Tells own wanted (record { size = size; stamp = stamp; table = before })
     → Tells own (clause ++ wanted) (record { size = size; stamp = stamp; table = after })
-wanted_tells size stamp before after clause own wanted most is tells = record {
+told_more size stamp before after clause own wanted most is tells = record {
   own_told = λ m. ap (λ n. n == stamp) (is m) ∙ (said m).of_own;
   wanted_told = λ m. ap (λ n. n == stamp + 1) (is m) ∙ (said m).of_wanted
       ∙ ap (λ (x : Bool). x && not (is_among own m)) (sym (among-append clause wanted m));

@@ -50,7 +50,8 @@ fn keep_if_needed(
 ) -> Result<(), AllocError>
     requires size { wanted.old.size ≡ sources.now.size }
     ensures size { wanted.new.size ≡ wanted.old.size }
-    ensures ok { OnOk result ((own : Clause) (rest : Kept) → HasKept own rest kept.old.items wanted.old
+    ensures ok { OnOk result ((own : Clause) (rest : Kept)
+        → HasKept own rest kept.old.items wanted.old
         → (let clause : Clause = clause_of (said_under sources.now.formula sources.now.log) hint in
         HasKept own (kept_if (serves own rest.wanted clause) hint clause rest) kept.new.items
         wanted.new)) }
@@ -117,8 +118,8 @@ impl NeededHints {
         requires within { All (IsWithin sources.now.size) lits.now }
         requires some { 1 ≤ length hints.now }
         ensures ready { OnOk result (IsReady sources.now.size self.new) }
-        ensures hints { OnOk result (self.new.hints.items
-            ≡ (kept_back (said_under sources.now.formula sources.now.log) lits.now hints.now).hints) }
+        ensures hints { OnOk result (let said = said_under sources.now.formula sources.now.log in
+            self.new.hints.items ≡ (kept_back said lits.now hints.now).hints) }
     {
         self.hints.clear();
         go_back(sources, &mut self.wanted, lits, hints, &mut self.hints)?;

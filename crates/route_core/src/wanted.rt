@@ -1,6 +1,6 @@
-//! What the clauses of kept hints want of literals, for one step after another. A table has a number
-//! for each literal. Each step has a higher one than those before, so that nothing has to be taken
-//! back behind it.
+//! What the clauses of kept hints want of literals, for one step after another. A table has a
+//! number for each literal. Each step has a higher one than those before, so that nothing has to be
+//! taken back behind it.
 ghost use Rattle.std.specs.Prelude.{◌≡◌, ◌≢◌, ◌+◌, ◌*◌, ◌<◌, ◌≤◌, ◌^◌, ◌++◌, [], All, IfOk, List, OnOk, length};
 ghost use Rattle.std.specs.List.{list_any};
 ghost use Rattle.sat_clause.specs.declared.literal.Lit.{Lit as LitOf};
@@ -110,7 +110,7 @@ impl Wanted {
 
     /// The literals of a clause are wanted too.
     #[inline(always)]
-    #[tactic(auto, using(crate::proofs::WantedLemmas::wanted_room, crate::proofs::WantedLemmas::wanted_tells))]
+    #[tactic(auto, using(crate::proofs::WantedLemmas::low, crate::proofs::WantedLemmas::told_more))]
     pub(crate) fn want(&mut self, clause: &[Lit])
         requires { All (IsWithin self.old.size) clause.now }
         ensures size { self.new.size ≡ self.old.size }
