@@ -1,5 +1,5 @@
 -- What the table of what is wanted tells.
-use Rattle.std.proofs.Common.{◌≡◌, ◌≢◌, ◌<◌, ◌≤◌, ◌+◌, ℕ, pos, Bool, true, false, ◌==◌, List, ◌++◌, length, get_or, take, refl, sym, ap, subst, ◌∙◌, inl, inr, arith}
+use Rattle.std.proofs.Common.{◌≡◌, ◌≢◌, ◌<◌, ◌≤◌, ◌+◌, ℕ, zero, suc, pos, Bool, true, false, ◌==◌, List, [], ◌∷◌, ◌++◌, length, get_or, take, refl, sym, ap, subst, ◌∙◌, inl, inr, arith}
 use Rattle.std.specs.Prelude.{not, ◌&&◌, ◌||◌, nat_lt, if◌then◌else◌}
 use Rattle.std.specs.List.{list_any}
 use Rattle.std.specs.Ordering.{int_eq}
@@ -11,6 +11,16 @@ use Rattle.sat_clause.specs.Literal.{Clause, is_among, lit, negation}
 use Rattle.route_core.specs.Walking.{serves}
 use Rattle.route_core.specs.Wanting.{Tells, WantedState, is_wanted, own_by, told, wanted_by}
 use Rattle.route_core.proofs.WalkLemmas.{among-append}
+
+-- ---- a step begins
+
+-- where each place has 0, so has each literal
+pub all-zero : (table : List ℕ) → ((k : ℕ) → k < length table → get_or table k 0 ≡ 0) → (k : ℕ)
+    → get_or table k 0 ≡ 0
+all-zero [] each k = refl
+all-zero (n ∷ table) each zero = each 0 (omega arith)
+all-zero (n ∷ table) each (suc k) =
+    all-zero table (λ j low. each (suc j) (omega (arith, low))) k
 
 -- ---- one literal after another
 

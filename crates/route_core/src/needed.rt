@@ -85,7 +85,7 @@ fn go_back(
         (kept_back (said_under sources.now.formula sources.now.log) lits.now hints.now)
         kept.new.items wanted.new) }
 {
-    wanted.begin(lits)?;
+    wanted.begin(lits);
     let last = hints.len() - 1;
     want(sources, wanted, hints[last]);
     kept.push(hints[last])?;

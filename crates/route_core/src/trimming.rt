@@ -20,7 +20,7 @@ use std::alloc::{AllocError, Global};
 /// bytes. Each hint of a step that is needed takes a time by the length of its clause.
 ///
 /// # Errors
-/// Where memory is short, or more than 2147483647 steps are needed.
+/// Where memory is short.
 pub fn trim(alloc: Global, formula: &Formula, log: &Log) -> Result<Log, AllocError>
     requires accepted { Accepts formula.now.cnf log.now.steps }
     requires rising { AddedRise (length formula.now.cnf.clauses) log.now.steps }

@@ -1,7 +1,7 @@
 //! What the clauses of kept hints want of literals, for one step after another. A table has a
 //! number for each literal. Each step has a higher one than those before, so that nothing has to be
 //! taken back behind it.
-ghost use Rattle.std.specs.Prelude.{◌≡◌, ◌≢◌, ◌+◌, ◌*◌, ◌<◌, ◌≤◌, ◌^◌, ◌++◌, [], All, IfOk, List, OnOk, length};
+ghost use Rattle.std.specs.Prelude.{◌≡◌, ◌≢◌, ◌+◌, ◌*◌, ◌<◌, ◌≤◌, ◌^◌, ◌++◌, [], All, IfOk, List, length};
 ghost use Rattle.std.specs.List.{list_any};
 ghost use Rattle.sat_clause.specs.declared.literal.Lit.{Lit as LitOf};
 ghost use Rattle.sat_clause.specs.Literal.{Clause, IsWithin, is_among, negation};
@@ -12,7 +12,7 @@ use sat_clause::{LITERAL_LIMIT, Lit};
 use std::alloc::{AllocError, Global};
 use std::marker::Model;
 
-/// No step has a higher number: the two behind it have room too.
+/// Behind a step with a higher number the table is wiped: the next one would have no room.
 const MOST_STAMP: u32 = 4294967292;
 
 /// For one step the literals of its own clause, and those that its kept hints want, of variables up
@@ -45,6 +45,30 @@ fn tell(table: &mut Vec<u32>, l: Lit, size: u32, number: u32)
     ensures others { (m : LitOf) → m ≢ l → told table.new.items m ≡ told table.old.items m }
 {
     table[slot(l, size)] = number;
+}
+
+/// Writes 0 for each literal.
+fn wipe(table: &mut Vec<u32>)
+    ensures many { length table.new.items ≡ length table.old.items }
+    ensures told { (m : LitOf) → told table.new.items m ≡ 0 }
+{
+    for i in 0..table.len() {
+        table[i] = 0;
+    }
+}
+
+/// The number of the step behind one with this number. All in the table are lower.
+fn next_stamp(table: &mut Vec<u32>, stamp: u32) -> u32
+    requires { (m : LitOf) → told table.old.items m ≤ stamp + 1 }
+    ensures many { length table.new.items ≡ length table.old.items }
+    ensures low { (m : LitOf) → told table.new.items m < result }
+    ensures room { result + 1 < 2 ^ 32 }
+{
+    if stamp <= MOST_STAMP {
+        return stamp + 2;
+    }
+    wipe(table);
+    2
 }
 
 /// Writes the number of a step for the literals of its own clause.
@@ -92,20 +116,13 @@ impl Wanted {
     }
 
     /// Begins a step with this clause, for which nothing is wanted yet.
-    ///
-    /// # Errors
-    /// Behind 2147483647 steps.
-    pub(crate) fn begin(&mut self, own: &[Lit]) -> Result<(), AllocError>
+    pub(crate) fn begin(&mut self, own: &[Lit])
         requires { All (IsWithin self.old.size) own.now }
         ensures size { self.new.size ≡ self.old.size }
-        ensures ok { OnOk result (Tells own.now [] self.new) }
+        ensures told { Tells own.now [] self.new }
     {
-        if self.stamp > MOST_STAMP {
-            return Err(AllocError);
-        }
-        self.stamp += 2;
+        self.stamp = next_stamp(&mut self.table, self.stamp);
         tell_own(&mut self.table, own, self.size, self.stamp);
-        Ok(())
     }
 
     /// The literals of a clause are wanted too.

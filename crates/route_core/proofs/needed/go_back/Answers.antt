@@ -31,7 +31,7 @@ loop-at-init c =
             row_is = pushed ∙ ap (λ (ks : List ℤ). ks ++ hint ∷ []) c.requires.empty;
             tells = subst (λ (ws : List Lit). Tells c.args.lits.now ws c.want.new.wanted)
                 (append-nil (clause_of said hint))
-                (put c.args.lits.now [] c.in_ok-begin.ensures.ok);
+                (put c.args.lits.now [] c.begin.ensures.told);
           });
     }
 
