@@ -1,0 +1,11 @@
+pub mod DefineLemmas
+pub mod DraftLemmas
+pub mod FirstLemmas
+pub mod GrowLemmas
+pub mod HintLemmas
+pub mod LevelLemmas
+pub mod PairLemmas
+pub mod RefutingLemmas
+pub mod RowLemmas
+pub mod StepLemmas
+pub mod VariableLemmas

@@ -1,88 +1,55 @@
 //! Levels of a count: so many tracks, and one slot more.
-ghost use Rattle.std.specs.Prelude.{ℕ, ◌≡◌, ◌≤◌, ◌<◌, All, IfOk};
-ghost use Rattle.sat_clause.specs.Literal.{IsLiteral};
+ghost use Rattle.std.specs.Prelude.{◌≡◌, ◌+◌, ◌≤◌, ◌<◌, All, length, pos, slice_index};
 ghost use Rattle.sat_clause.specs.declared.limits.TheConstants.{LITERAL_LIMIT};
-ghost use Rattle.sat_count.specs.declared.limits.TheConstants.{COUNTED_LIMIT, TRACK_LIMIT};
+ghost use Rattle.sat_count.specs.Places.{apart_id, name as name_of, some_id};
+ghost use Rattle.sat_count.specs.declared.limits.TheConstants.{TRACK_LIMIT};
 
-use crate::limits::{COUNTED_LIMIT, TRACK_LIMIT};
-use crate::tables::{PairTable, PlaceTable, TrackTable};
-use sat_clause::{LITERAL_LIMIT, Lit};
-use std::alloc::{AllocError, Global};
+use crate::limits::TRACK_LIMIT;
+use crate::pairs::pair_place;
+use sat_clause::LITERAL_LIMIT;
 
-/// So many tracks and one slot more: the variables that say which slot has which track, each by its
-/// number less one, and the ids of the clauses that each slot has a track and that no two have one,
-/// which stand behind an id.
+/// So many tracks and one slot more: for each slot the variable that says that it has the first
+/// track, by its number less one, behind which those of the others follow, and the id behind which
+/// stand the clauses that each slot has a track, and then that no two have one.
 #[derive(Drop)]
 pub struct Level {
     pub tracks: u32,
     pub behind: u32,
-    pub names: TrackTable,
-    pub some: PlaceTable,
-    pub apart: PairTable,
+    pub firsts: Vec<u32>,
     ghost many: { (1 ≤ tracks) × (tracks ≤ TRACK_LIMIT) },
-    ghost variables: { All (λ name. name < LITERAL_LIMIT) names },
+    ghost each: { length firsts.items ≡ tracks + 1 },
+    ghost few: { All (λ first. first + tracks ≤ LITERAL_LIMIT) firsts.items },
 }
 
 impl Level {
-    /// So many tracks, of which nothing is said yet.
-    ///
-    /// # Errors
-    /// Where memory is short.
-    pub fn new(alloc: Global, tracks: u32) -> Result<Level, AllocError>
-        requires { (1 ≤ tracks) × (tracks ≤ TRACK_LIMIT) }
-        ensures { IfOk result (λ level. level.tracks ≡ tracks) }
+    /// The variable that the slot at a place has a track, by its number less one.
+    pub fn name(&self, place: u32, track: u32) -> u32
+        requires place { place ≤ self.now.tracks }
+        requires track { track < self.now.tracks }
+        ensures value { result ≡ name_of self.now.firsts.items place track }
+        ensures few { result < LITERAL_LIMIT }
     {
-        Ok(Level {
-            tracks,
-            behind: 0,
-            names: TrackTable::new(alloc)?,
-            some: PlaceTable::new(),
-            apart: PairTable::new(alloc)?,
-        })
-    }
-
-    /// Names the variable that says that the slot at a place has a track.
-    pub fn name(&mut self, place: u32, track: u32, name: u32)
-        requires place { place < COUNTED_LIMIT }
-        requires track { track < COUNTED_LIMIT }
-        requires name { name < LITERAL_LIMIT }
-        ensures { self.new.tracks ≡ self.old.tracks }
-    {
-        self.names.set(place, track, name);
-    }
-
-    /// The literal that the slot at a place has a track.
-    pub fn has(&self, place: u32, track: u32) -> Lit
-        requires place { place < COUNTED_LIMIT }
-        requires track { track < COUNTED_LIMIT }
-        ensures { IsLiteral result }
-    {
-        Lit::positive(self.names.at(place, track) + 1)
-    }
-
-    /// The literal that it does not.
-    pub fn lacks(&self, place: u32, track: u32) -> Lit
-        requires place { place < COUNTED_LIMIT }
-        requires track { track < COUNTED_LIMIT }
-        ensures { IsLiteral result }
-    {
-        self.has(place, track).negation()
+        self.firsts[place as usize] + track
     }
 
     /// The clause that the slot at a place has a track, as a hint.
     pub fn some_track(&self, place: u32) -> i64
-        requires { place < COUNTED_LIMIT }
+        requires { place ≤ self.now.tracks }
+        ensures { result ≡ pos (some_id self.now.behind place) }
     {
-        self.some.at(place) as i64
+        self.behind as i64 + place as i64 + 1
     }
 
     /// The clause that the slots at two places, the lower first, do not both have a track, as a
     /// hint.
     pub fn apart(&self, lower: u32, higher: u32, track: u32) -> i64
-        requires lower { lower < COUNTED_LIMIT }
-        requires higher { higher < COUNTED_LIMIT }
-        requires track { track < COUNTED_LIMIT }
+        requires lower { lower < higher }
+        requires higher { higher ≤ self.now.tracks }
+        requires track { track < self.now.tracks }
+        ensures { result ≡ pos (apart_id self.now.behind self.now.tracks lower higher track) }
     {
-        self.apart.at(lower, higher, track) as i64
+        let slots = self.tracks as i64 + 1;
+        let place = pair_place(self.tracks, lower, higher, track) as i64;
+        self.behind as i64 + slots + place + 1
     }
 }

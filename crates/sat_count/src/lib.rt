@@ -3,15 +3,21 @@
 //! variables take one slot and one track away at a time.
 #![tactic(auto)]
 
+mod beginning;
 mod counting;
 mod descent;
+mod draft;
+mod first;
+mod ground;
 mod level;
 mod limits;
+mod pairs;
 mod refutation;
-mod tables;
 
+pub use beginning::first_level;
 pub use counting::count_down;
+pub use draft::Draft;
+pub use first::FirstHints;
 pub use level::Level;
 pub use limits::{COUNTED_LIMIT, TRACK_LIMIT};
-pub use refutation::Refutation;
-pub use tables::{PairTable, PlaceTable, TrackTable};
+pub use refutation::{Refutation, negated, plain};

@@ -1,0 +1,7 @@
+-- the clauses of the slots so far
+use Rattle.sat_count.specs.Descending.{some_of}
+use Rattle.sat_count.specs.Rows.{AddsRow}
+use Rattle.sat_count.proofs.ground.Ground.add_some_tracks.Given as goal
+
+abbrev pub invariant-loop-place : goal.invariant-loop-place
+invariant-loop-place l = AddsRow l.initial.refutation l.refutation l.place (some_of l.self)
