@@ -1,4 +1,5 @@
 pub mod CountedLemmas
 pub mod CrowdedLemmas
+pub mod FirstRowLemmas
 pub mod MeetingLemmas
 pub mod TrackLaws

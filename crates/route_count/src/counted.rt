@@ -1,5 +1,5 @@
 //! Widths that are refuted without a search.
-ghost use Rattle.std.specs.Prelude.{◌≡◌, ◌≤◌, ℕ, IfOk, IfSome, IsNone};
+ghost use Rattle.std.specs.Prelude.{◌≤◌, IfOk, IfSome};
 ghost use Rattle.sat_clause.specs.Formula.{IsUnsat};
 ghost use Rattle.sat_rat.specs.FullJudge.{FullAccepts};
 ghost use Rattle.route_encode.specs.Encoding.{cnf_of};
@@ -10,9 +10,7 @@ use crate::counting::counting;
 use crate::crowded::crowded_by;
 use fpga_bounds::PlacedProblem;
 use fpga_types::WIDTH_LIMIT;
-use sat_check::Verdict;
 use sat_clause::{Formula, Log};
-use sat_rat::check_full;
 use std::alloc::{AllocError, Global};
 
 /// Refutes the clauses of a problem at a width, from 1 to 64, by counting: where a cell has more
@@ -20,10 +18,10 @@ use std::alloc::{AllocError, Global};
 /// problem has more trees. The first clauses of the formula are those of
 /// [`Strict`](route_encode::Strict), which alone are used.
 ///
-/// The log is judged before it is handed out. `None` comes where there is neither, and where the
-/// judge refuses the log, of which no case is known. The time and the memory are those of
-/// [`crowd`](route_crowd::crowd) and of the steps, which grow with the fourth power of the tracks:
-/// 4.6 million at 64.
+/// `None` comes where there is neither, and where a hint of the first level does not lead on, of
+/// which no case is known: these are judged as they come, and all behind them is proved to be good.
+/// The time and the memory are those of [`crowd`](route_crowd::crowd) and of the steps, which grow
+/// with the fourth power of the tracks: 4.6 million at 64.
 ///
 /// # Errors
 /// Where memory is short.
@@ -43,9 +41,5 @@ pub fn counted_out(
     let Some(crowding) = crowded_by(alloc, problem, width)? else {
         return Ok(None);
     };
-    let log = counting(alloc, formula, problem, width, &crowding)?;
-    match check_full(alloc, formula, &log)? {
-        Verdict::Accepted => Ok(Some(log)),
-        Verdict::Refused { .. } => Ok(None),
-    }
+    counting(alloc, formula, problem, width, &crowding)
 }

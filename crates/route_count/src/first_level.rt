@@ -1,7 +1,10 @@
 //! The first level of a count: slots of a problem, and their clauses.
-ghost use Rattle.std.specs.Prelude.{ℕ, ◌≡◌, ◌+◌, ◌≤◌, ◌<◌, All, IfOk, OnOk, length};
-ghost use Rattle.sat_clause.specs.Literal.{IsLiteral};
+ghost use Rattle.std.specs.Prelude.{◌≡◌, ◌≢◌, ◌+◌, ◌*◌, ◌≤◌, ◌<◌, All, IfOk, IfSome, IsSome, IsTrue, length, map};
+ghost use Rattle.std.specs.List.{AllPairs};
 ghost use Rattle.route_count.specs.Meetings.{IsMeetingWithin};
+ghost use Rattle.sat_count.specs.Drafts.{IsJudged};
+ghost use Rattle.sat_count.specs.Levels.{IsLevel};
+ghost use Rattle.sat_count.specs.Refuting.{Grows};
 ghost use Rattle.sat_count.specs.declared.limits.TheConstants.{COUNTED_LIMIT};
 
 use crate::clause_ids::ClauseIds;
@@ -9,8 +12,7 @@ use crate::meetings::{Meeting, Meetings};
 use crate::trees::Trees;
 use arrayvec::ArrayVec;
 use route_encode::Variables;
-use sat_clause::Lit;
-use sat_count::{COUNTED_LIMIT, Level, Refutation};
+use sat_count::{COUNTED_LIMIT, Draft, FirstHints, Level, first_level};
 use std::alloc::{AllocError, Global};
 
 /// What the first level is made of: the variables and the ids of the clauses of a problem, its
@@ -32,92 +34,146 @@ pub(crate) struct Beginning<'a> {
 
 impl<'a> Beginning<'a> {
     /// Adds the first level: for each slot of the row that it has a track, and for each two of them
-    /// and each track that not both have it. What served to show it is deleted behind it.
+    /// and each track that not both have it. What served to show it is deleted behind it. `None`
+    /// comes where a hint does not lead on.
     ///
     /// # Errors
     /// Where memory is short.
-    pub fn first_level(
-        &self,
-        alloc: Global,
-        refutation: &mut Refutation,
-    ) -> Result<Level, AllocError> {
-        let begin = refutation.last_id();
-        let led = self.add_led_tracks(alloc, refutation)?;
-        let end = refutation.last_id();
-        let mut level = Level::new(alloc, self.variables.width)?;
-        level.behind = end;
-        self.name_slots(&mut level);
-        self.add_some_tracks(alloc, refutation, &mut level)?;
-        self.add_apart_tracks(refutation, &led, &mut level)?;
-        refutation.erase(alloc, begin, end)?;
-        Ok(level)
-    }
-
-    /// Names the variables of the slots of the row.
-    fn name_slots(&self, level: &mut Level) {
-        for place in 0..self.row.len() {
-            self.name_slot(level, place);
-        }
-    }
-
-    /// Names the variables of the slot at a place.
-    fn name_slot(&self, level: &mut Level, place: usize)
-        requires { place < length self.now.row.now }
+    pub fn first_level(&self, alloc: Global, draft: &mut Draft) -> Result<Option<Level>, AllocError>
+        requires judged { IsJudged draft.old }
+        requires variables { self.now.variables.slots * self.now.variables.width
+            ≤ draft.old.refutation.last_variable }
+        requires size { length self.now.row.now ≡ self.now.variables.width + 1 }
+        requires differ { AllPairs (λ s t. s ≢ t) self.now.row.now }
+        ensures level { IfOk result (λ found. IfSome found (IsLevel draft.new.refutation)) }
+        ensures cnf { IfOk result (λ found. IsSome found
+            → draft.new.refutation.cnf ≡ draft.old.refutation.cnf) }
     {
-        for track in 0..self.variables.width {
-            let name = self.row[place] * self.variables.width + track;
-            level.name(place as u32, track, name);
+        let begin = draft.refutation.last_id();
+        let mut led = vec![in alloc; 0; self.variables.slots as usize]?;
+        let Ok(good) = self.add_led_tracks(alloc, draft, &mut led) else {
+            return Err(AllocError);
+        };
+        if !good {
+            return Ok(None);
         }
+        let Ok(firsts) = self.firsts(alloc) else {
+            return Err(AllocError);
+        };
+        let Ok(hints) = self.first_hints(alloc, &led) else {
+            return Err(AllocError);
+        };
+        let width = self.variables.width;
+        let Ok(found) = first_level(alloc, draft, begin, width, firsts, &hints) else {
+            return Err(AllocError);
+        };
+        Ok(found)
+    }
+
+    /// For each slot of the row the variable that it has the first track, by its number less one.
+    fn firsts(&self, alloc: Global) -> Result<Vec<u32>, AllocError>
+        ensures { IfOk result (λ firsts. firsts.items
+            ≡ map (λ s. s * self.now.variables.width) self.now.row.now) }
+    {
+        let mut firsts = Vec::new(alloc);
+        for place in 0..self.row.len() {
+            firsts.push(self.row[place] * self.variables.width)?;
+        }
+        Ok(firsts)
     }
 
     /// Adds for each slot on the way to a meeting and each track that it has the track where the
-    /// first slot of its tree has it, but for slots to which a step leads from that one. Gives for
-    /// each slot the id behind which its clauses stand.
+    /// first slot of its tree has it, but for slots to which a step leads from that one; notes for
+    /// each slot the id behind which its clauses stand, and says whether the hints lead on.
     fn add_led_tracks(
         &self,
         alloc: Global,
-        refutation: &mut Refutation,
-    ) -> Result<Vec<u32>, AllocError>
-        ensures { IfOk result (λ led. length led.items ≡ self.now.variables.slots) }
+        draft: &mut Draft,
+        led: &mut [u32],
+    ) -> Result<bool, AllocError>
+        requires judged { IsJudged draft.old }
+        requires variables { self.now.variables.slots * self.now.variables.width
+            ≤ draft.old.refutation.last_variable }
+        requires led { length led.old ≡ self.now.variables.slots }
+        ensures each { length led.new ≡ self.now.variables.slots }
+        ensures judged { IfOk result (λ good. IsTrue good → IsJudged draft.new) }
+        ensures grows { IfOk result (λ good. IsTrue good
+            → Grows draft.old.refutation draft.new.refutation) }
     {
         let passed = self.passed_slots(alloc)?;
-        let mut led = vec![in alloc; 0; passed.len()]?;
         for slot in 0..self.variables.slots {
             if !passed[slot as usize] {
                 continue;
             }
-            led[slot as usize] = refutation.last_id();
-            self.add_led_track(refutation, &led, slot)?;
+            led[slot as usize] = draft.refutation.last_id();
+            let Ok(good) = self.add_led_track(draft, led, slot) else {
+                return Err(AllocError);
+            };
+            if !good {
+                return Ok(false);
+            }
         }
-        Ok(led)
+        Ok(true)
     }
 
     /// Adds the clauses of one slot.
-    fn add_led_track(
-        &self,
-        refutation: &mut Refutation,
-        led: &[u32],
-        slot: u32,
-    ) -> Result<(), AllocError>
+    #[tactic(auto, using(crate::proofs::FirstRowLemmas::grows_none))]
+    fn add_led_track(&self, draft: &mut Draft, led: &[u32], slot: u32) -> Result<bool, AllocError>
+        requires judged { IsJudged draft.old }
+        requires variables { self.now.variables.slots * self.now.variables.width
+            ≤ draft.old.refutation.last_variable }
         requires led { length led.now ≡ self.now.variables.slots }
         requires slot { slot < self.now.variables.slots }
+        ensures judged { IfOk result (λ good. IsTrue good → IsJudged draft.new) }
+        ensures grows { IfOk result (λ good. IsTrue good
+            → Grows draft.old.refutation draft.new.refutation) }
     {
         let Some(lead) = self.trees.lead(slot) else {
-            return Ok(());
+            return Ok(true);
         };
         let root = self.trees.root(slot);
         for track in 0..self.variables.width {
             let Some(before) = self.led_track(led, lead.from, track) else {
-                return Ok(());
+                return Ok(true);
             };
-            let clause = [
-                self.variables.lacks(root, track),
-                self.variables.has(slot, track),
-            ];
             let hints = [before, self.ids.joined(lead.step, track)];
-            refutation.add(&clause, &hints)?;
+            let Ok(good) = self.add_led(draft, root, slot, track, &hints) else {
+                return Err(AllocError);
+            };
+            if !good {
+                return Ok(false);
+            }
         }
-        Ok(())
+        Ok(true)
+    }
+
+    /// Adds that a slot has a track where the first slot of its tree has it.
+    fn add_led(
+        &self,
+        draft: &mut Draft,
+        root: u32,
+        slot: u32,
+        track: u32,
+        hints: &[i64],
+    ) -> Result<bool, AllocError>
+        requires judged { IsJudged draft.old }
+        requires variables { self.now.variables.slots * self.now.variables.width
+            ≤ draft.old.refutation.last_variable }
+        requires root { root < self.now.variables.slots }
+        requires slot { slot < self.now.variables.slots }
+        requires track { track < self.now.variables.width }
+        ensures judged { IfOk result (λ good. IsTrue good → IsJudged draft.new) }
+        ensures grows { IfOk result (λ good. IsTrue good
+            → Grows draft.old.refutation draft.new.refutation) }
+    {
+        let clause = [
+            self.variables.lacks(root, track),
+            self.variables.has(slot, track),
+        ];
+        let Ok(good) = draft.add(&clause, hints) else {
+            return Err(AllocError);
+        };
+        Ok(good)
     }
 
     /// The clause that a slot has a track where the first slot of its tree has it, as a hint;
@@ -166,58 +222,29 @@ impl<'a> Beginning<'a> {
         }
     }
 
-    /// Adds for each slot of the row that it has a track, once more.
-    fn add_some_tracks(
-        &self,
-        alloc: Global,
-        refutation: &mut Refutation,
-        level: &mut Level,
-    ) -> Result<(), AllocError> {
-        for place in 0..self.row.len() {
-            let slot = self.row[place];
-            let clause = self.some_track(alloc, slot)?;
-            let id = refutation.add(&clause, &[self.ids.some_track(slot)])?;
-            level.some.set(place as u32, id);
-        }
-        Ok(())
-    }
-
-    /// The clause that a slot has a track.
-    fn some_track(&self, alloc: Global, slot: u32) -> Result<Vec<Lit>, AllocError>
-        requires { slot < self.now.variables.slots }
-        ensures { IfOk result (λ clause. All IsLiteral clause.items) }
-    {
-        let mut clause = Vec::new(alloc);
-        for track in 0..self.variables.width {
-            clause.push(self.variables.has(slot, track))?;
-        }
-        Ok(clause)
-    }
-
-    /// Adds for each two slots of the row and each track that not both have it.
-    fn add_apart_tracks(
-        &self,
-        refutation: &mut Refutation,
-        led: &[u32],
-        level: &mut Level,
-    ) -> Result<(), AllocError>
+    /// Hints for the clauses of the first level.
+    fn first_hints(&self, alloc: Global, led: &[u32]) -> Result<FirstHints, AllocError>
         requires { length led.now ≡ self.now.variables.slots }
     {
+        let mut some = Vec::new(alloc);
+        for place in 0..self.row.len() {
+            some.push(self.ids.some_track(self.row[place]))?;
+        }
+        let mut apart = Vec::new(alloc);
         for higher in 0..self.row.len() {
             for lower in 0..higher {
-                self.add_apart_tracks_of(refutation, led, level, lower, higher)?;
+                self.push_apart_hints(&mut apart, led, lower, higher)?;
             }
         }
-        Ok(())
+        Ok(FirstHints { some, apart })
     }
 
-    /// Adds that two slots of the row do not both have a track: where they had it, the slots where
-    /// their trees meet would both have it.
-    fn add_apart_tracks_of(
+    /// Pushes why two slots of the row do not both have a track, for each track: where they had it,
+    /// the slots where their trees meet would both have it.
+    fn push_apart_hints(
         &self,
-        refutation: &mut Refutation,
+        apart: &mut Vec<ArrayVec<i64, 3>>,
         led: &[u32],
-        level: &mut Level,
         lower: usize,
         higher: usize,
     ) -> Result<(), AllocError>
@@ -227,13 +254,7 @@ impl<'a> Beginning<'a> {
     {
         let meeting = self.meetings.of(lower, higher);
         for track in 0..self.variables.width {
-            let clause = [
-                self.variables.lacks(self.row[lower], track),
-                self.variables.lacks(self.row[higher], track),
-            ];
-            let hints = self.apart_hints(led, meeting, track);
-            let id = refutation.add(&clause, &hints)?;
-            level.apart.set(lower as u32, higher as u32, track, id);
+            apart.push(self.apart_hints(led, meeting, track))?;
         }
         Ok(())
     }

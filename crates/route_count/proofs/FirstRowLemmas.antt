@@ -1,0 +1,115 @@
+-- The slots of a row are different ones, and so are their variables.
+use Rattle.std.proofs.Common.{◌≡◌, ◌≢◌, ◌∷◌, ◌++◌, [], add-one, ℕ, suc, ◌+◌, ◌*◌, ◌<◌, ◌≤◌, Bool, true, false, not, List, length, map, take, get_or, All, sym, ap, inl, inr, ◌∙◌, arith}
+use Rattle.std.specs.Prelude.{◌==◌}
+use Rattle.std.specs.List.{AllPairs}
+use Rattle.std.proofs.Math.Nat.{mul-le-mul_right, suc-mul}
+use Rattle.std.proofs.Math.Seq.{take-suc}
+use Rattle.std.proofs.lemmas.Bool.{cases_lt, false≢true}
+use Rattle.std.proofs.lemmas.Bool.Decides.{Decides-eqb}
+use Rattle.std.proofs.lemmas.List.{get_or-map, get_or-take, get_or_default, length-map, length-take, map-append}
+use Rattle.fpga_types.specs.Given.{IsGiven}
+use Rattle.fpga_types.specs.Problem.{RoutingProblem}
+use Rattle.fpga_types.specs.Slots.{slot_at, slots}
+use Rattle.fpga_types.specs.declared.problem.Slot.{Slot}
+use Rattle.fpga_types.proofs.MeetingLemmas.{both_true}
+use Rattle.route_symmetry.proofs.PinLemmas.{rivals-in}
+use Rattle.route_crowd.specs.Crowd.{crowd, tree_of}
+use Rattle.route_crowd.proofs.CrowdLaws.{crowd-meets}
+use Rattle.sat_count.specs.Drafts.{AreApart, IsBelow}
+use Rattle.sat_count.specs.Refuting.{Grows, RefutationState}
+use Rattle.sat_count.proofs.GrowLemmas.{grows-none}
+use Rattle.route_count.specs.Crowded.{slots_of_cell}
+
+pub grows_none : (r : RefutationState) → Grows r r
+grows_none r = grows-none r
+
+abbrev pub AreDifferent : List ℕ → Type 0
+AreDifferent row = AllPairs (λ s t. s ≢ t) row
+
+pub different-take : (n : ℕ) (row : List ℕ) → AreDifferent row → AreDifferent (take n row)
+different-take n row differ i j d before low =
+    let count = length-take n row in
+    let few : j < n = omega (arith, low, count) in
+    let inside : j < length row = omega (arith, low, count) in
+    λ e. differ i j d before inside
+    (sym (get_or-take n row i d (omega (arith, before, few))) ∙ e ∙ get_or-take n row j d few)
+
+pub cells-different : (p : RoutingProblem) → IsGiven p → (number : ℕ)
+    → AreDifferent (slots_of_cell p number)
+cells-different p given number i j d before low =
+    let row : List ℕ = slots_of_cell p number in
+    let rivals = rivals-in p given number in
+    let at_i : get_or row i d ≡ get_or row i 0 =
+    get_or_default row i d 0 (omega (arith, before, low)) in
+    let at_j : get_or row j d ≡ get_or row j 0 = get_or_default row j d 0 low in
+    λ e. rivals.nets i j before low
+    (ap (λ (s : ℕ). (slot_at (slots p.route) s).net) (sym at_i ∙ e ∙ at_j))
+
+pub crowd-different : (p : RoutingProblem) → AreDifferent (crowd p)
+crowd-different p i j d before low =
+    let all : List Slot = slots p.route in
+    let met = crowd-meets p.route.grid all (tree_of p) i j d before low in
+    let a : ℕ = get_or (crowd p) j d in
+    let b : ℕ = get_or (crowd p) i d in
+    let parts = both_true (not ((slot_at all a).net == (slot_at all b).net)) _ met in
+    λ e. not-both ((slot_at all a).net == (slot_at all b).net) parts.0
+    ((Decides-eqb (slot_at all a).net (slot_at all b).net).1
+    (ap (λ (s : ℕ). (slot_at all s).net) (sym e)))
+  where
+    not-both : (b : Bool) → not b ≡ true → b ≡ true → ⊥
+    not-both true h g = false≢true h
+    not-both false h g = false≢true g
+
+-- ---- the first variables of the slots
+
+module _ (row : List ℕ) (width : ℕ) where
+  abbrev pub firsts : List ℕ
+  firsts = map (λ s. s * width) row
+
+  pub firsts-many : length firsts ≡ length row
+  firsts-many = length-map row (λ s. s * width)
+
+  first-at : (place : ℕ) → place < length row → get_or firsts place 0 ≡ get_or row place 0 * width
+  first-at place low = get_or-map (λ s. s * width) row place 0 0 low
+
+  pub firsts-below : (r : RefutationState) (count : ℕ) → All (λ s. s < count) row
+      → count * width ≤ r.last_variable → IsBelow r width firsts
+  firsts-below r count within few k d low =
+      let inside : k < length row = omega (arith, low, firsts-many) in
+      let at = get_or_default firsts k d 0 low in
+      let here = first-at k inside in
+      let slot : suc (get_or row k 0) ≤ count = within k 0 inside in
+      let rows : suc (get_or row k 0) * width ≤ count * width = mul-le-mul_right width slot in
+      let more : suc (get_or row k 0) * width ≡ get_or row k 0 * width + width =
+      suc-mul (get_or row k 0) width in
+      omega (arith, at, here, rows, more, few)
+
+  apart-rows : (a b t u : ℕ) → a < b → t < width → a * width + t ≢ b * width + u
+  apart-rows a b t u low few =
+      let rows : suc a * width ≤ b * width = mul-le-mul_right width low in
+      let more : suc a * width ≡ a * width + width = suc-mul a width in
+      omega (arith, rows, more, few)
+
+  apart-either : (a b t u : ℕ) → a ≢ b → t < width → u < width → a * width + t ≢ b * width + u
+  apart-either a b t u other t_few u_few e = elim (cases_lt a b) [
+    | inl low ↦ apart-rows a b t u low t_few e
+    | inr not_low ↦ apart-rows b a u t (omega (arith, other, not_low)) u_few (sym e)
+  ]
+
+  pub firsts-apart : AreDifferent row → length row ≡ width + 1 → AreApart width firsts
+  firsts-apart differ size lower higher t u order low t_few u_few e =
+      let inside : higher < length row = omega (arith, low, size) in
+      let one = first-at lower (omega (arith, order, inside)) in
+      let two = first-at higher inside in
+      apart-either (get_or row lower 0) (get_or row higher 0) t u (differ lower higher 0 order inside)
+      t_few u_few (sym (ap (λ (n : ℕ). n + t) one) ∙ e ∙ ap (λ (n : ℕ). n + u) two)
+
+-- one slot more
+pub firsts-step : (row : List ℕ) (width n : ℕ) → n < length row
+    → map (λ s. s * width) (take (n + 1) row)
+    ≡ map (λ s. s * width) (take n row) ++ (get_or row n 0 * width) ∷ []
+firsts-step row width n low =
+    let f : ℕ → ℕ = λ s. s * width in
+    let more : take (n + 1) row ≡ take n row ++ get_or row n 0 ∷ [] =
+    rw add-one (take-suc row n 0 low) in
+    ap (map f) more ∙ map-append f (take n row) (get_or row n 0 ∷ [])
