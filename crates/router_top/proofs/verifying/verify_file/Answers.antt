@@ -4,6 +4,9 @@ use Rattle.router_top.specs.Verify.{routed_source}
 use Rattle.router_top.proofs.SourceLaws.{says-before, stop-before}
 use Rattle.router_top.proofs.verifying.verify_file.Goals as goal
 
+pub returns-in-Err-clause-verifies : goal.returns-in-Err-clause-verifies
+returns-in-Err-clause-verifies g c = inl c.in-Err.ensures.stop
+
 pub returns-in-Err-read_route_text-clause-verifies :
     goal.returns-in-Err-read_route_text-clause-verifies
 returns-in-Err-read_route_text-clause-verifies g c =
