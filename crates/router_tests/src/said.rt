@@ -35,7 +35,11 @@ fn a_limit_is_told_by_its_file(rt: HostRuntime) -> Result<(), Fail> {
         code: 407,
         count: 101,
     };
-    let text = said(&rt, "verify a.arch a.net a.place a.route 9 out.route", outcome)?;
+    let text = said(
+        &rt,
+        "verify a.arch a.net a.place a.route 9 out.route",
+        outcome,
+    )?;
     let wanted =
         "routed file out.route: an array that is larger, or more nets, than are taken: 101 \
         (code 407)\n";
