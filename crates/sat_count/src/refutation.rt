@@ -203,11 +203,15 @@ impl<'a> Refutation<'a> {
         ensures accepted { IfOk result (λ log. FullAccepts self.entry.cnf log.steps) }
         ensures sound { IfOk result (λ log. IsUnsat self.entry.cnf) }
     {
+        // As in `add`: ids rise, so that the log can be read.
+        if self.last_id == u32::MAX {
+            return Err(AllocError);
+        }
         let mut log = self.log;
         let Ok(()) = log.reserve(1, hints.len() as u64) else {
             return Err(AllocError);
         };
-        log.add(self.last_id, &[], hints);
+        log.add(self.last_id + 1, &[], hints);
         Ok(log)
     }
 }
