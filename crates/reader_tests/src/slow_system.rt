@@ -1,5 +1,5 @@
-//! Files of a system that moves one byte a call, is interrupted by signals and fails late, made over
-//! those of the real one.
+//! Files of a system that moves one byte a call, is interrupted by signals and fails late, made
+//! over those of the real one.
 ghost use Rattle.std.specs.Prelude.{◌≤◌, length};
 
 use desk_io::{Desk, FileDesk, FileShelf, ReadStop, Shelf, read_file};

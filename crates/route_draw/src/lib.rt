@@ -1,6 +1,6 @@
 //! Pictures of routes, as texts of SVG: the array with its blocks and pads, the channels with their
-//! tracks, each net in a colour, which may be bold or pale, and the cells that want more tracks than
-//! there are.
+//! tracks, each net in a colour, which may be bold or pale, and the cells that want more tracks
+//! than there are.
 #![tactic(auto)]
 
 mod array;

@@ -1,9 +1,9 @@
 //! Prints the picture of a route as SVG.
 //!
-//! It is called as `route_picture ARCH NET PLACE ROUTE WIDTH [NAMES]`, where WIDTH is a whole number
-//! from 1 to 64, and as `gafkelam picture` with the same words. The nets that the lines `net NAME`
-//! of NAMES name, as `core` says them, are drawn bold, and the others pale. Where no picture is
-//! printed, it says why on standard error.
+//! It is called as `route_picture ARCH NET PLACE ROUTE WIDTH [NAMES]`, where WIDTH is a whole
+//! number from 1 to 64, and as `gafkelam picture` with the same words. The nets that the lines
+//! `net NAME` of NAMES name, as `core` says them, are drawn bold, and the others pale. Where no
+//! picture is printed, it says why on standard error.
 //!
 //! | status | cause |
 //! |---|---|

@@ -20,9 +20,9 @@ use sat_core::{Answer, solve};
 use std::alloc::Global;
 
 /// Searches for a routing of a problem at a width from 1 to 64, and writes the routing; or else the
-/// clauses, and then the log of the search. Where it is asked for, a width that numbers alone forbid
-/// is not searched: the log is a refutation by counting then. The clauses are to begin with those of
-/// [`Strict`](route_encode::Strict) for that.
+/// clauses, and then the log of the search. Where it is asked for, a width that numbers alone
+/// forbid is not searched: the log is a refutation by counting then. The clauses are to begin with
+/// those of [`Strict`](route_encode::Strict) for that.
 ///
 /// The clauses are counted first, and none is built where there are more than 40,000,000. Files of
 /// other names stay as they are.

@@ -12,10 +12,11 @@
 //! | `trial` | SEED NX NETS MAX PREFIX | `--reach L`, SEARCH |
 //!
 //! FILES are four words: ARCH NET PLACE ROUTE. METHOD is `--pin`, `--symmetry` or `--reach L`, or
-//! none. SEARCH is any of `--conflicts N`, `--keep` and `--count`, the last with no reach. WIDTH and MAX are whole numbers from 1 to 64, and N one from 1 to 100,000,000, or
-//! 1,000,000 where it is not given. SEED is one from 0 to 2,147,483,647, NX one from 1 to 100, and
-//! NETS one from 1 to 10,000. K is one from 1 to 8, and S one from 0 to 2,147,483,647, or 1 where
-//! `--members` is given alone. L is one from 1 to 64. Leading zeros are taken, signs are not.
+//! none. SEARCH is any of `--conflicts N`, `--keep` and `--count`, the last with no reach. WIDTH
+//! and MAX are whole numbers from 1 to 64, and N one from 1 to 100,000,000, or 1,000,000 where it
+//! is not given. SEED is one from 0 to 2,147,483,647, NX one from 1 to 100, and NETS one from 1 to
+//! 10,000. K is one from 1 to 8, and S one from 0 to 2,147,483,647, or 1 where `--members` is
+//! given alone. L is one from 1 to 64. Leading zeros are taken, signs are not.
 //!
 //! What stands behind the command is taken as `clap` takes it: options may stand anywhere,
 //! `--conflicts=5` is `--conflicts 5`, behind `--` no word is an option, and a word may be empty or
@@ -27,7 +28,7 @@
 //! | 1 | there is no first word, or it names no command |
 //! | 2 | the form of the command does not take the words behind it |
 //! | 3 | a word that is to be a number is no whole number in its range |
-//! | 4 | `--seed` without `--members`; two of `--pin`, `--symmetry`, `--reach`; `--count`, `--reach` |
+//! | 4 | `--seed` alone; two of `--pin`, `--symmetry`, `--reach`; `--count` with `--reach` |
 //!
 //! The least code that holds is answered.
 #![tactic(auto)]
