@@ -1,5 +1,19 @@
 //! What is wrong with a line, or with a whole text, for each code of a fault or a limit.
 ghost use Rattle.std.specs.Prelude.{◌≡◌, IfSome, IsTrue, is_some};
+ghost use Rattle.std.specs.Option.{option_copied};
+ghost use Rattle.code_words.specs.Causes.{
+  architecture_phrase,
+  cause_phrase,
+  clause_phrase,
+  fit_phrase,
+  judge_phrase,
+  log_phrase,
+  netlist_phrase,
+  placement_phrase,
+  route_phrase,
+  size_phrase,
+  within_reach_phrase,
+};
 ghost use Rattle.code_words.specs.Codes.{
   is_architecture_code,
   is_clause_code,
@@ -17,6 +31,7 @@ ghost use Rattle.code_words.specs.Phrases.{is_phrase};
 /// What a code says of the line that is told with it, or of the number that passes a limit. It is a
 /// phrase of printable ASCII on one line, with no stop at its end, and None of any other number.
 pub fn cause(code: u32) -> Option<&'static str>
+    ensures says { option_copied result ≡ cause_phrase code }
     ensures there { is_some result ≡ is_code code }
     ensures phrase { IfSome result (λ words. IsTrue (is_phrase words.now)) }
 {
@@ -29,18 +44,21 @@ pub fn cause(code: u32) -> Option<&'static str>
         6 => clause_cause(code),
         7 => log_cause(code),
         8 => judge_cause(code),
-        9 => size_cause(code),
-        _ => None,
+        _ => size_cause(code),
     }
 }
 
 fn architecture_cause(code: u32) -> Option<&'static str>
+    ensures says { option_copied result ≡ architecture_phrase code }
     ensures there { is_some result ≡ is_architecture_code code }
     ensures phrase { IfSome result (λ words. IsTrue (is_phrase words.now)) }
 {
     match code {
         101 => Some("the file ends, and one of the twelve keywords has no line"),
-        102 => Some("a number is due here, and there is none or it is out of its range"),
+        102 => Some(
+            "a number, or behind Fc_type the word fractional or absolute, is due here, and there \
+             is none or it is out of its range",
+        ),
         103 => Some(
             "a pin line has another form: inpin or outpin, class: N, then one or more sides",
         ),
@@ -57,6 +75,7 @@ fn architecture_cause(code: u32) -> Option<&'static str>
 }
 
 fn netlist_cause(code: u32) -> Option<&'static str>
+    ensures says { option_copied result ≡ netlist_phrase code }
     ensures there { is_some result ≡ is_netlist_code code }
     ensures phrase { IfSome result (λ words. IsTrue (is_phrase words.now)) }
 {
@@ -77,6 +96,7 @@ fn netlist_cause(code: u32) -> Option<&'static str>
 }
 
 fn placement_cause(code: u32) -> Option<&'static str>
+    ensures says { option_copied result ≡ placement_phrase code }
     ensures there { is_some result ≡ is_placement_code code }
     ensures phrase { IfSome result (λ words. IsTrue (is_phrase words.now)) }
 {
@@ -96,6 +116,7 @@ fn placement_cause(code: u32) -> Option<&'static str>
 }
 
 fn route_cause(code: u32) -> Option<&'static str>
+    ensures says { option_copied result ≡ route_phrase code }
     ensures there { is_some result ≡ is_route_code code }
     ensures phrase { IfSome result (λ words. IsTrue (is_phrase words.now)) }
 {
@@ -112,6 +133,7 @@ fn route_cause(code: u32) -> Option<&'static str>
 }
 
 fn fit_cause(code: u32) -> Option<&'static str>
+    ensures says { option_copied result ≡ fit_phrase code }
     ensures there { is_some result ≡ is_fit_code code }
     ensures phrase { IfSome result (λ words. IsTrue (is_phrase words.now)) }
 {
@@ -144,12 +166,15 @@ fn fit_cause(code: u32) -> Option<&'static str>
 }
 
 fn clause_cause(code: u32) -> Option<&'static str>
+    ensures says { option_copied result ≡ clause_phrase code }
     ensures there { is_some result ≡ is_clause_code code }
     ensures phrase { IfSome result (λ words. IsTrue (is_phrase words.now)) }
 {
     match code {
         601 => Some("the line p cnf VARIABLES CLAUSES is missing, or stands here again"),
-        602 => Some("a number is due here, and there is none"),
+        602 => Some(
+            "a number of 64 bits, in the head line not below 0, is due here, and there is none",
+        ),
         603 => Some("a variable above the number that the head line tells"),
         604 => Some("the clauses are not as many as the head line tells, or the last one has no 0"),
         605 => Some("more variables or clauses than are taken"),
@@ -158,6 +183,7 @@ fn clause_cause(code: u32) -> Option<&'static str>
 }
 
 fn log_cause(code: u32) -> Option<&'static str>
+    ensures says { option_copied result ≡ log_phrase code }
     ensures there { is_some result ≡ is_log_code code }
     ensures phrase { IfSome result (λ words. IsTrue (is_phrase words.now)) }
 {
@@ -172,6 +198,7 @@ fn log_cause(code: u32) -> Option<&'static str>
 }
 
 fn judge_cause(code: u32) -> Option<&'static str>
+    ensures says { option_copied result ≡ judge_phrase code }
     ensures there { is_some result ≡ is_judge_code code }
     ensures phrase { IfSome result (λ words. IsTrue (is_phrase words.now)) }
 {
@@ -180,10 +207,11 @@ fn judge_cause(code: u32) -> Option<&'static str>
         802 => Some("the track is not below the width"),
         803 => Some("an earlier net has this wire"),
         804 => Some("the global route does not take the net through this cell"),
-        805 => Some("the net has another wire of this cell"),
+        805 => Some("the net has been in this cell, and no branch begins here on its wire"),
         806 => Some("the net, or the file, ends before each sink is reached"),
         807 => Some(
-            "the netlist and its placement give the net no such line, or no such order of lines",
+            "the netlist and its placement give no such array or net, or the net no such line or \
+             order of lines",
         ),
         808 => Some("more switches lead to the wire before this sink than the reach"),
         _ => None,
@@ -193,6 +221,7 @@ fn judge_cause(code: u32) -> Option<&'static str>
 /// What a code says of the line of a routed file that is judged within a reach: what `cause` says,
 /// but of a code that then holds elsewhere.
 pub fn cause_within_reach(code: u32) -> Option<&'static str>
+    ensures says { option_copied result ≡ within_reach_phrase code }
     ensures there { is_some result ≡ is_code code }
     ensures phrase { IfSome result (λ words. IsTrue (is_phrase words.now)) }
 {
@@ -203,6 +232,7 @@ pub fn cause_within_reach(code: u32) -> Option<&'static str>
 }
 
 fn size_cause(code: u32) -> Option<&'static str>
+    ensures says { option_copied result ≡ size_phrase code }
     ensures there { is_some result ≡ is_size_code code }
     ensures phrase { IfSome result (λ words. IsTrue (is_phrase words.now)) }
 {

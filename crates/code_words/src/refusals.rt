@@ -1,11 +1,14 @@
 //! Why a step of a log is refused.
 ghost use Rattle.std.specs.Prelude.{◌≡◌, IfSome, IsTrue, is_some};
+ghost use Rattle.std.specs.Option.{option_copied};
+ghost use Rattle.code_words.specs.Causes.{refusal_phrase};
 ghost use Rattle.code_words.specs.Codes.{is_refusal_cause};
 ghost use Rattle.code_words.specs.Phrases.{is_phrase};
 
 /// Why a step is refused, by the cause from 1 to 10 that a report tells: a phrase of printable
 /// ASCII on one line, with no stop at its end. None of another number.
 pub fn refusal(cause: u32) -> Option<&'static str>
+    ensures says { option_copied result ≡ refusal_phrase cause }
     ensures there { is_some result ≡ is_refusal_cause cause }
     ensures phrase { IfSome result (λ words. IsTrue (is_phrase words.now)) }
 {
