@@ -6,52 +6,27 @@ use Rattle.std.proofs.Math.Nat.{mul-le-mul_right, suc-mul}
 use Rattle.std.proofs.Math.Seq.{take-suc}
 use Rattle.std.proofs.lemmas.Bool.{cases_lt, false≢true}
 use Rattle.std.proofs.lemmas.Bool.Decides.{Decides-eqb}
-use Rattle.std.proofs.lemmas.List.{get_or-map, get_or-take, get_or_default, length-map, length-take, map-append}
-use Rattle.fpga_types.specs.Given.{IsGiven}
-use Rattle.fpga_types.specs.Problem.{RoutingProblem}
-use Rattle.fpga_types.specs.Slots.{slot_at, slots}
+use Rattle.std.proofs.lemmas.List.{get_or-map, get_or_default, length-map, map-append}
+use Rattle.fpga_types.specs.Size.{Size}
+use Rattle.fpga_types.specs.Slots.{slot_at}
 use Rattle.fpga_types.specs.declared.problem.Slot.{Slot}
 use Rattle.fpga_types.proofs.MeetingLemmas.{both_true}
-use Rattle.route_symmetry.proofs.PinLemmas.{rivals-in}
-use Rattle.route_crowd.specs.Crowd.{crowd, tree_of}
-use Rattle.route_crowd.proofs.CrowdLaws.{crowd-meets}
 use Rattle.sat_count.specs.Drafts.{AreApart, IsBelow}
-use Rattle.sat_count.specs.Refuting.{Grows, RefutationState}
-use Rattle.sat_count.proofs.GrowLemmas.{grows-none}
-use Rattle.route_count.specs.Crowded.{slots_of_cell}
-
-pub grows_none : (r : RefutationState) → Grows r r
-grows_none r = grows-none r
+use Rattle.sat_count.specs.Refuting.{RefutationState}
+use Rattle.route_count.specs.Firsts.{firsts_of}
+use Rattle.route_count.specs.Meetings.{DoMeet}
 
 abbrev pub AreDifferent : List ℕ → Type 0
 AreDifferent row = AllPairs (λ s t. s ≢ t) row
 
-pub different-take : (n : ℕ) (row : List ℕ) → AreDifferent row → AreDifferent (take n row)
-different-take n row differ i j d before low =
-    let count = length-take n row in
-    let few : j < n = omega (arith, low, count) in
-    let inside : j < length row = omega (arith, low, count) in
-    λ e. differ i j d before inside
-    (sym (get_or-take n row i d (omega (arith, before, few))) ∙ e ∙ get_or-take n row j d few)
-
-pub cells-different : (p : RoutingProblem) → IsGiven p → (number : ℕ)
-    → AreDifferent (slots_of_cell p number)
-cells-different p given number i j d before low =
-    let row : List ℕ = slots_of_cell p number in
-    let rivals = rivals-in p given number in
-    let at_i : get_or row i d ≡ get_or row i 0 =
-    get_or_default row i d 0 (omega (arith, before, low)) in
-    let at_j : get_or row j d ≡ get_or row j 0 = get_or_default row j d 0 low in
-    λ e. rivals.nets i j before low
-    (ap (λ (s : ℕ). (slot_at (slots p.route) s).net) (sym at_i ∙ e ∙ at_j))
-
-pub crowd-different : (p : RoutingProblem) → AreDifferent (crowd p)
-crowd-different p i j d before low =
-    let all : List Slot = slots p.route in
-    let met = crowd-meets p.route.grid all (tree_of p) i j d before low in
-    let a : ℕ = get_or (crowd p) j d in
-    let b : ℕ = get_or (crowd p) i d in
-    let parts = both_true (not ((slot_at all a).net == (slot_at all b).net)) _ met in
+-- slots whose trees meet are different ones
+pub meeting-different : (grid : Size) (all : List Slot) (roots row : List ℕ)
+    → DoMeet grid all roots row → AreDifferent row
+meeting-different grid all roots row meets i j d before low =
+    let a : ℕ = get_or row j d in
+    let b : ℕ = get_or row i d in
+    let parts = both_true (not ((slot_at all a).net == (slot_at all b).net)) _
+    (meets i j d before low) in
     λ e. not-both ((slot_at all a).net == (slot_at all b).net) parts.0
     ((Decides-eqb (slot_at all a).net (slot_at all b).net).1
     (ap (λ (s : ℕ). (slot_at all s).net) (sym e)))
@@ -64,12 +39,12 @@ crowd-different p i j d before low =
 
 module _ (row : List ℕ) (width : ℕ) where
   abbrev pub firsts : List ℕ
-  firsts = map (λ s. s * width) row
+  firsts = firsts_of width row
 
   pub firsts-many : length firsts ≡ length row
   firsts-many = length-map row (λ s. s * width)
 
-  first-at : (place : ℕ) → place < length row → get_or firsts place 0 ≡ get_or row place 0 * width
+  pub first-at : (place : ℕ) → place < length row → get_or firsts place 0 ≡ get_or row place 0 * width
   first-at place low = get_or-map (λ s. s * width) row place 0 0 low
 
   pub firsts-below : (r : RefutationState) (count : ℕ) → All (λ s. s < count) row
@@ -90,7 +65,7 @@ module _ (row : List ℕ) (width : ℕ) where
       let more : suc a * width ≡ a * width + width = suc-mul a width in
       omega (arith, rows, more, few)
 
-  apart-either : (a b t u : ℕ) → a ≢ b → t < width → u < width → a * width + t ≢ b * width + u
+  pub apart-either : (a b t u : ℕ) → a ≢ b → t < width → u < width → a * width + t ≢ b * width + u
   apart-either a b t u other t_few u_few e = elim (cases_lt a b) [
     | inl low ↦ apart-rows a b t u low t_few e
     | inr not_low ↦ apart-rows b a u t (omega (arith, other, not_low)) u_few (sym e)

@@ -67,7 +67,7 @@ module _ (f : ℕ → ℕ) (found : List RouteStep) (kept : All (λ s. f s.from 
                 ap f low ∙ sym one ∙ ap f high)
           ]
 
-  root-alike : (n k : ℕ) → k < n → f (get_or (roots_of found n) k 0) ≡ f k
+  pub root-alike : (n k : ℕ) → k < n → f (get_or (roots_of found n) k 0) ≡ f k
   root-alike zero k low = absurd (omega (arith, low))
   root-alike (suc n) k low = elim (cases_lt k n) [
     | inl before ↦
@@ -121,7 +121,7 @@ slot-net n e s h = go (elem_cell e) h
 abbrev IsInNet : RouteText → RouteStep → Type 0
 IsInNet route s = (slot_at (slots route) s.from).net ≡ (slot_at (slots route) s.to).net
 
-steps-in-nets : (route : RouteText) → All (IsInNet route) (steps route)
+pub steps-in-nets : (route : RouteText) → All (IsInNet route) (steps route)
 steps-in-nets route = each-all (IsInNet route) (steps route)
     (each-brought (IsInNet route)
     (λ (n : ℕ × RouteNet). filter_map

@@ -63,28 +63,28 @@ impl ClauseIds {
     }
 
     /// The clause that a slot has a track.
-    pub fn some_track(&self, slot: u32) -> i64 {
-        slot as i64 + 1
+    pub fn some_track(&self, slot: u32) -> u64 {
+        slot as u64 + 1
     }
 
     /// The clause that, where the first slot of a step has a track, the second has the one that it
     /// is joined to.
-    pub fn joined(&self, step: u64, track: u32) -> i64
+    pub fn joined(&self, step: u64, track: u32) -> u64
         requires step { step < STEP_LIMIT }
         requires track { track < self.now.width }
     {
-        (self.first_of_steps + step * self.width as u64 + track as u64) as i64
+        self.first_of_steps + step * self.width as u64 + track as u64
     }
 
     /// The clause that two slots of one cell do not both have a track.
-    pub fn apart(&self, a: u32, b: u32, track: u32) -> i64
+    pub fn apart(&self, a: u32, b: u32, track: u32) -> u64
         requires slots { (a < self.now.slots) × (b < self.now.slots) }
         requires track { track < self.now.width }
     {
         let (lower, higher) = (a.min(b) as usize, a.max(b) as usize);
         let between = self.rivals[lower].saturating_sub(self.rivals[higher] + 1);
         let pair = self.pairs_before[lower] + between as u64;
-        (self.first_of_pairs + pair * self.width as u64 + track as u64) as i64
+        self.first_of_pairs + pair * self.width as u64 + track as u64
     }
 }
 

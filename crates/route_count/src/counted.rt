@@ -1,5 +1,5 @@
 //! Widths that are refuted without a search.
-ghost use Rattle.std.specs.Prelude.{◌≤◌, IfOk, IfSome};
+ghost use Rattle.std.specs.Prelude.{◌≤◌, IfOk, IfSome, IsNone};
 ghost use Rattle.sat_clause.specs.Formula.{IsUnsat};
 ghost use Rattle.sat_rat.specs.FullJudge.{FullAccepts};
 ghost use Rattle.route_encode.specs.Encoding.{cnf_of};
@@ -18,9 +18,7 @@ use std::alloc::{AllocError, Global};
 /// problem has more trees. The first clauses of the formula are those of
 /// [`Strict`](route_encode::Strict), which alone are used.
 ///
-/// `None` comes where there is neither, and where a hint of the first level does not lead on, of
-/// which no case is known: these are judged as they come, and all behind them is proved to be good.
-/// The time and the memory are those of [`crowd`](route_crowd::crowd) and of the steps, which grow
+/// `None` comes where there is neither. The time and the memory are those of [`crowd`](route_crowd::crowd) and of the steps, which grow
 /// with the fourth power of the tracks: 4.6 million at 64.
 ///
 /// # Errors
@@ -37,9 +35,11 @@ pub fn counted_out(
         (λ log. FullAccepts formula.now.cnf log.steps)) }
     ensures sound { IfOk result (λ found. IfSome found (λ _. IsUnsat formula.now.cnf)) }
     ensures crowded { IfOk result (λ found. IfSome found (λ _. IsCrowded width problem.now)) }
+    ensures none { IfOk result (λ found. IsNone found → ¬ IsCrowded width problem.now) }
 {
     let Some(crowding) = crowded_by(alloc, problem, width)? else {
         return Ok(None);
     };
-    counting(alloc, formula, problem, width, &crowding)
+    let log = counting(alloc, formula, problem, width, &crowding)?;
+    Ok(Some(log))
 }

@@ -1,10 +1,12 @@
 //! The refutation of a crowded width.
-ghost use Rattle.std.specs.Prelude.{◌≡◌, ◌≢◌, ◌≤◌, ◌<◌, All, IfOk, IfSome, length, suc};
-ghost use Rattle.std.specs.List.{AllPairs};
+ghost use Rattle.std.specs.Prelude.{◌≡◌, ◌≤◌, ◌<◌, All, IfOk, OnOk, length, suc};
 ghost use Rattle.fpga_types.specs.Slots.{slots};
 ghost use Rattle.fpga_types.specs.declared.limits.TheConstants.{WIDTH_LIMIT};
 ghost use Rattle.route_count.specs.Begun.{IsBegunBy};
 ghost use Rattle.route_count.specs.Crowded.{IsCrowding};
+ghost use Rattle.route_count.specs.Leads.{AreTrees};
+ghost use Rattle.route_count.specs.Meetings.{DoMeet};
+ghost use Rattle.route_count.specs.Said.{AreInNets, HasClauses};
 ghost use Rattle.route_encode.specs.Encoding.{cnf_of};
 ghost use Rattle.sat_clause.specs.Formula.{IsUnsat};
 ghost use Rattle.sat_rat.specs.FullJudge.{FullAccepts};
@@ -18,11 +20,10 @@ use fpga_bounds::PlacedProblem;
 use fpga_types::WIDTH_LIMIT;
 use route_encode::Variables;
 use sat_clause::{Formula, Log};
-use sat_count::{Draft, count_down};
+use sat_count::{Refutation, count_down};
 use std::alloc::{AllocError, Global};
 
-/// The steps by which slots that are one more than the tracks refute the clauses of a problem;
-/// `None` where a hint of the first level does not lead on.
+/// The steps by which slots that are one more than the tracks refute the clauses of a problem.
 ///
 /// # Errors
 /// Where memory is short.
@@ -32,13 +33,12 @@ pub(crate) fn counting(
     problem: &PlacedProblem,
     width: u32,
     crowding: &Crowding,
-) -> Result<Option<Log>, AllocError>
+) -> Result<Log, AllocError>
     requires width { (1 ≤ width) × (width ≤ WIDTH_LIMIT) }
     requires begun { IsBegunBy formula.now.cnf (cnf_of width problem.now) }
     requires crowding { IsCrowding width problem.now crowding.now }
-    ensures accepted { IfOk result (λ found. IfSome found
-        (λ log. FullAccepts formula.now.cnf log.steps)) }
-    ensures sound { IfOk result (λ found. IfSome found (λ _. IsUnsat formula.now.cnf)) }
+    ensures accepted { IfOk result (λ log. FullAccepts formula.now.cnf log.steps) }
+    ensures sound { OnOk result (IsUnsat formula.now.cnf) }
 {
     let _route = problem.route();
     let count = problem.slots().len() as u32;
@@ -54,7 +54,8 @@ pub(crate) fn counting(
     }
 }
 
-/// The steps by which the slots of a row, each of which stands for its tree, refute the clauses.
+/// The steps by which the slots of a row refute the clauses: each stands for its tree, and each two
+/// trees meet.
 fn counted_row(
     alloc: Global,
     formula: &Formula,
@@ -62,16 +63,18 @@ fn counted_row(
     width: u32,
     row: &[u32],
     trees: &Trees,
-) -> Result<Option<Log>, AllocError>
+) -> Result<Log, AllocError>
     requires width { (1 ≤ width) × (width ≤ WIDTH_LIMIT) }
     requires begun { IsBegunBy formula.now.cnf (cnf_of width problem.now) }
     requires row { All (λ s. s < length (slots problem.now.route)) row.now }
-    requires differ { AllPairs (λ s t. s ≢ t) row.now }
     requires size { length row.now ≡ suc width }
-    requires trees { length trees.now ≡ length (slots problem.now.route) }
-    ensures accepted { IfOk result (λ found. IfSome found
-        (λ log. FullAccepts formula.now.cnf log.steps)) }
-    ensures sound { IfOk result (λ found. IfSome found (λ _. IsUnsat formula.now.cnf)) }
+    requires trees { AreTrees trees.now }
+    requires said { HasClauses formula.now.cnf width (slots problem.now.route) trees.now }
+    requires nets { AreInNets (slots problem.now.route) trees.now }
+    requires meet { DoMeet problem.now.route.grid (slots problem.now.route) trees.now.roots
+        row.now }
+    ensures accepted { IfOk result (λ log. FullAccepts formula.now.cnf log.steps) }
+    ensures sound { OnOk result (IsUnsat formula.now.cnf) }
 {
     let _clauses = formula.len();
     let slots = problem.slots();
@@ -86,23 +89,20 @@ fn counted_row(
         width,
     };
     let beginning = Beginning {
+        formula,
         variables,
         ids: &ids,
+        slots,
         trees,
         row,
         meetings: &meetings,
     };
-    let Ok(mut draft) = Draft::of(alloc, formula) else {
+    let mut refutation = Refutation::of(alloc, formula);
+    let Ok(first) = beginning.first_level(alloc, &mut refutation) else {
         return Err(AllocError);
     };
-    let Ok(found) = beginning.first_level(alloc, &mut draft) else {
+    let Ok(log) = count_down(alloc, refutation, first) else {
         return Err(AllocError);
     };
-    let Some(first) = found else {
-        return Ok(None);
-    };
-    let Ok(log) = count_down(alloc, draft.judged(), first) else {
-        return Err(AllocError);
-    };
-    Ok(Some(log))
+    Ok(log)
 }

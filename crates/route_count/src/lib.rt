@@ -3,6 +3,7 @@
 #![tactic(auto)]
 
 mod clause_ids;
+mod clauses;
 mod counted;
 mod counting;
 mod crowded;

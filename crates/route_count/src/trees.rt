@@ -1,7 +1,8 @@
 //! Trees: slots that steps join, and the step that leads to each.
-ghost use Rattle.std.specs.Prelude.{◌≡◌, ◌≤◌, ◌<◌, All, IfOk, length, slice_index};
+ghost use Rattle.std.specs.Prelude.{◌≡◌, ◌+◌, ◌≤◌, ◌<◌, [], All, IfOk, None, length, slice_index_or};
 ghost use Rattle.fpga_types.specs.declared.limits.TheConstants.{SLOT_LIMIT, STEP_LIMIT};
-ghost use Rattle.route_count.specs.Leads.{AreLeads, AreWithin, IsLead};
+ghost use Rattle.route_crowd.specs.Trees.{reached_from, roots_of as roots_by};
+ghost use Rattle.route_count.specs.Leads.{AreLeads, AreTrees, AreWithin, IsLead, lead_at, root_at};
 
 use fpga_types::{RouteStep, SLOT_LIMIT, STEP_LIMIT};
 use std::alloc::{AllocError, Global};
@@ -22,14 +23,14 @@ pub(crate) struct Trees {
 }
 
 impl Model for Trees {
-    ghost use Rattle.std.specs.Prelude.{List, ℕ};
-    ghost use Rattle.route_count.specs.Leads.{AreTrees};
+    ghost use Rattle.route_count.specs.Leads.{AreTrees, TreesState};
 
-    ghost Value = { List ℕ };
+    ghost Value = { TreesState };
 
-    ghost view = { λ t. t.roots.items };
+    ghost view = { λ t. record { roots = t.roots.items; leads = t.leads.items } };
 
-    ghost invariant = { λ t. AreTrees t.roots.items t.leads.items };
+    ghost invariant = { λ t.
+        AreTrees (record { roots = t.roots.items; leads = t.leads.items }) };
 }
 
 impl Trees {
@@ -39,7 +40,10 @@ impl Trees {
     /// Where memory is short.
     pub fn apart(alloc: Global, count: u32) -> Result<Trees, AllocError>
         requires { count ≤ SLOT_LIMIT }
-        ensures { IfOk result (λ trees. length trees ≡ count) }
+        ensures roots { IfOk result (λ trees. trees.roots ≡ roots_by [] count) }
+        ensures leads { IfOk result (λ trees. AreLeads [] 0 trees.leads) }
+        ensures each { IfOk result (λ trees. length trees.leads ≡ count) }
+        ensures trees { IfOk result AreTrees }
     {
         Trees::of_steps(alloc, count, &[])
     }
@@ -52,26 +56,29 @@ impl Trees {
         requires few { count ≤ SLOT_LIMIT }
         requires few_steps { length steps.now ≤ STEP_LIMIT }
         requires within { AreWithin count steps.now }
-        ensures { IfOk result (λ trees. length trees ≡ count) }
+        ensures roots { IfOk result (λ trees. trees.roots ≡ roots_by steps.now count) }
+        ensures leads { IfOk result (λ trees. AreLeads steps.now 0 trees.leads) }
+        ensures each { IfOk result (λ trees. length trees.leads ≡ count) }
+        ensures trees { IfOk result AreTrees }
     {
         let leads = leads_of(alloc, count, steps)?;
-        let roots = roots_of(alloc, &leads)?;
+        let roots = roots_of(alloc, steps, &leads)?;
         Ok(Trees { roots, leads })
     }
 
     /// The slot that stands for the tree of a slot.
     pub fn root(&self, slot: u32) -> u32
-        requires { slot < length self.now }
-        ensures value { result ≡ slice_index self.now slot }
-        ensures within { result < length self.now }
+        requires { slot < length self.now.roots }
+        ensures value { result ≡ root_at self.now slot }
+        ensures within { result < length self.now.roots }
     {
         self.roots[slot as usize]
     }
 
     /// How a slot is come to.
     pub fn lead(&self, slot: u32) -> Option<Lead>
-        requires { slot < length self.now }
-        ensures { IsLead slot result }
+        requires { slot < length self.now.roots }
+        ensures { result ≡ lead_at self.now slot }
     {
         self.leads[slot as usize]
     }
@@ -83,51 +90,76 @@ fn leads_of(alloc: Global, count: u32, steps: &[RouteStep]) -> Result<Vec<Option
     requires few_steps { length steps.now ≤ STEP_LIMIT }
     requires within { AreWithin count steps.now }
     ensures each { IfOk result (λ leads. length leads.items ≡ count) }
-    ensures leads { IfOk result (λ leads. AreLeads leads.items) }
+    ensures leads { IfOk result (λ leads. AreLeads steps.now 0 leads.items) }
 {
     let mut leads = vec![in alloc; None; count as usize]?;
     note_leads(&mut leads, steps);
     Ok(leads)
 }
 
-/// Notes for each slot the first step that leads to it from an earlier one.
+/// Notes for each slot the first step that leads to it: the earlier ones take the place of later
+/// ones.
 fn note_leads(leads: &mut [Option<Lead>], steps: &[RouteStep])
     requires few_steps { length steps.now ≤ STEP_LIMIT }
     requires within { AreWithin (length leads.old) steps.now }
-    requires leads { AreLeads leads.old }
+    requires none { All (λ lead. lead ≡ None) leads.old }
     ensures each { length leads.new ≡ length leads.old }
-    ensures leads { AreLeads leads.new }
+    ensures leads { AreLeads steps.now 0 leads.new }
 {
-    for (number, step) in steps.iter().enumerate() {
-        let from = step.from.min(step.to);
-        let to = step.from.max(step.to);
-        if from == to {
-            continue;
-        }
-        if leads[to as usize].is_some() {
-            continue;
-        }
-        leads[to as usize] = Some(Lead {
-            from,
-            step: number as u64,
-        });
+    for number in (0..steps.len()).rev() {
+        note_lead(leads, steps, number);
     }
 }
 
-/// For each slot the one that stands for its tree: that of the slot from which it is come to.
-fn roots_of(alloc: Global, leads: &[Option<Lead>]) -> Result<Vec<u32>, AllocError>
+/// Notes to which slot a step leads, if it does, in place of later steps.
+fn note_lead(leads: &mut [Option<Lead>], steps: &[RouteStep], number: usize)
+    requires few_steps { length steps.now ≤ STEP_LIMIT }
+    requires within { AreWithin (length leads.old) steps.now }
+    requires number { number < length steps.now }
+    requires leads { AreLeads steps.now (number + 1) leads.old }
+    ensures each { length leads.new ≡ length leads.old }
+    ensures leads { AreLeads steps.now number leads.new }
+{
+    let step = steps[number];
+    let from = step.from.min(step.to);
+    let to = step.from.max(step.to);
+    if from == to {
+        return;
+    }
+    leads[to as usize] = Some(Lead {
+        from,
+        step: number as u64,
+    });
+}
+
+/// For each slot the one that stands for its tree: that of the slot from which it is come to by
+/// these steps.
+fn roots_of(
+    alloc: Global,
+    steps: &[RouteStep],
+    leads: &[Option<Lead>],
+) -> Result<Vec<u32>, AllocError>
     requires few { length leads.now ≤ SLOT_LIMIT }
-    requires leads { AreLeads leads.now }
-    ensures each { IfOk result (λ roots. length roots.items ≡ length leads.now) }
-    ensures within { IfOk result (λ roots. All (λ root. root < length leads.now) roots.items) }
+    requires leads { AreLeads steps.now 0 leads.now }
+    ensures { IfOk result (λ roots. roots.items ≡ roots_by steps.now (length leads.now)) }
 {
     let mut roots = Vec::with_capacity(alloc, leads.len())?;
     for s in 0..leads.len() {
-        let root = match leads[s] {
-            Some(lead) => roots[lead.from as usize],
-            None => s as u32,
-        };
+        let root = root_by(steps, &roots, leads[s], s as u32);
         roots.push(root)?;
     }
     Ok(roots)
+}
+
+/// The slot that stands for the tree of a slot, by those of the slots before.
+fn root_by(steps: &[RouteStep], roots: &[u32], lead: Option<Lead>, slot: u32) -> u32
+    requires roots { roots.now ≡ roots_by steps.now slot }
+    requires lead { IsLead steps.now 0 slot lead }
+    ensures { result
+        ≡ slice_index_or (roots_by steps.now slot) (reached_from steps.now slot) slot }
+{
+    let Some(lead) = lead else {
+        return slot;
+    };
+    roots[lead.from as usize]
 }

@@ -1,12 +1,15 @@
-use Rattle.std.proofs.Common.{◌<◌, ◌∙◌, All, List, ℕ, length, subst, suc, sym}
+use Rattle.std.proofs.Common.{◌<◌, ◌∙◌, All, List, ℕ, [], ap, arith, length, subst, suc, sym}
 use Rattle.std.proofs.lemmas.List.Elements.{All-take}
 use Rattle.fpga_types.specs.Slots.{slots}
+use Rattle.fpga_types.specs.declared.problem.Slot.{Slot}
 use Rattle.route_crowd.specs.Crowd.{crowd}
+use Rattle.route_crowd.specs.Trees.{roots_of}
 use Rattle.route_crowd.proofs.CrowdSlots.{crowd-slots}
 use Rattle.route_count.specs.Crowded.{IsCrowding, slots_of_cell}
 use Rattle.route_count.specs.declared.crowded.Crowding.{Crowding}
 use Rattle.route_count.proofs.CountedLemmas.{cell-slots}
-use Rattle.route_count.proofs.FirstRowLemmas.{AreDifferent, cells-different, crowd-different, different-take}
+use Rattle.route_count.proofs.MeetingLemmas.{cell-row-meets, crowd-row-meets}
+use Rattle.route_count.proofs.SaidLemmas.{cell-clauses, crowd-clauses, crowd-nets}
 use Rattle.route_count.proofs.counting.counting.Goals as goal
 
 pub counted_row-requires-clause-row : goal.counted_row-requires-clause-row
@@ -27,18 +30,45 @@ counted_row-requires-in-Crowd-clause-row c =
     (All-take (λ s. s < length (slots c.args.problem.now.route)) (suc c.args.width)
     (crowd c.args.problem.now) (crowd-slots c.args.problem.now))
 
-pub counted_row-requires-clause-differ : goal.counted_row-requires-clause-differ
-counted_row-requires-clause-differ c =
+pub counted_row-requires-clause-said : goal.counted_row-requires-clause-said
+counted_row-requires-clause-said c =
+    let count = ap (λ (xs : List Slot). length xs) c.slots.ensures.value in
+    cell-clauses c.args.width c.args.problem.now c.args.formula.now.cnf c.requires.begun _
+    c.in_ok-trees-in-Cell.ensures.leads
+    (omega (arith, c.in_ok-trees-in-Cell.ensures.each, count))
+
+pub counted_row-requires-clause-meet : goal.counted_row-requires-clause-meet
+counted_row-requires-clause-meet c =
     let is = subst (λ (found : Crowding). IsCrowding c.args.width c.args.problem.now found)
     c.in-Cell.is c.requires.crowding in
-    subst (λ (row : List ℕ). AreDifferent row) (sym (c.deref.ensures.0 ∙ is.2))
-    (different-take (suc c.args.width) (slots_of_cell c.args.problem.now is.0)
-    (cells-different c.args.problem.now c.route-route.ensures.given is.0))
+    let count = ap (λ (xs : List Slot). length xs) c.slots.ensures.value in
+    cell-row-meets c.args.problem.now c.route-route.ensures.given is.0 c.args.width _ _
+    (c.in_ok-trees-in-Cell.ensures.roots ∙ ap (λ (n : ℕ). roots_of [] n) count)
+    (c.deref.ensures.0 ∙ is.2)
 
-pub counted_row-requires-in-Crowd-clause-differ : goal.counted_row-requires-in-Crowd-clause-differ
-counted_row-requires-in-Crowd-clause-differ c =
+pub counted_row-requires-in-Crowd-clause-said : goal.counted_row-requires-in-Crowd-clause-said
+counted_row-requires-in-Crowd-clause-said c =
     let is = subst (λ (found : Crowding). IsCrowding c.args.width c.args.problem.now found)
     c.in-Crowd.is c.requires.crowding in
-    subst (λ (row : List ℕ). AreDifferent row) (sym (c.deref-in-Crowd.ensures.0 ∙ is.2))
-    (different-take (suc c.args.width) (crowd c.args.problem.now)
-    (crowd-different c.args.problem.now))
+    let count = ap (λ (xs : List Slot). length xs) c.slots.ensures.value in
+    crowd-clauses c.args.width c.args.problem.now c.args.formula.now.cnf c.requires.begun
+    c.route-route.ensures.given c.route-route.ensures.fits is.0 _ c.steps.result.now
+    c.steps.ensures.value c.in_ok-trees-in-Crowd.ensures.leads
+    (omega (arith, c.in_ok-trees-in-Crowd.ensures.each, count))
+
+pub counted_row-requires-in-Crowd-clause-nets : goal.counted_row-requires-in-Crowd-clause-nets
+counted_row-requires-in-Crowd-clause-nets c =
+    let count = ap (λ (xs : List Slot). length xs) c.slots.ensures.value in
+    crowd-nets c.args.problem.now _
+    (c.in_ok-trees-in-Crowd.ensures.roots
+    ∙ (λ j. roots_of (c.steps.ensures.value j) (count j)))
+
+pub counted_row-requires-in-Crowd-clause-meet : goal.counted_row-requires-in-Crowd-clause-meet
+counted_row-requires-in-Crowd-clause-meet c =
+    let is = subst (λ (found : Crowding). IsCrowding c.args.width c.args.problem.now found)
+    c.in-Crowd.is c.requires.crowding in
+    let count = ap (λ (xs : List Slot). length xs) c.slots.ensures.value in
+    crowd-row-meets c.args.problem.now c.args.width _ _
+    (c.in_ok-trees-in-Crowd.ensures.roots
+    ∙ (λ j. roots_of (c.steps.ensures.value j) (count j)))
+    (c.deref-in-Crowd.ensures.0 ∙ is.2)

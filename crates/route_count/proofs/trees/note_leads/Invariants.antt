@@ -1,4 +1,4 @@
--- each slot is come to from an earlier one
+-- each slot is come to by the first of the steps from this number on
 use Rattle.std.proofs.Common.{◌≡◌, length}
 use Rattle.route_count.specs.Leads.{AreLeads}
 use Rattle.route_count.proofs.trees.note_leads.Given as goal
@@ -6,5 +6,5 @@ use Rattle.route_count.proofs.trees.note_leads.Given as goal
 abbrev pub invariant-loop-number : goal.invariant-loop-number
 invariant-loop-number l = record {
   each : length l.leads ≡ length l.initial.leads;
-  leads : AreLeads l.leads;
+  leads : AreLeads l.steps l.number l.leads;
 }

@@ -1,9 +1,7 @@
--- the roots so far are slots
-use Rattle.std.proofs.Common.{◌≡◌, ◌<◌, length, All}
+-- the slots so far have the ones that stand for their trees
+use Rattle.std.proofs.Common.{◌≡◌}
+use Rattle.route_crowd.specs.Trees.{roots_of}
 use Rattle.route_count.proofs.trees.roots_of.Given as goal
 
 abbrev pub invariant-loop-s : goal.invariant-loop-s
-invariant-loop-s l = record {
-  each : length l.roots.items ≡ l.s;
-  within : All (λ root. root < length l.leads) l.roots.items;
-}
+invariant-loop-s l = l.roots.items ≡ roots_of l.steps l.s

@@ -1,19 +1,20 @@
-use Rattle.std.proofs.Common.{rules}
-use Rattle.sat_count.proofs.GrowLemmas.{grows-none, grows-on}
+use Rattle.std.proofs.Common.{◌≡◌, ℕ, arith, length, subst}
+use Rattle.route_count.specs.Firsts.{AreLed}
+use Rattle.route_count.proofs.MarkLemmas.{ready-all}
 use Rattle.route_count.proofs.first_level.Beginning.add_led_tracks.Goals as goal
 
-pub loop-slot-init : goal.loop-slot-init
-loop-slot-init c = record {
-  each = c.requires.led;
-  judged = c.requires.judged;
-  grows = grows-none c.args.draft.now.refutation;
-}
-
-pub loop-slot-preserved : goal.loop-slot-preserved
-loop-slot-preserved c = record {
-  each = search rules;
-  judged = c.in-Ok.ensures.judged c.if-not-good.false;
-  grows = grows-on c.args.draft.now.refutation c.loop-slot.draft.refutation
-      c.add_led_track.new.draft.refutation c.loop-slot.invariant.grows
-      (c.in-Ok.ensures.grows c.if-not-good.false);
-}
+pub returns-clause-ready : goal.returns-clause-ready
+returns-clause-ready c =
+    let all : c.loop-slot.slot ≡ c.args.self.now.variables.slots =
+    omega (arith, c.loop-slot-test.false, c.loop-slot.auto) in
+    ready-all c.loop-slot.refutation c.args.self.now.trees.now c.args.self.now.variables.width
+    (length c.args.self.now.row.now) c.args.self.now.variables.slots
+    c.args.self.now.meetings.now c.in_ok-passed.passed.items c.loop-slot.led
+    (λ lower higher m order low there.
+    let met = (c.args.self.now.met lower higher order low).1 m there in (
+      omega (arith, met.lower, c.args.self.now.each),
+      omega (arith, met.higher, c.args.self.now.each),
+    ))
+    c.in_ok-passed.ensures.marked
+    (subst (λ (n : ℕ). AreLed c.loop-slot.refutation c.args.self.now.trees.now
+    c.args.self.now.variables.width n c.in_ok-passed.passed.items c.loop-slot.led) all c.loop-slot.invariant.led)
