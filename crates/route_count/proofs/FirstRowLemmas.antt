@@ -11,7 +11,7 @@ use Rattle.fpga_types.specs.Size.{Size}
 use Rattle.fpga_types.specs.Slots.{slot_at}
 use Rattle.fpga_types.specs.declared.problem.Slot.{Slot}
 use Rattle.fpga_types.proofs.MeetingLemmas.{both_true}
-use Rattle.sat_count.specs.Drafts.{AreApart, IsBelow}
+use Rattle.sat_count.specs.Firsts.{AreApart, IsBelow}
 use Rattle.sat_count.specs.Refuting.{RefutationState}
 use Rattle.route_count.specs.Firsts.{firsts_of}
 use Rattle.route_count.specs.Meetings.{DoMeet}

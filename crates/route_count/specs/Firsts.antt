@@ -2,7 +2,7 @@
 use Rattle.std.specs.Prelude.{◌≡◌, ℕ, ◌+◌, ◌*◌, ◌<◌, ◌≤◌, ◌⊎◌, Bool, true, false, List, map, length, Option, Some, slice_index, slice_index_or}
 use Rattle.sat_clause.specs.Formula.{Cnf}
 use Rattle.sat_clause.specs.Literal.{Clause}
-use Rattle.sat_count.specs.Drafts.{first_apart, first_some}
+use Rattle.sat_count.specs.Firsts.{first_apart, first_some}
 use Rattle.sat_count.specs.Refuting.{Holds, RefutationState}
 use Rattle.route_count.specs.Leads.{TreesState, lead_at, root_at}
 use Rattle.route_count.specs.Meetings.{meeting_at}

@@ -5,10 +5,6 @@ use Rattle.fpga_types.specs.declared.problem.RouteStep.{RouteStep}
 use Rattle.route_crowd.specs.Trees.{earlier_of, leads_to}
 use Rattle.route_count.specs.declared.trees.Lead.{Lead}
 
--- each step is between two of so many slots
-abbrev pub AreWithin : ℕ → List RouteStep → Type 0
-AreWithin count steps = All (λ step. (step.from < count) × (step.to < count)) steps
-
 -- the slot is come to by the first of the steps from number k on that leads to it, if one does
 abbrev pub IsLead : List RouteStep → (k s : ℕ) → Option Lead → Type 0
 IsLead steps k s None = find (leads_to s) (drop k steps) ≡ None

@@ -1,4 +1,4 @@
-//! Under which ids the clauses of a problem stand.
+//! Under which ids the clauses of a problem are expected.
 ghost use Rattle.std.specs.Prelude.{ℕ, ◌≡◌, ◌≤◌, ◌<◌, ◌+◌, ◌*◌, ◌^◌, All, IfOk, IsTrue, length};
 ghost use Rattle.fpga_types.specs.CellNumbers.{cell_count};
 ghost use Rattle.fpga_types.specs.Fabric.{is_cell};
@@ -62,13 +62,13 @@ impl ClauseIds {
         })
     }
 
-    /// The clause that a slot has a track.
+    /// The id of the clause that a slot has a track.
     pub fn some_track(&self, slot: u32) -> u64 {
         slot as u64 + 1
     }
 
-    /// The clause that, where the first slot of a step has a track, the second has the one that it
-    /// is joined to.
+    /// The id of the clause that, where the first slot of a step has a track, the second has the
+    /// one that it is joined to.
     pub fn joined(&self, step: u64, track: u32) -> u64
         requires step { step < STEP_LIMIT }
         requires track { track < self.now.width }
@@ -76,7 +76,7 @@ impl ClauseIds {
         self.first_of_steps + step * self.width as u64 + track as u64
     }
 
-    /// The clause that two slots of one cell do not both have a track.
+    /// The id of the clause that two slots of one cell do not both have a track.
     pub fn apart(&self, a: u32, b: u32, track: u32) -> u64
         requires slots { (a < self.now.slots) × (b < self.now.slots) }
         requires track { track < self.now.width }

@@ -4,7 +4,8 @@ ghost use Rattle.route_count.specs.Said.{IsInput, IsOneOf};
 
 use sat_clause::{Formula, Lit};
 
-/// The id of a clause of the formula: the one that is expected, or else the first.
+/// The id of a clause of the formula: the one that is expected, or else the first. Ids are expected
+/// where they are; but no clause says so, and so the others are looked at too.
 pub(crate) fn clause_id(formula: &Formula, expected: u64, clause: &[Lit]) -> u64
     requires { IsOneOf formula.now.cnf.clauses clause.now }
     ensures id { IsInput formula.now.cnf result clause.now }

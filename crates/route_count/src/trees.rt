@@ -1,8 +1,9 @@
 //! Trees: slots that steps join, and the step that leads to each.
 ghost use Rattle.std.specs.Prelude.{◌≡◌, ◌+◌, ◌≤◌, ◌<◌, [], All, IfOk, None, length, slice_index_or};
 ghost use Rattle.fpga_types.specs.declared.limits.TheConstants.{SLOT_LIMIT, STEP_LIMIT};
+ghost use Rattle.route_crowd.specs.Grown.{AreWithin};
 ghost use Rattle.route_crowd.specs.Trees.{reached_from, roots_of as roots_by};
-ghost use Rattle.route_count.specs.Leads.{AreLeads, AreTrees, AreWithin, IsLead, lead_at, root_at};
+ghost use Rattle.route_count.specs.Leads.{AreLeads, AreTrees, IsLead, lead_at, root_at};
 
 use fpga_types::{RouteStep, SLOT_LIMIT, STEP_LIMIT};
 use std::alloc::{AllocError, Global};

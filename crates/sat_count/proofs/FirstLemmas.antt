@@ -5,7 +5,7 @@ use Rattle.std.proofs.Math.Nat.{mul-le-mul_right, suc-mul}
 use Rattle.std.proofs.lemmas.Bool.{cases_lt}
 use Rattle.std.proofs.lemmas.List.{get_or-append-add, get_or_default}
 use Rattle.sat_count.specs.Descending.{AreFirsts}
-use Rattle.sat_count.specs.Drafts.{AreApart}
+use Rattle.sat_count.specs.Firsts.{AreApart}
 use Rattle.sat_count.proofs.GrowLemmas.{more-rows}
 
 -- one slot more

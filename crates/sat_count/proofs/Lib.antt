@@ -1,5 +1,4 @@
 pub mod DefineLemmas
-pub mod DraftLemmas
 pub mod FirstLemmas
 pub mod GrowLemmas
 pub mod HintLemmas
@@ -7,5 +6,6 @@ pub mod LevelLemmas
 pub mod PairLemmas
 pub mod RefutingLemmas
 pub mod RowLemmas
+pub mod StandLemmas
 pub mod StepLemmas
 pub mod VariableLemmas

@@ -5,10 +5,9 @@ use Rattle.std.proofs.lemmas.Bool.{cases_lt, eq-eqb, eqb-true, false≢true, ne_
 use Rattle.std.proofs.lemmas.List.Elements.{All-cons, All-filter, All-head, All-nil, All-tail, All-weaker}
 use Rattle.std.proofs.lemmas.List.Sums.{fold_push}
 use Rattle.sat_clause.specs.declared.cause.Cause.{Cause}
-use Rattle.sat_clause.specs.declared.cause.Cause.TheVariants.{NoEmptyClause}
 use Rattle.sat_clause.specs.declared.limits.TheConstants.{LITERAL_LIMIT}
 use Rattle.sat_clause.specs.Formula.{Cnf, IsUnsat}
-use Rattle.sat_clause.specs.Judge.{Judgement, Refused, after, erase, erase_fault, inputs, is_empty_clause, judge_step}
+use Rattle.sat_clause.specs.Judge.{after, erase, erase_fault, inputs, is_empty_clause, judge_step}
 use Rattle.sat_clause.specs.Literal.{Clause, IsLiteral, IsWithin}
 use Rattle.sat_clause.specs.Live.{Live, clause_at, named, numbered, put, without}
 use Rattle.sat_clause.specs.Step.{Added, Erased, Step}
@@ -161,37 +160,6 @@ finish-refutes r is hints id good =
     full_refutes r.cnf (r.steps ++ Added id [] hints ∷ [])
     (literals_more r.steps (Added id [] hints) is.literals (All-nil IsLiteral))
     (finish-accepts r is hints id good)
-
--- a step is good where the judge has no fault of it but that it does not end the steps
-module _ (r : RefutationState) (is : IsRefutation r) (clause : Clause) (hints : List ℤ)
-    (judged : full_judge r.cnf (r.steps ++ Added (suc r.last_id) clause hints ∷ [])
-    ≡ Refused (suc (suc (length r.steps))) NoEmptyClause) where
-  abbrev step : Step
-  step = Added (suc r.last_id) clause hints
-
-  abbrev number : ℕ
-  number = length r.steps
-
-  abbrev rest : Judgement
-  rest = full_judge_from (suc (suc number)) (after (live_of r) step) []
-
-  judged-as : judge_step (suc number) (full_rup (live_of r) clause hints) (is_empty_clause step) rest
-      ≡ Refused (suc (suc number)) NoEmptyClause
-  judged-as = sym (ahead-judged r is step (suc r.last_id) [])
-      ∙ ap (full_judge r.cnf) (append-nil (r.steps ++ step ∷ [])) ∙ judged
-
-  no-fault : (o : Option Cause) → full_rup (live_of r) clause hints ≡ o
-      → full_rup (live_of r) clause hints ≡ None
-  no-fault None e = e
-  no-fault (Some cause) e =
-      let refused : Refused (suc number) cause ≡ Refused (suc (suc number)) NoEmptyClause =
-      sym (ap (λ (f : Option Cause). judge_step (suc number) f (is_empty_clause step) rest) e)
-      ∙ judged-as in
-      let same : suc number ≡ suc (suc number) = cc in
-      absurd (omega (arith, same))
-
-  pub judged-good : full_rup (live_of r) clause hints ≡ None
-  judged-good = no-fault (full_rup (live_of r) clause hints) refl
 
 -- nothing is deleted
 pub erases-none : (r : RefutationState) (last : ℕ) → Erases r r last

@@ -1,5 +1,5 @@
 pub mod Descending
-pub mod Drafts
+pub mod Firsts
 pub mod Levels
 pub mod Names
 pub mod Places

@@ -3,21 +3,15 @@
 //! variables take one slot and one track away at a time.
 #![tactic(auto)]
 
-mod beginning;
 mod counting;
 mod descent;
-mod draft;
-mod first;
 mod ground;
 mod level;
 mod limits;
 mod pairs;
 mod refutation;
 
-pub use beginning::first_level;
 pub use counting::count_down;
-pub use draft::Draft;
-pub use first::FirstHints;
 pub use level::Level;
 pub use limits::{COUNTED_LIMIT, TRACK_LIMIT};
 pub use refutation::{Refutation, negated, plain};

@@ -2,7 +2,7 @@ use Rattle.std.proofs.Common.{◌≡◌, ◌+◌, ◌-◌, ◌≤◌, ℕ, List,
 use Rattle.sat_count.specs.Descending.{AreFirsts}
 use Rattle.sat_count.specs.Levels.{Stands}
 use Rattle.sat_count.specs.Refuting.{Erases, Grows}
-use Rattle.sat_count.proofs.DraftLemmas.{first-stands}
+use Rattle.sat_count.proofs.StandLemmas.{first-stands}
 use Rattle.sat_count.proofs.FirstLemmas.{firsts-apart, firsts-below}
 use Rattle.sat_count.proofs.GrowLemmas.{grows-on, live-grows}
 use Rattle.sat_count.proofs.LevelLemmas.{erase-live, ground-grows, ground-stands, helped-stand}

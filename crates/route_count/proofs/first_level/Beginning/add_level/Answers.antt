@@ -1,9 +1,9 @@
 use Rattle.std.proofs.Common.{◌≡◌, ◌+◌, ◌∙◌, ◌≤◌, ℕ, List, All, arith, length, subst, sym}
 use Rattle.sat_clause.specs.declared.limits.TheConstants.{LITERAL_LIMIT}
-use Rattle.sat_count.specs.Drafts.{IsBelow}
+use Rattle.sat_count.specs.Firsts.{IsBelow}
 use Rattle.sat_count.specs.Levels.{Stands}
 use Rattle.sat_count.specs.Refuting.{AreLive, Erases, Grows, RefutationState, begun}
-use Rattle.sat_count.proofs.DraftLemmas.{first-stands}
+use Rattle.sat_count.proofs.StandLemmas.{first-stands}
 use Rattle.sat_count.proofs.GrowLemmas.{grows-none, grows-on}
 use Rattle.sat_count.proofs.LevelLemmas.{erase-live}
 use Rattle.route_count.specs.Firsts.{firsts_of}

@@ -2,7 +2,7 @@ use Rattle.std.proofs.Common.{◌≡◌, ◌+◌, ◌<◌, ◌∙◌, ◌∷◌,
 use Rattle.sat_clause.specs.Literal.{Clause, IsWithin}
 use Rattle.sat_rat.specs.FullRup.{full_rup}
 use Rattle.sat_count.specs.Refuting.{Holds, RefutationState, live_of}
-use Rattle.sat_count.proofs.DraftLemmas.{some-inside}
+use Rattle.sat_count.proofs.StandLemmas.{some-inside}
 use Rattle.route_count.specs.Firsts.{firsts_of}
 use Rattle.route_count.specs.Said.{IsInput}
 use Rattle.route_count.proofs.FirstLemmas.{some-as}

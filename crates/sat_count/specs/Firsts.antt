@@ -1,14 +1,8 @@
--- Refutations whose steps a replay has taken, and what their first level is made of.
+-- What the first level of a count is made of.
 use Rattle.std.specs.Prelude.{◌≢◌, ℕ, ◌+◌, ◌≤◌, ◌<◌, List, All, slice_index}
 use Rattle.sat_clause.specs.Literal.{Clause}
-use Rattle.sat_rat.specs.FullReplaying.{HasFullyReplayed}
 use Rattle.sat_count.specs.Places.{name, not_both, some_clause}
 use Rattle.sat_count.specs.Refuting.{RefutationState}
-use Rattle.sat_count.specs.declared.draft.Draft.{Draft}
-
--- the replay has taken the steps
-abbrev pub IsJudged : Draft → Type 0
-IsJudged draft = HasFullyReplayed draft.refutation.cnf draft.refutation.steps draft.replay
 
 -- so many variables from each of these on are different ones
 abbrev pub AreApart : (tracks : ℕ) → (firsts : List ℕ) → Type 0

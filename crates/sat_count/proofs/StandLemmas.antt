@@ -1,45 +1,25 @@
 -- The first level.
-use Rattle.std.proofs.Common.{◌≡◌, ℕ, ◌+◌, ◌<◌, ◌≤◌, List, length, get_or, All, subst, ap, arith}
+use Rattle.std.proofs.Common.{◌≡◌, ℕ, ◌+◌, ◌≤◌, List, length, get_or, All, subst, ap, arith}
 use Rattle.sat_clause.specs.declared.literal.Lit.{Lit}
 use Rattle.sat_clause.specs.Literal.{IsWithin}
-use Rattle.sat_count.specs.Drafts.{AreApart, IsBelow, first_apart, first_some}
+use Rattle.sat_count.specs.Firsts.{AreApart, IsBelow, first_apart, first_some}
 use Rattle.sat_count.specs.Levels.{Stands}
-use Rattle.sat_count.specs.Names.{no}
-use Rattle.sat_count.specs.Places.{apart_id, name, pair_place, some_id}
-use Rattle.sat_count.specs.Refuting.{Erases, Grows, Holds, RefutationState}
+use Rattle.sat_count.specs.Places.{apart_id, pair_place, some_id}
+use Rattle.sat_count.specs.Refuting.{Erases, Holds, RefutationState}
 use Rattle.sat_count.specs.Rows.{AddsPairs, AddsRow}
 use Rattle.sat_count.proofs.GrowLemmas.{grows-on}
 use Rattle.sat_count.proofs.LevelLemmas.{live-erased}
 use Rattle.sat_count.proofs.RowLemmas.{row-all}
-use Rattle.sat_count.proofs.VariableLemmas.{within-no, within-two, within-yes}
-
--- where more variables were added, these stand there still
-pub below-grows : (a b : RefutationState) (tracks : ℕ) (firsts : List ℕ) → Grows a b
-    → IsBelow a tracks firsts → IsBelow b tracks firsts
-below-grows a b tracks firsts grows below k d low =
-    let was = below k d low in omega (arith, was, grows.variables)
+use Rattle.sat_count.proofs.VariableLemmas.{within-yes}
 
 module _ (r : RefutationState) (tracks : ℕ) (firsts : List ℕ) (each : length firsts ≡ tracks + 1)
     (below : IsBelow r tracks firsts) where
-  pub name-below : (place track : ℕ) → place ≤ tracks → track < tracks
-      → name firsts place track < r.last_variable
-  name-below place track low inside =
-      let first = below place 0 (omega (arith, low, each)) in omega (arith, first, inside)
-
   pub some-inside : (place : ℕ) → place ≤ tracks
       → All (IsWithin r.last_variable) (first_some tracks firsts place)
   some-inside place low =
       let first = below place 0 (omega (arith, low, each)) in
       row-all (λ (l : Lit). IsWithin r.last_variable l) (get_or firsts place 0) tracks
       (λ k from under. within-yes r.last_variable k (omega (arith, under, first)))
-
-  pub apart-inside : (lower higher track : ℕ) → lower < higher → higher ≤ tracks → track < tracks
-      → All (IsWithin r.last_variable) (first_apart firsts lower higher track)
-  apart-inside lower higher track order low inside =
-      within-two r.last_variable (no (name firsts lower track)) (no (name firsts higher track))
-      (within-no r.last_variable (name firsts lower track)
-      (name-below lower track (omega (arith, order, low)) inside))
-      (within-no r.last_variable (name firsts higher track) (name-below higher track low inside))
 
 module _ (r0 r1 r2 r3 : RefutationState) (tracks : ℕ) (firsts : List ℕ)
     (each : length firsts ≡ tracks + 1) (below : IsBelow r0 tracks firsts)
