@@ -18,8 +18,9 @@ use std::alloc::{AllocError, Global};
 /// problem has more trees. The first clauses of the formula are those of
 /// [`Strict`](route_encode::Strict), which alone are used.
 ///
-/// `None` comes where there is neither. The time and the memory are those of [`crowd`](route_crowd::crowd) and of the steps, which grow
-/// with the fourth power of the tracks: 4.6 million at 64.
+/// `None` comes where there is neither. The time and the memory are those of
+/// [`crowd`](route_crowd::crowd) and of the steps, which grow with the fourth power of the tracks:
+/// 4.6 million at 64.
 ///
 /// # Errors
 /// Where memory is short.
