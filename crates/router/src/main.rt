@@ -35,9 +35,14 @@ fn tells_progress(rt: &HostRuntime) -> bool {
 }
 
 // Says what the run came to, if there is memory for that and someone to take it.
-fn say<R: Files + AllocGlobal + Eprint>(rt: &R, words: &[String], outcome: &Outcome) {
+fn say<R: Files + AllocGlobal + Eprint>(
+    rt: &R,
+    desk: &mut FileDesk<'_, R>,
+    words: &[String],
+    outcome: &Outcome,
+) {
     let mut text = String::new(rt.alloc());
-    if append_words(rt, &mut text, words, outcome).is_ok() && !text.is_empty() {
+    if append_words(rt, desk, &mut text, words, outcome).is_ok() && !text.is_empty() {
         let _ = eprint!(rt; "{text}");
     }
 }
@@ -49,6 +54,6 @@ fn main(rt: HostRuntime) -> ExitCode {
     let mut desk = FileDesk::new(&rt);
     let mut shelf = TellingShelf::new(&rt, FileShelf::new(&rt), tells_progress(&rt));
     let outcome = run(rt.alloc(), &words, &mut desk, &mut shelf);
-    say(&rt, &words, &outcome);
+    say(&rt, &mut desk, &words, &outcome);
     ExitCode::from(status(&outcome))
 }

@@ -4,4 +4,6 @@ mod PlacementCodes
 mod RouteCodes
 mod FitCodes
 mod ClauseCodes
+mod NameLemmas
 mod SaidLemmas
+mod UseLemmas

@@ -1,19 +1,33 @@
 -- What was appended of an outcome is what is to be said of it.
-use Rattle.std.proofs.Common.{◌≡◌, ℕ, List, ◌++◌, Option, ap, ap₂, ◌∙◌}
+use Rattle.std.proofs.Common.{◌≡◌, ℕ, List, ◌++◌, Option, ap, ap₂, subst, ◌∙◌}
 use Rattle.std.specs.Prelude.{codes}
-use Rattle.router_says.specs.Said.{IsSaid, Means, about_said, file_about}
+use Rattle.desk_io.specs.DeskState.{DeskState}
+use Rattle.router_says.specs.AtFault.{Appends}
+use Rattle.router_says.specs.Said.{IsSaid, Means, Names, about_said, file_about}
 use Rattle.router_top.specs.declared.outcome.Outcome.{Outcome}
 use Rattle.router_top.specs.declared.text_file.TextFile.{TextFile}
-use Rattle.router_words.specs.Word.{Word}
+use Rattle.router_words.specs.Job.{JobAsked}
 
-pub said-whole : (words : List Word) (outcome : Outcome) (about : Option TextFile)
-    (meaning text old a b new : List ℕ) → about ≡ file_about outcome → text ≡ meaning →
-    Means outcome meaning → a ≡ old ++ about_said words about → b ≡ a ++ text →
-    new ≡ b ++ codes "\n" → IsSaid words outcome old new
-said-whole words outcome about meaning text old a b new is_about is_text means e1 e2 e3 = record {
-  meaning = meaning;
-  means = means;
-  text = e3 ∙ ap (λ (t : List ℕ). t ++ codes "\n")
-      (e2 ∙ ap₂ (λ (s t : List ℕ). s ++ t)
-      (e1 ∙ ap (λ (file : Option TextFile). old ++ about_said words file) is_about) is_text);
-}
+pub said-whole : (before now : DeskState) (asked : Option JobAsked) (outcome : Outcome)
+    (about : Option TextFile) (meaning text old a b c new : List ℕ) → about ≡ file_about outcome →
+    text ≡ meaning → Means asked outcome meaning → a ≡ old ++ about_said asked about →
+    b ≡ a ++ text → Appends (Names before now asked outcome) b c → new ≡ c ++ codes "\n" →
+    IsSaid before now asked outcome old new
+said-whole before now asked outcome about meaning text old a b c new is_about is_text means e1 e2
+    named e3 = record {
+      meaning = meaning;
+      named = named.0;
+      means = means;
+      names = named.1;
+      text = e3 ∙ ap (λ (t : List ℕ). t ++ codes "\n")
+          (named.2 ∙ ap (λ (t : List ℕ). t ++ named.0)
+          (e2 ∙ ap₂ (λ (s t : List ℕ). s ++ t)
+          (e1 ∙ ap (λ (file : Option TextFile). old ++ about_said asked file) is_about) is_text));
+    }
+
+-- the job that was read is what the words ask for
+pub said-asked : (before now : DeskState) (a b : Option JobAsked) (outcome : Outcome)
+    (old new : List ℕ) → a ≡ b → IsSaid before now a outcome old new →
+    IsSaid before now b outcome old new
+said-asked before now a b outcome old new same said =
+    subst (λ (x : Option JobAsked). IsSaid before now x outcome old new) same said

@@ -1,5 +1,7 @@
 -- The names of the files that a job reads, as its words give them.
-use Rattle.std.specs.Prelude.{ℕ, ◌++◌, List, codes, Option, Some, None, Result, Ok, Err}
+use Rattle.std.specs.Prelude.{ℕ, ◌++◌, List, codes, Option, Some, None, Result, Ok, Err, option_and_then, option_map}
+use Rattle.router_says.specs.declared.names.Written.{Written}
+use Rattle.router_says.specs.declared.names.Written.TheVariants.{Each, One}
 use Rattle.router_top.specs.TextFiles.{file_word}
 use Rattle.router_top.specs.declared.text_file.TextFile.{TextFile}
 use Rattle.router_top.specs.declared.text_file.TextFile.TheVariants.{Architecture, Netlist, Placement, Route as RouteFile, Cnf, Lrat, Routed}
@@ -8,6 +10,8 @@ use Rattle.router_words.specs.Job.{CheckAsked, FilesAsked, JobAsked, VerifyAsked
 use Rattle.router_words.specs.Word.{Word}
 use Rattle.router_words.specs.declared.fault.Refusal.{Refusal}
 use Rattle.router_words.specs.declared.job.Job.{Job}
+use Rattle.router_words.specs.declared.method.Method.{Method}
+use Rattle.router_words.specs.declared.method.Method.TheVariants.{Within}
 
 -- the name among those of a problem's four files
 abbrev pub name_of_four : FilesAsked → TextFile → Option Word
@@ -39,19 +43,58 @@ name_given (Verifies ask) file = name_of_five ask file
 name_given (Generates ask) file = None
 name_given (Tries ask) file = None
 
--- the name, if there is a job and it reads the file
-abbrev pub name_of : Option Job → TextFile → Option Word
-name_of (Some job) file = name_given (job_said job) file
+-- what words ask for, where they ask for a job
+abbrev pub asked_of : Result JobAsked Refusal → Option JobAsked
+asked_of (Ok ask) = Some ask
+asked_of (Err refusal) = None
+
+abbrev pub asked_in : List Word → Option JobAsked
+asked_in words = asked_of (job_of words)
+
+-- what a job asks for, if there is one
+abbrev pub asked : Option Job → Option JobAsked
+asked job = option_map job_said job
+
+-- the name that is given for a file, if a job is asked for that reads it
+abbrev pub name_of : Option JobAsked → TextFile → Option Word
+name_of (Some ask) file = name_given ask file
 name_of None file = None
 
--- the name, where words ask for a job
-abbrev pub name_asked : Result JobAsked Refusal → TextFile → Option Word
-name_asked (Ok ask) file = name_given ask file
-name_asked (Err refusal) file = None
+-- within how many joins of wires nets are to reach their sinks, where that is asked for
+abbrev pub reach_by : Method → Option ℕ
+reach_by (Within reach) = Some reach
+reach_by _ = None
 
--- the name that words give for a file, if what they ask for reads it
-abbrev pub name_in : List Word → TextFile → Option Word
-name_in words file = name_asked (job_of words) file
+abbrev pub reach_given : JobAsked → Option ℕ
+reach_given (Routes ask) = reach_by ask.search.method
+reach_given (Sweeps ask) = reach_by ask.search.method
+reach_given (Encodes ask) = reach_by ask.method
+reach_given (Verifies ask) = ask.reach
+reach_given (Tries ask) = reach_by ask.search.method
+reach_given _ = None
+
+abbrev pub reach_of : Option JobAsked → Option ℕ
+reach_of asked = option_and_then reach_given asked
+
+-- what a search begins the names of its files with: one at one width, or a climb, which has files
+-- for each width
+pub data Prefix : Type 0 where
+  OfOne : Word → Prefix
+  OfEach : Word → Prefix
+
+abbrev pub prefix_given : JobAsked → Option Prefix
+prefix_given (Routes ask) = Some (OfOne ask.search.prefix)
+prefix_given (Blames ask) = Some (OfOne ask.prefix)
+prefix_given (Sweeps ask) = Some (OfEach ask.search.prefix)
+prefix_given (Tries ask) = Some (OfEach ask.search.prefix)
+prefix_given _ = None
+
+abbrev pub prefix_of : Option JobAsked → Option Prefix
+prefix_of asked = option_and_then prefix_given asked
+
+abbrev pub prefix_said : Written → Prefix
+prefix_said (One prefix) = OfOne prefix.now
+prefix_said (Each prefix) = OfEach prefix.now
 
 -- the kind of a file, and the name that was given for it
 abbrev pub file_said : TextFile → Option Word → List ℕ

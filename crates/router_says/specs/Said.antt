@@ -1,16 +1,21 @@
 -- What is said of an outcome that was not asked for.
-use Rattle.std.specs.Prelude.{◌≡◌, ℕ, ◌++◌, ⊤, IsTrue, List, [], codes, decimal, Option, Some, None}
-use Rattle.code_words.specs.Phrases.{is_phrase}
+use Rattle.std.specs.Prelude.{◌≡◌, ℕ, ◌++◌, ◌==◌, ⊤, List, [], codes, decimal, is_some, nat_lt, Option, Some, None, unwrap_or, if◌then◌else◌}
+use Rattle.code_words.specs.Causes.{cause_phrase, refusal_phrase, within_reach_phrase}
+use Rattle.desk_io.specs.DeskState.{DeskState}
+use Rattle.fpga_types.specs.declared.limits.TheConstants.{WIDTH_LIMIT}
 use Rattle.route_symmetry.specs.declared.full.Asymmetry.{Asymmetry}
 use Rattle.route_symmetry.specs.declared.full.Asymmetry.TheVariants.{Inputs, Outputs, Pads, Pattern}
-use Rattle.router_says.specs.Names.{file_said, name_in}
+use Rattle.router_says.specs.AtFault.{NamesSought, sought_of}
+use Rattle.router_says.specs.Names.{OfEach, Prefix, file_said, name_of, prefix_of, reach_of}
 use Rattle.router_top.specs.declared.outcome.Obstacle.{Obstacle}
 use Rattle.router_top.specs.declared.outcome.Obstacle.TheVariants.{Order, Pins}
 use Rattle.router_top.specs.declared.outcome.Outcome.{Outcome}
-use Rattle.router_top.specs.declared.outcome.Outcome.TheVariants.{NotAccepted, NotLegal, NotSymmetric, InputFault, Limit, ReadFault}
+use Rattle.router_top.specs.declared.outcome.Outcome.TheVariants.{NotAccepted, NotLegal, NotSymmetric, InputFault, Limit, ReadFault, WriteFault, OutOfMemory}
+use Rattle.router_top.specs.declared.slot.Slot.{Slot as SlotOf}
+use Rattle.router_top.specs.declared.slot.Slot.TheVariants.{Said as SaidSlot}
 use Rattle.router_top.specs.declared.text_file.TextFile.{TextFile}
 use Rattle.router_top.specs.declared.text_file.TextFile.TheVariants.{Lrat, Routed}
-use Rattle.router_words.specs.Word.{Word}
+use Rattle.router_words.specs.Job.{JobAsked}
 
 -- the file that an outcome is about, if it is about one
 abbrev pub file_about : Outcome → Option TextFile
@@ -22,14 +27,20 @@ file_about (ReadFault file) = Some file
 file_about _ = None
 
 -- what is said first: the file that is meant, by the name that the words give
-abbrev pub about_said : List Word → Option TextFile → List ℕ
-about_said words (Some file) = file_said file (name_in words file)
-about_said words None = []
+abbrev pub about_said : Option JobAsked → Option TextFile → List ℕ
+about_said asked (Some file) = file_said file (name_of asked file)
+about_said asked None = []
 
 -- a line of a file, what is wrong with it, and the code
 abbrev pub line_said : (line code : ℕ) → (why : List ℕ) → List ℕ
 line_said line code why =
     codes ", line " ++ decimal line ++ codes ": " ++ why ++ codes " (code " ++ decimal code
+    ++ codes ")"
+
+-- a line of a routed file, what is wrong with it, and the cause
+abbrev pub judged_said : (line cause : ℕ) → (why : List ℕ) → List ℕ
+judged_said line cause why =
+    codes ", line " ++ decimal line ++ codes ": " ++ why ++ codes " (cause " ++ decimal cause
     ++ codes ")"
 
 -- a step of a log, why it is refused, and the cause
@@ -73,22 +84,95 @@ obstacle_said width why =
     codes "not symmetric at " ++ (decimal width ++ (codes " tracks: " ++ (reason_said why
     ++ (codes ", so " ++ (option_said why ++ codes " can't be used")))))
 
--- a text that says so with some phrase as the reason
-abbrev pub GivesWhy : ((why : List ℕ) → List ℕ) → List ℕ → Type 0
-GivesWhy said text = (why : List ℕ) × IsTrue (is_phrase why) × (text ≡ said why)
+-- ---- why
+
+abbrev pub line_why : (code : ℕ) → List ℕ
+line_why code = unwrap_or (cause_phrase code) (codes "this line is not taken")
+
+-- of a line of a file that is judged within a reach, or without one
+abbrev pub judged_why : (reach : Option ℕ) → (cause : ℕ) → List ℕ
+judged_why reach cause =
+    unwrap_or (if is_some reach then within_reach_phrase cause else cause_phrase cause)
+    (codes "this line is not taken")
+
+abbrev pub step_why : (cause : ℕ) → List ℕ
+step_why cause = unwrap_or (refusal_phrase cause) (codes "it does not follow")
+
+abbrev pub limit_why : (code : ℕ) → List ℕ
+limit_why code = unwrap_or (cause_phrase code) (codes "a number passes its limit")
+
+-- ---- a search that found no routing
+
+-- within how many joins, where a reach was given
+abbrev pub reach_said : (reach : Option ℕ) → List ℕ
+reach_said (Some reach) = codes " within " ++ decimal reach ++ codes " joins of wires"
+reach_said None = []
+
+-- a climb has refuted the lower widths too
+abbrev pub up_to_said : Option Prefix → List ℕ
+up_to_said (Some (OfEach prefix)) = codes "up to "
+up_to_said _ = []
+
+-- a greater width can be tried, where the words take one
+abbrev pub greater_said : (width : ℕ) → List ℕ
+greater_said width =
+    if nat_lt width WIDTH_LIMIT then codes ", or route at a greater width." else codes "."
+
+-- ---- what failed
+
+abbrev pub memory_said : Option Prefix → List ℕ
+memory_said (Some (OfEach prefix)) =
+    codes "Memory ran out. The widths K of which this run wrote " ++ prefix
+    ++ codes ".wK.lrat are refuted, and nothing else was found."
+memory_said _ = codes "Memory ran out, so that nothing was found."
+
+-- standard output, or a file
+abbrev pub unwritten_said : SlotOf → List ℕ
+unwritten_said SaidSlot = codes "Standard output takes no more of what this run says."
+unwritten_said slot =
+    codes "The system refused to write what this run leaves: is there a folder of this name, "
+    ++ codes "with room and the right to write?"
+
+-- ---- words that are not taken
+
+-- what is wrong with them; which options clash is told
+abbrev pub usage_why : (code : ℕ) → (clash : List ℕ) → List ℕ
+usage_why code clash =
+    if code == 1 then
+    codes "The first word is to be a command: route, sweep, encode, core, check, verify, gen or "
+    ++ codes "trial.\n" else
+    if code == 3 then codes "A number is missing or out of its range.\n" else
+    if code == 4 then clash else
+    codes "The command does not take these words.\n"
+
+-- ---- the whole
 
 -- a text says what is wrong, and why
-abbrev pub Means : Outcome → List ℕ → Type 0
-Means (NotAccepted step cause) text = GivesWhy (step_said step cause) text
-Means (NotLegal line cause) text = GivesWhy (line_said line cause) text
-Means (InputFault file line code) text = GivesWhy (line_said line code) text
-Means (Limit file code count) text =
-    GivesWhy (λ why. limit_gap file ++ limit_said code count why) text
-Means (NotSymmetric width why) text = text ≡ obstacle_said width why
-Means _ text = ⊤
+abbrev pub Means : Option JobAsked → Outcome → List ℕ → Type 0
+Means asked (NotAccepted step cause) text = text ≡ step_said step cause (step_why cause)
+Means asked (NotLegal line cause) text =
+    text ≡ judged_said line cause (judged_why (reach_of asked) cause)
+Means asked (InputFault file line code) text = text ≡ line_said line code (line_why code)
+Means asked (Limit file code count) text =
+    text ≡ limit_gap file ++ limit_said code count (limit_why code)
+Means asked (NotSymmetric width why) text = text ≡ obstacle_said width why
+Means asked (WriteFault slot) text = text ≡ unwritten_said slot
+Means asked OutOfMemory text = text ≡ memory_said (prefix_of asked)
+Means asked _ text = ⊤
 
--- after what stood in a text comes the file that is meant, then what is wrong, and a newline
-pub record IsSaid (words : List Word) (outcome : Outcome) (old new : List ℕ) : Type 0 where
+-- what is at fault in a file is named, where its code alone does not tell; the files are read once
+-- more for it
+abbrev pub Names : (before now : DeskState) → Option JobAsked → Outcome → List ℕ → Type 0
+Names before now asked (InputFault file line code) named =
+    NamesSought before now (name_of asked) line (sought_of file code) named
+Names before now asked _ named = named ≡ []
+
+-- after what stood in a text comes the file that is meant, then what is wrong, what is at fault,
+-- and a newline
+pub record IsSaid (before now : DeskState) (asked : Option JobAsked) (outcome : Outcome)
+    (old new : List ℕ) : Type 0 where
   pub meaning : List ℕ
-  pub means : Means outcome meaning
-  pub text : new ≡ old ++ about_said words (file_about outcome) ++ meaning ++ codes "\n"
+  pub named : List ℕ
+  pub means : Means asked outcome meaning
+  pub names : Names before now asked outcome named
+  pub text : new ≡ old ++ about_said asked (file_about outcome) ++ meaning ++ named ++ codes "\n"

@@ -1,7 +1,12 @@
 //! What a run came to, in plain words for the person who started it.
 #![tactic(auto)]
 
+mod at_fault;
+mod line_of;
+mod missing;
+mod name_bytes;
 mod names;
+mod pin_use;
 mod refused;
 mod symmetry;
 mod unread;

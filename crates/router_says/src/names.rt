@@ -1,8 +1,18 @@
 //! The names of the files that a job reads and writes.
-ghost use Rattle.std.specs.Prelude.{◌≡◌, IfOk};
+ghost use Rattle.std.specs.Prelude.{◌≡◌, IfOk, option_map};
 ghost use Rattle.std.specs.Option.{option_copied};
-ghost use Rattle.router_says.specs.Names.{name_in, name_of, name_of_five, name_of_four, name_of_two};
-ghost use Rattle.router_top.specs.declared.text_file.TextFile.{TextFile as AnyFile};
+ghost use Rattle.router_says.specs.Names.{
+  asked,
+  asked_in,
+  name_of,
+  name_of_five,
+  name_of_four,
+  name_of_two,
+  prefix_of,
+  prefix_said,
+  reach_by,
+  reach_of as reach_of_job,
+};
 ghost use Rattle.router_words.specs.Job.{check_said, files_said, verify_said};
 ghost use Rattle.router_words.specs.Word.{words_of};
 
@@ -12,8 +22,7 @@ use std::alloc::{AllocError, Global};
 
 /// The job that the words ask for, if they ask for one.
 pub(crate) fn job_in<'a>(alloc: Global, words: &'a [String]) -> Result<Option<Job<'a>>, AllocError>
-    ensures { IfOk result (λ job. (file : AnyFile) →
-        name_of job file ≡ name_in (words_of words.entry.now) file) }
+    ensures { IfOk result (λ job. asked job ≡ asked_in (words_of words.entry.now)) }
 {
     match read_words(alloc, words) {
         Ok(job) => Ok(Some(job)),
@@ -24,7 +33,7 @@ pub(crate) fn job_in<'a>(alloc: Global, words: &'a [String]) -> Result<Option<Jo
 
 /// The name that was given for a file, if the job reads it.
 pub(crate) fn given_name<'a>(job: Option<Job<'a>>, file: TextFile) -> Option<&'a str>
-    ensures { option_copied result ≡ name_of job.entry file }
+    ensures { option_copied result ≡ name_of (asked job.entry) file }
 {
     let Some(job) = job else {
         return None;
@@ -90,8 +99,13 @@ pub(crate) enum Written<'a> {
 }
 
 /// The files of a job that searches.
-pub(crate) fn files_written(job: Option<Job<'_>>) -> Option<Written<'_>> {
-    match job? {
+pub(crate) fn files_written(job: Option<Job<'_>>) -> Option<Written<'_>>
+    ensures { option_map prefix_said result ≡ prefix_of (asked job.entry) }
+{
+    let Some(job) = job else {
+        return None;
+    };
+    match job {
         Job::Route(job) => Some(Written::One(job.search.prefix)),
         Job::Core(job) => Some(Written::One(job.prefix)),
         Job::Sweep(job) => Some(Written::Each(job.search.prefix)),
@@ -101,8 +115,13 @@ pub(crate) fn files_written(job: Option<Job<'_>>) -> Option<Written<'_>> {
 }
 
 /// Within how many joins of wires a job has nets reach their sinks, where it says so.
-pub(crate) fn reach_asked(job: Option<Job<'_>>) -> Option<u32> {
-    match job? {
+pub(crate) fn reach_asked(job: Option<Job<'_>>) -> Option<u32>
+    ensures { result ≡ reach_of_job (asked job.entry) }
+{
+    let Some(job) = job else {
+        return None;
+    };
+    match job {
         Job::Route(job) => reach_of(job.search.method),
         Job::Sweep(job) => reach_of(job.search.method),
         Job::Encode(job) => reach_of(job.method),
@@ -112,7 +131,9 @@ pub(crate) fn reach_asked(job: Option<Job<'_>>) -> Option<u32> {
     }
 }
 
-fn reach_of(method: Method) -> Option<u32> {
+fn reach_of(method: Method) -> Option<u32>
+    ensures { result ≡ reach_by method }
+{
     match method {
         Method::Within(reach) => Some(reach),
         Method::Strictly | Method::Pinned | Method::Ordered => None,

@@ -1,7 +1,13 @@
 //! Words for what is wrong in a file.
 ghost use Rattle.std.specs.Prelude.{◌≡◌, ◌++◌, OnOk, string_bytes};
-ghost use Rattle.router_says.specs.Names.{file_said, name_of};
-ghost use Rattle.router_says.specs.Said.{limit_gap, limit_said, line_said, step_said};
+ghost use Rattle.router_says.specs.Names.{asked, file_said, name_of};
+ghost use Rattle.router_says.specs.Said.{
+  judged_said,
+  limit_gap,
+  limit_said,
+  line_said,
+  step_said,
+};
 
 use crate::names::given_name;
 use router_top::TextFile;
@@ -19,6 +25,19 @@ pub(crate) fn append_line(
         (string_bytes out.new ≡ string_bytes out.old ++ line_said line code why.now) }
 {
     write!(out, ", line {line}: {why} (code {code})")
+}
+
+/// Appends which line of a routed file is bad, and why.
+pub(crate) fn append_judged(
+    out: &mut String,
+    line: u64,
+    cause: u32,
+    why: &str,
+) -> Result<(), AllocError>
+    ensures { OnOk result
+        (string_bytes out.new ≡ string_bytes out.old ++ judged_said line cause why.now) }
+{
+    write!(out, ", line {line}: {why} (cause {cause})")
 }
 
 /// Appends which number passes its limit.
@@ -68,8 +87,8 @@ pub(crate) fn append_file(
     job: Option<Job<'_>>,
     file: TextFile,
 ) -> Result<(), AllocError>
-    ensures { OnOk result
-        (string_bytes out.new ≡ string_bytes out.old ++ file_said file (name_of job.entry file)) }
+    ensures { OnOk result (string_bytes out.new
+        ≡ string_bytes out.old ++ file_said file (name_of (asked job.entry) file)) }
 {
     let kind = file.word();
     match given_name(job, file) {

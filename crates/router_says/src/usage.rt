@@ -1,4 +1,7 @@
 //! Words for a command that is not taken.
+ghost use Rattle.std.specs.Prelude.{◌≡◌};
+ghost use Rattle.router_says.specs.Said.{usage_why};
+
 use std::alloc::AllocError;
 
 /// Appends what is wrong with the words, what the command takes, and an example.
@@ -11,15 +14,31 @@ pub(crate) fn append_usage(
         Some(word) => word.as_str(),
         None => "",
     };
+    append_form(out, name, why(code, clash_of(name)))
+}
+
+// Appends these words, what the command takes, and an example.
+fn append_form(out: &mut String, name: &str, why: &str) -> Result<(), AllocError> {
     let (takes, example) = form_of(name);
-    out.push_str(match code {
-        1 => "The first word is to be a command: route, sweep, encode, core, check, verify, gen \
-             or trial.\n",
+    write!(
+        out,
+        "{why}Usage: gafkelam {takes}\nAs in: gafkelam {example}"
+    )
+}
+
+// What is wrong with the words; which options clash is told.
+fn why(code: u32, clash: &'static str) -> &'static str
+    ensures { result.now ≡ usage_why code clash.now }
+{
+    match code {
+        1 => {
+            "The first word is to be a command: route, sweep, encode, core, check, verify, gen or \
+             trial.\n"
+        }
         3 => "A number is missing or out of its range.\n",
-        4 => clash_of(name),
+        4 => clash,
         _ => "The command does not take these words.\n",
-    })?;
-    write!(out, "Usage: gafkelam {takes}\nAs in: gafkelam {example}")
+    }
 }
 
 // Which options of a command exclude each other, or need another.

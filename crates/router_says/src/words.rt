@@ -1,39 +1,73 @@
 //! The words for each outcome.
-ghost use Rattle.std.specs.Prelude.{◌≡◌, ◌++◌, IfOk, IfSome, IsOk, IsTrue, List, OnOk, false, string_bytes};
-ghost use Rattle.code_words.specs.Phrases.{is_phrase};
-ghost use Rattle.router_says.specs.Names.{name_in, name_of};
+ghost use Rattle.std.specs.Prelude.{
+  ◌≡◌,
+  ◌++◌,
+  IfOk,
+  IsOk,
+  IsTrue,
+  OnOk,
+  false,
+  string_bytes,
+  unwrap_or,
+};
+ghost use Rattle.std.specs.Option.{option_copied};
+ghost use Rattle.router_says.specs.AtFault.{Appends};
+ghost use Rattle.router_says.specs.Names.{asked, asked_in, prefix_of};
 ghost use Rattle.router_says.specs.Quiet.{is_quiet};
-ghost use Rattle.router_says.specs.Said.{GivesWhy, IsSaid, Means, about_said, file_about, limit_gap, limit_said, line_said, obstacle_said, step_said};
-ghost use Rattle.router_top.specs.declared.text_file.TextFile.{TextFile as AnyFile};
-ghost use Rattle.router_words.specs.Word.{Word, words_of};
+ghost use Rattle.router_says.specs.Said.{
+  IsSaid,
+  Means,
+  Names,
+  about_said,
+  file_about,
+  judged_said,
+  judged_why,
+  limit_gap,
+  limit_said,
+  limit_why,
+  line_said,
+  line_why,
+  memory_said,
+  obstacle_said,
+  step_said,
+  step_why,
+  unwritten_said,
+};
+ghost use Rattle.router_words.specs.Word.{words_of};
 
+use crate::at_fault::append_at_fault;
 use crate::names::{given_name, job_in, reach_asked};
-use crate::refused::{append_file, append_limit, append_line, append_step};
+use crate::refused::{append_file, append_judged, append_limit, append_line, append_step};
 use crate::symmetry::append_obstacle;
 use crate::unread::append_unread;
 use crate::unsettled::{append_no_memory, append_undecided, append_unroutable};
 use crate::usage::append_usage;
 use code_words::{cause, cause_within_reach, refusal};
-use router_top::{Obstacle, Outcome, TextFile};
+use desk_io::Desk;
+use router_top::{Obstacle, Outcome, Slot, TextFile};
 use router_words::Job;
 use std::alloc::{AllocError, Global};
 use std::rt::Files;
 
 /// Appends what an outcome of a run with these words means, in lines that end with a newline:
-/// which file is meant, by the name that was given; what its line has; what can be tried next. It
-/// appends nothing where the run came to what was asked for, and in each other case something.
+/// which file is meant, by the name that was given; what its line has, and the name of what is at
+/// fault there; what can be tried next. It appends nothing where the run came to what was asked
+/// for, and in each other case something.
 ///
-/// After a read fault it asks the system for the file once more, to tell why it is not read.
-pub fn append_words<R: Files + AllocGlobal>(
+/// After a read fault it asks the system for the file once more, to tell why it is not read; and
+/// where a code leaves one searching, the desk for the files that have the name.
+pub fn append_words<R: Files + AllocGlobal, D: Desk>(
     rt: &R,
+    desk: &mut D,
     out: &mut String,
     words: &[String],
     outcome: &Outcome,
 ) -> Result<(), AllocError>
     ensures quiet { IsTrue (is_quiet outcome.now) →
         IsOk result × (string_bytes out.new ≡ string_bytes out.old) }
-    ensures said { OnOk result (is_quiet outcome.now ≡ false → IsSaid (words_of words.now)
-        outcome.now (string_bytes out.old) (string_bytes out.new)) }
+    ensures said { OnOk result (is_quiet outcome.now ≡ false → IsSaid (D.state desk.old)
+        (D.state desk.new) (asked_in (words_of words.now)) outcome.now (string_bytes out.old)
+        (string_bytes out.new)) }
 {
     if came_as_asked(outcome) {
         return Ok(());
@@ -42,6 +76,7 @@ pub fn append_words<R: Files + AllocGlobal>(
     let meaning = meaning(rt, words, job, outcome)?;
     append_about(out, job, file_meant(outcome))?;
     out.push_str(meaning.as_str())?;
+    append_named(rt.alloc(), desk, out, job, outcome)?;
     out.push_str("\n")?;
     Ok(())
 }
@@ -94,15 +129,30 @@ fn append_about(
     job: Option<Job<'_>>,
     file: Option<TextFile>,
 ) -> Result<(), AllocError>
-    ensures { OnOk result ((words : List Word) → ((named : AnyFile) →
-        name_of job.entry named ≡ name_in words named) →
-        string_bytes out.new ≡ string_bytes out.old ++ about_said words file) }
+    ensures { OnOk result
+        (string_bytes out.new ≡ string_bytes out.old ++ about_said (asked job.entry) file) }
 {
     let Some(file) = file else {
         return Ok(());
     };
-    append_file(out, job, file)?;
-    Ok(())
+    append_file(out, job, file)
+}
+
+// Appends the name of what is at fault in a file, where its code does not tell.
+fn append_named<D: Desk>(
+    alloc: Global,
+    desk: &mut D,
+    out: &mut String,
+    job: Option<Job<'_>>,
+    outcome: &Outcome,
+) -> Result<(), AllocError>
+    ensures { OnOk result (Appends (Names (D.state desk.old) (D.state desk.new)
+        (asked job.entry) outcome.now) (string_bytes out.old) (string_bytes out.new)) }
+{
+    let Outcome::InputFault { file, line, code } = *outcome else {
+        return Ok(());
+    };
+    append_at_fault(alloc, desk, out, job, file, line, code)
 }
 
 // What the outcome means, without the file that it is about and without the newline at the end.
@@ -112,62 +162,70 @@ fn meaning<R: Files + AllocGlobal>(
     job: Option<Job<'_>>,
     outcome: &Outcome,
 ) -> Result<String, AllocError>
-    ensures { IfOk result (λ text. Means outcome.now (string_bytes text)) }
+    ensures { IfOk result (λ text. Means (asked job.entry) outcome.now (string_bytes text)) }
 {
     match *outcome {
         Outcome::NotAccepted { step, cause } => refused_step(rt.alloc(), step, cause),
-        Outcome::NotLegal { line, cause } => {
-            bad_line(rt.alloc(), line, cause, why_not_legal(job, cause))
-        }
-        Outcome::InputFault { line, code, .. } => bad_line(rt.alloc(), line, code, cause(code)),
+        Outcome::NotLegal { line, cause } => not_legal(rt.alloc(), line, cause, reach_asked(job)),
+        Outcome::InputFault { line, code, .. } => bad_line(rt.alloc(), line, code),
         Outcome::Limit { file, code, count } => passed_limit(rt.alloc(), file, code, count),
         Outcome::NotSymmetric { width, why } => obstacle(rt.alloc(), width, why),
-        Outcome::Unroutable { .. }
-        | Outcome::Undecided { .. }
-        | Outcome::Usage { .. }
-        | Outcome::ReadFault { .. }
-        | Outcome::WriteFault { .. }
-        | Outcome::OutOfMemory
-        | Outcome::Routed { .. }
-        | Outcome::Done
-        | Outcome::Accepted
-        | Outcome::LegalRoute => advice(rt, words, job, outcome),
+        Outcome::Unroutable { width } => unroutable(rt.alloc(), job, width),
+        Outcome::Undecided { width, learned } => undecided(rt.alloc(), job, width, learned),
+        Outcome::Usage { code } => usage(rt.alloc(), words, code),
+        Outcome::ReadFault { file } => unread(rt, given_name(job, file)),
+        Outcome::WriteFault { slot } => String::from_str(rt.alloc(), unwritten(slot)),
+        Outcome::OutOfMemory => no_memory(rt.alloc(), job),
+        Outcome::Routed { .. } | Outcome::Done | Outcome::Accepted | Outcome::LegalRoute => {
+            Ok(String::new(rt.alloc()))
+        }
     }
 }
 
-// The words for the cause against a line of a routed file.
-fn why_not_legal(job: Option<Job<'_>>, code: u32) -> Option<&'static str>
-    ensures { IfSome result (λ words. IsTrue (is_phrase words.now)) }
+// Which line of a routed file is bad, and why.
+fn not_legal(alloc: Global, line: u64, code: u32, reach: Option<u32>) -> Result<String, AllocError>
+    ensures { IfOk result (λ text.
+        string_bytes text ≡ judged_said line code (judged_why reach code)) }
 {
-    match reach_asked(job) {
+    let words = match reach {
         Some(_) => cause_within_reach(code),
         None => cause(code),
-    }
+    };
+    let mut text = String::new(alloc);
+    append_judged(
+        &mut text,
+        line,
+        code,
+        words_or(words, "this line is not taken"),
+    )?;
+    Ok(text)
 }
 
-// Which line is bad, and why: by these words, if the code has any.
-fn bad_line(
-    alloc: Global,
-    line: u64,
-    code: u32,
-    words: Option<&'static str>,
-) -> Result<String, AllocError>
-    requires { IfSome words (λ words. IsTrue (is_phrase words.now)) }
-    ensures { IfOk result (λ text. GivesWhy (line_said line code) (string_bytes text)) }
+// Which line is bad, and why.
+fn bad_line(alloc: Global, line: u64, code: u32) -> Result<String, AllocError>
+    ensures { IfOk result (λ text. string_bytes text ≡ line_said line code (line_why code)) }
 {
-    let why = words_or(words, "this line is not taken");
     let mut text = String::new(alloc);
-    append_line(&mut text, line, code, why)?;
+    append_line(
+        &mut text,
+        line,
+        code,
+        words_or(cause(code), "this line is not taken"),
+    )?;
     Ok(text)
 }
 
 // Which step is refused, and why.
 fn refused_step(alloc: Global, step: u64, code: u32) -> Result<String, AllocError>
-    ensures { IfOk result (λ text. GivesWhy (step_said step code) (string_bytes text)) }
+    ensures { IfOk result (λ text. string_bytes text ≡ step_said step code (step_why code)) }
 {
-    let why = words_or(refusal(code), "it does not follow");
     let mut text = String::new(alloc);
-    append_step(&mut text, step, code, why)?;
+    append_step(
+        &mut text,
+        step,
+        code,
+        words_or(refusal(code), "it does not follow"),
+    )?;
     Ok(text)
 }
 
@@ -178,11 +236,11 @@ fn passed_limit(
     code: u32,
     count: u64,
 ) -> Result<String, AllocError>
-    ensures { IfOk result (λ text. GivesWhy
-        (λ why. limit_gap file ++ limit_said code count why) (string_bytes text)) }
+    ensures { IfOk result (λ text. string_bytes text
+        ≡ limit_gap file ++ limit_said code count (limit_why code)) }
 {
-    let why = words_or(cause(code), "a number passes its limit");
     let mut text = String::new(alloc);
+    let why = words_or(cause(code), "a number passes its limit");
     append_limit(&mut text, file, code, count, why)?;
     Ok(text)
 }
@@ -198,9 +256,7 @@ fn obstacle(alloc: Global, width: u32, why: Obstacle) -> Result<String, AllocErr
 
 // The words for a cause, or these where it has none.
 fn words_or(words: Option<&'static str>, others: &'static str) -> &'static str
-    requires words { IfSome words (λ words. IsTrue (is_phrase words.now)) }
-    requires others { IsTrue (is_phrase others.now) }
-    ensures { IsTrue (is_phrase result.now) }
+    ensures { result.now ≡ unwrap_or (option_copied words.entry) others.now }
 {
     match words {
         Some(words) => words,
@@ -208,35 +264,58 @@ fn words_or(words: Option<&'static str>, others: &'static str) -> &'static str
     }
 }
 
-// What the outcome means, where that is no line, no step and no number, and what can be tried next.
-fn advice<R: Files + AllocGlobal>(
-    rt: &R,
-    words: &[String],
-    job: Option<Job<'_>>,
-    outcome: &Outcome,
-) -> Result<String, AllocError> {
-    let mut text = String::new(rt.alloc());
-    match *outcome {
-        Outcome::Unroutable { width } => append_unroutable(&mut text, job, width)?,
-        Outcome::Undecided { width, learned } => {
-            append_undecided(&mut text, job, width, learned)?
-        }
-        Outcome::Usage { code } => append_usage(&mut text, words, code)?,
-        Outcome::ReadFault { file } => append_unread(rt, &mut text, given_name(job, file))?,
-        Outcome::WriteFault { .. } => text.push_str(
-            "The system refused to write what this run leaves: is there a folder of this name, \
-             with room and the right to write?",
-        )?,
-        Outcome::OutOfMemory => append_no_memory(&mut text, job)?,
-        Outcome::NotAccepted { .. }
-        | Outcome::NotLegal { .. }
-        | Outcome::InputFault { .. }
-        | Outcome::Limit { .. }
-        | Outcome::NotSymmetric { .. }
-        | Outcome::Routed { .. }
-        | Outcome::Done
-        | Outcome::Accepted
-        | Outcome::LegalRoute => (),
-    }
+// That no routing of a width is legal.
+fn unroutable(alloc: Global, job: Option<Job<'_>>, width: u32) -> Result<String, AllocError> {
+    let mut text = String::new(alloc);
+    append_unroutable(&mut text, job, width)?;
     Ok(text)
+}
+
+// That a width is open, and what can be tried next.
+fn undecided(
+    alloc: Global,
+    job: Option<Job<'_>>,
+    width: u32,
+    learned: u64,
+) -> Result<String, AllocError> {
+    let mut text = String::new(alloc);
+    append_undecided(&mut text, job, width, learned)?;
+    Ok(text)
+}
+
+// Which words a command takes.
+fn usage(alloc: Global, words: &[String], code: u32) -> Result<String, AllocError> {
+    let mut text = String::new(alloc);
+    append_usage(&mut text, words, code)?;
+    Ok(text)
+}
+
+// That a file is not read.
+fn unread<R: Files + AllocGlobal>(rt: &R, name: Option<&str>) -> Result<String, AllocError> {
+    let mut text = String::new(rt.alloc());
+    append_unread(rt, &mut text, name)?;
+    Ok(text)
+}
+
+// That memory ran out.
+fn no_memory(alloc: Global, job: Option<Job<'_>>) -> Result<String, AllocError>
+    ensures { IfOk result (λ text. string_bytes text ≡ memory_said (prefix_of (asked job.entry))) }
+{
+    let mut text = String::new(alloc);
+    append_no_memory(&mut text, job)?;
+    Ok(text)
+}
+
+// What the system did not take.
+fn unwritten(slot: Slot) -> &'static str
+    ensures { result.now ≡ unwritten_said slot }
+{
+    match slot {
+        Slot::Said => "Standard output takes no more of what this run says.",
+        Slot::File(_) | Slot::Architecture | Slot::Netlist | Slot::Placement | Slot::GlobalRoute =>
+            {
+                "The system refused to write what this run leaves: is there a folder of this name, \
+             with room and the right to write?"
+            }
+    }
 }

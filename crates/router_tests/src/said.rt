@@ -1,3 +1,4 @@
+use desk_io::FileDesk;
 use router_says::append_words;
 use router_top::{Outcome, TextFile};
 use std::test::Fail;
@@ -9,7 +10,7 @@ fn said(rt: &HostRuntime, line: &str, outcome: Outcome) -> Result<String, Fail> 
         words.push(String::from_str(rt.alloc(), word)?)?;
     }
     let mut out = String::new(rt.alloc());
-    append_words(rt, &mut out, &words, &outcome)?;
+    append_words(rt, &mut FileDesk::new(rt), &mut out, &words, &outcome)?;
     Ok(out)
 }
 
