@@ -13,7 +13,7 @@ _gafkelam() {
     core) options="--conflicts --help" ;;
     trial) options="--conflicts --keep --count --reach --help" ;;
     encode) options="--pin --symmetry --reach --help" ;;
-    verify) options="--reach --help" ;;
+    verify | picture) options="--reach --help" ;;
     esac
     if [ "${word:0:1}" = - ]; then
         mapfile -t COMPREPLY < <(compgen -W "$options" -- "$word")

@@ -1,17 +1,17 @@
 -- Marks on crowded cells, one cell more; and the last line of the caption.
-use Rattle.std.proofs.Common.{◌≡◌, ℕ, zero, suc, ◌+◌, ◌<◌, Bool, true, false, cond, List, [], ◌∷◌, ◌++◌, length, length-append, refl, sym, ap, ap₂, subst, ◌∙◌, arith, append-nil, append_assoc, add-zero, zero-add}
-use Rattle.std.specs.Prelude.{IsTrue, All, codes, filter, map, nat_lt, if◌then◌else◌}
+use Rattle.std.proofs.Common.{◌≡◌, ℕ, zero, suc, ◌+◌, ◌<◌, Bool, true, false, List, [], ◌∷◌, ◌++◌, length, length-append, refl, sym, ap, ap₂, subst, ◌∙◌, arith, append-nil, append_assoc, zero-add}
+use Rattle.std.specs.Prelude.{IsTrue, codes, filter, nat_lt, if◌then◌else◌}
 use Rattle.std.specs.List.{range_with_len}
 use Rattle.std.proofs.lemmas.List.{map-append}
 use Rattle.std.proofs.lemmas.List.Elements.{All-nil, All-push, filter-append}
 use Rattle.list_laws.proofs.Ranges.{range-push}
-use Rattle.fpga_types.specs.CellNumbers.{cell_count, number_of_cell}
+use Rattle.fpga_types.specs.CellNumbers.{number_of_cell}
 use Rattle.fpga_types.specs.Fabric.{is_cell}
 use Rattle.fpga_types.specs.Size.{Size}
 use Rattle.fpga_types.specs.declared.grid.Cell.{Cell}
 use Rattle.route_draw.specs.Caption.{crowd_counted, crowded_cells, line_opening}
-use Rattle.route_draw.specs.Crowded.{AddsMarks, AreFirstCells, AreMarks, IsMark, IsMarkIf, is_crowded, mark_title}
-use Rattle.route_draw.specs.Parts.{Adds, AreParts}
+use Rattle.route_draw.specs.Crowded.{AddsMarks, IsMark, IsMarkIf, is_crowded, mark_title}
+use Rattle.route_draw.specs.Parts.{Adds}
 use Rattle.route_draw.proofs.PartLemmas.{parts-more}
 
 -- no cell has no mark
@@ -53,10 +53,12 @@ marks-next grid wants width count crowded here want cell old mid new within numb
             front.is_part.are_marks
             (subst (λ (n : ℕ). IsMarkIf (nat_lt width n) cell n width next.part) is next.is_part);
         counted = ap₂ (λ (a b : ℕ). a + b) front.is_part.counted
-            (counts ∙ ap (λ (n : ℕ). if nat_lt width n then 1 else 0) is ∙ one (nat_lt width (wants cell)) refl)
+            (counts ∙ ap (λ (n : ℕ). if nat_lt width n then 1 else 0) is
+            ∙ one (nat_lt width (wants cell)) refl)
             ∙ sym (length-append (filter (is_crowded wants width) front.is_part.cells)
             (filter (is_crowded wants width) (cell ∷ [])))
-            ∙ sym (ap length (filter-append (is_crowded wants width) front.is_part.cells (cell ∷ [])));
+            ∙ sym (ap length
+            (filter-append (is_crowded wants width) front.is_part.cells (cell ∷ [])));
       };
       added = next.added ∙ ap (λ (t : List ℕ). t ++ next.part) front.added
           ∙ append_assoc old front.part next.part;

@@ -1,6 +1,8 @@
 mod CountLemmas
 mod CrowdLemmas
+mod LaneLemmas
 mod NameLemmas
 mod NeedLemmas
 mod PartLemmas
 mod PictureLemmas
+mod WireLemmas

@@ -1,7 +1,6 @@
 -- A table of what cells want, as lines and slots are taken.
 use Rattle.std.proofs.Common.{◌≡◌, ◌≢◌, ℕ, ◌+◌, ◌<◌, ◌≤◌, Bool, true, false, cond, List, [], ◌∷◌, ◌++◌, length, length-append, length-set, get_or, slice_set, refl, sym, ap, subst, ◌∙◌, arith, add-zero, add-one, append_assoc, take}
-use Rattle.std.specs.Prelude.{IsTrue, Option, Some, None, filter, nat_lt, slice_get}
-use Rattle.std.specs.Option.{option_map_or}
+use Rattle.std.specs.Prelude.{IsTrue, Some, None, filter, nat_lt, slice_get}
 use Rattle.std.proofs.Math.Seq.{take-length}
 use Rattle.std.proofs.lemmas.Bool.{false≢true}
 use Rattle.std.proofs.lemmas.Bool.Decides.{nat_tests}
@@ -166,7 +165,8 @@ slots-push cell all slot b is =
 
 slots-apart : (cell : Cell) (all : List Slot) (slot : Slot) → same_cell slot.cell cell ≡ false
     → slots_in cell (all ++ slot ∷ []) ≡ slots_in cell all
-slots-apart cell all slot other = slots-push cell all slot false other ∙ add-zero (slots_in cell all)
+slots-apart cell all slot other =
+    slots-push cell all slot false other ∙ add-zero (slots_in cell all)
 
 -- a slot outside of the array
 pub counts-outside : (grid : Size) (all : List Slot) (slot : Slot) (needs : List ℕ)

@@ -13,24 +13,38 @@ added-none IsPart [] old = record { part = []; is_part = refl; added = sym (appe
 added-none IsPart (x ∷ xs) old =
     record { part = []; is_part = refl; added = sym (append-nil old) }
 
--- one element more has one part more
-pub parts-more : {T : Type 0} (IsPart : T → List ℕ → Type 0) (xs : List T) (x : T)
-    (front part : List ℕ) → AreParts IsPart xs front → IsPart x part →
-    AreParts IsPart (xs ++ x ∷ []) (front ++ part)
-parts-more IsPart [] x front part none is = record {
+-- the parts of some elements, and behind them those of others
+pub parts-append : {T : Type 0} (IsPart : T → List ℕ → Type 0) (xs ys : List T)
+    (front behind : List ℕ) → AreParts IsPart xs front → AreParts IsPart ys behind →
+    AreParts IsPart (xs ++ ys) (front ++ behind)
+parts-append IsPart [] ys front behind none parts =
+    subst (AreParts IsPart ys) (sym (ap (λ (t : List ℕ). t ++ behind) none)) parts
+parts-append IsPart (x ∷ xs) ys front behind parts others = record {
+  front = parts.front;
+  rest = parts.rest ++ behind;
+  is_front = parts.is_front;
+  is_rest = parts-append IsPart xs ys parts.rest behind parts.is_rest others;
+  joined = ap (λ (t : List ℕ). t ++ behind) parts.joined
+      ∙ append_assoc parts.front parts.rest behind;
+}
+
+-- the part of one element
+pub part-alone : {T : Type 0} (IsPart : T → List ℕ → Type 0) (x : T) (part : List ℕ) →
+    IsPart x part → AreParts IsPart (x ∷ []) part
+part-alone IsPart x part is = record {
   front = part;
   rest = [];
   is_front = is;
   is_rest = refl;
-  joined = ap (λ (t : List ℕ). t ++ part) none ∙ sym (append-nil part);
+  joined = sym (append-nil part);
 }
-parts-more IsPart (y ∷ ys) x front part parts is = record {
-  front = parts.front;
-  rest = parts.rest ++ part;
-  is_front = parts.is_front;
-  is_rest = parts-more IsPart ys x parts.rest part parts.is_rest is;
-  joined = ap (λ (t : List ℕ). t ++ part) parts.joined ∙ append_assoc parts.front parts.rest part;
-}
+
+-- one element more has one part more
+pub parts-more : {T : Type 0} (IsPart : T → List ℕ → Type 0) (xs : List T) (x : T)
+    (front part : List ℕ) → AreParts IsPart xs front → IsPart x part →
+    AreParts IsPart (xs ++ x ∷ []) (front ++ part)
+parts-more IsPart xs x front part parts is =
+    parts-append IsPart xs (x ∷ []) front part parts (part-alone IsPart x part is)
 
 -- the part of the next element was added
 pub added-next : {T : Type 0} (IsPart : T → List ℕ → Type 0) (xs : List T) (i : ℕ) (x : T)

@@ -6,14 +6,15 @@ use Rattle.fpga_types.specs.Problem.{RoutingProblem}
 use Rattle.fpga_types.specs.declared.grid.Cell.{Cell}
 use Rattle.fpga_types.specs.declared.netlist.Block.{Block}
 use Rattle.fpga_types.specs.declared.netlist.Net.{Net}
+use Rattle.fpga_types.specs.declared.route.Elem.{Elem}
 use Rattle.fpga_types.specs.declared.route.RouteNet.{RouteNet}
-use Rattle.fpga_types.specs.declared.route.RouteText.{RouteText}
 use Rattle.route_draw.specs.Blamed.{Blame, mark_of}
 use Rattle.route_draw.specs.Caption.{AreCounts, IsKey, blamed_counted, counted, crowd_counted, global_count, line_opening}
-use Rattle.route_draw.specs.Crowded.{AddsMarks, AreCrowded, AreMarks}
-use Rattle.route_draw.specs.Needs.{AreNeeds, wanted}
+use Rattle.route_draw.specs.Crowded.{AddsMarks, AreMarks}
+use Rattle.route_draw.specs.Needs.{AreNeeds}
 use Rattle.route_draw.specs.Parts.{Adds, AreParts}
-use Rattle.route_draw.specs.Picture.{IsBlock, IsBody, IsGlobal, IsGlobalIf, IsPicture, IsRouted, IsRoutedUnless, block_class, group}
+use Rattle.route_draw.specs.Picture.{IsBlock, IsBody, IsGlobal, IsGlobalIf, IsPictureOf, IsRouted, IsRoutedUnless, block_class, group}
+use Rattle.route_draw.specs.Wires.{AreLanes, AreWires, LanesOf, Layout}
 
 pub block-added : (block : Block) (class name drawn old new : List ℕ) →
     class ≡ block_class block.kind → name ≡ block.name →
@@ -38,24 +39,29 @@ global-added blame net mark name drawn old new global named marked added = recor
   added = added;
 }
 
-pub net-added : (blame : Blame) (net : RouteNet) (mark colour name drawn old new : List ℕ) →
-    net.global ≡ false → name ≡ net.name → mark ≡ mark_of blame name →
+pub net-added : (layout : Layout) (blame : Blame) (net : RouteNet) (elems : List Elem)
+    (mark colour name drawn made old new : List ℕ) → net.global ≡ false → name ≡ net.name →
+    elems ≡ net.elems → mark ≡ mark_of blame name → drawn ≡ made → AreWires layout elems made →
     new ≡ old ++ group mark (codes "n\" stroke=\"") colour name drawn →
-    Adds (IsRouted blame net) old new
-net-added blame net mark colour name drawn old new other named marked added = record {
-  part = group mark (codes "n\" stroke=\"") colour name drawn;
-  is_part = subst
-      (λ (b : Bool). IsRoutedUnless b (mark_of blame net.name) net.name
-      (group mark (codes "n\" stroke=\"") colour name drawn)) (sym other) (
-        colour,
-        (
-          drawn,
-          ap₂ (λ (m n : List ℕ). group m (codes "n\" stroke=\"") colour n drawn)
-              (marked ∙ ap (mark_of blame) named) named,
-        ),
-      );
-  added = added;
-}
+    Adds (IsRouted layout blame net) old new
+net-added layout blame net elems mark colour name drawn made old new other named lined marked is
+    wires added =
+    record {
+      part = group mark (codes "n\" stroke=\"") colour name drawn;
+      is_part = subst
+          (λ (b : Bool). IsRoutedUnless b layout (mark_of blame net.name) net
+          (group mark (codes "n\" stroke=\"") colour name drawn)) (sym other) (
+            colour,
+            (
+              drawn,
+              subst (λ (t : List ℕ). AreWires layout net.elems t) (sym is)
+                  (subst (λ (es : List Elem). AreWires layout es made) lined wires),
+              ap₂ (λ (m n : List ℕ). group m (codes "n\" stroke=\"") colour n drawn)
+                  (marked ∙ ap (mark_of blame) named) named,
+            ),
+          );
+      added = added;
+    }
 
 pub counts-added : (problem : RoutingProblem) (blame : Blame) (nets : List Net)
     (blocks width y : ℕ) (s0 s1 s2 s3 s4 : List ℕ) → nets ≡ problem.netlist.nets →
@@ -69,16 +75,20 @@ counts-added problem blame nets blocks width y s0 s1 s2 s3 s4 are_nets are_block
           ++ blamed_counted blame nets ++ codes "</text>\n";
       is_part = (
         y,
-        ap₂ (λ (ns : List Net) (b : ℕ). line_opening y ++ counted (length ns) (global_count ns) b width
+        ap₂ (λ (ns : List Net) (b : ℕ).
+            line_opening y ++ counted (length ns) (global_count ns) b width
             ++ blamed_counted blame ns ++ codes "</text>\n") are_nets are_blocks,
       );
       added = e4 ∙ ap (λ (t : List ℕ). t ++ codes "</text>\n")
           (e3 ∙ ap (λ (t : List ℕ). t ++ blamed_counted blame nets)
           (e2 ∙ ap (λ (t : List ℕ). t ++ counted (length nets) (global_count nets) blocks width) e1
-          ∙ append_assoc s0 (line_opening y) (counted (length nets) (global_count nets) blocks width))
-          ∙ append_assoc s0 (line_opening y ++ counted (length nets) (global_count nets) blocks width)
+          ∙ append_assoc s0 (line_opening y)
+          (counted (length nets) (global_count nets) blocks width))
+          ∙ append_assoc s0
+          (line_opening y ++ counted (length nets) (global_count nets) blocks width)
           (blamed_counted blame nets))
-          ∙ append_assoc s0 (line_opening y ++ counted (length nets) (global_count nets) blocks width
+          ∙ append_assoc s0
+          (line_opening y ++ counted (length nets) (global_count nets) blocks width
           ++ blamed_counted blame nets) (codes "</text>\n");
     }
 
@@ -86,13 +96,13 @@ pub key-made : (crowded y : ℕ) (s1 s2 : List ℕ) → s2 ≡ s1 ++ crowd_count
     IsKey crowded s2
 key-made crowded y s1 s2 added = (s1, (y, added))
 
-pub body-added : (problem : RoutingProblem) (blame : Blame) (blocks : List Block) (globals : List Net)
-    (nets : List RouteNet) (old a b new : List ℕ) → blocks ≡ problem.netlist.blocks →
-    globals ≡ problem.netlist.nets → nets ≡ problem.route.nets →
+pub body-added : (problem : RoutingProblem) (layout : Layout) (blame : Blame) (blocks : List Block)
+    (globals : List Net) (nets : List RouteNet) (old a b new : List ℕ) →
+    blocks ≡ problem.netlist.blocks → globals ≡ problem.netlist.nets → nets ≡ problem.route.nets →
     Adds (AreParts IsBlock blocks) old a → Adds (AreParts (IsGlobal blame) globals) a b →
-    Adds (AreParts (IsRouted blame) nets) b new → Adds (IsBody problem blame) old new
-body-added problem blame blocks globals nets old a b new all_blocks all_globals all_nets first next
-    last =
+    Adds (AreParts (IsRouted layout blame) nets) b new → Adds (IsBody problem layout blame) old new
+body-added problem layout blame blocks globals nets old a b new all_blocks all_globals all_nets
+    first next last =
     record {
       part = first.part ++ next.part ++ last.part;
       is_part = record {
@@ -103,8 +113,8 @@ body-added problem blame blocks globals nets old a b new all_blocks all_globals 
             first.is_part;
         are_globals = subst (λ (xs : List Net). AreParts (IsGlobal blame) xs next.part) all_globals
             next.is_part;
-        are_nets = subst (λ (xs : List RouteNet). AreParts (IsRouted blame) xs last.part) all_nets
-            last.is_part;
+        are_nets = subst (λ (xs : List RouteNet). AreParts (IsRouted layout blame) xs last.part)
+            all_nets last.is_part;
         text_is = refl;
       };
       added = last.added ∙ ap (λ (t : List ℕ). t ++ last.part)
@@ -113,14 +123,14 @@ body-added problem blame blocks globals nets old a b new all_blocks all_globals 
           ∙ append_assoc old (first.part ++ next.part) last.part;
     }
 
-pub picture-made : (problem : RoutingProblem) (width crowded : ℕ) (blame : Blame)
+pub picture-made : (problem : RoutingProblem) (layout : Layout) (crowded : ℕ) (blame : Blame)
     (head m0 marks key : List ℕ) (s0 s1 s2 s3 s4 s5 s6 s7 s8 : List ℕ) → m0 ≡ [] →
-    AddsMarks problem.route.grid (wanted problem.route) width (cell_count problem.route.grid)
-    crowded m0 marks → IsKey crowded key → s0 ≡ [] → s1 ≡ s0 ++ codes "<svg " → s2 ≡ s1 ++ head →
-    Adds (IsBody problem blame) s2 s3 → s4 ≡ s3 ++ marks → s5 ≡ s4 ++ codes "</g>\n" →
-    Adds (AreCounts problem width blame) s5 s6 → s7 ≡ s6 ++ key → s8 ≡ s7 ++ codes "</svg>\n" →
-    IsPicture problem width blame s8
-picture-made problem width crowded blame head m0 marks key
+    AddsMarks layout.grid layout.wants layout.width (cell_count layout.grid) crowded m0 marks →
+    IsKey crowded key → s0 ≡ [] → s1 ≡ s0 ++ codes "<svg " → s2 ≡ s1 ++ head →
+    Adds (IsBody problem layout blame) s2 s3 → s4 ≡ s3 ++ marks → s5 ≡ s4 ++ codes "</g>\n" →
+    Adds (AreCounts problem layout.width blame) s5 s6 → s7 ≡ s6 ++ key →
+    s8 ≡ s7 ++ codes "</svg>\n" → IsPictureOf problem layout blame s8
+picture-made problem layout crowded blame head m0 marks key
     s0 s1 s2 s3 s4 s5 s6 s7 s8 none marked keyed e0 e1 e2 body e4 e5 line e7 e8 =
     record {
       head = head;
@@ -132,8 +142,7 @@ picture-made problem width crowded blame head m0 marks key
       are_crowded = record {
         crowded = crowded;
         are_marks = subst
-            (AreMarks problem.route.grid (wanted problem.route) width
-            (cell_count problem.route.grid) crowded)
+            (AreMarks layout.grid layout.wants layout.width (cell_count layout.grid) crowded)
             (sym (marked.added ∙ ap (λ (t : List ℕ). t ++ marked.part) none)) marked.is_part;
         is_key = keyed;
       };
@@ -149,17 +158,17 @@ picture-made problem width crowded blame head m0 marks key
     }
 
 -- the marks on the cells of a route, by a table of what they want
-pub marks-said : (route said : RouteText) (width crowded : ℕ) (needs items old new text : List ℕ)
-    → said ≡ route → needs ≡ items → text ≡ new → AreNeeds route.grid (wanted route) items
-    → ((wants : Cell → ℕ) → AreNeeds said.grid wants needs
-    → AddsMarks said.grid wants width (cell_count said.grid) crowded old new)
-    → AddsMarks route.grid (wanted route) width (cell_count route.grid) crowded old text
-marks-said route said width crowded needs items old new text is_route are_items is_text are adds =
+pub marks-said : (layout : Layout) (width crowded : ℕ) (needs : List ℕ) (lanes : LanesOf)
+    (old new text : List ℕ) → needs ≡ lanes.needs → width ≡ layout.width → text ≡ new
+    → AreLanes layout lanes
+    → ((wants : Cell → ℕ) → AreNeeds layout.grid wants needs
+    → AddsMarks layout.grid wants width (cell_count layout.grid) crowded old new)
+    → AddsMarks layout.grid layout.wants layout.width (cell_count layout.grid) crowded old text
+marks-said layout width crowded needs lanes old new text are_needs is_width is_text are adds =
     subst (λ (t : List ℕ).
-    AddsMarks route.grid (wanted route) width (cell_count route.grid) crowded old t)
+    AddsMarks layout.grid layout.wants layout.width (cell_count layout.grid) crowded old t)
     (sym is_text)
-    (subst (λ (r : RouteText).
-    AddsMarks r.grid (wanted route) width (cell_count r.grid) crowded old new) is_route
-    (adds (wanted route)
-    (subst (λ (r : RouteText). AreNeeds r.grid (wanted route) needs) (sym is_route)
-    (subst (λ (ns : List ℕ). AreNeeds route.grid (wanted route) ns) (sym are_items) are))))
+    (subst (λ (w : ℕ).
+    AddsMarks layout.grid layout.wants w (cell_count layout.grid) crowded old new)
+    is_width (adds layout.wants (subst (λ (ns : List ℕ). AreNeeds layout.grid layout.wants ns)
+    (sym are_needs) are.needs)))

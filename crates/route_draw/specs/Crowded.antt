@@ -7,18 +7,17 @@ use Rattle.fpga_types.specs.Size.{Size}
 use Rattle.fpga_types.specs.declared.grid.Axis.{Axis}
 use Rattle.fpga_types.specs.declared.grid.Axis.TheVariants.{X, Y}
 use Rattle.fpga_types.specs.declared.grid.Cell.{Cell}
-use Rattle.fpga_types.specs.declared.route.RouteText.{RouteText}
 use Rattle.route_draw.specs.Caption.{IsKey}
-use Rattle.route_draw.specs.Needs.{wanted}
 use Rattle.route_draw.specs.Parts.{Adds, AreParts}
+use Rattle.route_draw.specs.Wires.{Layout}
 
 -- the kind of a cell's channel
 abbrev pub kind_of : Axis → List ℕ
 kind_of X = codes "CHANX"
 kind_of Y = codes "CHANY"
 
--- the title of a mark: the kind of channel and the place of the cell, and how many tracks it wants of
--- how many
+-- the title of a mark: the kind of channel and the place of the cell, and how many tracks it wants
+-- of how many
 abbrev pub place_said : (kind : List ℕ) → (x y : ℕ) → List ℕ
 place_said kind x y =
     codes "\"><title>" ++ kind ++ codes " (" ++ decimal x ++ codes "," ++ decimal y
@@ -67,7 +66,8 @@ abbrev pub AddsMarks : Size → (wants : Cell → ℕ) → (width count crowded 
 AddsMarks grid wants width count crowded = Adds (AreMarks grid wants width count crowded)
 
 -- a mark on each crowded cell of the array and on no other, and a key that says how many these are
-pub record AreCrowded (route : RouteText) (width : ℕ) (marks key : List ℕ) : Type 0 where
+pub record AreCrowded (layout : Layout) (marks key : List ℕ) : Type 0 where
   pub crowded : ℕ
-  pub are_marks : AreMarks route.grid (wanted route) width (cell_count route.grid) crowded marks
+  pub are_marks :
+      AreMarks layout.grid layout.wants layout.width (cell_count layout.grid) crowded marks
   pub is_key : IsKey crowded key

@@ -5,3 +5,4 @@ pub mod Escape
 pub mod Needs
 pub mod Parts
 pub mod Picture
+pub mod Wires

@@ -1,5 +1,5 @@
 -- How many tracks the cells of a route want.
-use Rattle.std.specs.Prelude.{◌≡◌, ℕ, ◌+◌, ◌==◌, ◌&&◌, Bool, false, not, IsTrue, List, [], ◌∷◌, filter, flat_map, is_some, length, nat_lt, slice_index, if◌then◌else◌}
+use Rattle.std.specs.Prelude.{◌≡◌, ℕ, ◌+◌, ◌==◌, ◌&&◌, Bool, true, false, not, IsTrue, List, [], ◌∷◌, filter, flat_map, is_some, length, nat_lt, slice_index, if◌then◌else◌}
 use Rattle.std.specs.List.{list_any}
 use Rattle.std.specs.Option.{option_map_or}
 use Rattle.fpga_types.specs.CellNumbers.{cell_count, number_of_cell}
@@ -45,12 +45,11 @@ most_asked cell es = most_from 0 cell es
 abbrev pub slots_in : Cell → List Slot → ℕ
 slots_in cell all = length (filter (λ (slot : Slot). same_cell slot.cell cell) all)
 
--- how many tracks a cell of a route wants: those up to the highest there, and of a global route as
--- many as nets go through it
-abbrev pub wanted : RouteText → Cell → ℕ
-wanted route cell =
-    if has_tracks route.nets then most_asked cell (lines_of route.nets)
-    else slots_in cell (slots route)
+-- how many tracks a cell of a route wants: those up to the highest there, and where nets stand side
+-- by side as many as go through it
+abbrev pub wanted : (on_tracks : Bool) → RouteText → Cell → ℕ
+wanted true route cell = most_asked cell (lines_of route.nets)
+wanted false route cell = slots_in cell (slots route)
 
 -- each cell of the array has its number in a table, at its place
 pub record AreNeeds (grid : Size) (wants : Cell → ℕ) (needs : List ℕ) : Type 0 where

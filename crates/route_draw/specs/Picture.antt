@@ -1,16 +1,19 @@
 -- What a picture shows, as a text of SVG.
-use Rattle.std.specs.Prelude.{◌≡◌, ℕ, Bool, true, false, List, [], ◌++◌, codes, flat_map}
+use Rattle.std.specs.Prelude.{◌≡◌, ℕ, Bool, true, false, List, [], ◌++◌, None, codes, flat_map}
 use Rattle.fpga_types.specs.Problem.{RoutingProblem}
 use Rattle.fpga_types.specs.declared.netlist.Block.{Block}
 use Rattle.fpga_types.specs.declared.netlist.BlockKind.{BlockKind}
 use Rattle.fpga_types.specs.declared.netlist.BlockKind.TheVariants.{Input, Output, Logic}
 use Rattle.fpga_types.specs.declared.netlist.Net.{Net}
 use Rattle.fpga_types.specs.declared.route.RouteNet.{RouteNet}
+use Rattle.fpga_types.specs.declared.route.RouteText.{RouteText}
 use Rattle.route_draw.specs.Blamed.{Blame, mark_of}
 use Rattle.route_draw.specs.Caption.{AreCounts}
 use Rattle.route_draw.specs.Crowded.{AreCrowded}
 use Rattle.route_draw.specs.Escape.{escaped}
+use Rattle.route_draw.specs.Needs.{has_tracks}
 use Rattle.route_draw.specs.Parts.{AreParts}
+use Rattle.route_draw.specs.Wires.{AreWires, Layout, layout_of}
 
 -- what stands before the name of a group, and what stands behind it
 abbrev pub opening : (mark class colour : List ℕ) → List ℕ
@@ -47,37 +50,51 @@ abbrev pub IsGlobal : Blame → Net → List ℕ → Type 0
 IsGlobal blame net text = IsGlobalIf net.global (mark_of blame net.name) net.name text
 
 -- of a net of the route: nothing if it is global, and else a group in a colour with its mark and
--- name
-abbrev pub IsRoutedUnless : Bool → (mark name : List ℕ) → List ℕ → Type 0
-IsRoutedUnless true mark name text = text ≡ []
-IsRoutedUnless false mark name text =
-    (colour : List ℕ) × ((drawn : List ℕ)
-    × (text ≡ group mark (codes "n\" stroke=\"") colour name drawn))
+-- name, in which its wires stand
+abbrev pub IsRoutedUnless : Bool → Layout → (mark : List ℕ) → RouteNet → List ℕ → Type 0
+IsRoutedUnless true layout mark net text = text ≡ []
+IsRoutedUnless false layout mark net text =
+    (colour : List ℕ) × ((drawn : List ℕ) × AreWires layout net.elems drawn
+    × (text ≡ group mark (codes "n\" stroke=\"") colour net.name drawn))
 
-abbrev pub IsRouted : Blame → RouteNet → List ℕ → Type 0
-IsRouted blame net text = IsRoutedUnless net.global (mark_of blame net.name) net.name text
+abbrev pub IsRouted : Layout → Blame → RouteNet → List ℕ → Type 0
+IsRouted layout blame net text =
+    IsRoutedUnless net.global layout (mark_of blame net.name) net text
 
 -- the blocks, the global nets and the nets of the route, each once and in their order
-pub record IsBody (problem : RoutingProblem) (blame : Blame) (text : List ℕ) : Type 0 where
+pub record IsBody (problem : RoutingProblem) (layout : Layout) (blame : Blame) (text : List ℕ) :
+    Type 0 where
   pub blocks : List ℕ
   pub globals : List ℕ
   pub nets : List ℕ
   pub are_blocks : AreParts IsBlock problem.netlist.blocks blocks
   pub are_globals : AreParts (IsGlobal blame) problem.netlist.nets globals
-  pub are_nets : AreParts (IsRouted blame) problem.route.nets nets
+  pub are_nets : AreParts (IsRouted layout blame) problem.route.nets nets
   pub text_is : text ≡ blocks ++ globals ++ nets
 
--- a picture of a problem: one element of SVG from its start to its end, with all blocks and nets, a
--- mark on each crowded cell and on no other, and below them the counts and a key
-pub record IsPicture (problem : RoutingProblem) (width : ℕ) (blame : Blame) (text : List ℕ) :
-    Type 0 where
+-- a picture of a problem, whose wires stand so in the channels: one element of SVG from its start
+-- to its end, with all blocks and nets, a mark on each crowded cell and on no other, and below them
+-- the counts and a key
+pub record IsPictureOf (problem : RoutingProblem) (layout : Layout) (blame : Blame)
+    (text : List ℕ) : Type 0 where
   pub head : List ℕ
   pub body : List ℕ
   pub marks : List ℕ
   pub line : List ℕ
   pub key : List ℕ
-  pub is_body : IsBody problem blame body
-  pub are_crowded : AreCrowded problem.route width marks key
-  pub are_counts : AreCounts problem width blame line
+  pub is_body : IsBody problem layout blame body
+  pub are_crowded : AreCrowded layout marks key
+  pub are_counts : AreCounts problem layout.width blame line
   pub text_is : text ≡ codes "<svg " ++ head ++ body ++ marks ++ codes "</g>\n" ++ line ++ key
       ++ codes "</svg>\n"
+
+-- a picture of a problem and its route, with so many tracks in each channel
+abbrev pub IsPicture : RoutingProblem → (width : ℕ) → Blame → List ℕ → Type 0
+IsPicture problem width blame text =
+    let route : RouteText = problem.route in
+    IsPictureOf problem (layout_of (has_tracks route.nets) route width) blame text
+
+-- a picture of a routing of a problem, whose wires stand on their tracks
+abbrev pub IsRoutedPicture : RoutingProblem → RouteText → (width : ℕ) → List ℕ → Type 0
+IsRoutedPicture problem found width text =
+    IsPictureOf (record problem { route = found }) (layout_of true found width) None text

@@ -112,36 +112,26 @@ fn take_line(needs: &mut [u64], grid: Grid, elem: Elem)
     }
 }
 
-/// Has each cell want as many tracks as slots are in it, where none wants one, and answers the rank
-/// of each slot among those of its cell, from 0 on.
-pub(crate) fn take_slots(
-    alloc: Global,
-    needs: &mut [u64],
-    grid: Grid,
-    slots: &[Slot],
-) -> Result<Vec<u32>, AllocError>
+/// Has each cell want as many tracks as slots are in it, where none wants one.
+pub(crate) fn take_slots(needs: &mut [u64], grid: Grid, slots: &[Slot])
     requires needs { AreNeeds grid (λ cell. 0) needs.old }
     requires few { length slots.now ≤ SLOT_LIMIT }
-    ensures { OnOk result (AreNeeds grid (λ cell. slots_in cell slots.now) needs.new) }
+    ensures { AreNeeds grid (λ cell. slots_in cell slots.now) needs.new }
 {
-    let mut ranks = Vec::new(alloc);
     for slot in slots {
-        ranks.push(count_slot(needs, grid, *slot))?;
+        count_slot(needs, grid, *slot);
     }
-    Ok(ranks)
 }
 
-// Has the cell of a slot want one track more, and answers how many it wanted.
-fn count_slot(needs: &mut [u64], grid: Grid, slot: Slot) -> u32
+// Has the cell of a slot want one track more.
+fn count_slot(needs: &mut [u64], grid: Grid, slot: Slot)
     requires { (before : List AnySlot) × (length before < SLOT_LIMIT)
         × AreNeeds grid (λ cell. slots_in cell before) needs.old }
     ensures { (before : List AnySlot) → AreNeeds grid (λ cell. slots_in cell before) needs.old →
         AreNeeds grid (λ cell. slots_in cell (before ++ slot ∷ [])) needs.new }
 {
     let Some(place) = place_of(grid, slot.cell) else {
-        return 0;
+        return;
     };
-    let rank = needs[place];
-    needs[place] = rank + 1;
-    rank as u32
+    needs[place] += 1;
 }

@@ -1,15 +1,23 @@
 //! Parts of the data of a path of SVG. Each begins with a move, so that they stand in any order.
+ghost use Rattle.std.specs.Prelude.{◌≡◌, ◌++◌, OnOk, codes, decimal, string_bytes};
+
 use crate::scale::Point;
 use std::alloc::AllocError;
 
 /// Appends a line to the right.
-pub(crate) fn append_across(out: &mut String, from: Point, length: u64) -> Result<(), AllocError> {
+pub(crate) fn append_across(out: &mut String, from: Point, length: u64) -> Result<(), AllocError>
+    ensures { OnOk result (string_bytes out.new ≡ string_bytes out.old ++ (codes "M"
+        ++ decimal from.x ++ codes " " ++ decimal from.y ++ codes "h" ++ decimal length)) }
+{
     let Point { x, y } = from;
     write!(out, "M{x} {y}h{length}")
 }
 
 /// Appends a line upwards.
-pub(crate) fn append_up(out: &mut String, from: Point, length: u64) -> Result<(), AllocError> {
+pub(crate) fn append_up(out: &mut String, from: Point, length: u64) -> Result<(), AllocError>
+    ensures { OnOk result (string_bytes out.new ≡ string_bytes out.old ++ (codes "M"
+        ++ decimal from.x ++ codes " " ++ decimal from.y ++ codes "v" ++ decimal length)) }
+{
     let Point { x, y } = from;
     write!(out, "M{x} {y}v{length}")
 }

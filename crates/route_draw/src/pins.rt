@@ -1,7 +1,13 @@
 //! Where the pins of a route stand.
-use crate::lanes::Strand;
 use crate::scale::{BLOCK, Point, block_start, channel_start, part_middle};
 use fpga_types::{Arch, Axis, Cell, PinAt};
+
+/// A wire as it is drawn: its cell, and how far it is from the start of the channel.
+#[derive(Clone, Copy, Debug)]
+pub(crate) struct Strand {
+    pub(crate) cell: Cell,
+    pub(crate) across: u64,
+}
 
 /// Where a pin stands: on the side of its place that looks at the cell.
 pub(crate) fn pin_point(arch: &Arch, pin: PinAt, cell: Cell) -> Point {
@@ -17,7 +23,7 @@ pub(crate) fn pin_point(arch: &Arch, pin: PinAt, cell: Cell) -> Point {
     }
 }
 
-/// The point of a strand that is straight across from a pin.
+/// The point of a wire that is straight across from a pin.
 pub(crate) fn switch_point(arch: &Arch, pin: PinAt, strand: Strand) -> Point {
     let (x, y) = place_of(pin);
     let along = along_side(arch, pin);

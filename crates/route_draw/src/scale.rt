@@ -1,6 +1,7 @@
 //! Where things stand in a picture. From a column or a row to the next it is `TILE`, whatever the
 //! width is: a block, and the channel behind it with its tracks. Rows go upwards.
 ghost use Rattle.std.specs.Prelude.{◌≡◌, ◌+◌, ◌*◌, ◌≤◌};
+ghost use Rattle.route_draw.specs.Wires.{track_place};
 ghost use Rattle.route_draw.specs.declared.scale.TheConstants.{BLOCK, CHANNEL, TILE};
 
 /// From the start of a column or a row to that of the next.
@@ -70,8 +71,10 @@ pub(crate) fn part_middle(k: u32, parts: u64) -> u64
 
 /// How far a track is from its channel's start, where the channel has so many.
 pub(crate) fn track_place(track: u32, tracks: u64) -> u64
-    ensures { result ≤ CHANNEL }
+    ensures { result ≡ track_place track tracks }
 {
-    let parts = tracks.saturating_add(1);
+    let Some(parts) = tracks.checked_add(1) else {
+        return 0;
+    };
     (CHANNEL * (track as u64 + 1) / parts).min(CHANNEL)
 }

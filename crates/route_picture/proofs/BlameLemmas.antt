@@ -21,7 +21,8 @@ or-next false b c = refl
 any-push : {T : Type 0} (p : T → Bool) (xs : List T) (x : T)
     → list_any p (xs ++ x ∷ []) ≡ (list_any p xs || p x)
 any-push p [] x = or-false (p x)
-any-push p (y ∷ ys) x = ap (λ (b : Bool). p y || b) (any-push p ys x) ∙ sym (or-next (p y) (list_any p ys) (p x))
+any-push p (y ∷ ys) x =
+    ap (λ (b : Bool). p y || b) (any-push p ys x) ∙ sym (or-next (p y) (list_any p ys) (p x))
 
 -- one net more has its name
 pub names-more : (nets : List Net) (i : ℕ) (net : Net) (name : Bytes) (old new : List Bytes)

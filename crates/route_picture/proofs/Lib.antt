@@ -1,3 +1,4 @@
 mod BlameLemmas
 mod DrawnLemmas
 mod SaidLemmas
+mod WordLemmas

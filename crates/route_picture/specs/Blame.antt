@@ -62,7 +62,8 @@ NamesNetsIf nets (Some text) = NamesNets nets text
 -- a text gives no name, or at this line the first that no net has
 abbrev pub NamesOthers : List Net → Bytes → Stop → Type 0
 NamesOthers nets text (NoNet line) =
-    (name : Bytes) × (first_strange nets (given_in text) ≡ Some (record { line = line; name = name }))
+    (name : Bytes)
+    × (first_strange nets (given_in text) ≡ Some (record { line = line; name = name }))
 NamesOthers nets text NoNames = given_in text ≡ []
 NamesOthers nets text _ = ⊥
 

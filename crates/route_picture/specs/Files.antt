@@ -1,14 +1,14 @@
 -- What is read of the files that the words name, or why it is not.
-use Rattle.std.specs.Prelude.{◌≡◌, ◌≤◌, ℕ, ⊤, length, Option, Some, None}
+use Rattle.std.specs.Prelude.{◌≡◌, ◌≤◌, ℕ, ⊤, length, Option, Some, None, option_map}
 use Rattle.desk_io.specs.DeskState.{DeskState}
 use Rattle.desk_io.specs.Files.{FileMap, RisesByOne}
 use Rattle.desk_io.specs.Reading.{FaultIsOn, HasTakenOneMore, IsWhole}
 use Rattle.fpga_problem.specs.Texts.{Texts}
 use Rattle.fpga_problem.specs.declared.text_file.TextFile.TheVariants.{Architecture, Netlist, Placement, Route}
 use Rattle.fpga_text.specs.Bytes.{Bytes}
-use Rattle.route_picture.specs.Words.{Asked}
+use Rattle.route_picture.specs.Words.{Asked, RoutedAsked}
 use Rattle.route_picture.specs.declared.given_file.GivenFile.{GivenFile}
-use Rattle.route_picture.specs.declared.given_file.GivenFile.TheVariants.{Text, Names}
+use Rattle.route_picture.specs.declared.given_file.GivenFile.TheVariants.{Text, Names, Routed}
 use Rattle.route_picture.specs.declared.stop.Stop.{Stop}
 use Rattle.route_picture.specs.declared.stop.Stop.TheVariants.{TooLong, Unread, Memory}
 
@@ -19,11 +19,14 @@ name_of ask (Text Netlist) = Some ask.net
 name_of ask (Text Placement) = Some ask.place
 name_of ask (Text Route) = Some ask.route
 name_of ask Names = ask.names
+name_of ask Routed = option_map (λ (r : RoutedAsked). r.file) ask.routed
 
--- the bytes of the four files, and those of the file of names, if one is asked for
+-- the bytes of the four files, and those of the file of names and of the file with a routing, if
+-- they are asked for
 pub record GivenTexts : Type 0 where
   pub four : Texts
   pub names : Option Bytes
+  pub routed : Option Bytes
 
 -- these are the bytes of the file with this name, and no more than the limit
 pub record IsText (files : Option FileMap) (name : Bytes) (limit : ℕ) (bytes : Bytes) :
@@ -45,10 +48,15 @@ pub record AreTexts (ask : Asked) (limit : ℕ) (files : Option FileMap) (texts 
   pub placement : IsText files ask.place limit texts.four.placement
   pub route : IsText files ask.route limit texts.four.route
   pub names : IsTextIf files ask.names limit texts.names
+  pub routed : IsTextIf files (name_of ask Routed) limit texts.routed
 
 -- the file with this name has no more bytes than the limit
 abbrev pub IsReadable : Option FileMap → (name : Bytes) → (limit : ℕ) → Type 0
 IsReadable files name limit = (bytes : Bytes) × IsText files name limit bytes
+
+-- the same of a file that may be not asked for
+abbrev pub IsReadableIf : Option FileMap → (name : Option Bytes) → (limit : ℕ) → Type 0
+IsReadableIf files name limit = (bytes : Option Bytes) × IsTextIf files name limit bytes
 
 -- a file's turn comes: each that is read before it has no more bytes than the limit
 abbrev pub IsReached : Asked → (limit : ℕ) → Option FileMap → GivenFile → Type 0
@@ -62,6 +70,10 @@ IsReached ask limit files (Text Route) =
 IsReached ask limit files Names =
     IsReadable files ask.arch limit × IsReadable files ask.net limit
     × IsReadable files ask.place limit × IsReadable files ask.route limit
+IsReached ask limit files Routed =
+    IsReadable files ask.arch limit × IsReadable files ask.net limit
+    × IsReadable files ask.place limit × IsReadable files ask.route limit
+    × IsReadableIf files ask.names limit
 
 -- the stop of this file, of these files and at this count of faults: none has its name, or the
 -- desk failed on it; it has more bytes than the limit; or there was no memory. Only in the first
@@ -75,11 +87,12 @@ StopsAt file name limit files faults now (TooLong at) =
 StopsAt file name limit files faults now Memory = now.faults ≡ faults
 StopsAt file name limit files faults now _ = ⊥
 
--- the stop of the file of names, which is asked for
-abbrev pub StopsAtIf : Option Bytes → (limit : ℕ) → Option FileMap → (faults : ℕ) →
+-- the stop of a file that is asked for
+abbrev pub StopsAtIf : GivenFile → Option Bytes → (limit : ℕ) → Option FileMap → (faults : ℕ) →
     (now : DeskState) → Stop → Type 0
-StopsAtIf None limit files faults now stop = ⊥
-StopsAtIf (Some name) limit files faults now stop = StopsAt Names name limit files faults now stop
+StopsAtIf file None limit files faults now stop = ⊥
+StopsAtIf file (Some name) limit files faults now stop =
+    StopsAt file name limit files faults now stop
 
 -- the stop is that of the first file of the words that is not read
 pub record IsUnread (ask : Asked) (limit : ℕ) (before now : DeskState) (stop : Stop) :

@@ -6,13 +6,34 @@ use Rattle.desk_io.specs.ShelfState.{FailsToSay, ShelfState, after_say}
 use Rattle.fpga_problem.specs.Refused.{IsRefused}
 use Rattle.fpga_problem.specs.Texts.{AreFaultless, netlist_said, problem_said}
 use Rattle.fpga_problem.specs.declared.refusal.Refusal.{Refusal}
+use Rattle.fpga_route.specs.Codes.{route_faults}
+use Rattle.fpga_route.specs.Value.{route_value}
 use Rattle.fpga_text.specs.Bytes.{Bytes}
-use Rattle.route_draw.specs.Picture.{IsPicture}
+use Rattle.fpga_text.specs.FirstFault.{IsFaultless, IsRefusal}
+use Rattle.fpga_types.specs.Problem.{RoutingProblem}
+use Rattle.route_draw.specs.Blamed.{Blame}
+use Rattle.route_draw.specs.Picture.{IsPicture, IsRoutedPicture}
 use Rattle.route_picture.specs.Blame.{NamesNetsIf, NamesOthersIf, blame_said}
 use Rattle.route_picture.specs.Files.{AreTexts, GivenTexts, IsUnread}
-use Rattle.route_picture.specs.Words.{Asked, asked}
+use Rattle.route_picture.specs.Words.{Asked, RoutedAsked, asked}
 use Rattle.route_picture.specs.declared.stop.Stop.{Stop}
-use Rattle.route_picture.specs.declared.stop.Stop.TheVariants.{Faulty, Memory, Unprinted, Usage}
+use Rattle.route_picture.specs.declared.stop.Stop.TheVariants.{BadRouted, Faulty, Illegal, Memory, Unprinted, Usage}
+use Rattle.route_verify.specs.Reach.{reach_judged}
+use Rattle.route_verify.specs.declared.judgement.Judgement.TheVariants.{Legal, NotLegal}
+
+-- a text says a routing of a problem that is legal within a reach, and this is a picture of it
+pub record ShowsRouted (problem : RoutingProblem) (width reach : ℕ) (text picture : Bytes) :
+    Type 0 where
+  pub faultless : IsFaultless (route_faults text)
+  pub legal : reach_judged width reach problem (route_value text) ≡ Legal
+  pub is_picture : IsRoutedPicture problem (route_value text) width picture
+
+-- what a picture shows: the routing that is asked for, or else the route of the problem
+abbrev pub Shows : Option RoutedAsked → (text : Option Bytes) → RoutingProblem → (width : ℕ) →
+    Blame → (picture : Bytes) → Type 0
+Shows (Some routed) (Some text) problem width blame picture =
+    ShowsRouted problem width routed.reach text picture
+Shows _ _ problem width blame picture = IsPicture problem width blame picture
 
 -- a picture of the problem that the files of the words say, in channels of the width that they say;
 -- where a file of names is asked for, the nets with these names are to blame, and there are some
@@ -22,7 +43,8 @@ pub record IsDrawn (ask : Asked) (limit : ℕ) (files : Option FileMap) (picture
   pub are_texts : AreTexts ask limit files texts
   pub faultless : AreFaultless texts.four
   pub names_nets : NamesNetsIf (netlist_said texts.four).nets texts.names
-  pub is_picture : IsPicture (problem_said texts.four) ask.width (blame_said texts.names) picture
+  pub shows : Shows ask.routed texts.routed (problem_said texts.four) ask.width
+      (blame_said texts.names) picture
 
 -- one of the texts of the files is refused, and the stop says which and why
 pub record AreRefused (ask : Asked) (limit : ℕ) (files : Option FileMap) (stop : Stop) :
@@ -41,12 +63,36 @@ pub record AreMisnamed (ask : Asked) (limit : ℕ) (files : Option FileMap) (sto
   pub faultless : AreFaultless texts.four
   pub names_others : NamesOthersIf (netlist_said texts.four).nets texts.names stop
 
--- no picture is drawn: a file is not read, its text is refused, its names are those of no nets, or
--- there was no memory
+-- the text of a routing has a fault, or its routing is not legal within the reach
+abbrev pub StopsRouted : RoutingProblem → (width reach : ℕ) → (text : Bytes) → Stop → Type 0
+StopsRouted problem width reach text (BadRouted fault) = IsRefusal (route_faults text) fault
+StopsRouted problem width reach text (Illegal line cause) =
+    IsFaultless (route_faults text)
+    × (reach_judged width reach problem (route_value text) ≡ NotLegal line cause)
+StopsRouted problem width reach text _ = ⊥
+
+-- the same of a routing that is asked for
+abbrev pub StopsRoutedIf : Option RoutedAsked → (text : Option Bytes) → RoutingProblem →
+    (width : ℕ) → Stop → Type 0
+StopsRoutedIf (Some routed) (Some text) problem width stop =
+    StopsRouted problem width routed.reach text stop
+StopsRoutedIf _ _ problem width stop = ⊥
+
+-- the file with a routing is refused
+pub record IsMisrouted (ask : Asked) (limit : ℕ) (files : Option FileMap) (stop : Stop) :
+    Type 0 where
+  pub texts : GivenTexts
+  pub are_texts : AreTexts ask limit files texts
+  pub faultless : AreFaultless texts.four
+  pub stops : StopsRoutedIf ask.routed texts.routed (problem_said texts.four) ask.width stop
+
+-- no picture is drawn: a file is not read, its text is refused, its names are those of no nets, its
+-- routing is refused, or there was no memory
 abbrev pub IsUndrawn : Asked → (limit : ℕ) → (before now : DeskState) → Stop → Type 0
 IsUndrawn ask limit before now stop =
     IsUnread ask limit before now stop ⊎ AreRefused ask limit before.files stop
-    ⊎ AreMisnamed ask limit before.files stop ⊎ (stop ≡ Memory)
+    ⊎ AreMisnamed ask limit before.files stop ⊎ IsMisrouted ask limit before.files stop
+    ⊎ (stop ≡ Memory)
 
 -- the picture that the words ask for was said, and nothing else
 pub record IsPrinted (words : List Bytes) (limit : ℕ) (files : Option FileMap)

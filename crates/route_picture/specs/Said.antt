@@ -8,9 +8,9 @@ use Rattle.fpga_text.specs.declared.fault.TextFault.TheVariants.{Bad, Limit, Mem
 use Rattle.route_picture.specs.Files.{name_of}
 use Rattle.route_picture.specs.Words.{asked}
 use Rattle.route_picture.specs.declared.given_file.GivenFile.{GivenFile}
-use Rattle.route_picture.specs.declared.given_file.GivenFile.TheVariants.{Text, Names}
+use Rattle.route_picture.specs.declared.given_file.GivenFile.TheVariants.{Text, Names, Routed}
 use Rattle.route_picture.specs.declared.stop.Stop.{Stop}
-use Rattle.route_picture.specs.declared.stop.Stop.TheVariants.{Unread, TooLong, Faulty, NoNet, NoNames}
+use Rattle.route_picture.specs.declared.stop.Stop.TheVariants.{Unread, TooLong, Faulty, NoNet, NoNames, BadRouted, Illegal}
 
 -- the kind of a file
 abbrev pub kind_of : GivenFile → List ℕ
@@ -19,6 +19,7 @@ kind_of (Text Netlist) = codes "netlist"
 kind_of (Text Placement) = codes "placement"
 kind_of (Text Route) = codes "route"
 kind_of Names = codes "names"
+kind_of Routed = codes "routed"
 
 -- the name that words give for a file
 abbrev pub name_in : List Bytes → GivenFile → Option Bytes
@@ -41,6 +42,8 @@ file_about (TooLong file) = Some file
 file_about (Faulty refusal) = file_faulty (Text refusal.file) refusal.fault
 file_about (NoNet line) = Some Names
 file_about NoNames = Some Names
+file_about (BadRouted fault) = file_faulty Routed fault
+file_about (Illegal line cause) = Some Routed
 file_about _ = None
 
 -- what is said first: the file that is meant, by the name that the words give
@@ -78,6 +81,8 @@ MeansFault NoMemory text = ⊤
 abbrev pub Means : Stop → List ℕ → Type 0
 Means (Faulty refusal) text = MeansFault refusal.fault text
 Means (NoNet line) text = text ≡ no_net_said line
+Means (BadRouted fault) text = MeansFault fault text
+Means (Illegal line cause) text = GivesWhy (line_said line cause) text
 Means _ text = ⊤
 
 -- after what stood in a text comes the file that is meant, then what is wrong, and a newline

@@ -1,6 +1,7 @@
 //! From words to a picture on standard output.
-ghost use Rattle.std.specs.Prelude.{◌≡◌, IfErr, IfOk, MatchResult, OnOk, map, option_map, string_bytes};
+ghost use Rattle.std.specs.Prelude.{◌≡◌, ◌≤◌, IfErr, IfOk, MatchResult, OnOk, map, option_map, string_bytes};
 ghost use Rattle.std.specs.Option.{option_copied};
+ghost use Rattle.fpga_types.specs.declared.limits.TheConstants.{WIDTH_LIMIT};
 ghost use Rattle.route_picture.specs.Files.{AreRead, IsText, IsTextIf, IsUnread, StopsAt, StopsAtIf};
 ghost use Rattle.route_picture.specs.Printed.{IsDrawn, IsPrinted, IsStopped, IsUndrawn};
 ghost use Rattle.route_picture.specs.Words.{words_said};
@@ -8,11 +9,11 @@ ghost use Rattle.route_picture.specs.Words.{words_said};
 use crate::blame::emphasis;
 use crate::file_texts::FileTexts;
 use crate::given_file::GivenFile;
+use crate::shown::shown;
 use crate::stop::Stop;
 use crate::words::{FourNames, Words, read_words};
 use desk_io::{Desk, ReadStop, Shelf, read_file};
 use fpga_problem::{TextFile, read_problem};
-use route_draw::draw;
 use std::alloc::Global;
 
 // No file is longer.
@@ -49,6 +50,7 @@ pub(crate) fn print_picture<D: Desk, S: Shelf>(
 
 // The picture of the files that the words name.
 fn picture<D: Desk>(alloc: Global, desk: &mut D, words: Words<'_>) -> Result<String, Stop>
+    requires { (1 ≤ words.width) × (words.width ≤ WIDTH_LIMIT) }
     ensures { MatchResult result
         (λ picture. IsDrawn (words_said words.entry) LIMIT (D.state desk.old).files
         (string_bytes picture))
@@ -67,10 +69,10 @@ fn picture<D: Desk>(alloc: Global, desk: &mut D, words: Words<'_>) -> Result<Str
         Ok(emphasis) => emphasis,
         Err(stop) => return Err(stop),
     };
-    let Ok(picture) = draw(alloc, &problem, words.width, &emphasis) else {
-        return Err(Stop::Memory);
-    };
-    Ok(picture)
+    match shown(alloc, &problem, words, texts.routed(), &emphasis) {
+        Ok(picture) => Ok(picture),
+        Err(stop) => Err(stop),
+    }
 }
 
 // The bytes of the files that the words name.
@@ -102,8 +104,12 @@ fn read_texts<D: Desk>(alloc: Global, desk: &mut D, words: Words<'_>) -> Result<
         Ok(bytes) => bytes,
         Err(stop) => return Err(stop),
     };
-    let names = match names_bytes(alloc, desk, words.names) {
+    let names = match bytes_if(alloc, desk, words.names, GivenFile::Names) {
         Ok(names) => names,
+        Err(stop) => return Err(stop),
+    };
+    let routed = match bytes_if(alloc, desk, words.routed_name(), GivenFile::Routed) {
+        Ok(routed) => routed,
         Err(stop) => return Err(stop),
     };
     Ok(FileTexts {
@@ -112,25 +118,28 @@ fn read_texts<D: Desk>(alloc: Global, desk: &mut D, words: Words<'_>) -> Result<
         placement,
         route,
         names,
+        routed,
     })
 }
 
-// The bytes of the file of names, if one is asked for.
-fn names_bytes<D: Desk>(
+// The bytes of a file that may be not asked for.
+fn bytes_if<D: Desk>(
     alloc: Global,
     desk: &mut D,
     name: Option<&str>,
+    file: GivenFile,
 ) -> Result<Option<Vec<u8>>, Stop>
-    ensures names { IfOk result (λ names. IsTextIf (D.state desk.old).files
-        (option_copied name.entry) LIMIT (option_map (λ bytes. bytes.items) names)) }
+    ensures files { (D.state desk.new).files ≡ (D.state desk.old).files }
+    ensures bytes { IfOk result (λ bytes. IsTextIf (D.state desk.old).files
+        (option_copied name.entry) LIMIT (option_map (λ bytes. bytes.items) bytes)) }
     ensures faults { IfOk result (λ _. (D.state desk.new).faults ≡ (D.state desk.old).faults) }
-    ensures stop { IfErr result (λ stop. StopsAtIf (option_copied name.entry) LIMIT
+    ensures stop { IfErr result (λ stop. StopsAtIf file (option_copied name.entry) LIMIT
         (D.state desk.old).files (D.state desk.old).faults (D.state desk.new) stop) }
 {
     let Some(name) = name else {
         return Ok(None);
     };
-    match bytes(alloc, desk, name, GivenFile::Names) {
+    match bytes(alloc, desk, name, file) {
         Ok(bytes) => Ok(Some(bytes)),
         Err(stop) => Err(stop),
     }

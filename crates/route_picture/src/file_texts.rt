@@ -5,7 +5,8 @@ ghost use Rattle.std.specs.Option.{option_copied};
 use fpga_problem::FourTexts;
 use std::marker::Model;
 
-/// The bytes of the four files, and those of the file of names, if one is asked for.
+/// The bytes of the four files, and those of the file of names and of the file with a routing, if
+/// they are asked for.
 #[derive(Drop)]
 pub(crate) struct FileTexts {
     pub(crate) architecture: Vec<u8>,
@@ -13,6 +14,7 @@ pub(crate) struct FileTexts {
     pub(crate) placement: Vec<u8>,
     pub(crate) route: Vec<u8>,
     pub(crate) names: Option<Vec<u8>>,
+    pub(crate) routed: Option<Vec<u8>>,
 }
 
 impl Model for FileTexts {
@@ -29,6 +31,7 @@ impl Model for FileTexts {
         route = t.route.items;
       };
       names = option_map (λ bytes. bytes.items) t.names;
+      routed = option_map (λ bytes. bytes.items) t.routed;
     } };
 }
 
@@ -50,6 +53,16 @@ impl FileTexts {
         ensures { option_copied result ≡ self.now.names }
     {
         match &self.names {
+            Some(bytes) => Some(bytes.as_slice()),
+            None => None,
+        }
+    }
+
+    /// Those of the file with a routing, lent.
+    pub(crate) fn routed(&self) -> Option<&[u8]>
+        ensures { option_copied result ≡ self.now.routed }
+    {
+        match &self.routed {
             Some(bytes) => Some(bytes.as_slice()),
             None => None,
         }

@@ -8,4 +8,6 @@ pub(crate) enum GivenFile {
     Text(TextFile),
     /// The file of the names of nets to blame.
     Names,
+    /// The file with a routing.
+    Routed,
 }

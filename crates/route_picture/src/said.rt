@@ -22,7 +22,7 @@ ghost use Rattle.route_picture.specs.Said.{
 use crate::given_file::GivenFile;
 use crate::stop::Stop;
 use crate::words::read_words;
-use code_words::cause;
+use code_words::{cause, cause_within_reach};
 use fpga_problem::TextFile;
 use fpga_text::TextFault;
 use std::alloc::{AllocError, Global};
@@ -58,6 +58,8 @@ fn file_meant(stop: Stop) -> Option<GivenFile>
         Stop::Unread(file) | Stop::TooLong(file) => Some(file),
         Stop::Faulty(refusal) => file_faulty(GivenFile::Text(refusal.file), refusal.fault),
         Stop::NoNet { .. } | Stop::NoNames => Some(GivenFile::Names),
+        Stop::BadRouted(fault) => file_faulty(GivenFile::Routed, fault),
+        Stop::Illegal { .. } => Some(GivenFile::Routed),
         Stop::Usage | Stop::Memory | Stop::Unprinted => None,
     }
 }
@@ -108,6 +110,7 @@ fn kind_of(file: GivenFile) -> &'static str
         GivenFile::Text(TextFile::Placement) => "placement",
         GivenFile::Text(TextFile::Route) => "route",
         GivenFile::Names => "names",
+        GivenFile::Routed => "routed",
     }
 }
 
@@ -131,7 +134,9 @@ fn meaning<R: Files + AllocGlobal>(
 {
     match stop {
         Stop::Faulty(refusal) => fault(rt.alloc(), refusal.fault),
+        Stop::BadRouted(found) => fault(rt.alloc(), found),
         Stop::NoNet { line } => no_net(rt.alloc(), line),
+        Stop::Illegal { line, cause } => illegal(rt.alloc(), line, cause),
         Stop::Unread(file) => unread(rt, given_name(words, file)),
         Stop::Usage | Stop::TooLong(_) | Stop::NoNames | Stop::Memory | Stop::Unprinted => {
             plain(rt.alloc(), stop)
@@ -165,6 +170,16 @@ fn append_line(out: &mut String, line: u64, code: u32, why: &str) -> Result<(), 
         (string_bytes out.new ≡ string_bytes out.old ++ line_said line code why.now) }
 {
     write!(out, ", line {line}: {why} (code {code})")
+}
+
+// Which line of a routing is against it, and why.
+fn illegal(alloc: Global, line: u64, cause: u32) -> Result<String, AllocError>
+    ensures { IfOk result (λ text. GivesWhy (line_said line cause) (string_bytes text)) }
+{
+    let why = words_or(cause_within_reach(cause), "this line is not taken");
+    let mut text = String::new(alloc);
+    append_line(&mut text, line, cause, why)?;
+    Ok(text)
 }
 
 // What passes its limit.
@@ -242,11 +257,16 @@ fn plain(alloc: Global, stop: Stop) -> Result<String, AllocError> {
         }
         Stop::Memory => "Memory ran out, so that nothing was drawn.",
         Stop::Unprinted => "Standard output takes no more of the picture.",
-        Stop::Usage | Stop::Unread(_) | Stop::Faulty(_) | Stop::NoNet { .. } => USAGE,
+        Stop::Usage
+        | Stop::Unread(_)
+        | Stop::Faulty(_)
+        | Stop::NoNet { .. }
+        | Stop::BadRouted(_)
+        | Stop::Illegal { .. } => USAGE,
     })?;
     Ok(text)
 }
 
 const USAGE: &str = "The command does not take these words.\n\
-    Usage: gafkelam picture ARCH NET PLACE ROUTE WIDTH [NAMES], WIDTH from 1 to 64\n\
+    Usage: gafkelam picture ARCH NET PLACE ROUTE WIDTH [NAMES | ROUTED --reach L], WIDTH and L from 1 to 64\n\
     As in: gafkelam picture design.arch design.net design.place out.route 9 > out.svg";

@@ -21,6 +21,10 @@ pub(crate) enum Stop {
     NoNet { line: u64 },
     /// The file of names has none.
     NoNames,
+    /// The text of a routing has a fault.
+    BadRouted(TextFault),
+    /// The routing is not legal within its reach: the first line with a cause against it.
+    Illegal { line: u64, cause: u32 },
     /// Memory ran out.
     Memory,
     /// Standard output does not take the picture.
@@ -34,7 +38,8 @@ impl Stop {
     {
         match self {
             Stop::Faulty(refusal) => fault_status(refusal.fault),
-            Stop::TooLong(_) | Stop::NoNet { .. } | Stop::NoNames => 3,
+            Stop::BadRouted(fault) => fault_status(fault),
+            Stop::TooLong(_) | Stop::NoNet { .. } | Stop::NoNames | Stop::Illegal { .. } => 3,
             Stop::Usage => 4,
             Stop::Unread(_) => 5,
             Stop::Unprinted => 6,

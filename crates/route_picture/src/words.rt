@@ -1,14 +1,14 @@
 //! The words of the command.
-ghost use Rattle.std.specs.Prelude.{◌≡◌, map, string_bytes};
+ghost use Rattle.std.specs.Prelude.{◌≡◌, ◌≤◌, IfOk, IfSome, map, option_map, string_bytes};
 ghost use Rattle.std.specs.Option.{option_copied};
 ghost use Rattle.route_picture.specs.Files.{name_of};
-ghost use Rattle.route_picture.specs.Words.{AnswersWords, asked, asked_of, width_said, words_said};
+ghost use Rattle.route_picture.specs.Words.{AnswersWords, RoutedAsked, asked, asked_of, number_said, routed_of, routed_said, words_said};
 
 use crate::given_file::GivenFile;
 use crate::stop::Stop;
 use fpga_problem::TextFile;
 use fpga_text::whole_number;
-use fpga_types::WIDTH_LIMIT;
+use fpga_types::{REACH_LIMIT, WIDTH_LIMIT};
 use std::rt::Env;
 use std::{env, io};
 
@@ -21,12 +21,21 @@ pub(crate) struct FourNames<'a> {
     pub(crate) route: &'a str,
 }
 
-/// The names of the four files, the width, and the name of a file of names, if there is one.
+/// A file with a routing, and the reach within which it is to be legal.
+#[derive(Clone, Copy, Debug)]
+pub(crate) struct RoutedFile<'a> {
+    pub(crate) file: &'a str,
+    pub(crate) reach: u32,
+}
+
+/// The names of the four files, the width, the name of a file of names and what is said of a
+/// routing, each if there is one.
 #[derive(Clone, Copy, Debug)]
 pub(crate) struct Words<'a> {
     pub(crate) files: FourNames<'a>,
     pub(crate) width: u32,
     pub(crate) names: Option<&'a str>,
+    pub(crate) routed: Option<RoutedFile<'a>>,
 }
 
 impl<'a> Words<'a> {
@@ -40,6 +49,18 @@ impl<'a> Words<'a> {
             GivenFile::Text(TextFile::Placement) => Some(self.files.place),
             GivenFile::Text(TextFile::Route) => Some(self.files.route),
             GivenFile::Names => self.names,
+            GivenFile::Routed => self.routed_name(),
+        }
+    }
+
+    /// The name of the file with a routing, if the words give one.
+    pub(crate) fn routed_name(self) -> Option<&'a str>
+        ensures { option_copied result
+            ≡ option_map (λ (r : RoutedAsked). r.file) (words_said self.entry).routed }
+    {
+        match self.routed {
+            Some(routed) => Some(routed.file),
+            None => None,
         }
     }
 }
@@ -55,19 +76,25 @@ pub(crate) fn given_words(rt: &(impl Env + AllocGlobal)) -> io::Result<Vec<Strin
 
 /// What the words ask for.
 pub(crate) fn read_words(words: &[String]) -> Result<Words<'_>, Stop>
-    ensures { AnswersWords (asked (map string_bytes words.entry.now)) result }
+    ensures asked { AnswersWords (asked (map string_bytes words.entry.now)) result }
+    ensures width { IfOk result (λ words. (1 ≤ words.width) × (words.width ≤ WIDTH_LIMIT)) }
 {
     if let [arch, net, place, route, word] = words {
-        return at_width(four_names(arch, net, place, route), word.as_str(), None);
+        let files = four_names(arch, net, place, route);
+        return at_width(files, word.as_str(), None, None);
     }
-    let [arch, net, place, route, word, names] = words else {
+    if let [arch, net, place, route, word, names] = words {
+        let files = four_names(arch, net, place, route);
+        return at_width(files, word.as_str(), Some(names.as_str()), None);
+    }
+    let [arch, net, place, route, word, file, option, reach] = words else {
         return Err(Stop::Usage);
     };
-    at_width(
-        four_names(arch, net, place, route),
-        word.as_str(),
-        Some(names.as_str()),
-    )
+    let Some(routed) = routed_file(file.as_str(), option.as_str(), reach.as_str()) else {
+        return Err(Stop::Usage);
+    };
+    let files = four_names(arch, net, place, route);
+    at_width(files, word.as_str(), None, Some(routed))
 }
 
 fn four_names<'a>(
@@ -89,26 +116,48 @@ fn four_names<'a>(
     }
 }
 
-// What words with these names ask for, and with this word for the width.
-fn at_width<'a>(files: FourNames<'a>, word: &str, names: Option<&'a str>) -> Result<Words<'a>, Stop>
-    ensures { AnswersWords (asked_of files.entry word.now (option_copied names.entry)) result }
+// The file with a routing that these words say: its name, the option, and the reach.
+fn routed_file<'a>(file: &'a str, option: &str, reach: &str) -> Option<RoutedFile<'a>>
+    ensures { routed_of result ≡ routed_said file.entry.now option.now reach.now }
 {
-    let Some(width) = width_of(word) else {
+    if option.as_bytes() != b"--reach".as_slice() {
+        return None;
+    }
+    let Some(reach) = number_of(reach, REACH_LIMIT) else {
+        return None;
+    };
+    Some(RoutedFile { file, reach })
+}
+
+// What words with these names ask for, and with this word for the width.
+fn at_width<'a>(
+    files: FourNames<'a>,
+    word: &str,
+    names: Option<&'a str>,
+    routed: Option<RoutedFile<'a>>,
+) -> Result<Words<'a>, Stop>
+    ensures asked { AnswersWords (asked_of files.entry word.now (option_copied names.entry)
+        (routed_of routed.entry)) result }
+    ensures width { IfOk result (λ words. (1 ≤ words.width) × (words.width ≤ WIDTH_LIMIT)) }
+{
+    let Some(width) = number_of(word, WIDTH_LIMIT) else {
         return Err(Stop::Usage);
     };
     Ok(Words {
         files,
         width,
         names,
+        routed,
     })
 }
 
-// The width that a word says, if it is in its range.
-fn width_of(word: &str) -> Option<u32>
-    ensures { result ≡ width_said word.now }
+// The number that a word says, if it is from 1 to a limit.
+fn number_of(word: &str, limit: u32) -> Option<u32>
+    ensures number { result ≡ number_said limit word.now }
+    ensures range { IfSome result (λ number. (1 ≤ number) × (number ≤ limit)) }
 {
     let number = whole_number(word.as_bytes())?;
-    if number < 1 || number > WIDTH_LIMIT as u64 {
+    if number < 1 || number > limit as u64 {
         return None;
     }
     Some(number as u32)

@@ -7,5 +7,5 @@ use Rattle.route_draw.proofs.blocks.append_global_nets.Given as goal
 -- the parts so far were added
 abbrev pub invariant-loop-net : goal.invariant-loop-net
 invariant-loop-net l =
-    Adds (AreParts (IsGlobal (blame_of l.emphasis)) (take l.net-index l.nets)) (string_bytes l.initial.out)
-    (string_bytes l.out)
+    Adds (AreParts (IsGlobal (blame_of l.emphasis)) (take l.net-index l.nets))
+    (string_bytes l.initial.out) (string_bytes l.out)

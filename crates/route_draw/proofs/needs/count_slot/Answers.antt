@@ -9,10 +9,3 @@ overflow_add-needs c =
     c.requires.2 (sym c.in-Some.ensures.there) c.in-Some.ensures.place in
     let most : SLOT_LIMIT ≡ 200000 = refl in
     omega (arith, few, c.requires.1, most)
-
-pub overflow_cast-result : goal.overflow_cast-result
-overflow_cast-result c =
-    let few = counted-few c.args.grid c.requires.0 c.args.slot c.in-Some.place c.args.needs.now
-    c.requires.2 (sym c.in-Some.ensures.there) c.in-Some.ensures.place in
-    let most : SLOT_LIMIT ≡ 200000 = refl in
-    omega (arith, few, c.requires.1, most)

@@ -2,7 +2,7 @@ use Rattle.std.proofs.Common.{ap, ◌∙◌}
 use Rattle.fpga_types.specs.declared.netlist.Netlist.{Netlist}
 use Rattle.route_picture.specs.Words.{words_said}
 use Rattle.route_picture.specs.declared.drawn.TheConstants.{LIMIT}
-use Rattle.route_picture.proofs.DrawnLemmas.{drawn-of, misnamed-of, refused-of}
+use Rattle.route_picture.proofs.DrawnLemmas.{drawn-of, misnamed-of, misrouted-of, refused-of}
 use Rattle.route_picture.proofs.drawn.picture.Goals as goal
 
 pub returns-in-Err-read_problem : goal.returns-in-Err-read_problem
@@ -18,9 +18,16 @@ returns-in-Err-emphasis g c =
     (c.as_slice-nets.ensures ∙ ap (λ (n : Netlist). n.nets) c.netlist.ensures.value) c.names.ensures
     c.in-Err-emphasis.ensures.stop
 
-pub returns : goal.returns
-returns g c =
-    drawn-of (words_said c.args.words) LIMIT _ _ _ _ _ _ _ _ c.in-Ok.ensures.are_texts
+pub returns-in-Ok-shown : goal.returns-in-Ok-shown
+returns-in-Ok-shown g c =
+    drawn-of (words_said c.args.words) LIMIT _ _ _ _ _ _ _ _ _ c.in-Ok.ensures.are_texts
     c.four.ensures c.in-Ok-read_problem.ensures.0 c.in-Ok-read_problem.ensures.1
     (c.as_slice-nets.ensures ∙ ap (λ (n : Netlist). n.nets) c.netlist.ensures.value) c.names.ensures
-    c.in-Ok-emphasis.ensures.nets c.in-Ok-emphasis.ensures.blame c.in-Ok-draw.ensures
+    c.in-Ok-emphasis.ensures.nets c.in-Ok-emphasis.ensures.blame c.routed.ensures
+    c.in-Ok-shown.ensures
+
+pub returns : goal.returns
+returns g c =
+    misrouted-of (words_said c.args.words) LIMIT _ _ _ _ _ _ c.in-Err-shown.stop
+    c.in-Ok.ensures.are_texts c.four.ensures c.in-Ok-read_problem.ensures.0
+    c.in-Ok-read_problem.ensures.1 c.routed.ensures c.in-Err-shown.ensures
