@@ -1,4 +1,4 @@
--- What eight words ask for, and that other numbers of words than five, six and eight ask for nothing.
+-- What eight words ask for, and that other numbers than five, six and eight ask for nothing.
 use Rattle.std.proofs.Common.{◌≡◌, ◌≢◌, ◌≤◌, ◌<◌, ℕ, List, [], ◌∷◌, Option, Some, None, Result, length, map, get_or, ap, ap₂, arith, refl, string_bytes, subst, sym, ◌∙◌, String}
 use Rattle.std.specs.Prelude.{option_and_then}
 use Rattle.std.specs.Global.{Global}

@@ -2,14 +2,15 @@
 //!
 //! It is called as `route_picture ARCH NET PLACE ROUTE WIDTH [NAMES | ROUTED --reach L]`, where
 //! WIDTH and L are whole numbers from 1 to 64, and as `gafkelam picture` with the same words. The
-//! nets that the lines `net NAME` of NAMES name, as `core` says them, are drawn bold, and the others
-//! pale. Of ROUTED its routing is drawn, in which a net may have several wires of a cell: it has to
-//! be legal at WIDTH within L joins. Where no picture is printed, it says why on standard error.
+//! nets that the lines `net NAME` of NAMES name, as `core` says them, are drawn bold, and the
+//! others pale. Of ROUTED its routing is drawn, in which a net may have several wires of a cell: it
+//! has to be legal at WIDTH within L joins. Where no picture is printed, it says why on standard
+//! error.
 //!
 //! | status | cause |
 //! |---|---|
 //! | 0 | the picture was printed |
-//! | 3 | a file has a fault, does not fit the others, passes a limit, names no net, or is not legal |
+//! | 3 | a file is bad, does not fit the others, passes a limit, names no net, or is not legal |
 //! | 4 | the words are not taken |
 //! | 5 | a file is not there, or the system refused a read |
 //! | 6 | the system refused to take the picture |
