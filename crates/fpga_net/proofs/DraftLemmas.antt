@@ -135,7 +135,7 @@ few_blocks draft kept =
     omega (arith, kept.block_count, all, parts, count)
 
 -- why a pinlist is refused, by its tests
-abbrev pinlist_refused : (stray misses again ordinary shared many : Bool) → ℕ → Option TextFault
+abbrev pub pinlist_refused : (stray misses again ordinary shared many : Bool) → ℕ → Option TextFault
 pinlist_refused stray misses again ordinary shared many number =
     if stray then Some (Bad number (code_of LineForm))
     else if misses then Some (Bad number (code_of PinCount))

@@ -1,8 +1,12 @@
 -- Names that are looked for, and those of them that are found among words.
-use Rattle.std.proofs.Common.{◌≡◌, ◌+◌, ◌∙◌, Bool, true, false, List, [], ◌∷◌, ◌++◌, drop, refl, sym, ap}
-use Rattle.std.specs.Prelude.{◌||◌, bytes_eq, slice_get, Some, None}
+use Rattle.std.proofs.Common.{◌≡◌, ℕ, zero, suc, ◌+◌, ◌-◌, ◌<◌, ◌∙◌, Bool, true, false, List, [], ◌∷◌, ◌++◌, drop, take, refl, sym, ap, append-nil, append_assoc, arith}
+use Rattle.std.specs.Prelude.{◌||◌, not, bytes_eq, filter, flat_map, fold, slice_get, Some, None}
 use Rattle.std.proofs.Math.Bool.{or-false, or_assoc}
+use Rattle.std.proofs.lemmas.Grind.{flat_map-append}
+use Rattle.std.proofs.lemmas.List.{map-append}
+use Rattle.std.proofs.lemmas.List.Elements.{filter-append}
 use Rattle.std.proofs.lemmas.List.Folds.{list_any-append}
+use Rattle.std.proofs.lemmas.List.Sums.{fold-append}
 use Rattle.std.proofs.lemmas.Slice.Eq.{bytes_eq-Decides}
 use Rattle.fpga_text.specs.Bytes.{Bytes}
 use Rattle.fpga_text.specs.Said.{has_text}
@@ -10,9 +14,10 @@ use Rattle.fpga_text.specs.Words.{TextLine, text_lines}
 use Rattle.fpga_text.specs.declared.style.Style.TheVariants.{Joined}
 use Rattle.fpga_net.specs.Codes.{forms_of, globals_of}
 use Rattle.fpga_net.specs.Forms.{form_of, globals_in, made_global}
-use Rattle.fpga_net.specs.Globals.{FindsMore}
-use Rattle.fpga_net.specs.Names.{names_with}
-use Rattle.fpga_net.proofs.NameLemmas.{has_text-first_seen}
+use Rattle.fpga_net.specs.Globals.{FindsMore, HasLooked, nets_among, nets_named, nets_on_pins}
+use Rattle.fpga_net.specs.Names.{first_seen, names_with}
+use Rattle.fpga_net.specs.Uses.{is_open}
+use Rattle.fpga_net.proofs.NameLemmas.{first_seen-push, has_text-first_seen}
 
 -- with one more name the others are among them as before
 pub has_text-with : (names : List Bytes) (name other : Bytes)
@@ -80,14 +85,6 @@ finds-next sought found now words word name said finds is =
     finds-more sought found (word ∷ []) now (drop 1 words) name finds is
     ∙ ap (λ ws. has_text found name || has_text ws name) (sym (words_first words word said))
 
--- what lines make global is what the first of them and the others make
-pub globals-first : (line : TextLine) (more : List TextLine) (name : Bytes)
-    → has_text (globals_in (forms_of (line ∷ more))) name
-    ≡ (has_text (made_global (form_of line.words)) name
-    || has_text (globals_in (forms_of more)) name)
-globals-first line more name = list_any-append (λ n. bytes_eq n name)
-    (made_global (form_of line.words)) (globals_in (forms_of more))
-
 -- the nets of a text are among those that its lines make global
 pub globals-all : (ahead : List TextLine) (text name : Bytes) → ahead ≡ text_lines Joined text
     → has_text (globals_in (forms_of ahead)) name
@@ -95,3 +92,36 @@ pub globals-all : (ahead : List TextLine) (text name : Bytes) → ahead ≡ text
 globals-all ahead text name all =
     ap (λ ls. has_text (globals_in (forms_of ls)) name) all
     ∙ sym (has_text-first_seen (globals_in (forms_of (text_lines Joined text))) name)
+
+-- words that are added to names in turn
+pub first_seen-more : (before more : List Bytes)
+    → first_seen (before ++ more) ≡ fold names_with (first_seen before) more
+first_seen-more before [] = ap first_seen (append-nil before)
+first_seen-more before (name ∷ more) =
+    ap first_seen (sym (append_assoc before (name ∷ []) more))
+    ∙ first_seen-more (before ++ name ∷ []) more
+    ∙ ap (λ names. fold names_with names more) (first_seen-push before name)
+
+-- one line more was looked at
+pub looks-next : (most : ℕ) (lines ahead more : List TextLine) (line : TextLine)
+    (names now : List Bytes) → ahead ≡ line ∷ more
+    → now ≡ fold names_with names (nets_on_pins most (form_of line.words))
+    → HasLooked most lines ahead names → HasLooked most lines more now
+looks-next most lines ahead more line names now next is looked = record {
+  before = looked.before ++ line ∷ [];
+  split = looked.split ∙ ap (λ ls. looked.before ++ ls) next
+      ∙ sym (append_assoc looked.before (line ∷ []) more);
+  nets = is ∙ ap (λ ns. fold names_with ns own) looked.nets
+      ∙ sym (first_seen-more (nets_among most looked.before) own)
+      ∙ ap first_seen (sym added);
+}
+  where
+    own : List Bytes
+    own = nets_on_pins most (form_of line.words)
+
+    added : nets_among most (looked.before ++ line ∷ []) ≡ nets_among most looked.before ++ own
+    added = ap (λ forms. flat_map (nets_on_pins most) forms)
+        (map-append (λ (l : TextLine). form_of l.words) looked.before (line ∷ []))
+        ∙ flat_map-append (nets_on_pins most) (forms_of looked.before)
+        (form_of line.words ∷ [])
+        ∙ ap (λ ns. nets_among most looked.before ++ ns) (append-nil own)

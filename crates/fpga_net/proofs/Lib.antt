@@ -1,3 +1,4 @@
+pub mod AlikeLemmas
 pub mod CodeRows
 pub mod ConnectLemmas
 pub mod DraftLemmas

@@ -7,7 +7,6 @@ ghost use Rattle.fpga_net.specs.Forms.{Begins, Globals, Pinlist, Subblock, form_
 use crate::begun::{BegunBlock, only_word};
 use crate::cause::Cause;
 use crate::forms::{LineForm, form_of};
-use crate::globals::GlobalNets;
 use crate::limits::BLOCK_LIMIT;
 use crate::listed::{ListedBlock, finish_all, misses_pins, rest_words};
 use crate::names::NameTable;
@@ -23,7 +22,7 @@ use std::marker::Model;
 pub struct Draft<'a, 'b> {
     alloc: Global,
     arch: &'b Arch,
-    globals: GlobalNets<'a>,
+    globals: NameTable<'a>,
     begun: Option<BegunBlock<'a>>,
     in_logic: bool,
     names: NameTable<'a>,
@@ -56,7 +55,7 @@ impl<'a, 'b> Draft<'a, 'b> {
     ghost use Rattle.fpga_net.specs.Value.{netlist_before};
 
     /// No line was taken.
-    pub fn new(alloc: Global, arch: &'b Arch, globals: GlobalNets<'a>) -> Draft<'a, 'b>
+    pub fn new(alloc: Global, arch: &'b Arch, globals: NameTable<'a>) -> Draft<'a, 'b>
         ensures { result ≡ record {
           context = before_all arch.now globals.entry;
           entries = [];

@@ -19,7 +19,6 @@ ghost use Rattle.fpga_net.specs.Names.{number_of};
 ghost use Rattle.fpga_net.specs.NetUses.{use_said};
 
 use crate::cause::Cause;
-use crate::globals::GlobalNets;
 use crate::names::NameTable;
 use crate::net_draft::NetDraft;
 use crate::net_use::{NetUse, shares_class, takes_ordinary};
@@ -78,7 +77,7 @@ impl<'a> NetTable<'a> {
     pub fn connect(
         &mut self,
         uses: &[NetUse<'a>],
-        globals: &GlobalNets<'a>,
+        globals: &NameTable<'a>,
         line: u64,
     ) -> Result<(), TextFault>
         ensures ok { OnOk result
@@ -105,7 +104,7 @@ impl<'a> NetTable<'a> {
     }
 
     /// Adds these pins to their nets. After an error some were added.
-    fn add_all(&mut self, uses: &[NetUse<'a>], globals: &GlobalNets<'a>) -> Result<(), AllocError>
+    fn add_all(&mut self, uses: &[NetUse<'a>], globals: &NameTable<'a>) -> Result<(), AllocError>
         ensures { OnOk result
             (TakesUses (has_text globals.now) self.old self.new (map use_said uses.now)) }
     {
@@ -116,7 +115,7 @@ impl<'a> NetTable<'a> {
     }
 
     /// Adds a pin to its net.
-    fn add(&mut self, used: &NetUse<'a>, globals: &GlobalNets<'a>) -> Result<(), AllocError>
+    fn add(&mut self, used: &NetUse<'a>, globals: &NameTable<'a>) -> Result<(), AllocError>
         ensures { OnOk result
             (self.new ≡ entries_with (has_text globals.now) self.old (use_said used.now)) }
     {
@@ -126,7 +125,7 @@ impl<'a> NetTable<'a> {
     }
 
     /// The number of the net with a name. There is one afterwards, if there was none.
-    fn number_for(&mut self, name: &'a [u8], globals: &GlobalNets<'a>) -> Result<usize, AllocError>
+    fn number_for(&mut self, name: &'a [u8], globals: &NameTable<'a>) -> Result<usize, AllocError>
         ensures entries { OnOk result
             (self.new ≡ entries_having (has_text globals.now) self.old name.now) }
         ensures number { IfOk result
@@ -155,7 +154,7 @@ impl<'a> NetTable<'a> {
     }
 
     /// Whether one of these pins drives its net, which is ordinary and has two drivers.
-    fn drive_again(&self, uses: &[NetUse<'a>], globals: &GlobalNets<'a>) -> bool
+    fn drive_again(&self, uses: &[NetUse<'a>], globals: &NameTable<'a>) -> bool
         ensures { result
             ≡ drive_again (has_text globals.now) self.now (map use_said uses.now) }
     {

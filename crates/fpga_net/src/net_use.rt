@@ -8,7 +8,7 @@ ghost use Rattle.fpga_net.specs.Codes.{has_pair, share_class};
 ghost use Rattle.fpga_net.specs.NetUses.{use_said};
 ghost use Rattle.fpga_net.specs.Uses.{is_open as means_no_net, pins_of, uses_on};
 
-use crate::globals::GlobalNets;
+use crate::names::NameTable;
 use fpga_text::is_text;
 use fpga_types::{Arch, BlockKind, PinRef, PinSpec, SideSet};
 use std::alloc::{AllocError, Global};
@@ -92,7 +92,7 @@ pub fn net_uses<'a>(
 }
 
 /// Whether one of these pins is for global nets, and its net is ordinary.
-pub fn takes_ordinary<'a>(uses: &[NetUse<'a>], globals: &GlobalNets<'a>) -> bool
+pub fn takes_ordinary<'a>(uses: &[NetUse<'a>], globals: &NameTable<'a>) -> bool
     ensures { result ≡ spec.takes_ordinary (has_text globals.now) (map use_said uses.now) }
 {
     for used in uses {
@@ -104,7 +104,7 @@ pub fn takes_ordinary<'a>(uses: &[NetUse<'a>], globals: &GlobalNets<'a>) -> bool
 }
 
 /// Whether two of these pins are of one class and on one net, which is ordinary.
-pub fn shares_class<'a>(uses: &[NetUse<'a>], globals: &GlobalNets<'a>) -> bool
+pub fn shares_class<'a>(uses: &[NetUse<'a>], globals: &NameTable<'a>) -> bool
     ensures { result ≡ has_pair (share_class (has_text globals.now)) (map use_said uses.now) }
 {
     for (i, first) in uses.iter().enumerate() {
@@ -116,7 +116,7 @@ pub fn shares_class<'a>(uses: &[NetUse<'a>], globals: &GlobalNets<'a>) -> bool
 }
 
 /// Whether one of the other pins is of the class of this one and on its net, which is ordinary.
-fn shares_with<'a>(first: &NetUse<'a>, others: &[NetUse<'a>], globals: &GlobalNets<'a>) -> bool
+fn shares_with<'a>(first: &NetUse<'a>, others: &[NetUse<'a>], globals: &NameTable<'a>) -> bool
     ensures { result ≡ list_any (share_class (has_text globals.now) (use_said first.now))
         (map use_said others.now) }
 {

@@ -7,7 +7,7 @@ ghost use Rattle.fpga_net.specs.Sound.{IsSound};
 ghost use Rattle.fpga_net.specs.Value.{net_value};
 
 use crate::draft::Draft;
-use crate::globals::GlobalNets;
+use crate::globals::global_nets;
 use fpga_text::{Lines, Style, TextFault};
 use fpga_types::{Arch, Netlist};
 use std::alloc::Global;
@@ -35,7 +35,7 @@ pub fn read_net(alloc: Global, bytes: &[u8], arch: &Arch) -> Result<Netlist, Tex
         (λ netlist. netlist ≡ net_value arch.now bytes.now) result }
     ensures sound { IfOk result (IsSound arch.now) }
 {
-    let Ok(globals) = GlobalNets::of(alloc, bytes, arch.pins.as_slice().len() + 1) else {
+    let Ok(globals) = global_nets(alloc, bytes, arch.pins.as_slice().len() + 1) else {
         return Err(TextFault::Memory);
     };
     let mut lines = Lines::new(bytes, Style::Joined);

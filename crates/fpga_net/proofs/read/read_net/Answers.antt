@@ -1,36 +1,27 @@
-use Rattle.std.proofs.Common.{◌≡◌, ◌+◌, [], ap, ◌∙◌}
-use Rattle.fpga_net.specs.Codes.{before_all}
-use Rattle.fpga_net.specs.Drafts.{Progress}
-use Rattle.fpga_net.proofs.ReadLemmas.{no_lines, read, read_sound, refused}
+use Rattle.std.proofs.Common.{◌+◌, ap}
+use Rattle.fpga_net.proofs.ReadLemmas.{read, read_sound, refused}
 use Rattle.fpga_net.proofs.read.read_net.Goals as goal
-use Rattle.fpga_net.proofs.read.read_net.Goals.{In-Ok}
-
--- the draft before the first line
-start : (c : In-Ok) → (draft : Progress) → draft ≡ record {
-  context = before_all c.args.arch.now c.in-Ok.globals;
-  entries = [];
-} → draft ≡ no_lines c.args.arch.now c.args.bytes.now
-start c draft is = is
-    ∙ (λ i. record { context = before_all c.args.arch.now (c.in-Ok.ensures i); entries = [] })
 
 pub returns-in-Err-clause-answers : goal.returns-in-Err-clause-answers
 returns-in-Err-clause-answers c =
-    refused c.args.arch.now c.args.bytes.now c.new-lines.result c.read_lines.new.lines
-    c.new-draft.result c.read_lines.new.draft c.new-lines.ensures
-    (start (goal.at.returns-in-Err-clause-answers c).In-Ok c.new-draft.result c.new-draft.ensures)
-    c.in-Err.fault c.in-Err.ensures.err
+    refused c.args.arch.now c.args.bytes.now c.in-Ok.globals c.new-lines.result
+    c.read_lines.new.lines c.new-draft.result c.read_lines.new.draft
+    (rw c.as_slice.ensures at c.in-Ok.ensures)
+    c.new-lines.ensures c.new-draft.ensures c.in-Err.fault c.in-Err.ensures.err
 
 pub returns-clause-answers : goal.returns-clause-answers
 returns-clause-answers c =
-    read c.args.arch.now c.args.bytes.now c.new-lines.result c.read_lines.new.lines
-    c.new-draft.result c.read_lines.new.draft c.new-lines.ensures
-    (start (goal.at.returns-clause-answers c).In-Ok c.new-draft.result c.new-draft.ensures)
+    read c.args.arch.now c.args.bytes.now c.in-Ok.globals c.new-lines.result
+    c.read_lines.new.lines c.new-draft.result c.read_lines.new.draft
+    (rw c.as_slice.ensures at c.in-Ok.ensures)
+    c.new-lines.ensures c.new-draft.ensures
     c.in-Ok-read_lines.ensures.ok _ c.finish.result (ap (λ n. n + 1) c.line_count.ensures.count)
     c.finish.ensures
 
 pub returns-clause-sound : goal.returns-clause-sound
 returns-clause-sound c =
-    read_sound c.args.arch.now c.args.bytes.now c.new-lines.result c.read_lines.new.lines
-    c.new-draft.result c.read_lines.new.draft c.new-lines.ensures
-    (start (goal.at.returns-clause-sound c).In-Ok c.new-draft.result c.new-draft.ensures)
+    read_sound c.args.arch.now c.args.bytes.now c.in-Ok.globals c.new-lines.result
+    c.read_lines.new.lines c.new-draft.result c.read_lines.new.draft
+    (rw c.as_slice.ensures at c.in-Ok.ensures)
+    c.new-lines.ensures c.new-draft.ensures
     c.in-Ok-read_lines.ensures.ok _ c.finish.result c.finish.ensures
