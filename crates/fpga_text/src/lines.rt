@@ -53,8 +53,6 @@ impl<'a> Lines<'a> {
     }
 
     /// The next line that has words, or None after the last one.
-    // Inlined, so that a line is not copied from one place in memory to another.
-    #[inline(always)]
     pub fn next_line(&mut self) -> Option<Line<'a>>
         ensures line { result ≡ slice_get self.old.ahead 0 }
         ensures after { self.new ≡ after_line self.old }
@@ -77,6 +75,8 @@ impl<'a> Lines<'a> {
     }
 
     /// The very next line, with words or without, or None after the last one.
+    // Inlined, so that a line is not copied from one place in memory to another.
+    #[inline(always)]
     fn any_line(&mut self) -> Option<Line<'a>>
         ensures line { IfSome result (TakesLine self.old self.new) }
         ensures end { IfNone result (IsAtEnd self.old self.new) }

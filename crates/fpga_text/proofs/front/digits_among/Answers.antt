@@ -77,9 +77,11 @@ returns-clause-size c =
     (whole (goal.at.returns-clause-size c).Else-looked_at-text)
 
 pub returns-clause-small : goal.returns-clause-small
-returns-clause-small c = (whole (goal.at.returns-clause-small c).Else-looked_at-text).small
+returns-clause-small c =
+    (whole (goal.at.returns-clause-small c).Else-looked_at-text).small
 
 pub returns-clause-behind : goal.returns-clause-behind
 returns-clause-behind c =
     front_ended c.args.text.now c.args.looked_at c.loop-i.i c.loop-i.size
-    (whole (goal.at.returns-clause-behind c).Else-looked_at-text) c.requires.within c.loop-i-test.false c.if-looked_at-text.false
+    (whole (goal.at.returns-clause-behind c).Else-looked_at-text) c.requires.within
+    c.loop-i-test.false c.if-looked_at-text.false
