@@ -1,5 +1,5 @@
 -- The parts of a row: where it begins, its places, and the right to give its memory back.
-use Rattle.std.specs.Prelude.{◌≡◌, ℕ, ◌≤◌, ⊤, length, slice_set, Option, None, Some}
+use Rattle.std.specs.Prelude.{◌≡◌, ℕ, ◌≤◌, length, slice_set, Option, None, Some}
 use Rattle.sat_arena.specs.declared.places.Start.{Start}
 use Rattle.sat_arena.specs.declared.places.Places.{Places}
 use Rattle.sat_arena.specs.declared.places.Claim.{Claim}
@@ -8,9 +8,9 @@ use Rattle.sat_arena.specs.declared.places.Claim.{Claim}
 abbrev pub AreRowOf : {X : Type 0} → Start X → Places X → ℕ → Type 0
 AreRowOf start places count = (places.start ≡ start.address) × (length places.slots ≡ count)
 
--- the right to give a row's memory back to this allocator; a row without places may have none
+-- the right to give a row's memory back to this allocator; a row without places has none
 abbrev pub IsClaimOn : {X A : Type 0} → Start X → ℕ → A → Option (Claim X A) → Type 0
-IsClaimOn start count alloc None = ⊤
+IsClaimOn start count alloc None = count ≡ 0
 IsClaimOn start count alloc (Some claim) =
     (claim.start ≡ start.address) × (claim.count ≡ count) × (claim.alloc ≡ alloc) × (1 ≤ count)
 
