@@ -24,7 +24,7 @@ use Rattle.fpga_arch.specs.Drafts.{Progress, START, arch_after, context_at, stan
 use Rattle.fpga_arch.specs.Keywords.{ArchLine, arch_lines, is_of, word_behind}
 use Rattle.fpga_arch.specs.Lines.{ReadsLines, arch_with, context_after, faults_ahead}
 use Rattle.fpga_arch.specs.Pins.{pin_of}
-use Rattle.fpga_arch.specs.Value.{ReadsArch, arch_of, arch_value, last_said}
+use Rattle.fpga_arch.specs.Value.{arch_of, arch_value, last_said}
 
 -- one more width
 width-push : (width : ℕ) (said : Option ℕ) → list_any (is_other width) (cons_option said [])
@@ -143,7 +143,7 @@ pub reads : (text : Bytes) (lines now : LinesAhead) (start draft : Progress) (co
     → ReadsLines lines start now draft → count ≡ now.taken
     → AnswersFault (end_fault arch_codes (context_at draft) (count + 1))
     (λ arch. arch ≡ draft.arch) result
-    → AnswersFault (first_fault (arch_faults text)) (ReadsArch text) result
+    → AnswersFault (first_fault (arch_faults text)) (λ arch. arch ≡ arch_value text) result
 reads text lines now start draft count result is begun read counted answer =
     answers-same (first_fault (arch_faults text))
     (end_fault arch_codes (context_at draft) (count + 1))

@@ -5,13 +5,14 @@ use Rattle.fpga_types.specs.declared.arch.Arch.{Arch}
 use Rattle.fpga_types.specs.declared.arch.Pattern.TheVariants.{Subset}
 use Rattle.fpga_text.specs.declared.style.Style.TheVariants.{Joined}
 use Rattle.fpga_text.specs.Bytes.{Bytes}
+use Rattle.fpga_text.specs.FirstFault.{IsFaultless}
 use Rattle.fpga_text.specs.Said.{decimal_said, whole_said}
 use Rattle.fpga_text.specs.Words.{text_lines}
 use Rattle.fpga_arch.specs.declared.keyword.Keyword.{Keyword}
 use Rattle.fpga_arch.specs.declared.keyword.Keyword.TheVariants.{IoRat, SwitchBlock, FcType, FcOutput, FcInput, FcPad}
 use Rattle.fpga_arch.specs.Keywords.{ArchLine, arch_lines, word_behind}
 use Rattle.fpga_arch.specs.Pins.{pin_of}
-use Rattle.fpga_arch.specs.Codes.{fraction_of, pattern_of}
+use Rattle.fpga_arch.specs.Codes.{arch_faults, fraction_of, pattern_of}
 
 -- what the last line says that says one, or else this
 abbrev pub last_said : {X : Type 0} → (ArchLine → Option X) → X → List ArchLine → X
@@ -44,6 +45,6 @@ arch_of lines = record {
 abbrev pub arch_value : Bytes → Arch
 arch_value text = arch_of (map (λ line. line.1) (arch_lines (text_lines Joined text)))
 
--- the text reads as this architecture
+-- the text has no fault, and reads as this architecture
 abbrev pub ReadsArch : Bytes → Arch → Type 0
-ReadsArch text arch = arch ≡ arch_value text
+ReadsArch text arch = IsFaultless (arch_faults text) × (arch ≡ arch_value text)

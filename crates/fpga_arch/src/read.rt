@@ -6,7 +6,7 @@ ghost use Rattle.fpga_types.specs.ArchSound.{IsSoundArch};
 ghost use Rattle.fpga_arch.specs.Codes.{arch_codes, arch_faults};
 ghost use Rattle.fpga_arch.specs.Drafts.{context_at};
 ghost use Rattle.fpga_arch.specs.Lines.{ReadsLines, faults_ahead};
-ghost use Rattle.fpga_arch.specs.Value.{ReadsArch};
+ghost use Rattle.fpga_arch.specs.Value.{arch_value};
 
 use crate::cause::Cause;
 use crate::draft::Draft;
@@ -32,7 +32,7 @@ use std::alloc::Global;
 /// `Limit` has the code 109 and a count: more than 16 pads at a place, more than 64 pins, or a
 /// class above 63. `Memory` comes where memory is short.
 pub fn read_arch(alloc: Global, bytes: &[u8]) -> Result<Arch, TextFault>
-    ensures answers { Answers (arch_faults bytes.now) (ReadsArch bytes.now) result }
+    ensures answers { Answers (arch_faults bytes.now) (λ arch. arch ≡ arch_value bytes.now) result }
     ensures sound { IfOk result IsSoundArch }
 {
     let mut lines = Lines::new(bytes, Style::Joined);

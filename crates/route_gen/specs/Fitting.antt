@@ -1,7 +1,7 @@
 -- What is true of the four values that the texts of a generated problem read as.
 use Rattle.std.specs.Prelude.{◌≡◌, ◌⊎◌, ◌+◌, All, Option, None, Some}
 use Rattle.fpga_arch.specs.Codes.{arch_faults}
-use Rattle.fpga_arch.specs.Value.{ReadsArch}
+use Rattle.fpga_arch.specs.Value.{arch_value}
 use Rattle.fpga_net.specs.Value.{ReadsNet}
 use Rattle.fpga_place.specs.Value.{Reads as ReadsPlacement}
 use Rattle.fpga_route.specs.Value.{Reads as ReadsRoute}
@@ -18,7 +18,7 @@ use Rattle.route_gen.specs.Texts.{Texts}
 -- no text has a fault, and they read as the values of this problem
 pub record AreRead (texts : Texts) (p : RoutingProblem) : Type 0 where
   pub faultless : IsFaultless (arch_faults texts.architecture)
-  pub arch : ReadsArch texts.architecture p.arch
+  pub arch : p.arch ≡ arch_value texts.architecture
   pub netlist : ReadsNet p.arch texts.netlist p.netlist
   pub placement : ReadsPlacement p.arch p.netlist texts.placement p.placement
   pub route : ReadsRoute texts.route p.route

