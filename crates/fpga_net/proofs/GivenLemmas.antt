@@ -7,7 +7,7 @@ use Rattle.list_laws.proofs.Places.{get-there}
 use Rattle.fpga_types.specs.Given.{IsGiven, IsGivenNetlist, IsPinOf, pin_count}
 use Rattle.fpga_types.specs.Placements.{HaveOwnNames, IsSoundPlacement}
 use Rattle.fpga_types.specs.Problem.{problem_of}
-use Rattle.fpga_types.specs.Sound.{IsSound as IsSoundRoute}
+use Rattle.fpga_types.specs.Sound.{IsSound}
 use Rattle.fpga_types.specs.declared.arch.Arch.{Arch}
 use Rattle.fpga_types.specs.declared.netlist.Block.{Block}
 use Rattle.fpga_types.specs.declared.netlist.BlockKind.{BlockKind}
@@ -18,7 +18,7 @@ use Rattle.fpga_types.specs.declared.netlist.PinRef.{PinRef}
 use Rattle.fpga_types.specs.declared.placement.Placement.{Placement}
 use Rattle.fpga_types.specs.declared.route.RouteText.{RouteText}
 use Rattle.fpga_types.proofs.FitsLemmas.{placement-given}
-use Rattle.fpga_net.specs.Sound.{IsOn, IsSound}
+use Rattle.fpga_net.specs.Sound.{IsOn, IsSoundNetlist}
 use Rattle.fpga_net.specs.Uses.{pins_of}
 
 count : (arch : Arch) (kind : BlockKind) → length (pins_of arch kind) ≡ pin_count arch kind
@@ -26,7 +26,7 @@ count arch Logic = refl
 count arch Input = refl
 count arch Output = refl
 
-module _ (arch : Arch) (netlist : Netlist) (sound : IsSound arch netlist) where
+module _ (arch : Arch) (netlist : Netlist) (sound : IsSoundNetlist arch netlist) where
   pin-there : (net : ℕ) (at : PinRef) → IsOn netlist.blocks net at → IsPinOf netlist at
   pin-there net at on =
       (on.0, on.1, slice_get_within on.0.pins at.pin (Some net) on.2)
@@ -56,7 +56,7 @@ module _ (arch : Arch) (netlist : Netlist) (sound : IsSound arch netlist) where
 
   -- with a placement and a route that were read
   pub readers-give : (placement : Placement) (route : RouteText)
-      → IsSoundPlacement arch netlist placement → IsSoundRoute route
+      → IsSoundPlacement arch netlist placement → IsSound route
       → IsGiven (problem_of arch netlist placement route)
   readers-give placement route placed routed = record {
     netlist = netlist-given;

@@ -13,7 +13,7 @@ use Rattle.fpga_net.specs.Codes.{Context, before_all, behind, forms_of, globals_
 use Rattle.fpga_net.specs.Drafts.{Progress, ReadsLines, faults_ahead, last_fault}
 use Rattle.fpga_net.specs.Forms.{Form, Begins, Pinlist, Subblock, Globals, Other}
 use Rattle.fpga_net.specs.Globals.{FindsGlobals}
-use Rattle.fpga_net.specs.Sound.{IsSound}
+use Rattle.fpga_net.specs.Sound.{IsSoundNetlist}
 use Rattle.fpga_net.specs.Value.{net_value, netlist_before}
 use Rattle.fpga_net.proofs.AlikeLemmas.{ReadAlike, faults_at, found-alike}
 use Rattle.fpga_net.proofs.LineLemmas.{by_context}
@@ -109,9 +109,9 @@ module _ (arch : Arch) (bytes : Bytes) (found : List Bytes) (lines lines_after :
     pub read_sound : (end : ℕ) (result : Result Netlist TextFault)
         → AnswersFault (last_fault draft_after.context end)
         (λ netlist. netlist ≡ netlist_before draft_after.context) result
-        → IfOk result (IsSound arch)
+        → IfOk result (IsSoundNetlist arch)
     read_sound end (Ok netlist) is =
-        subst (IsSound arch) (sym is.1)
-        (subst (λ a. IsSound a (netlist_before draft_after.context)) arch_same
+        subst (IsSoundNetlist arch) (sym is.1)
+        (subst (λ a. IsSoundNetlist a (netlist_before draft_after.context)) arch_same
         (sound draft_after end rest.kept is.0))
     read_sound end (Err fault) is = tt

@@ -25,7 +25,7 @@ use Rattle.fpga_net.specs.Codes.{BegunBlock, Context, ends_open, is_global, is_o
 use Rattle.fpga_net.specs.Drafts.{IsKept, Progress, last_fault}
 use Rattle.fpga_net.specs.Entries.{Entry, entry_of}
 use Rattle.fpga_net.specs.Names.{AreApart, number_of}
-use Rattle.fpga_net.specs.Sound.{IsOn, IsSound, IsSoundBlock, IsSoundNet}
+use Rattle.fpga_net.specs.Sound.{IsOn, IsSoundNetlist, IsSoundBlock, IsSoundNet}
 use Rattle.fpga_net.specs.Uses.{HasPins, ListedBlock, Use, block_uses, drivers, is_open, nets_of, on_net, pins_of, sinks, use_of, uses_of}
 use Rattle.fpga_net.specs.Value.{block_of, net_of, net_on, netlist_before}
 use Rattle.fpga_net.proofs.DraftLemmas.{few_blocks, no_block}
@@ -285,7 +285,7 @@ block_names nets [] = refl
 block_names nets (b ∷ more) = ap (λ ns. b.name ∷ ns) (block_names nets more)
 
 pub sound : (draft : Progress) (number : ℕ) → IsKept draft → last_fault draft.context number ≡ None
-    → IsSound draft.context.arch (netlist_before draft.context)
+    → IsSoundNetlist draft.context.arch (netlist_before draft.context)
 sound draft number kept clean = record {
   net_count = subst (λ n. n ≤ NET_LIMIT) (entries ∙ sym nets) kept.net_count;
   block_count = subst (λ n. n ≤ BLOCK_LIMIT)

@@ -29,7 +29,7 @@ pub record IsSoundNet (blocks : List Block) (number : ℕ) (net : Net) : Type 0 
   pub ended : net.global ≡ false → 1 ≤ length net.sinks
 
 -- nets and blocks are sound, their names differ, and there are no more than may be
-pub record IsSound (arch : Arch) (netlist : Netlist) : Type 0 where
+pub record IsSoundNetlist (arch : Arch) (netlist : Netlist) : Type 0 where
   pub net_count : length netlist.nets ≤ NET_LIMIT
   pub block_count : length netlist.blocks ≤ BLOCK_LIMIT
   pub blocks : All (IsSoundBlock arch (length netlist.nets)) netlist.blocks

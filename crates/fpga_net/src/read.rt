@@ -3,7 +3,7 @@ ghost use Rattle.std.specs.Prelude.{◌≡◌, IfErr, IfOk, OnOk};
 ghost use Rattle.fpga_text.specs.FirstFault.{Answers, IsRefusal};
 ghost use Rattle.fpga_net.specs.Codes.{net_faults};
 ghost use Rattle.fpga_net.specs.Drafts.{IsKept, ReadsLines, faults_ahead};
-ghost use Rattle.fpga_net.specs.Sound.{IsSound};
+ghost use Rattle.fpga_net.specs.Sound.{IsSoundNetlist};
 ghost use Rattle.fpga_net.specs.Value.{net_value};
 
 use crate::draft::Draft;
@@ -33,7 +33,7 @@ use std::alloc::Global;
 pub fn read_net(alloc: Global, bytes: &[u8], arch: &Arch) -> Result<Netlist, TextFault>
     ensures answers { Answers (net_faults arch.now bytes.now)
         (λ netlist. netlist ≡ net_value arch.now bytes.now) result }
-    ensures sound { IfOk result (IsSound arch.now) }
+    ensures sound { IfOk result (IsSoundNetlist arch.now) }
 {
     let Ok(globals) = global_nets(alloc, bytes, arch.pins.as_slice().len() + 1) else {
         return Err(TextFault::Memory);

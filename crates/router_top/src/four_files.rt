@@ -1,7 +1,7 @@
 //! From the four files of a problem to the problem.
 ghost use Rattle.std.specs.Prelude.{◌≡◌, IfErr, IfOk};
 ghost use Rattle.fpga_arch.specs.Value.{arch_value};
-ghost use Rattle.fpga_net.specs.Sound.{IsSound as IsSoundNetlist};
+ghost use Rattle.fpga_net.specs.Sound.{IsSoundNetlist};
 ghost use Rattle.fpga_net.specs.Value.{net_value};
 ghost use Rattle.fpga_place.specs.Value.{place_value};
 ghost use Rattle.fpga_types.specs.Placements.{IsSoundPlacement};

@@ -1,12 +1,12 @@
 //! From the four texts of a generated problem to the problem.
 ghost use Rattle.std.specs.Prelude.{◌≤◌, IfErr, IfOk, IsOk, length};
 ghost use Rattle.fpga_arch.specs.Value.{arch_value};
-ghost use Rattle.fpga_net.specs.Sound.{IsSound as IsSoundNetlist};
+ghost use Rattle.fpga_net.specs.Sound.{IsSoundNetlist};
 ghost use Rattle.fpga_net.specs.Value.{net_value};
 ghost use Rattle.fpga_place.specs.Value.{place_value};
 ghost use Rattle.fpga_route.specs.Value.{route_value};
 ghost use Rattle.fpga_types.specs.Placements.{IsSoundPlacement};
-ghost use Rattle.fpga_types.specs.Sound.{IsSound as IsSoundRoute};
+ghost use Rattle.fpga_types.specs.Sound.{IsSound};
 ghost use Rattle.router_top.specs.FourFiles.{arch_source, net_source, place_source, route_source};
 ghost use Rattle.router_top.specs.Generated.{GivesNoneAnywhere, PosesAnywhere, texts_with};
 ghost use Rattle.router_top.specs.Sources.{IsTooLong, SaysAnywhere, StopsAnywhere};
@@ -103,7 +103,7 @@ fn placement(
 // The global route.
 fn global_route(alloc: Global, text: &[u8]) -> Result<RouteText, Outcome>
     ensures says { IfOk result (SaysAnywhere route_source route_value text.now) }
-    ensures sound { IfOk result IsSoundRoute }
+    ensures sound { IfOk result IsSound }
     ensures stop { IfErr result (StopsAnywhere route_source text.now) }
 {
     let file = TextFile::Route;
