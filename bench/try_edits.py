@@ -6,8 +6,8 @@
 
 The gate tries the edits that tell most, at most six a crate; the others stand in bench/edits. They are tried after a
 change of the crate's contracts: over a copy of the repository in a folder of its own, in place of those that the gate
-tries, by `rt must-fail`, which begins with what `rt check` of the crate has kept on this machine. Ends with 1 where one
-is let through, or where its text no longer stands in its file.
+tries, by `rt must-fail`. The copy has the libraries that `rt check` or `rt lib` left in `out/rlib`, so that no crate
+below is proved again. Ends with 1 where one is let through, or where its text no longer stands in its file.
 """
 import os
 import shutil
@@ -21,11 +21,23 @@ COPIED = ("crates.txt", "HANDLES")
 
 
 def copy_of_the_repository(to):
-    """What a check reads, without what earlier checks have made."""
+    """What a check reads, with the libraries that stand proved, and nothing else of what checks have made."""
     shutil.copytree(os.path.join(ROOT, "crates"), os.path.join(to, "crates"), ignore=shutil.ignore_patterns("out"))
+    for crate in os.listdir(os.path.join(ROOT, "crates")):
+        proved = os.path.join(ROOT, "crates", crate, "out", "rlib")
+        if os.path.isfile(os.path.join(proved, "stamp")):
+            shutil.copytree(proved, os.path.join(to, "crates", crate, "out", "rlib"), copy_function=link_or_copy)
     for name in COPIED:
         shutil.copy(os.path.join(ROOT, name), to)
     subprocess.run(["git", "init", "-q"], cwd=to, check=True)
+
+
+def link_or_copy(there, to):
+    """The same file under another name, or a copy of it on another disk."""
+    try:
+        os.link(there, to)
+    except OSError:
+        shutil.copy2(there, to)
 
 
 def are_refused(top, crate):
