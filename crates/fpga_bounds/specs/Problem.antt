@@ -13,20 +13,26 @@ use Rattle.fpga_types.specs.declared.limits.TheConstants.{SLOT_LIMIT, STEP_LIMIT
 use Rattle.fpga_types.specs.declared.problem.PinStep.{PinStep}
 use Rattle.fpga_types.specs.declared.problem.RouteStep.{RouteStep}
 use Rattle.fpga_types.specs.declared.problem.Slot.{Slot}
+use Rattle.fpga_types.specs.declared.route.RouteText.{RouteText}
 
--- the values are given and fit; these are the slots, the steps and the pin steps of the route, and
--- so many are the pairs of its slots that take one cell
+-- these are the slots, the steps and the pin steps of the route, and so many are the pairs of its
+-- slots that take one cell
+pub record AreListed (route : RouteText) (all : List Slot) (found : List RouteStep)
+    (pins : List PinStep) (count : ℕ) : Type 0 where
+  pub slots_are : all ≡ slots route
+  pub steps_are : found ≡ steps route
+  pub pins_are : pins ≡ pin_steps route
+  pub pairs_are : count ≡ length (pairs (slots route))
+  pub few_steps : length found ≤ STEP_LIMIT
+  pub few_pins : length pins ≤ STEP_LIMIT
+  pub few_pairs : count ≤ SLOT_LIMIT * SLOT_LIMIT
+
+-- the values are given and fit, and what the route lists is at hand
 pub record IsPosed (p : RoutingProblem) (all : List Slot) (found : List RouteStep)
     (pins : List PinStep) (count : ℕ) : Type 0 where
   pub given : IsGiven p
   pub fits : Fits p
-  pub slots_are : all ≡ slots p.route
-  pub steps_are : found ≡ steps p.route
-  pub pins_are : pins ≡ pin_steps p.route
-  pub pairs_are : count ≡ length (pairs (slots p.route))
-  pub few_steps : length found ≤ STEP_LIMIT
-  pub few_pins : length pins ≤ STEP_LIMIT
-  pub few_pairs : count ≤ SLOT_LIMIT * SLOT_LIMIT
+  pub listed : AreListed p.route all found pins count
 
 -- both slots of the step are some of these
 abbrev pub IsStepWithin : List Slot → RouteStep → Type 0

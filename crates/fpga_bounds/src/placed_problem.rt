@@ -1,12 +1,13 @@
 //! Four values that fit, with the slots, the steps and the pin steps of the route.
 ghost use Rattle.std.specs.Prelude.{◌≡◌, ◌≤◌, ◌*◌, All, length, IfOk};
 ghost use Rattle.fpga_text.specs.FirstFault.{Answers};
-ghost use Rattle.fpga_bounds.specs.Problem.{IsPinStepTouching, IsStepMeeting, IsStepWithin};
+ghost use Rattle.fpga_bounds.specs.Problem.{AreListed, IsPinStepTouching, IsStepMeeting, IsStepWithin};
 ghost use Rattle.fpga_types.specs.Fits.{Fits, problem_faults};
 ghost use Rattle.fpga_types.specs.Given.{IsGiven};
 ghost use Rattle.fpga_types.specs.Legal.{route_of};
 ghost use Rattle.fpga_types.specs.Problem.{problem_of};
 ghost use Rattle.fpga_types.specs.Slots.{pairs, pin_steps, slots, steps};
+ghost use Rattle.fpga_types.specs.declared.limits.TheConstants.{NET_LIMIT};
 
 use crate::copy::copied_route;
 use crate::design::Design;
@@ -135,21 +136,52 @@ fn posed(
     requires slots { table ≡ slots route }
     ensures { IfOk result (λ problem. problem ≡ problem_of arch netlist placement route) }
 {
-    let steps = steps_of(alloc, route.nets.as_slice(), &table)?;
-    let pin_steps = pin_steps_of(alloc, route.nets.as_slice(), &table)?;
-    // One more of them would take more than 8 TiB.
-    if steps.len() > STEP_LIMIT {
+    let Ok(lists) = lists_of(alloc, &route, table) else {
         return Err(AllocError);
-    }
-    if pin_steps.len() > STEP_LIMIT {
-        return Err(AllocError);
-    }
-    let pairs = pair_count(alloc, table.as_slice())?;
+    };
+    let Lists {
+        table,
+        steps,
+        pin_steps,
+        pairs,
+    } = lists;
     Ok(PlacedProblem {
         arch,
         netlist,
         placement,
         route,
+        table,
+        steps,
+        pin_steps,
+        pairs,
+    })
+}
+
+/// The slots of a route, with its steps, its pin steps and how many pairs of slots take one cell.
+// Apart from the four values, which each early exit would have to let go.
+#[derive(Drop)]
+struct Lists {
+    table: SlotTable,
+    steps: Vec<RouteStep>,
+    pin_steps: Vec<PinStep>,
+    pairs: u64,
+}
+
+/// What a route lists, where these are its slots.
+fn lists_of(alloc: Global, route: &RouteText, table: SlotTable) -> Result<Lists, AllocError>
+    requires few { length route.now.nets ≤ NET_LIMIT }
+    requires slots { table ≡ slots route.now }
+    ensures { IfOk result (λ lists. AreListed route.now lists.table lists.steps.items
+        lists.pin_steps.items lists.pairs) }
+{
+    let steps = steps_of(alloc, route.nets.as_slice(), &table)?;
+    let pin_steps = pin_steps_of(alloc, route.nets.as_slice(), &table)?;
+    // One more of them would take more than 8 TiB.
+    if steps.len() > STEP_LIMIT || pin_steps.len() > STEP_LIMIT {
+        return Err(AllocError);
+    }
+    let pairs = pair_count(alloc, table.as_slice())?;
+    Ok(Lists {
         table,
         steps,
         pin_steps,

@@ -9,7 +9,7 @@ returns-clause-touching c =
     let p : RoutingProblem = problem_of c.self.inside.arch c.self.inside.netlist
     c.self.inside.placement c.self.inside.route in
     let good : All (IsPinStepTouching p) c.as_slice.result.now =
-    rw (c.as_slice.ensures.value, c.self.invariant.pins_are)
+    rw (c.as_slice.ensures.value, c.self.invariant.listed.pins_are)
     (good-pins p c.self.invariant.fits c.self.invariant.given.route) in
     subst (λ (q : RoutingProblem). All (IsPinStepTouching q) c.as_slice.result.now) c.self.view_is
     good

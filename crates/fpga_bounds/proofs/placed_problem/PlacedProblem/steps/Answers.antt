@@ -11,7 +11,7 @@ returns-clause-within c =
     let p : RoutingProblem = problem_of c.self.inside.arch c.self.inside.netlist
     c.self.inside.placement c.self.inside.route in
     let good : All (IsGoodStep p.route) c.as_slice.result.now =
-    rw (c.as_slice.ensures.value, c.self.invariant.steps_are)
+    rw (c.as_slice.ensures.value, c.self.invariant.listed.steps_are)
     (good-steps p.route (Fits-IsFit p c.self.invariant.fits)) in
     subst (λ (q : RoutingProblem). All (IsStepWithin (slots q.route)) c.as_slice.result.now)
     c.self.view_is (λ k d below. (good k d below).0)
@@ -21,7 +21,7 @@ returns-clause-meet c =
     let p : RoutingProblem = problem_of c.self.inside.arch c.self.inside.netlist
     c.self.inside.placement c.self.inside.route in
     let good : All (IsGoodStep p.route) c.as_slice.result.now =
-    rw (c.as_slice.ensures.value, c.self.invariant.steps_are)
+    rw (c.as_slice.ensures.value, c.self.invariant.listed.steps_are)
     (good-steps p.route (Fits-IsFit p c.self.invariant.fits)) in
     subst (λ (q : RoutingProblem). All (IsStepMeeting q.route.grid (slots q.route))
     c.as_slice.result.now) c.self.view_is (λ k d below. (good k d below).1)
