@@ -1,10 +1,12 @@
 //! What a search knows, and how it goes on.
 
-ghost use Rattle.std.specs.Prelude.{◌≡◌, ◌≢◌, ◌<◌, ◌≤◌, ◌+◌, suc, [], IfNone, IfOk, IfSome, Ok, OnErr, OnOk, true};
+ghost use Rattle.std.specs.Prelude.{◌≡◌, ◌≢◌, ◌<◌, ◌≤◌, ◌+◌, suc, length, [], IfNone, IfOk, IfSome, Ok, OnErr, OnOk, true};
 ghost use Rattle.sat_clause.specs.Learned.{IsSimple};
 ghost use Rattle.sat_clause.specs.Trail.{IsClosed};
 ghost use Rattle.sat_core.specs.Forget.{HasForgotten};
 ghost use Rattle.sat_core.specs.Levels.{level_of, lits_of};
+ghost use Rattle.sat_core.specs.Marks.{IsClean};
+ghost use Rattle.sat_core.specs.Ranking.{IsRanked};
 ghost use Rattle.sat_core.specs.SearchStore.{AreTrue, IsLesson, IsSettledState, Learns, SameKept};
 ghost use Rattle.sat_core.specs.Stands.{StandsFor};
 
@@ -57,6 +59,34 @@ impl Model for SearchState {
         s.ranking };
 }
 
+/// What a search has of each variable beside the clauses.
+// Made apart, so that few large values are let go where memory is short.
+#[derive(Drop)]
+struct Tables {
+    findings: Findings,
+    ranking: Ranking,
+    again: Again,
+}
+
+impl Tables {
+    /// Those of a search that has met and decided nothing. The seed draws the first activities.
+    fn new(alloc: Global, vars: u32, seed: u32) -> Result<Tables, AllocError>
+        requires { vars ≤ VARIABLE_LIMIT }
+        ensures clean { IfOk result (λ tables. IsClean tables.findings) }
+        ensures size { IfOk result (λ tables. length tables.findings.met ≡ vars) }
+        ensures ranked { IfOk result (λ tables. IsRanked vars [] tables.ranking) }
+    {
+        let findings = Findings::new(alloc, vars)?;
+        let ranking = Ranking::new(alloc, vars, seed)?;
+        let again = Again::new(alloc, vars)?;
+        Ok(Tables {
+            findings,
+            ranking,
+            again,
+        })
+    }
+}
+
 impl SearchState {
     /// The search that has the clauses of a formula, and has decided nothing. The seed draws the
     /// first activities.
@@ -69,15 +99,20 @@ impl SearchState {
     {
         let inputs = formula.len();
         let Inputs { watches, singles } = take_inputs(alloc, formula)?;
+        let Tables {
+            findings,
+            ranking,
+            again,
+        } = Tables::new(alloc, formula.vars(), seed)?;
         Ok(SearchState {
             inputs,
             added: 0,
             aside: singles,
             attached: 0,
             watches,
-            findings: Findings::new(alloc, formula.vars())?,
-            ranking: Ranking::new(alloc, formula.vars(), seed)?,
-            again: Again::new(alloc, formula.vars())?,
+            findings,
+            ranking,
+            again,
             restarts: Restarts::new(),
             worth: Worth::new(alloc),
         })

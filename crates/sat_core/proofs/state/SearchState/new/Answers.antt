@@ -11,12 +11,12 @@ invariant_of-result c =
     record {
       store = rw c.len-inputs.ensures inputs.store;
       ready = record {
-        clean = c.in_ok-new.ensures.clean;
-        size = omega (arith, c.in_ok-new.ensures.size, vars);
+        clean = c.in_ok-findings.ensures.clean;
+        size = omega (arith, c.in_ok-findings.ensures.size, vars);
       };
       ranked = ranked_start _ c.in_ok-watches.field-0.watches.vars
           c.in_ok-watches.field-0.watches.trail _ (omega (arith, vars)) inputs.none_true
-          c.in_ok-new-2.ensures.ranked;
+          c.in_ok-findings.ensures.ranked;
     }
 
 pub returns : goal.returns
