@@ -1,9 +1,10 @@
 //! What is learned where a clause is false.
 
-ghost use Rattle.std.specs.Prelude.{◌≡◌, ◌++◌, ◌∷◌, [], ◌<◌, ◌≤◌, All, AllPairs, IfOk, flat_map, length, max, pos};
+ghost use Rattle.std.specs.Prelude.{◌≡◌, ◌++◌, ◌∷◌, [], ◌<◌, ◌≤◌, All, AllPairs, IfOk, flat_map, length, max, option_map, pos};
+ghost use Rattle.std.specs.Option.{option_to_list};
 ghost use Rattle.sat_clause.specs.Literal.{IsWithin};
 ghost use Rattle.sat_core.specs.Analysis.{AreOn, HasCurrent, IsKnown};
-ghost use Rattle.sat_core.specs.Marks.{IsClean, IsReady};
+ghost use Rattle.sat_core.specs.Marks.{IsClean, IsMet, IsReady};
 ghost use Rattle.sat_core.specs.Ranking.{SameHeld};
 ghost use Rattle.sat_core.specs.Reading.{AreLearned, EndsIn, HasLesson, IsFound, hint_at};
 
@@ -86,6 +87,21 @@ fn lower_literals(
     Ok(Lower { lits, back })
 }
 
+/// The id of the reason of the entry at a place, if it was used and has one.
+fn hint_of(marks: &Marks, watches: &Watches, place: u32) -> Option<u32>
+    requires on { AreOn watches.now.trail marks.now }
+    requires met { IsMet marks.now place }
+    ensures { option_to_list (option_map pos result) ≡ hint_at watches.now marks.now place }
+{
+    if !marks.is_used(place) {
+        return None;
+    }
+    let Some(reason) = watches.trail()[place as usize].reason else {
+        return None;
+    };
+    Some(watches.id(reason))
+}
+
 /// The ids of the reasons that were used, in the order of the trail, and then an id; in place of
 /// these.
 fn used_hints(
@@ -101,13 +117,10 @@ fn used_hints(
     let mut hints = old;
     hints.clear();
     for place in marks.places() {
-        if !marks.is_used(*place) {
-            continue;
-        }
-        let Some(reason) = watches.trail()[*place as usize].reason else {
+        let Some(hint) = hint_of(marks, watches, *place) else {
             continue;
         };
-        hints.push(i64::from(watches.id(reason)))?;
+        hints.push(i64::from(hint))?;
     }
     hints.push(i64::from(id))?;
     Ok(hints)
