@@ -1,6 +1,6 @@
 -- What a search has found, by what was written of it.
 use Rattle.std.proofs.Common.{◌≡◌, ◌⊎◌, ◌≤◌, ℕ, List, refl, sym, subst, inl, inr, arith}
-use Rattle.std.specs.Prelude.{Bool, true, false, Result, Ok, Err}
+use Rattle.std.specs.Prelude.{Bool, IsTrue, true, false, Result, Ok, Err}
 use Rattle.std.specs.Result.{result_and}
 use Rattle.desk_io.specs.ShelfState.{ShelfState}
 use Rattle.fpga_types.specs.declared.route.RouteText.{RouteText}
@@ -102,10 +102,12 @@ module _ (Refutes LeavesOpen : List Step → Type 0) (ask : Asked) (width : ℕ)
       (h.few, refl, written LeavesOpen (LogReadsBack formula) ends done h)
   finds-spent ends (Err stop) h = stopped (LogReadsBack formula) (inr ends) stop h
 
--- a search through the formula has ended with this answer and this log, and the formula and the log
--- were written or not
-pub record HasEnded (ask : Asked) (width : ℕ) (answer : Answer) (log : List Step)
-    (before now : ShelfState) (result : Result (Unit {0}) Stop) (formula : Cnf) : Type 0 where
+-- a search through the formula, at a width that is not forbidden where counting comes first, has
+-- ended with this answer and this log, and the formula and the log were written or not
+pub record HasEnded (ask : Asked) (width : ℕ) (forbidden : Type 0) (answer : Answer)
+    (log : List Step) (before now : ShelfState) (result : Result (Unit {0}) Stop) (formula : Cnf)
+    : Type 0 where
+  pub uncounted : IsTrue ask.count → ¬ forbidden
   pub few_vars : formula.vars ≤ VARIABLE_LIMIT
   pub affordable : ask.budget ≤ BUDGET_LIMIT
   pub of : IsLogOf ask formula log
@@ -124,7 +126,7 @@ module _ (ask : Asked) (width : ℕ) (forbidden : Type 0) (formula : Cnf)
     (good : RouteText → Type 0) (before now : ShelfState) (log : List Step) (few : HasFew formula)
     (result : Result (Unit {0}) Stop) where
   -- its log was written or not
-  ended : (answer : Answer) → HasEnded ask width answer log before now result formula
+  ended : (answer : Answer) → HasEnded ask width forbidden answer log before now result formula
       → IsWritten (LogReadsBack formula) ask width formula log before now result
   ended answer h = record {
     few = few;
@@ -134,29 +136,29 @@ module _ (ask : Asked) (width : ℕ) (forbidden : Type 0) (formula : Cnf)
   }
 
   -- the log of a search refutes whether or not counting comes first
-  by-search : (counts : Bool) → IsRefutedBy ask formula good log
+  by-search : (counts : Bool) → (IsTrue counts → ¬ forbidden) → IsRefutedBy ask formula good log
       → IsRefutedIf counts ask forbidden formula good log
-  by-search false h = h
-  by-search true h = record {
+  by-search false uncounted h = h
+  by-search true uncounted h = record {
     accepted = accepts_more formula log h.refutes.accepts;
     unsat = refutes formula log h.refutes.accepts;
     none_good = h.none_good;
-    by = inr h;
+    by = inr (uncounted refl, h);
   }
 
   -- a refutation, of a formula that was built
   pub refuted-at : (IsUnsat formula → (found : RouteText) → ¬ good found) → (cnf : Cnf)
-      → cnf ≡ formula → HasEnded ask width HasNone log before now result cnf
+      → cnf ≡ formula → HasEnded ask width forbidden HasNone log before now result cnf
       → (came : Result Found Stop) → came ≡ result_and result (Ok Refuted)
       → FindsAt ask width forbidden formula good before now came
   refuted-at none cnf built past came is =
-      let h : HasEnded ask width HasNone log before now result formula =
-      subst (HasEnded ask width HasNone log before now result) built past in
+      let h : HasEnded ask width forbidden HasNone log before now result formula =
+      subst (HasEnded ask width forbidden HasNone log before now result) built past in
       let written = ended HasNone h in
       subst (FindsAt ask width forbidden formula good before now) (sym is)
-      (finds-refuted (IsRefutedAs ask forbidden formula good) (IsLeftOpenBy ask formula) ask width
-      forbidden formula good before now log
-      (by-search ask.count (record {
+      (finds-refuted (IsRefutedAs ask forbidden formula good) (IsLeftOpenBy ask forbidden formula)
+      ask width forbidden formula good before now log
+      (by-search ask.count h.uncounted (record {
         of = h.of;
         refutes = h.end;
         none_good = none (refutes formula log h.end.accepts);
@@ -188,8 +190,8 @@ module _ (ask : Asked) (width : ℕ) (forbidden : Type 0) (formula : Cnf)
       let h : IsCountedOut ask forbidden formula log =
       subst (λ (f : Cnf). IsCountedOut ask forbidden f log) built past in
       subst (FindsAt ask width forbidden formula good before now) (sym is)
-      (finds-refuted (IsRefutedAs ask forbidden formula good) (IsLeftOpenBy ask formula) ask width
-      forbidden formula good before now log
+      (finds-refuted (IsRefutedAs ask forbidden formula good) (IsLeftOpenBy ask forbidden formula)
+      ask width forbidden formula good before now log
       (counted h (none h.unsat))
       result (record {
         few = few;
@@ -200,23 +202,28 @@ module _ (ask : Asked) (width : ℕ) (forbidden : Type 0) (formula : Cnf)
 
   -- a spent budget, which is smaller than what is enough, whatever would refute the formula
   pub spent-by : (Refutes : List Step → Type 0) (cnf : Cnf) → cnf ≡ formula
-      → HasEnded ask width IsOpen log before now result cnf
+      → HasEnded ask width forbidden IsOpen log before now result cnf
       → (came : Result Found Stop) → came ≡ result_and result (Ok (Spent ask.budget))
-      → FindsBy Refutes (IsLeftOpenBy ask formula) ask width forbidden formula good before now
-      came
+      → FindsBy Refutes (IsLeftOpenBy ask forbidden formula) ask width forbidden formula good
+      before now came
   spent-by Refutes cnf built past came is =
-      let h : HasEnded ask width IsOpen log before now result formula =
-      subst (HasEnded ask width IsOpen log before now result) built past in
+      let h : HasEnded ask width forbidden IsOpen log before now result formula =
+      subst (HasEnded ask width forbidden IsOpen log before now result) built past in
       let few_asked : ¬ (most_added ask.keep formula.vars ≤ ask.budget) = h.decided in
-      subst (FindsBy Refutes (IsLeftOpenBy ask formula) ask width forbidden formula good before
-      now) (sym is)
-      (finds-spent Refutes (IsLeftOpenBy ask formula) ask width forbidden formula good before now
-      log
-      (record { of = h.of; spends = h.end; short = omega (arith, few_asked) })
+      subst (FindsBy Refutes (IsLeftOpenBy ask forbidden formula) ask width forbidden formula good
+      before now) (sym is)
+      (finds-spent Refutes (IsLeftOpenBy ask forbidden formula) ask width forbidden formula good
+      before now log
+      (record {
+        of = h.of;
+        spends = h.end;
+        short = omega (arith, few_asked);
+        uncounted = h.uncounted;
+      })
       result (ended IsOpen h))
 
   pub spent-at : (cnf : Cnf) → cnf ≡ formula
-      → HasEnded ask width IsOpen log before now result cnf
+      → HasEnded ask width forbidden IsOpen log before now result cnf
       → (came : Result Found Stop) → came ≡ result_and result (Ok (Spent ask.budget))
       → FindsAt ask width forbidden formula good before now came
   spent-at = spent-by (IsRefutedAs ask forbidden formula good)

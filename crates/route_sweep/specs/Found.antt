@@ -59,14 +59,14 @@ pub record IsCountedOut (ask : Asked) (forbidden : Type 0) (formula : Cnf) (log 
   pub unsat : IsUnsat formula
 
 -- the log refutes the formula as full LRAT has it, and no route is a routing: by counting, where
--- numbers alone forbid the width, or as the log of a search
+-- numbers alone forbid the width, or as the log of a search, where they do not
 pub record IsRefutedInFull
     (ask : Asked) (forbidden : Type 0) (formula : Cnf) (good : RouteText → Type 0)
     (log : List Step) : Type 0 where
   pub accepted : FullAccepts formula log
   pub unsat : IsUnsat formula
   pub none_good : (found : RouteText) → ¬ good found
-  pub by : forbidden ⊎ IsRefutedBy ask formula good log
+  pub by : forbidden ⊎ ((¬ forbidden) × IsRefutedBy ask formula good log)
 
 -- the log refutes the formula as a search does, or in full where counting comes first
 abbrev pub IsRefutedIf : (counts : Bool) → Asked → (forbidden : Type 0) → Cnf
@@ -89,11 +89,14 @@ LogReadsBackIf false forbidden formula log = LogReadsBack formula log
 LogReadsBackIf true forbidden formula log = forbidden ⊎ LogReadsBack formula log
 
 -- the log has as many learned clauses as the budget allows, none of them empty; with a larger one
--- than that no search is left open
-pub record IsLeftOpenBy (ask : Asked) (formula : Cnf) (log : List Step) : Type 0 where
+-- than that no search is left open; where counting comes first, numbers alone do not forbid the
+-- width
+pub record IsLeftOpenBy (ask : Asked) (forbidden : Type 0) (formula : Cnf) (log : List Step)
+    : Type 0 where
   pub of : IsLogOf ask formula log
   pub spends : SpendsAll ask.budget log
   pub short : ask.budget < most_added ask.keep formula.vars
+  pub uncounted : IsTrue ask.count → ¬ forbidden
 
 -- a routing was written, and no other file; it reads back if it can be printed
 pub record WritesRouting
@@ -160,5 +163,5 @@ FindsBy Refutes LeavesOpen ask width forbidden formula good before now (Err stop
 abbrev pub FindsAt : Asked → (width : ℕ) → (forbidden : Type 0) → Cnf
     → (good : RouteText → Type 0) → (before now : ShelfState) → Result Found Stop → Type 0
 FindsAt ask width forbidden formula good =
-    FindsBy (IsRefutedAs ask forbidden formula good) (IsLeftOpenBy ask formula) ask width forbidden
-    formula good
+    FindsBy (IsRefutedAs ask forbidden formula good) (IsLeftOpenBy ask forbidden formula) ask width
+    forbidden formula good

@@ -1,5 +1,5 @@
 //! What comes before a search, where it is asked for: a refutation by counting.
-ghost use Rattle.std.specs.Prelude.{◌≡◌, ◌≤◌, IfErr, IfOk, IfSome, IsTrue};
+ghost use Rattle.std.specs.Prelude.{◌≡◌, ◌≤◌, IfErr, IfOk, IfSome, IsNone, IsTrue};
 ghost use Rattle.route_count.specs.Begun.{IsBegunBy};
 ghost use Rattle.route_count.specs.Crowded.{IsCrowded};
 ghost use Rattle.route_encode.specs.Encoding.{cnf_of};
@@ -16,8 +16,8 @@ use sat_clause::{Formula, Log};
 use std::alloc::Global;
 
 /// A refutation by counting of the clauses of a problem at a width from 1 to 64, where it is asked
-/// for and numbers alone forbid the width. The first clauses of the formula are then those of
-/// [`Strict`](route_encode::Strict).
+/// for and numbers alone forbid the width; where it is asked for, `None` says that they do not. The
+/// first clauses of the formula are then those of [`Strict`](route_encode::Strict).
 ///
 /// # Errors
 /// Where memory is short.
@@ -33,6 +33,8 @@ pub fn count_first(
         → IsBegunBy formula.now.cnf (cnf_of width problem.now) }
     ensures counted { IfOk result (λ found. IfSome found (λ log. IsCountedOut (asked ask.now)
         (IsCrowded width problem.now) formula.now.cnf log.steps)) }
+    ensures none { IfOk result (λ found. IsTrue ask.now.count → IsNone found
+        → ¬ IsCrowded width problem.now) }
     ensures stop { IfErr result (λ stop. stop ≡ Memory) }
 {
     if !ask.count {

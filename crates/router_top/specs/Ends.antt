@@ -31,9 +31,10 @@ RefutesBy false search p width log =
 abbrev pub Refutes : Search → RoutingProblem → (width : ℕ) → List Step → Type 0
 Refutes search p width log = RefutesBy search.trims search p width log
 
--- the log leaves them open
+-- the log leaves them open; where counting comes first, numbers alone do not forbid the width
 abbrev pub LeavesOpen : Search → RoutingProblem → (width : ℕ) → List Step → Type 0
-LeavesOpen search p width log = IsLeftOpenBy search.ask (clauses_by search.method width p) log
+LeavesOpen search p width log =
+    IsLeftOpenBy search.ask (IsCrowded width p) (clauses_by search.method width p) log
 
 -- the log refutes them or leaves them open
 abbrev pub EndsSearch : Search → RoutingProblem → (width : ℕ) → List Step → Type 0

@@ -40,8 +40,9 @@ pub record IsRefuted (words : List Word) (desk before now : Option FileMap) (wid
   pub written : AreWritten (lower_files comes ++ proof_files comes.search comes.p width log)
       before now
 
--- this width is left open. Beside the files of lower widths two alone were written: the clauses,
--- and a log of a search through them that has as many learned clauses as the budget allows
+-- this width is left open, and where counting comes first, numbers alone do not forbid it. Beside
+-- the files of lower widths two alone were written: the clauses, and a log of a search through them
+-- that has as many learned clauses as the budget allows
 pub record IsLeftOpen
     (words : List Word) (desk before now : Option FileMap) (width learned : ℕ) : Type 0 where
   pub comes : ComesTo words desk width

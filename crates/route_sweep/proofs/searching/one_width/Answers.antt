@@ -1,5 +1,5 @@
-use Rattle.std.proofs.Common.{◌≤◌, subst, sym}
-use Rattle.std.specs.Prelude.{IfSome}
+use Rattle.std.proofs.Common.{◌≤◌, ap, subst, sym}
+use Rattle.std.specs.Prelude.{IfSome, is_some}
 use Rattle.sat_clause.specs.declared.limits.TheConstants.{VARIABLE_LIMIT}
 use Rattle.sat_core.specs.Answer.{IsAnswer, IsDecided}
 use Rattle.sat_core.specs.declared.answer.Answer.TheVariants.{Refuted, Spent}
@@ -36,10 +36,11 @@ returns-in-Ok-Model g c =
     let formula = g.E.Encoder.formula_of c.args.encoder.now c.args.problem.now c.args.width in
     let good = g.E.Encoder.is_good c.args.encoder.now c.args.problem.now c.args.width in
     let forbidden = IsCrowded c.args.width c.args.problem.now in
-    finds-routing (IsRefutedAs ask forbidden formula good) (IsLeftOpenBy ask formula) ask
-    c.args.width forbidden formula good (g.S.Shelf.state c.args.shelf.now) (g.S.Shelf.state c.write_routing.new.shelf)
-    c.in-Ok.ensures.few c.in-Ok-decode.found c.in-Ok-decode.ensures.good c.write_routing.result
-    c.write_routing.ensures c.and-in-Ok-Model.result c.and-in-Ok-Model.ensures
+    finds-routing (IsRefutedAs ask forbidden formula good) (IsLeftOpenBy ask forbidden formula)
+    ask c.args.width forbidden formula good (g.S.Shelf.state c.args.shelf.now)
+    (g.S.Shelf.state c.write_routing.new.shelf) c.in-Ok.ensures.few c.in-Ok-decode.found
+    c.in-Ok-decode.ensures.good c.write_routing.result c.write_routing.ensures
+    c.and-in-Ok-Model.result c.and-in-Ok-Model.ensures
 
 pub returns-in-Ok-Refuted : goal.returns-in-Ok-Refuted
 returns-in-Ok-Refuted g c =
@@ -49,8 +50,11 @@ returns-in-Ok-Refuted g c =
     let now = g.S.Shelf.state c.write_proof-in-Ok-Refuted.new.shelf in
     let log = c.solve.new.log.steps in
     let cnf = c.in-Ok.formula.cnf in
-    let ended : HasEnded ask c.args.width Refuted log before now c.write_proof-in-Ok-Refuted.result cnf =
+    let forbidden = IsCrowded c.args.width c.args.problem.now in
+    let ended : HasEnded ask c.args.width forbidden Refuted log before now
+    c.write_proof-in-Ok-Refuted.result cnf =
     record {
+      uncounted = λ counts. c.in-Ok-None.ensures.none counts (ap is_some c.in-Ok-None.field-0-is);
       few_vars = subst (λ s. s.cnf.vars ≤ VARIABLE_LIMIT) c.formula.view_is
           c.formula.invariant.few_vars;
       affordable = c.args.ask.now.affordable.1;
@@ -65,7 +69,7 @@ returns-in-Ok-Refuted g c =
           (c.in-Ok-Refuted.ensures.decided large);
       writes = c.write_proof-in-Ok-Refuted.ensures;
     } in
-    refuted-at ask c.args.width (IsCrowded c.args.width c.args.problem.now) formula
+    refuted-at ask c.args.width forbidden formula
     (g.E.Encoder.is_good c.args.encoder.now c.args.problem.now c.args.width) before now log
     c.in-Ok.ensures.few c.write_proof-in-Ok-Refuted.result c.in-Ok.ensures.none_without_model cnf
     c.in-Ok.ensures.formula ended c.and-in-Ok-Refuted.result c.and-in-Ok-Refuted.ensures
@@ -78,9 +82,11 @@ returns-in-Ok-Spent g c =
     let now = g.S.Shelf.state c.write_proof-in-Ok-Spent.new.shelf in
     let log = c.solve.new.log.steps in
     let cnf = c.in-Ok.formula.cnf in
-    let ended : HasEnded ask c.args.width Spent log before now c.write_proof-in-Ok-Spent.result
-    cnf =
+    let forbidden = IsCrowded c.args.width c.args.problem.now in
+    let ended : HasEnded ask c.args.width forbidden Spent log before now
+    c.write_proof-in-Ok-Spent.result cnf =
     record {
+      uncounted = λ counts. c.in-Ok-None.ensures.none counts (ap is_some c.in-Ok-None.field-0-is);
       few_vars = subst (λ s. s.cnf.vars ≤ VARIABLE_LIMIT) c.formula.view_is
           c.formula.invariant.few_vars;
       affordable = c.args.ask.now.affordable.1;
@@ -95,7 +101,7 @@ returns-in-Ok-Spent g c =
           (c.in-Ok-Spent.ensures.decided large);
       writes = c.write_proof-in-Ok-Spent.ensures;
     } in
-    spent-at ask c.args.width (IsCrowded c.args.width c.args.problem.now) formula
+    spent-at ask c.args.width forbidden formula
     (g.E.Encoder.is_good c.args.encoder.now c.args.problem.now c.args.width) before now log
     c.in-Ok.ensures.few c.write_proof-in-Ok-Spent.result cnf c.in-Ok.ensures.formula ended
     c.and-in-Ok-Spent.result c.and-in-Ok-Spent.ensures

@@ -1,5 +1,5 @@
-use Rattle.std.proofs.Common.{◌≡◌, ◌≤◌, Bool, subst, sym}
-use Rattle.std.specs.Prelude.{IfSome}
+use Rattle.std.proofs.Common.{◌≡◌, ◌≤◌, Bool, ap, subst, sym}
+use Rattle.std.specs.Prelude.{IfSome, is_some}
 use Rattle.sat_clause.specs.declared.limits.TheConstants.{VARIABLE_LIMIT}
 use Rattle.sat_core.specs.Answer.{IsAnswer, IsDecided, most_added}
 use Rattle.sat_core.specs.declared.answer.Answer.TheVariants.{Refuted, Spent}
@@ -38,11 +38,14 @@ returns-in-Refuted g c =
     let now = g.S.Shelf.state c.write_proof-in-Refuted.new.shelf in
     let log = c.run_turns.new.log.steps in
     let cnf = c.in-Ok.formula.cnf in
+    let forbidden = IsCrowded c.args.width c.args.problem.now in
     let taken = c.in-Ok-run_turns.answer-is in
     let branch = c.in-Refuted.is in
     let is : c.in-Ok-run_turns.field-0.answer ≡ Refuted = cc in
-    let ended : HasEnded ask c.args.width Refuted log before now c.write_proof-in-Refuted.result cnf =
+    let ended : HasEnded ask c.args.width forbidden Refuted log before now
+    c.write_proof-in-Refuted.result cnf =
     record {
+      uncounted = λ counts. c.in-Ok-None.ensures.none counts (ap is_some c.in-Ok-None.field-0-is);
       few_vars = subst (λ s. s.cnf.vars ≤ VARIABLE_LIMIT) c.formula.view_is
           c.formula.invariant.few_vars;
       affordable = c.args.ask.now.affordable.1;
@@ -56,7 +59,7 @@ returns-in-Refuted g c =
           (subst (λ (k : Bool). most_added k cnf.vars ≤ ask.budget) c.requires.keep large));
       writes = c.write_proof-in-Refuted.ensures;
     } in
-    refuted-at ask c.args.width (IsCrowded c.args.width c.args.problem.now) formula
+    refuted-at ask c.args.width forbidden formula
     (g.E.Encoder.is_good c.args.encoder.now c.args.problem.now c.args.width) before now log
     c.in-Ok.ensures.few c.write_proof-in-Refuted.result c.in-Ok.ensures.none_without_model cnf
     c.in-Ok.ensures.formula ended c.and-in-Refuted.result c.and-in-Refuted.ensures
@@ -69,11 +72,14 @@ returns g c =
     let now = g.S.Shelf.state c.write_proof-in-Spent.new.shelf in
     let log = c.run_turns.new.log.steps in
     let cnf = c.in-Ok.formula.cnf in
+    let forbidden = IsCrowded c.args.width c.args.problem.now in
     let taken = c.in-Ok-run_turns.answer-is in
     let branch = c.in-Spent.is in
     let is : c.in-Ok-run_turns.field-0.answer ≡ Spent = cc in
-    let ended : HasEnded ask c.args.width Spent log before now c.write_proof-in-Spent.result cnf =
+    let ended : HasEnded ask c.args.width forbidden Spent log before now
+    c.write_proof-in-Spent.result cnf =
     record {
+      uncounted = λ counts. c.in-Ok-None.ensures.none counts (ap is_some c.in-Ok-None.field-0-is);
       few_vars = subst (λ s. s.cnf.vars ≤ VARIABLE_LIMIT) c.formula.view_is
           c.formula.invariant.few_vars;
       affordable = c.args.ask.now.affordable.1;
@@ -87,7 +93,7 @@ returns g c =
           (subst (λ (k : Bool). most_added k cnf.vars ≤ ask.budget) c.requires.keep large));
       writes = c.write_proof-in-Spent.ensures;
     } in
-    spent-at ask c.args.width (IsCrowded c.args.width c.args.problem.now) formula
+    spent-at ask c.args.width forbidden formula
     (g.E.Encoder.is_good c.args.encoder.now c.args.problem.now c.args.width) before now log
     c.in-Ok.ensures.few c.write_proof-in-Spent.result cnf c.in-Ok.ensures.formula ended
     c.and-in-Spent.result c.and-in-Spent.ensures

@@ -1,4 +1,4 @@
-use Rattle.std.proofs.Common.{◌≤◌, refl, subst}
+use Rattle.std.proofs.Common.{◌≡◌, ◌≤◌, ap, false, refl, subst}
 use Rattle.sat_clause.specs.declared.limits.TheConstants.{VARIABLE_LIMIT}
 use Rattle.sat_core.specs.Answer.{IsAnswer, IsDecided}
 use Rattle.sat_core.specs.declared.answer.Answer.TheVariants.{Spent as IsOpen}
@@ -51,8 +51,9 @@ returns-in-Ok-Model g c =
     (finds-routing (Refutes (core_search job) p c.args.self.now.width)
     (LeavesOpen (core_search job) p c.args.self.now.width) (core_search job).ask
     c.args.self.now.width (IsCrowded c.args.self.now.width p)
-    (clauses_by Strictly c.args.self.now.width p) (IsRoutingBy Strictly c.args.self.now.width p) before now c.in-Ok.ensures.few
-    c.in-Ok-decode.routing c.in-Ok-decode.ensures.good c.write_routing-written.result
+    (clauses_by Strictly c.args.self.now.width p) (IsRoutingBy Strictly c.args.self.now.width p)
+    before now c.in-Ok.ensures.few c.in-Ok-decode.routing c.in-Ok-decode.ensures.good
+    c.write_routing-written.result
     (subst (λ (a : Asked). WritesRoute a c.in-Ok-decode.routing before now
     c.write_routing-written.result) c.ask_for-ask.ensures c.write_routing-written.ensures)
     c.and.result c.and.ensures) c.found.ensures
@@ -69,8 +70,12 @@ returns-in-Ok-Spent g c =
     let now = g.S.Shelf.state c.write_proof-written.new.shelf in
     let log = c.solve.new.log.steps in
     let cnf = c.in-Ok.formula.cnf in
-    let ended : HasEnded ask width IsOpen log before now c.write_proof-written.result cnf =
+    let forbidden = IsCrowded width p in
+    let ended : HasEnded ask width forbidden IsOpen log before now
+    c.write_proof-written.result cnf =
     record {
+      uncounted = λ counts. absurd (
+          let none : ask.count ≡ false = ap (λ (a : Asked). a.count) c.ask_for-ask.ensures in cc);
       few_vars = subst (λ s. s.cnf.vars ≤ VARIABLE_LIMIT) c.formula.view_is
           c.formula.invariant.few_vars;
       affordable = c.ask_for-ask.result.affordable.1;
@@ -85,13 +90,13 @@ returns-in-Ok-Spent g c =
           (c.in-Ok-Spent.ensures.decided large);
       writes = c.write_proof-written.ensures;
     } in
-    let forbidden = IsCrowded width p in
     let found = spent-by ask width forbidden formula good before now log c.in-Ok.ensures.few
     c.write_proof-written.result (Refutes (core_search job) p width) cnf c.in-Ok.ensures.formula
     ended c.and-in-Ok-Spent.result c.and-in-Ok-Spent.ensures in
     found-core job p c.was_given.ensures c.args.self.now.in_range.1 before now
     c.found-in-Ok-Spent.result (Spent ask.budget) (λ same. cc) c.write_proof-written.result
     c.and-in-Ok-Spent.result c.and-in-Ok-Spent.ensures
-    (subst (λ (a : Asked). FindsBy (Refutes (core_search job) p width) (IsLeftOpenBy a formula) a
-    width forbidden formula good before now c.and-in-Ok-Spent.result) c.ask_for-ask.ensures found)
+    (subst (λ (a : Asked). FindsBy (Refutes (core_search job) p width)
+    (IsLeftOpenBy a forbidden formula) a width forbidden formula good before now
+    c.and-in-Ok-Spent.result) c.ask_for-ask.ensures found)
     c.found-in-Ok-Spent.ensures
