@@ -1,13 +1,19 @@
-use Rattle.std.proofs.Common.{◌≡◌, ◌∙◌, true, List, Option, ap, refl, subst}
-use Rattle.std.specs.Prelude.{IfSome}
+use Rattle.std.proofs.Common.{◌≡◌, ◌∙◌, true, List, Option, None, Some, ap, refl, subst, sym}
+use Rattle.std.specs.Option.{option_map_or}
+use Rattle.std.specs.Prelude.{Err, IfSome, Result}
 use Rattle.clap.specs.Words.{App, Row, app_of, matches_of}
 use Rattle.clap.proofs.OnLiterals.{clap_on_literals}
-use Rattle.router_words.specs.Command.{CommandRow, HasItsWords, row_of}
+use Rattle.router_words.specs.Command.{Answers, CommandRow, HasItsWords, command_job, command_named, job_behind, row_of}
 use Rattle.router_words.specs.Form.{is_form}
-use Rattle.router_words.specs.Taken.{HasRequired}
-use Rattle.router_words.specs.Word.{words_of}
+use Rattle.router_words.specs.Job.{JobAsked}
+use Rattle.router_words.specs.Taken.{HasRequired, IsTaken, Takes}
+use Rattle.router_words.specs.Word.{Word, words_of}
 use Rattle.router_words.specs.declared.command_name.CommandName.{CommandName}
 use Rattle.router_words.specs.declared.command_name.CommandName.TheVariants.{Check, Core, Encode, Gen, Route, Sweep, Trial, Verify}
+use Rattle.router_words.specs.declared.fault.Refusal.{Refusal}
+use Rattle.router_words.specs.declared.fault.Refusal.TheVariants.{Command}
+use Rattle.router_words.specs.declared.fault.WordsFault.{WordsFault}
+use Rattle.router_words.specs.declared.fault.WordsFault.TheVariants.{Memory, Refused}
 use Rattle.router_words.proofs.read.read_command.Goals as goal
 
 forms : (command : CommandName) → is_form (row_of command).form ≡ true
@@ -21,6 +27,23 @@ forms Verify = refl
 forms Gen = refl
 forms Trial = refl
 
+-- the job of the words behind a name is that of the command with the name
+behind : (name : Word) (words : List Word) (row : CommandRow) → Some row ≡ command_named name
+    → job_behind name words ≡ command_job row words
+behind name words row is =
+    ap (λ (o : Option CommandRow). option_map_or (λ command. command_job command words) o
+    (Err Command)) (sym is)
+
+taken_job : (row : CommandRow) (words : List Word) (rows : List Row)
+    → IsTaken row.form words rows → command_job row words ≡ row.job rows
+taken_job row words rows t = rw t.taken (ap row.job (sym t.found))
+
+-- a form that does not take the words
+refused_job : (row : CommandRow) (words : List Word) (fault : WordsFault) (asked : Result JobAsked Refusal)
+    → Takes row.form words (Err fault) → asked ≡ command_job row words → Answers asked (Err fault)
+refused_job row words (Refused refusal) asked t is = is ∙ rw (t.1, t.0) refl
+refused_job row words Memory asked t is = tt
+
 pub take-requires : goal.take-requires
 take-requires c = ap is_form c.in-Ok.ensures ∙ forms c.in-Some.command
 
@@ -33,3 +56,28 @@ returns-in-Ok-job-clause-there c =
     subst (λ (named : Option CommandRow). IfSome named (λ command. HasItsWords command words))
     c.in-Some.ensures
     (subst (λ (form : App). HasRequired form (matches_of form words)) c.in-Ok.ensures there)
+
+pub returns-in_default-clause-answers : goal.returns-in_default-clause-answers
+returns-in_default-clause-answers c =
+    ap (λ (o : Option CommandRow). option_map_or
+    (λ command. command_job command (words_of c.args.words.now)) o (Err Command))
+    (sym c.in_default.ensures)
+
+pub returns-in-Err-clause-answers : goal.returns-in-Err-clause-answers
+returns-in-Err-clause-answers c =
+    let words = words_of c.args.words.now in
+    refused_job (row_of c.in-Some.command) words c.in-Err.fault _
+    (subst (λ (form : App). Takes form words (Err c.in-Err.fault)) c.in-Ok.ensures c.in-Err.ensures)
+    (behind c.args.name.now words _ c.in-Some.ensures)
+
+pub returns-in-Ok-job-clause-answers : goal.returns-in-Ok-job-clause-answers
+returns-in-Ok-job-clause-answers c =
+    let words = words_of c.args.words.now in
+    behind c.args.name.now words (row_of c.in-Some.command) c.in-Some.ensures
+    ∙ taken_job (row_of c.in-Some.command) words _ (rw c.in-Ok.ensures at c.in-Ok-take.ensures) ∙ sym c.in-Ok-job.ensures
+
+pub returns-clause-answers : goal.returns-clause-answers
+returns-clause-answers c =
+    let words = words_of c.args.words.now in
+    behind c.args.name.now words (row_of c.in-Some.command) c.in-Some.ensures
+    ∙ taken_job (row_of c.in-Some.command) words _ (rw c.in-Ok.ensures at c.in-Ok-take.ensures) ∙ sym c.in-Err-job.ensures
