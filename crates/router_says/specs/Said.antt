@@ -1,21 +1,22 @@
 -- What is said of an outcome that was not asked for.
-use Rattle.std.specs.Prelude.{◌≡◌, ℕ, ◌++◌, ◌==◌, ⊤, List, [], codes, decimal, is_some, nat_lt, Option, Some, None, unwrap_or, if◌then◌else◌}
+use Rattle.std.specs.Prelude.{◌≡◌, ℕ, ◌++◌, ◌*◌, ◌==◌, ⊤, List, [], codes, decimal, is_some, min, nat_le, nat_lt, Option, Some, None, unwrap_or, if◌then◌else◌}
 use Rattle.code_words.specs.Causes.{cause_phrase, refusal_phrase, within_reach_phrase}
 use Rattle.desk_io.specs.DeskState.{DeskState}
 use Rattle.fpga_types.specs.declared.limits.TheConstants.{WIDTH_LIMIT}
 use Rattle.route_symmetry.specs.declared.full.Asymmetry.{Asymmetry}
 use Rattle.route_symmetry.specs.declared.full.Asymmetry.TheVariants.{Inputs, Outputs, Pads, Pattern}
 use Rattle.router_says.specs.AtFault.{NamesSought, sought_of}
-use Rattle.router_says.specs.Names.{OfEach, Prefix, file_said, name_of, prefix_of, reach_of}
+use Rattle.router_says.specs.Names.{OfEach, OfOne, Prefix, file_said, name_of, prefix_of, reach_of}
 use Rattle.router_top.specs.declared.outcome.Obstacle.{Obstacle}
 use Rattle.router_top.specs.declared.outcome.Obstacle.TheVariants.{Order, Pins}
 use Rattle.router_top.specs.declared.outcome.Outcome.{Outcome}
-use Rattle.router_top.specs.declared.outcome.Outcome.TheVariants.{NotAccepted, NotLegal, NotSymmetric, InputFault, Limit, ReadFault, WriteFault, OutOfMemory}
+use Rattle.router_top.specs.declared.outcome.Outcome.TheVariants.{NotAccepted, NotLegal, NotSymmetric, InputFault, Limit, ReadFault, Undecided, Unroutable, WriteFault, OutOfMemory}
 use Rattle.router_top.specs.declared.slot.Slot.{Slot as SlotOf}
 use Rattle.router_top.specs.declared.slot.Slot.TheVariants.{Said as SaidSlot}
 use Rattle.router_top.specs.declared.text_file.TextFile.{TextFile}
 use Rattle.router_top.specs.declared.text_file.TextFile.TheVariants.{Lrat, Routed}
 use Rattle.router_words.specs.Job.{JobAsked}
+use Rattle.router_words.specs.declared.limits.TheConstants.{BUDGET_LIMIT}
 
 -- the file that an outcome is about, if it is about one
 abbrev pub file_about : Outcome → Option TextFile
@@ -108,15 +109,95 @@ abbrev pub reach_said : (reach : Option ℕ) → List ℕ
 reach_said (Some reach) = codes " within " ++ decimal reach ++ codes " joins of wires"
 reach_said None = []
 
+-- what shows it, and how that is checked
+abbrev pub refuted_one_said : (prefix : List ℕ) → List ℕ
+refuted_one_said prefix =
+    codes ": " ++ (prefix ++ (codes ".lrat refutes the clauses of one, " ++ (prefix
+    ++ codes ".cnf.\n")))
+
+abbrev pub check_one_said : (prefix : List ℕ) → List ℕ
+check_one_said prefix =
+    codes "To check that: gafkelam check " ++ (prefix ++ (codes ".cnf " ++ (prefix
+    ++ codes ".lrat")))
+
+abbrev pub refuted_each_said : (prefix : List ℕ) → List ℕ
+refuted_each_said prefix =
+    codes ": " ++ (prefix ++ (codes ".wK.lrat refutes " ++ (prefix
+    ++ codes ".wK.cnf for each width K.\n")))
+
+-- what the names of the files of a width begin with
+abbrev pub width_name : (prefix : List ℕ) → (width : ℕ) → List ℕ
+width_name prefix width = prefix ++ codes ".w" ++ decimal width
+
+abbrev pub check_each_said : (name : List ℕ) → List ℕ
+check_each_said name =
+    codes "To check the last: gafkelam check " ++ (name ++ (codes ".cnf " ++ (name
+    ++ codes ".lrat")))
+
+abbrev pub refuted_said : Option Prefix → (width : ℕ) → List ℕ
+refuted_said (Some (OfOne prefix)) width = refuted_one_said prefix ++ check_one_said prefix
+refuted_said (Some (OfEach prefix)) width =
+    refuted_each_said prefix ++ check_each_said (width_name prefix width)
+refuted_said None width = codes "."
+
 -- a climb has refuted the lower widths too
 abbrev pub up_to_said : Option Prefix → List ℕ
 up_to_said (Some (OfEach prefix)) = codes "up to "
 up_to_said _ = []
 
+-- what is claimed, with these words before the width
+abbrev pub claim_said : (up_to : List ℕ) → (width : ℕ) → List ℕ
+claim_said up_to width =
+    codes "No routing with " ++ (up_to ++ (decimal width ++ codes " tracks is legal"))
+
+abbrev pub unroutable_by : Option Prefix → (reach : Option ℕ) → (width : ℕ) → List ℕ
+unroutable_by prefix reach width =
+    claim_said (up_to_said prefix) width ++ (reach_said reach ++ refuted_said prefix width)
+
+abbrev pub unroutable_said : Option JobAsked → (width : ℕ) → List ℕ
+unroutable_said asked width = unroutable_by (prefix_of asked) (reach_of asked) width
+
+-- the budget that can be tried next: ten times as much, but no more than the words take
+abbrev pub more_said : (budget : ℕ) → List ℕ
+more_said budget = codes "\nTry --conflicts " ++ (decimal budget ++ codes ", or ")
+
+abbrev pub budget_said : (learned : ℕ) → List ℕ
+budget_said learned =
+    if nat_le BUDGET_LIMIT learned then codes "\nNo greater budget is taken: "
+    else more_said (min (learned * 10) BUDGET_LIMIT)
+
 -- a greater width can be tried, where the words take one
 abbrev pub greater_said : (width : ℕ) → List ℕ
 greater_said width =
     if nat_lt width WIDTH_LIMIT then codes ", or route at a greater width." else codes "."
+
+-- the clauses can be handed on
+abbrev pub hand_one_said : (prefix : List ℕ) → List ℕ
+hand_one_said prefix =
+    codes "hand " ++ (prefix ++ codes ".cnf to another solver, or try another width.")
+
+abbrev pub hand_each_said : (name : List ℕ) → (width : ℕ) → List ℕ
+hand_each_said name width =
+    codes "hand " ++ (name ++ (codes ".cnf to another solver" ++ greater_said width))
+
+abbrev pub next_said : Option Prefix → (width learned : ℕ) → List ℕ
+next_said (Some (OfOne prefix)) width learned = budget_said learned ++ hand_one_said prefix
+next_said (Some (OfEach prefix)) width learned =
+    budget_said learned ++ hand_each_said (width_name prefix width) width
+next_said None width learned = []
+
+abbrev pub open_said : (learned : ℕ) → List ℕ
+open_said learned =
+    codes " is open: the search learned " ++ (decimal learned ++ codes " clauses, its budget.")
+
+abbrev pub undecided_by : Option Prefix → (reach : Option ℕ) → (width learned : ℕ) → List ℕ
+undecided_by prefix reach width learned =
+    (codes "Whether a routing with " ++ (decimal width ++ codes " tracks is legal"))
+    ++ (reach_said reach ++ (open_said learned ++ next_said prefix width learned))
+
+abbrev pub undecided_said : Option JobAsked → (width learned : ℕ) → List ℕ
+undecided_said asked width learned =
+    undecided_by (prefix_of asked) (reach_of asked) width learned
 
 -- ---- what failed
 
@@ -156,6 +237,8 @@ Means asked (InputFault file line code) text = text ≡ line_said line code (lin
 Means asked (Limit file code count) text =
     text ≡ limit_gap file ++ limit_said code count (limit_why code)
 Means asked (NotSymmetric width why) text = text ≡ obstacle_said width why
+Means asked (Unroutable width) text = text ≡ unroutable_said asked width
+Means asked (Undecided width learned) text = text ≡ undecided_said asked width learned
 Means asked (WriteFault slot) text = text ≡ unwritten_said slot
 Means asked OutOfMemory text = text ≡ memory_said (prefix_of asked)
 Means asked _ text = ⊤

@@ -1,7 +1,41 @@
 //! Words for a search that found no routing.
-ghost use Rattle.std.specs.Prelude.{◌≡◌, ◌<◌, ◌≤◌, ◌++◌, OnOk, option_map, string_bytes};
+ghost use Rattle.std.specs.Prelude.{
+  ◌≡◌,
+  ◌*◌,
+  ◌<◌,
+  ◌≤◌,
+  ◌++◌,
+  OnOk,
+  codes,
+  decimal,
+  min,
+  option_map,
+  string_bytes,
+};
 ghost use Rattle.router_says.specs.Names.{asked, prefix_of, prefix_said};
-ghost use Rattle.router_says.specs.Said.{greater_said, memory_said, reach_said, up_to_said};
+ghost use Rattle.router_says.specs.Said.{
+  budget_said,
+  check_each_said,
+  check_one_said,
+  claim_said,
+  greater_said,
+  hand_each_said,
+  hand_one_said,
+  memory_said,
+  more_said,
+  next_said,
+  open_said,
+  reach_said,
+  refuted_each_said,
+  refuted_one_said,
+  refuted_said,
+  undecided_by,
+  undecided_said,
+  unroutable_by,
+  unroutable_said,
+  up_to_said,
+  width_name,
+};
 ghost use Rattle.router_words.specs.declared.limits.TheConstants.{BUDGET_LIMIT};
 
 use crate::names::{Written, files_written, reach_asked};
@@ -14,12 +48,34 @@ pub(crate) fn append_unroutable(
     out: &mut String,
     job: Option<Job<'_>>,
     width: u32,
-) -> Result<(), AllocError> {
-    let written = files_written(job);
-    let up_to = up_to(written);
-    write!(out, "No routing with {up_to}{width} tracks is legal")?;
-    append_reach(out, reach_asked(job))?;
-    append_refuted(out, written, width)
+) -> Result<(), AllocError>
+    ensures { OnOk result (string_bytes out.new
+        ≡ string_bytes out.old ++ unroutable_said (asked job.entry) width) }
+{
+    append_refutation(out, files_written(job), reach_asked(job), width)
+}
+
+fn append_refutation(
+    out: &mut String,
+    written: Option<Written<'_>>,
+    reach: Option<u32>,
+    width: u32,
+) -> Result<(), AllocError>
+    ensures { OnOk result (string_bytes out.new ≡ string_bytes out.old
+        ++ unroutable_by (option_map prefix_said written.entry) reach width) }
+{
+    append_claim(out, up_to(written), width)?;
+    append_reach(out, reach)?;
+    append_refuted(out, written, width)?;
+    Ok(())
+}
+
+// What is claimed, with these words before the width.
+fn append_claim(out: &mut String, up_to: &str, width: u32) -> Result<(), AllocError>
+    ensures { OnOk result
+        (string_bytes out.new ≡ string_bytes out.old ++ claim_said up_to.now width) }
+{
+    write!(out, "No routing with {up_to}{width} tracks is legal")
 }
 
 // A climb has refuted the lower widths too.
@@ -47,20 +103,83 @@ fn append_refuted(
     out: &mut String,
     written: Option<Written<'_>>,
     width: u32,
-) -> Result<(), AllocError> {
+) -> Result<(), AllocError>
+    ensures { OnOk result (string_bytes out.new
+        ≡ string_bytes out.old ++ refuted_said (option_map prefix_said written.entry) width) }
+{
     match written {
-        Some(Written::One(prefix)) => write!(
-            out,
-            ": {prefix}.lrat refutes the clauses of one, {prefix}.cnf.\n\
-             To check that: gafkelam check {prefix}.cnf {prefix}.lrat"
-        ),
-        Some(Written::Each(prefix)) => write!(
-            out,
-            ": {prefix}.wK.lrat refutes {prefix}.wK.cnf for each width K.\n\
-             To check the last: gafkelam check {prefix}.w{width}.cnf {prefix}.w{width}.lrat"
-        ),
+        Some(Written::One(prefix)) => append_one(out, prefix),
+        Some(Written::Each(prefix)) => append_each(out, prefix, width),
         None => out.push_str("."),
     }
+}
+
+fn append_one(out: &mut String, prefix: &str) -> Result<(), AllocError>
+    ensures { OnOk result (string_bytes out.new ≡ string_bytes out.old
+        ++ (refuted_one_said prefix.now ++ check_one_said prefix.now)) }
+{
+    append_refuted_one(out, prefix)?;
+    append_check_one(out, prefix)?;
+    Ok(())
+}
+
+fn append_refuted_one(out: &mut String, prefix: &str) -> Result<(), AllocError>
+    ensures { OnOk result
+        (string_bytes out.new ≡ string_bytes out.old ++ refuted_one_said prefix.now) }
+{
+    write!(
+        out,
+        ": {prefix}.lrat refutes the clauses of one, {prefix}.cnf.\n"
+    )
+}
+
+fn append_check_one(out: &mut String, prefix: &str) -> Result<(), AllocError>
+    ensures { OnOk result
+        (string_bytes out.new ≡ string_bytes out.old ++ check_one_said prefix.now) }
+{
+    write!(
+        out,
+        "To check that: gafkelam check {prefix}.cnf {prefix}.lrat"
+    )
+}
+
+fn append_each(out: &mut String, prefix: &str, width: u32) -> Result<(), AllocError>
+    ensures { OnOk result (string_bytes out.new ≡ string_bytes out.old
+        ++ (refuted_each_said prefix.now ++ check_each_said (width_name prefix.now width))) }
+{
+    append_refuted_each(out, prefix)?;
+    append_check_each(out, prefix, width)?;
+    Ok(())
+}
+
+fn append_refuted_each(out: &mut String, prefix: &str) -> Result<(), AllocError>
+    ensures { OnOk result
+        (string_bytes out.new ≡ string_bytes out.old ++ refuted_each_said prefix.now) }
+{
+    write!(
+        out,
+        ": {prefix}.wK.lrat refutes {prefix}.wK.cnf for each width K.\n"
+    )
+}
+
+fn append_check_each(out: &mut String, prefix: &str, width: u32) -> Result<(), AllocError>
+    ensures { OnOk result (string_bytes out.new ≡ string_bytes out.old
+        ++ check_each_said (width_name prefix.now width)) }
+{
+    out.push_str("To check the last: gafkelam check ")?;
+    append_width_name(out, prefix, width)?;
+    out.push_str(".cnf ")?;
+    append_width_name(out, prefix, width)?;
+    out.push_str(".lrat")?;
+    Ok(())
+}
+
+// What the names of the files of a width begin with.
+fn append_width_name(out: &mut String, prefix: &str, width: u32) -> Result<(), AllocError>
+    ensures { OnOk result
+        (string_bytes out.new ≡ string_bytes out.old ++ width_name prefix.now width) }
+{
+    write!(out, "{prefix}.w{width}")
 }
 
 /// Appends that a width is open, and what can be tried.
@@ -69,14 +188,37 @@ pub(crate) fn append_undecided(
     job: Option<Job<'_>>,
     width: u32,
     learned: u64,
-) -> Result<(), AllocError> {
+) -> Result<(), AllocError>
+    ensures { OnOk result (string_bytes out.new
+        ≡ string_bytes out.old ++ undecided_said (asked job.entry) width learned) }
+{
+    append_doubt(out, files_written(job), reach_asked(job), width, learned)
+}
+
+fn append_doubt(
+    out: &mut String,
+    written: Option<Written<'_>>,
+    reach: Option<u32>,
+    width: u32,
+    learned: u64,
+) -> Result<(), AllocError>
+    ensures { OnOk result (string_bytes out.new ≡ string_bytes out.old
+        ++ undecided_by (option_map prefix_said written.entry) reach width learned) }
+{
     write!(out, "Whether a routing with {width} tracks is legal")?;
-    append_reach(out, reach_asked(job))?;
+    append_reach(out, reach)?;
+    append_open(out, learned)?;
+    append_next(out, written, width, learned)?;
+    Ok(())
+}
+
+fn append_open(out: &mut String, learned: u64) -> Result<(), AllocError>
+    ensures { OnOk result (string_bytes out.new ≡ string_bytes out.old ++ open_said learned) }
+{
     write!(
         out,
         " is open: the search learned {learned} clauses, its budget."
-    )?;
-    append_next(out, files_written(job), width, learned)
+    )
 }
 
 // What can be tried next.
@@ -85,7 +227,10 @@ fn append_next(
     written: Option<Written<'_>>,
     width: u32,
     learned: u64,
-) -> Result<(), AllocError> {
+) -> Result<(), AllocError>
+    ensures { OnOk result (string_bytes out.new ≡ string_bytes out.old
+        ++ next_said (option_map prefix_said written.entry) width learned) }
+{
     match written {
         Some(Written::One(prefix)) => append_next_of_one(out, prefix, learned),
         Some(Written::Each(prefix)) => append_next_of_each(out, prefix, width, learned),
@@ -93,8 +238,19 @@ fn append_next(
     }
 }
 
-fn append_next_of_one(out: &mut String, prefix: &str, learned: u64) -> Result<(), AllocError> {
+fn append_next_of_one(out: &mut String, prefix: &str, learned: u64) -> Result<(), AllocError>
+    ensures { OnOk result (string_bytes out.new ≡ string_bytes out.old
+        ++ (budget_said learned ++ hand_one_said prefix.now)) }
+{
     append_budget(out, learned)?;
+    append_hand_one(out, prefix)?;
+    Ok(())
+}
+
+fn append_hand_one(out: &mut String, prefix: &str) -> Result<(), AllocError>
+    ensures { OnOk result
+        (string_bytes out.new ≡ string_bytes out.old ++ hand_one_said prefix.now) }
+{
     write!(
         out,
         "hand {prefix}.cnf to another solver, or try another width."
@@ -106,10 +262,24 @@ fn append_next_of_each(
     prefix: &str,
     width: u32,
     learned: u64,
-) -> Result<(), AllocError> {
+) -> Result<(), AllocError>
+    ensures { OnOk result (string_bytes out.new ≡ string_bytes out.old
+        ++ (budget_said learned ++ hand_each_said (width_name prefix.now width) width)) }
+{
     append_budget(out, learned)?;
-    let greater = greater(width);
-    write!(out, "hand {prefix}.w{width}.cnf to another solver{greater}")
+    append_hand_each(out, prefix, width)?;
+    Ok(())
+}
+
+fn append_hand_each(out: &mut String, prefix: &str, width: u32) -> Result<(), AllocError>
+    ensures { OnOk result (string_bytes out.new ≡ string_bytes out.old
+        ++ hand_each_said (width_name prefix.now width) width) }
+{
+    out.push_str("hand ")?;
+    append_width_name(out, prefix, width)?;
+    out.push_str(".cnf to another solver")?;
+    out.push_str(greater(width))?;
+    Ok(())
 }
 
 // A greater width can be tried, where the words take one.
@@ -124,20 +294,28 @@ fn greater(width: u32) -> &'static str
 }
 
 // What budget can be tried next, if the words take a greater one.
-fn append_budget(out: &mut String, learned: u64) -> Result<(), AllocError> {
+fn append_budget(out: &mut String, learned: u64) -> Result<(), AllocError>
+    ensures { OnOk result (string_bytes out.new ≡ string_bytes out.old ++ budget_said learned) }
+{
     if learned >= BUDGET_LIMIT {
         return out.push_str("\nNo greater budget is taken: ");
     }
-    let more = greater_budget(learned);
-    write!(out, "\nTry --conflicts {more}, or ")
+    append_more(out, greater_budget(learned))
 }
 
 // Ten times this budget, but no more than the words take.
 fn greater_budget(learned: u64) -> u64
     requires { learned < BUDGET_LIMIT }
-    ensures { result ≤ BUDGET_LIMIT }
+    ensures value { result ≡ min (learned * 10) BUDGET_LIMIT }
+    ensures within { result ≤ BUDGET_LIMIT }
 {
     (learned * 10).min(BUDGET_LIMIT)
+}
+
+fn append_more(out: &mut String, budget: u64) -> Result<(), AllocError>
+    ensures { OnOk result (string_bytes out.new ≡ string_bytes out.old ++ more_said budget) }
+{
+    write!(out, "\nTry --conflicts {budget}, or ")
 }
 
 /// Appends that memory ran out, and what was shown until then.

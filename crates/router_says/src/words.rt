@@ -31,6 +31,8 @@ ghost use Rattle.router_says.specs.Said.{
   obstacle_said,
   step_said,
   step_why,
+  undecided_said,
+  unroutable_said,
   unwritten_said,
 };
 ghost use Rattle.router_words.specs.Word.{words_of};
@@ -265,7 +267,9 @@ fn words_or(words: Option<&'static str>, others: &'static str) -> &'static str
 }
 
 // That no routing of a width is legal.
-fn unroutable(alloc: Global, job: Option<Job<'_>>, width: u32) -> Result<String, AllocError> {
+fn unroutable(alloc: Global, job: Option<Job<'_>>, width: u32) -> Result<String, AllocError>
+    ensures { IfOk result (λ text. string_bytes text ≡ unroutable_said (asked job.entry) width) }
+{
     let mut text = String::new(alloc);
     append_unroutable(&mut text, job, width)?;
     Ok(text)
@@ -277,7 +281,10 @@ fn undecided(
     job: Option<Job<'_>>,
     width: u32,
     learned: u64,
-) -> Result<String, AllocError> {
+) -> Result<String, AllocError>
+    ensures { IfOk result (λ text.
+        string_bytes text ≡ undecided_said (asked job.entry) width learned) }
+{
     let mut text = String::new(alloc);
     append_undecided(&mut text, job, width, learned)?;
     Ok(text)
