@@ -47,7 +47,7 @@ grid_in-push (first ∷ before) form =
     ∙ sym (or-assoc (said_grid first) (grid_in before) (said_grid form))
 
 -- whether a line is among these, with one line more
-any-push : {X : Type 0} (p : X → Bool) (before : List X) (x : X)
+pub any-push : {X : Type 0} (p : X → Bool) (before : List X) (x : X)
     → list_any p (before ++ x ∷ []) ≡ (list_any p before || p x)
 any-push p before x =
     list_any-append p before (x ∷ []) ∙ ap (λ b. list_any p before || b) (or-false (p x))

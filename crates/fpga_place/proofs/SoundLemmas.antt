@@ -20,7 +20,7 @@ use Rattle.fpga_place.proofs.BlockLemmas.{own_number}
 use Rattle.fpga_place.proofs.DraftLemmas.{so_far}
 
 -- the block had no line
-abbrev lacks : Progress → Block → Bool
+abbrev pub lacks : Progress → Block → Bool
 lacks draft block = not (is_some (placed draft block.name))
 
 module _ (io_rat : ℕ) (grid : Size) (blocks : List Block) (places : List (Option Place))
