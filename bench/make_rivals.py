@@ -1,0 +1,44 @@
+#!/usr/bin/env python3
+"""Prints clauses, as DIMACS CNF, of nets that want the tracks of one cell: those of `search_rows`.
+
+    make_rivals.py crowd NETS TRACKS
+    make_rivals.py traps COUNT
+
+A crowd has a variable for each track of each net: each net has a track and no two, and no track has two nets. A trap
+is a crowd of eight nets that want seven tracks, unless a literal is true that is false where the first variable of the
+trap is true. Nothing but this literal leads out of it early, and no conflict meets the first variable.
+"""
+import sys
+
+
+def crowd(nets, tracks, behind, guard):
+    """The clauses of a crowd behind so many other variables, each behind the literals of the guard."""
+    clauses = [[behind + net * tracks + track + 1 for track in range(tracks)] for net in range(nets)]
+    for b in range(nets * tracks):
+        for a in range(b):
+            if a // tracks == b // tracks or a % tracks == b % tracks:
+                clauses.append([-(behind + a + 1), -(behind + b + 1)])
+    return [guard + clause for clause in clauses]
+
+
+def traps(count):
+    """The clauses of so many traps."""
+    clauses = []
+    for trap in range(count):
+        first = trap * 59 + 1
+        second, way_out = first + 1, first + 2
+        clauses += [[-first, second], [-second, -way_out]] + crowd(8, 7, first + 2, [way_out])
+    return clauses
+
+
+def main():
+    kind, *numbers = sys.argv[1:]
+    numbers = [int(number) for number in numbers]
+    clauses = crowd(*numbers, 0, []) if kind == "crowd" else traps(*numbers)
+    variables = max(abs(literal) for clause in clauses for literal in clause)
+    print(f"p cnf {variables} {len(clauses)}")
+    for clause in clauses:
+        print(*clause, 0)
+
+
+main()

@@ -1,0 +1,86 @@
+//! What is found of clauses.
+ghost use Rattle.std.specs.Prelude.{◌≤◌, ◌+◌, IfOk, length};
+ghost use Rattle.sat_turns.specs.Schedule.{IsSchedule};
+
+use sat_clause::{Formula, Log};
+use sat_core::{Answer, solve};
+use sat_turns::{Schedule, TurnsEnd, run_turns};
+use std::alloc::{AllocError, Global};
+
+/// How clauses are searched.
+#[derive(Clone, Copy)]
+pub(crate) enum How {
+    /// By one search, which forgets.
+    Forgetting,
+    /// By one search, which keeps all.
+    Keeping,
+    /// By so many searches, of which this seed says who has the next turn.
+    Drawn { members: u64, seed: u64 },
+    /// By two searches that take turns, the second first.
+    SecondFirst,
+}
+
+// What one search finds.
+fn alone(
+    alloc: Global,
+    formula: &Formula,
+    budget: u64,
+    keep: bool,
+) -> Result<(Answer, Log), AllocError>
+    requires some { 1 ≤ budget }
+    requires few { length formula.now.cnf.clauses + budget ≤ 100000 }
+{
+    let mut log = Log::new(alloc);
+    let answer = solve(alloc, formula, budget, keep, &mut log)?;
+    Ok((answer, log))
+}
+
+// What searches find that take turns.
+fn by_turns(
+    alloc: Global,
+    formula: &Formula,
+    budget: u64,
+    schedule: &Schedule,
+) -> Result<(Answer, Log), AllocError>
+    requires some { 1 ≤ budget }
+    requires few { length formula.now.cnf.clauses + budget ≤ 100000 }
+    requires schedule { IsSchedule schedule.now }
+{
+    let mut log = Log::new(alloc);
+    let TurnsEnd { answer, .. } = run_turns(alloc, formula, schedule, budget, &mut log)?;
+    Ok((answer, log))
+}
+
+// Turns of two searches, the second first.
+fn second_first(alloc: Global) -> Result<Schedule, AllocError>
+    ensures { IfOk result IsSchedule }
+{
+    let mut list = Vec::new(alloc);
+    list.push(1)?;
+    list.push(0)?;
+    Ok(Schedule::Given { members: 2, list })
+}
+
+/// What is found, and the log; nothing where the numbers are out of range, or memory ran out.
+pub(crate) fn found(
+    alloc: Global,
+    formula: &Formula,
+    how: How,
+    budget: u64,
+) -> Option<(Answer, Log)> {
+    if formula.len() > 1000 || budget < 1 || budget > 10_000 {
+        return None;
+    }
+    match how {
+        How::Forgetting => alone(alloc, formula, budget, false).ok(),
+        How::Keeping => alone(alloc, formula, budget, true).ok(),
+        How::Drawn { members, seed } => {
+            if members < 1 || members > 8 || seed >= 1 << 31 {
+                return None;
+            }
+            let (members, seed) = (members as u32, seed as u32);
+            by_turns(alloc, formula, budget, &Schedule::Drawn { members, seed }).ok()
+        }
+        How::SecondFirst => by_turns(alloc, formula, budget, &second_first(alloc).ok()?).ok(),
+    }
+}
