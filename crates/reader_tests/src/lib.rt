@@ -1,22 +1,13 @@
-//! Tests of the texts of a routing problem, as they are read, printed and made, and of the desk and
-//! the shelf that they come from and go to: over public calls alone, so that no crate under test is
-//! proved a second time.
+//! Tests of the texts of an architecture, as they are read, of the words and numbers of any text,
+//! and of the desk and the shelf over real files: over public calls alone, so that no crate under
+//! test is proved a second time. The other texts of a problem, and what is refused of all of them,
+//! are rows of `router_rows`.
 #![tactic(auto)]
 
 #[cfg(test)]
 mod architecture;
 #[cfg(test)]
-mod desk;
-#[cfg(test)]
-mod generator;
-#[cfg(test)]
-mod netlist;
-#[cfg(test)]
-mod placement;
-#[cfg(test)]
-mod problem;
-#[cfg(test)]
-mod route;
+mod files;
 #[cfg(test)]
 mod slow_system;
 #[cfg(test)]

@@ -2,8 +2,9 @@
 //! over those of the real one.
 ghost use Rattle.std.specs.Prelude.{◌≤◌, length};
 
-use desk_io::{Desk, FileDesk, FileShelf, ReadStop, Shelf, read_file};
-use std::alloc::{AllocError, Allocator, Global};
+use crate::files::{has_text, is_written};
+use desk_io::{FileShelf, ReadStop, Shelf};
+use std::alloc::{Allocator, Global};
 use std::fmt::Display;
 use std::fs::{self, Metadata, OpenFile, OpenOptions};
 use std::io::{self, ErrorKind, Print, Read, Seek, SeekFrom, Write};
@@ -11,7 +12,7 @@ use std::rt::Files;
 use std::test::Fail;
 
 /// What a system refuses, if it refuses something.
-#[derive(Clone, Copy, PartialEq, Eq)]
+#[derive(Clone, Copy)]
 enum Refused {
     Nothing,
     /// A read, behind so many.
@@ -78,7 +79,7 @@ impl<F: Write> Write for SlowFile<F> {
     }
 
     fn flush(&mut self) -> io::Result<()> {
-        if self.refused == Refused::Flush {
+        if let Refused::Flush = self.refused {
             return Err(ErrorKind::Other.into());
         }
         self.file.flush()
@@ -172,14 +173,14 @@ impl<'a, R: Print> Print for SlowSystem<'a, R> {
     }
 
     fn write_all(&self, bytes: &[u8]) -> io::Result<()> {
-        if self.refused == Refused::Output {
+        if let Refused::Output = self.refused {
             return Err(ErrorKind::Other.into());
         }
         self.rt.write_all(bytes)
     }
 
     fn write_some(&self, bytes: &[u8]) -> io::Result<usize> {
-        if self.refused == Refused::Output {
+        if let Refused::Output = self.refused {
             return Err(ErrorKind::Other.into());
         }
         self.rt.write_some(first_of(bytes))
@@ -189,64 +190,58 @@ impl<'a, R: Print> Print for SlowSystem<'a, R> {
 /// What is written and read.
 const TEXT: &[u8] = b"each of these bytes";
 
-/// Creates a file, appends the text and finishes, and says whether all was taken.
-fn is_written<R: Files + Print>(system: &R, name: &str) -> bool {
-    let mut shelf = FileShelf::new(system);
-    if shelf.create(name).is_err() || shelf.append(TEXT).is_err() {
-        return false;
-    }
-    shelf.finish().is_ok()
+/// Whether the text is written to a file where the slow system refuses this.
+fn is_written_slowly<R: Files + Print>(rt: &R, refused: Refused, name: &str) -> bool {
+    is_written(&SlowSystem { rt, refused }, name, TEXT)
+}
+
+/// Whether the text is read of a file where the slow system refuses this, or why it is not read.
+fn has_text_slowly<R: Files>(
+    alloc: Global,
+    rt: &R,
+    refused: Refused,
+    name: &str,
+) -> Result<bool, ReadStop> {
+    has_text(alloc, &SlowSystem { rt, refused }, name, 100, TEXT)
+}
+
+/// Whether a text can be said where the slow system refuses this.
+fn is_said<R: Files + Print>(rt: &R, refused: Refused) -> bool {
+    let slow = SlowSystem { rt, refused };
+    let mut shelf = FileShelf::new(&slow);
+    shelf.say(b"").is_ok() && shelf.say(b"\n").is_ok()
 }
 
 #[test]
 fn interrupted_calls_move_all_bytes(rt: HostRuntime) -> Result<(), Fail> {
-    let slow = SlowSystem {
-        rt: &rt,
-        refused: Refused::Nothing,
-    };
-    assert!(rt; is_written(&slow, "slow.tmp"));
-    for text in [
-        read_file(rt.alloc(), &mut FileDesk::new(&rt), "slow.tmp", 100)?,
-        read_file(rt.alloc(), &mut FileDesk::new(&slow), "slow.tmp", 100)?,
-    ] {
-        assert_eq!(rt; text.as_slice(), TEXT);
-    }
+    assert!(rt; is_written_slowly(&rt, Refused::Nothing, "slow.tmp"));
+    assert!(rt; matches!(has_text(rt.alloc(), &rt, "slow.tmp", 100, TEXT), Ok(true)));
+    let whole = has_text_slowly(rt.alloc(), &rt, Refused::Nothing, "slow.tmp");
+    assert!(rt; matches!(whole, Ok(true)));
+    let cut = has_text_slowly(rt.alloc(), &rt, Refused::Reads(3), "slow.tmp");
+    assert!(rt; matches!(cut, Err(ReadStop::Fault)));
     fs::remove_file(&rt, "slow.tmp")?;
     Ok(())
 }
 
 #[test]
 fn late_failures_are_faults(rt: HostRuntime) -> Result<(), Fail> {
-    let cases = [
+    for (refused, want) in [
         (Refused::Nothing, true),
         (Refused::Flush, false),
         (Refused::Sync(ErrorKind::Other), false),
         (Refused::Sync(ErrorKind::Interrupted), false),
         // A pipe or a terminal has no disk.
         (Refused::Sync(ErrorKind::InvalidInput), true),
-    ];
-    for (refused, want) in cases {
-        let slow = SlowSystem { rt: &rt, refused };
-        assert_eq!(rt; is_written(&slow, "late.tmp"), want);
+    ] {
+        assert!(rt; is_written_slowly(&rt, refused, "late.tmp") == want);
     }
-    let slow = SlowSystem {
-        rt: &rt,
-        refused: Refused::Reads(3),
-    };
-    assert_eq!(rt;
-        read_file(rt.alloc(), &mut FileDesk::new(&slow), "late.tmp", 100).err(),
-        Some(ReadStop::Fault)
-    );
     fs::remove_file(&rt, "late.tmp")?;
     Ok(())
 }
 
 #[test]
-fn refused_output_is_a_fault(rt: HostRuntime) -> Result<(), Fail> {
-    for (refused, want) in [(Refused::Nothing, true), (Refused::Output, false)] {
-        let slow = SlowSystem { rt: &rt, refused };
-        let mut shelf = FileShelf::new(&slow);
-        assert_eq!(rt; shelf.say(b"").is_ok() && shelf.say(b"\n").is_ok(), want);
-    }
-    Ok(())
+fn refused_output_is_a_fault(rt: HostRuntime) {
+    assert!(rt; is_said(&rt, Refused::Nothing));
+    assert!(rt; !is_said(&rt, Refused::Output));
 }

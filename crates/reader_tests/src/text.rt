@@ -55,7 +55,7 @@ fn hostile_texts(rt: HostRuntime) -> Result<(), Fail> {
     ];
     for (text, style, want) in rows {
         let said = all_words(rt.alloc(), text, style)?;
-        assert_eq!(rt; said.as_slice(), want, "the words of {text:?}");
+        assert!(rt; said.as_slice() == want);
     }
     Ok(())
 }
@@ -63,11 +63,10 @@ fn hostile_texts(rt: HostRuntime) -> Result<(), Fail> {
 #[test]
 fn a_line_keeps_its_comment(rt: HostRuntime) {
     let mut lines = Lines::new(b" Block  a #1 \r\nb", Style::Hash);
-    if let Some(line) = lines.next_line() {
-        assert_eq!(rt; line.raw(), b" Block  a #1 \r".as_slice());
-    } else {
-        assert!(rt; false, "no line");
-    }
+    let Some(line) = lines.next_line() else {
+        panic!(rt; "no line");
+    };
+    assert!(rt; line.raw() == b" Block  a #1 \r".as_slice());
 }
 
 #[test]
@@ -82,7 +81,7 @@ fn numbers(rt: HostRuntime) {
         (b"1a", None),
     ];
     for (word, want) in rows {
-        assert_eq!(rt; whole_number(word), want, "{word:?}");
+        assert!(rt; whole_number(word) == want);
     }
 }
 
@@ -119,8 +118,7 @@ fn signed_numbers(rt: HostRuntime) {
     ];
     for (text, number, word) in rows {
         let (said, behind) = number_behind_a_word(text);
-        assert_eq!(rt; said, number, "the number of {text:?}");
-        assert_eq!(rt; behind, word, "behind the number of {text:?}");
+        assert!(rt; said == number && behind == word);
     }
 }
 
@@ -136,6 +134,6 @@ fn decimals(rt: HostRuntime) {
         (b".", None),
     ];
     for (word, want) in rows {
-        assert_eq!(rt; millionths(word), want, "{word:?}");
+        assert!(rt; millionths(word) == want);
     }
 }
