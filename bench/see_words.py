@@ -6,8 +6,8 @@
 Runs the cases of crates/router_rows/data on files of a folder of its own, those left out in which calls fail, and
 prints each kind of report that came (its numbers but the code left out) with the words that went with it, once.
 Says last how many runs came out as their case asks: status, standard output, and the bytes of the files, where
-no file that was read has changed. That is a test of what no contract speaks of: `main` and the files of the
-system. With --quiet only what came out otherwise is printed, and the last line.
+no file that was read has changed; and the words on a width without a routing, or on an open one, as seen_words.py
+reckons them from the files. That is a test of what no contract speaks of: `main` and the files of the system. With --quiet only what came out otherwise is printed, and the last line.
 """
 import argparse
 import collections
@@ -16,6 +16,8 @@ import re
 import subprocess
 import sys
 import tempfile
+
+from seen_words import words_of
 
 DATA = os.path.join(os.path.dirname(os.path.dirname(os.path.abspath(__file__))), "crates", "router_rows", "data")
 FILES = (
@@ -153,6 +155,10 @@ class Asked:
             yield f"status {ended.returncode}, not {self.status}"
         if said != f"{self.lead}{self.report}\n":
             yield f"said {said!r}, not {self.lead + self.report!r}"
+        report = said.rstrip("\n").split("\n")[-1]
+        wanted = words_of(self.words, report, before)
+        if wanted is not None and words_in(ended) != wanted:
+            yield f"words {words_in(ended)!r}, not {wanted!r}"
         names = {wanted.name for wanted in self.wanted}
         for name, text in before.items():
             if name not in names and left.get(name) != text:
@@ -160,6 +166,11 @@ class Asked:
         for wanted in self.wanted:
             if not wanted.is_met(before, left, texts):
                 yield f"{wanted.name} is not as in: {wanted.how}"
+
+
+def words_in(ended):
+    """What a run has said on standard error."""
+    return ended.stderr.decode(errors="replace").rstrip("\n")
 
 
 def files_in(folder):
@@ -191,8 +202,7 @@ def run_case(program, texts, case, lines, seen, tally):
             ended = subprocess.run([program, *asked.words], cwd=folder, capture_output=True)
             left = files_in(folder)
         kind = kind_of(ended.stdout.decode(errors="replace").rstrip("\n").split("\n")[-1])
-        words = ended.stderr.decode(errors="replace").rstrip("\n")
-        seen.setdefault((asked.words[0] if asked.words else "", kind), words)
+        seen.setdefault((asked.words[0] if asked.words else "", kind), words_in(ended))
         others = list(asked.others(ended, before, left, texts))
         tally["other" if others else "as asked"] += 1
         for other in others:

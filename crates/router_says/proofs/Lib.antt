@@ -6,4 +6,5 @@ mod FitCodes
 mod ClauseCodes
 mod NameLemmas
 mod SaidLemmas
+mod SeenLemmas
 mod UseLemmas

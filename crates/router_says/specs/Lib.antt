@@ -2,4 +2,5 @@ pub mod Quiet
 pub mod Names
 pub mod NameBytes
 pub mod AtFault
+pub mod Seen
 pub mod Said

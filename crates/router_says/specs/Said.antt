@@ -1,5 +1,5 @@
 -- What is said of an outcome that was not asked for.
-use Rattle.std.specs.Prelude.{◌≡◌, ℕ, ◌++◌, ◌*◌, ◌==◌, ⊤, List, [], codes, decimal, is_some, min, nat_le, nat_lt, Option, Some, None, unwrap_or, if◌then◌else◌}
+use Rattle.std.specs.Prelude.{◌≡◌, ℕ, ◌++◌, ◌*◌, ◌==◌, ⊤, List, [], codes, decimal, false, is_some, min, nat_le, nat_lt, Option, Some, None, true, unwrap_or, if◌then◌else◌}
 use Rattle.code_words.specs.Causes.{cause_phrase, refusal_phrase, within_reach_phrase}
 use Rattle.desk_io.specs.DeskState.{DeskState}
 use Rattle.fpga_types.specs.declared.limits.TheConstants.{WIDTH_LIMIT}
@@ -7,6 +7,7 @@ use Rattle.route_symmetry.specs.declared.full.Asymmetry.{Asymmetry}
 use Rattle.route_symmetry.specs.declared.full.Asymmetry.TheVariants.{Inputs, Outputs, Pads, Pattern}
 use Rattle.router_says.specs.AtFault.{NamesSought, sought_of}
 use Rattle.router_says.specs.Names.{OfEach, OfOne, Prefix, file_said, name_of, prefix_of, reach_of}
+use Rattle.router_says.specs.Seen.{Sees}
 use Rattle.router_top.specs.declared.outcome.Obstacle.{Obstacle}
 use Rattle.router_top.specs.declared.outcome.Obstacle.TheVariants.{Order, Pins}
 use Rattle.router_top.specs.declared.outcome.Outcome.{Outcome}
@@ -248,6 +249,8 @@ Means asked _ text = ⊤
 abbrev pub Names : (before now : DeskState) → Option JobAsked → Outcome → List ℕ → Type 0
 Names before now asked (InputFault file line code) named =
     NamesSought before now (name_of asked) line (sought_of file code) named
+Names before now asked (Unroutable width) named = Sees before now asked width false named
+Names before now asked (Undecided width learned) named = Sees before now asked width true named
 Names before now asked _ named = named ≡ []
 
 -- after what stood in a text comes the file that is meant, then what is wrong, what is at fault,

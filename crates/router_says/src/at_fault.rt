@@ -71,7 +71,7 @@ pub(crate) fn append_at_fault<D: Desk>(
 }
 
 // The bytes of a file, if it is read.
-fn text_of<D: Desk>(
+pub(crate) fn text_of<D: Desk>(
     alloc: Global,
     desk: &mut D,
     name: Option<&str>,

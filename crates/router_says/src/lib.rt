@@ -8,6 +8,7 @@ mod name_bytes;
 mod names;
 mod pin_use;
 mod refused;
+mod seen;
 mod symmetry;
 mod unread;
 mod unsettled;

@@ -40,6 +40,7 @@ ghost use Rattle.router_words.specs.Word.{words_of};
 use crate::at_fault::append_at_fault;
 use crate::names::{given_name, job_in, reach_asked};
 use crate::refused::{append_file, append_judged, append_limit, append_line, append_step};
+use crate::seen::append_seen;
 use crate::symmetry::append_obstacle;
 use crate::unread::append_unread;
 use crate::unsettled::{append_no_memory, append_undecided, append_unroutable};
@@ -151,10 +152,25 @@ fn append_named<D: Desk>(
     ensures { OnOk result (Appends (Names (D.state desk.old) (D.state desk.new)
         (asked job.entry) outcome.now) (string_bytes out.old) (string_bytes out.new)) }
 {
-    let Outcome::InputFault { file, line, code } = *outcome else {
-        return Ok(());
-    };
-    append_at_fault(alloc, desk, out, job, file, line, code)
+    match *outcome {
+        Outcome::InputFault { file, line, code } => {
+            append_at_fault(alloc, desk, out, job, file, line, code)
+        }
+        Outcome::Unroutable { width } => append_seen(alloc, desk, out, job, width, false),
+        Outcome::Undecided { width, .. } => append_seen(alloc, desk, out, job, width, true),
+        Outcome::NotAccepted { .. }
+        | Outcome::NotLegal { .. }
+        | Outcome::Limit { .. }
+        | Outcome::NotSymmetric { .. }
+        | Outcome::Usage { .. }
+        | Outcome::ReadFault { .. }
+        | Outcome::WriteFault { .. }
+        | Outcome::OutOfMemory
+        | Outcome::Routed { .. }
+        | Outcome::Done
+        | Outcome::Accepted
+        | Outcome::LegalRoute => Ok(()),
+    }
 }
 
 // What the outcome means, without the file that it is about and without the newline at the end.

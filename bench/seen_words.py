@@ -1,0 +1,213 @@
+"""What is to be said on standard error of a width without a routing, or of one that is open, by plain lists.
+
+The files that refute it, or what can be tried next; then what is seen without a search: a cell that more nets want
+than there are tracks; under subset switch blocks a crowd of nets that share cells, each with each, and are more; which
+option helps.
+"""
+import re
+from collections import Counter
+from decimal import ROUND_HALF_UP, Decimal
+
+VALUED = ("--conflicts", "--reach", "--members", "--seed")
+FLAGS = ("--keep", "--count", "--pin", "--symmetry")
+BUDGET_LIMIT, WIDTH_LIMIT, NAMED = 100_000_000, 64, 10
+START_LIMIT, CROWD_LIMIT = 512, 128
+CELL_LEAD = "More nets than there are tracks want the cell "
+CROWD_LEAD = "Under subset switch blocks more nets than there are tracks share cells, each with each:"
+COUNT = "With --count that is shown without a search."
+ORDER = "Tracks may change places here: with --symmetry the search keeps them in one order."
+
+
+class Words:
+    """The words of a run: the command, the words behind it, and the options with their values."""
+
+    def __init__(self, words):
+        self.command, self.plain, self.options = (words[0] if words else ""), [], {}
+        rest = list(words[1:])
+        while rest:
+            word = rest.pop(0)
+            name, _, value = word.partition("=")
+            if name in VALUED:
+                self.options[name] = value or rest.pop(0)
+            elif name in FLAGS:
+                self.options[name] = True
+            else:
+                self.plain.append(word)
+
+    @property
+    def prefix(self):
+        return self.plain[-1]
+
+    @property
+    def is_climb(self):
+        return self.command in ("sweep", "trial")
+
+    @property
+    def within(self):
+        reach = self.options.get("--reach")
+        return f" within {int(reach)} joins of wires" if reach else ""
+
+
+def unroutable(words, width):
+    """The lines that say that no routing of a width is legal, and what refutes it."""
+    prefix = words.prefix
+    if words.is_climb:
+        return [
+            f"No routing with up to {width} tracks is legal{words.within}: "
+            f"{prefix}.wK.lrat refutes {prefix}.wK.cnf for each width K.",
+            f"To check the last: gafkelam check {prefix}.w{width}.cnf {prefix}.w{width}.lrat",
+        ]
+    return [
+        f"No routing with {width} tracks is legal{words.within}: "
+        f"{prefix}.lrat refutes the clauses of one, {prefix}.cnf.",
+        f"To check that: gafkelam check {prefix}.cnf {prefix}.lrat",
+    ]
+
+
+def undecided(words, width, learned):
+    """The lines that say that a width is open, and what can be tried next."""
+    first = (
+        f"Whether a routing with {width} tracks is legal{words.within} is open: "
+        f"the search learned {learned} clauses, its budget."
+    )
+    more = "No greater budget is taken: "
+    if learned < BUDGET_LIMIT:
+        more = f"Try --conflicts {min(10 * learned, BUDGET_LIMIT)}, or "
+    if words.is_climb:
+        greater = ", or route at a greater width." if width < WIDTH_LIMIT else "."
+        return [first, f"{more}hand {words.prefix}.w{width}.cnf to another solver{greater}"]
+    return [first, f"{more}hand {words.prefix}.cnf to another solver, or try another width."]
+
+
+def lines_of(text):
+    """The lines of a file, by their words, without what stands behind a #."""
+    return [line.split("#")[0].split() for line in text.decode("latin-1").split("\n")]
+
+
+def said_name(name):
+    return "".join(c if "!" <= c <= "~" else f"\\x{ord(c):02x}" for c in name)
+
+
+class Slots:
+    """The slots of a route, each a net and a cell, in the order of their first lines, and the trees that steps make."""
+
+    def __init__(self, route):
+        self.names, self.slots, self.steps = [], [], []
+        number, last = {}, None
+        for line in lines_of(route):
+            if line[:1] == ["Net"]:
+                self.names.append(said_name(re.sub(r"\):?$", "", line[2][1:])))
+                last = None
+            elif line and line[0] in ("CHANX", "CHANY"):
+                slot = len(self.names) - 1, f"{line[0]} {''.join(line[1:]).split('Track')[0]}"
+                if slot not in number:
+                    number[slot] = len(self.slots)
+                    self.slots.append(slot)
+                if last is not None:
+                    self.steps.append((last, number[slot]))
+                last = number[slot]
+            elif line:
+                last = None
+
+    def name_of(self, slot):
+        return self.names[self.slots[slot][0]]
+
+    def roots(self):
+        """For each slot the first one of its tree: that of the earlier slot from which a first step leads to it."""
+        before, roots = {}, []
+        for step in self.steps:
+            if step[0] != step[1]:
+                before.setdefault(max(step), min(step))
+        for slot in range(len(self.slots)):
+            roots.append(roots[before[slot]] if slot in before else slot)
+        return roots
+
+    def listed(self, row):
+        """The names of the nets of these slots, no more than ten of them."""
+        more = f" and {len(row) - NAMED} more" if len(row) > NAMED else ""
+        return "".join(f" {self.name_of(slot)}" for slot in row[:NAMED]) + more
+
+    def crowded_cell(self, width):
+        """The line about the first cell that comes to more slots than tracks, if there is one."""
+        held = {}
+        for slot, (_, cell) in enumerate(self.slots):
+            held.setdefault(cell, []).append(slot)
+            if len(held[cell]) > width:
+                return f"{CELL_LEAD}{cell}:{self.listed(held[cell])}"
+        return None
+
+    def crowd_line(self, width):
+        """The line about a crowd of more trees than tracks, if there is one."""
+        row = Crowd(self).trees()
+        return CROWD_LEAD + self.listed(row[: width + 1]) if len(row) > width else None
+
+
+class Crowd:
+    """Trees of which each two are of different nets and share a cell."""
+
+    def __init__(self, slots):
+        self.slots, self.roots = slots.slots, slots.roots()
+        self.cells = {}
+        for slot, root in enumerate(self.roots):
+            self.cells.setdefault(root, set()).add(self.slots[slot][1])
+
+    def meet(self, a, b):
+        return self.slots[a][0] != self.slots[b][0] and bool(self.cells[a] & self.cells[b])
+
+    def gathered(self, cell):
+        """The trees of a cell and then all, each if it meets those that were taken before."""
+        of_cell = [root for slot, root in enumerate(self.roots) if self.slots[slot][1] == cell]
+        taken = []
+        for tree in dict.fromkeys(of_cell + self.roots):
+            if len(taken) < CROWD_LIMIT and all(self.meet(tree, other) for other in taken):
+                taken.append(tree)
+        return taken
+
+    def trees(self):
+        """The first of the longest rows that are gathered from the cells of large trees."""
+        size = Counter(self.roots)
+        large = [slot for slot, root in enumerate(self.roots) if max(size.values()) <= 2 * size[root]]
+        rows = [self.gathered(cell) for cell in dict.fromkeys(self.slots[slot][1] for slot in large[:START_LIMIT])]
+        return max(rows, key=len, default=[])
+
+
+def boxes_are_full(arch, width):
+    """Whether the boxes of output pins, input pins and pads open each track."""
+    fractional = arch["Fc_type"] == "fractional"
+    for box in ("Fc_output", "Fc_input", "Fc_pad"):
+        share = Decimal(arch[box])
+        count = int((share * width).to_integral_value(ROUND_HALF_UP)) if fractional else int(share)
+        if max(count, 1) < width:
+            return False
+    return True
+
+
+def values_of(arch):
+    return {line[0]: line[1] for line in lines_of(arch) if len(line) > 1}
+
+
+def seen_lines(words, is_open, width, files):
+    """What is seen without a search of the problem of the files, where there are files and no reach."""
+    if words.command not in ("route", "sweep", "core") or "--reach" in words.options:
+        return []
+    arch, slots = values_of(files[words.plain[0]]), Slots(files[words.plain[3]])
+    blocks = arch["switch_block_type"]
+    crowded = slots.crowded_cell(width) or (slots.crowd_line(width) if blocks == "subset" else None)
+    searches = words.command != "core"
+    if crowded:
+        return [crowded] + ([COUNT] if searches and "--count" not in words.options else [])
+    may_order = is_open and searches and not {"--pin", "--symmetry"} & set(words.options)
+    if may_order and blocks in ("subset", "universal") and boxes_are_full(arch, width):
+        return [ORDER]
+    return []
+
+
+def words_of(given, report, files):
+    """What is to be said of a report of a width without a routing, or of an open one; None of another report."""
+    found = re.fullmatch(r"(unroutable|undecided) (\d+)(?: after (\d+) learned clauses)?", report)
+    if not found:
+        return None
+    words, width = Words(given), int(found[2])
+    is_open = found[1] == "undecided"
+    first = undecided(words, width, int(found[3])) if is_open else unroutable(words, width)
+    return "\n".join(first + seen_lines(words, is_open, width, files))

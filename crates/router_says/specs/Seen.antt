@@ -1,0 +1,181 @@
+-- What is said of a width by what is seen without a search: which nets want more tracks than there
+-- are, and which option helps.
+use Rattle.std.specs.Prelude.{◌≡◌, ◌⊎◌, ℕ, ◌++◌, ◌-◌, ◌&&◌, not, Bool, true, false, nat_le, List, [], length, take, flat_map, codes, decimal, slice_get, Option, Some, None, is_some, if◌then◌else◌}
+use Rattle.std.specs.Option.{option_map_or}
+use Rattle.desk_io.specs.DeskState.{DeskState}
+use Rattle.desk_io.specs.Files.{Bytes}
+use Rattle.fpga_problem.specs.Texts.{AreFaultless, Texts, problem_said}
+use Rattle.fpga_text.specs.declared.fault.TextFault.{TextFault}
+use Rattle.fpga_text.specs.declared.fault.TextFault.TheVariants.{Memory}
+use Rattle.fpga_types.specs.Problem.{RoutingProblem}
+use Rattle.fpga_types.specs.Slots.{slots}
+use Rattle.fpga_types.specs.declared.grid.Axis.{Axis}
+use Rattle.fpga_types.specs.declared.grid.Axis.TheVariants.{X, Y}
+use Rattle.fpga_types.specs.declared.grid.Cell.{Cell as AnyCell}
+use Rattle.fpga_types.specs.declared.limits.TheConstants.{WIDTH_LIMIT}
+use Rattle.fpga_types.specs.declared.problem.Slot.{Slot}
+use Rattle.route_count.specs.Crowded.{IsCrowded, IsCrowding}
+use Rattle.route_count.specs.declared.crowded.Crowding.{Crowding}
+use Rattle.route_count.specs.declared.crowded.Crowding.TheVariants.{Cell, Crowd}
+use Rattle.route_crowd.specs.Groups.{is_exchangeable}
+use Rattle.router_says.specs.AtFault.{IsRead}
+use Rattle.router_says.specs.NameBytes.{name_said}
+use Rattle.router_says.specs.Names.{name_of, reach_of}
+use Rattle.router_says.specs.declared.seen.Hints.{Hints}
+use Rattle.router_says.specs.declared.seen.TheConstants.{NAME_LIMIT}
+use Rattle.router_top.specs.Core.{net_name}
+use Rattle.router_top.specs.declared.text_file.TextFile.{TextFile}
+use Rattle.router_top.specs.declared.text_file.TextFile.TheVariants.{Architecture, Netlist, Placement, Route}
+use Rattle.router_words.specs.Job.{JobAsked, Routes, Sweeps}
+use Rattle.router_words.specs.declared.method.Method.{Method}
+use Rattle.router_words.specs.declared.method.Method.TheVariants.{Strictly}
+
+-- ---- the words
+
+-- a blank, and the name of the net of the slot with this number
+abbrev pub net_said : RoutingProblem → (slot : ℕ) → List ℕ
+net_said p slot = option_map_or
+    (λ (s : Slot). codes " " ++ name_said (net_name p.route s.net))
+    (slice_get (slots p.route) slot) []
+
+-- the nets of slots, the first by name, and how many more there are
+abbrev pub nets_said : RoutingProblem → (row : List ℕ) → List ℕ
+nets_said p row =
+    if nat_le (length row) NAME_LIMIT then flat_map (net_said p) row
+    else flat_map (net_said p) (take NAME_LIMIT row)
+    ++ (codes " and " ++ (decimal (length row - NAME_LIMIT) ++ codes " more"))
+
+-- a channel, by its kind
+abbrev pub axis_said : Axis → List ℕ
+axis_said X = codes "X"
+axis_said Y = codes "Y"
+
+-- a cell, behind a blank
+abbrev pub cell_said : AnyCell → List ℕ
+cell_said cell =
+    codes " CHAN" ++ (axis_said cell.axis ++ (codes " (" ++ (decimal cell.x ++ (codes ","
+    ++ (decimal cell.y ++ codes ")")))))
+
+-- the cell of the slot with this number
+abbrev pub slot_cell_said : RoutingProblem → (slot : ℕ) → List ℕ
+slot_cell_said p slot =
+    option_map_or (λ (s : Slot). cell_said s.cell) (slice_get (slots p.route) slot) []
+
+-- the cell of the first of these slots
+abbrev pub first_cell_said : RoutingProblem → (row : List ℕ) → List ℕ
+first_cell_said p row = option_map_or (slot_cell_said p) (slice_get row 0) []
+
+-- which slots want different tracks, and are more than there are
+abbrev pub crowding_said : RoutingProblem → Crowding → List ℕ
+crowding_said p (Cell row) =
+    codes "\nMore nets than there are tracks want the cell"
+    ++ (first_cell_said p row.items ++ (codes ":" ++ nets_said p row.items))
+crowding_said p (Crowd row) =
+    codes "\nUnder subset switch blocks more nets than there are tracks share cells, "
+    ++ (codes "each with each:" ++ nets_said p row.items)
+
+-- that counting shows it, where that may help
+abbrev pub count_said : Hints → List ℕ
+count_said hints =
+    if hints.count then codes "\nWith --count that is shown without a search." else []
+
+-- that keeping tracks in order may help, where they may change places
+abbrev pub order_said : (width : ℕ) → Hints → RoutingProblem → List ℕ
+order_said width hints p =
+    if hints.order && is_exchangeable width p then
+    codes "\nTracks may change places here: with --symmetry the search keeps them in one order."
+    else []
+
+-- ---- which options may help
+
+-- counting can be asked for, and was not
+abbrev pub may_count : Option JobAsked → Bool
+may_count (Some (Routes ask)) = not ask.search.count
+may_count (Some (Sweeps ask)) = not ask.search.count
+may_count _ = false
+
+-- routings are said by clauses and nothing else
+abbrev pub is_strict : Method → Bool
+is_strict Strictly = true
+is_strict _ = false
+
+-- tracks in order can be asked for, and nothing of that kind was
+abbrev pub may_order : Option JobAsked → Bool
+may_order (Some (Routes ask)) = is_strict ask.search.method
+may_order (Some (Sweeps ask)) = is_strict ask.search.method
+may_order _ = false
+
+-- counting, and where the width is open tracks in order
+abbrev pub hints_of : Option JobAsked → (is_open : Bool) → Hints
+hints_of asked is_open =
+    record { count = may_count asked; order = is_open && may_order asked }
+
+-- ---- what is seen
+
+-- where numbers alone forbid the width, slots that do are said; where not, what else may help
+abbrev pub SaysSeenOf : (width : ℕ) → Hints → RoutingProblem → List ℕ → Type 0
+SaysSeenOf width hints p said =
+    ((¬ IsCrowded width p) × (said ≡ order_said width hints p))
+    ⊎ ((crowding : Crowding) × IsCrowding width p crowding
+    × (said ≡ crowding_said p crowding ++ count_said hints))
+
+-- of texts that pose a problem, what is seen of it; of others nothing
+abbrev pub SaysSeen : (width : ℕ) → Hints → Option Texts → List ℕ → Type 0
+SaysSeen width hints None said = said ≡ []
+SaysSeen width hints (Some texts) said =
+    ((¬ AreFaultless texts) × (said ≡ []))
+    ⊎ (AreFaultless texts × SaysSeenOf width hints (problem_said texts) said)
+
+-- memory ran out
+abbrev pub is_memory : TextFault → Bool
+is_memory Memory = true
+is_memory _ = false
+
+-- the bytes of the four files, where each was read
+pub record FourRead : Type 0 where
+  pub architecture : Option Bytes
+  pub netlist : Option Bytes
+  pub placement : Option Bytes
+  pub route : Option Bytes
+
+-- what was read of the files with these names, one after another
+pub record AreRead (before now : DeskState) (names : TextFile → Option Bytes) (four : FourRead)
+    : Type 0 where
+  pub first : DeskState
+  pub second : DeskState
+  pub third : DeskState
+  pub first_same : first.files ≡ before.files
+  pub second_same : second.files ≡ before.files
+  pub third_same : third.files ≡ before.files
+  pub architecture : IsRead before first (names Architecture) four.architecture
+  pub netlist : IsRead first second (names Netlist) four.netlist
+  pub placement : IsRead second third (names Placement) four.placement
+  pub route : IsRead third now (names Route) four.route
+
+abbrev pub texts_by : (architecture netlist placement route : Option Bytes) → Option Texts
+texts_by (Some a) (Some n) (Some p) (Some r) =
+    Some (record { architecture = a; netlist = n; placement = p; route = r })
+texts_by _ _ _ _ = None
+
+-- the four texts, where each was read
+abbrev pub texts_of : FourRead → Option Texts
+texts_of four = texts_by four.architecture four.netlist four.placement four.route
+
+-- what is seen of the problem of the files, which are read once more for it
+pub record Looks (before now : DeskState) (asked : Option JobAsked) (width : ℕ)
+    (is_open : Bool) (said : List ℕ) : Type 0 where
+  pub four : FourRead
+  pub read : AreRead before now (name_of asked) four
+  pub says : SaysSeen width (hints_of asked is_open) (texts_of four) said
+
+-- numbers speak of a width within the limits, and of a search without a reach
+abbrev pub is_looked_at : (width : ℕ) → Option JobAsked → Bool
+is_looked_at width asked =
+    if is_some (reach_of asked) then false else nat_le 1 width && nat_le width WIDTH_LIMIT
+
+-- what is said of a width that has no routing or is open, by what is seen without a search
+abbrev pub Sees : (before now : DeskState) → Option JobAsked → (width : ℕ) → (is_open : Bool)
+    → List ℕ → Type 0
+Sees before now asked width is_open said =
+    ((is_looked_at width asked ≡ false) × (said ≡ []))
+    ⊎ ((is_looked_at width asked ≡ true) × Looks before now asked width is_open said)

@@ -1,0 +1,471 @@
+//! Words for what can be seen of a width without a search.
+ghost use Rattle.std.specs.Prelude.{
+  ◌≡◌,
+  ◌≤◌,
+  ◌++◌,
+  ◌-◌,
+  IsTrue,
+  OnOk,
+  codes,
+  decimal,
+  false,
+  flat_map,
+  length,
+  option_map,
+  string_bytes,
+  take,
+};
+ghost use Rattle.fpga_types.specs.declared.limits.TheConstants.{WIDTH_LIMIT};
+ghost use Rattle.router_says.specs.AtFault.{Appends};
+ghost use Rattle.router_says.specs.Names.{asked};
+ghost use Rattle.router_says.specs.Seen as spec;
+ghost use Rattle.router_says.specs.Seen.{
+  Looks,
+  SaysSeen,
+  SaysSeenOf,
+  Sees,
+  axis_said,
+  cell_said,
+  count_said,
+  crowding_said,
+  first_cell_said,
+  hints_of,
+  is_memory,
+  net_said,
+  nets_said,
+  order_said,
+  slot_cell_said,
+  texts_by,
+};
+ghost use Rattle.router_says.specs.declared.seen.TheConstants.{NAME_LIMIT};
+ghost use Rattle.router_top.specs.Core.{net_name};
+
+use crate::at_fault::text_of;
+use crate::name_bytes::append_name;
+use crate::names::{given_name, reach_asked};
+use desk_io::Desk;
+use fpga_bounds::PlacedProblem;
+use fpga_problem::{FourTexts, read_problem};
+use fpga_text::TextFault;
+use fpga_types::{Axis, Cell, RouteText, WIDTH_LIMIT};
+use route_count::{Crowding, crowded_by};
+use route_crowd::exchangeable;
+use router_top::TextFile;
+use router_words::{Job, Method};
+use std::alloc::{AllocError, Global};
+
+/// How many nets are named at the most.
+pub(crate) const NAME_LIMIT: usize = 10;
+
+/// Which options may help that were not given.
+#[derive(Clone, Copy, Debug)]
+pub(crate) struct Hints {
+    /// Counting.
+    pub(crate) count: bool,
+    /// Tracks in order.
+    pub(crate) order: bool,
+}
+
+/// Appends what is seen of a width without a search, where no reach was given: which nets want more
+/// tracks than there are, and which option helps; where the width is open, that too where there are
+/// no such nets. The files are read once more for it; a job that reads none is told nothing.
+pub(crate) fn append_seen<D: Desk>(
+    alloc: Global,
+    desk: &mut D,
+    out: &mut String,
+    job: Option<Job<'_>>,
+    width: u32,
+    is_open: bool,
+) -> Result<(), AllocError>
+    ensures { OnOk result (Appends (Sees (D.state desk.old) (D.state desk.new) (asked job.entry)
+        width is_open) (string_bytes out.old) (string_bytes out.new)) }
+{
+    if !is_looked_at(job, width) {
+        return Ok(());
+    }
+    append_looked(alloc, desk, out, job, width, is_open)
+}
+
+// Whether it is looked at: numbers alone say nothing of a search within a reach.
+fn is_looked_at(job: Option<Job<'_>>, width: u32) -> bool
+    ensures value { result ≡ spec.is_looked_at width (asked job.entry) }
+    ensures within { IsTrue result → (1 ≤ width) × (width ≤ WIDTH_LIMIT) }
+{
+    if reach_asked(job).is_some() {
+        return false;
+    }
+    1 <= width && width <= WIDTH_LIMIT
+}
+
+// Appends what is seen of the problem of the files.
+fn append_looked<D: Desk>(
+    alloc: Global,
+    desk: &mut D,
+    out: &mut String,
+    job: Option<Job<'_>>,
+    width: u32,
+    is_open: bool,
+) -> Result<(), AllocError>
+    requires width { (1 ≤ width) × (width ≤ WIDTH_LIMIT) }
+    ensures { OnOk result (Appends (Looks (D.state desk.old) (D.state desk.new) (asked job.entry)
+        width is_open) (string_bytes out.old) (string_bytes out.new)) }
+{
+    let hints = hints_for(job, is_open);
+    let architecture = text_of(alloc, desk, given_name(job, TextFile::Architecture))?;
+    let netlist = text_of(alloc, desk, given_name(job, TextFile::Netlist))?;
+    let placement = text_of(alloc, desk, given_name(job, TextFile::Placement))?;
+    let route = text_of(alloc, desk, given_name(job, TextFile::Route))?;
+    append_of_files(
+        alloc,
+        out,
+        architecture,
+        netlist,
+        placement,
+        route,
+        width,
+        hints,
+    )?;
+    Ok(())
+}
+
+// Which options may help that were not given.
+fn hints_for(job: Option<Job<'_>>, is_open: bool) -> Hints
+    ensures { result ≡ hints_of (asked job.entry) is_open }
+{
+    Hints {
+        count: may_count(job),
+        order: is_open && may_order(job),
+    }
+}
+
+// Whether counting can be asked for, and was not.
+fn may_count(job: Option<Job<'_>>) -> bool
+    ensures { result ≡ spec.may_count (asked job.entry) }
+{
+    let Some(job) = job else {
+        return false;
+    };
+    match job {
+        Job::Route(job) => !job.search.count,
+        Job::Sweep(job) => !job.search.count,
+        Job::Encode(_)
+        | Job::Core(_)
+        | Job::Check(_)
+        | Job::Verify(_)
+        | Job::Gen(_)
+        | Job::Trial(_) => false,
+    }
+}
+
+// Whether tracks in order can be asked for, and nothing of that kind was.
+fn may_order(job: Option<Job<'_>>) -> bool
+    ensures { result ≡ spec.may_order (asked job.entry) }
+{
+    let Some(job) = job else {
+        return false;
+    };
+    match job {
+        Job::Route(job) => is_strict(job.search.method),
+        Job::Sweep(job) => is_strict(job.search.method),
+        Job::Encode(_)
+        | Job::Core(_)
+        | Job::Check(_)
+        | Job::Verify(_)
+        | Job::Gen(_)
+        | Job::Trial(_) => false,
+    }
+}
+
+fn is_strict(method: Method) -> bool
+    ensures { result ≡ spec.is_strict method }
+{
+    match method {
+        Method::Strictly => true,
+        Method::Pinned | Method::Ordered | Method::Within(_) => false,
+    }
+}
+
+// Appends it, if each of the four files was read.
+fn append_of_files(
+    alloc: Global,
+    out: &mut String,
+    architecture: Option<Vec<u8>>,
+    netlist: Option<Vec<u8>>,
+    placement: Option<Vec<u8>>,
+    route: Option<Vec<u8>>,
+    width: u32,
+    hints: Hints,
+) -> Result<(), AllocError>
+    requires width { (1 ≤ width) × (width ≤ WIDTH_LIMIT) }
+    ensures { OnOk result (Appends (SaysSeen width hints (texts_by
+        (option_map (λ bytes. bytes.items) architecture)
+        (option_map (λ bytes. bytes.items) netlist)
+        (option_map (λ bytes. bytes.items) placement) (option_map (λ bytes. bytes.items) route)))
+        (string_bytes out.old) (string_bytes out.new)) }
+{
+    let Some(architecture) = architecture else {
+        return Ok(());
+    };
+    let Some(netlist) = netlist else {
+        return Ok(());
+    };
+    let Some(placement) = placement else {
+        return Ok(());
+    };
+    let Some(route) = route else {
+        return Ok(());
+    };
+    let texts = FourTexts {
+        architecture: &architecture,
+        netlist: &netlist,
+        placement: &placement,
+        route: &route,
+    };
+    append_of_texts(alloc, out, &texts, width, hints)
+}
+
+// Appends it of the problem that these texts pose, if they do.
+fn append_of_texts(
+    alloc: Global,
+    out: &mut String,
+    texts: &FourTexts<'_>,
+    width: u32,
+    hints: Hints,
+) -> Result<(), AllocError>
+    requires width { (1 ≤ width) × (width ≤ WIDTH_LIMIT) }
+    ensures { OnOk result (Appends (SaysSeen width hints (Some texts.now))
+        (string_bytes out.old) (string_bytes out.new)) }
+{
+    match read_problem(alloc, texts) {
+        Ok(problem) => append_of_problem(alloc, out, &problem, width, hints),
+        Err(refusal) => after_refusal(refusal.fault),
+    }
+}
+
+// Nothing is appended of texts that are refused.
+fn after_refusal(fault: TextFault) -> Result<(), AllocError>
+    ensures { OnOk result (is_memory fault ≡ false) }
+{
+    match fault {
+        TextFault::Memory => Err(AllocError),
+        TextFault::Bad { .. } | TextFault::Limit { .. } => Ok(()),
+    }
+}
+
+// Appends it of a problem.
+fn append_of_problem(
+    alloc: Global,
+    out: &mut String,
+    problem: &PlacedProblem,
+    width: u32,
+    hints: Hints,
+) -> Result<(), AllocError>
+    requires width { (1 ≤ width) × (width ≤ WIDTH_LIMIT) }
+    ensures { OnOk result (Appends (SaysSeenOf width hints problem.now) (string_bytes out.old)
+        (string_bytes out.new)) }
+{
+    match crowded_by(alloc, problem, width)? {
+        Some(crowding) => append_crowded(out, problem, &crowding, hints),
+        None => append_order(out, problem, width, hints),
+    }
+}
+
+// Appends that keeping tracks in order may help, where it can.
+fn append_order(
+    out: &mut String,
+    problem: &PlacedProblem,
+    width: u32,
+    hints: Hints,
+) -> Result<(), AllocError>
+    requires width { (1 ≤ width) × (width ≤ WIDTH_LIMIT) }
+    ensures { OnOk result
+        (string_bytes out.new ≡ string_bytes out.old ++ order_said width hints problem.now) }
+{
+    if !hints.order {
+        return Ok(());
+    }
+    if !exchangeable(problem, width) {
+        return Ok(());
+    }
+    out.push_str(
+        "\nTracks may change places here: with --symmetry the search keeps them in one order.",
+    )
+}
+
+// Appends slots that want different tracks, and are more than there are, and what shows that.
+fn append_crowded(
+    out: &mut String,
+    problem: &PlacedProblem,
+    crowding: &Crowding,
+    hints: Hints,
+) -> Result<(), AllocError>
+    ensures { OnOk result (string_bytes out.new ≡ string_bytes out.old
+        ++ (crowding_said problem.now crowding.now ++ count_said hints)) }
+{
+    append_slots(out, problem, crowding)?;
+    append_count(out, hints)?;
+    Ok(())
+}
+
+// Appends that counting shows it, where that may help.
+fn append_count(out: &mut String, hints: Hints) -> Result<(), AllocError>
+    ensures { OnOk result (string_bytes out.new ≡ string_bytes out.old ++ count_said hints) }
+{
+    if !hints.count {
+        return Ok(());
+    }
+    out.push_str("\nWith --count that is shown without a search.")
+}
+
+// Appends slots that want different tracks, and are more than there are.
+fn append_slots(
+    out: &mut String,
+    problem: &PlacedProblem,
+    crowding: &Crowding,
+) -> Result<(), AllocError>
+    ensures { OnOk result (string_bytes out.new
+        ≡ string_bytes out.old ++ crowding_said problem.now crowding.now) }
+{
+    match crowding {
+        Crowding::Cell(row) => append_cell_row(out, problem, row.as_slice()),
+        Crowding::Crowd(row) => append_crowd_row(out, problem, row.as_slice()),
+    }
+}
+
+// Appends slots of one cell.
+fn append_cell_row(out: &mut String, problem: &PlacedProblem, row: &[u32]) -> Result<(), AllocError>
+    ensures { OnOk result (string_bytes out.new ≡ string_bytes out.old
+        ++ (codes "\nMore nets than there are tracks want the cell"
+        ++ (first_cell_said problem.now row.now ++ (codes ":" ++ nets_said problem.now row.now)))) }
+{
+    out.push_str("\nMore nets than there are tracks want the cell")?;
+    append_first_cell(out, problem, row)?;
+    out.push_str(":")?;
+    append_nets(out, problem, row)?;
+    Ok(())
+}
+
+// Appends slots of trees that meet each other.
+fn append_crowd_row(
+    out: &mut String,
+    problem: &PlacedProblem,
+    row: &[u32],
+) -> Result<(), AllocError>
+    ensures { OnOk result (string_bytes out.new ≡ string_bytes out.old
+        ++ (codes "\nUnder subset switch blocks more nets than there are tracks share cells, "
+        ++ (codes "each with each:" ++ nets_said problem.now row.now))) }
+{
+    out.push_str(
+        "\nUnder subset switch blocks more nets than there are tracks share cells, \
+         each with each:",
+    )?;
+    append_nets(out, problem, row)?;
+    Ok(())
+}
+
+// Appends the cell of the first of these slots.
+fn append_first_cell(
+    out: &mut String,
+    problem: &PlacedProblem,
+    row: &[u32],
+) -> Result<(), AllocError>
+    ensures { OnOk result (string_bytes out.new
+        ≡ string_bytes out.old ++ first_cell_said problem.now row.now) }
+{
+    let Some(slot) = row.first() else {
+        return Ok(());
+    };
+    append_cell_of(out, problem, *slot)
+}
+
+// Appends the cell of a slot.
+fn append_cell_of(out: &mut String, problem: &PlacedProblem, slot: u32) -> Result<(), AllocError>
+    ensures { OnOk result (string_bytes out.new
+        ≡ string_bytes out.old ++ slot_cell_said problem.now slot) }
+{
+    let Some(slot) = problem.slots().get(slot as usize) else {
+        return Ok(());
+    };
+    append_cell(out, slot.cell)
+}
+
+// Appends a cell behind a blank.
+fn append_cell(out: &mut String, cell: Cell) -> Result<(), AllocError>
+    ensures { OnOk result (string_bytes out.new ≡ string_bytes out.old ++ cell_said cell) }
+{
+    append_place(out, axis_word(cell.axis), cell.x, cell.y)
+}
+
+// Appends a cell of a channel of this kind behind a blank.
+fn append_place(out: &mut String, axis: &str, x: u32, y: u32) -> Result<(), AllocError>
+    ensures { OnOk result (string_bytes out.new ≡ string_bytes out.old
+        ++ (codes " CHAN" ++ (axis.now ++ (codes " (" ++ (decimal x ++ (codes "," ++ (decimal y
+        ++ codes ")"))))))) }
+{
+    write!(out, " CHAN{axis} ({x},{y})")
+}
+
+// A kind of channel.
+fn axis_word(axis: Axis) -> &'static str
+    ensures { result.now ≡ axis_said axis }
+{
+    match axis {
+        Axis::X => "X",
+        Axis::Y => "Y",
+    }
+}
+
+// Appends the nets of slots, the first of them by name.
+fn append_nets(out: &mut String, problem: &PlacedProblem, row: &[u32]) -> Result<(), AllocError>
+    ensures { OnOk result (string_bytes out.new
+        ≡ string_bytes out.old ++ nets_said problem.now row.now) }
+{
+    if row.len() <= NAME_LIMIT {
+        return append_named(out, problem, row);
+    }
+    append_named(out, problem, &row[..NAME_LIMIT])?;
+    append_more(out, row.len() - NAME_LIMIT)?;
+    Ok(())
+}
+
+// Appends how many more there are than were named.
+fn append_more(out: &mut String, count: usize) -> Result<(), AllocError>
+    ensures { OnOk result (string_bytes out.new
+        ≡ string_bytes out.old ++ (codes " and " ++ (decimal count ++ codes " more"))) }
+{
+    write!(out, " and {count} more")
+}
+
+// Appends the nets of slots, each by name behind a blank.
+fn append_named(out: &mut String, problem: &PlacedProblem, row: &[u32]) -> Result<(), AllocError>
+    ensures { OnOk result (string_bytes out.new
+        ≡ string_bytes out.old ++ flat_map (net_said problem.now) row.now) }
+{
+    for slot in row {
+        append_net(out, problem, *slot)?;
+    }
+    Ok(())
+}
+
+// Appends the net of a slot behind a blank, by name.
+fn append_net(out: &mut String, problem: &PlacedProblem, slot: u32) -> Result<(), AllocError>
+    ensures { OnOk result
+        (string_bytes out.new ≡ string_bytes out.old ++ net_said problem.now slot) }
+{
+    let Some(slot) = problem.slots().get(slot as usize) else {
+        return Ok(());
+    };
+    out.push_str(" ")?;
+    append_name(out, net_name(problem.route(), slot.net))?;
+    Ok(())
+}
+
+// The name of a net by its position among those of a route; empty where there is none.
+fn net_name(route: &RouteText, position: u32) -> &[u8]
+    ensures { result.now ≡ net_name route.now position }
+{
+    let Some(net) = route.nets.as_slice().get(position as usize) else {
+        return b"";
+    };
+    net.name.bytes.as_slice()
+}
