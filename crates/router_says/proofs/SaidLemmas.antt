@@ -3,18 +3,20 @@ use Rattle.std.proofs.Common.{◌≡◌, ℕ, List, ◌++◌, Option, ap, ap₂,
 use Rattle.std.specs.Prelude.{codes}
 use Rattle.desk_io.specs.DeskState.{DeskState}
 use Rattle.router_says.specs.AtFault.{Appends}
-use Rattle.router_says.specs.Said.{IsSaid, Means, Names, about_said, file_about}
+use Rattle.router_says.specs.Said.{IsSaidFor, Means, Names, about_said, file_about}
 use Rattle.router_top.specs.declared.outcome.Outcome.{Outcome}
 use Rattle.router_top.specs.declared.text_file.TextFile.{TextFile}
 use Rattle.router_words.specs.Job.{JobAsked}
+use Rattle.router_words.specs.Word.{Word}
 
-pub said-whole : (before now : DeskState) (asked : Option JobAsked) (outcome : Outcome)
-    (about : Option TextFile) (meaning text old a b c new : List ℕ) → about ≡ file_about outcome →
-    text ≡ meaning → Means asked outcome meaning → a ≡ old ++ about_said asked about →
-    b ≡ a ++ text → Appends (Names before now asked outcome) b c → new ≡ c ++ codes "\n" →
-    IsSaid before now asked outcome old new
-said-whole before now asked outcome about meaning text old a b c new is_about is_text means e1 e2
-    named e3 = record {
+pub said-whole : (before now : DeskState) (words : List Word) (asked : Option JobAsked)
+    (outcome : Outcome) (about : Option TextFile) (meaning text old a b c new : List ℕ) →
+    about ≡ file_about outcome → text ≡ meaning → Means words asked outcome meaning →
+    a ≡ old ++ about_said asked about → b ≡ a ++ text →
+    Appends (Names before now asked outcome) b c → new ≡ c ++ codes "\n" →
+    IsSaidFor before now words asked outcome old new
+said-whole before now words asked outcome about meaning text old a b c new is_about is_text means
+    e1 e2 named e3 = record {
       meaning = meaning;
       named = named.0;
       means = means;
@@ -26,8 +28,8 @@ said-whole before now asked outcome about meaning text old a b c new is_about is
     }
 
 -- the job that was read is what the words ask for
-pub said-asked : (before now : DeskState) (a b : Option JobAsked) (outcome : Outcome)
-    (old new : List ℕ) → a ≡ b → IsSaid before now a outcome old new →
-    IsSaid before now b outcome old new
-said-asked before now a b outcome old new same said =
-    subst (λ (x : Option JobAsked). IsSaid before now x outcome old new) same said
+pub said-asked : (before now : DeskState) (words : List Word) (a b : Option JobAsked)
+    (outcome : Outcome) (old new : List ℕ) → a ≡ b →
+    IsSaidFor before now words a outcome old new → IsSaidFor before now words b outcome old new
+said-asked before now words a b outcome old new same said =
+    subst (λ (x : Option JobAsked). IsSaidFor before now words x outcome old new) same said

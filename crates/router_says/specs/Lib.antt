@@ -3,4 +3,5 @@ pub mod Names
 pub mod NameBytes
 pub mod AtFault
 pub mod Seen
+pub mod Usage
 pub mod Said

@@ -1,22 +1,24 @@
 -- What is said of an outcome that was not asked for.
-use Rattle.std.specs.Prelude.{◌≡◌, ℕ, ◌++◌, ◌*◌, ◌==◌, ⊤, List, [], codes, decimal, false, is_some, min, nat_le, nat_lt, Option, Some, None, true, unwrap_or, if◌then◌else◌}
+use Rattle.std.specs.Prelude.{◌≡◌, ℕ, ◌++◌, ◌*◌, ⊤, List, [], codes, decimal, false, is_some, min, nat_le, nat_lt, Option, Some, None, true, unwrap_or, if◌then◌else◌}
 use Rattle.code_words.specs.Causes.{cause_phrase, refusal_phrase, within_reach_phrase}
 use Rattle.desk_io.specs.DeskState.{DeskState}
 use Rattle.fpga_types.specs.declared.limits.TheConstants.{WIDTH_LIMIT}
 use Rattle.route_symmetry.specs.declared.full.Asymmetry.{Asymmetry}
 use Rattle.route_symmetry.specs.declared.full.Asymmetry.TheVariants.{Inputs, Outputs, Pads, Pattern}
 use Rattle.router_says.specs.AtFault.{NamesSought, sought_of}
-use Rattle.router_says.specs.Names.{OfEach, OfOne, Prefix, file_said, name_of, prefix_of, reach_of}
+use Rattle.router_says.specs.Names.{OfEach, OfOne, Prefix, asked_in, file_said, name_of, prefix_of, reach_of}
 use Rattle.router_says.specs.Seen.{Sees}
+use Rattle.router_says.specs.Usage.{usage_said}
 use Rattle.router_top.specs.declared.outcome.Obstacle.{Obstacle}
 use Rattle.router_top.specs.declared.outcome.Obstacle.TheVariants.{Order, Pins}
 use Rattle.router_top.specs.declared.outcome.Outcome.{Outcome}
-use Rattle.router_top.specs.declared.outcome.Outcome.TheVariants.{NotAccepted, NotLegal, NotSymmetric, InputFault, Limit, ReadFault, Undecided, Unroutable, WriteFault, OutOfMemory}
+use Rattle.router_top.specs.declared.outcome.Outcome.TheVariants.{NotAccepted, NotLegal, NotSymmetric, InputFault, Limit, ReadFault, Undecided, Unroutable, WriteFault, Usage, OutOfMemory}
 use Rattle.router_top.specs.declared.slot.Slot.{Slot as SlotOf}
 use Rattle.router_top.specs.declared.slot.Slot.TheVariants.{Said as SaidSlot}
 use Rattle.router_top.specs.declared.text_file.TextFile.{TextFile}
 use Rattle.router_top.specs.declared.text_file.TextFile.TheVariants.{Lrat, Routed}
 use Rattle.router_words.specs.Job.{JobAsked}
+use Rattle.router_words.specs.Word.{Word}
 use Rattle.router_words.specs.declared.limits.TheConstants.{BUDGET_LIMIT}
 
 -- the file that an outcome is about, if it is about one
@@ -215,37 +217,26 @@ unwritten_said slot =
     codes "The system refused to write what this run leaves: is there a folder of this name, "
     ++ codes "with room and the right to write?"
 
--- ---- words that are not taken
-
--- what is wrong with them; which options clash is told
-abbrev pub usage_why : (code : ℕ) → (clash : List ℕ) → List ℕ
-usage_why code clash =
-    if code == 1 then
-    codes "The first word is to be a command: route, sweep, encode, core, check, verify, gen or "
-    ++ codes "trial.\n" else
-    if code == 3 then codes "A number is missing or out of its range.\n" else
-    if code == 4 then clash else
-    codes "The command does not take these words.\n"
-
 -- ---- the whole
 
 -- a text says what is wrong, and why
-abbrev pub Means : Option JobAsked → Outcome → List ℕ → Type 0
-Means asked (NotAccepted step cause) text = text ≡ step_said step cause (step_why cause)
-Means asked (NotLegal line cause) text =
+abbrev pub Means : List Word → Option JobAsked → Outcome → List ℕ → Type 0
+Means words asked (NotAccepted step cause) text = text ≡ step_said step cause (step_why cause)
+Means words asked (NotLegal line cause) text =
     text ≡ judged_said line cause (judged_why (reach_of asked) cause)
-Means asked (InputFault file line code) text = text ≡ line_said line code (line_why code)
-Means asked (Limit file code count) text =
+Means words asked (InputFault file line code) text = text ≡ line_said line code (line_why code)
+Means words asked (Limit file code count) text =
     text ≡ limit_gap file ++ limit_said code count (limit_why code)
-Means asked (NotSymmetric width why) text = text ≡ obstacle_said width why
-Means asked (Unroutable width) text = text ≡ unroutable_said asked width
-Means asked (Undecided width learned) text = text ≡ undecided_said asked width learned
-Means asked (WriteFault slot) text = text ≡ unwritten_said slot
-Means asked OutOfMemory text = text ≡ memory_said (prefix_of asked)
-Means asked _ text = ⊤
+Means words asked (NotSymmetric width why) text = text ≡ obstacle_said width why
+Means words asked (Unroutable width) text = text ≡ unroutable_said asked width
+Means words asked (Undecided width learned) text = text ≡ undecided_said asked width learned
+Means words asked (WriteFault slot) text = text ≡ unwritten_said slot
+Means words asked (Usage code) text = text ≡ usage_said words code
+Means words asked OutOfMemory text = text ≡ memory_said (prefix_of asked)
+Means words asked _ text = ⊤
 
--- what is at fault in a file is named, where its code alone does not tell; the files are read once
--- more for it
+-- what is at fault in a file is named, where its code alone does not tell, and of a width what is
+-- seen without a search; the files are read once more for it
 abbrev pub Names : (before now : DeskState) → Option JobAsked → Outcome → List ℕ → Type 0
 Names before now asked (InputFault file line code) named =
     NamesSought before now (name_of asked) line (sought_of file code) named
@@ -253,12 +244,17 @@ Names before now asked (Unroutable width) named = Sees before now asked width fa
 Names before now asked (Undecided width learned) named = Sees before now asked width true named
 Names before now asked _ named = named ≡ []
 
--- after what stood in a text comes the file that is meant, then what is wrong, what is at fault,
--- and a newline
-pub record IsSaid (before now : DeskState) (asked : Option JobAsked) (outcome : Outcome)
-    (old new : List ℕ) : Type 0 where
+-- after what stood in a text comes the file that is meant, then what is wrong, what is at fault or
+-- is seen, and a newline
+pub record IsSaidFor (before now : DeskState) (words : List Word) (asked : Option JobAsked)
+    (outcome : Outcome) (old new : List ℕ) : Type 0 where
   pub meaning : List ℕ
   pub named : List ℕ
-  pub means : Means asked outcome meaning
+  pub means : Means words asked outcome meaning
   pub names : Names before now asked outcome named
   pub text : new ≡ old ++ about_said asked (file_about outcome) ++ meaning ++ named ++ codes "\n"
+
+-- it is what is to be said of a run with these words
+abbrev pub IsSaid : (before now : DeskState) → List Word → Outcome → (old new : List ℕ) → Type 0
+IsSaid before now words outcome old new =
+    IsSaidFor before now words (asked_in words) outcome old new

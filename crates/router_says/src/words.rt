@@ -12,7 +12,7 @@ ghost use Rattle.std.specs.Prelude.{
 };
 ghost use Rattle.std.specs.Option.{option_copied};
 ghost use Rattle.router_says.specs.AtFault.{Appends};
-ghost use Rattle.router_says.specs.Names.{asked, asked_in, prefix_of};
+ghost use Rattle.router_says.specs.Names.{asked, prefix_of};
 ghost use Rattle.router_says.specs.Quiet.{is_quiet};
 ghost use Rattle.router_says.specs.Said.{
   IsSaid,
@@ -35,6 +35,7 @@ ghost use Rattle.router_says.specs.Said.{
   unroutable_said,
   unwritten_said,
 };
+ghost use Rattle.router_says.specs.Usage.{usage_said};
 ghost use Rattle.router_words.specs.Word.{words_of};
 
 use crate::at_fault::append_at_fault;
@@ -58,7 +59,7 @@ use std::rt::Files;
 /// for, and in each other case something.
 ///
 /// After a read fault it asks the system for the file once more, to tell why it is not read; and
-/// where a code leaves one searching, the desk for the files that have the name.
+/// where a code leaves one searching, or a width has no routing or is open, the desk for the files.
 pub fn append_words<R: Files + AllocGlobal, D: Desk>(
     rt: &R,
     desk: &mut D,
@@ -69,7 +70,7 @@ pub fn append_words<R: Files + AllocGlobal, D: Desk>(
     ensures quiet { IsTrue (is_quiet outcome.now) →
         IsOk result × (string_bytes out.new ≡ string_bytes out.old) }
     ensures said { OnOk result (is_quiet outcome.now ≡ false → IsSaid (D.state desk.old)
-        (D.state desk.new) (asked_in (words_of words.now)) outcome.now (string_bytes out.old)
+        (D.state desk.new) (words_of words.now) outcome.now (string_bytes out.old)
         (string_bytes out.new)) }
 {
     if came_as_asked(outcome) {
@@ -141,7 +142,8 @@ fn append_about(
     append_file(out, job, file)
 }
 
-// Appends the name of what is at fault in a file, where its code does not tell.
+// Appends the name of what is at fault in a file, where its code does not tell, or what is seen of
+// a width without a search.
 fn append_named<D: Desk>(
     alloc: Global,
     desk: &mut D,
@@ -180,7 +182,8 @@ fn meaning<R: Files + AllocGlobal>(
     job: Option<Job<'_>>,
     outcome: &Outcome,
 ) -> Result<String, AllocError>
-    ensures { IfOk result (λ text. Means (asked job.entry) outcome.now (string_bytes text)) }
+    ensures { IfOk result (λ text. Means (words_of words.now) (asked job.entry) outcome.now
+        (string_bytes text)) }
 {
     match *outcome {
         Outcome::NotAccepted { step, cause } => refused_step(rt.alloc(), step, cause),
@@ -307,7 +310,9 @@ fn undecided(
 }
 
 // Which words a command takes.
-fn usage(alloc: Global, words: &[String], code: u32) -> Result<String, AllocError> {
+fn usage(alloc: Global, words: &[String], code: u32) -> Result<String, AllocError>
+    ensures { IfOk result (λ text. string_bytes text ≡ usage_said (words_of words.now) code) }
+{
     let mut text = String::new(alloc);
     append_usage(&mut text, words, code)?;
     Ok(text)
