@@ -1,13 +1,9 @@
-//! Tests of the commands: their words, what they come to over files in memory, and what is then
-//! said to the person; and of searches at a width and up to one, over a few clauses. They stand on
-//! public calls alone, so that no crate under test is proved a second time.
+//! Tests of what is said to a person: of an outcome of a run, and of what the crates below refuse.
+//! They stand on public calls alone, so that no crate under test is proved a second time. What the
+//! commands come to over files in memory, and which words they take, are rows of `router_rows`.
 #![tactic(auto)]
 
 #[cfg(test)]
-mod commands;
+mod errors;
 #[cfg(test)]
 mod said;
-#[cfg(test)]
-mod sweep;
-#[cfg(test)]
-mod words;
