@@ -1,6 +1,6 @@
 -- What the tests attach, and what it leaves.
-use Rattle.std.proofs.Common.{◌≡◌, ◌≢◌, ℕ, zero, suc, pos, negsuc, ◌<◌, ◌≤◌, true, inl, inr, List, [], ◌∷◌, ◌++◌, length, map, get_or, slice_index_or, Result, Ok, Err, refl, sym, ap, ◌∙◌, subst, arith}
-use Rattle.std.specs.Prelude.{IfOk, OnErr, OnOk}
+use Rattle.std.proofs.Common.{◌≡◌, ◌≢◌, ℕ, zero, suc, pos, negsuc, ◌<◌, ◌≤◌, true, inl, inr, List, [], ◌∷◌, ◌++◌, length, map, get_or, slice_index_or, Result, Ok, Err, Option, Some, None, refl, sym, ap, ◌∙◌, subst, arith}
+use Rattle.std.specs.Prelude.{IfOk, IfSome, OnErr, OnOk}
 use Rattle.std.specs.declared.alloc.AllocError.{AllocError}
 use Rattle.std.proofs.lemmas.List.Sorted.{Contains-permutation, IsPermutation-sym}
 use Rattle.sat_clause.specs.declared.literal.Lit.{Lit}
@@ -13,8 +13,9 @@ use Rattle.sat_watch.specs.Chains.{lit_at}
 use Rattle.sat_watch.specs.Forget.{entry_moved, forgotten, moved_to, without}
 use Rattle.search_tests.specs.WatchStates.{IsAtStart, IsDueFor, first_decided}
 use Rattle.sat_watch.specs.Watched.{IsReason, is_false}
-use Rattle.sat_watch.specs.Watches.{Attached, Attaches, HasOneOpen, HasTwoFree, IsOnlyOne, WatchState, is_attached, lits_at}
+use Rattle.sat_watch.specs.Watches.{Attached, Attaches, HasOneOpen, HasTwoFree, IsOnlyOne, WatchState, first_attached, is_attached, lits_at}
 use Rattle.sat_watch.proofs.ChoiceLemmas.{at_contains, other_at}
+use Rattle.sat_core.proofs.DoomedLaws.{first_is}
 
 -- where nothing is true, two literals are not false
 pub free_at_start : (n : ℕ) (entries : List TrailEntry) (lits : Clause) → entries ≡ [] →
@@ -79,6 +80,12 @@ stays_attached old new lits id (Ok c) ok err d is =
     (record { place = c; id = id; lits = ok.order }) d is
 stays_attached old new lits id (Err e) ok err d is =
     ap (λ (s : WatchState). is_attached s.clauses d) err ∙ is
+
+-- the clause that stands first is one of them
+pub first_stands : (ks : List Attached) (found : Option ClauseRef) → found ≡ first_attached ks →
+    IfSome found (λ c. is_attached ks c ≡ true)
+first_stands ks (Some c) is = first_is ks c (sym is)
+first_stands ks None is = tt
 
 -- nothing is true after clauses were forgotten
 pub forgets_at_start : (n : ℕ) (old new : WatchState) (refs : List ClauseRef)

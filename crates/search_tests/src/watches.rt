@@ -65,39 +65,58 @@ fn forget(watches: &mut Watches, alloc: Global, vars: u32, c: ClauseRef) -> Resu
     watches.forget(alloc, &[c, c])
 }
 
-/// Goes back to level 0, where nothing is true.
-fn start_again(rt: &impl Abort, watches: &mut Watches, vars: u32)
-    requires vars { watches.old.vars ≡ vars }
-    requires queued { watches.old.queued ≡ 0 }
-    requires due { watches.old.due ≡ None }
-    ensures { IsAtStart vars watches.new }
+/// Decides that variable 1 is false, and says whether no clause is false then.
+fn denies_first(watches: &mut Watches) -> bool
+    requires { IsAtStart 3 watches.old }
+    ensures { watches.new.vars ≡ 3 }
 {
-    watches.back_to(0);
-    assert_eq!(rt; watches.level(), 0);
-    assert!(rt; watches.trail().is_empty());
+    watches.assume(Lit { code: -1 });
+    let mut looks = 0;
+    watches.propagate(&mut looks).is_none()
 }
 
-/// The second literal becomes true where the first is false, and then the third; a clause of their
-/// negations is false then.
+/// Whether variable 2 is true, and variable 3 has this value.
+fn has_values(watches: &Watches, third: bool) -> bool
+    requires { watches.now.vars ≡ 3 }
+{
+    matches!(watches.value(Lit { code: 2 }), Some(true))
+        && matches!(watches.value(Lit { code: 3 }), Some(value) if value == third)
+}
+
+/// The second literal becomes true where the first is false, and then the third.
+fn chain(rt: &impl Abort, watches: &mut Watches) -> Result<(), AllocError>
+    requires { IsAtStart 3 watches.old }
+{
+    attach(watches, 3, &two(3, 1, 2), 1)?;
+    attach(watches, 3, &two(3, -2, 3), 2)?;
+    assert!(rt; denies_first(watches));
+    assert!(rt; watches.level() == 1 && watches.trail().len() == 3);
+    assert!(rt; has_values(watches, true));
+    Ok(())
+}
+
+#[test]
+fn chains_make_literals_true(rt: HostRuntime) -> Result<(), Fail> {
+    let mut watches = start(rt.alloc(), 3)?;
+    chain(&rt, &mut watches)?;
+    Ok(())
+}
+
+/// A clause of their negations is false then.
+fn chain_to_a_false_clause(rt: &impl Abort, watches: &mut Watches) -> Result<(), AllocError>
+    requires { IsAtStart 3 watches.old }
+{
+    attach(watches, 3, &two(3, 1, 2), 1)?;
+    attach(watches, 3, &two(3, -2, 3), 2)?;
+    attach(watches, 3, &two(3, -3, -2), 3)?;
+    assert!(rt; !denies_first(watches));
+    Ok(())
+}
+
 #[test]
 fn chains_lead_to_a_false_clause(rt: HostRuntime) -> Result<(), Fail> {
-    let mut looks = 0;
     let mut watches = start(rt.alloc(), 3)?;
-    attach(&mut watches, 3, &two(3, 1, 2), 1)?;
-    let c = attach(&mut watches, 3, &two(3, -2, 3), 2)?;
-    assert_eq!(rt; watches.id(c), 2);
-    assert_eq!(rt; watches.lits(c).len(), 2);
-    watches.assume(Lit { code: -1 });
-    assert!(rt; watches.propagate(&mut looks).is_none());
-    assert_eq!(rt; watches.level(), 1);
-    assert_eq!(rt; watches.trail().len(), 3);
-    assert_eq!(rt; watches.value(Lit { code: 2 }), Some(true));
-    assert_eq!(rt; watches.value(Lit { code: -3 }), Some(false));
-    start_again(&rt, &mut watches, 3);
-    assert!(rt; watches.value(Lit { code: 2 }).is_none());
-    attach(&mut watches, 3, &two(3, -3, -2), 3)?;
-    watches.assume(Lit { code: -1 });
-    assert!(rt; watches.propagate(&mut looks).is_some());
+    chain_to_a_false_clause(&rt, &mut watches)?;
     Ok(())
 }
 
@@ -111,30 +130,38 @@ fn third_literal_is_not_looked_at(rt: HostRuntime) -> Result<(), Fail> {
     }
     watches.assume(Lit { code: -1 });
     assert!(rt; watches.propagate(&mut looks).is_none());
-    assert_eq!(rt; looks, 0);
+    assert!(rt; looks == 0);
     Ok(())
 }
 
+/// Attaches three clauses, of which the second stands before the third, and forgets it.
+fn forget_second(rt: &impl Abort, watches: &mut Watches, alloc: Global) -> Result<(), AllocError>
+    requires { IsAtStart 3 watches.old }
+    ensures { IsAtStart 3 watches.new }
+{
+    attach(watches, 3, &two(3, 1, 2), 1)?;
+    let c = attach(watches, 3, &two(3, -2, 3), 2)?;
+    let d = attach(watches, 3, &two(3, -2, -3), 3)?;
+    assert!(rt; d.word == 16 && watches.behind(c) == Some(d));
+    forget(watches, alloc, 3, c)
+}
+
 /// A clause that is gone makes nothing true, and the one behind it has taken its place.
+fn follow_third(rt: &impl Abort, watches: &mut Watches)
+    requires { IsAtStart 3 watches.old }
+{
+    assert!(rt; denies_first(watches));
+    assert!(rt; has_values(watches, false));
+    let trail = watches.trail();
+    assert!(rt; trail.len() == 3);
+    assert!(rt; trail[2].reason == Some(ClauseRef { word: 8 }));
+}
+
 #[test]
 fn clause_is_forgotten(rt: HostRuntime) -> Result<(), Fail> {
-    let mut looks = 0;
     let mut watches = start(rt.alloc(), 3)?;
-    attach(&mut watches, 3, &two(3, 1, 2), 1)?;
-    let c = attach(&mut watches, 3, &two(3, -2, 3), 2)?;
-    let d = attach(&mut watches, 3, &two(3, -2, -3), 3)?;
-    assert_eq!(rt; d.word, 16);
-    assert!(rt; watches.first().is_some());
-    assert_eq!(rt; watches.behind(c), Some(d));
-    assert!(rt; watches.behind(d).is_none());
-    forget(&mut watches, rt.alloc(), 3, c)?;
-    watches.assume(Lit { code: -1 });
-    assert!(rt; watches.propagate(&mut looks).is_none());
-    assert_eq!(rt; watches.value(Lit { code: 2 }), Some(true));
-    assert_eq!(rt; watches.value(Lit { code: 3 }), Some(false));
-    let trail = watches.trail();
-    assert_eq!(rt; trail.len(), 3);
-    assert_eq!(rt; trail[2].reason, Some(ClauseRef { word: 8 }));
+    forget_second(&rt, &mut watches, rt.alloc())?;
+    follow_third(&rt, &mut watches);
     Ok(())
 }
 
@@ -147,21 +174,28 @@ fn attach_due(watches: &mut Watches) -> Result<ClauseRef, AllocError>
 }
 
 /// It makes its literal true next, at the level of the decision.
-#[test]
-fn due_clause_makes_its_literal_true(rt: HostRuntime) -> Result<(), Fail> {
-    let mut looks = 0;
-    let mut watches = Watches::new(rt.alloc(), Arena::new(rt.alloc()), 2)?;
-    watches.assume(Lit { code: 1 });
-    let c = attach_due(&mut watches)?;
+fn follow_due(rt: &impl Abort, watches: &mut Watches) -> Result<(), AllocError>
+    requires { watches.old ≡ first_decided }
+{
+    let c = attach_due(watches)?;
     watches.imply(Lit { code: 2 }, c);
     let trail = watches.trail();
-    assert_eq!(rt; trail.len(), 2);
+    assert!(rt; trail.len() == 2);
     let entry = TrailEntry {
         lit: Lit { code: 2 },
         level: 1,
         reason: Some(c),
     };
-    assert_eq!(rt; trail[1], entry);
+    assert!(rt; trail[1] == entry);
+    let mut looks = 0;
     assert!(rt; watches.propagate(&mut looks).is_none());
+    Ok(())
+}
+
+#[test]
+fn due_clause_makes_its_literal_true(rt: HostRuntime) -> Result<(), Fail> {
+    let mut watches = Watches::new(rt.alloc(), Arena::new(rt.alloc()), 2)?;
+    watches.assume(Lit { code: 1 });
+    follow_due(&rt, &mut watches)?;
     Ok(())
 }
