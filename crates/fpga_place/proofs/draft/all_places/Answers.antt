@@ -53,7 +53,8 @@ loop-i-preserved c =
     let draft = places_alone c.args.blocks.now c.args.places.now in
     let xs = c.as_slice-named.result.now in
     let b = c.index-named-i.result in
-    let at = slice_get_read xs (length xs) c.loop-i.i b refl c.loop-i-test.true c.index-named-i.is in
+    let at = slice_get_read xs (length xs) c.loop-i.i b refl c.loop-i-test.true
+    c.index-named-i.is in
     let is = c.in-Some.ensures
     ∙ ap (placed draft) (c.as_slice.ensures ∙ ap (λ (x : Block). x.name) c.block.view_is) in
     record {

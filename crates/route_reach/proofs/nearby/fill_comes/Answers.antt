@@ -46,7 +46,8 @@ pub loop-near-preserved : goal.loop-near-preserved
 loop-near-preserved c =
     let pushed = c.push-in-loop-near.ensures in
     record {
-      row = pushed ∙ ap (λ (l : Lit). c.loop-near.row ++ l ∷ []) c.reached-in-loop-near.ensures.value
+      row = pushed
+          ∙ ap (λ (l : Lit). c.loop-near.row ++ l ∷ []) c.reached-in-loop-near.ensures.value
           ∙ comes_next c.args.variables.wires c.args.variables.reach c.args.wire c.args.joins
           c.args.beside.now c.loop-near.near-index c.loop-near.row c.loop-near-test.true
           c.loop-near.invariant.row;

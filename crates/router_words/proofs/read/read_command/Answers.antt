@@ -1,4 +1,4 @@
-use Rattle.std.proofs.Common.{◌≡◌, ◌∙◌, true, List, Option, None, Some, ap, refl, subst, sym}
+use Rattle.std.proofs.Common.{◌≡◌, ◌∙◌, true, List, Option, Some, ap, refl, subst, sym}
 use Rattle.std.specs.Option.{option_map_or}
 use Rattle.std.specs.Prelude.{Err, IfSome, Result}
 use Rattle.clap.specs.Words.{App, Row, app_of, matches_of}
@@ -39,7 +39,8 @@ taken_job : (row : CommandRow) (words : List Word) (rows : List Row)
 taken_job row words rows t = rw t.taken (ap row.job (sym t.found))
 
 -- a form that does not take the words
-refused_job : (row : CommandRow) (words : List Word) (fault : WordsFault) (asked : Result JobAsked Refusal)
+refused_job : (row : CommandRow) (words : List Word) (fault : WordsFault)
+    (asked : Result JobAsked Refusal)
     → Takes row.form words (Err fault) → asked ≡ command_job row words → Answers asked (Err fault)
 refused_job row words (Refused refusal) asked t is = is ∙ rw (t.1, t.0) refl
 refused_job row words Memory asked t is = tt
@@ -74,10 +75,12 @@ pub returns-in-Ok-job-clause-answers : goal.returns-in-Ok-job-clause-answers
 returns-in-Ok-job-clause-answers c =
     let words = words_of c.args.words.now in
     behind c.args.name.now words (row_of c.in-Some.command) c.in-Some.ensures
-    ∙ taken_job (row_of c.in-Some.command) words _ (rw c.in-Ok.ensures at c.in-Ok-take.ensures) ∙ sym c.in-Ok-job.ensures
+    ∙ taken_job (row_of c.in-Some.command) words _ (rw c.in-Ok.ensures at c.in-Ok-take.ensures)
+    ∙ sym c.in-Ok-job.ensures
 
 pub returns-clause-answers : goal.returns-clause-answers
 returns-clause-answers c =
     let words = words_of c.args.words.now in
     behind c.args.name.now words (row_of c.in-Some.command) c.in-Some.ensures
-    ∙ taken_job (row_of c.in-Some.command) words _ (rw c.in-Ok.ensures at c.in-Ok-take.ensures) ∙ sym c.in-Err-job.ensures
+    ∙ taken_job (row_of c.in-Some.command) words _ (rw c.in-Ok.ensures at c.in-Ok-take.ensures)
+    ∙ sym c.in-Err-job.ensures

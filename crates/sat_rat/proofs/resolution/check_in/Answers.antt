@@ -1,4 +1,4 @@
-use Rattle.std.proofs.Common.{◌≡◌, ◌∙◌, ◌++◌, [], ◌∷◌, false, true, List, ℤ, Option, Some, None, slice_get, append-nil, ap, refl, sym}
+use Rattle.std.proofs.Common.{◌≡◌, ◌∙◌, ◌++◌, [], ◌∷◌, false, true, List, ℤ, Option, Some, None, slice_get, append-nil, ap, refl}
 use Rattle.std.specs.Prelude.{IfSome, IsNone, is_some}
 use Rattle.std.proofs.lemmas.Result.{IfOk-weaker}
 use Rattle.sat_clause.specs.Live.{Live}
@@ -16,8 +16,10 @@ leads_in_full : (live : Live) (clause : Clause) (hints : List ℤ) (set none oth
     r ≡ lead live (set ++ other) hints (resolution_fault live clause (groups_of hints)) →
     r ≡ full_rup live clause hints
 leads_in_full live clause hints set none other e f is r led =
-    let all : set ++ other ≡ clause = rw (is, e, f) (append-nil (clause ++ []) ∙ append-nil clause) in
-    led ∙ ap (λ (s : List Lit). lead live s hints (resolution_fault live clause (groups_of hints))) all
+    let all : set ++ other ≡ clause =
+    rw (is, e, f) (append-nil (clause ++ []) ∙ append-nil clause) in
+    led ∙ ap (λ (s : List Lit). lead live s hints
+    (resolution_fault live clause (groups_of hints))) all
 
 is_none : {T : Type 0} (o : Option T) → false ≡ is_some o → IsNone o
 is_none None none = refl

@@ -1,5 +1,5 @@
 use borrow.Author.Tests.{ltb-false, ltb-true}
-use Rattle.std.proofs.Common.{◌≡◌, ◌∙◌, ◌≤◌, Bool, true, false, ap, length, refl, sym}
+use Rattle.std.proofs.Common.{◌≡◌, ◌∙◌, Bool, true, false, ap, length, refl, sym}
 use Rattle.std.specs.Prelude.{◌&&◌}
 use Rattle.std.proofs.lemmas.Option.{slice_get_past}
 use Rattle.fpga_types.specs.Boxes.{opens}
@@ -23,7 +23,8 @@ no_pin : (arch : Arch) (grid : Size) (pin : PinAt) (cell : Cell) (opened : Bool)
     has_pin arch pin ≡ false → false ≡ (touches arch grid pin cell && opened)
 no_pin arch grid (Pad x y sub) cell opened none = cc
 no_pin arch grid (Pin x y pin) cell opened none =
-    rw (slice_get_past arch.pins pin (ltb-false pin (length arch.pins) none)) (by (is_cell grid cell))
+    rw (slice_get_past arch.pins pin (ltb-false pin (length arch.pins) none))
+    (by (is_cell grid cell))
   where
     by : (b : Bool) → false ≡ ((b && false) && opened)
     by true = refl
@@ -52,5 +53,5 @@ returns-then-touches c = rw (← c.self.view_is) (c.opens.ensures.found
 
 pub returns-else-touches : goal.returns-else-touches
 returns-else-touches c = rw (← c.self.view_is)
-    (c.if-touches.false ∙ ap (λ (b : Bool). b && opens c.self.inside.arch.now c.self.inside.width c.args.pin
-    c.args.wire.track) c.if-touches.ensures.found)
+    (c.if-touches.false ∙ ap (λ (b : Bool). b && opens c.self.inside.arch.now c.self.inside.width
+    c.args.pin c.args.wire.track) c.if-touches.ensures.found)
