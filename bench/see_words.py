@@ -7,7 +7,8 @@ Runs the cases of crates/router_rows/data on files of a folder of its own, those
 prints each kind of report that came (its numbers but the code left out) with the words that went with it, once.
 Says last how many runs came out as their case asks: status, standard output, and the bytes of the files, where
 no file that was read has changed; and the words on a width without a routing, or on an open one, as seen_words.py
-reckons them from the files. That is a test of what no contract speaks of: `main` and the files of the system. With --quiet only what came out otherwise is printed, and the last line.
+reckons them from the files. That is a test of what no contract speaks of: `main` and the files of the system. With
+--quiet only what came out otherwise is printed, and the last line.
 """
 import argparse
 import collections
