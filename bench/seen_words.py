@@ -1,8 +1,8 @@
 """What is to be said on standard error of a width without a routing, or of one that is open, by plain lists.
 
 The files that refute it, or what can be tried next; then what is seen without a search: a cell that more nets want
-than there are tracks; under subset switch blocks a crowd of nets that share cells, each with each, and are more; which
-option helps.
+than there are tracks; under subset switch blocks a crowd of nets that share cells, each with each, and are more, or
+else a net whose pins open no track in common; which option helps.
 """
 import re
 from collections import Counter
@@ -14,6 +14,7 @@ BUDGET_LIMIT, WIDTH_LIMIT, NAMED = 100_000_000, 64, 10
 START_LIMIT, CROWD_LIMIT = 512, 128
 CELL_LEAD = "More nets than there are tracks want the cell "
 CROWD_LEAD = "Under subset switch blocks more nets than there are tracks share cells, each with each:"
+PIN = re.compile(r"\((\d+),(\d+)\)(Pin|Pad):(\d+)")
 COUNT = "With --count that is shown without a search."
 ORDER = "Tracks may change places here: with --symmetry the search keeps them in one order."
 
@@ -92,12 +93,12 @@ class Slots:
     """The slots of a route, each a net and a cell, in the order of their first lines, and the trees that steps make."""
 
     def __init__(self, route):
-        self.names, self.slots, self.steps = [], [], []
-        number, last = {}, None
+        self.names, self.slots, self.steps, self.pin_steps = [], [], [], []
+        number, last, pin = {}, None, None
         for line in lines_of(route):
             if line[:1] == ["Net"]:
                 self.names.append(said_name(re.sub(r"\):?$", "", line[2][1:])))
-                last = None
+                last, pin = None, None
             elif line and line[0] in ("CHANX", "CHANY"):
                 slot = len(self.names) - 1, f"{line[0]} {''.join(line[1:]).split('Track')[0]}"
                 if slot not in number:
@@ -105,9 +106,17 @@ class Slots:
                     self.slots.append(slot)
                 if last is not None:
                     self.steps.append((last, number[slot]))
-                last = number[slot]
-            elif line:
+                if pin is not None:
+                    self.pin_steps.append((pin, number[slot]))
+                last, pin = number[slot], None
+            elif line and line[0] in ("OPIN", "IPIN"):
+                x, y, kind, which = PIN.match("".join(line[1:])).groups()
+                pin = kind, int(x), int(y), int(which)
+                if last is not None:
+                    self.pin_steps.append((pin, last))
                 last = None
+            elif line:
+                last, pin = None, None
 
     def name_of(self, slot):
         return self.names[self.slots[slot][0]]
@@ -124,8 +133,19 @@ class Slots:
 
     def listed(self, row):
         """The names of the nets of these slots, no more than ten of them."""
-        more = f" and {len(row) - NAMED} more" if len(row) > NAMED else ""
-        return "".join(f" {self.name_of(slot)}" for slot in row[:NAMED]) + more
+        return listed([self.name_of(slot) for slot in row])
+
+    def trackless_line(self, arch, width):
+        """The line about the first tree that no track serves, if there is one."""
+        roots, boxes = self.roots(), Boxes(arch, width)
+        pins = {}
+        for pin, slot in self.pin_steps:
+            pins.setdefault(roots[slot], []).append(pin)
+        for tree in sorted(pins):
+            if not set.intersection(*map(boxes.opened, pins[tree])):
+                net, places = self.name_of(tree), listed([f"({x},{y})" for _, x, y, _ in pins[tree]])
+                return f"No track serves the net {net} even alone: its pins at{places} open none in common."
+        return None
 
     def crowded_cell(self, width):
         """The line about the first cell that comes to more slots than tracks, if there is one."""
@@ -171,15 +191,35 @@ class Crowd:
         return max(rows, key=len, default=[])
 
 
-def boxes_are_full(arch, width):
-    """Whether the boxes of output pins, input pins and pads open each track."""
-    fractional = arch["Fc_type"] == "fractional"
-    for box in ("Fc_output", "Fc_input", "Fc_pad"):
-        share = Decimal(arch[box])
-        count = int((share * width).to_integral_value(ROUND_HALF_UP)) if fractional else int(share)
-        if max(count, 1) < width:
-            return False
-    return True
+def listed(words):
+    """The words, each behind a blank, no more than ten of them."""
+    more = f" and {len(words) - NAMED} more" if len(words) > NAMED else ""
+    return "".join(f" {word}" for word in words[:NAMED]) + more
+
+
+class Boxes:
+    """The connection boxes of an architecture at a width: how many tracks a pin opens, and which."""
+
+    def __init__(self, arch, width):
+        self.values, self.width = values_of(arch), width
+        kinds = [line[0] for line in lines_of(arch) if line and line[0] in ("inpin", "outpin")]
+        self.box_of = ["Fc_input" if kind == "inpin" else "Fc_output" for kind in kinds]
+
+    def count(self, box):
+        share = Decimal(self.values[box])
+        if self.values["Fc_type"] == "fractional":
+            share = (share * self.width).to_integral_value(ROUND_HALF_UP)
+        return min(max(int(share), 1), self.width)
+
+    @property
+    def are_full(self):
+        return all(self.count(box) == self.width for box in ("Fc_output", "Fc_input", "Fc_pad"))
+
+    def opened(self, pin):
+        """The tracks that the pin opens, spread evenly from that of its number on."""
+        kind, _, _, number = pin
+        count = self.count("Fc_pad" if kind == "Pad" else self.box_of[number])
+        return {(k * self.width // count + number) % self.width for k in range(count)}
 
 
 def values_of(arch):
@@ -190,14 +230,17 @@ def seen_lines(words, is_open, width, files):
     """What is seen without a search of the problem of the files, where there are files and no reach."""
     if words.command not in ("route", "sweep", "core") or "--reach" in words.options:
         return []
-    arch, slots = values_of(files[words.plain[0]]), Slots(files[words.plain[3]])
-    blocks = arch["switch_block_type"]
+    arch, slots = files[words.plain[0]], Slots(files[words.plain[3]])
+    blocks = values_of(arch)["switch_block_type"]
     crowded = slots.crowded_cell(width) or (slots.crowd_line(width) if blocks == "subset" else None)
     searches = words.command != "core"
     if crowded:
         return [crowded] + ([COUNT] if searches and "--count" not in words.options else [])
+    trackless = slots.trackless_line(arch, width) if blocks == "subset" else None
+    if trackless:
+        return [trackless]
     may_order = is_open and searches and not {"--pin", "--symmetry"} & set(words.options)
-    if may_order and blocks in ("subset", "universal") and boxes_are_full(arch, width):
+    if may_order and blocks in ("subset", "universal") and Boxes(arch, width).are_full:
         return [ORDER]
     return []
 

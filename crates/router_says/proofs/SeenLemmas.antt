@@ -1,7 +1,8 @@
 -- What was appended of a width, by what is seen without a search, is what is to be said of it.
-use Rattle.std.proofs.Common.{rules, ◌≡◌, ℕ, List, [], Bool, true, false, Option, Some, None, inl, inr, refl, ap, sym, subst, ◌∙◌, append-nil}
-use Rattle.std.specs.Prelude.{IsNone, Vec, option_map}
+use Rattle.std.proofs.Common.{rules, ◌≡◌, ℕ, List, [], Bool, true, false, Option, Some, None, inl, inr, refl, ap, sym, subst, ◌∙◌, ◌++◌, append-nil, append_assoc}
+use Rattle.std.specs.Prelude.{IfSome, IsNone, Vec, option_map}
 use Rattle.std.specs.Global.{Global}
+use Rattle.list_laws.proofs.Places.{some_is}
 use Rattle.desk_io.specs.DeskState.{DeskState}
 use Rattle.desk_io.specs.Files.{Bytes}
 use Rattle.fpga_problem.specs.Refused.{IsRefused}
@@ -22,6 +23,20 @@ use Rattle.router_words.specs.Job.{JobAsked}
 pub where-none : {X A : Type 0} (found : Option X) → found ≡ None → (IsNone found → A) → A
 where-none None is says = says (search rules)
 where-none (Some x) is says = absurd (let clash : Some x ≡ None = is in cc)
+
+-- what holds of what is there
+pub where-some : {X : Type 0} (P : X → Type 0) (found : Option X) (x : X) → found ≡ Some x →
+    IfSome found P → P x
+where-some P None x is holds = absurd (let clash : None ≡ Some x = is in cc)
+where-some P (Some y) x is holds = subst P (some_is is) holds
+
+-- three parts were appended
+pub three-parts : (start first second whole a b c : List ℕ) → first ≡ start ++ a →
+    second ≡ first ++ b → whole ≡ second ++ c → whole ≡ start ++ (a ++ (b ++ c))
+three-parts start first second whole a b c is_first is_second is_whole =
+    is_whole
+    ∙ ap (λ (t : List ℕ). t ++ c) (is_second ∙ ap (λ (t : List ℕ). t ++ b) is_first)
+    ∙ append_assoc (start ++ a) b c ∙ append_assoc start a (b ++ c)
 
 -- a fault other than want of memory is that of a text
 told : (fault : Option TextFault) (f : TextFault) → is_memory f ≡ false → IsFaultOf fault f →

@@ -1,5 +1,5 @@
 -- What is said of a width by what is seen without a search: which nets want more tracks than there
--- are, and which option helps.
+-- are, which net no track serves, and which option helps.
 use Rattle.std.specs.Prelude.{◌≡◌, ◌⊎◌, ℕ, ◌++◌, ◌-◌, ◌&&◌, not, Bool, true, false, nat_le, List, [], length, take, flat_map, codes, decimal, slice_get, Option, Some, None, is_some, if◌then◌else◌}
 use Rattle.std.specs.Option.{option_map_or}
 use Rattle.desk_io.specs.DeskState.{DeskState}
@@ -13,7 +13,12 @@ use Rattle.fpga_types.specs.declared.grid.Axis.{Axis}
 use Rattle.fpga_types.specs.declared.grid.Axis.TheVariants.{X, Y}
 use Rattle.fpga_types.specs.declared.grid.Cell.{Cell as AnyCell}
 use Rattle.fpga_types.specs.declared.limits.TheConstants.{WIDTH_LIMIT}
+use Rattle.fpga_types.specs.declared.problem.PinStep.{PinStep}
 use Rattle.fpga_types.specs.declared.problem.Slot.{Slot}
+use Rattle.fpga_types.specs.declared.grid.PinAt.{PinAt}
+use Rattle.fpga_types.specs.declared.grid.PinAt.TheVariants.{Pad as PadAt, Pin as PinOf}
+use Rattle.route_alone.specs.Alone.{HasTrackless, IsTracklessTree}
+use Rattle.route_alone.specs.declared.closed_tree.ClosedTree.{ClosedTree}
 use Rattle.route_count.specs.Crowded.{IsCrowded, IsCrowding}
 use Rattle.route_count.specs.declared.crowded.Crowding.{Crowding}
 use Rattle.route_count.specs.declared.crowded.Crowding.TheVariants.{Cell, Crowd}
@@ -38,12 +43,16 @@ net_said p slot = option_map_or
     (λ (s : Slot). codes " " ++ name_said (net_name p.route s.net))
     (slice_get (slots p.route) slot) []
 
+-- the first of these, and how many more there are
+abbrev pub listed : {X : Type 0} → (said_of : X → List ℕ) → (row : List X) → List ℕ
+listed said_of row =
+    if nat_le (length row) NAME_LIMIT then flat_map said_of row
+    else flat_map said_of (take NAME_LIMIT row)
+    ++ (codes " and " ++ (decimal (length row - NAME_LIMIT) ++ codes " more"))
+
 -- the nets of slots, the first by name, and how many more there are
 abbrev pub nets_said : RoutingProblem → (row : List ℕ) → List ℕ
-nets_said p row =
-    if nat_le (length row) NAME_LIMIT then flat_map (net_said p) row
-    else flat_map (net_said p) (take NAME_LIMIT row)
-    ++ (codes " and " ++ (decimal (length row - NAME_LIMIT) ++ codes " more"))
+nets_said p row = listed (net_said p) row
 
 -- a channel, by its kind
 abbrev pub axis_said : Axis → List ℕ
@@ -73,6 +82,27 @@ crowding_said p (Cell row) =
 crowding_said p (Crowd row) =
     codes "\nUnder subset switch blocks more nets than there are tracks share cells, "
     ++ (codes "each with each:" ++ nets_said p row.items)
+
+-- a place, behind a blank
+abbrev pub place_said : (x y : ℕ) → List ℕ
+place_said x y =
+    codes " (" ++ (decimal x ++ (codes "," ++ (decimal y ++ codes ")")))
+
+-- the place of a pin
+abbrev pub pin_said : PinAt → List ℕ
+pin_said (PadAt x y sub) = place_said x y
+pin_said (PinOf x y pin) = place_said x y
+
+-- the places of the pins of pin steps, which open no track in common
+abbrev pub apart_said : (row : List PinStep) → List ℕ
+apart_said row =
+    codes " even alone: its pins at" ++ (listed (λ step. pin_said step.pin) row
+    ++ codes " open none in common.")
+
+-- a net that no track serves, and the places of the pins that a tree of it joins
+abbrev pub trackless_said : RoutingProblem → ClosedTree → List ℕ
+trackless_said p found =
+    codes "\nNo track serves the net" ++ (net_said p found.tree ++ apart_said found.pins.items)
 
 -- that counting shows it, where that may help
 abbrev pub count_said : Hints → List ℕ
@@ -112,10 +142,17 @@ hints_of asked is_open =
 
 -- ---- what is seen
 
--- where numbers alone forbid the width, slots that do are said; where not, what else may help
+-- where some tree has no track, such a one is said; where not, what else may help
+abbrev pub SaysAlone : (width : ℕ) → Hints → RoutingProblem → List ℕ → Type 0
+SaysAlone width hints p said =
+    ((¬ HasTrackless width p) × (said ≡ order_said width hints p))
+    ⊎ ((found : ClosedTree) × IsTracklessTree width p found × (said ≡ trackless_said p found))
+
+-- where numbers alone forbid the width, slots that do are said; where not, what is seen of each net
+-- alone
 abbrev pub SaysSeenOf : (width : ℕ) → Hints → RoutingProblem → List ℕ → Type 0
 SaysSeenOf width hints p said =
-    ((¬ IsCrowded width p) × (said ≡ order_said width hints p))
+    ((¬ IsCrowded width p) × SaysAlone width hints p said)
     ⊎ ((crowding : Crowding) × IsCrowding width p crowding
     × (said ≡ crowding_said p crowding ++ count_said hints))
 

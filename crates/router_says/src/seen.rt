@@ -21,9 +21,11 @@ ghost use Rattle.router_says.specs.Names.{asked};
 ghost use Rattle.router_says.specs.Seen as spec;
 ghost use Rattle.router_says.specs.Seen.{
   Looks,
+  SaysAlone,
   SaysSeen,
   SaysSeenOf,
   Sees,
+  apart_said,
   axis_said,
   cell_said,
   count_said,
@@ -31,11 +33,15 @@ ghost use Rattle.router_says.specs.Seen.{
   first_cell_said,
   hints_of,
   is_memory,
+  listed,
   net_said,
   nets_said,
   order_said,
+  pin_said,
+  place_said,
   slot_cell_said,
   texts_by,
+  trackless_said,
 };
 ghost use Rattle.router_says.specs.declared.seen.TheConstants.{NAME_LIMIT};
 ghost use Rattle.router_top.specs.Core.{net_name};
@@ -47,7 +53,8 @@ use desk_io::Desk;
 use fpga_bounds::PlacedProblem;
 use fpga_problem::{FourTexts, read_problem};
 use fpga_text::TextFault;
-use fpga_types::{Axis, Cell, RouteText, WIDTH_LIMIT};
+use fpga_types::{Axis, Cell, PinAt, PinStep, RouteText, WIDTH_LIMIT};
+use route_alone::{ClosedTree, trackless};
 use route_count::{Crowding, crowded_by};
 use route_crowd::exchangeable;
 use router_top::TextFile;
@@ -67,8 +74,8 @@ pub(crate) struct Hints {
 }
 
 /// Appends what is seen of a width without a search, where no reach was given: which nets want more
-/// tracks than there are, and which option helps; where the width is open, that too where there are
-/// no such nets. The files are read once more for it; a job that reads none is told nothing.
+/// tracks than there are, and which option helps; or which net no track serves; where the width is
+/// open, which option may help, too where there are no such nets. The files are read once more for it; a job that reads none is told nothing.
 pub(crate) fn append_seen<D: Desk>(
     alloc: Global,
     desk: &mut D,
@@ -266,8 +273,92 @@ fn append_of_problem(
 {
     match crowded_by(alloc, problem, width)? {
         Some(crowding) => append_crowded(out, problem, &crowding, hints),
+        None => append_alone(alloc, out, problem, width, hints),
+    }
+}
+
+// Appends a net that no track serves, or what else may help.
+fn append_alone(
+    alloc: Global,
+    out: &mut String,
+    problem: &PlacedProblem,
+    width: u32,
+    hints: Hints,
+) -> Result<(), AllocError>
+    requires width { (1 ≤ width) × (width ≤ WIDTH_LIMIT) }
+    ensures { OnOk result (Appends (SaysAlone width hints problem.now) (string_bytes out.old)
+        (string_bytes out.new)) }
+{
+    match trackless(alloc, problem, width)? {
+        Some(found) => append_trackless(out, problem, &found),
         None => append_order(out, problem, width, hints),
     }
+}
+
+// Appends a net that no track serves, and the places of its pins.
+fn append_trackless(
+    out: &mut String,
+    problem: &PlacedProblem,
+    found: &ClosedTree,
+) -> Result<(), AllocError>
+    ensures { OnOk result (string_bytes out.new
+        ≡ string_bytes out.old ++ trackless_said problem.now found.now) }
+{
+    out.push_str("\nNo track serves the net")?;
+    append_net(out, problem, found.tree)?;
+    append_apart(out, &found.pins)?;
+    Ok(())
+}
+
+// Appends the places of pins that open no track in common.
+fn append_apart(out: &mut String, row: &[PinStep]) -> Result<(), AllocError>
+    ensures { OnOk result (string_bytes out.new ≡ string_bytes out.old ++ apart_said row.now) }
+{
+    out.push_str(" even alone: its pins at")?;
+    append_pins(out, row)?;
+    out.push_str(" open none in common.")?;
+    Ok(())
+}
+
+// Appends the places of the pins of pin steps, the first of them.
+fn append_pins(out: &mut String, row: &[PinStep]) -> Result<(), AllocError>
+    ensures { OnOk result (string_bytes out.new
+        ≡ string_bytes out.old ++ listed (λ step. pin_said step.pin) row.now) }
+{
+    if row.len() <= NAME_LIMIT {
+        return append_places(out, row);
+    }
+    append_places(out, &row[..NAME_LIMIT])?;
+    append_more(out, row.len() - NAME_LIMIT)?;
+    Ok(())
+}
+
+// Appends the places of the pins of pin steps, each behind a blank.
+fn append_places(out: &mut String, row: &[PinStep]) -> Result<(), AllocError>
+    ensures { OnOk result (string_bytes out.new
+        ≡ string_bytes out.old ++ flat_map (λ step. pin_said step.pin) row.now) }
+{
+    for step in row {
+        append_pin(out, step.pin)?;
+    }
+    Ok(())
+}
+
+// Appends the place of a pin behind a blank.
+fn append_pin(out: &mut String, pin: PinAt) -> Result<(), AllocError>
+    ensures { OnOk result (string_bytes out.new ≡ string_bytes out.old ++ pin_said pin) }
+{
+    match pin {
+        PinAt::Pad { x, y, .. } => append_spot(out, x, y),
+        PinAt::Pin { x, y, .. } => append_spot(out, x, y),
+    }
+}
+
+// Appends a place behind a blank.
+fn append_spot(out: &mut String, x: u32, y: u32) -> Result<(), AllocError>
+    ensures { OnOk result (string_bytes out.new ≡ string_bytes out.old ++ place_said x y) }
+{
+    write!(out, " ({x},{y})")
 }
 
 // Appends that keeping tracks in order may help, where it can.

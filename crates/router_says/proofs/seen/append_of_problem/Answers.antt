@@ -1,18 +1,17 @@
-use Rattle.std.proofs.Common.{inl, refl}
+use Rattle.std.proofs.Common.{inl}
 use Rattle.std.proofs.lemmas.Result.{on_ok_weaker}
 use Rattle.router_says.proofs.SeenLemmas.{where-none}
-use Rattle.router_says.specs.Seen.{order_said}
 use Rattle.router_says.proofs.seen.append_of_problem.Goals as goal
 
 pub returns-in-None : goal.returns-in-None
 returns-in-None c =
-    on_ok_weaker c.append_order.result
+    on_ok_weaker c.append_alone.result
     (λ added. (
-      order_said c.args.width c.args.hints c.args.problem.now,
+      added.0,
       inl (
         where-none c.in_ok-crowding.field-0 c.in-None.is c.in_ok-crowding.ensures.none,
-        refl,
+        added.1,
       ),
-      added,
+      added.2,
     ))
-    c.append_order.ensures
+    c.append_alone.ensures
