@@ -3,12 +3,12 @@
 
     see_words.py PROGRAM [--quiet]
 
-Runs the cases of crates/router_rows/data on files of a folder of its own, those left out in which calls fail, and
-prints each kind of report that came (its numbers but the code left out) with the words that went with it, once.
-Says last how many runs came out as their case asks: status, standard output, and the bytes of the files, where
-no file that was read has changed; and the words on a width without a routing, or on an open one, as seen_words.py
-reckons them from the files. That is a test of what no contract speaks of: `main` and the files of the system. With
---quiet only what came out otherwise is printed, and the last line.
+Runs the cases of crates/router_rows/data on files of a folder of its own, those left out in which calls fail or two
+files have one name, and prints each kind of report that came (its numbers but the code left out) with the words that
+went with it, once. Says last how many runs came out as their case asks: status, standard output, and the bytes of the
+files, where no file that was read has changed; and the words on a width without a routing, or on an open one, as
+seen_words.py reckons them from the files. That is a test of what no contract speaks of: `main` and the files of the
+system. With --quiet only what came out otherwise is printed, and the last line.
 """
 import argparse
 import collections
@@ -123,7 +123,7 @@ class Asked:
 
     def __init__(self, lines):
         self.words, self.lead, self.report, self.status = [], "", None, None
-        self.files, self.wanted, self.fails = {}, [], False
+        self.files, self.wanted, self.fails, self.doubles = {}, [], False, False
         at = None
         for line in lines:
             if line[0] in "|+*&^":
@@ -133,6 +133,7 @@ class Asked:
             if word == "words":
                 self.words = rest.split(" ")
             elif word == "file":
+                self.doubles = self.doubles or rest in self.files
                 at = self.files[rest] = []
             elif word == "design":
                 for ending in ("arch", "net", "place"):
@@ -193,7 +194,7 @@ def run_case(program, texts, case, lines, seen, tally):
     texts.written = {}
     for lines_of_run in runs_of(lines):
         asked = Asked(lines_of_run)
-        if asked.fails:
+        if asked.fails or asked.doubles:
             return
         before = {name: texts.bytes_of(text) for name, text in asked.files.items()}
         with tempfile.TemporaryDirectory() as folder:
