@@ -74,8 +74,9 @@ pub(crate) struct Hints {
 }
 
 /// Appends what is seen of a width without a search, where no reach was given: which nets want more
-/// tracks than there are, and which option helps; or which net no track serves; where the width is
-/// open, which option may help, too where there are no such nets. The files are read once more for it; a job that reads none is told nothing.
+/// tracks than there are, and which option helps; else a net that no track serves alone; else, where
+/// the width is open, which option may help. The files are read once more for it; a job that reads
+/// none is told nothing.
 pub(crate) fn append_seen<D: Desk>(
     alloc: Global,
     desk: &mut D,
