@@ -76,6 +76,17 @@ impl MemShelf {
         }
     }
 
+    /// The bytes of a file, where there is one of this name, out of the shelf and not copied.
+    pub fn into_file(self, name: &str) -> Option<Vec<u8>>
+        ensures { option_map (λ b. b.items) result ≡ map.get self.files name.now }
+    {
+        let mut files = self.files;
+        match position_of(&files, name) {
+            Some(p) => Some(files.swap_remove(p).1),
+            None => None,
+        }
+    }
+
     /// The bytes said.
     pub fn said(&self) -> &[u8]
         ensures { result.now ≡ self.now.said }

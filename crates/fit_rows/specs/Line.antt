@@ -1,13 +1,13 @@
 -- The line that four texts are answered by.
 use Rattle.std.specs.Prelude.{◌≡◌, ◌++◌, ℕ, Result, Ok, Err, length, codes, decimal}
 use Rattle.fpga_problem.specs.Refused.{AnswersTexts}
-use Rattle.fpga_problem.specs.Texts.{Texts}
 use Rattle.fpga_problem.specs.declared.refusal.Refusal.{Refusal}
 use Rattle.fpga_text.specs.Bytes.{Bytes}
 use Rattle.fpga_text.specs.declared.fault.TextFault.{TextFault}
 use Rattle.fpga_text.specs.declared.fault.TextFault.TheVariants.{Bad, Limit, Memory}
 use Rattle.fpga_types.specs.Problem.{RoutingProblem}
 use Rattle.fpga_types.specs.Slots.{pairs, pin_steps, slots, steps}
+use Rattle.fpga_types.specs.Texts.{Texts}
 
 -- so many parts of each kind
 abbrev pub counts_text : (slots steps pins pairs : ℕ) → Bytes

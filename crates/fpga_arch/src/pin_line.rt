@@ -111,7 +111,7 @@ fn read_sides(line: &mut Line<'_>) -> Option<SideSet>
         if !has_side(side) {
             return None;
         }
-        sides = both(sides, side);
+        sides = with_sides(sides, side);
     }
     Some(sides)
 }
@@ -124,7 +124,7 @@ fn has_side(sides: SideSet) -> bool
 }
 
 /// The sides of both.
-fn both(a: SideSet, b: SideSet) -> SideSet
+fn with_sides(a: SideSet, b: SideSet) -> SideSet
     ensures { result ≡ with_sides a b }
 {
     SideSet {

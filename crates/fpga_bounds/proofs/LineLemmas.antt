@@ -4,7 +4,6 @@ use Rattle.std.specs.Prelude.{◌&&◌, ◌==◌, not, map, flat_map, slice_get,
 use Rattle.std.specs.BTreeSet.{BTreeSet}
 use Rattle.std.specs.List.{list_any, last_or}
 use Rattle.std.specs.Option.{option_or}
-use Rattle.std.proofs.Math.Seq.{take-length}
 use Rattle.std.proofs.lemmas.Bool.{false≢true}
 use Rattle.std.proofs.lemmas.Bool.Decides.{nat_tests}
 use Rattle.std.proofs.lemmas.List.{map-append}
@@ -17,7 +16,7 @@ use Rattle.fpga_text.specs.declared.fault.TextFault.TheVariants.{Bad, Limit, Mem
 use Rattle.fpga_types.specs.Size.{Size}
 use Rattle.fpga_types.specs.Fit.{LineContext, RouteLine, comes_again, context_of, fit_codes, is_out_of_order, is_pin_of, leaps, line_fault, net_lines, same_elem, slots_past, splits, starts_loose}
 use Rattle.fpga_types.specs.Kinds.{is_channel}
-use Rattle.fpga_types.specs.Slots.{channel_at, elem_slot, same_slot, slots_of}
+use Rattle.fpga_types.specs.Slots.{channel_at, elem_slot, same_slot}
 use Rattle.fpga_types.specs.declared.limits.TheConstants.{SLOT_LIMIT}
 use Rattle.fpga_types.specs.declared.grid.Cell.{Cell}
 use Rattle.fpga_types.specs.declared.problem.Slot.{Slot}
@@ -140,23 +139,21 @@ found-fault fault Memory is = tt
 
 -- the line of an element that a loop reads, by what it has at hand
 pub line-of : (earlier : List RouteNet) (net : RouteNet) (elems : List Elem) (i : ℕ)
-    (slots : List Slot) (previous : Option Elem) (again taken full : Bool)
-    (seen : BTreeSet ElemKey)
-    → elems ≡ net.elems → i < length elems → slots ≡ slots_so_far earlier net i
-    → previous ≡ last_or None (take i elems)
+    (previous : Option Elem) (again taken : Bool) (seen : BTreeSet ElemKey)
+    → elems ≡ net.elems → i < length elems → previous ≡ last_or None (take i elems)
     → again ≡ list_any (same_elem (get_or elems i NO_ELEM)) (take i elems)
-    → taken ≡ is_pin_of earlier (get_or elems i NO_ELEM) → full ≡ (length slots == SLOT_LIMIT)
+    → taken ≡ is_pin_of earlier (get_or elems i NO_ELEM)
     → ((q : Elem) → has_elem seen q ≡ list_any (same_elem q) (take (i + 1) elems))
     → IsLineOf (record {
       elem = get_or elems i NO_ELEM;
       previous = previous;
       again = again;
       taken = taken;
-      full = full;
+      full = length (slots_so_far earlier net i) == SLOT_LIMIT;
       last = i + 1 == length elems;
       global = net.global;
     }) seen (elem_line earlier net i (get_or elems i NO_ELEM))
-line-of earlier net elems i slots previous again taken full seen own within so_far p a t f has =
+line-of earlier net elems i previous again taken seen own within p a t has =
     record {
       elem = refl;
       context = λ k. record {
@@ -164,7 +161,7 @@ line-of earlier net elems i slots previous again taken full seen own within so_f
         previous = (p ∙ ap (λ (es : List Elem). last_or None (take i es)) own) k;
         again = (a ∙ ap (λ (es : List Elem). list_any (same_elem e) (take i es)) own) k;
         taken = t k;
-        full = (f ∙ ap (λ (zs : List Slot). length zs == SLOT_LIMIT) so_far) k;
+        full = length (slots_so_far earlier net i) == SLOT_LIMIT;
         last = (last ∙ ap (λ (es : List Elem). length (drop (suc i) es) == 0) own) k;
         global = net.global;
       };
@@ -252,8 +249,3 @@ slot-room grid earlier net i e s clean slot new limit =
 
     below : (m : ℕ) → m ≤ SLOT_LIMIT → (m == SLOT_LIMIT) ≡ false → m < SLOT_LIMIT
     below m p q = grind (arith, nat_tests)
-
--- the slots once each element is read
-pub slots-all : (earlier : List RouteNet) (net : RouteNet) (i : ℕ) → i ≡ length net.elems
-    → slots_so_far earlier net i ≡ slots_of (earlier ++ net ∷ [])
-slots-all earlier net i e = rw (e, take-length net.elems) refl

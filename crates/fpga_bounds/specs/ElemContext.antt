@@ -1,5 +1,5 @@
 -- What the codes of an element line look at, as the code has it.
-use Rattle.std.specs.Prelude.{◌≡◌, Some}
+use Rattle.std.specs.Prelude.{◌≡◌, Bool, Some}
 use Rattle.std.specs.BTreeSet.{BTreeSet}
 use Rattle.std.specs.List.{list_any}
 use Rattle.fpga_types.specs.Fit.{LineContext, RouteLine, context_of, same_elem}
@@ -25,3 +25,7 @@ pub record IsLineOf (at : ElemContext) (seen : BTreeSet ElemKey) (line : RouteLi
   pub elem : line.elem ≡ Some at.elem
   pub context : context_at at ≡ context_of line
   pub seen_are : (e : Elem) → has_elem seen e ≡ list_any (same_elem e) (so_far line)
+
+-- the same, with another word on whether the slots are full
+abbrev pub with_full : ElemContext → Bool → ElemContext
+with_full at full = record at { full = full }

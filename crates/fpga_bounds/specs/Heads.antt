@@ -29,7 +29,7 @@ pub record IsKnownAs (nets : List Net) (name : Bytes) (number : ℕ) : Type 0 wh
 
 -- why the Net line of a net with these sinks is refused, if it is the net's last line
 abbrev pub bare_fault : RouteNet → List Terminal → Option TextFault
-bare_fault net sinks = if length net.elems == 0 && not net.global then Some (Bad net.line
+bare_fault net sinks = if not net.global && length net.elems == 0 then Some (Bad net.line
     (code_of (if not (list_all (has_sink []) sinks) then SinkNotOnce else OutOfOrder))) else None
 
 -- the net is not global, and none of these nets of the route has its name

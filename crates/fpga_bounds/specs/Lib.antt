@@ -3,6 +3,7 @@ pub mod ElemContext
 pub mod Heads
 pub mod Inputs
 pub mod Keys
+pub mod LineRules
 pub mod NetEnds
 pub mod NetFit
 pub mod NetTable

@@ -61,7 +61,7 @@ pub fn see(seen: &mut BTreeSet<ElemKey>, e: Elem) -> Result<(), AllocError>
 }
 
 /// Whether the element is a pin that the set has, as one that drives a net or as one that ends it.
-pub fn is_taken(pins: &BTreeSet<ElemKey>, e: Elem) -> bool
+pub(crate) fn is_taken(pins: &BTreeSet<ElemKey>, e: Elem) -> bool
     ensures { result ≡ has_pin pins.now e }
 {
     e.kind.is_pin() && pins.contains(&key_of_pin(e))
@@ -71,7 +71,7 @@ pub fn is_taken(pins: &BTreeSet<ElemKey>, e: Elem) -> bool
 ///
 /// # Errors
 /// Where memory is short.
-pub fn take_pins(pins: &mut BTreeSet<ElemKey>, elems: &[Elem]) -> Result<(), AllocError>
+pub(crate) fn take_pins(pins: &mut BTreeSet<ElemKey>, elems: &[Elem]) -> Result<(), AllocError>
     ensures { OnOk result (GainsPins pins.old elems.now pins.new) }
 {
     for e in elems {

@@ -64,7 +64,7 @@ pub fn box_count(fractional: bool, width: u32, share: u64) -> u32
 }
 
 /// The number that shifts the pin's switches.
-fn shift(pin: PinAt) -> u32
+fn pin_number(pin: PinAt) -> u32
     ensures { result ≡ pin_number pin }
 {
     match pin {
@@ -84,7 +84,7 @@ pub fn opens(arch: &Arch, width: u32, pin: PinAt, track: u32) -> bool
     ensures is { IsTrue result ↔ Opens arch.now width pin track }
 {
     let count = fc(arch, width, pin);
-    is_on_switch(width, count, shift(pin), track)
+    is_on_switch(width, count, pin_number(pin), track)
 }
 
 /// Whether one of so many switches, spread evenly over the width from a number on, is on the track.

@@ -19,30 +19,30 @@ pub fn meet(grid: Grid, a: Cell, b: Cell) -> Option<(SwitchAt, Side, Side)>
 {
     // The limits of the array keep all coordinates in range.
     let Grid { nx: _, ny: _ } = grid;
-    meet_ends(a, b)
+    meet_by_ends(a, b)
 }
 
 /// The same by the ends of `a`.
-fn meet_ends(a: Cell, b: Cell) -> Option<(SwitchAt, Side, Side)>
+fn meet_by_ends(a: Cell, b: Cell) -> Option<(SwitchAt, Side, Side)>
     requires { (a.x ≤ SIDE_LIMIT) × (a.y ≤ SIDE_LIMIT) }
     ensures { result ≡ meet_by_ends a b }
 {
-    if is_same(a, b) {
+    if same_cell(a, b) {
         return None;
     }
-    let low = low_end(a);
-    if let Some(side) = side_of(low, b) {
-        return Some((low, low_side(a.axis), side));
+    let low = lower_end(a);
+    if let Some(side) = side_on(low, b) {
+        return Some((low, lower_side(a.axis), side));
     }
     let high = SwitchAt { i: a.x, j: a.y };
-    match side_of(high, b) {
-        Some(side) => Some((high, high_side(a.axis), side)),
+    match side_on(high, b) {
+        Some(side) => Some((high, upper_side(a.axis), side)),
         None => None,
     }
 }
 
 /// The switch block at the lower end of a cell.
-fn low_end(cell: Cell) -> SwitchAt
+fn lower_end(cell: Cell) -> SwitchAt
     ensures { result ≡ lower_end cell.axis cell.x cell.y }
 {
     match cell.axis {
@@ -58,7 +58,7 @@ fn low_end(cell: Cell) -> SwitchAt
 }
 
 /// The side of it that the cell is on.
-fn low_side(axis: Axis) -> Side
+fn lower_side(axis: Axis) -> Side
     ensures { result ≡ lower_side axis }
 {
     match axis {
@@ -68,7 +68,7 @@ fn low_side(axis: Axis) -> Side
 }
 
 /// The side that the cell is on of the switch block at its upper end.
-fn high_side(axis: Axis) -> Side
+fn upper_side(axis: Axis) -> Side
     ensures { result ≡ upper_side axis }
 {
     match axis {
@@ -78,27 +78,27 @@ fn high_side(axis: Axis) -> Side
 }
 
 /// The side of a switch block that a cell is on.
-fn side_of(at: SwitchAt, cell: Cell) -> Option<Side>
+fn side_on(at: SwitchAt, cell: Cell) -> Option<Side>
     requires { (at.i ≤ SIDE_LIMIT) × (at.j ≤ SIDE_LIMIT) }
     ensures { result ≡ side_on at cell }
 {
-    if is_same(cell, cell_at(Side::Left, at)) {
+    if same_cell(cell, cell_on(Side::Left, at)) {
         return Some(Side::Left);
     }
-    if is_same(cell, cell_at(Side::Right, at)) {
+    if same_cell(cell, cell_on(Side::Right, at)) {
         return Some(Side::Right);
     }
-    if is_same(cell, cell_at(Side::Bottom, at)) {
+    if same_cell(cell, cell_on(Side::Bottom, at)) {
         return Some(Side::Bottom);
     }
-    if is_same(cell, cell_at(Side::Top, at)) {
+    if same_cell(cell, cell_on(Side::Top, at)) {
         return Some(Side::Top);
     }
     None
 }
 
 /// The cell on a side of a switch block.
-fn cell_at(side: Side, at: SwitchAt) -> Cell
+fn cell_on(side: Side, at: SwitchAt) -> Cell
     requires { (at.i ≤ SIDE_LIMIT) × (at.j ≤ SIDE_LIMIT) }
     ensures { result ≡ cell_on side at }
 {
@@ -127,14 +127,14 @@ fn cell_at(side: Side, at: SwitchAt) -> Cell
 }
 
 /// Whether two cells are one.
-fn is_same(a: Cell, b: Cell) -> bool
+fn same_cell(a: Cell, b: Cell) -> bool
     ensures { result ≡ same_cell a b }
 {
-    is_same_axis(a.axis, b.axis) && a.x == b.x && a.y == b.y
+    same_axis(a.axis, b.axis) && a.x == b.x && a.y == b.y
 }
 
 /// Whether two cells run in one direction.
-fn is_same_axis(a: Axis, b: Axis) -> bool
+fn same_axis(a: Axis, b: Axis) -> bool
     ensures { result ≡ same_axis a b }
 {
     match (a, b) {

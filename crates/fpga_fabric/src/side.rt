@@ -28,16 +28,16 @@ fn meets_side(arch: &Arch, grid: Grid, pin: PinAt, cell: Cell, side: Side) -> bo
     ensures { result ≡ (is_on_side arch.now grid pin side && is_beside pin cell side) }
 {
     match pin {
-        PinAt::Pad { x, y, .. } => pad_side(grid, x, y, side) && along(x, y, cell, side),
+        PinAt::Pad { x, y, .. } => looks_in(grid, x, y, side) && lies_along(x, y, cell, side),
         PinAt::Pin { x, y, pin } => {
             let spec = arch.pins.as_slice()[pin as usize];
-            set_has(spec.sides, side) && along(x, y, cell, side)
+            has_side(spec.sides, side) && lies_along(x, y, cell, side)
         }
     }
 }
 
 /// Whether the side is one of these.
-fn set_has(sides: SideSet, side: Side) -> bool
+fn has_side(sides: SideSet, side: Side) -> bool
     ensures { result ≡ has_side sides side }
 {
     match side {
@@ -49,7 +49,7 @@ fn set_has(sides: SideSet, side: Side) -> bool
 }
 
 /// Whether this side of a pad's place looks into the array.
-fn pad_side(grid: Grid, x: u32, y: u32, side: Side) -> bool
+fn looks_in(grid: Grid, x: u32, y: u32, side: Side) -> bool
     ensures { result ≡ looks_in grid x y side }
 {
     match side {
@@ -61,7 +61,7 @@ fn pad_side(grid: Grid, x: u32, y: u32, side: Side) -> bool
 }
 
 /// Whether the cell lies along this side of the place (x,y).
-fn along(x: u32, y: u32, cell: Cell, side: Side) -> bool
+fn lies_along(x: u32, y: u32, cell: Cell, side: Side) -> bool
     ensures { result ≡ lies_along x y cell side }
 {
     match (side, cell.axis) {

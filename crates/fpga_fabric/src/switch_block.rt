@@ -23,13 +23,13 @@ pub fn joined_track(pattern: Pattern, width: u32, from: Side, to: Side, track: u
 {
     match pattern {
         Pattern::Subset => track,
-        Pattern::Wilton => wilton(width, from, to, track),
-        Pattern::Universal => universal(width, from, to, track),
+        Pattern::Wilton => wilton_track(width, from, to, track),
+        Pattern::Universal => universal_track(width, from, to, track),
     }
 }
 
 /// The track of the Wilton table.
-fn wilton(width: u32, from: Side, to: Side, track: u32) -> u32
+fn wilton_track(width: u32, from: Side, to: Side, track: u32) -> u32
     requires width { (1 ≤ width) × (width ≤ WIDTH_LIMIT) }
     requires track { track < width }
     ensures { result ≡ wilton_track width from to track }
@@ -46,7 +46,7 @@ fn wilton(width: u32, from: Side, to: Side, track: u32) -> u32
 }
 
 /// The track of the universal table.
-fn universal(width: u32, from: Side, to: Side, track: u32) -> u32
+fn universal_track(width: u32, from: Side, to: Side, track: u32) -> u32
     requires { track < width }
     ensures { result ≡ universal_track width from to track }
 {

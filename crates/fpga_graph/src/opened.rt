@@ -17,11 +17,11 @@ pub(crate) fn opened_row(arch: &Arch, width: u32, pin: PinAt) -> [bool; MOST_TRA
     ensures { (t : ℕ) → slice_index_or result t false ≡ opens arch.now width pin t }
 {
     let count = fc(arch, width, pin);
-    switch_row(width, count, number_of(pin))
+    switch_row(width, count, pin_number(pin))
 }
 
 /// The number that shifts the pin's switches.
-fn number_of(pin: PinAt) -> u32
+fn pin_number(pin: PinAt) -> u32
     ensures { result ≡ pin_number pin }
 {
     match pin {

@@ -41,7 +41,7 @@ impl<'a> BlockTable<'a> {
         by_name.sort_unstable_by(
             |a, b|
                 ensures { result ≡ number_cmp blocks.entry.now a.now b.now }
-            { compare(blocks, *a, *b) },
+            { number_cmp(blocks, *a, *b) },
         );
         let are_apart = names_differ(blocks, &by_name);
         Ok(BlockTable {
@@ -64,7 +64,7 @@ impl<'a> BlockTable<'a> {
         ensures number { result ≡ number_named self.now name.now }
         ensures within { IfSome result (λ number. number < length self.now) }
     {
-        if self.are_apart && guess < self.blocks.len() && name_of(self.blocks, guess) == name {
+        if self.are_apart && guess < self.blocks.len() && name_at(self.blocks, guess) == name {
             return Some(guess);
         }
         self.search(name)
@@ -85,7 +85,7 @@ impl<'a> BlockTable<'a> {
             return None;
         };
         let number = *number as usize;
-        if name_of(blocks, number) != name {
+        if name_at(blocks, number) != name {
             return None;
         }
         Some(number)
@@ -112,7 +112,7 @@ fn names_differ(blocks: &[Block], row: &[u32]) -> bool
     ensures { result ≡ true → DifferAlong blocks.now row.now }
 {
     for k in 1..row.len() {
-        if name_of(blocks, row[k - 1] as usize) == name_of(blocks, row[k] as usize) {
+        if name_at(blocks, row[k - 1] as usize) == name_at(blocks, row[k] as usize) {
             return false;
         }
     }
@@ -120,7 +120,7 @@ fn names_differ(blocks: &[Block], row: &[u32]) -> bool
 }
 
 /// The name of the block with this number; none where there is no such block.
-fn name_of(blocks: &[Block], number: usize) -> &[u8]
+fn name_at(blocks: &[Block], number: usize) -> &[u8]
     ensures { result.now ≡ name_at blocks.now number }
 {
     match blocks.get(number) {
@@ -130,11 +130,11 @@ fn name_of(blocks: &[Block], number: usize) -> &[u8]
 }
 
 /// How two blocks stand to one another: by name, and of one name by number.
-fn compare(blocks: &[Block], a: u32, b: u32) -> Ordering
+fn number_cmp(blocks: &[Block], a: u32, b: u32) -> Ordering
     ensures { result ≡ number_cmp blocks.now a b }
 {
-    name_of(blocks, a as usize)
-        .cmp(name_of(blocks, b as usize))
+    name_at(blocks, a as usize)
+        .cmp(name_at(blocks, b as usize))
         .then(a.cmp(&b))
 }
 
@@ -142,5 +142,5 @@ fn compare(blocks: &[Block], a: u32, b: u32) -> Ordering
 fn is_before(blocks: &[Block], number: u32, name: &[u8]) -> bool
     ensures { result ≡ before blocks.now name.now number }
 {
-    name_of(blocks, number as usize).cmp(name).is_lt()
+    name_at(blocks, number as usize).cmp(name).is_lt()
 }

@@ -7,7 +7,7 @@ use Rattle.fpga_net.specs.Value.{net_value}
 use Rattle.fpga_place.specs.Codes.{place_faults}
 use Rattle.fpga_place.specs.Value.{place_value}
 use Rattle.fpga_problem.specs.Refused.{AreFaultlessBefore, IsRefused}
-use Rattle.fpga_problem.specs.Texts.{AreFaultless, Texts, faults_of, netlist_said, placement_said, problem_said}
+use Rattle.fpga_problem.specs.Texts.{AreFaultless, faults_of, netlist_said, placement_said, problem_said}
 use Rattle.fpga_problem.specs.declared.text_file.TextFile.TheVariants.{Architecture, Netlist as NetlistFile, Placement as PlacementFile, Route as RouteFile}
 use Rattle.fpga_route.specs.Codes.{route_faults}
 use Rattle.fpga_route.specs.Value.{route_value}
@@ -16,6 +16,7 @@ use Rattle.fpga_text.specs.FirstFault.{Faults, IsFaultless, IsRefusal}
 use Rattle.fpga_text.specs.declared.fault.TextFault.{TextFault}
 use Rattle.fpga_types.specs.Fits.{problem_faults}
 use Rattle.fpga_types.specs.Problem.{RoutingProblem, problem_of}
+use Rattle.fpga_types.specs.Texts.{Texts}
 use Rattle.fpga_types.specs.declared.arch.Arch.{Arch}
 use Rattle.fpga_types.specs.declared.netlist.Netlist.{Netlist}
 use Rattle.fpga_types.specs.declared.placement.Placement.{Placement}

@@ -1,11 +1,12 @@
 -- Which of four texts is refused, and what a reader of them answers.
 use Rattle.std.specs.Prelude.{◌≡◌, ⊤, Result, MatchResult}
-use Rattle.fpga_problem.specs.Texts.{AreFaultless, Texts, faults_of, problem_said}
+use Rattle.fpga_problem.specs.Texts.{AreFaultless, faults_of, problem_said}
 use Rattle.fpga_problem.specs.declared.refusal.Refusal.{Refusal}
 use Rattle.fpga_problem.specs.declared.text_file.TextFile.{TextFile}
 use Rattle.fpga_problem.specs.declared.text_file.TextFile.TheVariants.{Architecture, Netlist, Placement, Route}
 use Rattle.fpga_text.specs.FirstFault.{IsFaultless, IsRefusal}
 use Rattle.fpga_types.specs.Problem.{RoutingProblem}
+use Rattle.fpga_types.specs.Texts.{Texts}
 
 -- no text that is read before this one has a fault
 abbrev pub AreFaultlessBefore : Texts → TextFile → Type 0

@@ -10,21 +10,14 @@ use Rattle.fpga_problem.specs.declared.text_file.TextFile.{TextFile}
 use Rattle.fpga_problem.specs.declared.text_file.TextFile.TheVariants.{Architecture, Netlist as NetlistFile, Placement as PlacementFile, Route}
 use Rattle.fpga_route.specs.Codes.{route_faults}
 use Rattle.fpga_route.specs.Value.{route_value}
-use Rattle.fpga_text.specs.Bytes.{Bytes}
 use Rattle.fpga_text.specs.FirstFault.{Faults, IsFaultless}
 use Rattle.fpga_types.specs.Fits.{problem_faults}
 use Rattle.fpga_types.specs.Problem.{RoutingProblem, problem_of}
+use Rattle.fpga_types.specs.Texts.{Texts}
 use Rattle.fpga_types.specs.declared.arch.Arch.{Arch}
 use Rattle.fpga_types.specs.declared.netlist.Netlist.{Netlist}
 use Rattle.fpga_types.specs.declared.placement.Placement.{Placement}
 use Rattle.fpga_types.specs.declared.route.RouteText.{RouteText}
-
--- the bytes of an architecture, a netlist, its placement and a global route of it
-pub record Texts : Type 0 where
-  pub architecture : Bytes
-  pub netlist : Bytes
-  pub placement : Bytes
-  pub route : Bytes
 
 -- the values that the texts say, each for those before it
 abbrev pub arch_said : Texts → Arch

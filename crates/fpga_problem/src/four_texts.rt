@@ -11,7 +11,7 @@ pub struct FourTexts<'a> {
 }
 
 impl<'a> Model for FourTexts<'a> {
-    ghost use Rattle.fpga_problem.specs.Texts.{Texts};
+    ghost use Rattle.fpga_types.specs.Texts.{Texts};
 
     ghost Value = { Texts };
 

@@ -30,7 +30,7 @@ fn kind_in_six_places(kind: ElemKind) -> &'static str
 }
 
 /// The word of a label.
-fn label_text(label: Label) -> &'static str
+fn label_word(label: Label) -> &'static str
     ensures { result.now ≡ label_word label }
 {
     match label {
@@ -42,13 +42,13 @@ fn label_text(label: Label) -> &'static str
 }
 
 /// An element line.
-fn elem_line(elem: &Elem) -> ArrayString<LINE_ROOM>
+fn printed_elem(elem: &Elem) -> ArrayString<LINE_ROOM>
     ensures { result.bytes ≡ printed_elem elem.now }
 {
     let mut line = ArrayString::new();
     line.push_str(kind_in_six_places(elem.kind));
     push_place(&mut line, elem.x, elem.y);
-    line.push_str(label_text(elem.label));
+    line.push_str(label_word(elem.label));
     push_number(&mut line, elem.number);
     line
 }
@@ -78,7 +78,7 @@ fn push_number(line: &mut ArrayString<LINE_ROOM>, number: u32)
 }
 
 /// What stands before the name of a net.
-fn net_line_start(k: u64) -> ArrayString<LINE_ROOM>
+fn before_name(k: u64) -> ArrayString<LINE_ROOM>
     ensures { result.bytes ≡ before_name k }
 {
     let mut line = ArrayString::new();
@@ -89,7 +89,7 @@ fn net_line_start(k: u64) -> ArrayString<LINE_ROOM>
 }
 
 /// What stands behind the name of a net.
-fn net_line_end(global: bool) -> &'static str
+fn after_name(global: bool) -> &'static str
     ensures { result.now ≡ after_name global }
 {
     if global {
@@ -100,7 +100,7 @@ fn net_line_end(global: bool) -> &'static str
 }
 
 /// The two head lines.
-fn head_lines(grid: Grid) -> ArrayString<LINE_ROOM>
+fn printed_head(grid: Grid) -> ArrayString<LINE_ROOM>
     ensures { result.bytes ≡ printed_head grid }
 {
     let mut lines = ArrayString::new();
@@ -126,7 +126,7 @@ impl Prints<Elem> for ElemLine {
         shelf: &mut S,
         item: &Elem,
     ) -> Result<(), Failed> {
-        writer.write(shelf, elem_line(item).as_bytes())
+        writer.write(shelf, printed_elem(item).as_bytes())
     }
 }
 
@@ -162,7 +162,7 @@ impl Prints<RouteNet> for LineStart {
         shelf: &mut S,
         item: &RouteNet,
     ) -> Result<(), Failed> {
-        writer.write(shelf, net_line_start(item.k).as_bytes())
+        writer.write(shelf, before_name(item.k).as_bytes())
     }
 }
 
@@ -181,7 +181,7 @@ impl Prints<RouteNet> for LineEnd {
         shelf: &mut S,
         item: &RouteNet,
     ) -> Result<(), Failed> {
-        let end = net_line_end(item.global);
+        let end = after_name(item.global);
         writer.write_both(shelf, item.name.bytes.as_slice(), end.as_bytes())
     }
 }
@@ -257,7 +257,7 @@ impl Prints<RouteText> for HeadLines {
         shelf: &mut S,
         item: &RouteText,
     ) -> Result<(), Failed> {
-        writer.write(shelf, head_lines(item.grid).as_bytes())
+        writer.write(shelf, printed_head(item.grid).as_bytes())
     }
 }
 

@@ -17,7 +17,7 @@ pub fn whole_number(word: &[u8]) -> Option<u64>
     if word.is_empty() {
         return None;
     }
-    followed_by_digits(Some(0), word)
+    with_digits(Some(0), word)
 }
 
 /// The decimal that a word says, in millionths, or None: exactly where it is not decimal digits
@@ -34,8 +34,8 @@ pub fn millionths(word: &[u8]) -> Option<u64>
         return None;
     }
     let kept = &part[..part.len().min(6)];
-    let number = followed_by_digits(followed_by_digits(Some(0), whole), kept);
-    followed_by_digits(number, zeros_behind(kept))
+    let number = with_digits(with_digits(Some(0), whole), kept);
+    with_digits(number, zeros_behind(kept))
 }
 
 /// The zeros that these digits lack to be six.
@@ -56,7 +56,7 @@ fn are_all_digits(bytes: &[u8]) -> bool
 
 /// The number with these digits at its end, or None where there is no number, one of them is no
 /// digit or the value passes 64 bits.
-fn followed_by_digits(number: Option<u64>, digits: &[u8]) -> Option<u64>
+fn with_digits(number: Option<u64>, digits: &[u8]) -> Option<u64>
     ensures { result ≡ with_digits number digits.now }
 {
     let Some(mut value) = number else {
@@ -107,13 +107,13 @@ pub fn signed_number(word: &[u8]) -> Option<i64>
 {
     match word {
         [] => None,
-        [b'-', digits @ ..] => whole_number(digits).and_then(negated),
-        _ => whole_number(word).and_then(plain),
+        [b'-', digits @ ..] => whole_number(digits).and_then(negated_number),
+        _ => whole_number(word).and_then(plain_number),
     }
 }
 
 /// The number, or None where it passes 64 bits with a sign.
-fn plain(size: u64) -> Option<i64>
+fn plain_number(size: u64) -> Option<i64>
     ensures { result ≡ plain_number size }
 {
     if size >= LEAST_SIZE {
@@ -123,7 +123,7 @@ fn plain(size: u64) -> Option<i64>
 }
 
 /// The number with a minus sign, or None where it passes 64 bits with a sign.
-fn negated(size: u64) -> Option<i64>
+fn negated_number(size: u64) -> Option<i64>
     ensures { result ≡ negated_number size }
 {
     if size > LEAST_SIZE {

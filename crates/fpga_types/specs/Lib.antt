@@ -20,5 +20,6 @@ pub mod Slots
 pub mod Sound
 pub mod SpotOrder
 pub mod Terminals
+pub mod Texts
 pub mod Touching
 pub mod Tracks

@@ -21,7 +21,8 @@ pub struct ClosedTree {
 }
 
 /// A tree that no track serves at a width from 1 to 64, whatever the other nets do: where the
-/// switch blocks are subset ones, its slots have one track, and each is closed to one of its pins. The time is that of the slots, the steps and the pin steps, the memory 64 bytes a slot.
+/// switch blocks are subset ones, its slots have one track, and each is closed to one of its pins.
+/// The time is that of the slots, the steps and the pin steps, the memory 64 bytes a slot.
 ///
 /// # Errors
 /// Where memory is short.

@@ -12,12 +12,13 @@ use Rattle.std.proofs.lemmas.List.Sums.{fold_push}
 use Rattle.std.proofs.lemmas.Option.{get_or_from_slice_get, slice_get-get_or, slice_get_within}
 use Rattle.sat_check.proofs.StepLaws.{take_more}
 use Rattle.sat_clause.specs.Formula.{Cnf}
-use Rattle.sat_clause.specs.Judge.{Accepted, Accepts, after, inputs, is_empty_clause, judge_from}
+use Rattle.sat_clause.specs.Judge.{Accepted, Accepts, after, fault, inputs, is_empty_clause, judge_from}
 use Rattle.sat_clause.specs.Learned.{live_before}
 use Rattle.sat_clause.specs.Literal.{Clause, IsWithin, variable}
 use Rattle.sat_clause.specs.Live.{Live, named}
 use Rattle.sat_clause.specs.Rup.{rup}
 use Rattle.sat_clause.specs.Step.{Step, Added, Erased}
+use Rattle.sat_clause.proofs.JudgeLaws.{accepted_parts, refused_not_accepted}
 use Rattle.route_encode.proofs.CompeteLemmas.{differs}
 use Rattle.route_core.specs.Blamed.{is_hint}
 use Rattle.route_core.specs.Keeping.{AreMarked, IsFirstEmpty, IsGoodAt, KeepsStep, is_wanted, names, needed_behind}
@@ -30,17 +31,16 @@ use Rattle.route_core.specs.SourceStore.{StepWithin}
 use Rattle.route_core.specs.Walking.{kept_back}
 use Rattle.route_core.proofs.SourceLemmas.{live_is_said}
 use Rattle.route_core.proofs.WalkLemmas.{some-hints, walk}
-use Rattle.route_core.proofs.TrimmingLemmas.{accepted-parts, refused-not}
 
 -- ---- the first empty clause, and the steps up to it
 
 -- an accepted log has an empty clause
 pub none-empty : (n : ℕ) (live : Live) (log : List Step) → judge_from n live log ≡ Accepted
     → ((k : ℕ) (step : Step) → slice_get log k ≡ Some step → is_empty_clause step ≡ false) → ⊥
-none-empty n live [] h none = refused-not h
+none-empty n live [] h none = refused_not_accepted h
 none-empty n live (step ∷ log) h none =
     none-empty (suc n) (after live step) log
-    ((accepted-parts n live step log h).rest (none 0 step refl))
+    ((accepted_parts fault n live step log h).rest (none 0 step refl))
     (λ k s is. none (suc k) s is)
 
 -- each step up to it is good
@@ -50,15 +50,16 @@ pub good-at : (n : ℕ) (live : Live) (log : List Step) → judge_from n live lo
     → ((j : ℕ) (step : Step) → j < k → slice_get log j ≡ Some step
     → is_empty_clause step ≡ false)
     → rup (fold after live (take k log)) clause hints ≡ None
-good-at n live [] h k id clause hints is none = absurd (refused-not h)
+good-at n live [] h k id clause hints is none = absurd (refused_not_accepted h)
 good-at n live (step ∷ log) h zero id clause hints is none =
     let same : step ≡ Added id clause hints = cc in
     let accepted : judge_from n live (Added id clause hints ∷ log) ≡ Accepted =
     subst (λ (s : Step). judge_from n live (s ∷ log) ≡ Accepted) same h in
-    (accepted-parts n live (Added id clause hints) log accepted).good
+    (accepted_parts fault n live (Added id clause hints) log accepted).good
 good-at n live (step ∷ log) h (suc k) id clause hints is none =
     good-at (suc n) (after live step) log
-    ((accepted-parts n live step log h).rest (none 0 step (omega arith) refl)) k id clause hints is
+    ((accepted_parts fault n live step log h).rest (none 0 step (omega arith) refl)) k id clause
+    hints is
     (λ j s below at. none (suc j) s (omega (arith, below)) at)
 
 -- ---- the needed steps from a place on

@@ -3,7 +3,7 @@ use Rattle.std.proofs.Common.{◌≡◌, ℕ, zero, suc, ℤ, pos, negsuc, Bool,
 use Rattle.std.specs.Prelude.{⊤, fold, slice_get}
 use Rattle.std.specs.List.{list_any}
 use Rattle.std.specs.Ordering.{int_eq}
-use Rattle.std.proofs.lemmas.Bool.{both_ways, false≢true, or_left, or_right}
+use Rattle.std.proofs.lemmas.Bool.{false≢true, or_left, or_right}
 use Rattle.std.proofs.lemmas.Bool.Decides.{Decides-eqb, Decides-int_eq}
 use Rattle.std.proofs.lemmas.List.Folds.{Any-from_list_any}
 use Rattle.list_laws.proofs.Members.{In, In-any, any-from_In}
@@ -12,57 +12,19 @@ use Rattle.sat_clause.specs.declared.literal.Lit.{Lit}
 use Rattle.sat_clause.specs.declared.reading.Reading.{Reading}
 use Rattle.sat_clause.specs.declared.reading.Reading.TheVariants.{Conflict, Unit, Satisfied, Unresolved}
 use Rattle.sat_clause.specs.Formula.{Cnf}
-use Rattle.sat_clause.specs.Judge.{Accepted, Refused, after, erase, fault, inputs, is_empty_clause, judge_from, judge_step, take_out}
+use Rattle.sat_clause.specs.Judge.{Accepted, after, erase, fault, inputs, judge_from, judge_step, take_out}
 use Rattle.sat_clause.specs.Learned.{EachIsUsed, HintHas}
 use Rattle.sat_clause.specs.Literal.{Clause, negation}
 use Rattle.sat_clause.specs.Live.{Live, clause_at, named, put}
 use Rattle.sat_clause.specs.Rup.{Reads, follow, lead_on, reading_of, rup}
 use Rattle.sat_clause.specs.Step.{Step, Added, Erased}
+use Rattle.sat_clause.proofs.JudgeLaws.{accepted_by_parts, accepted_parts, refused_not_accepted}
 use Rattle.sat_clause.proofs.LiveLaws.{clause_at-without}
 use Rattle.route_core.specs.Blamed.{is_hint}
 use Rattle.route_core.specs.Needed.{needed_from}
 use Rattle.route_core.specs.Trimmed.{AddAlone, AreFrom, EachIsNamed, EndsEmpty, IsSubList, IsTrimmed, has_hint}
 use Rattle.route_core.specs.Trimming.{TrimsWell, needed_steps, step_if, trimmed_of}
 use Rattle.route_core.proofs.NeededLemmas.{needed-part, needed-serves}
-
-pub refused-not : {n : ℕ} {cause : Cause} → Refused n cause ≡ Accepted → ⊥
-refused-not e = let no : ◌≡◌ {A = Bool} true false = cc in both_ways _ refl (sym no)
-
--- ---- what an accepted log is, step by step
-
--- the first step is good, and either it adds the empty clause or the rest is accepted
-pub record IsAccepted (n : ℕ) (live : Live) (step : Step) (steps : List Step) : Type 0 where
-  pub good : fault live step ≡ None
-  pub rest : is_empty_clause step ≡ false
-      → judge_from (suc n) (after live step) steps ≡ Accepted
-
-pub accepted-parts : (n : ℕ) (live : Live) (step : Step) (steps : List Step)
-    → judge_from n live (step ∷ steps) ≡ Accepted → IsAccepted n live step steps
-accepted-parts n live step steps h = go (fault live step) refl h
-  where
-    empty : (b : Bool)
-        → judge_step n None b (judge_from (suc n) (after live step) steps) ≡ Accepted
-        → b ≡ false → judge_from (suc n) (after live step) steps ≡ Accepted
-    empty true g e = absurd (false≢true (sym e))
-    empty false g e = g
-
-    go : (o : Option Cause) → fault live step ≡ o
-        → judge_step n o (is_empty_clause step) (judge_from (suc n) (after live step) steps)
-        ≡ Accepted → IsAccepted n live step steps
-    go (Some cause) e g = absurd (refused-not g)
-    go None e g = record { good = e; rest = λ is. empty (is_empty_clause step) g is }
-
-accepted-more : (n : ℕ) (live : Live) (step : Step) (steps : List Step) → fault live step ≡ None
-    → judge_from (suc n) (after live step) steps ≡ Accepted
-    → judge_from n live (step ∷ steps) ≡ Accepted
-accepted-more n live step steps good rest =
-    ap (λ (o : Option Cause). judge_step n o (is_empty_clause step)
-    (judge_from (suc n) (after live step) steps)) good
-    ∙ go (is_empty_clause step)
-  where
-    go : (b : Bool) → judge_step n None b (judge_from (suc n) (after live step) steps) ≡ Accepted
-    go true = refl
-    go false = rest
 
 -- ---- where the used clauses are live too
 
@@ -272,11 +234,13 @@ trims-step m live id l ls hints log later good rest true is =
       from = inl ((refl, refl, needed-part live clause hints), r.from);
       ends_empty = ends-more id clause kept later r.ends_empty;
       each_named = named-more id clause kept later is r.ends_empty r.each_named;
-      accepted = λ other keeps. accepted-more m other (Added id clause kept) later
-          (rup-kept live other clause kept (keeps-hints live other id clause kept later keeps)
-          served.good)
-          (r.accepted (put other id clause) (keeps-put live other id clause later
-          (keeps-behind live other id clause kept later keeps)));
+      accepted = λ other keeps. accepted_by_parts fault m other (Added id clause kept) later
+          (record {
+            good = rup-kept live other clause kept
+                (keeps-hints live other id clause kept later keeps) served.good;
+            rest = λ on. r.accepted (put other id clause) (keeps-put live other id clause later
+                (keeps-behind live other id clause kept later keeps));
+          });
       used = λ other keeps. (
         used-kept live other clause kept (keeps-hints live other id clause kept later keeps)
             served.used,
@@ -311,17 +275,17 @@ trims-erased m live id ids log small r = record {
 
 trims : (n : ℕ) (live : Live) (log : List Step) → judge_from n live log ≡ Accepted → (m : ℕ)
     → IsTrimming log (needed_steps live log) m live
-trims n live [] h m = absurd (refused-not h)
+trims n live [] h m = absurd (refused_not_accepted h)
 trims n live (Added id [] hints ∷ log) h m =
-    let parts = accepted-parts n live (Added id [] hints) log h in
+    let parts = accepted_parts fault n live (Added id [] hints) log h in
     trims-last m live id hints log parts.good
 trims n live (Added id (l ∷ ls) hints ∷ log) h m =
-    let parts = accepted-parts n live (Added id (l ∷ ls) hints) log h in
+    let parts = accepted_parts fault n live (Added id (l ∷ ls) hints) log h in
     trims-step m live id l ls hints log (needed_steps (put live id (l ∷ ls)) log) parts.good
     (λ k. trims (suc n) (put live id (l ∷ ls)) log (parts.rest refl) k)
     (is_hint (needed_steps (put live id (l ∷ ls)) log) id) refl
 trims n live (Erased id ids ∷ log) h m =
-    let parts = accepted-parts n live (Erased id ids) log h in
+    let parts = accepted_parts fault n live (Erased id ids) log h in
     trims-erased m live id ids log (needed_steps (erase live ids) log)
     (trims (suc n) (erase live ids) log (parts.rest refl) m)
 

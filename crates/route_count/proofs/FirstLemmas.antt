@@ -1,5 +1,5 @@
 -- Why the clauses of the first level are justified, by slots and tracks.
-use Rattle.std.proofs.Common.{◌≡◌, ◌≢◌, ℕ, ◌+◌, ◌*◌, ◌<◌, ◌⊎◌, pos, Bool, true, Option, Some, None, List, [], ◌∷◌, length, get_or, sym, ap, subst, ◌∙◌, inl, inr, arith}
+use Rattle.std.proofs.Common.{◌≡◌, ◌≢◌, ℕ, ◌+◌, ◌*◌, ◌<◌, ◌⊎◌, pos, true, Option, Some, None, List, [], ◌∷◌, length, get_or, sym, ap, subst, ◌∙◌, inl, inr, arith}
 use Rattle.fpga_types.specs.Slots.{slot_at}
 use Rattle.fpga_types.specs.declared.problem.Slot.{Slot}
 use Rattle.route_encode.specs.Encoding.{place_of}
@@ -12,7 +12,7 @@ use Rattle.sat_count.specs.Names.{no}
 use Rattle.sat_count.specs.Places.{some_clause}
 use Rattle.sat_count.specs.Refuting.{Grows, Holds, RefutationState, begun, live_of}
 use Rattle.sat_count.proofs.HintLemmas.{false-two}
-use Rattle.route_count.specs.Firsts.{AreLed, AreReady, IsLed, IsMet, apart_of, some_of}
+use Rattle.route_count.specs.Firsts.{AreReady, IsLed, IsMet, some_of}
 use Rattle.route_count.specs.Leads.{AreTrees, TreesState, lead_at, root_at}
 use Rattle.route_count.specs.Meetings.{IsMeeting}
 use Rattle.route_count.specs.Said.{AreInNets, IsReason, apart_clause, chain_hints, led_clause}
@@ -29,11 +29,6 @@ led-grows a b t width behind s grows led lead before track some more few =
     grows.kept (behind + track + 1) (led_clause width (root_at t s) s track)
     (led lead before track some more few)
 
-pub all-led-grow : (a b : RefutationState) (t : TreesState) (width n : ℕ) (passed : List Bool)
-    (led : List ℕ) → Grows a b → AreLed a t width n passed led → AreLed b t width n passed led
-all-led-grow a b t width n passed led grows are s low marked =
-    led-grows a b t width (get_or led s 0) s grows (are s low marked)
-
 pub ready-grows : (a b : RefutationState) (t : TreesState) (width n : ℕ)
     (found : List (Option Meeting)) (led : List ℕ) → Grows a b → AreReady a t width n found led
     → AreReady b t width n found led
@@ -49,14 +44,6 @@ pub some-as : (width : ℕ) (row : List ℕ) (place : ℕ) → place < length ro
     → some_clause (get_or row place 0 * width) width ≡ some_of width row place
 some-as width row place low =
     ap (λ (first : ℕ). some_clause first width) (sym (first-at row width place low))
-
-pub apart-as : (width : ℕ) (row : List ℕ) (lower higher track : ℕ) → lower < higher
-    → higher < length row → apart_clause width (get_or row lower 0) (get_or row higher 0) track
-    ≡ apart_of width row lower higher track
-apart-as width row lower higher track order low =
-    let one = first-at row width lower (omega (arith, order, low)) in
-    let two = first-at row width higher low in
-    λ j. no (sym one j + track) ∷ no (sym two j + track) ∷ []
 
 -- ---- slots of a meeting
 

@@ -371,15 +371,6 @@ unknown-more at old new others unknown lower higher low from few =
     others lower higher low (λ e. absurd (omega (arith, e, from)))
     ∙ unknown lower higher low (omega (arith, from)) few
 
--- nothing is noted before the first slot
-pub noted-start : (grid : Size) (all : List Slot) (t : TreesState) (taken : List (Option ℕ))
-    (row : List ℕ) (at : ℕ) (found : List (Option Meeting)) → AreUnknown at found
-    → at < COUNTED_LIMIT → AreNoted grid all t taken row at 0 found
-noted-start grid all t taken row at found unknown few lower low =
-    subst (λ (o : Option Meeting). IsNoted grid all t taken (get_or row lower 0) 0 o)
-    (sym (unknown lower at (omega (arith, low, few)) (omega arith) few))
-    (λ s none own. absurd (omega (arith, none)))
-
 -- nothing is found of no places
 pub none-found : (all : List Slot) (t : TreesState) (row : List ℕ)
     (found : List (Option Meeting)) → AreFound all t row 0 found

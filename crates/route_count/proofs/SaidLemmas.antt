@@ -181,13 +181,3 @@ crowd-nets p t are = record {
       ∙ root-alike (λ n. (slot_at (slots p.route) n).net) (steps p.route) (steps-in-nets p.route)
       (length (slots p.route)) s low;
 }
-
-pub cell-nets : (all : List Slot) (t : TreesState) → t.roots ≡ roots_of [] (length all)
-    → AreInNets all t
-cell-nets all t are = record {
-  each = ap length are ∙ length-roots [] (length all);
-  nets = λ s low.
-      ap (λ (xs : List ℕ). (slot_at all (get_or xs s 0)).net) are
-      ∙ root-alike (λ n. (slot_at all n).net) []
-      (λ k d below. absurd (omega (arith, below))) (length all) s low;
-}

@@ -24,7 +24,6 @@ use Rattle.route_crowd.specs.Precedence.{group_clauses, only_behind, precedence,
 use Rattle.fpga_types.specs.declared.arch.Pattern.TheVariants.{Subset, Wilton, Universal}
 use Rattle.route_encode.proofs.CompeteLemmas.{differs}
 use Rattle.route_crowd.specs.Counts.{clauses_per_slot}
-use Rattle.route_crowd.proofs.GroupLemmas.{in-within}
 
 -- ---- one clause
 
@@ -73,12 +72,6 @@ behind-within count width vars earlier group s t earlier_low group_low low insid
         subst (IsWithin vars) of_track.2 (is.0, omega (arith, is.1, few))
 
 -- ---- the tracks of a group
-
-pub group-low : (pattern : Pattern) (width p : ℕ) → p < group_count pattern width
-    → All (λ t. t < width) (track_group pattern width p)
-group-low pattern width p low =
-    all-from_In (λ t. t < width) (track_group pattern width p)
-    (λ t i. in-within pattern width p t (low, i))
 
 -- ---- clauses one behind another
 

@@ -6,10 +6,9 @@ use Rattle.list_laws.proofs.Members.{all-from_In, from_In-filter}
 use Rattle.fpga_types.specs.Problem.{RoutingProblem}
 use Rattle.fpga_types.specs.Slots.{slots}
 use Rattle.fpga_types.specs.declared.arch.Pattern.{Pattern}
-use Rattle.sat_clause.specs.Formula.{Cnf}
 use Rattle.sat_clause.specs.FormulaStore.{FormulaState}
 use Rattle.sat_clause.specs.Literal.{Clause}
-use Rattle.route_encode.specs.Adding.{Adds, HasRoom}
+use Rattle.route_encode.specs.Adding.{HasRoom}
 use Rattle.route_encode.specs.Encoding.{cnf_of}
 use Rattle.route_crowd.specs.Counts.{clauses_per_slot}
 use Rattle.route_crowd.specs.Groups.{is_exchangeable}
@@ -60,17 +59,3 @@ row-room pattern width row s clauses lits = record {
   clause_room = omega (arith, clauses, length-precedence pattern width row);
   lit_room = omega (arith, lits, few-lits pattern width row);
 }
-
-pub ordered-made : (width : ℕ) (p : RoutingProblem) (row own : List ℕ)
-    (strict made : FormulaState) → strict.cnf ≡ cnf_of width p
-    → Adds strict (precedence p.arch.pattern width own) made
-    → own ≡ ordered_row width p row → made.cnf ≡ ordered_cnf width p row
-ordered-made width p row own strict made is added own_is =
-    let vars_are : made.cnf.vars ≡ (cnf_of width p).vars =
-    added.vars ∙ ap (λ (f : Cnf). f.vars) is in
-    let clauses_are : made.cnf.clauses ≡ (ordered_cnf width p row).clauses =
-    added.clauses
-    ∙ ap (λ (f : Cnf). f.clauses ++ precedence p.arch.pattern width own) is
-    ∙ ap (λ (r : List ℕ). (cnf_of width p).clauses ++ precedence p.arch.pattern width r) own_is
-    ∙ sym (cnf-row width p row) in
-    λ i. record { vars = vars_are i; clauses = clauses_are i }

@@ -5,7 +5,7 @@ use Rattle.std.specs.Option.{option_map_or, option_or}
 use Rattle.std.proofs.lemmas.Bool.{cases_lt}
 use Rattle.std.proofs.lemmas.Bool.Decides.{Decides-eqb, nat_tests}
 use Rattle.std.proofs.Math.ListN.{get_or-append}
-use Rattle.std.proofs.lemmas.List.{get_or-append-add, get_or_default, get_or_past, get_or-set_other, get_or-set_same, get_or-take, take_all, take_more, take_more_set}
+use Rattle.std.proofs.lemmas.List.{get_or-append-add, get_or_default, get_or_past, get_or-set_other, get_or-set_same, get_or-take, take_more, take_more_set}
 use Rattle.std.proofs.lemmas.List.Folds.{find-append}
 use Rattle.std.proofs.lemmas.List.Elements.{All-from_get_or}
 use Rattle.list_laws.proofs.Members.{find-In}
@@ -156,10 +156,6 @@ length-roots steps (suc n) =
     (get_or (roots_of steps n) (reached_from steps n) n ∷ []) in
     omega (arith, more, length-roots steps n)
 
-pub follow-start : (steps : List RouteStep) (row : List ℕ) → AreReached steps row
-    → IsFollowed steps 0 row
-follow-start steps row h = record { front = refl; rest = λ s from low. h s low }
-
 pub follow-step : (steps : List RouteStep) (s : ℕ) (row : List ℕ) → IsFollowed steps s row
     → s < length row
     → IsFollowed steps (s + 1) (slice_set row s (get_or row (get_or row s 0) 0))
@@ -194,10 +190,6 @@ follow-step steps s row h low = record {
           ap (λ (n : ℕ). get_or row n 0) (reached ∙ e) ∙ reached ∙ e
           ∙ sym (get_or_past (roots_of steps s) q s (omega (arith, e, length-roots steps s))))
     ]
-
-pub follow-end : (steps : List RouteStep) (n : ℕ) (row : List ℕ) → IsFollowed steps n row
-    → length row ≤ n → row ≡ roots_of steps n
-follow-end steps n row h all = sym (take_all n row all) ∙ h.front
 
 -- ---- what roots are
 

@@ -1,5 +1,5 @@
 -- Where wires stand by a table of what cells want.
-use Rattle.std.proofs.Common.{◌≡◌, ℕ, Bool, true, false, List, sym, ap, subst, ◌∙◌}
+use Rattle.std.proofs.Common.{◌≡◌, ℕ, Bool, false, List, sym, ap, subst, ◌∙◌}
 use Rattle.std.specs.Prelude.{IsTrue, max}
 use Rattle.std.proofs.lemmas.Bool.{false≢true}
 use Rattle.fpga_types.specs.Fabric.{is_cell}

@@ -168,29 +168,6 @@ slots-apart : (cell : Cell) (all : List Slot) (slot : Slot) → same_cell slot.c
 slots-apart cell all slot other =
     slots-push cell all slot false other ∙ add-zero (slots_in cell all)
 
--- a slot outside of the array
-pub counts-outside : (grid : Size) (all : List Slot) (slot : Slot) (needs : List ℕ)
-    → is_cell grid slot.cell ≡ false → AreNeeds grid (λ cell. slots_in cell all) needs
-    → AreNeeds grid (λ cell. slots_in cell (all ++ slot ∷ [])) needs
-counts-outside grid all slot needs outside =
-    needs-kept grid (λ cell. slots_in cell all) (λ cell. slots_in cell (all ++ slot ∷ [])) needs
-    (λ cell within. slots-apart cell all slot (apart grid slot.cell cell outside within))
-
--- a slot in its cell
-pub counts-more : (grid : Size) (all : List Slot) (slot : Slot) (place : ℕ) (needs : List ℕ)
-    → IsTrue (is_cell grid slot.cell) → IsAlone grid slot.cell place
-    → number_of_cell grid slot.cell ≡ place → place < length needs
-    → AreNeeds grid (λ cell. slots_in cell all) needs
-    → AreNeeds grid (λ cell. slots_in cell (all ++ slot ∷ []))
-    (slice_set needs place (get_or needs place 0 + 1))
-counts-more grid all slot place needs within alone number inside are =
-    needs-set grid (λ cell. slots_in cell all) (λ cell. slots_in cell (all ++ slot ∷ [])) slot.cell
-    place (get_or needs place 0 + 1) needs alone number inside
-    (slots-push slot.cell all slot true (same_cell-itself slot.cell)
-    ∙ ap (λ (n : ℕ). n + 1) (sym (are.need slot.cell within)
-    ∙ ap (λ (k : ℕ). get_or needs k 0) number))
-    (λ cell other. slots-apart cell all slot other) are
-
 -- a cell holds no more slots than there are
 pub slots-few : (cell : Cell) (all : List Slot) → slots_in cell all ≤ length all
 slots-few cell [] = omega arith

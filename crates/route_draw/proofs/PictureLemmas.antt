@@ -9,7 +9,7 @@ use Rattle.fpga_types.specs.declared.netlist.Net.{Net}
 use Rattle.fpga_types.specs.declared.route.Elem.{Elem}
 use Rattle.fpga_types.specs.declared.route.RouteNet.{RouteNet}
 use Rattle.route_draw.specs.Blamed.{Blame, mark_of}
-use Rattle.route_draw.specs.Caption.{AreCounts, IsKey, blamed_counted, counted, crowd_counted, global_count, line_opening}
+use Rattle.route_draw.specs.Caption.{AreCounts, IsKey, blamed_counted, counted, global_count, line_opening}
 use Rattle.route_draw.specs.Crowded.{AddsMarks, AreMarks}
 use Rattle.route_draw.specs.Needs.{AreNeeds}
 use Rattle.route_draw.specs.Parts.{Adds, AreParts}
@@ -91,10 +91,6 @@ counts-added problem blame nets blocks width y s0 s1 s2 s3 s4 are_nets are_block
           (line_opening y ++ counted (length nets) (global_count nets) blocks width
           ++ blamed_counted blame nets) (codes "</text>\n");
     }
-
-pub key-made : (crowded y : ℕ) (s1 s2 : List ℕ) → s2 ≡ s1 ++ crowd_counted y crowded →
-    IsKey crowded s2
-key-made crowded y s1 s2 added = (s1, (y, added))
 
 pub body-added : (problem : RoutingProblem) (layout : Layout) (blame : Blame) (blocks : List Block)
     (globals : List Net) (nets : List RouteNet) (old a b new : List ℕ) →

@@ -49,7 +49,7 @@ fn append_block(
     ensures { OnOk result (Adds (IsBlock block.now) (string_bytes out.old) (string_bytes out.new)) }
 {
     let drawn = block_drawn(alloc, problem, block, number)?;
-    let class = class_of(block.kind);
+    let class = block_class(block.kind);
     let name = block.name.bytes.as_slice();
     let label = Label {
         mark: "",
@@ -61,7 +61,7 @@ fn append_block(
     Ok(())
 }
 
-fn class_of(kind: BlockKind) -> &'static str
+fn block_class(kind: BlockKind) -> &'static str
     ensures { result.now ≡ block_class kind }
 {
     match kind {

@@ -11,9 +11,9 @@ use Rattle.fpga_text.specs.declared.fault.TextFault.TheVariants.{Limit}
 use Rattle.fpga_types.specs.FitCauses.{code_of}
 use Rattle.fpga_types.specs.Fits.{problem_faults}
 use Rattle.fpga_types.specs.Problem.{RoutingProblem}
+use Rattle.fpga_types.specs.Texts.{Texts}
 use Rattle.fpga_types.specs.declared.fit_cause.FitCause.TheVariants.{PastLimit}
 use Rattle.fpga_types.specs.declared.limits.TheConstants.{SLOT_LIMIT}
-use Rattle.route_gen.specs.Texts.{Texts}
 
 -- no text has a fault, and they read as the values of this problem
 pub record AreRead (texts : Texts) (p : RoutingProblem) : Type 0 where

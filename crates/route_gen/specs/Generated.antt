@@ -1,10 +1,10 @@
 -- The four texts that a seed gives.
 use Rattle.std.specs.Prelude.{ℕ, ◌*◌, ◌<◌, ◌≤◌, ◌++◌, codes}
 use Rattle.fpga_text.specs.Bytes.{Bytes}
+use Rattle.fpga_types.specs.Texts.{Texts}
 use Rattle.route_gen.specs.Netlists.{generated_netlist}
 use Rattle.route_gen.specs.Placements.{generated_placement}
 use Rattle.route_gen.specs.Routes.{generated_route}
-use Rattle.route_gen.specs.Texts.{Texts}
 use Rattle.route_gen.specs.declared.texts.GenStop.{GenStop}
 use Rattle.route_gen.specs.declared.texts.GenStop.TheVariants.{Room, Memory}
 

@@ -1,13 +1,6 @@
--- The texts that a routing problem is read from.
+-- How long the texts may be that a routing problem is read from.
 use Rattle.std.specs.Prelude.{ℕ, ◌≤◌, length}
-use Rattle.fpga_text.specs.Bytes.{Bytes}
-
--- the text of an architecture, of a netlist, of its placement and of a global route of it
-pub record Texts : Type 0 where
-  pub architecture : Bytes
-  pub netlist : Bytes
-  pub placement : Bytes
-  pub route : Bytes
+use Rattle.fpga_types.specs.Texts.{Texts}
 
 -- each text has at most so many bytes
 pub record AreShort (most : ℕ) (texts : Texts) : Type 0 where

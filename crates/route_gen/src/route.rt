@@ -57,10 +57,10 @@ fn printed_route(alloc: Global, route: &RouteText) -> Result<Vec<u8>, AllocError
     let Ok(()) = write_file(&WholeRoute, &mut shelf, "route", route) else {
         return Err(AllocError);
     };
-    let Some(text) = shelf.file("route") else {
+    let Some(text) = shelf.into_file("route") else {
         unreachable!()
     };
-    Vec::from_slice(alloc, text)
+    Ok(text)
 }
 
 /// The text of the route of nets to their sinks, on an array of this side.

@@ -22,7 +22,7 @@ pub struct FourTexts {
 }
 
 impl Model for FourTexts {
-    ghost use Rattle.route_gen.specs.Texts.{Texts};
+    ghost use Rattle.fpga_types.specs.Texts.{Texts};
 
     ghost Value = { Texts };
 

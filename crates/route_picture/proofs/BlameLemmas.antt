@@ -1,15 +1,14 @@
 -- The names that lines give, taken one after another.
-use Rattle.std.proofs.Common.{◌≡◌, ◌≢◌, ◌⊎◌, ℕ, ◌+◌, Bool, true, false, List, [], ◌∷◌, ◌++◌, Some, None, take, refl, inl, inr, sym, ap, subst, ◌∙◌, add-one}
-use Rattle.std.specs.Prelude.{◌||◌, bytes_eq, slice_get}
+use Rattle.std.proofs.Common.{◌≡◌, ◌≢◌, ◌⊎◌, ℕ, Bool, true, false, List, [], ◌∷◌, ◌++◌, Some, None, refl, inl, inr, sym, ap, subst, ◌∙◌}
+use Rattle.std.specs.Prelude.{◌||◌, slice_get}
 use Rattle.std.specs.List.{list_any}
 use Rattle.std.proofs.Math.Bool.{or-false}
 use Rattle.std.proofs.lemmas.Bool.{false≢true}
-use Rattle.list_laws.proofs.Places.{take-get}
 use Rattle.fpga_text.specs.Bytes.{Bytes}
 use Rattle.fpga_text.specs.Words.{TextLine, Words}
 use Rattle.fpga_types.specs.declared.netlist.Net.{Net}
 use Rattle.fpga_types.proofs.NameLaws.{name_itself}
-use Rattle.route_draw.specs.Blamed.{GainsBlamed, is_blamed}
+use Rattle.route_draw.specs.Blamed.{is_blamed}
 use Rattle.route_picture.specs.Blame.{AreNames, Given, IsStrange, NamesOthers, TakesFront, TakesNames, first_strange, given, given_by, given_in, has_net, name_in, names_of}
 use Rattle.route_picture.specs.declared.stop.Stop.{Stop}
 use Rattle.route_picture.specs.declared.stop.Stop.TheVariants.{Memory, NoNet}
@@ -23,33 +22,6 @@ any-push : {T : Type 0} (p : T → Bool) (xs : List T) (x : T)
 any-push p [] x = or-false (p x)
 any-push p (y ∷ ys) x =
     ap (λ (b : Bool). p y || b) (any-push p ys x) ∙ sym (or-next (p y) (list_any p ys) (p x))
-
--- one net more has its name
-pub names-more : (nets : List Net) (i : ℕ) (net : Net) (name : Bytes) (old new : List Bytes)
-    → slice_get nets i ≡ Some net → name ≡ net.name → GainsBlamed old name new
-    → AreNames (take i nets) old → AreNames (take (i + 1) nets) new
-names-more nets i net name old new at named gains are = λ other.
-    gains other
-    ∙ (λ k. are other k || bytes_eq (named k) other)
-    ∙ sym (any-push (λ (n : Net). bytes_eq n.name other) (take i nets) net)
-    ∙ ap (λ (ns : List Net). has_net ns other)
-    (sym (ap (λ (n : ℕ). take n nets) (add-one i) ∙ take-get nets i net at))
-
--- a name is taken that a net has
-pub takes-one : (nets : List Net) (all rest : List Given) (one : Given) (old new : List Bytes)
-    → has_net nets one.name ≡ true → GainsBlamed old one.name new
-    → TakesFront nets all (one ∷ rest) old → TakesFront nets all rest new
-takes-one nets all rest one old new known gains front = record {
-  same = λ other.
-      ap (λ (b : Bool). b || is_blamed (names_of rest) other) (gains other)
-      ∙ or-next (is_blamed old other) (bytes_eq one.name other) (is_blamed (names_of rest) other)
-      ∙ front.same other;
-  strange = sym (first known) ∙ front.strange;
-}
-  where
-    first : has_net nets one.name ≡ true
-        → first_strange nets (one ∷ rest) ≡ first_strange nets rest
-    first e = rw e refl
 
 -- the first that no net has
 pub strange-one : (nets : List Net) (all rest : List Given) (one : Given) (names : List Bytes)
@@ -84,12 +56,6 @@ some-given all [] some same none = some refl
 some-given all (first ∷ names) some same none =
     false≢true (sym (same first ∙ ap (λ (gs : List Given). is_blamed (names_of gs) first) none)
     ∙ ap (λ (b : Bool). b || is_blamed names first) (name_itself first))
-
--- the nets to blame are those of the same names
-pub blames-same : (names others : List Bytes)
-    → ((name : Bytes) → is_blamed names name ≡ is_blamed others name)
-    → Some (is_blamed names) ≡ Some (is_blamed others)
-blames-same names others same = λ i. Some (λ name. same name i)
 
 -- what the next line gives stands before what the others give
 line-first : (ahead : List TextLine) (line : TextLine) → slice_get ahead 0 ≡ Some line

@@ -3,10 +3,11 @@ use Rattle.std.proofs.Common.{◌≡◌, ◌⊎◌, ℕ, List, Option, Some, Non
 use Rattle.desk_io.specs.DeskState.{DeskState}
 use Rattle.desk_io.specs.Files.{FileMap}
 use Rattle.fpga_problem.specs.Refused.{IsRefused}
-use Rattle.fpga_problem.specs.Texts.{AreFaultless, Texts, problem_said}
+use Rattle.fpga_problem.specs.Texts.{AreFaultless, problem_said}
 use Rattle.fpga_problem.specs.declared.refusal.Refusal.{Refusal}
 use Rattle.fpga_text.specs.Bytes.{Bytes}
 use Rattle.fpga_types.specs.Problem.{RoutingProblem}
+use Rattle.fpga_types.specs.Texts.{Texts}
 use Rattle.fpga_types.specs.declared.netlist.Net.{Net}
 use Rattle.route_draw.specs.Blamed.{Blame}
 use Rattle.route_draw.specs.Picture.{IsPicture}

@@ -3,9 +3,9 @@ use Rattle.std.specs.Prelude.{◌≡◌, ◌≤◌, ℕ, ⊤, length, Option, So
 use Rattle.desk_io.specs.DeskState.{DeskState}
 use Rattle.desk_io.specs.Files.{FileMap, RisesByOne}
 use Rattle.desk_io.specs.Reading.{FaultIsOn, HasTakenOneMore, IsWhole}
-use Rattle.fpga_problem.specs.Texts.{Texts}
 use Rattle.fpga_problem.specs.declared.text_file.TextFile.TheVariants.{Architecture, Netlist, Placement, Route}
 use Rattle.fpga_text.specs.Bytes.{Bytes}
+use Rattle.fpga_types.specs.Texts.{Texts}
 use Rattle.route_picture.specs.Words.{Asked, RoutedAsked}
 use Rattle.route_picture.specs.declared.given_file.GivenFile.{GivenFile}
 use Rattle.route_picture.specs.declared.given_file.GivenFile.TheVariants.{Text, Names, Routed}

@@ -44,14 +44,14 @@ pub(crate) fn append_stop<R: Files + AllocGlobal>(
         (string_bytes out.new)) }
 {
     let meaning = meaning(rt, words, stop)?;
-    append_about(out, words, file_meant(stop))?;
+    append_about(out, words, file_about(stop))?;
     out.push_str(meaning.as_str())?;
     out.push_str("\n")?;
     Ok(())
 }
 
 // The file that a stop is about, if it is about one.
-fn file_meant(stop: Stop) -> Option<GivenFile>
+fn file_about(stop: Stop) -> Option<GivenFile>
     ensures { result ≡ file_about stop }
 {
     match stop {

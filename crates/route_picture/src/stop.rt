@@ -37,8 +37,8 @@ impl Stop {
         ensures { result ≡ status_of self }
     {
         match self {
-            Stop::Faulty(refusal) => fault_status(refusal.fault),
-            Stop::BadRouted(fault) => fault_status(fault),
+            Stop::Faulty(refusal) => status_of_fault(refusal.fault),
+            Stop::BadRouted(fault) => status_of_fault(fault),
             Stop::TooLong(_) | Stop::NoNet { .. } | Stop::NoNames | Stop::Illegal { .. } => 3,
             Stop::Usage => 4,
             Stop::Unread(_) => 5,
@@ -49,7 +49,7 @@ impl Stop {
 }
 
 // The exit status where a text has this fault.
-fn fault_status(fault: TextFault) -> u8
+fn status_of_fault(fault: TextFault) -> u8
     ensures { result ≡ status_of_fault fault }
 {
     match fault {

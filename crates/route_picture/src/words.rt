@@ -123,7 +123,7 @@ fn routed_file<'a>(file: &'a str, option: &str, reach: &str) -> Option<RoutedFil
     if option.as_bytes() != b"--reach".as_slice() {
         return None;
     }
-    let Some(reach) = number_of(reach, REACH_LIMIT) else {
+    let Some(reach) = number_said(reach, REACH_LIMIT) else {
         return None;
     };
     Some(RoutedFile { file, reach })
@@ -140,7 +140,7 @@ fn at_width<'a>(
         (routed_of routed.entry)) result }
     ensures width { IfOk result (λ words. (1 ≤ words.width) × (words.width ≤ WIDTH_LIMIT)) }
 {
-    let Some(width) = number_of(word, WIDTH_LIMIT) else {
+    let Some(width) = number_said(word, WIDTH_LIMIT) else {
         return Err(Stop::Usage);
     };
     Ok(Words {
@@ -152,7 +152,7 @@ fn at_width<'a>(
 }
 
 // The number that a word says, if it is from 1 to a limit.
-fn number_of(word: &str, limit: u32) -> Option<u32>
+fn number_said(word: &str, limit: u32) -> Option<u32>
     ensures number { result ≡ number_said limit word.now }
     ensures range { IfSome result (λ number. (1 ≤ number) × (number ≤ limit)) }
 {

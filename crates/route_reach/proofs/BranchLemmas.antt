@@ -46,9 +46,6 @@ ends-same lines e other =
     one true h = absurd (false≢true (sym h))
     one false h = refl
 
-pub channel-no_end : (e : Elem) → is_channel e.kind ≡ true → is_end e ≡ false
-channel-no_end e is = let k = channel-kinds e.kind is in λ i. k.2 i || k.3 i
-
 -- where a branch may begin behind a line, that is a SINK
 pub open-sink : (lines : List Elem) → is_open lines ≡ true → 0 < length lines
     → (a : Elem) × (last_or None lines ≡ Some a) × (is_sink a.kind ≡ true)

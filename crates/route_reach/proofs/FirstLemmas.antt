@@ -62,11 +62,6 @@ sought-next all slot b h =
         (In-range h.at (b - h.at) j behind (omega (arith, low, behind)))
         (passes-there all slot j same))
 
--- the walk begins at the first slot of the cell
-pub sought-first : (all : List Slot) (slot : Slot) → IsSought all slot (first_from all 0 slot.cell)
-sought-first all slot =
-    record { at = 0; next_is = refl; none = λ j low. absurd (omega (arith, low)) }
-
 -- and goes on from a slot of another net
 pub sought-on : (all : List Slot) (slot : Slot) (b : ℕ) → IsSought all slot (Some b)
     → (slot_at all b).net ≢ slot.net → IsSought all slot (next_rival all b)

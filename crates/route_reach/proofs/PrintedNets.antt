@@ -108,11 +108,6 @@ pin-other Opin h = refl
 pin-other Ipin h = refl
 pin-other k h = absurd (false≢true h)
 
--- where the tests of two that end in a third hold, it does
-and-last : (a b : Bool) → a ≡ true → (a && not b) ≡ false → b ≡ true
-and-last true b h g = not-false b g
-and-last false b h g = absurd (false≢true h)
-
 module _ (f : NetFrame) (is : IsFrame f) (printed : Printed)
     (so_far : IsPrintedTo f (length f.net.elems) printed) where
   abbrev lines : List Elem

@@ -20,7 +20,7 @@ use Rattle.route_reach.specs.Printing.{NetFrame, graph_in, line_behind}
 use Rattle.route_reach.specs.Quiet.{IsQuiet}
 use Rattle.route_verify.specs.Lines.{JudgedLine, branches_loose, device_in, is_other_again, is_sink_again, is_stray_in, is_unfit, is_wire_of}
 use Rattle.route_verify.specs.Reach.{ReachLine}
-use Rattle.route_verify.specs.Wiring.{are_parted, are_unconnected, elem_wire, misses, pin_on, wire_on}
+use Rattle.route_verify.specs.Wiring.{are_unconnected, elem_wire, misses, pin_on, wire_on}
 
 -- none of the codes of the fit holds at a line
 pub fit-none : (g : GraphOf) (at : JudgedLine) → is_unknown at.fit ≡ false
@@ -36,10 +36,6 @@ fit-none g at a b c d e f h i j k = λ n. a n || b n || c n || d n || e n || f n
 pub missed-none : (g : GraphOf) (pin : Option PinAt) → misses g pin None ≡ false
 missed-none g None = refl
 missed-none g (Some pin) = refl
-
-parted-none : (g : GraphOf) (u : Option Wire) → are_parted g u None ≡ false
-parted-none g None = refl
-parted-none g (Some u) = refl
 
 -- what the causes against a line behind others look at, by the line before it, whether it equals
 -- one of them, its wire is one of theirs, and how deep the wire two lines before it is

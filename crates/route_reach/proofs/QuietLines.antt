@@ -1,8 +1,7 @@
 -- Of a route that is judged legal within a reach no cause holds at any line.
-use Rattle.std.proofs.Common.{◌≡◌, ℕ, ◌+◌, false, [], ◌∷◌, ◌++◌, Some, sym, ◌∙◌}
+use Rattle.std.proofs.Common.{◌≡◌, ℕ, [], ◌∷◌, ◌++◌, Some, sym, ◌∙◌}
 use Rattle.std.specs.Prelude.{map}
 use Rattle.list_laws.proofs.Members.{In}
-use Rattle.fpga_graph.specs.GraphOf.{GraphOf}
 use Rattle.fpga_text.specs.FirstFault.{Faults, IsFaultless, first_fault}
 use Rattle.fpga_text.proofs.FaultLemmas.{first_fault-append, option_or-none}
 use Rattle.fpga_types.specs.Fit.{RouteLine, line_number, route_lines}

@@ -80,7 +80,7 @@ pub(crate) fn tally(problem: &PlacedProblem, graph: &Graph<'_>, width: u32) -> R
     ensures shared { result.shared ≡ length (pairs (slots problem.now.route)) * width }
 {
     ReachTally {
-        sinks: sinks_of_all(problem),
+        sinks: sink_count(problem),
         far: far_of_all(problem, graph, width),
         wires: problem.slots().len() as u64 * width as u64,
         shared: problem.pairs() * width as u64,
@@ -88,7 +88,7 @@ pub(crate) fn tally(problem: &PlacedProblem, graph: &Graph<'_>, width: u32) -> R
 }
 
 /// How many SINK lines the ordinary nets have.
-fn sinks_of_all(problem: &PlacedProblem) -> u64
+fn sink_count(problem: &PlacedProblem) -> u64
     ensures value { result ≡ sink_count problem.now.route }
     ensures limit { result ≤ STEP_LIMIT + NET_LIMIT }
 {

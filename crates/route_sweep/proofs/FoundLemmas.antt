@@ -8,8 +8,8 @@ use Rattle.sat_clause.specs.declared.limits.TheConstants.{VARIABLE_LIMIT}
 use Rattle.sat_clause.specs.Formula.{Cnf, IsUnsat}
 use Rattle.sat_clause.specs.Step.{Step}
 use Rattle.sat_clause.proofs.Refutes.{refutes}
+use Rattle.sat_clause.specs.Learned.{added_count}
 use Rattle.sat_core.specs.Answer.{IsAnswer, IsDecided, most_added}
-use Rattle.sat_core.specs.SearchLog.{added_count}
 use Rattle.sat_core.specs.declared.answer.Answer.{Answer}
 use Rattle.sat_core.specs.declared.answer.Answer.TheVariants.{Refuted as HasNone, Spent as IsOpen}
 use Rattle.sat_rat.proofs.FullSound.{accepts_more}

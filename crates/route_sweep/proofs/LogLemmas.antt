@@ -6,13 +6,13 @@ use Rattle.sat_clause.specs.declared.cause.Cause.TheVariants.{DeletesNotLive}
 use Rattle.sat_clause.specs.declared.limits.TheConstants.{ID_LIMIT, VARIABLE_LIMIT}
 use Rattle.sat_clause.specs.Formula.{Cnf}
 use Rattle.sat_clause.specs.Judge.{after, erase, erase_fault, take_out}
-use Rattle.sat_clause.specs.Learned.{IsFresh, IsSimple}
 use Rattle.sat_clause.specs.Literal.{Clause, IsWithin}
 use Rattle.sat_clause.specs.Live.{Live, clause_at, named, put}
 use Rattle.sat_clause.specs.Step.{Step, Added, Erased}
 use Rattle.sat_clause.proofs.LiveLaws.{clause_at-without}
+use Rattle.sat_clause.specs.Learned.{IsFresh, IsSimple, added_count}
 use Rattle.sat_core.specs.Kept.{AreBelow}
-use Rattle.sat_core.specs.SearchLog.{AreNumbered, IsEarlier, IsSearchLog, added_count}
+use Rattle.sat_core.specs.SearchLog.{AreNumbered, IsEarlier, IsSearchLog}
 use Rattle.sat_core.proofs.KeptLaws.{put_below}
 use Rattle.sat_text.specs.LratText.{ReadsLrat}
 use Rattle.sat_text.specs.Printed.{log_text}

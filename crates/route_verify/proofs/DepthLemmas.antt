@@ -4,7 +4,7 @@ use Rattle.std.specs.Prelude.{find, map, option_map, option_and_then, ifâ—Œthenâ
 use Rattle.std.specs.List.{last_or}
 use Rattle.std.proofs.lemmas.List.{append-nil, map-append}
 use Rattle.list_laws.proofs.Members.{In, In-append_cases, find-In}
-use Rattle.list_laws.proofs.Places.{last-push, some_is}
+use Rattle.list_laws.proofs.Places.{some_is}
 use Rattle.fpga_types.specs.Kinds.{is_channel, is_opin, is_sink}
 use Rattle.fpga_types.specs.declared.route.Elem.{Elem}
 use Rattle.route_verify.specs.Depths.{DeepLine, deep_line, deep_lines, deep_lines_behind, depth_after, depth_behind}

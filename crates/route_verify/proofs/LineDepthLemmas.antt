@@ -1,6 +1,6 @@
 -- The depths of the lines that were taken, by what is kept of them.
-use Rattle.std.proofs.Common.{◌≡◌, ◌≢◌, ℕ, ◌+◌, ◌-◌, ◌<◌, Bool, true, false, cond, Option, Some, None, List, [], ◌∷◌, ◌++◌, length, take, refl, sym, ap, subst, ◌∙◌, arith, length-append}
-use Rattle.std.specs.Prelude.{◌&&◌, ◌||◌, ◌==◌, find, is_some, not, option_map, option_and_then, if◌then◌else◌}
+use Rattle.std.proofs.Common.{◌≡◌, ℕ, ◌-◌, ◌<◌, Bool, true, false, cond, Option, Some, None, List, [], ◌∷◌, ◌++◌, length, take, refl, sym, ap, subst, ◌∙◌, arith, length-append}
+use Rattle.std.specs.Prelude.{◌&&◌, ◌||◌, ◌==◌, is_some, not, option_map, option_and_then, if◌then◌else◌}
 use Rattle.std.specs.BTreeMap.{BTreeMap, get}
 use Rattle.std.specs.List.{last_or}
 use Rattle.std.specs.Option.{option_or}
@@ -14,11 +14,11 @@ use Rattle.fpga_bounds.specs.Keys.{key_cmp}
 use Rattle.fpga_bounds.specs.declared.keys.ElemKey.{ElemKey}
 use Rattle.fpga_bounds.proofs.KeyLemmas.{pin_key_ties}
 use Rattle.fpga_types.specs.Fit.{same_elem, same_place}
-use Rattle.fpga_types.specs.Kinds.{is_channel, is_opin, is_sink, same_kind}
+use Rattle.fpga_types.specs.Kinds.{is_channel, same_kind}
 use Rattle.fpga_types.specs.contracts.route.ElemKindOrd.TheImpl as kind_ord
 use Rattle.fpga_types.specs.declared.route.Elem.{Elem}
 use Rattle.fpga_types.specs.declared.route.ElemKind.{ElemKind}
-use Rattle.fpga_types.specs.declared.route.ElemKind.TheVariants.{Source, Opin, ChanX, ChanY, Ipin, Sink}
+use Rattle.fpga_types.specs.declared.route.ElemKind.TheVariants.{ChanX, ChanY, Ipin}
 use Rattle.fpga_types.proofs.MeetingLemmas.{both_true}
 use Rattle.route_verify.specs.Depths.{DeepLine, deep_line, depth_after, depth_behind}
 use Rattle.route_verify.specs.LineDepths.{AreFirsts, HasTaken, deep_of, depth_at_last, depth_by, first_depth, first_equal, line_key, same_by}

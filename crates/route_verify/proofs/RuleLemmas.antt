@@ -4,6 +4,7 @@ use Rattle.std.specs.Prelude.{◌&&◌, ◌==◌, length, not}
 use Rattle.std.specs.BTreeSet.{BTreeSet}
 use Rattle.std.specs.List.{list_all}
 use Rattle.std.specs.Option.{option_map_or}
+use Rattle.fpga_bounds.specs.ElemContext.{with_full}
 use Rattle.fpga_bounds.specs.NetEnds.{NamedNet}
 use Rattle.fpga_bounds.specs.NetFit.{head_line}
 use Rattle.fpga_bounds.specs.NetTable.{number_named}
@@ -27,7 +28,7 @@ use Rattle.route_verify.specs.Heads.{head_cause}
 use Rattle.route_verify.specs.Judged.{graph_of, line_cause, line_causes}
 use Rattle.route_verify.specs.Lines.{has_wire, is_stray_in, is_wire_of, without_count}
 use Rattle.route_verify.specs.Reach.{causes_within, line_cause_by, reach_line}
-use Rattle.route_verify.specs.Rules.{IsLineOf, reached_at, with_full}
+use Rattle.route_verify.specs.Rules.{IsLineOf, reached_at}
 use Rattle.route_verify.specs.Wiring.{wire_on}
 use Rattle.route_verify.specs.declared.line.ElemLine.{ElemLine}
 use Rattle.route_verify.proofs.TableLemmas.{head-by, table-is}

@@ -1,11 +1,10 @@
 -- What a line of a net is judged by, as the code has it.
-use Rattle.std.specs.Prelude.{◌≡◌, ℕ, Bool, false, Option}
+use Rattle.std.specs.Prelude.{◌≡◌, ℕ, false, Option}
 use Rattle.std.specs.BTreeSet.{BTreeSet}
 use Rattle.std.specs.Option.{option_map_or}
-use Rattle.fpga_bounds.specs.ElemContext.{IsLineOf as IsElemLine}
+use Rattle.fpga_bounds.specs.ElemContext.{IsLineOf as IsElemLine, with_full}
 use Rattle.fpga_bounds.specs.NetEnds.{NamedNet}
 use Rattle.fpga_bounds.specs.ProblemContext.{problem_context_at}
-use Rattle.fpga_bounds.specs.declared.elem_context.ElemContext.{ElemContext}
 use Rattle.fpga_bounds.specs.declared.keys.ElemKey.{ElemKey}
 use Rattle.fpga_graph.specs.GraphOf.{GraphOf}
 use Rattle.fpga_text.specs.Bytes.{Bytes}
@@ -50,10 +49,6 @@ judged_at at = let fit : ProblemContext = problem_context_at at.fit in record {
 -- the same within a reach
 abbrev pub reached_at : LineContext → ReachLine
 reached_at at = record { line = judged_at at; depth = at.depth }
-
--- the same, with another word on whether the slots are full
-abbrev pub with_full : ElemContext → Bool → ElemContext
-with_full at full = record at { full = full }
 
 -- the line of an element of which this is at hand, but for how many slots there are, where the set
 -- has the elements of its net up to it

@@ -1,21 +1,23 @@
 //! What the nets of a routed file are judged by, and the cause against a Net line.
-ghost use Rattle.std.specs.Prelude.{◌≡◌, ◌<◌, ◌==◌, ◌&&◌, not, [], ◌∷◌, ◌++◌, false, length, slice_index_or, List, IfOk, OnOk, Some};
+ghost use Rattle.std.specs.Prelude.{◌≡◌, ◌<◌, ◌==◌, ◌&&◌, not, [], false, length, slice_index_or, IfOk, Some};
 ghost use Rattle.std.specs.List.{list_all};
-ghost use Rattle.fpga_text.specs.FirstFault.{AnswersFault};
-ghost use Rattle.fpga_bounds.specs.NetFit.{head_line};
-ghost use Rattle.fpga_bounds.specs.NetTable.{HasNetLines, number_named};
+ghost use Rattle.fpga_bounds.specs.NetTable.{number_named};
 ghost use Rattle.fpga_types.specs.Fits.{has_sink, is_known};
 ghost use Rattle.fpga_types.specs.Terminals.{sinks_named};
-ghost use Rattle.fpga_types.specs.declared.route.RouteNet.{RouteNet};
 ghost use Rattle.route_verify.specs.Heads as spec;
+ghost use Rattle.route_verify.specs.Judge.{HasKept};
 ghost use Rattle.route_verify.specs.Judged.{graph_of};
 ghost use Rattle.route_verify.specs.Reach.{line_cause_by};
 
 use crate::cause::Cause;
+use crate::depths::LineDepths;
+use crate::kept::Kept;
+use crate::line::ElemLine;
 use crate::rules::Rules;
 use crate::traces::Traces;
+use crate::wires::{add_wires, is_on};
 use crate::wiring::Wiring;
-use fpga_bounds::{Design, NetEnds, NetTable, are_alike};
+use fpga_bounds::{Design, ElemAt, LineRules, NetEnds, NetTable, are_alike, is_bare};
 use fpga_text::{Coded, TextFault};
 use fpga_types::RouteNet;
 use std::alloc::{AllocError, Global};
@@ -70,58 +72,11 @@ impl<'a> Judge<'a> {
         })
     }
 
-    /// The nets of the netlist.
-    pub(crate) fn names(&self) -> &NetTable<'a>
-        ensures { result.now ≡ self.now.problem.netlist.nets }
-    {
-        &self.names
-    }
-
     /// The problem.
     pub(crate) fn design(&self) -> &'a Design<'a>
         ensures { result.now ≡ self.now.problem }
     {
         self.design
-    }
-
-    /// Judges the Net line of a net, and marks that its net of the netlist has one: the rules for
-    /// the lines of the net, where nothing is against it.
-    pub(crate) fn check_head(
-        &self,
-        alloc: Global,
-        marks: &mut [bool],
-        net: &'a RouteNet,
-    ) -> Result<Rules<'a>, TextFault>
-        requires { length marks.old ≡ length self.now.problem.netlist.nets }
-        ensures answers { (earlier : List RouteNet)
-            → HasNetLines self.now.problem.netlist.nets marks.old earlier
-            → AnswersFault (line_cause_by self.now.reach self.now.width self.now.problem
-            (head_line earlier net.now))
-            (λ rules. rules ≡ record {
-              problem = self.now.problem;
-              name = net.now.name;
-              width = self.now.width;
-              reach = self.now.reach;
-            }) result }
-        ensures marked { (earlier : List RouteNet)
-            → HasNetLines self.now.problem.netlist.nets marks.old earlier
-            → OnOk result (HasNetLines self.now.problem.netlist.nets marks.new
-            (earlier ++ net.now ∷ [])) }
-    {
-        let Some(number) = self.names().number_of(net.name.bytes.as_slice()) else {
-            return Err(Cause::Unfit.at(net.line));
-        };
-        let Ok(rules) = self.rules(alloc, number, net) else {
-            return Err(TextFault::Memory);
-        };
-        let known = self.has_form(number, net);
-        let repeated = is_marked(marks, number);
-        let lacking = is_lacking(alloc, &rules, net);
-        if let Some(fault) = head_cause(net.line, known, repeated, is_bare(net), lacking) {
-            return Err(fault);
-        }
-        marks[number] = true;
-        Ok(rules)
     }
 
     /// The rules for the lines of the net, which has this number in the netlist.
@@ -156,19 +111,88 @@ impl<'a> Judge<'a> {
     }
 }
 
+impl<'a> LineRules<'a> for Judge<'a> {
+    type Net = Rules<'a>;
+
+    type Kept = Kept;
+
+    ghost problem = { λ j. j.problem };
+
+    ghost fault = { λ j. line_cause_by j.reach j.width j.problem };
+
+    ghost is_net = { λ j rules net. rules ≡ record {
+      problem = j.problem;
+      name = net.name;
+      width = j.width;
+      reach = j.reach;
+    } };
+
+    ghost has_kept = { λ kept earlier net before. HasKept kept earlier before };
+
+    fn names(&self) -> &NetTable<'a> {
+        &self.names
+    }
+
+    fn check_head(
+        &self,
+        alloc: Global,
+        marks: &mut [bool],
+        net: &'a RouteNet,
+    ) -> Result<Rules<'a>, TextFault> {
+        let Some(number) = self.names().number_of(net.name.bytes.as_slice()) else {
+            return Err(Cause::Unfit.at(net.line));
+        };
+        let Ok(rules) = self.rules(alloc, number, net) else {
+            return Err(TextFault::Memory);
+        };
+        let known = self.has_form(number, net);
+        let repeated = is_marked(marks, number);
+        let lacking = is_lacking(alloc, &rules, net);
+        if let Some(fault) = head_cause(net.line, known, repeated, is_bare(net), lacking) {
+            return Err(fault);
+        }
+        marks[number] = true;
+        Ok(rules)
+    }
+
+    fn check_elem(
+        &self,
+        rules: &Rules<'a>,
+        kept: &mut Kept,
+        at: ElemAt<'_>,
+    ) -> Result<(), TextFault> {
+        let elem = at.context.elem;
+        let line = ElemLine {
+            route: at.context,
+            wire_again: is_on(&kept.wires, elem),
+            wire_taken: is_on(&kept.taken, elem),
+            depth: kept.depths.last_but_one(),
+        };
+        if let Some(fault) = rules.cause(line, at.seen) {
+            return Err(fault);
+        }
+        let Ok(()) = kept.add_line(elem) else {
+            return Err(TextFault::Memory);
+        };
+        Ok(())
+    }
+
+    fn end_net(&self, alloc: Global, kept: &mut Kept, net: &RouteNet) -> Result<(), AllocError> {
+        let Ok(()) = add_wires(&mut kept.taken, net.elems.as_slice()) else {
+            return Err(AllocError);
+        };
+        kept.wires = BTreeSet::new(alloc);
+        kept.depths = LineDepths::new(alloc, true);
+        Ok(())
+    }
+}
+
 /// Whether the net with this number is marked.
 fn is_marked(marks: &[bool], number: usize) -> bool
     requires { number < length marks.now }
     ensures { result ≡ slice_index_or marks.now number false }
 {
     marks[number]
-}
-
-/// Whether the net is ordinary and has no element.
-fn is_bare(net: &RouteNet) -> bool
-    ensures { result ≡ (not net.now.global && length net.now.elems == 0) }
-{
-    !net.global && net.elems.as_slice().is_empty()
 }
 
 /// Whether the net is ordinary and has no element, though it has a sink.

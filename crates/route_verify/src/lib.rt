@@ -3,14 +3,12 @@
 
 mod cause;
 mod depths;
-mod elems;
 mod judge;
 mod judgement;
+mod kept;
 mod laws;
 mod line;
-mod nets;
 mod rules;
-mod taken;
 mod traces;
 mod verdict;
 mod wires;

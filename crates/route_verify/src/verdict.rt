@@ -1,6 +1,5 @@
 //! How a routed file is judged against the problem of its global route.
-ghost use Rattle.std.specs.Prelude.{◌≡◌, ◌<◌, ◌≤◌, ◌-◌, ◌^◌, [], false, ⊤, replicate, IfOk};
-ghost use Rattle.fpga_bounds.specs.NetTable.{HasNetLines};
+ghost use Rattle.std.specs.Prelude.{◌≡◌, ◌<◌, ◌≤◌, ◌-◌, ◌^◌, ⊤, length, IfOk};
 ghost use Rattle.fpga_text.specs.FirstFault.{Answers};
 ghost use Rattle.fpga_types.specs.Sound.{IsSound};
 ghost use Rattle.route_verify.specs.Judge.{lines_causes};
@@ -10,11 +9,11 @@ ghost use Rattle.route_verify.specs.Reach.{causes_by, judged_by, reach_judged};
 use crate::cause::Cause;
 use crate::judge::Judge;
 use crate::judgement::Judgement;
-use crate::nets::check_nets;
+use crate::kept::Kept;
 use crate::wiring::Wiring;
-use fpga_bounds::{Design, PlacedProblem, is_one_size, lacks_net};
+use fpga_bounds::{Design, PlacedProblem, check_nets, is_one_size};
 use fpga_text::{Coded, TextFault};
-use fpga_types::{Grid, RouteText, WIDTH_LIMIT};
+use fpga_types::{Grid, NET_LIMIT, RouteText, WIDTH_LIMIT};
 use std::alloc::{AllocError, Global};
 
 /// Judges a routed file, which was read like a global route, against the problem of its global
@@ -135,6 +134,7 @@ fn check_with<'a>(
     found: &'a RouteText,
 ) -> Result<(), TextFault>
     requires fabric { wiring.now ≡ graph_of wiring.now.width design.now }
+    requires nets { length found.now.nets ≤ NET_LIMIT }
     requires lines { found.now.lines < 2 ^ 64 - 1 }
     ensures { Answers (causes_by reach wiring.now.width design.now found.now) (λ _. ⊤) result }
 {
@@ -146,42 +146,30 @@ fn check_with<'a>(
 
 /// The first cause against the file.
 fn check_file<'a>(alloc: Global, judge: &Judge<'a>, found: &'a RouteText) -> Result<(), TextFault>
-    requires { found.now.lines < 2 ^ 64 - 1 }
+    requires nets { length found.now.nets ≤ NET_LIMIT }
+    requires lines { found.now.lines < 2 ^ 64 - 1 }
     ensures { Answers (causes_by judge.now.reach judge.now.width judge.now.problem found.now)
         (λ _. ⊤) result }
 {
     if !is_one_size(judge.design().placement.grid, found.grid) {
         return Err(Cause::Unfit.at(found.grid_line));
     }
-    let Ok(mut marks) = no_marks(alloc, judge.names().as_slice().len()) else {
-        return Err(TextFault::Memory);
-    };
-    check_lines(alloc, judge, &mut marks, found)
+    check_lines(alloc, judge, found)
 }
 
-/// A mark for each of so many nets, none of which has had its Net line.
-fn no_marks(alloc: Global, count: usize) -> Result<Vec<bool>, AllocError>
-    ensures { IfOk result (λ marks. marks.items ≡ replicate count false) }
-{
-    vec![in alloc; false; count]
-}
-
-/// The first cause against the file behind its array line; no net is marked.
-fn check_lines<'a>(
-    alloc: Global,
-    judge: &Judge<'a>,
-    marks: &mut [bool],
-    found: &'a RouteText,
-) -> Result<(), TextFault>
+/// The first cause against the file behind its array line.
+fn check_lines<'a>(alloc: Global, judge: &Judge<'a>, found: &'a RouteText) -> Result<(), TextFault>
+    requires nets { length found.now.nets ≤ NET_LIMIT }
     requires lines { found.now.lines < 2 ^ 64 - 1 }
-    requires marks { HasNetLines judge.now.problem.netlist.nets marks.old [] }
     ensures { Answers (lines_causes judge.now.reach judge.now.width judge.now.problem found.now)
         (λ _. ⊤) result }
 {
-    if let Err(fault) = check_nets(alloc, judge, marks, found.nets.as_slice()) {
-        return Err(fault);
-    }
-    if lacks_net(judge.names(), marks) {
+    let mut kept = Kept::nothing(alloc);
+    let lacking = match check_nets(alloc, judge, &mut kept, found.nets.as_slice()) {
+        Ok(lacking) => lacking,
+        Err(fault) => return Err(fault),
+    };
+    if lacking {
         return Err(Cause::MissingSink.at(found.lines + 1));
     }
     Ok(())

@@ -6,17 +6,19 @@ use Rattle.list_laws.proofs.Places.{some_is}
 use Rattle.desk_io.specs.DeskState.{DeskState}
 use Rattle.desk_io.specs.Files.{Bytes}
 use Rattle.fpga_problem.specs.Refused.{IsRefused}
-use Rattle.fpga_problem.specs.Texts.{AreFaultless, Texts, faults_of, problem_said}
+use Rattle.fpga_problem.specs.Texts.{AreFaultless, faults_of, problem_said}
 use Rattle.fpga_problem.specs.declared.refusal.Refusal.{Refusal}
+use Rattle.fpga_problem.specs.declared.text_file.TextFile.TheVariants.{Architecture, Netlist, Placement, Route}
 use Rattle.fpga_text.specs.FirstFault.{IsFaultOf, first_fault}
 use Rattle.fpga_text.specs.declared.fault.TextFault.{TextFault}
 use Rattle.fpga_text.specs.declared.fault.TextFault.TheVariants.{Bad, Limit, Memory}
 use Rattle.fpga_types.specs.Problem.{RoutingProblem}
+use Rattle.fpga_types.specs.Texts.{Texts}
 use Rattle.router_says.specs.AtFault.{Appends, IsRead}
 use Rattle.router_says.specs.Names.{name_of}
 use Rattle.router_says.specs.Seen.{Looks, SaysSeen, SaysSeenOf, hints_of, is_memory, texts_by}
 use Rattle.router_says.specs.declared.seen.Hints.{Hints}
-use Rattle.router_top.specs.declared.text_file.TextFile.TheVariants.{Architecture, Netlist, Placement, Route}
+use Rattle.router_top.specs.declared.text_file.TextFile.TheVariants.{Problem}
 use Rattle.router_words.specs.Job.{JobAsked}
 
 -- what is said where there is nothing
@@ -96,8 +98,8 @@ of-four width hints a n p r texts old new is_a is_n is_p is_r added =
 pub looks : (before first second third now : DeskState) (asked : Option JobAsked) (width : ℕ)
     (is_open : Bool) (a n p r : Option Bytes) (arch net place route : Option Bytes)
     (hints : Hints) (old new : List ℕ) →
-    a ≡ name_of asked Architecture → n ≡ name_of asked Netlist → p ≡ name_of asked Placement →
-    r ≡ name_of asked Route → first.files ≡ before.files → second.files ≡ first.files →
+    a ≡ name_of asked (Problem Architecture) → n ≡ name_of asked (Problem Netlist) → p ≡ name_of asked (Problem Placement) →
+    r ≡ name_of asked (Problem Route) → first.files ≡ before.files → second.files ≡ first.files →
     third.files ≡ second.files → IsRead before first a arch → IsRead first second n net →
     IsRead second third p place → IsRead third now r route → hints ≡ hints_of asked is_open →
     Appends (SaysSeen width hints (texts_by arch net place route)) old new →

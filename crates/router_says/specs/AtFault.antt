@@ -10,6 +10,7 @@ use Rattle.fpga_arch.specs.Keywords.{keyword_word, keywords}
 use Rattle.fpga_arch.specs.Value.{arch_value}
 use Rattle.fpga_arch.specs.declared.keyword.Keyword.{Keyword}
 use Rattle.fpga_net.specs.Uses.{is_open}
+use Rattle.fpga_problem.specs.declared.text_file.TextFile.TheVariants.{Architecture, Netlist, Placement}
 use Rattle.fpga_text.specs.FirstFault.{first_fault}
 use Rattle.fpga_text.specs.Said.{begins, has_text}
 use Rattle.fpga_text.specs.Words.{TextLine, Words, text_lines}
@@ -24,7 +25,7 @@ use Rattle.router_says.specs.declared.at_fault.TheConstants.{LIMIT}
 use Rattle.router_says.specs.declared.pin_use.PinUse.{PinUse}
 use Rattle.router_top.specs.Sources.{IsLonger}
 use Rattle.router_top.specs.declared.text_file.TextFile.{TextFile}
-use Rattle.router_top.specs.declared.text_file.TextFile.TheVariants.{Architecture, Netlist, Placement}
+use Rattle.router_top.specs.declared.text_file.TextFile.TheVariants.{Problem}
 
 -- behind a text comes one that is so
 abbrev pub Appends : (List ℕ → Type 0) → (old new : List ℕ) → Type 0
@@ -130,10 +131,10 @@ arch_in text = if is_none (first_fault (arch_faults text)) then Some (arch_value
 
 -- what is sought where this code is told of this file
 abbrev pub sought_of : TextFile → (code : ℕ) → Option Sought
-sought_of Architecture code = if code == 101 then Some Keywords else None
-sought_of Netlist code =
+sought_of (Problem Architecture) code = if code == 101 then Some Keywords else None
+sought_of (Problem Netlist) code =
     if code == 206 then Some GlobalPin else if code == 207 then Some SharedClass else None
-sought_of Placement code = if code == 303 then Some Block else None
+sought_of (Problem Placement) code = if code == 303 then Some Block else None
 sought_of file code = None
 
 -- what was read of the file with this name is all that stands there; or nothing was read: there is
@@ -148,13 +149,13 @@ IsRead before now (Some name) None =
 abbrev pub NamesKeywords : (before now : DeskState) → (names : TextFile → Option Bytes)
     → List ℕ → Type 0
 NamesKeywords before now names named = (text : Option Bytes)
-    × IsRead before now (names Architecture) text × (named ≡ option_map_or missing_said text [])
+    × IsRead before now (names (Problem Architecture)) text × (named ≡ option_map_or missing_said text [])
 
 -- the block of a line
 abbrev pub NamesBlock : (before now : DeskState) → (names : TextFile → Option Bytes)
     → (line : ℕ) → List ℕ → Type 0
 NamesBlock before now names line named = (text : Option Bytes)
-    × IsRead before now (names Placement) text
+    × IsRead before now (names (Problem Placement)) text
     × (named ≡ option_map_or (λ text. block_said text line) text [])
 
 -- the net and the pins of a pinlist, by the architecture and the netlist
@@ -172,8 +173,8 @@ pub record NamesNet (before now : DeskState) (names : TextFile → Option Bytes)
   pub same : between.files ≡ before.files
   pub arch : Option Bytes
   pub text : Option Bytes
-  pub arch_read : IsRead before between (names Architecture) arch
-  pub text_read : IsRead between now (names Netlist) text
+  pub arch_read : IsRead before between (names (Problem Architecture)) arch
+  pub text_read : IsRead between now (names (Problem Netlist)) text
   pub is : named ≡ both_said sought arch text line
 
 -- what is at fault is named where it is sought, and nothing else is said

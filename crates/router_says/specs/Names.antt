@@ -1,10 +1,11 @@
 -- The names of the files that a job reads, as its words give them.
 use Rattle.std.specs.Prelude.{ℕ, ◌++◌, List, codes, Option, Some, None, Result, Ok, Err, option_and_then, option_map}
+use Rattle.fpga_problem.specs.declared.text_file.TextFile.TheVariants.{Architecture, Netlist, Placement, Route}
 use Rattle.router_says.specs.declared.names.Written.{Written}
 use Rattle.router_says.specs.declared.names.Written.TheVariants.{Each, One}
 use Rattle.router_top.specs.TextFiles.{file_word}
 use Rattle.router_top.specs.declared.text_file.TextFile.{TextFile}
-use Rattle.router_top.specs.declared.text_file.TextFile.TheVariants.{Architecture, Netlist, Placement, Route as RouteFile, Cnf, Lrat, Routed}
+use Rattle.router_top.specs.declared.text_file.TextFile.TheVariants.{Cnf, Lrat, Problem, Routed}
 use Rattle.router_words.specs.Command.{job_of}
 use Rattle.router_words.specs.Job.{CheckAsked, FilesAsked, JobAsked, VerifyAsked, Routes, Sweeps, Encodes, Blames, Checks, Verifies, Generates, Tries, job_said}
 use Rattle.router_words.specs.Word.{Word}
@@ -15,10 +16,10 @@ use Rattle.router_words.specs.declared.method.Method.TheVariants.{Within}
 
 -- the name among those of a problem's four files
 abbrev pub name_of_four : FilesAsked → TextFile → Option Word
-name_of_four files Architecture = Some files.architecture
-name_of_four files Netlist = Some files.netlist
-name_of_four files Placement = Some files.placement
-name_of_four files RouteFile = Some files.route
+name_of_four files (Problem Architecture) = Some files.architecture
+name_of_four files (Problem Netlist) = Some files.netlist
+name_of_four files (Problem Placement) = Some files.placement
+name_of_four files (Problem Route) = Some files.route
 name_of_four files _ = None
 
 -- the name among those of the clauses and of their log

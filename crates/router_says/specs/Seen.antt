@@ -4,11 +4,13 @@ use Rattle.std.specs.Prelude.{◌≡◌, ◌⊎◌, ℕ, ◌++◌, ◌-◌, ◌&
 use Rattle.std.specs.Option.{option_map_or}
 use Rattle.desk_io.specs.DeskState.{DeskState}
 use Rattle.desk_io.specs.Files.{Bytes}
-use Rattle.fpga_problem.specs.Texts.{AreFaultless, Texts, problem_said}
+use Rattle.fpga_problem.specs.Texts.{AreFaultless, problem_said}
+use Rattle.fpga_problem.specs.declared.text_file.TextFile.TheVariants.{Architecture, Netlist, Placement, Route}
 use Rattle.fpga_text.specs.declared.fault.TextFault.{TextFault}
 use Rattle.fpga_text.specs.declared.fault.TextFault.TheVariants.{Memory}
 use Rattle.fpga_types.specs.Problem.{RoutingProblem}
 use Rattle.fpga_types.specs.Slots.{slots}
+use Rattle.fpga_types.specs.Texts.{Texts}
 use Rattle.fpga_types.specs.declared.grid.Axis.{Axis}
 use Rattle.fpga_types.specs.declared.grid.Axis.TheVariants.{X, Y}
 use Rattle.fpga_types.specs.declared.grid.Cell.{Cell as AnyCell}
@@ -30,7 +32,7 @@ use Rattle.router_says.specs.declared.seen.Hints.{Hints}
 use Rattle.router_says.specs.declared.seen.TheConstants.{NAME_LIMIT}
 use Rattle.router_top.specs.Core.{net_name}
 use Rattle.router_top.specs.declared.text_file.TextFile.{TextFile}
-use Rattle.router_top.specs.declared.text_file.TextFile.TheVariants.{Architecture, Netlist, Placement, Route}
+use Rattle.router_top.specs.declared.text_file.TextFile.TheVariants.{Problem}
 use Rattle.router_words.specs.Job.{JobAsked, Routes, Sweeps}
 use Rattle.router_words.specs.declared.method.Method.{Method}
 use Rattle.router_words.specs.declared.method.Method.TheVariants.{Strictly}
@@ -184,10 +186,10 @@ pub record AreRead (before now : DeskState) (names : TextFile → Option Bytes) 
   pub first_same : first.files ≡ before.files
   pub second_same : second.files ≡ before.files
   pub third_same : third.files ≡ before.files
-  pub architecture : IsRead before first (names Architecture) four.architecture
-  pub netlist : IsRead first second (names Netlist) four.netlist
-  pub placement : IsRead second third (names Placement) four.placement
-  pub route : IsRead third now (names Route) four.route
+  pub architecture : IsRead before first (names (Problem Architecture)) four.architecture
+  pub netlist : IsRead first second (names (Problem Netlist)) four.netlist
+  pub placement : IsRead second third (names (Problem Placement)) four.placement
+  pub route : IsRead third now (names (Problem Route)) four.route
 
 abbrev pub texts_by : (architecture netlist placement route : Option Bytes) → Option Texts
 texts_by (Some a) (Some n) (Some p) (Some r) =

@@ -7,10 +7,11 @@ ghost use Rattle.router_says.specs.Names.{asked, name_of};
 use crate::line_of::line_with;
 use crate::missing::append_missing;
 use crate::name_bytes::append_name;
-use crate::names::given_name;
+use crate::names::problem_name;
 use crate::pin_use::{append_global_pin, append_shared_class, ordinary_uses};
 use desk_io::{Desk, ReadStop, read_file};
 use fpga_arch::read_arch;
+use fpga_problem::TextFile as ProblemFile;
 use fpga_text::{Style, TextFault};
 use fpga_types::PinSpec;
 use router_top::TextFile;
@@ -34,14 +35,14 @@ pub(crate) enum Sought {
 }
 
 // What is to be named where this code is told of this file.
-fn sought_by(file: TextFile, code: u32) -> Option<Sought>
+fn sought_of(file: TextFile, code: u32) -> Option<Sought>
     ensures { result ≡ sought_of file code }
 {
     match (file, code) {
-        (TextFile::Architecture, 101) => Some(Sought::Keywords),
-        (TextFile::Netlist, 206) => Some(Sought::GlobalPin),
-        (TextFile::Netlist, 207) => Some(Sought::SharedClass),
-        (TextFile::Placement, 303) => Some(Sought::Block),
+        (TextFile::Problem(ProblemFile::Architecture), 101) => Some(Sought::Keywords),
+        (TextFile::Problem(ProblemFile::Netlist), 206) => Some(Sought::GlobalPin),
+        (TextFile::Problem(ProblemFile::Netlist), 207) => Some(Sought::SharedClass),
+        (TextFile::Problem(ProblemFile::Placement), 303) => Some(Sought::Block),
         _ => None,
     }
 }
@@ -61,7 +62,7 @@ pub(crate) fn append_at_fault<D: Desk>(
         (name_of (asked job.entry)) line (sought_of file code)) (string_bytes out.old)
         (string_bytes out.new)) }
 {
-    match sought_by(file, code) {
+    match sought_of(file, code) {
         Some(Sought::Keywords) => append_keywords(alloc, desk, out, job),
         Some(Sought::Block) => append_block(alloc, desk, out, job, line),
         Some(Sought::GlobalPin) => append_net(alloc, desk, out, job, line, Sought::GlobalPin),
@@ -101,7 +102,7 @@ fn append_keywords<D: Desk>(
     ensures { OnOk result (Appends (NamesKeywords (D.state desk.old) (D.state desk.new)
         (name_of (asked job.entry))) (string_bytes out.old) (string_bytes out.new)) }
 {
-    let Some(text) = text_of(alloc, desk, given_name(job, TextFile::Architecture))? else {
+    let Some(text) = text_of(alloc, desk, problem_name(job, ProblemFile::Architecture))? else {
         return Ok(());
     };
     append_missing(out, &text)
@@ -118,7 +119,7 @@ fn append_block<D: Desk>(
     ensures { OnOk result (Appends (NamesBlock (D.state desk.old) (D.state desk.new)
         (name_of (asked job.entry)) line) (string_bytes out.old) (string_bytes out.new)) }
 {
-    let Some(text) = text_of(alloc, desk, given_name(job, TextFile::Placement))? else {
+    let Some(text) = text_of(alloc, desk, problem_name(job, ProblemFile::Placement))? else {
         return Ok(());
     };
     append_first_word(out, &text, line)
@@ -151,8 +152,8 @@ fn append_net<D: Desk>(
     ensures { OnOk result (Appends (NamesNet (D.state desk.old) (D.state desk.new)
         (name_of (asked job.entry)) sought line) (string_bytes out.old) (string_bytes out.new)) }
 {
-    let arch = text_of(alloc, desk, given_name(job, TextFile::Architecture))?;
-    let netlist = text_of(alloc, desk, given_name(job, TextFile::Netlist))?;
+    let arch = text_of(alloc, desk, problem_name(job, ProblemFile::Architecture))?;
+    let netlist = text_of(alloc, desk, problem_name(job, ProblemFile::Netlist))?;
     append_by_both(alloc, out, arch, netlist, line, sought)?;
     Ok(())
 }

@@ -13,9 +13,11 @@ ghost use Rattle.router_says.specs.Names.{
   reach_by,
   reach_of as reach_of_job,
 };
+ghost use Rattle.router_top.specs.declared.text_file.TextFile.TheVariants.{Problem};
 ghost use Rattle.router_words.specs.Job.{check_said, files_said, verify_said};
 ghost use Rattle.router_words.specs.Word.{words_of};
 
+use fpga_problem::TextFile as ProblemFile;
 use router_top::TextFile;
 use router_words::{CheckJob, FourNames, Job, Method, VerifyJob, WordsFault, read_words};
 use std::alloc::{AllocError, Global};
@@ -49,14 +51,21 @@ pub(crate) fn given_name<'a>(job: Option<Job<'a>>, file: TextFile) -> Option<&'a
     }
 }
 
+/// The name that was given for a file of the problem, if the job reads it.
+pub(crate) fn problem_name<'a>(job: Option<Job<'a>>, file: ProblemFile) -> Option<&'a str>
+    ensures { option_copied result ≡ name_of (asked job.entry) (Problem file) }
+{
+    given_name(job, TextFile::Problem(file))
+}
+
 fn name_of_four<'a>(files: FourNames<'a>, file: TextFile) -> Option<&'a str>
     ensures { option_copied result ≡ name_of_four (files_said files.entry) file }
 {
     match file {
-        TextFile::Architecture => Some(files.architecture),
-        TextFile::Netlist => Some(files.netlist),
-        TextFile::Placement => Some(files.placement),
-        TextFile::Route => Some(files.route),
+        TextFile::Problem(ProblemFile::Architecture) => Some(files.architecture),
+        TextFile::Problem(ProblemFile::Netlist) => Some(files.netlist),
+        TextFile::Problem(ProblemFile::Placement) => Some(files.placement),
+        TextFile::Problem(ProblemFile::Route) => Some(files.route),
         TextFile::Cnf | TextFile::Lrat | TextFile::Routed => None,
     }
 }
@@ -67,11 +76,7 @@ fn name_of_two<'a>(job: CheckJob<'a>, file: TextFile) -> Option<&'a str>
     match file {
         TextFile::Cnf => Some(job.cnf),
         TextFile::Lrat => Some(job.lrat),
-        TextFile::Architecture
-        | TextFile::Netlist
-        | TextFile::Placement
-        | TextFile::Route
-        | TextFile::Routed => None,
+        TextFile::Problem(_) | TextFile::Routed => None,
     }
 }
 
@@ -80,12 +85,7 @@ fn name_of_five<'a>(job: VerifyJob<'a>, file: TextFile) -> Option<&'a str>
 {
     match file {
         TextFile::Routed => Some(job.routed),
-        TextFile::Architecture
-        | TextFile::Netlist
-        | TextFile::Placement
-        | TextFile::Route
-        | TextFile::Cnf
-        | TextFile::Lrat => name_of_four(job.files, file),
+        TextFile::Problem(_) | TextFile::Cnf | TextFile::Lrat => name_of_four(job.files, file),
     }
 }
 
@@ -122,16 +122,16 @@ pub(crate) fn reach_asked(job: Option<Job<'_>>) -> Option<u32>
         return None;
     };
     match job {
-        Job::Route(job) => reach_of(job.search.method),
-        Job::Sweep(job) => reach_of(job.search.method),
-        Job::Encode(job) => reach_of(job.method),
+        Job::Route(job) => reach_by(job.search.method),
+        Job::Sweep(job) => reach_by(job.search.method),
+        Job::Encode(job) => reach_by(job.method),
         Job::Verify(job) => job.reach,
-        Job::Trial(job) => reach_of(job.search.method),
+        Job::Trial(job) => reach_by(job.search.method),
         Job::Core(_) | Job::Check(_) | Job::Gen(_) => None,
     }
 }
 
-fn reach_of(method: Method) -> Option<u32>
+fn reach_by(method: Method) -> Option<u32>
     ensures { result ≡ reach_by method }
 {
     match method {

@@ -78,11 +78,11 @@ fn is_made_global(text: &[u8], name: &[u8]) -> bool
 fn makes_global(line: &mut Line<'_>, name: &[u8]) -> bool
     ensures { result ≡ spec.makes_global name.now line.old.words }
 {
-    line.next_is(b".global") && has_word(line, name)
+    line.next_is(b".global") && has_text(line, name)
 }
 
 // Whether one of the next words of a line is a name.
-fn has_word(line: &mut Line<'_>, name: &[u8]) -> bool
+fn has_text(line: &mut Line<'_>, name: &[u8]) -> bool
     ensures { result ≡ has_text line.old.words name.now }
 {
     while let Some(word) = line.next_word() {

@@ -51,12 +51,12 @@ pub(crate) fn append_limit(
     ensures { OnOk result (string_bytes out.new ≡ string_bytes out.old
         ++ (limit_gap file ++ limit_said code count why.now)) }
 {
-    out.push_str(gap(file))?;
+    out.push_str(limit_gap(file))?;
     write!(out, "{why}: {count} (code {code})")
 }
 
 // What stands between a file and what passes its limit there.
-fn gap(file: Option<TextFile>) -> &'static str
+fn limit_gap(file: Option<TextFile>) -> &'static str
     ensures { result.now ≡ limit_gap file }
 {
     match file {

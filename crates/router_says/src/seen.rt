@@ -48,16 +48,15 @@ ghost use Rattle.router_top.specs.Core.{net_name};
 
 use crate::at_fault::text_of;
 use crate::name_bytes::append_name;
-use crate::names::{given_name, reach_asked};
+use crate::names::{problem_name, reach_asked};
 use desk_io::Desk;
 use fpga_bounds::PlacedProblem;
-use fpga_problem::{FourTexts, read_problem};
+use fpga_problem::{FourTexts, TextFile, read_problem};
 use fpga_text::TextFault;
 use fpga_types::{Axis, Cell, PinAt, PinStep, RouteText, WIDTH_LIMIT};
 use route_alone::{ClosedTree, trackless};
 use route_count::{Crowding, crowded_by};
 use route_crowd::exchangeable;
-use router_top::TextFile;
 use router_words::{Job, Method};
 use std::alloc::{AllocError, Global};
 
@@ -119,10 +118,10 @@ fn append_looked<D: Desk>(
         width is_open) (string_bytes out.old) (string_bytes out.new)) }
 {
     let hints = hints_for(job, is_open);
-    let architecture = text_of(alloc, desk, given_name(job, TextFile::Architecture))?;
-    let netlist = text_of(alloc, desk, given_name(job, TextFile::Netlist))?;
-    let placement = text_of(alloc, desk, given_name(job, TextFile::Placement))?;
-    let route = text_of(alloc, desk, given_name(job, TextFile::Route))?;
+    let architecture = text_of(alloc, desk, problem_name(job, TextFile::Architecture))?;
+    let netlist = text_of(alloc, desk, problem_name(job, TextFile::Netlist))?;
+    let placement = text_of(alloc, desk, problem_name(job, TextFile::Placement))?;
+    let route = text_of(alloc, desk, problem_name(job, TextFile::Route))?;
     append_of_files(
         alloc,
         out,
@@ -485,7 +484,7 @@ fn append_cell_of(out: &mut String, problem: &PlacedProblem, slot: u32) -> Resul
 fn append_cell(out: &mut String, cell: Cell) -> Result<(), AllocError>
     ensures { OnOk result (string_bytes out.new ≡ string_bytes out.old ++ cell_said cell) }
 {
-    append_place(out, axis_word(cell.axis), cell.x, cell.y)
+    append_place(out, axis_said(cell.axis), cell.x, cell.y)
 }
 
 // Appends a cell of a channel of this kind behind a blank.
@@ -498,7 +497,7 @@ fn append_place(out: &mut String, axis: &str, x: u32, y: u32) -> Result<(), Allo
 }
 
 // A kind of channel.
-fn axis_word(axis: Axis) -> &'static str
+fn axis_said(axis: Axis) -> &'static str
     ensures { result.now ≡ axis_said axis }
 {
     match axis {

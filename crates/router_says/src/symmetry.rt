@@ -12,7 +12,7 @@ pub(crate) fn append_obstacle(out: &mut String, width: u32, why: Obstacle) -> Re
     ensures { OnOk result
         (string_bytes out.new ≡ string_bytes out.old ++ obstacle_said width why) }
 {
-    append_reason(out, width, reason(why), option(why))
+    append_reason(out, width, reason_said(why), option_said(why))
 }
 
 // Appends the same with these words for the reason and the option.
@@ -28,19 +28,19 @@ fn append_reason(out: &mut String, width: u32, reason: &str, option: &str) -> Re
 }
 
 // What keeps tracks from being pinned or kept in order.
-fn reason(why: Obstacle) -> &'static str
+fn reason_said(why: Obstacle) -> &'static str
     ensures { result.now ≡ reason_said why }
 {
     match why {
-        Obstacle::Pins(why) => lack("the switch block type is not subset", why),
+        Obstacle::Pins(why) => lack_said("the switch block type is not subset", why),
         Obstacle::Order(why) => {
-            lack("the switch block type is neither subset nor universal", why)
+            lack_said("the switch block type is neither subset nor universal", why)
         }
     }
 }
 
 // What keeps tracks from being alike enough, with these words for the switch blocks.
-fn lack(blocks: &'static str, why: Asymmetry) -> &'static str
+fn lack_said(blocks: &'static str, why: Asymmetry) -> &'static str
     ensures { result.now ≡ lack_said blocks.now why }
 {
     match why {
@@ -52,7 +52,7 @@ fn lack(blocks: &'static str, why: Asymmetry) -> &'static str
 }
 
 // The option that asks for what can't be.
-fn option(why: Obstacle) -> &'static str
+fn option_said(why: Obstacle) -> &'static str
     ensures { result.now ≡ option_said why }
 {
     match why {

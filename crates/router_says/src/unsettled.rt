@@ -278,12 +278,12 @@ fn append_hand_each(out: &mut String, prefix: &str, width: u32) -> Result<(), Al
     out.push_str("hand ")?;
     append_width_name(out, prefix, width)?;
     out.push_str(".cnf to another solver")?;
-    out.push_str(greater(width))?;
+    out.push_str(greater_said(width))?;
     Ok(())
 }
 
 // A greater width can be tried, where the words take one.
-fn greater(width: u32) -> &'static str
+fn greater_said(width: u32) -> &'static str
     ensures { result.now ≡ greater_said width }
 {
     if width < WIDTH_LIMIT {

@@ -80,9 +80,9 @@ fn append_of_command(out: &mut String, command: Command, code: u32) -> Result<()
 {
     append_form(
         out,
-        why(code, clash_of(command)),
-        takes(command),
-        example(command),
+        usage_why(code, clash_said(command)),
+        takes_said(command),
+        example_said(command),
     )
 }
 
@@ -98,7 +98,7 @@ fn append_form(out: &mut String, why: &str, takes: &str, example: &str) -> Resul
 }
 
 // What is wrong with the words; which options clash is told.
-fn why(code: u32, clash: &'static str) -> &'static str
+fn usage_why(code: u32, clash: &'static str) -> &'static str
     ensures { result.now ≡ usage_why code clash.now }
 {
     match code {
@@ -113,7 +113,7 @@ fn why(code: u32, clash: &'static str) -> &'static str
 }
 
 // Which options of a command exclude each other, or need another.
-fn clash_of(command: Command) -> &'static str
+fn clash_said(command: Command) -> &'static str
     ensures { result.now ≡ clash_said command }
 {
     match command {
@@ -130,7 +130,7 @@ fn clash_of(command: Command) -> &'static str
 }
 
 // The words that a command takes.
-fn takes(command: Command) -> &'static str
+fn takes_said(command: Command) -> &'static str
     ensures { result.now ≡ takes_said command }
 {
     match command {
@@ -163,7 +163,7 @@ fn takes(command: Command) -> &'static str
 }
 
 // A command as it may be given.
-fn example(command: Command) -> &'static str
+fn example_said(command: Command) -> &'static str
     ensures { result.now ≡ example_said command }
 {
     match command {

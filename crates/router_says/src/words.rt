@@ -73,12 +73,12 @@ pub fn append_words<R: Files + AllocGlobal, D: Desk>(
         (D.state desk.new) (words_of words.now) outcome.now (string_bytes out.old)
         (string_bytes out.new)) }
 {
-    if came_as_asked(outcome) {
+    if is_quiet(outcome) {
         return Ok(());
     }
     let job = job_in(rt.alloc(), words)?;
     let meaning = meaning(rt, words, job, outcome)?;
-    append_about(out, job, file_meant(outcome))?;
+    append_about(out, job, file_about(outcome))?;
     out.push_str(meaning.as_str())?;
     append_named(rt.alloc(), desk, out, job, outcome)?;
     out.push_str("\n")?;
@@ -86,7 +86,7 @@ pub fn append_words<R: Files + AllocGlobal, D: Desk>(
 }
 
 // Whether the run came to what was asked for.
-fn came_as_asked(outcome: &Outcome) -> bool
+fn is_quiet(outcome: &Outcome) -> bool
     ensures { result ≡ is_quiet outcome.now }
 {
     match outcome {
@@ -106,7 +106,7 @@ fn came_as_asked(outcome: &Outcome) -> bool
 }
 
 // The file that the outcome is about, if it is about one.
-fn file_meant(outcome: &Outcome) -> Option<TextFile>
+fn file_about(outcome: &Outcome) -> Option<TextFile>
     ensures { result ≡ file_about outcome.now }
 {
     match *outcome {
@@ -195,7 +195,7 @@ fn meaning<R: Files + AllocGlobal>(
         Outcome::Undecided { width, learned } => undecided(rt.alloc(), job, width, learned),
         Outcome::Usage { code } => usage(rt.alloc(), words, code),
         Outcome::ReadFault { file } => unread(rt, given_name(job, file)),
-        Outcome::WriteFault { slot } => String::from_str(rt.alloc(), unwritten(slot)),
+        Outcome::WriteFault { slot } => String::from_str(rt.alloc(), unwritten_said(slot)),
         Outcome::OutOfMemory => no_memory(rt.alloc(), job),
         Outcome::Routed { .. } | Outcome::Done | Outcome::Accepted | Outcome::LegalRoute => {
             Ok(String::new(rt.alloc()))
@@ -335,7 +335,7 @@ fn no_memory(alloc: Global, job: Option<Job<'_>>) -> Result<String, AllocError>
 }
 
 // What the system did not take.
-fn unwritten(slot: Slot) -> &'static str
+fn unwritten_said(slot: Slot) -> &'static str
     ensures { result.now ≡ unwritten_said slot }
 {
     match slot {

@@ -24,7 +24,7 @@ const VERIFY: &str = "verify a.arch a.net a.place big.route 9 out.route";
 #[test]
 fn all_that_is_said(rt: HostRuntime) -> Result<(), Fail> {
     let fault = Outcome::InputFault {
-        file: TextFile::Route,
+        file: TextFile::Problem(fpga_problem::TextFile::Route),
         line: 28,
         code: 510,
     };

@@ -22,9 +22,9 @@ use Rattle.route_verify.specs.declared.judgement.Judgement.{Judgement as Judged}
 use Rattle.route_verify.specs.declared.judgement.Judgement.TheVariants.{Legal as IsLegal, NotLegal as IsNotLegal}
 use Rattle.sat_clause.specs.Formula.{Cnf}
 use Rattle.sat_clause.specs.Judge.{Judgement, Accepted as IsAccepted, Refused as IsRefused}
-use Rattle.sat_clause.specs.Step.{Step}
+use Rattle.sat_clause.specs.Step.{HaveLiterals, Step}
 use Rattle.sat_clause.specs.declared.limits.TheConstants.{CLAUSE_LIMIT}
-use Rattle.sat_rat.specs.FullJudge.{HaveLiterals, full_judge}
+use Rattle.sat_rat.specs.FullJudge.{full_judge}
 use Rattle.sat_rat.proofs.FullSound.{full_refutes}
 use Rattle.sat_text.specs.CnfText.{cnf_said}
 use Rattle.sat_text.specs.LratText.{lrat_said}

@@ -23,7 +23,7 @@ use Rattle.sat_clause.specs.Formula.{Cnf, IsUnsat}
 use Rattle.sat_clause.specs.Literal.{Clause, IsWithin}
 use Rattle.sat_clause.specs.Step.{Step, Added, Erased}
 use Rattle.sat_clause.specs.declared.limits.TheConstants.{VARIABLE_LIMIT}
-use Rattle.sat_core.specs.SearchLog.{AreNumbered, IsSearchLog, added_count}
+use Rattle.sat_core.specs.SearchLog.{AreNumbered, IsSearchLog}
 use Rattle.sat_text.specs.LratText.{ReadsLrat}
 use Rattle.sat_text.specs.Printed.{log_text}
 use Rattle.sat_text.specs.ReadBack.{IsIdNumber, IsPrintableLog, IsPrintableStep}
@@ -38,6 +38,7 @@ use Rattle.router_top.specs.Work.{Finds}
 use Rattle.router_top.specs.declared.outcome.Outcome.{Outcome}
 use Rattle.sat_clause.specs.Judge.{Accepts}
 use Rattle.sat_clause.proofs.Refutes.{refutes}
+use Rattle.sat_clause.specs.Learned.{added_count}
 use Rattle.route_core.proofs.TrimmingLemmas.{trimmed_itself}
 use Rattle.route_sweep.proofs.LogLemmas.{log-printable}
 use Rattle.sat_text.proofs.LogBack.{printed_log_reads}

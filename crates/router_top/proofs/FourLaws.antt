@@ -6,6 +6,7 @@ use Rattle.fpga_arch.specs.Value.{arch_value}
 use Rattle.fpga_net.specs.Value.{net_value}
 use Rattle.fpga_place.specs.Value.{place_value}
 use Rattle.fpga_route.specs.Value.{route_value}
+use Rattle.fpga_problem.specs.declared.text_file.TextFile.TheVariants.{Route}
 use Rattle.fpga_text.specs.FirstFault.{IsFaultOf, first_fault}
 use Rattle.fpga_text.specs.declared.fault.TextFault.{TextFault}
 use Rattle.fpga_text.specs.declared.fault.TextFault.TheVariants.{Bad, Limit as PastLimit, Memory}
@@ -20,7 +21,7 @@ use Rattle.router_top.specs.FourFiles.{GivesNone, IsUnfit, Poses, arch_source, n
 use Rattle.router_top.specs.Sources.{IsHalted, IsStopped, ReadsThen, Says, Source, fault_outcome}
 use Rattle.router_top.specs.declared.outcome.Outcome.{Outcome}
 use Rattle.router_top.specs.declared.outcome.Outcome.TheVariants.{OutOfMemory}
-use Rattle.router_top.specs.declared.text_file.TextFile.TheVariants.{Route}
+use Rattle.router_top.specs.declared.text_file.TextFile.TheVariants.{Problem}
 use Rattle.router_top.proofs.SourceLaws.{calm-reads, one-value, reads-alike, reads-on}
 
 -- what is left of the work behind each file
@@ -37,26 +38,8 @@ module _ (stops : Source → Outcome → Type 0) (files : Option FileMap) (names
   AfterArch arch = ReadsThen stops files (net_source names arch) (net_value arch)
       (AfterNetlist arch)
 
--- the four files say the values of this problem
-pub record AreSaid (files : Option FileMap) (names : FilesAsked) (p : RoutingProblem)
-    : Type 0 where
-  pub arch : Says files (arch_source names) arch_value p.arch
-  pub netlist : Says files (net_source names p.arch) (net_value p.arch) p.netlist
-  pub placement : Says files (place_source names p.arch p.netlist) (place_value p.netlist)
-      p.placement
-  pub route : Says files (route_source names) route_value p.route
-
-pub said-of : (files : Option FileMap) (names : FilesAsked) (p : RoutingProblem) →
-    Poses files names p → AreSaid files names p
-said-of files names p poses = record {
-  arch = poses.arch;
-  netlist = poses.netlist;
-  placement = poses.placement;
-  route = poses.route;
-}
-
 one-unfit : (p : RoutingProblem) (a b : Outcome) → IsUnfit p a → IsUnfit p b → a ≡ b
-one-unfit p a b h g = h.2 ∙ ap (fault_outcome Route) (some_is (sym h.1 ∙ g.1)) ∙ sym g.2
+one-unfit p a b h g = h.2 ∙ ap (fault_outcome (Problem Route)) (some_is (sym h.1 ∙ g.1)) ∙ sym g.2
 
 module _ (files : FileMap) (names : FilesAsked) where
   -- four files are kept from a problem in one way
@@ -73,34 +56,28 @@ module _ (files : FileMap) (names : FilesAsked) where
       (λ route. IsUnfit (problem_of arch netlist placement route)) a b u v
       (λ route. one-unfit (problem_of arch netlist placement route) a b))))
 
-  -- four files that say the values of a problem are kept from it by the fit alone
-  pub lack-unfit : (p : RoutingProblem) (a : Outcome) →
-      GivesNone (IsHalted (Some files)) (Some files) names a → AreSaid (Some files) names p →
-      IsUnfit p a
-  lack-unfit p a h said =
-      let behind_arch = reads-on files (arch_source names) arch_value
-      (AfterArch (IsHalted (Some files)) (Some files) names) p.arch a said.arch h in
-      let behind_netlist = reads-on files (net_source names p.arch) (net_value p.arch)
-      (AfterNetlist (IsHalted (Some files)) (Some files) names p.arch) p.netlist a said.netlist
-      behind_arch in
-      let behind_placement = reads-on files (place_source names p.arch p.netlist)
-      (place_value p.netlist)
-      (AfterPlacement (IsHalted (Some files)) (Some files) names p.arch p.netlist) p.placement a
-      said.placement behind_netlist in
-      reads-on files (route_source names) route_value
-      (λ route. IsUnfit (problem_of p.arch p.netlist p.placement route)) p.route a said.route
-      behind_placement
-
   -- four files that pose a problem are not kept from it
   pub lack-poses : (p : RoutingProblem) (a : Outcome) →
       GivesNone (IsHalted (Some files)) (Some files) names a → Poses (Some files) names p → ⊥
   lack-poses p a h poses =
-      none_is_not_some (sym poses.fits ∙ (lack-unfit p a h (said-of (Some files) names p poses)).1)
+      let behind_arch = reads-on files (arch_source names) arch_value
+      (AfterArch (IsHalted (Some files)) (Some files) names) p.arch a poses.arch h in
+      let behind_netlist = reads-on files (net_source names p.arch) (net_value p.arch)
+      (AfterNetlist (IsHalted (Some files)) (Some files) names p.arch) p.netlist a poses.netlist
+      behind_arch in
+      let behind_placement = reads-on files (place_source names p.arch p.netlist)
+      (place_value p.netlist)
+      (AfterPlacement (IsHalted (Some files)) (Some files) names p.arch p.netlist) p.placement a
+      poses.placement behind_netlist in
+      let unfit = reads-on files (route_source names) route_value
+      (λ route. IsUnfit (problem_of p.arch p.netlist p.placement route)) p.route a poses.route
+      behind_placement in
+      none_is_not_some (sym poses.fits ∙ unfit.1)
 
-  -- four files say the values of one problem
-  pub one-said : (p q : RoutingProblem) → AreSaid (Some files) names p →
-      AreSaid (Some files) names q → p ≡ q
-  one-said p q h g =
+  -- four files pose one problem
+  pub one-problem : (p q : RoutingProblem) → Poses (Some files) names p →
+      Poses (Some files) names q → p ≡ q
+  one-problem p q h g =
       let arch : q.arch ≡ p.arch =
       one-value files (arch_source names) arch_value q.arch p.arch g.arch h.arch in
       let moved = subst (λ (a : Arch).
@@ -118,12 +95,6 @@ module _ (files : FileMap) (names : FilesAsked) where
       let route : q.route ≡ p.route =
       one-value files (route_source names) route_value q.route p.route g.route h.route in
       λ i. problem_of (sym arch i) (sym netlist i) (sym placement i) (sym route i)
-
-  -- four files pose one problem
-  pub one-problem : (p q : RoutingProblem) → Poses (Some files) names p →
-      Poses (Some files) names q → p ≡ q
-  one-problem p q h g =
-      one-said p q (said-of (Some files) names p h) (said-of (Some files) names q g)
 
 -- where the desk has not failed, four files that give no problem are kept from it by what they hold
 pub calm-lack : (desk now : DeskState) (names : FilesAsked) (a : Outcome) →
@@ -147,7 +118,7 @@ calm-lack desk now names a calm =
 -- a fault of the fit gives none, unless memory ran out
 pub fit-stops : (p : RoutingProblem) (fault : TextFault)
     → IsFaultOf (first_fault (problem_faults p)) fault
-    → IsUnfit p (fault_outcome Route fault) ⊎ (fault_outcome Route fault ≡ OutOfMemory)
+    → IsUnfit p (fault_outcome (Problem Route) fault) ⊎ (fault_outcome (Problem Route) fault ≡ OutOfMemory)
 fit-stops p (Bad line code) h = inl (Bad line code, h, refl)
 fit-stops p (PastLimit code count) h = inl (PastLimit code count, h, refl)
 fit-stops p Memory h = inr refl

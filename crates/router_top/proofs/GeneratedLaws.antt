@@ -1,43 +1,47 @@
 -- The files of a generated problem: their names differ, so that on a desk of their own each stands
 -- with its text; and what is left where they are written one after the other.
-use Rattle.std.proofs.Common.{◌≡◌, ◌≢◌, ◌∙◌, ◌+◌, ◌<◌, ◌≤◌, List, [], ◌∷◌, ◌++◌, codes, get_or, length, Option, Some, refl, sym, ap, subst, inl, inr, arith}
+use Rattle.std.proofs.Common.{◌≡◌, ◌≢◌, ◌∙◌, ◌+◌, ◌<◌, ◌≤◌, List, [], ◌∷◌, ◌++◌, codes, get_or, length, Some, refl, sym, ap, subst, inl, inr, arith}
 use Rattle.std.specs.FinMap.{empty}
 use Rattle.std.specs.Prelude.{◌==◌, false}
 use Rattle.std.proofs.lemmas.Bool.{eq-eqb, false≢true}
 use Rattle.std.proofs.lemmas.List.{append_cancel_left}
-use Rattle.desk_io.specs.Files.{Bytes, FileMap, HasRisen}
+use Rattle.desk_io.specs.Files.{Bytes}
 use Rattle.desk_io.specs.ShelfState.{ShelfState}
 use Rattle.desk_io.specs.WholeFile.{after_writing}
 use Rattle.fpga_net.specs.Value.{net_value}
 use Rattle.fpga_place.specs.Value.{place_value}
-use Rattle.fpga_text.specs.FirstFault.{IsFirst, first_fault}
-use Rattle.fpga_text.specs.declared.fault.TextFault.TheVariants.{Limit as PastLimit}
+use Rattle.fpga_problem.specs.Texts.{faults_of, problem_said}
+use Rattle.fpga_problem.specs.declared.text_file.TextFile.{TextFile as ProblemFile}
+use Rattle.fpga_problem.specs.declared.text_file.TextFile.TheVariants.{Architecture, Netlist as NetlistFile, Placement, Route}
+use Rattle.fpga_route.specs.Codes.{route_faults}
+use Rattle.fpga_text.proofs.FaultLemmas.{past-nothing, past-part}
+use Rattle.fpga_text.specs.FirstFault.{IsFirst, IsRefusal, first_fault}
+use Rattle.fpga_text.specs.declared.fault.TextFault.{TextFault}
+use Rattle.fpga_text.specs.declared.fault.TextFault.TheVariants.{Bad, Limit as PastLimit, Memory}
 use Rattle.fpga_types.specs.FitCauses.{code_of}
 use Rattle.fpga_types.specs.Fits.{Fits, problem_faults}
 use Rattle.fpga_types.specs.Problem.{RoutingProblem, problem_of}
 use Rattle.fpga_types.specs.Slots.{slots}
+use Rattle.fpga_types.specs.Texts.{Texts}
 use Rattle.fpga_types.specs.declared.fit_cause.FitCause.TheVariants.{PastLimit as TooManySlots}
 use Rattle.fpga_types.specs.declared.arch.Arch.{Arch}
 use Rattle.fpga_types.specs.declared.limits.TheConstants.{SIDE_LIMIT, SLOT_LIMIT}
 use Rattle.fpga_types.specs.declared.netlist.Netlist.{Netlist}
 use Rattle.list_laws.proofs.Places.{none_is_not_some, some_is}
-use Rattle.route_gen.specs.Fitting.{IsForSlots}
-use Rattle.route_gen.specs.Texts.{Texts}
+use Rattle.route_gen.specs.Fitting.{AreRead, IsForSlots}
 use Rattle.route_gen.proofs.FittingLemmas.{first-fits, texts-read}
 use Rattle.route_gen.proofs.LengthLemmas.{texts-short}
-use Rattle.router_words.specs.Job.{FilesAsked, RecipeAsked}
+use Rattle.router_words.specs.Job.{RecipeAsked}
 use Rattle.router_words.specs.Word.{Word}
 use Rattle.router_top.specs.Files.{after_files}
-use Rattle.router_top.specs.FourFiles.{GivesNone, IsUnfit, Poses}
-use Rattle.router_top.specs.Generated.{AreOn, HasRoom, IsMade, IsTooLarge, Makes, PosesNone, desk_with, generated_desk, generated_files, generated_names, problem_files, texts_of}
-use Rattle.router_top.specs.Sources.{IsHalted, IsStopped, fault_outcome}
+use Rattle.router_top.specs.FourFiles.{Poses}
+use Rattle.router_top.specs.Generated.{HasRoom, IsMade, Makes, PosesNone, generated_desk, generated_files, generated_names, problem_files, texts_of}
+use Rattle.router_top.specs.Sources.{fault_outcome}
 use Rattle.router_top.specs.Written.{NamedText, with_files}
-use Rattle.router_top.specs.declared.outcome.Outcome.{Outcome}
-use Rattle.router_top.specs.declared.text_file.TextFile.TheVariants.{Route}
-use Rattle.router_top.proofs.FourLaws.{AreSaid, calm-lack, lack-unfit, one-said, said-of}
+use Rattle.router_top.specs.declared.text_file.TextFile.TheVariants.{Problem}
 use Rattle.router_top.proofs.SlotCountLaws.{many-slots}
 use Rattle.router_top.proofs.TrackLaws.{texts-tracks}
-use Rattle.router_top.proofs.WrittenLaws.{AreApart, told-behind, written-stand}
+use Rattle.router_top.proofs.WrittenLaws.{AreApart, written-stand}
 
 -- ---- names
 
@@ -75,36 +79,21 @@ module _ (prefix : Bytes) where
       ((net-place, (net-route, tt)), ((place-route, tt), (tt, tt))),
     )
 
-    -- on a desk of their own the files stand with their texts
-    pub problem-stands : AreOn (desk_with (problem_files (generated_names prefix) texts)).files
-        (generated_names prefix) texts
-    problem-stands =
-        let each = written-stand (problem_files (generated_names prefix) texts) (Some empty)
-        problem-apart in
-        record {
-          architecture = each.0;
-          netlist = each.1.0;
-          placement = each.1.1.0;
-          route = each.1.1.1.0;
-        }
-
 -- ---- the problem that is made
+
+-- what texts are read as they say
+read-said : (texts : Texts) (p : RoutingProblem) → AreRead texts p → p ≡ problem_said texts
+read-said texts p read =
+    let netlist = read.netlist.1 ∙ ap (λ (a : Arch). net_value a texts.netlist) read.arch in
+    let placement = read.placement.1
+    ∙ ap (λ (n : Netlist). place_value n texts.placement) netlist in
+    λ i. problem_of (read.arch i) (netlist i) (placement i) (read.route.1 i)
 
 -- the texts of a recipe read as one problem
 pub one-made : (recipe : RecipeAsked) (p q : RoutingProblem) → IsMade recipe p → IsMade recipe q →
     p ≡ q
 one-made recipe p q made other =
-    let texts : Texts = texts_of recipe in
-    let h = made.read in
-    let g = other.read in
-    let arch : p.arch ≡ q.arch = h.arch ∙ sym g.arch in
-    let netlist : p.netlist ≡ q.netlist =
-    h.netlist.1 ∙ ap (λ (a : Arch). net_value a texts.netlist) arch ∙ sym g.netlist.1 in
-    let placement : p.placement ≡ q.placement =
-    h.placement.1 ∙ ap (λ (n : Netlist). place_value n texts.placement) netlist
-    ∙ sym g.placement.1 in
-    let route : p.route ≡ q.route = h.route.1 ∙ sym g.route.1 in
-    λ i. problem_of (arch i) (netlist i) (placement i) (route i)
+    read-said (texts_of recipe) p made.read ∙ sym (read-said (texts_of recipe) q other.read)
 
 -- a problem that was made is refused only where it has more slots than may be
 made-many : (recipe : RecipeAsked) (p : RoutingProblem) → IsMade recipe p →
@@ -126,118 +115,95 @@ made-fits recipe p makes =
     go (inl clean) = clean
     go (inr past) = absurd (omega (arith, makes.few, made-many recipe p makes.made past))
 
--- a desk that was not touched has not failed
-calm-at-zero : ¬ HasRisen 0 0
-calm-at-zero h = elim h.more [
-  | inl less ↦ omega (arith, less)
-  | inr end ↦ omega (arith, end)
-]
+-- where its files stand alone on a desk, a problem that is not too large is posed by them
+pub made-poses : (recipe : RecipeAsked) (prefix : Word) (p : RoutingProblem) → Makes recipe p →
+    Poses (generated_desk recipe prefix).files (generated_names prefix) p
+made-poses recipe prefix p makes =
+    let texts : Texts = texts_of recipe in
+    let made = makes.made in
+    let read = made.read in
+    let stands = written-stand (generated_files recipe prefix) (Some empty)
+    (problem-apart prefix texts) in
+    let short = texts-short recipe.seed recipe.side recipe.nets made.side.0 made.side.1
+    made.room in
+    record {
+      arch = record {
+        text = texts.architecture;
+        there = stands.0;
+        short = short.architecture;
+        faultless = read.faultless;
+        says = read.arch;
+      };
+      netlist = record {
+        text = texts.netlist;
+        there = stands.1.0;
+        short = short.netlist;
+        faultless = read.netlist.0;
+        says = read.netlist.1;
+      };
+      placement = record {
+        text = texts.placement;
+        there = stands.1.1.0;
+        short = short.placement;
+        faultless = read.placement.0;
+        says = read.placement.1;
+      };
+      route = record {
+        text = texts.route;
+        there = stands.1.1.1.0;
+        short = short.route;
+        faultless = read.route.0;
+        says = read.route.1;
+      };
+      fits = made-fits recipe p makes;
+    }
 
--- where its files stand alone on a desk
-module _ (recipe : RecipeAsked) (prefix : Word) where
-  abbrev files : Option FileMap
-  files = (generated_desk recipe prefix).files
+module _ (recipe : RecipeAsked) (side : (1 ≤ recipe.side) × (recipe.side ≤ SIDE_LIMIT))
+    (room : HasRoom recipe) where
+  abbrev said : RoutingProblem
+  said = problem_said (texts_of recipe)
 
-  -- they say its values
-  made-said : (p : RoutingProblem) → IsMade recipe p → AreSaid files (generated_names prefix) p
-  made-said p made =
-      let texts : Texts = texts_of recipe in
-      let stands = problem-stands prefix texts in
-      let short = texts-short recipe.seed recipe.side recipe.nets made.side.0 made.side.1
-      made.room in
+  -- what the texts say was made
+  pub said-made : IsMade recipe said
+  said-made =
+      let read = texts-read recipe.seed recipe.side recipe.nets side.0 side.1 room in
       record {
-        arch = record {
-          text = texts.architecture;
-          there = stands.architecture;
-          short = short.architecture;
-          faultless = made.read.faultless;
-          says = made.read.arch;
-        };
-        netlist = record {
-          text = texts.netlist;
-          there = stands.netlist;
-          short = short.netlist;
-          faultless = made.read.netlist.0;
-          says = made.read.netlist.1;
-        };
-        placement = record {
-          text = texts.placement;
-          there = stands.placement;
-          short = short.placement;
-          faultless = made.read.placement.0;
-          says = made.read.placement.1;
-        };
-        route = record {
-          text = texts.route;
-          there = stands.route;
-          short = short.route;
-          faultless = made.read.route.0;
-          says = made.read.route.1;
-        };
+        side = side;
+        room = room;
+        read = subst (AreRead (texts_of recipe)) (read-said (texts_of recipe) read.0 read.1) read.1;
       }
 
-  -- so they pose it, if it is not too large
-  pub made-poses : (p : RoutingProblem) → Makes recipe p → Poses files (generated_names prefix) p
-  made-poses p makes =
-      let said = made-said p makes.made in
-      record {
-        arch = said.arch;
-        netlist = said.netlist;
-        placement = said.placement;
-        route = said.route;
-        fits = made-fits recipe p makes;
-      }
-
-  module _ (side : (1 ≤ recipe.side) × (recipe.side ≤ SIDE_LIMIT)) (room : HasRoom recipe) where
-    -- the texts read as the values of some problem
-    some-made : (p : RoutingProblem) × IsMade recipe p
-    some-made =
-        let read = texts-read recipe.seed recipe.side recipe.nets side.0 side.1 room in
-        (read.0, record { side = side; room = room; read = read.1 })
-
-    -- the desk tells its files
-    told : (fs : FileMap) × (files ≡ Some fs)
-    told = told-behind (generated_files recipe prefix) empty
-
-    -- a problem that they pose was made
-    pub poses-made : (p : RoutingProblem) → Poses files (generated_names prefix) p → IsMade recipe p
-    poses-made p poses =
-        let q = some-made in
-        let names : FilesAsked = generated_names prefix in
-        let same : q.0 ≡ p = one-said told.0 names q.0 p
-        (subst (λ (f : Option FileMap). AreSaid f names q.0) told.1 (made-said q.0 q.1))
-        (subst (λ (f : Option FileMap). AreSaid f names p) told.1 (said-of files names p poses)) in
-        subst (IsMade recipe) same q.1
-
-    -- where they give none, it is too large, or memory ran out
-    pub none-made : (outcome : Outcome) →
-        GivesNone (IsStopped (generated_desk recipe prefix) (generated_desk recipe prefix)) files
-        (generated_names prefix) outcome → PosesNone recipe outcome
-    none-made outcome none =
-        let names : FilesAsked = generated_names prefix in
-        let desk = generated_desk recipe prefix in
-        elim (calm-lack desk desk names outcome calm-at-zero none) [
-          | inl lack ↦ inr (
-              let q = some-made in
-              let unfit = lack-unfit told.0 names q.0 outcome
-              (subst (λ (f : Option FileMap). GivesNone (IsHalted f) f names outcome) told.1 lack)
-              (subst (λ (f : Option FileMap). AreSaid f names q.0) told.1 (made-said q.0 q.1)) in
-              let first : IsForSlots (first_fault (problem_faults q.0)) =
-              first-fits recipe.seed recipe.side recipe.nets q.0 side.0 side.1 room q.1.read in
-              too-large q.0 q.1 outcome unfit first
-              )
-          | inr spent ↦ inl (inr spent)
-        ]
-      where
-        too-large : (p : RoutingProblem) → IsMade recipe p → (o : Outcome) → IsUnfit p o →
-            IsForSlots (first_fault (problem_faults p)) → IsTooLarge recipe o
-        too-large p made o unfit (inl clean) = absurd (none_is_not_some (sym clean ∙ unfit.1))
-        too-large p made o unfit (inr past) = (
-          p,
-          made,
-          made-many recipe p made past,
-          unfit.2 ∙ ap (fault_outcome Route) (some_is (sym unfit.1 ∙ past)),
+  -- the first fault of what the texts say is that there are too many slots
+  said-many : (file : ProblemFile) (fault : TextFault) →
+      IsFirst (faults_of (texts_of recipe) file) fault →
+      PosesNone recipe (fault_outcome (Problem file) fault)
+  said-many Architecture fault first =
+      absurd (none_is_not_some (sym said-made.read.faultless ∙ first))
+  said-many NetlistFile fault first =
+      absurd (none_is_not_some (sym said-made.read.netlist.0 ∙ first))
+  said-many Placement fault first =
+      absurd (none_is_not_some (sym said-made.read.placement.0 ∙ first))
+  said-many Route fault first =
+      let past = past-part (route_faults (texts_of recipe).route) (problem_faults said)
+      (past-nothing _) said-made.read.route.0 in
+      elim (first-fits recipe.seed recipe.side recipe.nets said side.0 side.1 room
+      said-made.read) [
+        | inl clean ↦ absurd (none_is_not_some (sym clean ∙ sym past.same ∙ first))
+        | inr many ↦ inr (
+          said,
+          said-made,
+          made-many recipe said said-made many,
+          ap (fault_outcome (Problem Route)) (some_is (sym first ∙ past.same ∙ many)),
         )
+      ]
+
+  -- where the texts are refused, there are too many slots, or memory ran out
+  pub refused-many : (file : ProblemFile) (fault : TextFault) →
+      IsRefusal (faults_of (texts_of recipe) file) fault →
+      PosesNone recipe (fault_outcome (Problem file) fault)
+  refused-many file (Bad line code) refused = said-many file (Bad line code) refused
+  refused-many file (PastLimit code count) refused = said-many file (PastLimit code count) refused
+  refused-many file Memory refused = inl (inr refl)
 
 -- ---- writing
 

@@ -7,6 +7,7 @@ use Rattle.std.proofs.lemmas.List.{append-nil, map-append}
 use Rattle.std.proofs.lemmas.List.Elements.{All-cons, All-nil}
 use Rattle.desk_io.specs.DeskState.{DeskState}
 use Rattle.desk_io.specs.Files.{Bytes, FileMap}
+use Rattle.desk_io.specs.Reading.{IsWhole}
 use Rattle.desk_io.specs.ShelfState.{ShelfState}
 use Rattle.desk_io.specs.WholeFile.{FailsToWrite, after_writing}
 use Rattle.fpga_types.specs.Problem.{RoutingProblem}
@@ -33,7 +34,6 @@ use Rattle.router_top.specs.Report.{unsaid}
 use Rattle.router_top.specs.Run.{Runs, Scene, scene}
 use Rattle.router_top.specs.Search.{Search, lower_widths}
 use Rattle.router_top.specs.SearchFiles.{proof_files, route_file}
-use Rattle.router_top.specs.Sources.{HasBytes}
 use Rattle.router_top.specs.Work.{Finds}
 use Rattle.router_top.specs.Written.{NamedText, with_file, with_files}
 use Rattle.router_top.specs.declared.outcome.Outcome.{Outcome}
@@ -106,10 +106,10 @@ module _ (name : Bytes) (before now : Option FileMap) (only : OnlyChanges name b
           ∙ ap (λ (fs : Option FileMap). held fs q) (sym is)
 
   -- a file of another name stands as before
-  bytes-still : (q text : Bytes) → q ≢ name → HasBytes before q text → HasBytes now q text
+  bytes-still : (q text : Bytes) → q ≢ name → IsWhole before q text → IsWhole now q text
   bytes-still q text other has = by-told before refl
     where
-      by-told : (told : Option FileMap) → before ≡ told → HasBytes now q text
+      by-told : (told : Option FileMap) → before ≡ told → IsWhole now q text
       by-told None none = λ fs told. let gone : now ≡ None = only.untold none in cc
       by-told (Some old) is = λ fs told.
           let new = only.others old is in

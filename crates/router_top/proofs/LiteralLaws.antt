@@ -10,8 +10,7 @@ use Rattle.fpga_text.specs.FirstFault.{IsFaultless}
 use Rattle.fpga_text.specs.Words.{TextLine, line_count, line_words}
 use Rattle.fpga_text.proofs.FaultLemmas.{faultless-line}
 use Rattle.sat_clause.specs.Literal.{IsLiteral, lit}
-use Rattle.sat_clause.specs.Step.{Step, Erased}
-use Rattle.sat_rat.specs.FullJudge.{HasLiterals, HaveLiterals}
+use Rattle.sat_clause.specs.Step.{Erased, HasLiterals, HaveLiterals, Step}
 use Rattle.sat_text.specs.ByNumbers.{step_fault, step_line_fault}
 use Rattle.sat_text.specs.CnfText.{but_last}
 use Rattle.sat_text.specs.LratText.{added_by, added_limit, bars, due_words, ends_with_zero, faults_above, full_lrat_faults, has_no_id, is_below_zero, is_deletion, lrat_said, raised, said_step, step_of, steps_of}

@@ -2,11 +2,11 @@
 use Rattle.std.proofs.Common.{◌≡◌, ◌∙◌, ◌⊎◌, ◌≤◌, ℕ, Option, Some, length, refl, sym, ap, subst, inl, inr, arith}
 use Rattle.desk_io.specs.DeskState.{DeskState}
 use Rattle.desk_io.specs.Files.{Bytes, FileMap, HasRisen, RisesByOne}
-use Rattle.desk_io.specs.Reading.{FaultIsOn}
+use Rattle.desk_io.specs.Reading.{FaultIsOn, IsWhole}
 use Rattle.desk_io.proofs.FileLemmas.{has_risen}
 use Rattle.fpga_text.specs.FirstFault.{IsFaultless, first_fault}
 use Rattle.list_laws.proofs.Places.{none_is_not_some, some_is}
-use Rattle.router_top.specs.Sources.{HasBytes, IsHalted, IsLonger, IsStopped, ReadsThen, Says, Source, fault_outcome}
+use Rattle.router_top.specs.Sources.{IsHalted, IsLonger, IsStopped, ReadsThen, Says, Source, fault_outcome}
 use Rattle.router_top.specs.declared.outcome.Outcome.{Outcome}
 use Rattle.router_top.specs.declared.outcome.Outcome.TheVariants.{OutOfMemory}
 
@@ -14,12 +14,12 @@ use Rattle.router_top.specs.declared.outcome.Outcome.TheVariants.{OutOfMemory}
 
 module _ (files : FileMap) where
   -- a file has one text
-  one-text : (name a b : Bytes) → HasBytes (Some files) name a → HasBytes (Some files) name b →
+  one-text : (name a b : Bytes) → IsWhole (Some files) name a → IsWhole (Some files) name b →
       a ≡ b
   one-text name a b h g = some_is (sym (h files refl) ∙ g files refl)
 
   too-long : (name text : Bytes) (limit : ℕ) → IsLonger (Some files) name limit →
-      HasBytes (Some files) name text → length text ≤ limit → ⊥
+      IsWhole (Some files) name text → length text ≤ limit → ⊥
   too-long name text limit long there short =
       let found = long files refl in
       let same : found.0 ≡ text = some_is (sym found.1 ∙ there files refl) in

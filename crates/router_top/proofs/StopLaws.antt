@@ -5,6 +5,7 @@ use Rattle.desk_io.specs.Files.{Bytes, FileMap}
 use Rattle.fpga_arch.specs.Value.{arch_value}
 use Rattle.fpga_net.specs.Value.{net_value}
 use Rattle.fpga_place.specs.Value.{place_value}
+use Rattle.fpga_problem.specs.declared.text_file.TextFile.TheVariants.{Route}
 use Rattle.fpga_route.specs.Value.{route_value}
 use Rattle.fpga_text.specs.declared.fault.TextFault.{TextFault}
 use Rattle.fpga_text.specs.declared.fault.TextFault.TheVariants.{Bad, Limit as PastLimit, Memory as NoMemory}
@@ -18,7 +19,7 @@ use Rattle.router_top.specs.declared.outcome.Obstacle.{Obstacle}
 use Rattle.router_top.specs.declared.outcome.Outcome.{Outcome}
 use Rattle.router_top.specs.declared.outcome.Outcome.TheVariants.{InputFault, Limit, NotSymmetric, ReadFault, OutOfMemory}
 use Rattle.router_top.specs.declared.text_file.TextFile.{TextFile}
-use Rattle.router_top.specs.declared.text_file.TextFile.TheVariants.{Route}
+use Rattle.router_top.specs.declared.text_file.TextFile.TheVariants.{Problem}
 use Rattle.router_top.proofs.FourLaws.{AfterArch, AfterNetlist, AfterPlacement}
 
 -- this holds of want of memory, of faults of the desk, of faults of texts and of limits
@@ -59,7 +60,7 @@ module _ (Q : Outcome → Type 0) (each : HoldsOfStops Q) where
         (AfterPlacement (IsStopped desk desk_now) files names arch netlist) o
         (λ placement says. reads-hold (route_source names) route_value
         (λ route. IsUnfit (problem_of arch netlist placement route)) o
-        (λ route says unfit. subst Q (sym unfit.2) (fault-holds Route unfit.0)))))
+        (λ route says unfit. subst Q (sym unfit.2) (fault-holds (Problem Route) unfit.0)))))
 
 -- what holds of such outcomes holds of a method that does not suit the problem
 pub unsuited-holds : (Q : Outcome → Type 0)

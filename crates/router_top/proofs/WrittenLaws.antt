@@ -6,9 +6,9 @@ use Rattle.std.specs.FinMap.{get, insert, get-insert}
 use Rattle.std.specs.Cmp.Lexicographic.{nat_list_cmp_total}
 use Rattle.std.proofs.lemmas.List.Elements.{All-cons, All-nil}
 use Rattle.desk_io.specs.Files.{Bytes, FileMap}
+use Rattle.desk_io.specs.Reading.{IsWhole}
 use Rattle.desk_io.proofs.FileLemmas.{get-inserted, same_name, same_name-eq}
 use Rattle.list_laws.proofs.Places.{some_is}
-use Rattle.router_top.specs.Sources.{HasBytes}
 use Rattle.router_top.specs.Written.{AreWritten, NamedText, with_file, with_files}
 
 -- ---- one file
@@ -23,7 +23,7 @@ get-other m k v q other = get-insert nat_list_cmp_total m k v q ∙ by-test (sam
 
 -- a file that was written is there
 there : (file : NamedText) (files : Option FileMap) →
-    HasBytes (with_file file files) file.name file.text
+    IsWhole (with_file file files) file.name file.text
 there file None = λ fs told. cc
 there file (Some old) = λ fs told.
     subst (λ (m : FileMap). get m file.name ≡ Some file.text) (some_is told)
@@ -31,7 +31,7 @@ there file (Some old) = λ fs told.
 
 -- one of another name stays
 stays : (file : NamedText) (files : Option FileMap) (name text : Bytes) → name ≢ file.name →
-    HasBytes files name text → HasBytes (with_file file files) name text
+    IsWhole files name text → IsWhole (with_file file files) name text
 stays file None name text other h = λ fs told. cc
 stays file (Some old) name text other h = λ fs told.
     subst (λ (m : FileMap). get m name ≡ Some text) (some_is told)
@@ -50,7 +50,7 @@ AreApart [] = ⊤
 AreApart (file ∷ more) = NoneHas file.name more × AreApart more
 
 stays-behind : (more : List NamedText) (files : Option FileMap) (name text : Bytes) →
-    NoneHas name more → HasBytes files name text → HasBytes (with_files more files) name text
+    NoneHas name more → IsWhole files name text → IsWhole (with_files more files) name text
 stays-behind [] files name text none h = h
 stays-behind (file ∷ more) files name text none h =
     stays-behind more (with_file file files) name text none.1
@@ -59,7 +59,7 @@ stays-behind (file ∷ more) files name text none h =
 -- each of these files stands with its text
 abbrev pub Stand : Option FileMap → List NamedText → Type 0
 Stand files [] = ⊤
-Stand files (file ∷ more) = HasBytes files file.name file.text × Stand files more
+Stand files (file ∷ more) = IsWhole files file.name file.text × Stand files more
 
 pub written-stand : (written : List NamedText) (files : Option FileMap) → AreApart written →
     Stand (with_files written files) written
@@ -70,10 +70,10 @@ written-stand (file ∷ more) files apart = (
 )
 
 pub all-stand : (written : List NamedText) (files : Option FileMap) → Stand files written →
-    All (λ file. HasBytes files file.name file.text) written
-all-stand [] files each = All-nil (λ file. HasBytes files file.name file.text)
+    All (λ file. IsWhole files file.name file.text) written
+all-stand [] files each = All-nil (λ file. IsWhole files file.name file.text)
 all-stand (file ∷ more) files each =
-    All-cons (λ one. HasBytes files one.name one.text) file more each.0
+    All-cons (λ one. IsWhole files one.name one.text) file more each.0
     (all-stand more files each.1)
 
 -- files whose names differ were written
@@ -82,7 +82,7 @@ pub are-written : (written : List NamedText) (before now : Option FileMap) →
 are-written written before now only apart = record {
   only = only;
   stand = subst (λ (files : Option FileMap).
-      All (λ file. HasBytes files file.name file.text) written) (sym only)
+      All (λ file. IsWhole files file.name file.text) written) (sym only)
       (all-stand written (with_files written before) (written-stand written before apart));
 }
 
@@ -91,9 +91,3 @@ pub with_files-append : (xs ys : List NamedText) (files : Option FileMap) →
     with_files (xs ++ ys) files ≡ with_files ys (with_files xs files)
 with_files-append [] ys files = refl
 with_files-append (x ∷ xs) ys files = with_files-append xs ys (with_file x files)
-
--- where files are told, they are told behind these
-pub told-behind : (written : List NamedText) (old : FileMap) →
-    (new : FileMap) × (with_files written (Some old) ≡ Some new)
-told-behind [] old = (old, refl)
-told-behind (file ∷ more) old = told-behind more (insert old file.name file.text)

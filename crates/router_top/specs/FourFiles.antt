@@ -7,6 +7,7 @@ use Rattle.fpga_net.specs.Codes.{net_faults}
 use Rattle.fpga_net.specs.Value.{net_value}
 use Rattle.fpga_place.specs.Codes.{place_faults}
 use Rattle.fpga_place.specs.Value.{place_value}
+use Rattle.fpga_problem.specs.declared.text_file.TextFile.TheVariants.{Architecture, Netlist as NetlistFile, Placement, Route}
 use Rattle.fpga_route.specs.Codes.{route_faults}
 use Rattle.fpga_route.specs.Value.{route_value}
 use Rattle.fpga_text.specs.FirstFault.{IsFirst}
@@ -20,12 +21,12 @@ use Rattle.router_top.specs.Sources.{ReadsThen, Says, Source, fault_outcome}
 use Rattle.router_top.specs.declared.limits.TheConstants.{TEXT_BYTES}
 use Rattle.router_top.specs.declared.outcome.Outcome.{Outcome}
 use Rattle.router_top.specs.declared.text_file.TextFile.{TextFile}
-use Rattle.router_top.specs.declared.text_file.TextFile.TheVariants.{Architecture, Netlist as NetlistFile, Placement, Route}
+use Rattle.router_top.specs.declared.text_file.TextFile.TheVariants.{Problem}
 
 -- the architecture
 abbrev pub arch_source : FilesAsked → Source
 arch_source names = record {
-  file = Architecture;
+  file = Problem Architecture;
   name = names.architecture;
   limit = TEXT_BYTES;
   faults = arch_faults;
@@ -34,7 +35,7 @@ arch_source names = record {
 -- the netlist, for this architecture
 abbrev pub net_source : FilesAsked → Arch → Source
 net_source names arch = record {
-  file = NetlistFile;
+  file = Problem NetlistFile;
   name = names.netlist;
   limit = TEXT_BYTES;
   faults = net_faults arch;
@@ -43,7 +44,7 @@ net_source names arch = record {
 -- the placement, for these
 abbrev pub place_source : FilesAsked → Arch → Netlist → Source
 place_source names arch netlist = record {
-  file = Placement;
+  file = Problem Placement;
   name = names.placement;
   limit = TEXT_BYTES;
   faults = place_faults arch netlist;
@@ -60,12 +61,12 @@ route_file_source file name = record {
 
 -- the global route
 abbrev pub route_source : FilesAsked → Source
-route_source names = route_file_source Route names.route
+route_source names = route_file_source (Problem Route) names.route
 
 -- the values do not fit together, and the outcome says why
 abbrev pub IsUnfit : RoutingProblem → Outcome → Type 0
 IsUnfit p outcome =
-    (fault : TextFault) × IsFirst (problem_faults p) fault × (outcome ≡ fault_outcome Route fault)
+    (fault : TextFault) × IsFirst (problem_faults p) fault × (outcome ≡ fault_outcome (Problem Route) fault)
 
 -- the four files give no problem, and the outcome says why: the work stops at a file, those before
 -- it read; or all four read, but do not fit

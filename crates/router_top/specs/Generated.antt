@@ -1,24 +1,22 @@
 -- Problems that are made from a number: their files, and the desk on which these stand alone.
-use Rattle.std.specs.Prelude.{◌≡◌, ◌⊎◌, ◌*◌, ◌<◌, ◌≤◌, ◌++◌, ◌+◌, false, List, [], ◌∷◌, length, codes, Option, Some, None}
+use Rattle.std.specs.Prelude.{◌≡◌, ◌⊎◌, ◌*◌, ◌<◌, ◌≤◌, ◌++◌, ◌+◌, false, List, [], ◌∷◌, length, codes, Some, None}
 use Rattle.std.specs.FinMap.{empty}
 use Rattle.desk_io.specs.DeskState.{DeskState}
-use Rattle.desk_io.specs.Files.{Bytes, FileMap}
+use Rattle.fpga_problem.specs.declared.text_file.TextFile.TheVariants.{Route}
 use Rattle.fpga_types.specs.FitCauses.{code_of}
 use Rattle.fpga_types.specs.Problem.{RoutingProblem}
 use Rattle.fpga_types.specs.Slots.{slots}
+use Rattle.fpga_types.specs.Texts.{Texts}
 use Rattle.fpga_types.specs.declared.fit_cause.FitCause.TheVariants.{PastLimit}
 use Rattle.fpga_types.specs.declared.limits.TheConstants.{SIDE_LIMIT, SLOT_LIMIT}
 use Rattle.route_gen.specs.Fitting.{AreRead}
 use Rattle.route_gen.specs.Generated.{generated}
-use Rattle.route_gen.specs.Texts.{Texts}
 use Rattle.router_words.specs.Job.{FilesAsked, RecipeAsked}
 use Rattle.router_words.specs.Word.{Word}
-use Rattle.router_top.specs.FourFiles.{GivesNone, Poses}
-use Rattle.router_top.specs.Sources.{HasBytes, IsStopped}
 use Rattle.router_top.specs.Written.{NamedText, with_files}
 use Rattle.router_top.specs.declared.outcome.Outcome.{Outcome}
 use Rattle.router_top.specs.declared.outcome.Outcome.TheVariants.{Limit, OutOfMemory}
-use Rattle.router_top.specs.declared.text_file.TextFile.TheVariants.{Route}
+use Rattle.router_top.specs.declared.text_file.TextFile.TheVariants.{Problem}
 
 -- there is a block to drive each net
 abbrev pub HasRoom : RecipeAsked → Type 0
@@ -37,15 +35,6 @@ MakesNone recipe outcome = IsTooMany recipe outcome ⊎ (outcome ≡ OutOfMemory
 abbrev pub texts_of : RecipeAsked → Texts
 texts_of recipe = generated recipe.seed recipe.side recipe.nets
 
--- four texts, each given by itself
-abbrev pub texts_with : (architecture netlist placement route : Bytes) → Texts
-texts_with architecture netlist placement route = record {
-  architecture = architecture;
-  netlist = netlist;
-  placement = placement;
-  route = route;
-}
-
 -- the names of its files
 abbrev pub generated_names : (prefix : Word) → FilesAsked
 generated_names prefix = record {
@@ -63,24 +52,6 @@ problem_files names texts =
     ∷ record { name = names.placement; text = texts.placement }
     ∷ record { name = names.route; text = texts.route } ∷ []
 
--- the four texts stand on the desk under these names
-pub record AreOn (files : Option FileMap) (names : FilesAsked) (texts : Texts) : Type 0 where
-  pub architecture : HasBytes files names.architecture texts.architecture
-  pub netlist : HasBytes files names.netlist texts.netlist
-  pub placement : HasBytes files names.placement texts.placement
-  pub route : HasBytes files names.route texts.route
-
--- on whatever desk the texts stand, they pose this problem
-abbrev pub PosesAnywhere : Texts → RoutingProblem → Type 0
-PosesAnywhere texts p =
-    (files : Option FileMap) (names : FilesAsked) → AreOn files names texts → Poses files names p
-
--- on whatever desk the texts stand, they give no problem, and the outcome says why
-abbrev pub GivesNoneAnywhere : Texts → Outcome → Type 0
-GivesNoneAnywhere texts outcome =
-    (desk : DeskState) (names : FilesAsked) → AreOn desk.files names texts
-    → GivesNone (IsStopped desk desk) desk.files names outcome
-
 -- an array may have this side, there is a block to drive each net, and the texts read as the four
 -- values of this problem
 pub record IsMade (recipe : RecipeAsked) (p : RoutingProblem) : Type 0 where
@@ -92,7 +63,7 @@ pub record IsMade (recipe : RecipeAsked) (p : RoutingProblem) : Type 0 where
 abbrev pub IsTooLarge : RecipeAsked → Outcome → Type 0
 IsTooLarge recipe outcome =
     (p : RoutingProblem) × IsMade recipe p × (SLOT_LIMIT < length (slots p.route))
-    × (outcome ≡ Limit (Some Route) (code_of PastLimit) (SLOT_LIMIT + 1))
+    × (outcome ≡ Limit (Some (Problem Route)) (code_of PastLimit) (SLOT_LIMIT + 1))
 
 -- this problem is made, and has no more slots than may be
 pub record Makes (recipe : RecipeAsked) (p : RoutingProblem) : Type 0 where

@@ -5,6 +5,7 @@ use Rattle.std.specs.List.{All}
 use Rattle.std.specs.Option.{ForSome}
 use Rattle.std.specs.FinMap.{get}
 use Rattle.desk_io.specs.Files.{Bytes, FileMap}
+use Rattle.desk_io.specs.Reading.{IsWhole}
 use Rattle.desk_io.specs.ShelfState.{OthersStay}
 use Rattle.fpga_types.specs.Problem.{RoutingProblem}
 use Rattle.fpga_types.specs.declared.route.RouteText.{RouteText}
@@ -22,7 +23,6 @@ use Rattle.router_top.specs.Generated.{HasRoom, generated_files}
 use Rattle.router_top.specs.Method.{IsRoutingBy, clauses_by}
 use Rattle.router_top.specs.Search.{Search, lower_widths}
 use Rattle.router_top.specs.SearchFiles.{proof_files, route_file}
-use Rattle.router_top.specs.Sources.{HasBytes}
 use Rattle.router_top.specs.Work.{clauses_file}
 use Rattle.router_top.specs.Written.{AreWritten, NamedText, with_file}
 use Rattle.router_top.specs.declared.outcome.Outcome.{Outcome}
@@ -146,7 +146,7 @@ pub record LeavesPart (words : List Word) (desk before now : Option FileMap) (sl
   pub between : Option FileMap
   pub written : AreWritten (files_in whole) before between
   pub begun : IsBegun part.file between now
-  pub stand : All (λ file. HasBytes now file.name file.text) (files_in whole)
+  pub stand : All (λ file. IsWhole now file.name file.text) (files_in whole)
   pub stay : All (λ file. held now file.name ≡ held before file.name) (files_in later)
 
 -- the words ask for a search at one width after another

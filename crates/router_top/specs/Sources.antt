@@ -4,19 +4,14 @@ use Rattle.std.specs.Option.{ForSome}
 use Rattle.std.specs.FinMap.{get}
 use Rattle.desk_io.specs.DeskState.{DeskState}
 use Rattle.desk_io.specs.Files.{Bytes, FileMap, RisesByOne}
-use Rattle.desk_io.specs.Reading.{FaultIsOn}
+use Rattle.desk_io.specs.Reading.{FaultIsOn, IsWhole}
 use Rattle.fpga_text.specs.FirstFault.{Faults, IsFaultless, IsFirst}
 use Rattle.fpga_text.specs.declared.fault.TextFault.{TextFault}
 use Rattle.fpga_text.specs.declared.fault.TextFault.TheVariants.{Bad, Limit as PastLimit, Memory}
-use Rattle.router_words.specs.Job.{FilesAsked}
 use Rattle.router_top.specs.TextFiles.{file_number}
 use Rattle.router_top.specs.declared.outcome.Outcome.{Outcome}
 use Rattle.router_top.specs.declared.outcome.Outcome.TheVariants.{InputFault, Limit, ReadFault, OutOfMemory}
 use Rattle.router_top.specs.declared.text_file.TextFile.{TextFile}
-
--- where the files are told, the one with this name has these bytes
-abbrev pub HasBytes : Option FileMap → Bytes → Bytes → Type 0
-HasBytes files name text = ForSome files (λ fs. get fs name ≡ Some text)
 
 -- where the files are told, the one with this name has more bytes than these
 abbrev pub IsLonger : Option FileMap → Bytes → ℕ → Type 0
@@ -41,7 +36,7 @@ pub record Says
     {T : Type 0} (files : Option FileMap) (source : Source) (value : Bytes → T) (said : T)
     : Type 0 where
   pub text : Bytes
-  pub there : HasBytes files source.name text
+  pub there : IsWhole files source.name text
   pub short : length text ≤ source.limit
   pub faultless : IsFaultless (source.faults text)
   pub says : said ≡ value text
@@ -50,7 +45,7 @@ pub record Says
 pub record IsRefused (files : Option FileMap) (source : Source) (fault : TextFault)
     : Type 0 where
   pub text : Bytes
-  pub there : HasBytes files source.name text
+  pub there : IsWhole files source.name text
   pub short : length text ≤ source.limit
   pub first : IsFirst (source.faults text) fault
 
@@ -59,11 +54,6 @@ abbrev pub fault_outcome : TextFile → TextFault → Outcome
 fault_outcome file (Bad line code) = InputFault file line code
 fault_outcome file (PastLimit code count) = Limit (Some file) code count
 fault_outcome file Memory = OutOfMemory
-
--- the text of this file is longer than it may be, and the outcome says so
-abbrev pub IsTooLong : TextFile → (limit : ℕ) → Bytes → Outcome → Type 0
-IsTooLong file limit text outcome =
-    (limit < length text) × (outcome ≡ Limit (Some file) (910 + file_number file) (limit + 1))
 
 -- the text is longer than it may be, or has a fault; and the outcome says so
 abbrev pub IsHalted : Option FileMap → Source → Outcome → Type 0
@@ -86,20 +76,6 @@ abbrev pub ReadsThen : {T : Type 0} → (Source → Outcome → Type 0) → Opti
     → (Bytes → T) → (T → Outcome → Type 0) → Outcome → Type 0
 ReadsThen {T} stops files source value rest outcome =
     stops source outcome ⊎ ((said : T) × Says files source value said × rest said outcome)
-
--- on whatever desk the text stands under the name of its file, it says this value
-abbrev pub SaysAnywhere : {T : Type 0} → (FilesAsked → Source) → (Bytes → T) → (text : Bytes) → T
-    → Type 0
-SaysAnywhere source value text said =
-    (files : Option FileMap) (names : FilesAsked) → HasBytes files (source names).name text
-    → Says files (source names) value said
-
--- on whatever desk the text stands under the name of its file, the work stops at it, and the
--- outcome says why
-abbrev pub StopsAnywhere : (FilesAsked → Source) → (text : Bytes) → Outcome → Type 0
-StopsAnywhere source text outcome =
-    (desk : DeskState) (names : FilesAsked) → HasBytes desk.files (source names).name text
-    → IsStopped desk desk (source names) outcome
 
 -- a file of which any text is taken
 abbrev pub any_text : TextFile → Bytes → (limit : ℕ) → Source

@@ -3,7 +3,7 @@ use Rattle.std.specs.Prelude.{◌≡◌, List, [], ◌∷◌, Option, option_map
 use Rattle.std.specs.List.{All}
 use Rattle.std.specs.FinMap.{insert}
 use Rattle.desk_io.specs.Files.{Bytes, FileMap}
-use Rattle.router_top.specs.Sources.{HasBytes}
+use Rattle.desk_io.specs.Reading.{IsWhole}
 
 -- a file: its name and its text
 pub record NamedText : Type 0 where
@@ -22,4 +22,4 @@ with_files (file ∷ more) files = with_files more (with_file file files)
 -- these files were written and no others, and each stands there with its text
 pub record AreWritten (written : List NamedText) (before now : Option FileMap) : Type 0 where
   pub only : now ≡ with_files written before
-  pub stand : All (λ file. HasBytes now file.name file.text) written
+  pub stand : All (λ file. IsWhole now file.name file.text) written

@@ -66,7 +66,7 @@ fn write_clauses<S: Shelf>(
 }
 
 // What the run comes to by the writing.
-fn written(came: Result<(), Stop>) -> Outcome
+fn written_outcome(came: Result<(), Stop>) -> Outcome
     ensures { result ≡ written_outcome came }
 {
     match came {
@@ -87,6 +87,6 @@ impl<'a> ProblemWork for EncodeJob<'a> {
         let Ok(encoder) = Chosen::of(alloc, self.method, problem) else {
             return Outcome::OutOfMemory;
         };
-        written(write_clauses(alloc, self, &encoder, problem, shelf))
+        written_outcome(write_clauses(alloc, self, &encoder, problem, shelf))
     }
 }

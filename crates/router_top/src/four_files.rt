@@ -20,6 +20,7 @@ use fpga_arch::read_arch;
 use fpga_bounds::{PlacedProblem, fit};
 use fpga_net::read_net;
 use fpga_place::read_place;
+use fpga_problem::TextFile as ProblemFile;
 use fpga_types::{Arch, Netlist, Placement};
 use router_words::FourNames;
 use std::alloc::Global;
@@ -38,7 +39,7 @@ fn architecture<D: Desk>(
     ensures quiet { ¬ IsReadFaultErr result
         → (D.state desk.new).faults ≡ (D.state desk.old).faults }
 {
-    let file = TextFile::Architecture;
+    let file = TextFile::Problem(ProblemFile::Architecture);
     let text = match read_bytes(alloc, desk, file, names.architecture, TEXT_BYTES) {
         Ok(text) => text,
         Err(outcome) => return Err(outcome),
@@ -65,7 +66,7 @@ fn netlist<D: Desk>(
     ensures quiet { ¬ IsReadFaultErr result
         → (D.state desk.new).faults ≡ (D.state desk.old).faults }
 {
-    let file = TextFile::Netlist;
+    let file = TextFile::Problem(ProblemFile::Netlist);
     let text = match read_bytes(alloc, desk, file, names.netlist, TEXT_BYTES) {
         Ok(text) => text,
         Err(outcome) => return Err(outcome),
@@ -93,7 +94,7 @@ fn placement<D: Desk>(
     ensures quiet { ¬ IsReadFaultErr result
         → (D.state desk.new).faults ≡ (D.state desk.old).faults }
 {
-    let file = TextFile::Placement;
+    let file = TextFile::Problem(ProblemFile::Placement);
     let text = match read_bytes(alloc, desk, file, names.placement, TEXT_BYTES) {
         Ok(text) => text,
         Err(outcome) => return Err(outcome),
@@ -130,12 +131,17 @@ pub fn pose_problem<D: Desk>(
         Ok(placement) => placement,
         Err(outcome) => return Err(outcome),
     };
-    let route = match read_route_text(alloc, desk, TextFile::Route, names.route) {
+    let route = match read_route_text(
+        alloc,
+        desk,
+        TextFile::Problem(ProblemFile::Route),
+        names.route,
+    ) {
         Ok(route) => route,
         Err(outcome) => return Err(outcome),
     };
     match fit(alloc, arch, netlist, placement, route) {
         Ok(problem) => Ok(problem),
-        Err(fault) => Err(refused(TextFile::Route, fault)),
+        Err(fault) => Err(refused(TextFile::Problem(ProblemFile::Route), fault)),
     }
 }

@@ -13,7 +13,6 @@ mod encoder;
 mod encoding;
 mod file_name;
 mod four_files;
-mod four_texts;
 mod generating;
 mod limits;
 mod outcome;

@@ -67,7 +67,7 @@ fn work<D: Desk, S: Shelf>(alloc: Global, words: &[String], desk: &mut D, shelf:
 }
 
 // What a run comes to whose report line was not said.
-fn not_said(outcome: Outcome) -> Outcome
+fn unsaid(outcome: Outcome) -> Outcome
     ensures { result ≡ unsaid outcome }
 {
     match outcome {
@@ -83,7 +83,7 @@ fn say_report<S: Shelf>(shelf: &mut S, outcome: Outcome) -> Outcome
     let mut line = report(&outcome);
     line.push_str("\n");
     let Ok(()) = shelf.say(line.as_bytes()) else {
-        return not_said(outcome);
+        return unsaid(outcome);
     };
     outcome
 }

@@ -1,7 +1,8 @@
 //! The bytes of the files that a command reads, and what the run comes to without them.
 ghost use Rattle.std.specs.Prelude.{◌≡◌, ◌≤◌, ◌<◌, ◌^◌, vec_len, IfErr, IfOk};
 ghost use Rattle.router_top.specs.Report.{IsReadFaultErr};
-ghost use Rattle.router_top.specs.Sources.{HasBytes, IsStopped, any_text, fault_outcome};
+ghost use Rattle.desk_io.specs.Reading.{IsWhole};
+ghost use Rattle.router_top.specs.Sources.{IsStopped, any_text, fault_outcome};
 
 use crate::outcome::Outcome;
 use crate::text_file::TextFile;
@@ -18,7 +19,7 @@ pub fn read_bytes<D: Desk>(
     limit: u64,
 ) -> Result<Vec<u8>, Outcome>
     requires { limit < 2 ^ 63 }
-    ensures bytes { IfOk result (λ bytes. HasBytes (D.state desk.old).files name.now bytes.items) }
+    ensures bytes { IfOk result (λ bytes. IsWhole (D.state desk.old).files name.now bytes.items) }
     ensures short { IfOk result (λ bytes. vec_len bytes ≤ limit) }
     ensures stop { IfErr result
         (IsStopped (D.state desk.old) (D.state desk.new) (any_text file name.now limit)) }

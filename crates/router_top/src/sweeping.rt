@@ -17,7 +17,7 @@ use router_words::{SearchJob, SweepJob};
 use std::alloc::Global;
 
 // What the run comes to by what the climb came to.
-fn climbed(came: Result<Climbed, Stop>) -> Outcome
+fn climbed_outcome(came: Result<Climbed, Stop>) -> Outcome
     ensures { result ≡ climbed_outcome came }
 {
     match came {
@@ -50,7 +50,7 @@ pub fn search_widths<S: Shelf>(
         numbered: true,
         count: search.count,
     };
-    climbed(climb(alloc, encoder, problem, search.width, &ask, shelf))
+    climbed_outcome(climb(alloc, encoder, problem, search.width, &ask, shelf))
 }
 
 // Searches at one width after another.

@@ -2,13 +2,13 @@
 ghost use Rattle.std.specs.Prelude.{◌≡◌, ◌≤◌, length};
 ghost use Rattle.router_top.specs.TextFiles.{file_number, file_word};
 
+use fpga_problem::TextFile as ProblemFile;
+
 /// A file that a command reads.
 #[derive(Clone, Copy, Debug, PartialEq, Eq)]
 pub enum TextFile {
-    Architecture,
-    Netlist,
-    Placement,
-    Route,
+    /// A file that a problem is read from.
+    Problem(ProblemFile),
     Cnf,
     Lrat,
     Routed,
@@ -20,10 +20,10 @@ impl TextFile {
         ensures { result ≡ file_number self }
     {
         match self {
-            TextFile::Architecture => 1,
-            TextFile::Netlist => 2,
-            TextFile::Placement => 3,
-            TextFile::Route => 4,
+            TextFile::Problem(ProblemFile::Architecture) => 1,
+            TextFile::Problem(ProblemFile::Netlist) => 2,
+            TextFile::Problem(ProblemFile::Placement) => 3,
+            TextFile::Problem(ProblemFile::Route) => 4,
             TextFile::Cnf => 5,
             TextFile::Lrat => 6,
             TextFile::Routed => 7,
@@ -36,10 +36,10 @@ impl TextFile {
         ensures short { length result.now ≤ 12 }
     {
         match self {
-            TextFile::Architecture => "architecture",
-            TextFile::Netlist => "netlist",
-            TextFile::Placement => "placement",
-            TextFile::Route => "route",
+            TextFile::Problem(ProblemFile::Architecture) => "architecture",
+            TextFile::Problem(ProblemFile::Netlist) => "netlist",
+            TextFile::Problem(ProblemFile::Placement) => "placement",
+            TextFile::Problem(ProblemFile::Route) => "route",
             TextFile::Cnf => "cnf",
             TextFile::Lrat => "lrat",
             TextFile::Routed => "routed",

@@ -8,19 +8,21 @@ ghost use Rattle.router_top.specs.Run.{TriesGenerated};
 ghost use Rattle.router_top.specs.Trial.{trial_line};
 
 use crate::chosen::Chosen;
-use crate::four_texts::pose_texts;
 use crate::generating::make_texts;
 use crate::outcome::{LINE_ROOM, Outcome, push_count};
 use crate::slot::Slot;
+use crate::source::refused;
 use crate::sweeping::search_widths;
+use crate::text_file::TextFile;
 use arrayvec::ArrayString;
 use desk_io::Shelf;
 use fpga_bounds::PlacedProblem;
+use fpga_problem::{FourTexts, read_problem};
 use router_words::{Recipe, TrialJob};
 use std::alloc::Global;
 
 // The line that says how large a problem is.
-fn size_line(problem: &PlacedProblem) -> ArrayString<LINE_ROOM>
+fn trial_line(problem: &PlacedProblem) -> ArrayString<LINE_ROOM>
     ensures line { result.bytes ≡ trial_line problem.now }
     ensures few { length (slots problem.now.route) ≤ SLOT_LIMIT }
 {
@@ -32,6 +34,18 @@ fn size_line(problem: &PlacedProblem) -> ArrayString<LINE_ROOM>
     line
 }
 
+// The texts of a generated problem, lent.
+fn lent(texts: &route_gen::FourTexts) -> FourTexts<'_>
+    ensures { result ≡ texts.now }
+{
+    FourTexts {
+        architecture: &texts.architecture,
+        netlist: &texts.netlist,
+        placement: &texts.placement,
+        route: &texts.route,
+    }
+}
+
 // The problem that a recipe makes. The error is what the run comes to.
 fn make_problem(alloc: Global, recipe: Recipe) -> Result<PlacedProblem, Outcome>
     ensures made { IfOk result (IsMade (recipe_said recipe)) }
@@ -41,7 +55,10 @@ fn make_problem(alloc: Global, recipe: Recipe) -> Result<PlacedProblem, Outcome>
         Ok(texts) => texts,
         Err(outcome) => return Err(outcome),
     };
-    pose_texts(alloc, &texts)
+    match read_problem(alloc, &lent(&texts)) {
+        Ok(problem) => Ok(problem),
+        Err(refusal) => Err(refused(TextFile::Problem(refusal.file), refusal.fault)),
+    }
 }
 
 /// Makes a problem from its recipe, says how large it is, and searches at the widths from 1 on, as
@@ -57,7 +74,7 @@ pub fn trial<S: Shelf>(alloc: Global, job: &TrialJob<'_>, shelf: &mut S) -> Outc
     let Ok(encoder) = Chosen::of(alloc, job.search.method, &problem) else {
         return Outcome::OutOfMemory;
     };
-    let Ok(()) = shelf.say(size_line(&problem).as_bytes()) else {
+    let Ok(()) = shelf.say(trial_line(&problem).as_bytes()) else {
         return Outcome::WriteFault { slot: Slot::Said };
     };
     search_widths(alloc, &problem, &encoder, &job.search, shelf)

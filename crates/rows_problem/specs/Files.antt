@@ -3,10 +3,10 @@ use Rattle.std.specs.Prelude.{◌++◌, Option, Result, codes}
 use Rattle.desk_io.specs.Files.{FileMap}
 use Rattle.desk_io.specs.Reading.{IsWhole}
 use Rattle.fpga_problem.specs.Refused.{AnswersTexts}
-use Rattle.fpga_problem.specs.Texts.{Texts}
 use Rattle.fpga_problem.specs.declared.refusal.Refusal.{Refusal}
 use Rattle.fpga_text.specs.Bytes.{Bytes}
 use Rattle.fpga_types.specs.Problem.{RoutingProblem}
+use Rattle.fpga_types.specs.Texts.{Texts}
 
 -- the names of the files of an architecture and a design
 abbrev pub design_names : (arch design : Bytes) → Texts

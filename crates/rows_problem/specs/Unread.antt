@@ -4,8 +4,8 @@ use Rattle.desk_io.specs.DeskState.{DeskState}
 use Rattle.desk_io.specs.Files.{FileMap, RisesByOne}
 use Rattle.desk_io.specs.Reading.{FaultIsOn, HasTakenOneMore, IsWhole}
 use Rattle.desk_io.specs.declared.read.ReadStop.TheVariants.{Fault, TooLong, Memory as NoRoom}
-use Rattle.fpga_problem.specs.Texts.{Texts}
 use Rattle.fpga_text.specs.Bytes.{Bytes}
+use Rattle.fpga_types.specs.Texts.{Texts}
 use Rattle.rows_problem.specs.declared.stop.RowsError.{RowsError}
 use Rattle.rows_problem.specs.declared.stop.RowsError.TheVariants.{File, Text, Memory, Output}
 use Rattle.rows_problem.specs.declared.texts.TheConstants.{LIMIT}

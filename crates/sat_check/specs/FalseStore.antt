@@ -1,5 +1,5 @@
 -- A set of false literals: what contracts see, and how it lies in marks and a list of the marked.
-use Rattle.std.specs.Prelude.{◌≡◌, ℕ, ◌+◌, ◌*◌, ◌≤◌, ℤ, pos, negsuc, List, length, All, Vec, reverse}
+use Rattle.std.specs.Prelude.{◌≡◌, ℕ, ◌+◌, ◌*◌, ◌≤◌, ℤ, pos, negsuc, List, [], length, All, Vec, reverse}
 use Rattle.std.specs.Global.{Global}
 use Rattle.sat_clause.specs.declared.limits.TheConstants.{LITERAL_LIMIT}
 use Rattle.sat_clause.specs.declared.literal.Lit.{Lit}
@@ -22,3 +22,8 @@ pub record IsFalseStore (size : ℕ) (marks : List ℕ) (trail : Vec Lit Global)
   pub within : All (IsWithin size) trail.items
   pub few : size ≤ LITERAL_LIMIT
   pub marked : (l : Lit) → is_set marks (slot_of l.code) ≡ is_among (reverse trail.items) l
+
+-- the set is empty, and has the variables of the live clauses
+pub record IsReady (vars : ℕ) (set : FalseState) : Type 0 where
+  pub size : set.size ≡ vars
+  pub empty : set.set ≡ []

@@ -2,7 +2,8 @@
 use Rattle.std.specs.Prelude.{◌≡◌, ℕ, zero, suc, ◌+◌, ◌<◌, ◌≤◌, nat_lt, if◌then◌else◌, length, Option, None, Some}
 use Rattle.std.specs.Option.{option_or}
 use Rattle.sat_check.specs.DerivedStore.{DerivedState, derived_at, key_at}
-use Rattle.sat_check.specs.Finder.{AllWithin, Finder}
+use Rattle.sat_clause.specs.Live.{Live}
+use Rattle.sat_check.specs.Finder.{AllWithin, Finder, Finds}
 use Rattle.sat_check.specs.InputStore.{InputState, input_at}
 
 -- the number of variables, the inputs that are live, and the clauses that steps have added
@@ -18,6 +19,10 @@ joined first second id = option_or (first id) (second id)
 -- the live clause with an id
 abbrev pub live_at : LiveState → Finder
 live_at state = joined (input_at state.inputs) (derived_at state.derived)
+
+-- these are the live clauses
+abbrev pub HasLive : LiveState → Live → Type 0
+HasLive state live = Finds (live_at state) live
 
 -- the clauses have the variables 1 to n, and the first cell is behind the marks of the inputs
 pub record IsLiveStore (n : ℕ) (inputs : InputState) (derived : DerivedState) : Type 0 where

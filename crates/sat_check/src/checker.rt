@@ -2,13 +2,39 @@
 
 ghost use Rattle.std.specs.Prelude.{◌≡◌, IfOk};
 ghost use Rattle.sat_clause.specs.Formula.{IsUnsat};
-ghost use Rattle.sat_clause.specs.Judge.{judge};
+ghost use Rattle.sat_clause.specs.Judge.{judge, judge_by};
 ghost use Rattle.sat_check.specs.Verdict.{judgement_of};
 
 use crate::Verdict;
 use crate::replay::Replay;
+use crate::step_rule::StepRule;
+use crate::unit_rule::UnitRule;
 use sat_clause::{Formula, Log};
 use std::alloc::{AllocError, Global};
+
+/// Whether the log refutes the formula, by a rule of steps.
+///
+/// # Errors
+/// Where memory is short.
+pub fn check_by<'a, R: StepRule<'a>>(
+    alloc: Global,
+    formula: &'a Formula,
+    log: &Log,
+) -> Result<Verdict, AllocError>
+    ensures judged { IfOk result
+        (λ verdict. judgement_of verdict ≡ judge_by R.fault formula.now.cnf log.now.steps) }
+    ensures sound { IfOk result (λ verdict. verdict ≡ Verdict.Accepted → IsUnsat formula.now.cnf) }
+{
+    let Ok(mut replay) = Replay::<R>::new(alloc, formula) else {
+        return Err(AllocError);
+    };
+    for i in 0..log.len() {
+        let Ok(()) = replay.take(log.step(i)) else {
+            return Err(AllocError);
+        };
+    }
+    Ok(replay.verdict())
+}
 
 /// Whether the log refutes the formula, by unit propagation along the hints of its steps, as in
 /// LRAT without its resolution on a pivot.
@@ -31,9 +57,5 @@ pub fn check(alloc: Global, formula: &Formula, log: &Log) -> Result<Verdict, All
         (λ verdict. judgement_of verdict ≡ judge formula.now.cnf log.now.steps) }
     ensures sound { IfOk result (λ verdict. verdict ≡ Verdict.Accepted → IsUnsat formula.now.cnf) }
 {
-    let mut replay = Replay::new(alloc, formula)?;
-    for i in 0..log.len() {
-        replay.take(log.step(i))?;
-    }
-    Ok(replay.verdict())
+    check_by::<UnitRule>(alloc, formula, log)
 }

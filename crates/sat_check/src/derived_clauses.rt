@@ -41,7 +41,7 @@ impl Model for DerivedClauses {
 }
 
 /// The cell of an id in a table of so many cells, where the first has this id.
-fn cell_of(first: u64, count: usize, id: u64) -> Option<usize>
+fn cell_at(first: u64, count: usize, id: u64) -> Option<usize>
     ensures value { result ≡ cell_at first count id }
     ensures within { IfSome result (λ at. at < count) }
 {
@@ -73,7 +73,7 @@ impl DerivedClauses {
     pub(crate) fn get(&self, id: u64) -> Option<&[Lit]>
         ensures { option_map (λ c. c.now) result ≡ derived_at self.now id }
     {
-        let Some(at) = cell_of(self.first, self.table.len(), id) else {
+        let Some(at) = cell_at(self.first, self.table.len(), id) else {
             let Some(clause) = self.others.get(&id) else {
                 return None;
             };
@@ -126,7 +126,7 @@ impl DerivedClauses {
             (Changes (derived_at self.old) (derived_at self.new) id (Some clause.items)) }
         ensures err { OnErr result ((q : ℕ) → derived_at self.new q ≡ derived_at self.old q) }
     {
-        let Some(at) = cell_of(self.first, self.table.len(), id) else {
+        let Some(at) = cell_at(self.first, self.table.len(), id) else {
             self.others.insert(id, clause)?;
             return Ok(());
         };
@@ -156,7 +156,7 @@ impl DerivedClauses {
         ensures found { result ≡ is_some (derived_at self.old id) }
         ensures clauses { Changes (derived_at self.old) (derived_at self.new) id None }
     {
-        let Some(at) = cell_of(self.first, self.table.len(), id) else {
+        let Some(at) = cell_at(self.first, self.table.len(), id) else {
             return self.others.swap_remove(&id).is_some();
         };
         let found = self.table[at].is_some();

@@ -33,7 +33,7 @@ impl<'a> Model for InputClauses<'a> {
 }
 
 /// The position of the live clause with an id.
-fn live_position(live: &[bool], id: u64) -> Option<usize>
+fn position_of(live: &[bool], id: u64) -> Option<usize>
     ensures { result ≡ position_of live.now id }
 {
     if id == 0 {
@@ -64,7 +64,7 @@ impl<'a> InputClauses<'a> {
         ensures value { option_map (λ c. c.now) result ≡ input_at self.now id }
         ensures within { IfSome result (λ c. All (IsWithin self.now.vars) c.now) }
     {
-        let Some(at) = live_position(&self.live, id) else {
+        let Some(at) = position_of(&self.live, id) else {
             return None;
         };
         Some(self.formula.clause(at as u32))
@@ -77,7 +77,7 @@ impl<'a> InputClauses<'a> {
         ensures found { result ≡ is_some (input_at self.old id) }
         ensures live { Changes (input_at self.old) (input_at self.new) id None }
     {
-        let Some(at) = live_position(&self.live, id) else {
+        let Some(at) = position_of(&self.live, id) else {
             return false;
         };
         self.live[at] = false;

@@ -1,22 +1,16 @@
 //! The replay of a log, step by step.
 
-ghost use Rattle.std.specs.Prelude.{◌≡◌, ◌≤◌, ◌∷◌, ◌++◌, [], List, ℕ, All, IfOk, OnErr, OnOk, None};
-ghost use Rattle.sat_clause.specs.Formula.{Cnf};
-ghost use Rattle.sat_clause.specs.Judge.{after, fault, is_empty_clause, judge};
-ghost use Rattle.sat_clause.specs.Literal.{IsLiteral, IsWithin};
-ghost use Rattle.sat_clause.specs.Live.{Live};
+ghost use Rattle.std.specs.Prelude.{◌≡◌, ◌∷◌, ◌++◌, [], List, All, IfOk, OnErr, OnOk};
+ghost use Rattle.sat_clause.specs.Formula.{Cnf, IsUnsat};
+ghost use Rattle.sat_clause.specs.Judge.{is_empty_clause, judge_by};
+ghost use Rattle.sat_clause.specs.Literal.{IsLiteral};
 ghost use Rattle.sat_clause.specs.Step.{Step};
-ghost use Rattle.sat_check.specs.Finder.{Finds};
-ghost use Rattle.sat_check.specs.LiveStore.{live_at};
 ghost use Rattle.sat_check.specs.Replaying.{HasReplayed};
 ghost use Rattle.sat_check.specs.Verdict.{judgement_of, step_of};
 
 use crate::Verdict;
-use crate::false_set::FalseSet;
-use crate::hints::check_clause;
-use crate::live_clauses::LiveClauses;
-use crate::variables::greatest_of;
-use sat_clause::{Cause, Formula, LITERAL_LIMIT, StepView};
+use crate::step_rule::StepRule;
+use sat_clause::{Cause, Formula, StepView};
 use std::alloc::{AllocError, Global};
 use std::marker::Model;
 
@@ -27,76 +21,40 @@ fn adds_empty_clause(step: StepView) -> bool
     !step.erase && step.lits.is_empty()
 }
 
-/// Why the step is refused. Where it is not, the live clauses are then those after it.
-fn take_step(
-    live: &mut LiveClauses,
-    set: &mut FalseSet,
-    step: StepView,
-) -> Result<Option<Cause>, AllocError>
-    requires size { set.old.size ≡ live.old.vars }
-    requires small { set.old.size ≤ LITERAL_LIMIT }
-    requires empty { set.old.set ≡ [] }
-    requires within { All (IsWithin set.old.size) step.lits.now }
-    ensures vars { live.new.vars ≡ live.old.vars }
-    ensures size { set.new.size ≡ set.old.size }
-    ensures empty { set.new.set ≡ [] }
-    ensures fault { IfOk result (λ r. (clauses : Live) → Finds (live_at live.old) clauses
-        → r ≡ fault clauses (step_of step.entry)) }
-    ensures live { IfOk result (λ r. r ≡ None → (clauses : Live) → Finds (live_at live.old) clauses
-        → Finds (live_at live.new) (after clauses (step_of step.entry))) }
-    ensures err { OnErr result ((clauses : Live) → Finds (live_at live.old) clauses
-        → Finds (live_at live.new) clauses) }
-{
-    if step.erase {
-        return Ok(live.erase(step.hints));
-    }
-    let Ok(fault) = check_clause(live, set, step.lits, step.hints) else {
-        return Err(AllocError);
-    };
-    if let Some(cause) = fault {
-        return Ok(Some(cause));
-    }
-    let Ok(()) = live.put(step.id, step.lits) else {
-        return Err(AllocError);
-    };
-    Ok(None)
-}
-
-/// A formula and the steps of a log that were taken: what they say, and the clauses that are live
-/// behind them.
+/// A formula and the steps of a log that were taken: what they say by a rule, and the clauses that
+/// are live behind them.
 ///
 /// The live clauses that the steps have added are held as copies, and one that is deleted is given
 /// back. So a log can be replayed as it is read. Behind the first step that is refused, and behind
 /// the first good empty clause, steps change nothing.
 #[derive(Drop)]
-pub struct Replay<'a> {
-    live: LiveClauses<'a>,
-    set: FalseSet,
+pub struct Replay<R> {
+    judge: R,
     taken: u64,
     verdict: Option<Verdict>,
 }
 
-impl<'a> Model for Replay<'a> {
-    ghost use Rattle.sat_check.specs.Replaying.{IsReplay, ReplayState};
+impl<R> Model for Replay<R> {
+    ghost use Rattle.std.specs.Prelude.{◌+◌, ◌^◌, ◌<◌};
+    ghost use Rattle.sat_check.specs.Replaying.{ReplayState};
 
-    ghost Value = { ReplayState };
+    ghost Value = { ReplayState R };
 
-    ghost view = { λ r. record { live = r.live; taken = r.taken; verdict = r.verdict } };
+    ghost view = { λ r. record { judge = r.judge; taken = r.taken; verdict = r.verdict } };
 
-    ghost invariant = { λ r. IsReplay r.live.vars r.set r.taken };
+    ghost invariant = { λ r. r.taken + 1 < 2 ^ 64 };
 }
 
-impl<'a> Replay<'a> {
+impl<'a, R: StepRule<'a>> Replay<R> {
     /// The formula, and no step. Its clauses have the ids 1, 2 and so on.
     ///
     /// # Errors
     /// Where memory is short.
-    pub fn new(alloc: Global, formula: &'a Formula) -> Result<Replay<'a>, AllocError>
-        ensures { IfOk result (HasReplayed formula.now.cnf []) }
+    pub fn new(alloc: Global, formula: &'a Formula) -> Result<Replay<R>, AllocError>
+        ensures { IfOk result (HasReplayed R.fault R.tracks formula.now.cnf []) }
     {
         Ok(Replay {
-            live: LiveClauses::inputs(alloc, formula)?,
-            set: FalseSet::new(alloc, formula.vars())?,
+            judge: R::inputs(alloc, formula)?,
             taken: 0,
             verdict: None,
         })
@@ -104,18 +62,20 @@ impl<'a> Replay<'a> {
 
     /// Takes the next step.
     ///
-    /// It takes for each hint a time by the length of its clause, and a time by the literals and
-    /// ids of the step, whatever is live.
+    /// It takes the time of the rule: for each hint one by the length of its clause, for a group of
+    /// full LRAT one by the length of its clause too, and a time by the literals and ids of the
+    /// step, whatever is live.
     ///
     /// # Errors
     /// Where memory is short, or behind 18446744073709551614 steps. The step is not taken then.
     pub fn take(&mut self, step: StepView<'_>) -> Result<(), AllocError>
         requires { All IsLiteral step.lits.now }
         ensures ok { OnOk result ((formula : Cnf) (steps : List Step)
-            → HasReplayed formula steps self.old
-            → HasReplayed formula (steps ++ step_of step.entry ∷ []) self.new) }
+            → HasReplayed R.fault R.tracks formula steps self.old
+            → HasReplayed R.fault R.tracks formula (steps ++ step_of step.entry ∷ []) self.new) }
         ensures err { OnErr result ((formula : Cnf) (steps : List Step)
-            → HasReplayed formula steps self.old → HasReplayed formula steps self.new) }
+            → HasReplayed R.fault R.tracks formula steps self.old
+            → HasReplayed R.fault R.tracks formula steps self.new) }
     {
         if self.verdict.is_some() {
             return Ok(());
@@ -123,12 +83,7 @@ impl<'a> Replay<'a> {
         if self.taken >= u64::MAX - 1 {
             return Err(AllocError);
         }
-        let vars = greatest_of(self.set.size(), step.lits);
-        let Ok(()) = self.set.widen(vars) else {
-            return Err(AllocError);
-        };
-        self.live.widen(vars);
-        let Ok(fault) = take_step(&mut self.live, &mut self.set, step) else {
+        let Ok(fault) = self.judge.take_step(step) else {
             return Err(AllocError);
         };
         if let Some(cause) = fault {
@@ -148,9 +103,14 @@ impl<'a> Replay<'a> {
 
     /// What the steps say of the formula, where no more come.
     pub fn verdict(&self) -> Verdict
-        ensures { (formula : Cnf) (steps : List Step) → HasReplayed formula steps self.now
-            → judgement_of result ≡ judge formula steps }
+        ensures judged { (formula : Cnf) (steps : List Step)
+            → HasReplayed R.fault R.tracks formula steps self.now
+            → judgement_of result ≡ judge_by R.fault formula steps }
+        ensures sound { (formula : Cnf) (steps : List Step)
+            → HasReplayed R.fault R.tracks formula steps self.now → result ≡ Verdict.Accepted
+            → IsUnsat formula }
     {
+        self.judge.is_sound();
         if let Some(verdict) = self.verdict {
             return verdict;
         }

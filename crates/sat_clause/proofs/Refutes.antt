@@ -1,31 +1,33 @@
 -- Where a log is accepted, no list of truth values satisfies the formula.
 use Rattle.std.specs.Prelude.{⊤, if◌then◌else◌}
-use Rattle.std.proofs.Common.{◌≡◌, ℕ, zero, suc, ℤ, pos, negsuc, neg_ℤ, Bool, true, false, cond, ◌||◌, ◌==◌, List, [], ◌∷◌, None, Some, refl, sym, ◌∙◌, subst, slice_index_or, All, length, ◌<◌, arith, inl, inr}
+use Rattle.std.proofs.Common.{◌≡◌, ℕ, zero, suc, ℤ, pos, negsuc, neg_ℤ, Bool, true, false, ◌||◌, List, [], ◌∷◌, None, Some, refl, sym, ◌∙◌, subst, slice_index_or, length, ◌<◌, arith, inl, inr}
 use Rattle.std.specs.List.{list_any}
 use Rattle.std.specs.Ordering.{int_eq}
 use Rattle.std.proofs.lemmas.Bool.{or_cases, or_parts, or_left, or_right, both_ways}
 use Rattle.std.proofs.lemmas.Bool.Decides.{Decides-int_eq}
-use Rattle.std.proofs.lemmas.List.Elements.{All-head, All-tail}
+use Rattle.std.proofs.lemmas.List.Elements.{All-weaker}
 use Rattle.sat_clause.specs.declared.literal.Lit.{Lit}
-use Rattle.sat_clause.specs.declared.cause.Cause.{Cause}
 use Rattle.sat_clause.specs.Literal.{Clause, negation, is_among}
 use Rattle.sat_clause.specs.Formula.{Cnf, makes_true, makes_number_true, IsTrueClause, IsUnsat}
-use Rattle.sat_clause.specs.Live.{Live, clause_at, named, without, numbered}
+use Rattle.sat_clause.specs.Live.{Live, named}
 use Rattle.sat_clause.specs.declared.reading.Reading.{Reading}
 use Rattle.sat_clause.specs.declared.reading.Reading.TheVariants.{Conflict, Unit, Satisfied, Unresolved}
 use Rattle.sat_clause.specs.Rup.{follow, lead_on, open_literals, reading_by, reading_of, rup}
 use Rattle.sat_clause.specs.Step.{Step, Added, Erased}
-use Rattle.sat_clause.specs.Judge.{judge_from, fault, after, erase, take_out, is_empty_clause, inputs, judge_step, Accepts, Accepted, Refused}
-use Rattle.sat_clause.proofs.LiveLaws.{clause_at-without}
+use Rattle.sat_clause.specs.Judge.{Accepts, after, fault, inputs, is_empty_clause}
+use Rattle.sat_clause.proofs.EachLive.{EachLive, each_erased, each_numbered, each_put, named_is}
+use Rattle.sat_clause.proofs.JudgeLaws.{never_accepted}
 
 -- a literal of the list is true
 abbrev any_true : List Bool → List Lit → Bool
 any_true values ls = list_any (makes_true values) ls
 
--- each live clause has a true literal
+-- a literal of the clause is true
+abbrev IsTrue : List Bool → Clause → Type 0
+IsTrue values clause = any_true values clause ≡ true
+
 abbrev AllTrue : List Bool → Live → Type 0
-AllTrue values live =
-    (n : ℕ) (clause : Clause) → clause_at live n ≡ Some clause → any_true values clause ≡ true
+AllTrue values live = EachLive (IsTrue values) live
 
 -- a value that is there is read whatever the default
 read_either : (values : List Bool) (n : ℕ) → slice_index_or values n false ≡ true →
@@ -117,13 +119,6 @@ reading_by_true values set (l ∷ []) h =
     ]
 reading_by_true values set (l ∷ m ∷ ls) h = tt
 
--- a clause that is named is live, so it is true
-named_true : (values : List Bool) (live : Live) (h : ℤ) → AllTrue values live → (clause : Clause) →
-    named live h ≡ Some clause → any_true values clause ≡ true
-named_true values live (pos zero) all clause is = cc
-named_true values live (pos (suc n)) all clause is = all (suc n) clause is
-named_true values live (negsuc n) all clause is = cc
-
 -- good hints do not lead on from false literals where each live clause is true
 rup_sound : (values : List Bool) (live : Live) → AllTrue values live →
     (set : List Lit) (hints : List ℤ) → any_true values set ≡ false → rup live set hints ≡ None → ⊥
@@ -143,25 +138,7 @@ rup_sound values live all set (h ∷ hints) none good =
             | Unresolved ↦ λ _ e. cc
           ] (reading_by_true values set (open_literals set clause)
           (open_true values set clause none ∙ true_if clause refl))
-    ] (named_true values live h all) good
-
--- what is live after a deletion was live before it
-take_out_true : (values : List Bool) (live : Live) (id : ℤ) → AllTrue values live →
-    AllTrue values (take_out live id)
-take_out_true values live (pos id) all n clause is =
-    let answer = clause_at-without live id n in
-    elim (id == n) as (λ b. clause_at (without live id) n ≡ cond b None (clause_at live n)
-    → any_true values clause ≡ true) [
-      | true ↦ λ e. let bad : Some clause ≡ None = sym is ∙ e in cc
-      | false ↦ λ e. all n clause (sym e ∙ is)
-    ] answer
-take_out_true values live (negsuc id) all n clause is = all n clause is
-
-erase_true : (values : List Bool) (live : Live) (ids : List ℤ) → AllTrue values live →
-    AllTrue values (erase live ids)
-erase_true values live [] all = all
-erase_true values live (id ∷ ids) all =
-    erase_true values (take_out live id) ids (take_out_true values live id all)
+    ] (named_is (IsTrue values) live h all) good
 
 -- a good added clause is true
 added_true : (values : List Bool) (live : Live) → AllTrue values live →
@@ -175,16 +152,9 @@ added_true values live all clause hints good =
 
 after_true : (values : List Bool) (live : Live) (step : Step) → AllTrue values live →
     fault live step ≡ None → AllTrue values (after live step)
-after_true values live (Added id added hints) all good n clause is =
-    elim (n == id) as (λ b. cond b (Some added) (clause_at live n) ≡ Some clause → any_true values
-    clause ≡ true) [
-      | true ↦ λ e. let same : added ≡ clause =
-          cc in subst (λ (c : Clause). any_true values c ≡ true) same
-          (added_true values live all added hints good)
-      | false ↦ λ e. all n clause e
-    ] is
-after_true values live (Erased id ids) all good n clause is =
-    erase_true values live ids all n clause is
+after_true values live (Added id added hints) all good =
+    each_put (IsTrue values) live id added all (added_true values live all added hints good)
+after_true values live (Erased id ids) all good = each_erased (IsTrue values) live ids all
 
 -- the empty clause is not good where each live clause is true
 no_empty_clause : (values : List Bool) (live : Live) (step : Step) → AllTrue values live →
@@ -193,25 +163,6 @@ no_empty_clause values live (Added id [] hints) all good is =
     both_ways _ refl (added_true values live all [] hints good)
 no_empty_clause values live (Added id (l ∷ ls) hints) all good is = both_ways _ refl is
 no_empty_clause values live (Erased id ids) all good is = both_ways _ refl is
-
-refused_is_not_accepted : {n : ℕ} {cause : Cause} → Refused n cause ≡ Accepted → ⊥
-refused_is_not_accepted e = let no : ◌≡◌ {A = Bool} true false = cc in both_ways _ refl (sym no)
-
-judge_sound : (values : List Bool) (n : ℕ) (live : Live) (steps : List Step) → AllTrue values live →
-    judge_from n live steps ≡ Accepted → ⊥
-judge_sound values n live [] all accepted = refused_is_not_accepted accepted
-judge_sound values n live (step ∷ steps) all accepted =
-    elim (fault live step) as (λ o. fault live step ≡ o → judge_step n o (is_empty_clause step)
-    (judge_from (suc n) (after live step) steps) ≡ Accepted → ⊥) [
-      | Some cause ↦ λ is e. refused_is_not_accepted e
-      | None ↦ λ good. elim (is_empty_clause step) as
-          (λ b. is_empty_clause step ≡ b
-          → judge_step n None b (judge_from (suc n) (after live step) steps) ≡ Accepted → ⊥) [
-            | true ↦ λ is e. no_empty_clause values live step all good is
-            | false ↦ λ is e. judge_sound values (suc n) (after live step) steps
-                (after_true values live step all good) e
-          ] refl
-    ] refl accepted
 
 -- a true clause has a literal that the test finds
 any_of : (values : List Bool) (ls : List Lit) (k : ℕ) (l : Lit) → k < length ls →
@@ -222,23 +173,15 @@ any_of values (m ∷ ls) zero l within is h =
 any_of values (m ∷ ls) (suc k) l within is h =
     or_right _ _ (any_of values ls k l (omega arith) is h)
 
--- the clauses of a satisfied formula are true under whatever ids
-numbered_true : (values : List Bool) (first : ℕ) (clauses : List Clause) →
-    All (IsTrueClause values) clauses → AllTrue values (numbered first clauses)
-numbered_true values first [] each n clause is = cc
-numbered_true values first (c ∷ clauses) each n clause is =
-    elim (n == first) as (λ b. cond b (Some c) (clause_at (numbered (suc first) clauses) n) ≡ Some
-    clause → any_true values clause ≡ true) [
-      | true ↦ λ e. let same : c ≡ clause = cc in
-          let here = All-head (IsTrueClause values) c clauses each in
-          subst (λ (x : Clause). any_true values x ≡ true) same
-          (any_of values c here.0 here.1 here.2 here.3 here.4)
-      | false ↦ λ e. numbered_true values (suc first) clauses
-          (All-tail (IsTrueClause values) c clauses each) n clause e
-    ] is
+is_true : (values : List Bool) (clause : Clause) → IsTrueClause values clause →
+    IsTrue values clause
+is_true values clause here = any_of values clause here.0 here.1 here.2 here.3 here.4
 
 -- where a log is accepted, the formula is unsatisfiable
 pub refutes : (formula : Cnf) (log : List Step) → Accepts formula log → IsUnsat formula
 refutes formula log accepted values satisfies =
-    judge_sound values 1 (inputs formula) log
-    (numbered_true values 1 formula.clauses satisfies.each_clause) accepted
+    never_accepted fault (λ live steps. AllTrue values live)
+    (λ live step steps all good. after_true values live step all good)
+    (λ live step steps all good. no_empty_clause values live step all good) 1 (inputs formula) log
+    (each_numbered (IsTrue values) 1 formula.clauses (All-weaker (IsTrueClause values)
+    (IsTrue values) (is_true values) formula.clauses satisfies.each_clause)) accepted

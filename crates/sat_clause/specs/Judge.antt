@@ -31,8 +31,12 @@ erase_fault live [] = None
 erase_fault live (id ∷ ids) =
     if is_some (named live id) then erase_fault (take_out live id) ids else Some DeletesNotLive
 
--- why the step is refused; none where it is good
-abbrev pub fault : Live → Step → Option Cause
+-- a rule of steps: why a step is refused where these clauses are live; none where it is good
+abbrev pub Rule : Type 0
+Rule = Live → Step → Option Cause
+
+-- the rule of LRAT without its resolution on a pivot
+abbrev pub fault : Rule
 fault live (Added id clause hints) = rup live clause hints
 fault live (Erased id ids) = erase_fault live ids
 
@@ -40,6 +44,10 @@ fault live (Erased id ids) = erase_fault live ids
 abbrev pub after : Live → Step → Live
 after live (Added id clause hints) = put live id clause
 after live (Erased id ids) = erase live ids
+
+-- the clauses that are live behind these steps
+abbrev pub live_behind : Cnf → List Step → Live
+live_behind formula steps = fold after (inputs formula) steps
 
 -- the step adds the empty clause
 abbrev pub is_empty_clause : Step → Bool
@@ -53,16 +61,23 @@ judge_step n (Some cause) is_last rest = Refused n cause
 judge_step n None true rest = Accepted
 judge_step n None false rest = rest
 
--- the steps in order, the first of which has this number
-abbrev pub judge_from : ℕ → Live → List Step → Judgement
-judge_from n live [] = Refused n NoEmptyClause
-judge_from n live (step ∷ steps) =
-    judge_step n (fault live step) (is_empty_clause step)
-    (judge_from (suc n) (after live step) steps)
+-- the steps in order by a rule, the first of which has this number
+abbrev pub judge_steps : Rule → ℕ → Live → List Step → Judgement
+judge_steps rule n live [] = Refused n NoEmptyClause
+judge_steps rule n live (step ∷ steps) =
+    judge_step n (rule live step) (is_empty_clause step)
+    (judge_steps rule (suc n) (after live step) steps)
 
--- what the log says of the formula
+-- what the log says of the formula by a rule
+abbrev pub judge_by : Rule → Cnf → List Step → Judgement
+judge_by rule formula log = judge_steps rule 1 (inputs formula) log
+
+-- the same by unit propagation alone
+abbrev pub judge_from : ℕ → Live → List Step → Judgement
+judge_from = judge_steps fault
+
 abbrev pub judge : Cnf → List Step → Judgement
-judge formula log = judge_from 1 (inputs formula) log
+judge = judge_by fault
 
 -- the log refutes the formula
 abbrev pub Accepts : Cnf → List Step → Type 0

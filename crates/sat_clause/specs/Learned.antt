@@ -45,6 +45,18 @@ deletions [] = 0
 deletions (Added id clause hints ∷ steps) = deletions steps
 deletions (Erased id ids ∷ steps) = suc (deletions steps)
 
+-- how many clauses the steps add
+abbrev pub added_count : List Step → ℕ
+added_count [] = 0
+added_count (Added id clause hints ∷ steps) = suc (added_count steps)
+added_count (Erased id ids ∷ steps) = added_count steps
+
+-- the added clauses have the ids from this one on
+abbrev pub AreAddedFrom : ℕ → List Step → Type 0
+AreAddedFrom id [] = ⊤
+AreAddedFrom id (Added new clause hints ∷ steps) = (new ≡ id) × AreAddedFrom (suc id) steps
+AreAddedFrom id (Erased own ids ∷ steps) = AreAddedFrom id steps
+
 -- how many clauses were added since the last deletion step, or with n before them since the start
 abbrev pub added_since : ℕ → List Step → ℕ
 added_since n [] = n
@@ -87,9 +99,3 @@ pub record AreDifferent (n : ℕ) (clauses : List Clause) : Type 0 where
   pub simple : All (IsSimple n) clauses
   pub not_empty : All (λ c. c ≢ []) clauses
   pub apart : AllPairs (λ c d. ¬ SameLiterals c d) clauses
-
--- each step adds a clause that is not empty, with the ids from this one on
-abbrev pub AddsFrom : ℕ → List Step → Type 0
-AddsFrom id [] = ⊤
-AddsFrom id (Added new clause hints ∷ steps) = (new ≡ id) × (clause ≢ []) × AddsFrom (suc id) steps
-AddsFrom id (Erased other ids ∷ steps) = ⊥

@@ -1,9 +1,9 @@
 //! Laws over the definitions, as functions that do nothing: each contract is the law.
 
-ghost use Rattle.std.specs.Prelude.{ℕ, ◌<◌, ◌^◌, List, length};
+ghost use Rattle.std.specs.Prelude.{◌≡◌, ℕ, suc, ◌*◌, ◌<◌, ◌≤◌, ◌^◌, false, All, List, length};
 ghost use Rattle.sat_clause.specs.Formula.{Cnf, IsUnsat};
-ghost use Rattle.sat_clause.specs.Judge.{Accepts};
-ghost use Rattle.sat_clause.specs.Learned.{AddsFrom, AreDifferent, LearnedNew};
+ghost use Rattle.sat_clause.specs.Judge.{Accepts, is_empty_clause};
+ghost use Rattle.sat_clause.specs.Learned.{AreAddedFrom, AreDifferent, LearnedNew, Sparse, added_count, deletions};
 ghost use Rattle.sat_clause.specs.Literal.{Clause};
 ghost use Rattle.sat_clause.specs.Step.{Step};
 
@@ -21,10 +21,12 @@ pub fn different_clauses_are_few()
         → length clauses < 3 ^ n }
 {}
 
-/// A log that adds clauses alone, each of them new and none empty, has fewer than `3 ^ n` steps for
-/// a formula of `n` variables.
-#[tactic(auto, using(crate::proofs::LearnedFew::learned_few))]
+/// Of a log that adds new clauses, none of them empty, and deletes seldom: for a formula of `n`
+/// variables fewer than `3 ^ n` are added before the first deletion, between two, and behind the
+/// last, and there are at most `3 ^ n / 1000` deletions.
 pub fn new_clauses_are_few()
     ensures { (formula : Cnf) (log : List Step) (id : ℕ) → LearnedNew formula log
-        → AddsFrom id log → length log < 3 ^ formula.vars }
+        → AreAddedFrom id log → All (λ step. is_empty_clause step ≡ false) log → Sparse log
+        → (added_count log < 3 ^ formula.vars * suc (deletions log))
+        × (1000 * deletions log ≤ 3 ^ formula.vars) }
 {}

@@ -8,15 +8,15 @@ use Rattle.list_laws.proofs.Members.{In}
 use Rattle.list_laws.proofs.Places.{get-cases}
 use Rattle.sat_clause.specs.Formula.{Cnf}
 use Rattle.sat_clause.specs.Judge.{after, erase, erase_fault, inputs, is_empty_clause, take_out}
-use Rattle.sat_clause.specs.Learned.{EachAdded, EachErased, IsFresh, IsSimple, SameLiterals, Sparse, added_since, deletions}
 use Rattle.sat_clause.specs.Literal.{Clause}
 use Rattle.sat_clause.specs.Live.{Live, clause_at, put, without}
 use Rattle.sat_clause.specs.Step.{Step, Added, Erased}
 use Rattle.sat_clause.proofs.LiveLaws.{clause_at-without, inputs_at}
+use Rattle.sat_clause.specs.Learned.{AreAddedFrom, EachAdded, EachErased, IsFresh, IsSimple, SameLiterals, Sparse, added_count, added_since, deletions}
 use Rattle.sat_core.specs.Deletions.{AreDeletions, DeletionState}
 use Rattle.sat_core.specs.Forget.{Forgets, IsNamed}
 use Rattle.sat_core.specs.Kept.{AreKept, HasOnce, is_always_true}
-use Rattle.sat_core.specs.SearchLog.{AreAddedFrom, AreNumbered, DeletesSome, added_count}
+use Rattle.sat_core.specs.SearchLog.{AreNumbered, DeletesSome}
 use Rattle.sat_core.specs.Stands.{IsAbove, IsOpenLog, SearchValue, StandsFor, live_after}
 use Rattle.sat_core.proofs.KeptLaws.{kept_alike, named_kept}
 use Rattle.sat_core.proofs.LogLemmas.{added_count-push, deletions-push, good_behind, live_after-push}

@@ -1,21 +1,20 @@
 -- What a walk over reasons has found: the places that need no literal in the clause.
-use Rattle.std.proofs.Common.{inl, inr, ◌⊎◌, ◌≡◌, ◌<◌, ◌≤◌, ◌++◌, ◌∷◌, [], ◌∙◌, ℕ, suc, true, false, All, Contains, ap, Bool, List, length, length-append, reverse, set, get_or, refl, sym, subst, arith}
+use Rattle.std.proofs.Common.{inl, inr, ◌⊎◌, ◌≡◌, ◌<◌, ◌≤◌, ◌++◌, ◌∷◌, [], ◌∙◌, ℕ, suc, true, false, All, Contains, ap, Bool, List, length, length-append, set, get_or, refl, sym, subst, arith}
 use Rattle.std.proofs.lemmas.Bool.{both_ways}
 use Rattle.std.proofs.lemmas.List.Elements.{All-contains, All-contains_itself, All-weaker, Contains-append_left, Contains-push}
 use Rattle.sat_watch.specs.declared.entry.TrailEntry.{TrailEntry}
-use Rattle.sat_watch.specs.Trail.{AreWithin, IsOnce}
-use Rattle.sat_watch.specs.Watches.{HasLevels, WatchState}
+use Rattle.sat_watch.specs.Watches.{WatchState}
 use Rattle.sat_watch.proofs.PlaceLemmas.{place_entry}
-use Rattle.sat_core.specs.Analysis.{HasLevel, HasReason, IsReasonPlace}
-use Rattle.sat_core.specs.Implied.{AreImplied, IsImplied, IsLeftOut, IsWalking, WalkState, steps_left}
+use Rattle.sat_core.specs.Analysis.{AreOn, HasLevel, HasReason, IsAt, IsKnown, IsReasonPlace}
+use Rattle.sat_core.specs.Implied.{AreImplied, IsImplied, IsLeftOut, IsWalked, IsWalking, WalkState, steps_left}
 use Rattle.sat_core.specs.Marks.{IsMet, MarkState}
 use Rattle.sat_core.specs.declared.visit.Visit.{Visit}
 use Rattle.sat_core.proofs.AnalysisLaws.{reason_from}
 use Rattle.sat_core.proofs.MarksLaws.{mark_cases, mark_stays}
-use Rattle.sat_core.proofs.TrailPlaces.{level_most, level_one, level_rises, no_entry, read_at, reason_below, zero_reason}
+use Rattle.sat_core.proofs.TrailPlaces.{level_most, level_one, level_rises, reason_below, zero_reason}
 
 -- where more is met, it stays implied
-pub implied_more : (w : WatchState) (s t : MarkState) (implied : List Bool) →
+implied_more : (w : WatchState) (s t : MarkState) (implied : List Bool) →
     ((q : ℕ) → IsMet s q → IsMet t q) → AreImplied w s implied → AreImplied w t implied
 implied_more w s t implied more are p is =
     let i = are p is in (
@@ -28,6 +27,20 @@ implied_more w s t implied more are p is =
         λ q from. elim (i.3.2 q from) [ inl met ↦ inl (more q met) | inr out ↦ inr out ],
       ),
     )
+
+pub walked_more : {w : WatchState} {s t : MarkState} {walk : WalkState} → IsWalked w s walk →
+    length t.met ≡ length s.met → ((q : ℕ) → IsMet s q → IsMet t q) → AreOn w.trail t →
+    IsWalked w t walk
+walked_more {w} {s} {t} {walk} walked size more on = record {
+  known = walked.known;
+  size = omega (arith, walked.size, size);
+  on = on;
+  walking = record {
+    implied = implied_more w s t walk.marks.used more walked.walking.implied;
+    on = walked.walking.on;
+    size = walked.walking.size ∙ sym size;
+  };
+}
 
 -- one more that is implied
 pub implied_marked : (w : WatchState) (s : MarkState) (implied : List Bool) (p : ℕ) →
@@ -54,12 +67,17 @@ implied_marked w s implied p are here q is = elim (mark_cases implied p q is) [
     )
 
 -- a place that needs no literal
-module _ (w : WatchState) (levels : HasLevels w.clauses w.level w.trail) (once : IsOnce w.trail)
-    (within : AreWithin w.vars w.trail) (s : MarkState) (implied : List Bool)
-    (are : AreImplied w s implied) (p : ℕ) (out : IsLeftOut w.trail implied p) where
+module _ {w : WatchState} {s : MarkState} {walk : WalkState} (walked : IsWalked w s walk) (p : ℕ)
+    (out : IsLeftOut w.trail walk.marks.used p) where
+  are : AreImplied w s walk.marks.used
+  are = walked.walking.implied
+
+  known : IsKnown w
+  known = walked.known
+
   pub left_out_reason : HasReason w.trail p
   left_out_reason = elim out [
-    | inl zero ↦ zero_reason w levels once p zero
+    | inl zero ↦ zero_reason w known.levels known.once p zero
     | inr is ↦ (let i = are p is in (i.3.0, (i.0, i.1, i.3.1)))
   ]
 
@@ -68,37 +86,35 @@ module _ (w : WatchState) (levels : HasLevels w.clauses w.level w.trail) (once :
     | inl zero ↦ (let same = level_one w.trail n 0 p here zero in omega (arith, same, some))
     | inr is ↦ (let i = are p is in
         let same = level_one w.trail n (i.0).level p here (i.0, i.1, refl) in
-        let most = level_most w.clauses w.level w.trail p i.0 levels i.1 in
+        let most = level_most w.clauses w.level w.trail p i.0 known.levels i.1 in
         omega (arith, same, most, i.2))
   ]
 
   -- its reason meets no place that needs a literal
-  pub left_out_covers : (q : ℕ) → IsReasonPlace w p q → IsMet s q ⊎ IsLeftOut w.trail implied q
+  pub left_out_covers : (q : ℕ) → IsReasonPlace w p q →
+      IsMet s q ⊎ IsLeftOut w.trail walk.marks.used q
   left_out_covers q from = elim out [
-    | inl zero ↦ (let below = reason_below w levels once within p q from in
+    | inl zero ↦ (let below = reason_below w known.levels known.once known.within p q from in
         let e = place_entry w.trail from.2.0 q from.2.3 in
-        let rise = level_rises w.clauses w.level w.trail q p e.0 zero.0 levels
+        let rise = level_rises w.clauses w.level w.trail q p e.0 zero.0 known.levels
         (omega (arith, below)) e.1 zero.1 in
         inr (inl (e.0, e.1, omega (arith, rise, zero.2))))
     | inr is ↦ (let i = are p is in
         i.3.2 q (reason_from w p i.0 i.3.0 i.1 i.3.1 q from))
   ]
 
--- whether the entry that is read at a place needs no literal
-module _ (trail items : List TrailEntry) (implied : List Bool) (p : ℕ)
-    (told : reverse items ≡ trail) (lt : p < length trail) where
-  pub read_left_out : ((get_or items p no_entry).level ≡ 0) ⊎ (get_or implied p false ≡ true) →
-      IsLeftOut trail implied p
-  read_left_out (inl zero) = inl (get_or items p no_entry, read_at items trail p told lt, zero)
-  read_left_out (inr is) = inr is
+-- whether the entry at a place needs no literal
+module _ (trail : List TrailEntry) (implied : List Bool) (p : ℕ) (e : TrailEntry)
+    (at : IsAt trail p e) where
+  pub entry_left_out : (e.level ≡ 0) ⊎ (get_or implied p false ≡ true) → IsLeftOut trail implied p
+  entry_left_out (inl zero) = inl (e, at, zero)
+  entry_left_out (inr is) = inr is
 
-  pub read_needed : (1 ≤ (get_or items p no_entry).level) × (get_or implied p false ≡ false) →
+  pub entry_needed : (1 ≤ e.level) × (get_or implied p false ≡ false) →
       IsLeftOut trail implied p → ⊥
-  read_needed (some, out) (inl zero) =
-      let same = level_one trail (get_or items p no_entry).level 0 p
-      (get_or items p no_entry, read_at items trail p told lt, refl) zero in
-      omega (arith, some, same)
-  read_needed (some, out) (inr is) = both_ways _ out is
+  entry_needed (some, out) (inl zero) =
+      let same = level_one trail e.level 0 p (e, at, refl) zero in omega (arith, some, same)
+  entry_needed (some, out) (inr is) = both_ways _ out is
 
 -- where the newest visit is taken, the others are left
 module _ (w : WatchState) (s : MarkState) (old new : WalkState) (visit : Visit)

@@ -10,12 +10,12 @@ use Rattle.sat_clause.specs.declared.cause.Cause.{Cause}
 use Rattle.sat_clause.specs.declared.cause.Cause.TheVariants.{NoEmptyClause}
 use Rattle.sat_clause.specs.Formula.{Cnf}
 use Rattle.sat_clause.specs.Judge.{Accepted, Refused, after, erase, erase_fault, inputs, is_empty_clause, judge_from, judge_step, take_out}
-use Rattle.sat_clause.specs.Learned.{EachAdded, EachErased, Sparse, added_since, deletions}
 use Rattle.sat_clause.specs.Literal.{Clause}
 use Rattle.sat_clause.specs.Live.{Live, clause_at, put, without}
 use Rattle.sat_clause.specs.Step.{Step, Added, Erased}
 use Rattle.sat_clause.proofs.LiveLaws.{clause_at-without, inputs_at}
-use Rattle.sat_core.specs.SearchLog.{AreAddedFrom, AreNumbered, DeletesSome, EndsAtEmpty, added_count}
+use Rattle.sat_clause.specs.Learned.{AreAddedFrom, EachAdded, EachErased, Sparse, added_count, added_since, deletions}
+use Rattle.sat_core.specs.SearchLog.{AreNumbered, DeletesSome, EndsAtEmpty}
 use Rattle.sat_core.specs.Stands.{AreGood, IsAbove, SparesInputs, live_after}
 
 -- steps without a refused one, and more of them
@@ -264,8 +264,3 @@ pub step_all : (P : Step → Type 0) (log : List Step) (k : ℕ) (step : Step) �
 step_all P log k step all is =
     subst P (get_or_from_slice_get log k step step is)
     (all k step (slice_get_within log k step is))
-
-pub not_nil : (n : ℕ) (clause : Clause) (hints : List ℤ) →
-    is_empty_clause (Added n clause hints) ≡ false → clause ≢ []
-not_nil n [] hints some e = absurd (both_ways _ some refl)
-not_nil n (l ∷ ls) hints some e = cc

@@ -17,8 +17,7 @@ use Rattle.sat_watch.specs.Watches.{Attached, HasCause, HasLevels, WatchState, i
 use Rattle.sat_watch.proofs.LevelLemmas.{not_both}
 use Rattle.sat_watch.proofs.PlaceLemmas.{place_entry, placed}
 use Rattle.sat_watch.proofs.TrailLemmas.{false_is_other}
-use Rattle.sat_core.specs.Analysis.{HasLevel, HasReason, IsAt, IsReasonAt, IsReasonPlace, reason_lits}
-use Rattle.sat_core.proofs.LearnLaws.{reason_attached}
+use Rattle.sat_core.specs.Analysis.{HasLevel, HasReason, IsAt, IsReasonPlace, reason_lits}
 use Rattle.sat_core.proofs.WatchLaws.{lit_cases}
 
 -- ENTRIES
@@ -87,6 +86,13 @@ read_at items trail p is lt =
     ap (λ (xs : List TrailEntry). slice_get xs p) same
     ∙ slice_get-get_or items p no_entry
     (omega (arith, lt, length-reverse items, ap length is))
+
+-- it has a reason where the entry at the place has one
+pub has_some : (trail : List TrailEntry) (p : ℕ) (e : TrailEntry) → IsAt trail p e →
+    HasReason trail p → e.reason ≢ None
+has_some trail p e at (r, (f, there, some)) none =
+    let one : f ≡ e = at_one trail p f e there at in
+    let bad : Some r ≡ None = sym some ∙ ap (λ (x : TrailEntry). x.reason) one ∙ none in cc
 
 -- LEVELS
 
@@ -257,15 +263,7 @@ place_negates (x ∷ older) m q f once is at there =
 
 module _ (w : WatchState) (levels : HasLevels w.clauses w.level w.trail) (once : IsOnce w.trail)
   where
-    -- where an older entry is of the current level, so is this one, and it has a reason
-    pub later_current : (p k : ℕ) → HasLevel w.trail w.level p → p ≤ k → k < length w.trail →
-        HasLevel w.trail w.level k
-    later_current p k (e, at, is) le lt =
-        let f = at_there w.trail k lt in
-        let rise = level_rises w.clauses w.level w.trail p k e f.0 levels le at f.1 in
-        let most = level_most w.clauses w.level w.trail k f.0 levels f.1 in
-        (f.0, f.1, omega (arith, rise, most, is))
-
+    -- where an older entry is of the current level, this one has a reason
     pub later_reason : (p k : ℕ) → HasLevel w.trail w.level p → p < k → k < length w.trail →
         HasReason w.trail k
     later_reason p k (e, at, is) below lt =
@@ -311,25 +309,3 @@ module _ (w : WatchState) (levels : HasLevels w.clauses w.level w.trail) (once :
               let r = cause.2 l in_reason other in
               subst (λ (n : ℕ). n < p) (some_is (sym r.2 ∙ from.3)) r.1
         ]
-
--- the reason that is read at a place is attached
-module _ (w : WatchState) (items : List TrailEntry) (told : reverse items ≡ w.trail)
-    (levels : HasLevels w.clauses w.level w.trail) (p : ℕ) (lt : p < length w.trail) where
-  abbrev pub read_entry : TrailEntry
-  read_entry = get_or items p no_entry
-
-  pub read_reason : (r : ClauseRef) → (read_entry).reason ≡ Some r → IsReasonAt w.trail p r
-  read_reason r some = (read_entry, read_at items w.trail p told lt, some)
-
-  pub read_attached : (r : ClauseRef) → (read_entry).reason ≡ Some r →
-      is_attached w.clauses r ≡ true
-  read_attached r some =
-      reason_attached w.clauses w.level w.trail read_entry r levels
-      (at_contains w.trail p read_entry (read_at items w.trail p told lt)) some
-
-  -- there is one where the entry at the place has one
-  pub read_some : HasReason w.trail p → (read_entry).reason ≢ None
-  read_some (r, (e, at, some)) none =
-      let one : e ≡ read_entry =
-      at_one w.trail p e read_entry at (read_at items w.trail p told lt) in
-      let bad : Some r ≡ None = sym some ∙ ap (λ (x : TrailEntry). x.reason) one ∙ none in cc

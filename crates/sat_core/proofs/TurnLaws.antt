@@ -5,14 +5,14 @@ use Rattle.std.proofs.lemmas.Option.{slice_get_within}
 use Rattle.list_laws.proofs.Places.{take-get}
 use Rattle.sat_clause.specs.Formula.{Cnf}
 use Rattle.sat_clause.specs.Judge.{is_empty_clause}
-use Rattle.sat_clause.specs.Learned.{IsSimple}
 use Rattle.sat_clause.specs.Literal.{Clause}
 use Rattle.sat_clause.specs.Step.{Step, Added, Erased}
-use Rattle.sat_core.specs.SearchLog.{added_count}
 use Rattle.sat_core.specs.SearchStore.{Learns, SameKept}
 use Rattle.sat_core.specs.Stands.{SearchAt, SearchValue, StandsFor}
 use Rattle.sat_core.specs.Underway.{MayFollow, MayTurn}
-use Rattle.sat_core.proofs.LogLemmas.{added_count-push, added_front, deletions_next, none_erased_ahead, not_nil, step_all, step_id}
+use Rattle.sat_clause.proofs.LearnedFew.{not_nil}
+use Rattle.sat_clause.specs.Learned.{IsSimple, added_count}
+use Rattle.sat_core.proofs.LogLemmas.{added_count-push, added_front, deletions_next, none_erased_ahead, step_all, step_id}
 use Rattle.sat_core.proofs.UnderwayLemmas.{stands_along, stands_next}
 
 -- whatever stands on the trail

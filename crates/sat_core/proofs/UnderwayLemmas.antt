@@ -7,7 +7,7 @@ use Rattle.std.proofs.lemmas.List.{append-nil, drop-append-le, length-append, ta
 use Rattle.std.proofs.lemmas.List.Elements.{All-nil, All-push}
 use Rattle.sat_clause.specs.Formula.{Cnf}
 use Rattle.sat_clause.specs.Judge.{Accepts, inputs, is_empty_clause}
-use Rattle.sat_clause.specs.Learned.{IsFresh, IsRelevant, IsSimple, Relevant, Sparse, added_since, deletions}
+use Rattle.sat_clause.specs.Learned.{IsFresh, IsRelevant, IsSimple, Relevant, Sparse, added_count, added_since, deletions}
 use Rattle.sat_clause.specs.Literal.{Clause, IsWithin}
 use Rattle.sat_clause.specs.Live.{Live, put}
 use Rattle.sat_clause.specs.Rup.{rup}
@@ -18,7 +18,7 @@ use Rattle.sat_core.specs.Answer.{IsAnswer, SpendsAll}
 use Rattle.sat_core.specs.Deletions.{AreDeletions, DeletionState}
 use Rattle.sat_core.specs.Forget.{HasForgotten}
 use Rattle.sat_core.specs.Kept.{AreKept, SameLive}
-use Rattle.sat_core.specs.SearchLog.{AreNumbered, DeletesSome, EndsAtEmpty, added_count}
+use Rattle.sat_core.specs.SearchLog.{AreNumbered, DeletesSome, EndsAtEmpty}
 use Rattle.sat_core.specs.SearchStore.{AreTrue, IsLesson, Learns, SameKept}
 use Rattle.sat_core.specs.Stands.{AreGood, IsOpenLog, SearchAt, SearchValue, StandsAt, StandsFor, at_end, live_after, next_id}
 use Rattle.sat_core.specs.Underway.{AddsRelevant, HasLearned, HasModel, HasRefuted, HasSearched, IsUnderway, MayFollow, MayTurn}

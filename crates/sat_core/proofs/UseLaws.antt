@@ -7,13 +7,12 @@ use Rattle.std.proofs.lemmas.List.Elements.{Contains-push_cases}
 use Rattle.std.proofs.lemmas.Option.{slice_get_within}
 use Rattle.list_laws.proofs.Places.{take-get}
 use Rattle.sat_clause.specs.Literal.{Clause}
-use Rattle.sat_watch.specs.Trail.{AreWithin, IsOnce}
-use Rattle.sat_watch.specs.Watches.{HasLevels, WatchState}
-use Rattle.sat_core.specs.Analysis.{AreOn, AreUsed, HasLevel, HasReason, HasSource, IsAnalysed, IsAnalysis, IsFalsePlace, IsLeast, IsNoPoint, IsPoint, IsReasonPlace, IsWalk, Uses, reason_lits}
+use Rattle.sat_watch.specs.Watches.{WatchState}
+use Rattle.sat_core.specs.Analysis.{AreOn, AreUsed, GoesOn, HasLevel, HasReason, HasSource, IsAnalysed, IsAnalysis, IsFalsePlace, IsKnown, IsLeast, IsNoPoint, IsPoint, IsReasonPlace, IsWalk, Uses, reason_lits}
 use Rattle.sat_core.specs.Marks.{IsClean, IsMet, IsUsed, MarkState, Meets, with_places}
 use Rattle.sat_core.proofs.MarksLaws.{mark_cases, mark_stays}
 use Rattle.sat_watch.proofs.PlaceLemmas.{place_entry}
-use Rattle.sat_core.proofs.TrailPlaces.{at_within, later_current, later_reason, level_one, level_rises, reason_below}
+use Rattle.sat_core.proofs.TrailPlaces.{at_within, later_reason, level_one, level_rises, reason_below}
 
 module _ {w : WatchState} {p : ℕ} {old new : MarkState} (uses : Uses w p old new) where
   between : MarkState
@@ -91,17 +90,21 @@ module _ {w : WatchState} {p : ℕ} {old new : MarkState} (uses : Uses w p old n
       source_still q (inl here) = inl here
       source_still q (inr from) = inr (from.0, uses_used from.0 from.1, from.2)
 
+-- ON AND ON
+
+pub goes_further : {w : WatchState} {a b c : MarkState} → GoesOn w a b → GoesOn w b c → GoesOn w a c
+goes_further one two = record {
+  size = two.size ∙ one.size;
+  kept = λ conflict is. two.kept conflict (one.kept conflict is);
+}
+
 -- THE WAY DOWN
 
-module _ {w : WatchState} {place least : ℕ} {old : MarkState}
-    (levels : HasLevels w.clauses w.level w.trail) (once : IsOnce w.trail)
-    (within : AreWithin w.vars w.trail) (walk : IsWalk w old place least) (below : least < place)
-    (lt : place < length w.trail) where
+module _ {w : WatchState} {place least : ℕ} {old : MarkState} (walk : IsWalk w old place least)
+    (below : least < place) where
   pub pass_reason : HasReason w.trail place
-  pass_reason = later_reason w levels once least place walk.current below lt
-
-  pub pass_current : HasLevel w.trail w.level place
-  pass_current = later_current w levels once least place walk.current (omega (arith, below)) lt
+  pass_reason = later_reason w walk.known.levels walk.known.once least place walk.current below
+      walk.within
 
   pub pass_no_point : {conflict : Clause} → IsAnalysis w conflict old →
       IsNoPoint w conflict old place
@@ -118,6 +121,10 @@ module _ {w : WatchState} {place least : ℕ} {old : MarkState}
   -- one that was not met
   pub walk_by : get_or old.met place false ≡ false → IsWalk w old (place - 1) least
   walk_by out = record {
+    known = walk.known;
+    size = walk.size;
+    within = omega (arith, walk.within);
+    down = omega (arith, below);
     met = walk.met;
     current = walk.current;
     lowest = walk.lowest;
@@ -133,6 +140,10 @@ module _ {w : WatchState} {place least : ℕ} {old : MarkState}
       IsLeast w.trail w.level (IsReasonPlace w place) least now →
       IsWalk w new (place - 1) now
   walk_on {new} {now} uses lower = record {
+    known = walk.known;
+    size = omega (arith, walk.size, uses_size uses);
+    within = omega (arith, walk.within);
+    down = omega (arith, lower.down, below);
     met = elim lower.is [
       | inl same ↦ subst (IsMet new) (sym same) (uses_met uses least walk.met)
       | inr found ↦ uses_reason uses now found.0
@@ -153,10 +164,19 @@ module _ {w : WatchState} {place least : ℕ} {old : MarkState}
       | inl same ↦ subst (IsUsed new) (sym same) uses.here
       | inr other ↦ elim (uses_only uses p is) [
         | inl before ↦ uses_used uses p (walk.passed p (omega (arith, up, other)) before current)
-        | inr from ↦ (let down = reason_below w levels once within place p from in
+        | inr from ↦ (let known = walk.known in
+            let down = reason_below w known.levels known.once known.within place p from in
             absurd (omega (arith, up, down, other)))
       ]
     ];
+  }
+
+  -- what is kept where its reason is used
+  pub walk_goes : {new : MarkState} → IsMet old place → Uses w place old new → GoesOn w old new
+  walk_goes met uses = record {
+    size = uses_size uses;
+    kept = λ conflict a.
+        analysis_uses uses met pass_reason (λ some current. pass_no_point a) a;
   }
 
 -- where it ends
@@ -180,28 +200,28 @@ pub record IsLow (w : WatchState) (p : ℕ) : Type 0 where
   pub reason : HasReason w.trail p
   pub under : 1 ≤ w.level → level < w.level
 
-module _ {w : WatchState} {p : ℕ} {old new : MarkState}
-    (levels : HasLevels w.clauses w.level w.trail) (once : IsOnce w.trail)
-    (within : AreWithin w.vars w.trail) (low : IsLow w p) (met : IsMet old p)
-    (uses : Uses w p old new) where
-  pub lower_kept : (conflict : Clause) → IsAnalysis w conflict old → IsAnalysis w conflict new
-  lower_kept conflict a =
-      analysis_uses uses met low.reason
-      (λ some current. let same = level_one w.trail low.level w.level p low.here current in
-      let under = low.under some in absurd (omega (arith, under, same))) a
+module _ {w : WatchState} {p : ℕ} {old new : MarkState} (known : IsKnown w) (low : IsLow w p)
+    (met : IsMet old p) (uses : Uses w p old new) where
+  pub lower_goes : GoesOn w old new
+  lower_goes = record {
+    size = uses_size uses;
+    kept = λ conflict a. analysis_uses uses met low.reason
+        (λ some current. let same = level_one w.trail low.level w.level p low.here current in
+        let under = low.under some in absurd (omega (arith, under, same))) a;
+  }
 
   pub lower_on : AreOn w.trail old → AreOn w.trail new
   lower_on on q is = elim (uses_only uses q is) [
     | inl before ↦ on q before
-    | inr from ↦ (let below = reason_below w levels once within p q from in
+    | inr from ↦ (let below = reason_below w known.levels known.once known.within p q from in
         let lt = on p met in omega (arith, below, lt))
   ]
 
   -- what it meets is of no higher level
   lower_below : (q : ℕ) → IsReasonPlace w p q → 1 ≤ w.level → HasLevel w.trail w.level q → ⊥
   lower_below q from some (f, at, is) =
-      let below = reason_below w levels once within p q from in
-      let rise = level_rises w.clauses w.level w.trail q p f low.here.0 levels
+      let below = reason_below w known.levels known.once known.within p q from in
+      let rise = level_rises w.clauses w.level w.trail q p f low.here.0 known.levels
       (omega (arith, below)) at low.here.1 in
       let under = low.under some in
       omega (arith, rise, under, is, low.here.2)
@@ -256,11 +276,11 @@ analysis_on {w} {conflict} a place is = elim (a.sources place is) [
 
 module _ {old new : MarkState} (w : WatchState) (conflict : Clause) (clean : IsClean old)
     (meets : Meets (IsFalsePlace w.trail conflict) old new) where
-  pub none_used : (p : ℕ) → IsUsed new p → ⊥
+  none_used : (p : ℕ) → IsUsed new p → ⊥
   none_used p is = both_ways _ (clean.none_used p)
       (subst (λ (us : List _). get_or us p false ≡ true) meets.used is)
 
-  pub met_from : (p : ℕ) → IsMet new p → IsFalsePlace w.trail conflict p
+  met_from : (p : ℕ) → IsMet new p → IsFalsePlace w.trail conflict p
   met_from p is = elim (meets.only p is) [
     | inl before ↦ absurd (both_ways _ (clean.none_met p) before)
     | inr from ↦ from
@@ -288,11 +308,22 @@ module _ {old new : MarkState} (w : WatchState) (conflict : Clause) (clean : IsC
       | inr found ↦ found
     ]
 
-    pub least_met : IsMet new least
-    least_met = meets.all least least_found.0
-
-    pub least_current : HasLevel w.trail w.level least
-    least_current = least_found.1
+    pub walk_starts : IsKnown w → w.vars ≤ length old.met →
+        IsWalk w new (length w.trail - 1) least
+    walk_starts known size =
+        let lt = at_within w.trail least (least_found.1).0 (least_found.1).1 in
+        record {
+          known = known;
+          size = omega (arith, size, meets.size);
+          within = omega (arith, lt);
+          down = omega (arith, lt);
+          met = meets.all least least_found.0;
+          current = least_found.1;
+          lowest = λ q is here. lower.lowest q (met_from q is) here;
+          above = λ q used. absurd (none_used q used);
+          passed = λ q up is here. let lq = at_within w.trail q here.0 here.1 in
+              absurd (omega (arith, up, lq));
+        }
 
 -- the order in which the places are listed doesn't matter
 pub analysed_sorted : (w : WatchState) (conflict : Clause) (s : MarkState) (point : ℕ)

@@ -84,8 +84,24 @@ pub record IsAnalysis (w : WatchState) (conflict : Clause) (s : MarkState) : Typ
   pub no_point : (p : ℕ) → IsUsed s p → 1 ≤ w.level → HasLevel w.trail w.level p →
       IsNoPoint w conflict s p
 
+-- what is known of watches
+pub record IsKnown (w : WatchState) : Type 0 where
+  pub once : IsOnce w.trail
+  pub within : AreWithin w.vars w.trail
+  pub levels : HasLevels w.clauses w.level w.trail
+  pub settled : IsSettledState w
+
+-- an analysis goes on: what it kept it keeps, and there are as many marks
+pub record GoesOn (w : WatchState) (old new : MarkState) : Type 0 where
+  pub size : length new.met ≡ length old.met
+  pub kept : (conflict : Clause) → IsAnalysis w conflict old → IsAnalysis w conflict new
+
 -- on the way from the newest entry down to a place, with the least met one of the current level
 pub record IsWalk (w : WatchState) (s : MarkState) (place least : ℕ) : Type 0 where
+  pub known : IsKnown w
+  pub size : w.vars ≤ length s.met
+  pub within : place < length w.trail
+  pub down : least ≤ place
   pub met : IsMet s least
   pub current : HasLevel w.trail w.level least
   pub lowest : (p : ℕ) → IsMet s p → HasLevel w.trail w.level p → least ≤ p
@@ -107,13 +123,6 @@ AreOn trail s = (place : ℕ) → IsMet s place → place < length trail
 -- of so many places met, the first ones, those with a property are used
 abbrev pub AreUsed : (ℕ → Type 0) → ℕ → MarkState → Type 0
 AreUsed P i s = (place : ℕ) → Contains (take i s.places) place → P place → IsUsed s place
-
--- what is known of watches
-pub record IsKnown (w : WatchState) : Type 0 where
-  pub once : IsOnce w.trail
-  pub within : AreWithin w.vars w.trail
-  pub levels : HasLevels w.clauses w.level w.trail
-  pub settled : IsSettledState w
 
 -- what an analysis ends with: each place of level 0 that was met is used, and of the current level
 -- each but one

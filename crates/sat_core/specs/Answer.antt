@@ -2,8 +2,8 @@
 use Rattle.std.specs.Prelude.{◌≡◌, ℕ, ◌+◌, ◌*◌, ◌/◌, ◌^◌, ◌≤◌, ℤ, Bool, true, false, ⊤, List, [], ◌∷◌, ◌++◌, All}
 use Rattle.sat_clause.specs.Formula.{Cnf, Satisfies}
 use Rattle.sat_clause.specs.Judge.{Accepts, is_empty_clause}
+use Rattle.sat_clause.specs.Learned.{added_count}
 use Rattle.sat_clause.specs.Step.{Step, Added}
-use Rattle.sat_core.specs.SearchLog.{added_count}
 use Rattle.sat_core.specs.declared.answer.Answer.{Answer}
 use Rattle.sat_core.specs.declared.answer.Answer.TheVariants.{Model, Refuted, Spent}
 

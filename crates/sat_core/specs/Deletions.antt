@@ -1,8 +1,7 @@
 -- How many deletions a log has, and when the next one may come.
 use Rattle.std.specs.Prelude.{◌≡◌, ℕ, suc, ◌+◌, ◌*◌, nat_le, Bool, List}
-use Rattle.sat_clause.specs.Learned.{added_since, deletions}
+use Rattle.sat_clause.specs.Learned.{added_count, added_since, deletions}
 use Rattle.sat_clause.specs.Step.{Step}
-use Rattle.sat_core.specs.SearchLog.{added_count}
 
 -- how many deletion steps there are, and how many clauses were added before the last of them
 pub record DeletionState : Type 0 where

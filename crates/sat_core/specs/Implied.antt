@@ -6,7 +6,7 @@ use Rattle.sat_clause.specs.Literal.{Clause}
 use Rattle.sat_arena.specs.declared.clause_ref.ClauseRef.{ClauseRef}
 use Rattle.sat_watch.specs.declared.entry.TrailEntry.{TrailEntry}
 use Rattle.sat_watch.specs.Watches.{WatchState, lits_at}
-use Rattle.sat_core.specs.Analysis.{HasLevel, IsAt, IsFalsePlace}
+use Rattle.sat_core.specs.Analysis.{AreOn, HasLevel, IsAt, IsFalsePlace, IsKnown}
 use Rattle.sat_core.specs.Marks.{IsClean, IsMet, MarkState}
 use Rattle.sat_core.specs.declared.visit.Visit.{Visit}
 
@@ -59,6 +59,13 @@ pub record IsWalking (w : WatchState) (s : MarkState) (walk : WalkState) : Type 
   pub implied : AreImplied w s walk.marks.used
   pub on : All (λ v. v.place < length w.trail) walk.visits
   pub size : length walk.marks.met ≡ length s.met
+
+-- what a walk has ended with, beside the marks of an analysis that goes on
+pub record IsWalked (w : WatchState) (s : MarkState) (walk : WalkState) : Type 0 where
+  pub known : IsKnown w
+  pub size : w.vars ≤ length s.met
+  pub on : AreOn w.trail s
+  pub walking : IsWalking w s walk
 
 -- the marks of an analysis beside a walk at rest over as many places
 pub record IsFindings (marks : MarkState) (walk : WalkState) : Type 0 where

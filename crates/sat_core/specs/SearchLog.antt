@@ -6,19 +6,8 @@ use Rattle.sat_clause.specs.Learned.{EachErased, LearnedNew, Relevant, Sparse}
 use Rattle.sat_clause.specs.Literal.{Clause}
 use Rattle.sat_clause.specs.Step.{Step, Added, Erased}
 
--- how many clauses the steps add
-abbrev pub added_count : List Step → ℕ
-added_count [] = 0
-added_count (Added id clause hints ∷ steps) = suc (added_count steps)
-added_count (Erased id ids ∷ steps) = added_count steps
-
--- the added clauses have the ids from this one on
-abbrev pub AreAddedFrom : ℕ → List Step → Type 0
-AreAddedFrom id [] = ⊤
-AreAddedFrom id (Added new clause hints ∷ steps) = (new ≡ id) × AreAddedFrom (suc id) steps
-AreAddedFrom id (Erased own ids ∷ steps) = AreAddedFrom id steps
-
--- and a deletion's own number is an id before the next one
+-- the added clauses have the ids from this one on, and a deletion's own number is an id before the
+-- next one
 abbrev pub AreNumbered : ℕ → List Step → Type 0
 AreNumbered id [] = ⊤
 AreNumbered id (Added new clause hints ∷ steps) = (new ≡ id) × AreNumbered (suc id) steps

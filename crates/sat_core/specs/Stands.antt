@@ -2,12 +2,11 @@
 use Rattle.std.specs.Prelude.{◌≡◌, ℕ, suc, ◌+◌, ◌<◌, ◌≤◌, ℤ, pos, false, ⊤, List, [], ◌∷◌, length, take, fold, All, None}
 use Rattle.sat_clause.specs.Formula.{Cnf}
 use Rattle.sat_clause.specs.Judge.{after, fault, inputs, is_empty_clause}
-use Rattle.sat_clause.specs.Learned.{EachErased, LearnedNew}
+use Rattle.sat_clause.specs.Learned.{AreAddedFrom, EachErased, LearnedNew, added_count}
 use Rattle.sat_clause.specs.Live.{Live}
 use Rattle.sat_clause.specs.Step.{Step}
 use Rattle.sat_core.specs.Kept.{AreKept}
 use Rattle.sat_core.specs.Levels.{Assigned}
-use Rattle.sat_core.specs.SearchLog.{AreAddedFrom, added_count}
 
 -- the number of variables, of input clauses, and of clauses that the log has added; the kept
 -- clauses with their ids; and the trail, the newest entry first

@@ -4,12 +4,12 @@ use Rattle.std.specs.declared.alloc.AllocError.{AllocError}
 use Rattle.sat_clause.specs.declared.limits.TheConstants.{ID_LIMIT}
 use Rattle.sat_clause.specs.Formula.{Cnf, Satisfies}
 use Rattle.sat_clause.specs.Judge.{Accepts, IsGoodSoFar}
-use Rattle.sat_clause.specs.Learned.{IsRelevant, Relevant, Sparse, deletions}
+use Rattle.sat_clause.specs.Learned.{IsRelevant, Relevant, Sparse, added_count, deletions}
 use Rattle.sat_clause.specs.Literal.{Clause}
 use Rattle.sat_clause.specs.Rup.{rup}
 use Rattle.sat_clause.specs.Step.{Step, Added}
 use Rattle.sat_core.specs.Answer.{IsAnswer}
-use Rattle.sat_core.specs.SearchLog.{AreNumbered, DeletesSome, IsSearchLog, added_count}
+use Rattle.sat_core.specs.SearchLog.{AreNumbered, DeletesSome, IsSearchLog}
 use Rattle.sat_core.specs.Stands.{IsOpenLog, SearchAt, StandsAt, live_after, next_id}
 use Rattle.sat_core.specs.declared.answer.Answer.{Answer}
 use Rattle.sat_core.specs.declared.turn.Turn.{Turn}

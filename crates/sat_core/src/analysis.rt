@@ -1,22 +1,33 @@
 //! The analysis of a false clause: which entries of the trail made it false.
 
 ghost use Rattle.std.specs.Prelude.{◌≡◌, ◌⊎◌, ◌-◌, ◌<◌, ◌≤◌, ℕ, [], ◌∷◌, All, false, length, slice_index_or, suc, true};
-ghost use Rattle.sat_clause.specs.Literal.{Clause, IsWithin};
-ghost use Rattle.sat_core.specs.Analysis.{AreOn, AreUsed, HasCurrent, HasLevel, IsAnalysed, IsAnalysis, IsFalsePlace, IsKnown, IsLeast, IsPoint, IsReasonAt, IsReasonPlace, IsWalk, Uses};
-ghost use Rattle.sat_core.specs.Implied.{AreImplied, IsAtRest, IsLeftOut};
+ghost use Rattle.sat_clause.specs.declared.limits.TheConstants.{VARIABLE_LIMIT};
+ghost use Rattle.sat_clause.specs.Literal.{IsWithin};
+ghost use Rattle.sat_core.specs.Analysis.{AreOn, AreUsed, GoesOn, HasCurrent, IsAnalysed, IsFalsePlace, IsKnown, IsLeast, IsPoint, IsReasonAt, IsReasonPlace, IsWalk, Uses};
+ghost use Rattle.sat_core.specs.Implied.{IsAtRest, IsLeftOut, IsWalked};
 ghost use Rattle.sat_core.specs.Marks.{IsClean, IsMet, IsUsed, Meets};
 ghost use Rattle.sat_core.specs.Ranking.{SameHeld};
 ghost use Rattle.sat_watch.specs.Watches.{is_attached};
 
-use crate::bumping::bump_conflict;
 use crate::implied::Implied;
 use crate::marks::Marks;
-use crate::places::false_place;
+use crate::places::{entry_at, false_place};
 use crate::ranking::Ranking;
-use crate::walking::find_implied;
 use sat_arena::ClauseRef;
 use sat_clause::{Lit, VARIABLE_LIMIT};
 use sat_watch::Watches;
+
+/// What an analysis has met of the trail of these watches, at their current level.
+#[derive(Drop)]
+pub(crate) struct Analysis<'a> {
+    pub(crate) watches: &'a Watches,
+    pub(crate) marks: &'a Marks,
+    pub(crate) level: u32,
+    ghost few: { watches.now.vars ≤ VARIABLE_LIMIT },
+    ghost size: { watches.now.vars ≤ length marks.now.met },
+    ghost on: { AreOn watches.now.trail marks.now },
+    ghost current: { level ≡ watches.now.level },
+}
 
 /// The lower one of two places, where the second counts only if it is of the current level.
 fn lower_current(watches: &Watches, least: u32, place: u32) -> u32
@@ -26,8 +37,7 @@ fn lower_current(watches: &Watches, least: u32, place: u32) -> u32
     if least <= place {
         return least;
     }
-    let entry = watches.trail()[place as usize];
-    if entry.level == watches.level() {
+    if entry_at(watches, place).level == watches.level() {
         return place;
     }
     least
@@ -82,17 +92,12 @@ fn use_entry(marks: &mut Marks, watches: &Watches, place: u32, reason: ClauseRef
 /// Passes a place on the way down to the first unique implication point, which stands below it.
 /// Uses its reason, if it was met. Gives the least place of the current level.
 fn pass(marks: &mut Marks, watches: &Watches, place: u32, least: u32) -> u32
-    requires size { watches.now.vars ≤ length marks.old.met }
     requires walk { IsWalk watches.now marks.old place least }
     requires below { least < place }
-    requires within { place < length watches.now.trail }
-    ensures kept { (conflict : Clause) → IsAnalysis watches.now conflict marks.old
-        → IsAnalysis watches.now conflict marks.new }
-    ensures size { length marks.new.met ≡ length marks.old.met }
+    ensures goes_on { GoesOn watches.now marks.old marks.new }
     ensures walk { IsWalk watches.now marks.new (place - 1) result }
-    ensures lower { result ≤ least }
 {
-    let entry = watches.trail()[place as usize];
+    let entry = entry_at(watches, place);
     if !marks.is_met(place) {
         return least;
     }
@@ -107,16 +112,8 @@ fn pass(marks: &mut Marks, watches: &Watches, place: u32, least: u32) -> u32
 /// place of the current level that was met.
 fn first_point(marks: &mut Marks, watches: &Watches, least: u32) -> u32
     requires few { watches.now.vars ≤ VARIABLE_LIMIT }
-    requires size { watches.now.vars ≤ length marks.old.met }
-    requires met { IsMet marks.old least }
-    requires current { HasLevel watches.now.trail watches.now.level least }
-    requires lowest { (p : ℕ) → IsMet marks.old p
-        → HasLevel watches.now.trail watches.now.level p → least ≤ p }
-    requires within { AreOn watches.now.trail marks.old }
-    requires none_used { (p : ℕ) → IsUsed marks.old p → ⊥ }
-    ensures kept { (conflict : Clause) → IsAnalysis watches.now conflict marks.old
-        → IsAnalysis watches.now conflict marks.new }
-    ensures size { length marks.new.met ≡ length marks.old.met }
+    requires walk { IsWalk watches.now marks.old (length watches.now.trail - 1) least }
+    ensures goes_on { GoesOn watches.now marks.old marks.new }
     ensures point { IsPoint watches.now marks.new result }
 {
     let mut lowest = least;
@@ -132,17 +129,9 @@ fn first_point(marks: &mut Marks, watches: &Watches, least: u32) -> u32
 fn point(marks: &mut Marks, watches: &Watches, level: u32, least: u32) -> u32
     requires level { level ≡ watches.now.level }
     requires few { watches.now.vars ≤ VARIABLE_LIMIT }
-    requires size { watches.now.vars ≤ length marks.old.met }
-    requires met { 1 ≤ watches.now.level → IsMet marks.old least }
-    requires current { 1 ≤ watches.now.level
-        → HasLevel watches.now.trail watches.now.level least }
-    requires lowest { (p : ℕ) → IsMet marks.old p
-        → HasLevel watches.now.trail watches.now.level p → least ≤ p }
-    requires within { AreOn watches.now.trail marks.old }
-    requires none_used { (p : ℕ) → IsUsed marks.old p → ⊥ }
-    ensures kept { (conflict : Clause) → IsAnalysis watches.now conflict marks.old
-        → IsAnalysis watches.now conflict marks.new }
-    ensures size { length marks.new.met ≡ length marks.old.met }
+    requires walk { 1 ≤ watches.now.level
+        → IsWalk watches.now marks.old (length watches.now.trail - 1) least }
+    ensures goes_on { GoesOn watches.now marks.old marks.new }
     ensures point { 1 ≤ watches.now.level → IsPoint watches.now marks.new result }
 {
     if level == 0 {
@@ -167,16 +156,10 @@ fn is_left_out(implied: &Implied, level: u32, place: u32) -> bool
 
 /// Uses the reason of the place that was met as the i-th one, if the place needs no literal.
 fn use_at(marks: &mut Marks, implied: &Implied, watches: &Watches, i: u32)
-    requires size { watches.now.vars ≤ length marks.old.met }
-    requires walk_size { watches.now.vars ≤ length implied.now.marks.met }
-    requires within { AreOn watches.now.trail marks.old }
-    requires implied { AreImplied watches.now marks.old implied.now.marks.used }
+    requires walked { IsWalked watches.now marks.old implied.now }
     requires i { i < length marks.old.places }
-    ensures kept { (conflict : Clause) → IsAnalysis watches.now conflict marks.old
-        → IsAnalysis watches.now conflict marks.new }
-    ensures size { length marks.new.met ≡ length marks.old.met }
-    ensures within { AreOn watches.now.trail marks.new }
-    ensures implied { AreImplied watches.now marks.new implied.now.marks.used }
+    ensures walked { IsWalked watches.now marks.new implied.now }
+    ensures goes_on { GoesOn watches.now marks.old marks.new }
     ensures point { (point : ℕ) → 1 ≤ watches.now.level → IsPoint watches.now marks.old point
         → IsPoint watches.now marks.new point }
     ensures used { AreUsed (IsLeftOut watches.now.trail implied.now.marks.used) i marks.old
@@ -185,7 +168,7 @@ fn use_at(marks: &mut Marks, implied: &Implied, watches: &Watches, i: u32)
         ⊎ IsLeftOut watches.now.trail implied.now.marks.used p }
 {
     let place = marks.place(i);
-    let entry = watches.trail()[place as usize];
+    let entry = entry_at(watches, place);
     if !is_left_out(implied, entry.level, place) {
         return;
     }
@@ -198,13 +181,8 @@ fn use_at(marks: &mut Marks, implied: &Implied, watches: &Watches, i: u32)
 /// Uses the reasons of all places that were met and need no literal, and of those that they meet.
 /// So their literals are dropped, and no other one comes up.
 fn use_left_out(marks: &mut Marks, implied: &Implied, watches: &Watches)
-    requires size { watches.now.vars ≤ length marks.old.met }
-    requires walk_size { watches.now.vars ≤ length implied.now.marks.met }
-    requires within { AreOn watches.now.trail marks.old }
-    requires implied { AreImplied watches.now marks.old implied.now.marks.used }
-    ensures kept { (conflict : Clause) → IsAnalysis watches.now conflict marks.old
-        → IsAnalysis watches.now conflict marks.new }
-    ensures size { length marks.new.met ≡ length marks.old.met }
+    requires { IsWalked watches.now marks.old implied.now }
+    ensures goes_on { GoesOn watches.now marks.old marks.new }
     ensures point { (point : ℕ) → 1 ≤ watches.now.level → IsPoint watches.now marks.old point
         → IsPoint watches.now marks.new point }
     ensures used { (p : ℕ) → IsMet marks.new p
@@ -241,7 +219,6 @@ pub(crate) fn analyse(
     requires within { All (IsWithin watches.now.vars) lits.now }
     requires current { IsKnown watches.now → HasCurrent watches.now lits.now }
     ensures held { SameHeld ranking.old ranking.new }
-    ensures size { length marks.new.met ≡ length marks.old.met }
     ensures walk_size { length implied.new.marks.met ≡ length marks.new.met }
     ensures rest { IsAtRest implied.new }
     ensures analysed { IsAnalysed watches.now lits.now marks.new result }
@@ -250,8 +227,13 @@ pub(crate) fn analyse(
     let level = watches.level();
     let least = meet_clause(marks, watches, lits, top);
     let point = point(marks, watches, level, least);
-    find_implied(implied, marks, watches, level);
-    bump_conflict(ranking, marks, implied, watches, point);
+    let analysis = Analysis {
+        watches,
+        marks,
+        level,
+    };
+    analysis.find_implied(implied);
+    analysis.bump_conflict(ranking, implied, point);
     use_left_out(marks, implied, watches);
     implied.clear();
     point

@@ -3,14 +3,15 @@
 ghost use Rattle.std.specs.Prelude.{◌≡◌, ◌++◌, ◌∷◌, [], ◌<◌, ◌≤◌, All, AllPairs, IfOk, flat_map, length, max, option_map, pos};
 ghost use Rattle.std.specs.Option.{option_to_list};
 ghost use Rattle.sat_clause.specs.Literal.{IsWithin};
-ghost use Rattle.sat_core.specs.Analysis.{AreOn, HasCurrent, IsKnown};
+ghost use Rattle.sat_core.specs.Analysis.{HasCurrent, IsKnown};
 ghost use Rattle.sat_core.specs.Marks.{IsClean, IsMet, IsReady};
 ghost use Rattle.sat_core.specs.Ranking.{SameHeld};
 ghost use Rattle.sat_core.specs.Reading.{AreLearned, EndsIn, HasLesson, IsFound, hint_at};
 
-use crate::analysis::analyse;
+use crate::analysis::{Analysis, analyse};
 use crate::implied::Implied;
 use crate::marks::Marks;
+use crate::places::entry_at;
 use crate::ranking::Ranking;
 use sat_clause::{Lit, VARIABLE_LIMIT};
 use sat_watch::Watches;
@@ -56,115 +57,97 @@ fn higher(a: u32, b: u32) -> u32
     if a < b { b } else { a }
 }
 
-/// The negations of the entries that were met, but of those whose reasons were used, and of that at
-/// the first unique implication point; in place of these literals.
-fn lower_literals(
-    old: Vec<Lit>,
-    marks: &Marks,
-    watches: &Watches,
-    point: u32,
-) -> Result<Lower, AllocError>
-    requires on { AreOn watches.now.trail marks.now }
-    requires rising { AllPairs (λ a b. a < b) marks.now.places }
-    requires few { watches.now.vars ≤ VARIABLE_LIMIT }
-    ensures { IfOk result (λ lower. AreLearned watches.now marks.now point marks.now.places
-        lower.lits.items lower.back) }
-{
-    let mut lits = old;
-    lits.clear();
-    let mut back = 0;
-    for place in marks.places() {
-        if marks.is_used(*place) {
-            continue;
+impl Analysis<'_> {
+    /// The negations of the entries that were met, but of those whose reasons were used, and of
+    /// that at the first unique implication point; in place of these literals.
+    fn lower_literals(&self, old: Vec<Lit>, point: u32) -> Result<Lower, AllocError>
+        requires rising { AllPairs (λ a b. a < b) self.now.marks.now.places }
+        ensures { IfOk result (λ lower. AreLearned self.now.watches.now self.now.marks.now point
+            self.now.marks.now.places lower.lits.items lower.back) }
+    {
+        let mut lits = old;
+        lits.clear();
+        let mut back = 0;
+        for place in self.marks.places() {
+            if self.marks.is_used(*place) {
+                continue;
+            }
+            if *place == point {
+                continue;
+            }
+            let entry = entry_at(self.watches, *place);
+            lits.push(entry.lit.negation())?;
+            back = higher(back, entry.level);
         }
-        if *place == point {
-            continue;
+        Ok(Lower { lits, back })
+    }
+
+    /// The id of the reason of the entry at a place, if it was used and has one.
+    fn hint_of(&self, place: u32) -> Option<u32>
+        requires { IsMet self.now.marks.now place }
+        ensures { option_to_list (option_map pos result)
+            ≡ hint_at self.now.watches.now self.now.marks.now place }
+    {
+        if !self.marks.is_used(place) {
+            return None;
         }
-        let entry = watches.trail()[*place as usize];
-        lits.push(entry.lit.negation())?;
-        back = higher(back, entry.level);
-    }
-    Ok(Lower { lits, back })
-}
-
-/// The id of the reason of the entry at a place, if it was used and has one.
-fn hint_of(marks: &Marks, watches: &Watches, place: u32) -> Option<u32>
-    requires on { AreOn watches.now.trail marks.now }
-    requires met { IsMet marks.now place }
-    ensures { option_to_list (option_map pos result) ≡ hint_at watches.now marks.now place }
-{
-    if !marks.is_used(place) {
-        return None;
-    }
-    let Some(reason) = watches.trail()[place as usize].reason else {
-        return None;
-    };
-    Some(watches.id(reason))
-}
-
-/// The ids of the reasons that were used, in the order of the trail, and then an id; in place of
-/// these.
-fn used_hints(
-    old: Vec<i64>,
-    marks: &Marks,
-    watches: &Watches,
-    id: u32,
-) -> Result<Vec<i64>, AllocError>
-    requires on { AreOn watches.now.trail marks.now }
-    ensures { IfOk result (λ hints. hints.items
-        ≡ flat_map (hint_at watches.now marks.now) marks.now.places ++ pos id ∷ []) }
-{
-    let mut hints = old;
-    hints.clear();
-    for place in marks.places() {
-        let Some(hint) = hint_of(marks, watches, *place) else {
-            continue;
+        let Some(reason) = entry_at(self.watches, place).reason else {
+            return None;
         };
-        hints.push(i64::from(hint))?;
+        Some(self.watches.id(reason))
     }
-    hints.push(i64::from(id))?;
-    Ok(hints)
-}
 
-/// The literals, and then the negation of the entry at a place, where a level was begun.
-fn with_point(watches: &Watches, lits: Vec<Lit>, point: u32) -> Result<Vec<Lit>, AllocError>
-    requires few { watches.now.vars ≤ VARIABLE_LIMIT }
-    requires point { 1 ≤ watches.now.level → point < length watches.now.trail }
-    ensures zero { IfOk result (λ clause. watches.now.level ≡ 0 → clause.items ≡ lits.items) }
-    ensures more { IfOk result (λ clause. 1 ≤ watches.now.level
-        → EndsIn watches.now.trail lits.items point clause.items) }
-{
-    if watches.level() == 0 {
-        return Ok(lits);
+    /// The ids of the reasons that were used, in the order of the trail, and then an id; in place
+    /// of these.
+    fn used_hints(&self, old: Vec<i64>, id: u32) -> Result<Vec<i64>, AllocError>
+        ensures { IfOk result (λ hints. hints.items
+            ≡ flat_map (hint_at self.now.watches.now self.now.marks.now)
+            self.now.marks.now.places ++ pos id ∷ []) }
+    {
+        let mut hints = old;
+        hints.clear();
+        for place in self.marks.places() {
+            let Some(hint) = self.hint_of(*place) else {
+                continue;
+            };
+            hints.push(i64::from(hint))?;
+        }
+        hints.push(i64::from(id))?;
+        Ok(hints)
     }
-    let mut clause = lits;
-    clause.push(watches.trail()[point as usize].lit.negation())?;
-    Ok(clause)
-}
 
-/// What an analysis comes to, in the room of a lesson.
-fn read(
-    room: Lesson,
-    marks: &Marks,
-    watches: &Watches,
-    point: u32,
-    id: u32,
-) -> Result<Lesson, AllocError>
-    requires on { AreOn watches.now.trail marks.now }
-    requires rising { AllPairs (λ a b. a < b) marks.now.places }
-    requires few { watches.now.vars ≤ VARIABLE_LIMIT }
-    requires point { 1 ≤ watches.now.level → point < length watches.now.trail }
-    ensures { IfOk result (λ lesson. HasLesson watches.now marks.now point id lesson.clause.items
-        lesson.hints.items lesson.back) }
-{
-    let lower = lower_literals(room.clause, marks, watches, point)?;
-    let hints = used_hints(room.hints, marks, watches, id)?;
-    let clause = with_point(watches, lower.lits, point)?;
-    Ok(Lesson {
-        clause,
-        hints,
-        back: lower.back,
-    })
+    /// The literals, and then the negation of the entry at a place, where a level was begun.
+    fn with_point(&self, lits: Vec<Lit>, point: u32) -> Result<Vec<Lit>, AllocError>
+        requires { 1 ≤ self.now.level → point < length self.now.watches.now.trail }
+        ensures zero { IfOk result (λ clause. self.now.watches.now.level ≡ 0
+            → clause.items ≡ lits.items) }
+        ensures more { IfOk result (λ clause. 1 ≤ self.now.watches.now.level
+            → EndsIn self.now.watches.now.trail lits.items point clause.items) }
+    {
+        if self.level == 0 {
+            return Ok(lits);
+        }
+        let mut clause = lits;
+        clause.push(entry_at(self.watches, point).lit.negation())?;
+        Ok(clause)
+    }
+
+    /// What an analysis comes to, in the room of a lesson.
+    fn read(&self, room: Lesson, point: u32, id: u32) -> Result<Lesson, AllocError>
+        requires rising { AllPairs (λ a b. a < b) self.now.marks.now.places }
+        requires point { 1 ≤ self.now.level → point < length self.now.watches.now.trail }
+        ensures { IfOk result (λ lesson. HasLesson self.now.watches.now self.now.marks.now point id
+            lesson.clause.items lesson.hints.items lesson.back) }
+    {
+        let lower = self.lower_literals(room.clause, point)?;
+        let hints = self.used_hints(room.hints, id)?;
+        let clause = self.with_point(lower.lits, point)?;
+        Ok(Lesson {
+            clause,
+            hints,
+            back: lower.back,
+        })
+    }
 }
 
 /// The marks of an analysis: what it has met, and what it has found to be implied. And the room of
@@ -236,7 +219,12 @@ pub(crate) fn find_lesson(
     let point = analyse(ranking, &mut marks.marks, &mut marks.implied, watches, lits);
     marks.marks.sort();
     let room = mem::replace(&mut marks.spare, Lesson::empty(alloc));
-    let lesson = read(room, &marks.marks, watches, point, id);
+    let analysis = Analysis {
+        watches,
+        marks: &marks.marks,
+        level: watches.level(),
+    };
+    let lesson = analysis.read(room, point, id);
     marks.marks.clear();
     lesson
 }

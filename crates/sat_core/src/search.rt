@@ -2,10 +2,10 @@
 
 ghost use Rattle.std.specs.Prelude.{◌≡◌, ◌≢◌, ◌<◌, ◌≤◌, ◌+◌, ◌^◌, [], IfOk, Ok, OnErr, OnOk, length, true};
 ghost use Rattle.sat_clause.specs.Formula.{Cnf};
+ghost use Rattle.sat_clause.specs.Learned.{added_count};
 ghost use Rattle.sat_core.specs.Deletions.{AreDeletions};
 ghost use Rattle.sat_core.specs.Forget.{HasForgotten};
 ghost use Rattle.sat_core.specs.Levels.{level_of};
-ghost use Rattle.sat_core.specs.SearchLog.{added_count};
 ghost use Rattle.sat_core.specs.SearchStore.{SameKept};
 ghost use Rattle.sat_core.specs.Stands.{StandsFor};
 ghost use Rattle.sat_core.specs.Underway.{IsTurn, IsUnderway, MayFollow, MayTurn};

@@ -2,10 +2,10 @@
 
 ghost use Rattle.std.specs.Prelude.{◌≡◌, ◌+◌, ◌≤◌, [], length, IfOk, IsTrue};
 ghost use Rattle.sat_clause.specs.Formula.{Cnf};
-ghost use Rattle.sat_clause.specs.Learned.{deletions};
+ghost use Rattle.sat_clause.specs.Learned.{added_count, deletions};
 ghost use Rattle.sat_core.specs.Answer.{IsAnswer, IsDecided, most_added};
 ghost use Rattle.sat_core.specs.Deletions.{AreDeletions};
-ghost use Rattle.sat_core.specs.SearchLog.{IsSearchLog, added_count};
+ghost use Rattle.sat_core.specs.SearchLog.{IsSearchLog};
 ghost use Rattle.sat_core.specs.Stands.{StandsFor};
 ghost use Rattle.sat_core.specs.Underway.{HasSearched, IsUnderway};
 

@@ -1,21 +1,20 @@
 -- What a step more makes of a refutation.
-use Rattle.std.proofs.Common.{◌≡◌, ◌≢◌, ◌==◌, ℕ, zero, suc, ◌+◌, ◌-◌, ◌<◌, ◌≤◌, ℤ, pos, Bool, true, false, cond, List, [], ◌∷◌, ◌++◌, length, length-append, All, Option, None, Some, refl, sym, subst, ap, inl, inr, ◌∙◌, append_assoc, append-nil, add-one, arith}
+use Rattle.std.proofs.Common.{◌≡◌, ◌≢◌, ◌==◌, ℕ, zero, suc, ◌+◌, ◌-◌, ◌<◌, ◌≤◌, ℤ, pos, Bool, true, false, cond, List, [], ◌∷◌, ◌++◌, length, length-append, All, Option, None, Some, refl, sym, subst, ap, inl, inr, ◌∙◌, append-nil, add-one, arith}
 use Rattle.std.specs.Prelude.{IsSome, is_some, not, slice_get}
 use Rattle.std.proofs.lemmas.Bool.{cases_lt, eq-eqb, eqb-true, false≢true, ne_eqb}
 use Rattle.std.proofs.lemmas.List.Elements.{All-cons, All-filter, All-head, All-nil, All-tail, All-weaker}
 use Rattle.std.proofs.lemmas.List.Sums.{fold_push}
-use Rattle.sat_clause.specs.declared.cause.Cause.{Cause}
 use Rattle.sat_clause.specs.declared.limits.TheConstants.{LITERAL_LIMIT}
 use Rattle.sat_clause.specs.Formula.{Cnf, IsUnsat}
-use Rattle.sat_clause.specs.Judge.{after, erase, erase_fault, inputs, is_empty_clause, judge_step}
+use Rattle.sat_clause.specs.Judge.{after, erase, erase_fault, inputs, is_empty_clause}
 use Rattle.sat_clause.specs.Literal.{Clause, IsLiteral, IsWithin}
 use Rattle.sat_clause.specs.Live.{Live, clause_at, named, numbered, put, without}
 use Rattle.sat_clause.specs.Step.{Added, Erased, Step}
+use Rattle.sat_clause.proofs.JudgeLaws.{judged_more, literals_more}
 use Rattle.sat_clause.proofs.LiveLaws.{clause_at-without, inputs_at}
 use Rattle.sat_rat.specs.FullJudge.{FullAccepts, full_fault, full_judge, full_judge_from}
 use Rattle.sat_rat.specs.FullRup.{full_rup}
 use Rattle.sat_rat.proofs.FullSound.{full_refutes}
-use Rattle.sat_rat.proofs.FullStepLaws.{literals_more}
 use Rattle.sat_count.specs.Refuting.{Adds, AreLive, Erases, Holds, IsRefutation, RefutationState, added, begun, erased, ids_behind, live_of, stepped}
 
 -- ---- the live clauses behind a step
@@ -43,28 +42,19 @@ named-put live n (suc id) clause = refl
 
 -- ---- a step that is good
 
-module _ (r : RefutationState) (is : IsRefutation r) (step : Step) (last_id : ℕ) where
-  ahead-judged : (more : List Step) → full_judge r.cnf ((r.steps ++ step ∷ []) ++ more)
-      ≡ judge_step (suc (length r.steps)) (full_fault (live_of r) step) (is_empty_clause step)
-      (full_judge_from (suc (suc (length r.steps))) (after (live_of r) step) more)
-  ahead-judged more =
-      ap (full_judge r.cnf) (append_assoc r.steps (step ∷ []) more) ∙ is.ahead (step ∷ more)
-
-  good-ahead : full_fault (live_of r) step ≡ None → is_empty_clause step ≡ false
-      → (more : List Step) → full_judge r.cnf ((r.steps ++ step ∷ []) ++ more)
-      ≡ full_judge_from (suc (length (r.steps ++ step ∷ [])))
-      (live_of (stepped r step last_id)) more
-  good-ahead good on more =
-      let count : length (r.steps ++ step ∷ []) ≡ suc (length r.steps) =
-      length-append r.steps (step ∷ []) ∙ add-one (length r.steps) in
-      ahead-judged more
-      ∙ ap (λ (f : Option Cause). judge_step (suc (length r.steps)) f (is_empty_clause step)
-      (full_judge_from (suc (suc (length r.steps))) (after (live_of r) step) more)) good
-      ∙ ap (λ (b : Bool). judge_step (suc (length r.steps)) None b
-      (full_judge_from (suc (suc (length r.steps))) (after (live_of r) step) more)) on
-      ∙ ap (λ (n : ℕ). full_judge_from (suc n) (after (live_of r) step) more) (sym count)
-      ∙ ap (λ (live : Live). full_judge_from (suc (length (r.steps ++ step ∷ []))) live more)
-      (sym (live-stepped r step last_id))
+good-ahead : (r : RefutationState) → IsRefutation r → (step : Step) (last_id : ℕ)
+    → full_fault (live_of r) step ≡ None → is_empty_clause step ≡ false
+    → (more : List Step) → full_judge r.cnf ((r.steps ++ step ∷ []) ++ more)
+    ≡ full_judge_from (suc (length (r.steps ++ step ∷ [])))
+    (live_of (stepped r step last_id)) more
+good-ahead r is step last_id good on more =
+    let count : length (r.steps ++ step ∷ []) ≡ suc (length r.steps) =
+    length-append r.steps (step ∷ []) ∙ add-one (length r.steps) in
+    judged_more full_fault r.cnf r.steps (length r.steps) (live_of r) is.ahead step None false good
+    on more
+    ∙ ap (λ (n : ℕ). full_judge_from (suc n) (after (live_of r) step) more) (sym count)
+    ∙ ap (λ (live : Live). full_judge_from (suc (length (r.steps ++ step ∷ []))) live more)
+    (sym (live-stepped r step last_id))
 
 -- ---- a clause more
 
@@ -150,9 +140,8 @@ pub finish-accepts : (r : RefutationState) → IsRefutation r → (hints : List 
     → full_rup (live_of r) [] hints ≡ None → FullAccepts r.cnf (r.steps ++ Added id [] hints ∷ [])
 finish-accepts r is hints id good =
     ap (full_judge r.cnf) (sym (append-nil (r.steps ++ Added id [] hints ∷ [])))
-    ∙ ahead-judged r is (Added id [] hints) id []
-    ∙ ap (λ (f : Option Cause). judge_step (suc (length r.steps)) f true
-    (full_judge_from (suc (suc (length r.steps))) (after (live_of r) (Added id [] hints)) [])) good
+    ∙ judged_more full_fault r.cnf r.steps (length r.steps) (live_of r) is.ahead
+    (Added id [] hints) None true good refl []
 
 pub finish-refutes : (r : RefutationState) → IsRefutation r → (hints : List ℤ) (id : ℕ)
     → full_rup (live_of r) [] hints ≡ None → IsUnsat r.cnf

@@ -2,12 +2,12 @@
 use Rattle.std.specs.Prelude.{◌≡◌, ℕ, suc, ◌+◌, ◌-◌, ◌≤◌, ◌<◌, ℤ, pos, List, length, map, ◌++◌, [], ◌∷◌, All, IsSome, Some}
 use Rattle.std.specs.List.{range_with_len}
 use Rattle.sat_clause.specs.Formula.{Cnf}
+use Rattle.sat_clause.specs.Judge.{live_behind}
 use Rattle.sat_clause.specs.Literal.{Clause, IsWithin}
 use Rattle.sat_clause.specs.Live.{Live, named}
-use Rattle.sat_clause.specs.Step.{Added, Erased, Step}
+use Rattle.sat_clause.specs.Step.{Added, Erased, HaveLiterals, Step}
 use Rattle.sat_clause.specs.declared.limits.TheConstants.{LITERAL_LIMIT}
-use Rattle.sat_check.specs.Replaying.{live_behind}
-use Rattle.sat_rat.specs.FullJudge.{HaveLiterals, full_judge, full_judge_from}
+use Rattle.sat_rat.specs.FullJudge.{full_judge, full_judge_from}
 use Rattle.sat_count.specs.Names.{no, yes}
 
 -- the formula, the steps, and the last id and the last variable that stand in them

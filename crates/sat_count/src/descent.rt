@@ -153,7 +153,7 @@ impl<'a> Ground<'a> {
         requires track { track < self.now.tracks }
         ensures { result ≡ pos (meaning_at self.now place track + meaning_number which) }
     {
-        (self.meaning_behind(place, track) + number_of(which)) as i64
+        (self.meaning_behind(place, track) + meaning_number(which)) as i64
     }
 
     /// The id behind which stands what the variable of a slot and a track means.
@@ -429,7 +429,7 @@ impl<'a> Ground<'a> {
 }
 
 /// The place of a clause among the four that say what a variable means.
-fn number_of(which: Meaning) -> u64
+fn meaning_number(which: Meaning) -> u64
     ensures value { result ≡ meaning_number which }
     ensures few { result ≤ 4 }
 {

@@ -1,28 +1,29 @@
 -- Where a log of full LRAT is accepted, no list of truth values satisfies the formula; and a log
 -- that needs no resolution is accepted as before.
 use Rattle.std.specs.Prelude.{if◌then◌else◌}
-use Rattle.std.proofs.Common.{◌≡◌, ◌⊎◌, ℕ, zero, suc, ◌≤◌, ℤ, pos, negsuc, neg_ℤ, nat_abs, Bool, true, false, not, cond, ◌&&◌, ◌||◌, ◌==◌, List, [], ◌∷◌, ◌++◌, Option, None, Some, All, refl, sym, ap, ◌∙◌, subst, slice_index_or, arith, inl, inr}
+use Rattle.std.proofs.Common.{◌≡◌, ◌⊎◌, ℕ, zero, suc, ◌≤◌, ℤ, pos, negsuc, neg_ℤ, nat_abs, Bool, true, false, not, cond, ◌&&◌, ◌||◌, ◌==◌, List, [], ◌∷◌, ◌++◌, Option, None, Some, All, refl, sym, ap, subst, slice_index_or, arith, inl, inr}
 use Rattle.std.specs.List.{list_any}
 use Rattle.std.specs.Option.{option_or}
 use Rattle.std.specs.Ordering.{int_eq}
 use Rattle.std.proofs.lemmas.Bool.{both_ways, or_cases, or_parts, or_left, or_right, eqb-true, eq-eqb}
 use Rattle.std.proofs.lemmas.Bool.Decides.{Decides-int_eq}
 use Rattle.std.proofs.lemmas.List.Folds.{list_any_at}
-use Rattle.std.proofs.lemmas.List.Elements.{All-head, All-tail, All-contains}
+use Rattle.std.proofs.lemmas.List.Elements.{All-contains, All-head, All-weaker}
 use Rattle.sat_clause.specs.declared.literal.Lit.{Lit}
 use Rattle.sat_clause.specs.declared.cause.Cause.{Cause}
 use Rattle.sat_clause.specs.declared.cause.Cause.TheVariants.{MissingGroup, WrongGroup, NoConflictInGroup}
 use Rattle.sat_clause.specs.declared.reading.Reading.TheVariants.{Conflict, Unit, Satisfied, Unresolved}
 use Rattle.sat_clause.specs.Formula.{Cnf, IsTrueClause, IsUnsat, makes_number_true, makes_true}
-use Rattle.sat_clause.specs.Judge.{Accepted, Accepts, Refused, after, erase, fault, inputs, is_empty_clause, judge_from, judge_step, take_out}
+use Rattle.sat_clause.specs.Judge.{Accepts, after, fault, inputs, is_empty_clause}
 use Rattle.sat_clause.specs.Literal.{Clause, IsLiteral, is_among, lit, negation}
-use Rattle.sat_clause.specs.Live.{Live, clause_at, named, numbered}
+use Rattle.sat_clause.specs.Live.{Live, clause_at, named}
 use Rattle.sat_clause.specs.Rup.{after_conflict, follow, lead_on, reading_of, rup}
-use Rattle.sat_clause.specs.Step.{Step, Added, Erased}
+use Rattle.sat_clause.specs.Step.{Added, Erased, HasLiterals, HaveLiterals, Step}
+use Rattle.sat_clause.proofs.EachLive.{EachLive, each_erased, each_numbered, each_put, named_is}
+use Rattle.sat_clause.proofs.JudgeLaws.{accepted_by_more, never_accepted}
 use Rattle.sat_clause.proofs.LiteralLaws.{among_cases, among_contains, among_here, among_more, negation-negation}
-use Rattle.sat_clause.proofs.LiveLaws.{clause_at-without}
 use Rattle.sat_clause.proofs.ReadingLaws.{IsFalseOr, conflict_all, unit_is_open}
-use Rattle.sat_rat.specs.FullJudge.{FullAccepts, HasLiterals, HaveLiterals, full_fault, full_judge_from}
+use Rattle.sat_rat.specs.FullJudge.{FullAccepts, full_fault}
 use Rattle.sat_rat.specs.FullRup.{full_rup, group_fault, groups_fault, has_id, is_left_out, is_satisfied, lead, others, resolution_fault, resolvent_fault}
 use Rattle.sat_rat.specs.Groups.{Group, groups_of}
 
@@ -41,10 +42,12 @@ lit_true v l = number_true v l.code
 abbrev clause_true : Values → List Lit → Bool
 clause_true v ls = list_any (lit_true v) ls
 
+abbrev IsTrue : Values → Clause → Type 0
+IsTrue v clause = clause_true v clause ≡ true
+
 -- each live clause has a true literal
 abbrev AllTrue : Values → Live → Type 0
-AllTrue v live =
-    (n : ℕ) (clause : Clause) → clause_at live n ≡ Some clause → clause_true v clause ≡ true
+AllTrue v live = EachLive (IsTrue v) live
 
 -- ---- literals
 
@@ -114,12 +117,6 @@ among_append (x ∷ xs) ys l h =
 
 -- ---- hints
 
-named_true : (v : Values) (live : Live) → AllTrue v live → (h : ℤ) (c : Clause) →
-    named live h ≡ Some c → clause_true v c ≡ true
-named_true v live all (pos zero) c is = cc
-named_true v live all (pos (suc n)) c is = all (suc n) c is
-named_true v live all (negsuc n) c is = cc
-
 module _ (v : Values) (live : Live) (all : AllTrue v live) (Q : Lit → Type 0)
     (are_false : (l : Lit) → Q l → lit_true v l ≡ false)
     (negated : (l : Lit) → lit_true v l ≡ true → Q (negation l)) where
@@ -167,9 +164,9 @@ module _ (v : Values) (live : Live) (all : AllTrue v live) (Q : Lit → Type 0)
             → lead_on r hints (λ l. lead live (negation l ∷ set) hints end) ≡ None
             → (left : List Lit) × Each left × (end left ≡ None)) [
               | Conflict ↦ λ e _. absurd
-                  (no_conflict set c each (named_true v live all (pos n) c is) e)
+                  (no_conflict set c each (named_is (IsTrue v) live (pos n) all c is) e)
               | Unit l ↦ λ e good. lead_sound (negation l ∷ set) hints end (each_more set l each
-                  (unit_true set c l each (named_true v live all (pos n) c is) e)) good
+                  (unit_true set c l each (named_is (IsTrue v) live (pos n) all c is) e)) good
               | Satisfied ↦ λ _ e. cc
               | Unresolved ↦ λ _ e. cc
             ] refl
@@ -436,32 +433,6 @@ added_sound v live all c hints literals good = by (clause_true v c) refl where
   by true is = record { values = v; all = all; added = is }
   by false none = by_resolution v live all c hints literals none good
 
-put_true : (v : Values) (live : Live) (id : ℕ) (c : Clause) → AllTrue v live →
-    clause_true v c ≡ true → AllTrue v ((id, c) ∷ live)
-put_true v live id c all is n clause at =
-    elim (n == id) as
-    (λ b. cond b (Some c) (clause_at live n) ≡ Some clause → clause_true v clause ≡ true) [
-      | true ↦ λ e. let same : c ≡ clause = cc in
-          subst (λ (x : Clause). clause_true v x ≡ true) same is
-      | false ↦ λ e. all n clause e
-    ] at
-
-take_out_true : (v : Values) (live : Live) (id : ℤ) → AllTrue v live → AllTrue v (take_out live id)
-take_out_true v live (pos id) all n clause is = by (id == n) refl where
-  by : (b : Bool) → (id == n) ≡ b → clause_true v clause ≡ true
-  by true e =
-      let bad : Some clause ≡ None =
-      sym is ∙ clause_at-without live id n ∙ ap (λ b. cond b None (clause_at live n)) e in cc
-  by false e =
-      all n clause
-      (sym (clause_at-without live id n ∙ ap (λ b. cond b None (clause_at live n)) e) ∙ is)
-take_out_true v live (negsuc id) all n clause is = all n clause is
-
-erase_true : (v : Values) (live : Live) (ids : List ℤ) → AllTrue v live → AllTrue v (erase live ids)
-erase_true v live [] all = all
-erase_true v live (id ∷ ids) all =
-    erase_true v (take_out live id) ids (take_out_true v live id all)
-
 -- some values make each live clause true
 abbrev AreTrue : Live → Type 0
 AreTrue live = (v : Values) × AllTrue v live
@@ -470,8 +441,9 @@ after_true : (live : Live) (step : Step) → HasLiterals step → AreTrue live �
     full_fault live step ≡ None → AreTrue (after live step)
 after_true live (Added id c hints) literals are good =
     let have = added_sound are.0 live are.1 c hints literals good in
-    (have.values, put_true have.values live id c have.all have.added)
-after_true live (Erased id ids) literals are good = (are.0, erase_true are.0 live ids are.1)
+    (have.values, each_put (IsTrue have.values) live id c have.all have.added)
+after_true live (Erased id ids) literals are good =
+    (are.0, each_erased (IsTrue are.0) live ids are.1)
 
 -- the empty clause is not good where each live clause can be true
 no_empty_clause : (live : Live) (step : Step) → HasLiterals step → AreTrue live →
@@ -480,26 +452,6 @@ no_empty_clause live (Added id [] hints) literals are good is =
     both_ways _ refl (added_sound are.0 live are.1 [] hints literals good).added
 no_empty_clause live (Added id (l ∷ ls) hints) literals are good is = both_ways _ refl is
 no_empty_clause live (Erased id ids) literals are good is = both_ways _ refl is
-
-refused_is_not_accepted : {n : ℕ} {cause : Cause} → Refused n cause ≡ Accepted → ⊥
-refused_is_not_accepted e = let no : ◌≡◌ {A = Bool} true false = cc in both_ways _ refl (sym no)
-
-judge_sound : (n : ℕ) (live : Live) (steps : List Step) → HaveLiterals steps → AreTrue live →
-    full_judge_from n live steps ≡ Accepted → ⊥
-judge_sound n live [] literals are accepted = refused_is_not_accepted accepted
-judge_sound n live (step ∷ steps) literals are accepted =
-    elim (full_fault live step) as
-    (λ o. full_fault live step ≡ o → judge_step n o (is_empty_clause step)
-    (full_judge_from (suc n) (after live step) steps) ≡ Accepted → ⊥) [
-      | Some cause ↦ λ is e. refused_is_not_accepted e
-      | None ↦ λ good. elim (is_empty_clause step) as
-          (λ b. is_empty_clause step ≡ b → judge_step n None b
-          (full_judge_from (suc n) (after live step) steps) ≡ Accepted → ⊥) [
-            | true ↦ λ is e. no_empty_clause live step literals.0 are good is
-            | false ↦ λ is e. judge_sound (suc n) (after live step) steps literals.1
-                (after_true live step literals.0 are good) e
-          ] refl
-    ] refl accepted
 
 -- ---- values for the variables of a formula are values for all
 
@@ -526,26 +478,21 @@ still_true_clause values c here =
     list_any_at (lit_true (extended values)) c here.0 here.1 here.2
     (still_true values _ (subst (λ (x : Lit). makes_true values x ≡ true) (sym here.3) here.4))
 
-numbered_true : (values : List Bool) (first : ℕ) (clauses : List Clause) →
-    All (IsTrueClause values) clauses → AllTrue (extended values) (numbered first clauses)
-numbered_true values first [] each n clause is = cc
-numbered_true values first (c ∷ clauses) each n clause is =
-    elim (n == first) as
-    (λ b. cond b (Some c) (clause_at (numbered (suc first) clauses) n) ≡ Some clause →
-    clause_true (extended values) clause ≡ true) [
-      | true ↦ λ e. let same : c ≡ clause = cc in
-          subst (λ (x : Clause). clause_true (extended values) x ≡ true) same
-          (still_true_clause values c (All-head (IsTrueClause values) c clauses each))
-      | false ↦ λ e. numbered_true values (suc first) clauses
-          (All-tail (IsTrueClause values) c clauses each) n clause e
-    ] is
-
 -- where a log of full LRAT is accepted, the formula is unsatisfiable
 pub full_refutes : (formula : Cnf) (log : List Step) → HaveLiterals log → FullAccepts formula log →
     IsUnsat formula
 full_refutes formula log literals accepted values satisfies =
-    judge_sound 1 (inputs formula) log literals
-    (extended values, numbered_true values 1 formula.clauses satisfies.each_clause) accepted
+    let begun : AreTrue (inputs formula) = (
+      extended values,
+      each_numbered (IsTrue (extended values)) 1 formula.clauses (All-weaker (IsTrueClause values)
+          (IsTrue (extended values)) (still_true_clause values) formula.clauses
+          satisfies.each_clause),
+    ) in
+    never_accepted full_fault (λ live steps. HaveLiterals steps × AreTrue live)
+    (λ live step steps kept good.
+    (kept.0.1, after_true live step kept.0.0 kept.1 good))
+    (λ live step steps kept good. no_empty_clause live step kept.0.0 kept.1 good) 1
+    (inputs formula) log (literals, begun) accepted
 
 -- ---- a log without resolution
 
@@ -573,26 +520,8 @@ fault_more live (Added id c hints) good =
     lead_more live c hints (resolution_fault live c (groups_of hints)) good
 fault_more live (Erased id ids) good = good
 
-judge_more : (n : ℕ) (live : Live) (steps : List Step) → judge_from n live steps ≡ Accepted →
-    full_judge_from n live steps ≡ Accepted
-judge_more n live [] accepted = accepted
-judge_more n live (step ∷ steps) accepted =
-    elim (fault live step) as
-    (λ o. fault live step ≡ o → judge_step n o (is_empty_clause step)
-    (judge_from (suc n) (after live step) steps) ≡ Accepted
-    → judge_step n (full_fault live step) (is_empty_clause step)
-    (full_judge_from (suc n) (after live step) steps) ≡ Accepted) [
-      | Some cause ↦ λ is e. absurd (refused_is_not_accepted e)
-      | None ↦ λ good. rw (fault_more live step good) (
-          elim (is_empty_clause step) as
-          (λ b. judge_step n None b (judge_from (suc n) (after live step) steps) ≡ Accepted
-          → judge_step n None b (full_judge_from (suc n) (after live step) steps) ≡ Accepted) [
-            | true ↦ λ e. e
-            | false ↦ λ e. judge_more (suc n) (after live step) steps e
-          ])
-    ] refl accepted
-
 -- a log that is accepted without resolution is accepted with it
 pub accepts_more : (formula : Cnf) (log : List Step) → Accepts formula log →
     FullAccepts formula log
-accepts_more formula log accepted = judge_more 1 (inputs formula) log accepted
+accepts_more formula log accepted =
+    accepted_by_more fault full_fault fault_more 1 (inputs formula) log accepted

@@ -1,6 +1,5 @@
 pub mod CountLaws
 pub mod FullSound
-pub mod FullStepLaws
 pub mod GroupLaws
 pub mod HeldLaws
 pub mod IdLaws

@@ -5,8 +5,8 @@ ghost use Rattle.sat_clause.specs.Formula.{IsUnsat};
 ghost use Rattle.sat_check.specs.Verdict.{judgement_of};
 ghost use Rattle.sat_rat.specs.FullJudge.{full_judge};
 
-use crate::FullReplay;
-use sat_check::Verdict;
+use crate::FullRule;
+use sat_check::{Verdict, check_by};
 use sat_clause::{Formula, Log};
 use std::alloc::{AllocError, Global};
 
@@ -30,13 +30,5 @@ pub fn check_full(alloc: Global, formula: &Formula, log: &Log) -> Result<Verdict
         (λ verdict. judgement_of verdict ≡ full_judge formula.now.cnf log.now.steps) }
     ensures sound { IfOk result (λ verdict. verdict ≡ Verdict.Accepted → IsUnsat formula.now.cnf) }
 {
-    let Ok(mut replay) = FullReplay::new(alloc, formula) else {
-        return Err(AllocError);
-    };
-    for i in 0..log.len() {
-        let Ok(()) = replay.take(log.step(i)) else {
-            return Err(AllocError);
-        };
-    }
-    Ok(replay.verdict())
+    check_by::<FullRule>(alloc, formula, log)
 }

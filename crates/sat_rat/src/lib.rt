@@ -8,12 +8,12 @@ mod checker;
 mod counted_clauses;
 mod counts;
 mod following;
-mod full_replay;
+mod full_rule;
 mod groups;
 mod ids;
 mod laws;
 mod resolution;
 
 pub use checker::check_full;
-pub use full_replay::FullReplay;
+pub use full_rule::{FullReplay, FullRule};
 pub use laws::{accepted_is_full_accepted, full_accepted_is_unsat};

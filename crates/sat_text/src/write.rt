@@ -41,7 +41,7 @@ pub fn write_short<const N: usize, S: Shelf>(
 }
 
 /// The head line of a formula.
-fn head(formula: &Formula) -> ArrayString<HEAD_ROOM>
+fn head_text(formula: &Formula) -> ArrayString<HEAD_ROOM>
     ensures line { result.bytes ≡ head_text formula.now.cnf }
     ensures few { formula.now.cnf.vars ≤ VARIABLE_LIMIT }
 {
@@ -72,7 +72,7 @@ impl Prints<Formula> for CnfText {
         shelf: &mut S,
         formula: &Formula,
     ) -> Result<(), Failed> {
-        let Ok(()) = write_short(writer, shelf, &head(formula)) else {
+        let Ok(()) = write_short(writer, shelf, &head_text(formula)) else {
             return Err(Failed);
         };
         write_clauses(writer, shelf, formula)

@@ -7,7 +7,7 @@ use Rattle.fpga_arch.proofs.pin_line.read_sides.Goals as goal
 pub loop-word-preserved : goal.loop-word-preserved
 loop-word-preserved c = rw (
   c.in-Some-next_word.ensures.after,
-  c.both-sides.ensures,
+  c.with_sides-sides.ensures,
   c.side_named-side.ensures,
 )
     (record {

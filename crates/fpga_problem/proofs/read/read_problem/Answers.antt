@@ -1,7 +1,7 @@
 use Rattle.fpga_net.proofs.GivenLemmas.{readers-give}
 use Rattle.fpga_problem.proofs.TextLemmas.{all-read, fit-refused, netlist-refused, placement-refused, route-refused}
-use Rattle.fpga_problem.specs.Texts.{Texts}
 use Rattle.fpga_problem.proofs.read.read_problem.Goals as goal
+use Rattle.fpga_types.specs.Texts.{Texts}
 
 pub fit-requires : goal.fit-requires
 fit-requires c =

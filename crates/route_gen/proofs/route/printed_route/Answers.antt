@@ -1,5 +1,5 @@
-use Rattle.std.proofs.Common.{◌≡◌, List, [], ℕ, Some, None, ap, subst, ◌∙◌}
-use Rattle.std.specs.Prelude.{IfOk, codes}
+use Rattle.std.proofs.Common.{◌≡◌, [], Some, None, ap, ◌∙◌}
+use Rattle.std.specs.Prelude.{codes}
 use Rattle.desk_io.specs.Memory.{MemShelfView, new_shelf, shelf_state}
 use Rattle.desk_io.specs.WholeFile.{after_writing}
 use Rattle.fpga_route.specs.Printed.{printed}
@@ -13,7 +13,7 @@ unreachable-requires c =
     = c.new-shelf.ensures ∙ ap new_shelf c.new.ensures.items in
     let there = text_there c.write_file.new.shelf text (c.in-Ok.ensures.ok
     ∙ ap (λ (shelf : MemShelfView). after_writing (shelf_state shelf) (codes "route") text) made) in
-    let clash : None ≡ Some text = c.in_default-file.ensures ∙ there in
+    let clash : None ≡ Some text = c.in_default-into_file.ensures ∙ there in
     cc
 
 pub returns : goal.returns
@@ -23,7 +23,5 @@ returns c =
     = c.new-shelf.ensures ∙ ap new_shelf c.new.ensures.items in
     let there = text_there c.write_file.new.shelf text (c.in-Ok.ensures.ok
     ∙ ap (λ (shelf : MemShelfView). after_writing (shelf_state shelf) (codes "route") text) made) in
-    let both : Some c.in-Some.text.now ≡ Some text = c.in-Some.ensures ∙ there in
-    let same : c.in-Some.text.now ≡ text = cc in
-    subst (λ (bytes : List ℕ). IfOk c.from_slice.result (λ copy. copy.items ≡ bytes)) same
-    c.from_slice.ensures.items
+    let both : Some c.in-Some.text.items ≡ Some text = c.in-Some.ensures ∙ there in
+    cc

@@ -1,4 +1,4 @@
-use Rattle.std.proofs.Common.{◌≡◌, ℕ, true, [], ap, sym, ◌∙◌}
+use Rattle.std.proofs.Common.{◌≡◌, ℕ, ap, sym, ◌∙◌}
 use Rattle.list_laws.proofs.Members.{In-all}
 use Rattle.list_laws.proofs.Places.{get-In}
 use Rattle.fpga_types.specs.Problem.{RoutingProblem}
@@ -6,7 +6,7 @@ use Rattle.fpga_types.specs.Slots.{slots}
 use Rattle.fpga_types.specs.Sound.{IsSoundNet}
 use Rattle.fpga_types.specs.declared.route.RouteNet.{RouteNet}
 use Rattle.route_reach.specs.Modelled.{ModelOf}
-use Rattle.route_reach.specs.Printing.{NetFrame, frame, graph_in}
+use Rattle.route_reach.specs.Printing.{frame, graph_in}
 use Rattle.route_reach.proofs.DecodedNets.{decoded-global, decoded-printed, framed}
 use Rattle.route_reach.proofs.decoding.decoded_net.Goals as goal
 

@@ -1,4 +1,4 @@
-use Rattle.std.proofs.Common.{◌≡◌, ap, length, subst}
+use Rattle.std.proofs.Common.{ap, length, subst}
 use Rattle.fpga_bounds.proofs.PairLemmas.{slots-distinct}
 use Rattle.fpga_types.specs.declared.route.RouteText.{RouteText}
 use Rattle.route_reach.specs.Decoding.{AreDecoded}

@@ -1,6 +1,5 @@
 use Rattle.std.proofs.Common.{◌≡◌, ◌∙◌, ◌+◌, ◌<◌, ◌++◌, ◌∷◌, [], ℕ, List, Some, Bool, add-one, ap, arith, false, get_or, length, refl, subst, sym, take}
 use Rattle.std.specs.Prelude.{filter_map, max, slice_get}
-use Rattle.std.specs.Option.{unwrap_or}
 use Rattle.std.proofs.Math.Seq.{take-length}
 use Rattle.list_laws.proofs.Places.{get-there, take-get}
 use Rattle.fpga_bounds.proofs.LineLemmas.{NO_ELEM}

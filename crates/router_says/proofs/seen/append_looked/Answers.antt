@@ -5,8 +5,8 @@ use Rattle.router_says.proofs.seen.append_looked.Goals as goal
 pub returns : goal.returns
 returns g c = looks _ (g.D.Desk.state c.text_of.new.desk) (g.D.Desk.state c.text_of-2.new.desk)
     (g.D.Desk.state c.text_of-3.new.desk) _ (asked c.args.job) c.args.width c.args.is_open
-    _ _ _ _ _ _ _ _ _ _ _ c.given_name.ensures c.given_name-2.ensures c.given_name-3.ensures
-    c.given_name-4.ensures c.in_ok-architecture.ensures.files c.in_ok-netlist.ensures.files
+    _ _ _ _ _ _ _ _ _ _ _ c.problem_name.ensures c.problem_name-2.ensures c.problem_name-3.ensures
+    c.problem_name-4.ensures c.in_ok-architecture.ensures.files c.in_ok-netlist.ensures.files
     c.in_ok-placement.ensures.files c.in_ok-architecture.ensures.read
     c.in_ok-netlist.ensures.read c.in_ok-placement.ensures.read c.in_ok-route.ensures.read
     c.hints_for-hints.ensures c.in_ok-append_of_files.ensures

@@ -9,6 +9,6 @@ returns-clause-said g c = λ loud.
     said-asked _ _ (words_of c.args.words.now) (asked c.in_ok-job.job) _ c.args.outcome.now _ _
     c.in_ok-job.ensures
     (said-whole _ _ (words_of c.args.words.now) (asked c.in_ok-job.job) c.args.outcome.now
-    c.file_meant.result (string_bytes c.in_ok-meaning.meaning) _ _ _ _ _ _ c.file_meant.ensures
+    c.file_about.result (string_bytes c.in_ok-meaning.meaning) _ _ _ _ _ _ c.file_about.ensures
     c.as_str.ensures.value c.in_ok-meaning.ensures c.in_ok-append_about.ensures
     c.in_ok-push_str.ensures.bytes c.in_ok-append_named.ensures c.in_ok-push_str-2.ensures.bytes)

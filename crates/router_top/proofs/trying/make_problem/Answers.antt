@@ -1,25 +1,25 @@
-use Rattle.std.proofs.Common.{[], subst}
-use Rattle.std.proofs.lemmas.Result.{IfErr-weaker, IfOk-weaker}
-use Rattle.route_gen.specs.Texts.{Texts}
+use Rattle.std.proofs.Common.{◌∙◌, ap, subst, sym}
+use Rattle.fpga_problem.specs.Texts.{faults_of, problem_said}
+use Rattle.fpga_text.specs.FirstFault.{IsRefusal}
+use Rattle.fpga_types.specs.Texts.{Texts}
 use Rattle.router_words.specs.Job.{recipe_said}
-use Rattle.router_top.specs.Generated.{GivesNoneAnywhere, PosesAnywhere, generated_desk, generated_names, texts_of}
-use Rattle.router_top.proofs.GeneratedLaws.{none-made, poses-made, problem-stands}
+use Rattle.router_top.specs.Generated.{IsMade, PosesNone}
+use Rattle.router_top.proofs.GeneratedLaws.{refused-many, said-made}
 use Rattle.router_top.proofs.trying.make_problem.Goals as goal
 
-pub returns-clause-made : goal.returns-clause-made
-returns-clause-made c =
+pub returns-in-Ok-read_problem-clause-made : goal.returns-in-Ok-read_problem-clause-made
+returns-in-Ok-read_problem-clause-made c =
     let recipe = recipe_said c.args.recipe in
-    IfOk-weaker c.pose_texts.result _ _ (λ problem poses.
-    poses-made recipe [] c.args.recipe.in_range c.in-Ok.ensures.room problem
-    (subst (λ (texts : Texts). PosesAnywhere texts problem) c.in-Ok.ensures.texts poses
-    (generated_desk recipe []).files (generated_names []) (problem-stands [] (texts_of recipe))))
-    c.pose_texts.ensures.poses
+    let said = c.in-Ok-read_problem.ensures.1
+    ∙ ap problem_said (c.lent.ensures ∙ c.in-Ok.ensures.texts) in
+    subst (IsMade recipe) (sym said)
+    (said-made recipe c.args.recipe.in_range c.in-Ok.ensures.room)
 
 pub returns-clause-none : goal.returns-clause-none
 returns-clause-none c =
     let recipe = recipe_said c.args.recipe in
-    IfErr-weaker c.pose_texts.result _ _ (λ outcome none.
-    none-made recipe [] c.args.recipe.in_range c.in-Ok.ensures.room outcome
-    (subst (λ (texts : Texts). GivesNoneAnywhere texts outcome) c.in-Ok.ensures.texts none
-    (generated_desk recipe []) (generated_names []) (problem-stands [] (texts_of recipe))))
-    c.pose_texts.ensures.stop
+    let refusal = c.in-Err-read_problem.refusal in
+    subst (PosesNone recipe) (sym c.refused.ensures)
+    (refused-many recipe c.args.recipe.in_range c.in-Ok.ensures.room refusal.file refusal.fault
+    (subst (λ (texts : Texts). IsRefusal (faults_of texts refusal.file) refusal.fault)
+    (c.lent.ensures ∙ c.in-Ok.ensures.texts) c.in-Err-read_problem.ensures.first))

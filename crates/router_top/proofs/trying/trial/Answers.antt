@@ -14,10 +14,10 @@ returns-in_default g c = inl (inl (inr refl), refl)
 
 pub returns-in_default-say : goal.returns-in_default-say
 returns-in_default-say g c =
-    let line = c.as_bytes.ensures.value ∙ c.deref.ensures.0 ∙ c.size_line.ensures.line in
+    let line = c.as_bytes.ensures.value ∙ c.deref.ensures.0 ∙ c.trial_line.ensures.line in
     inr (
       c.in-Ok.problem,
-      record { made = c.in-Ok.ensures.made; few = c.size_line.ensures.few },
+      record { made = c.in-Ok.ensures.made; few = c.trial_line.ensures.few },
       inr (
         subst (λ (said : Bytes). FailsToSay (g.S.Shelf.state c.args.shelf.now) said
             (g.S.Shelf.state c.say.new.self)) line c.in_default-say.ensures.err,
@@ -28,10 +28,10 @@ returns-in_default-say g c =
 pub returns : goal.returns
 returns g c =
     let job = trial_said c.args.job.now in
-    let line = c.as_bytes.ensures.value ∙ c.deref.ensures.0 ∙ c.size_line.ensures.line in
+    let line = c.as_bytes.ensures.value ∙ c.deref.ensures.0 ∙ c.trial_line.ensures.line in
     inr (
       c.in-Ok.problem,
-      record { made = c.in-Ok.ensures.made; few = c.size_line.ensures.few },
+      record { made = c.in-Ok.ensures.made; few = c.trial_line.ensures.few },
       inl (subst (λ (shelf : ShelfState). Sweeps (sweep_of job) c.in-Ok.problem shelf
           (g.S.Shelf.state c.search_widths.new.shelf) c.search_widths.result)
           (c.in-Ok-say.ensures.ok ∙ ap (after_say (g.S.Shelf.state c.args.shelf.now)) line)

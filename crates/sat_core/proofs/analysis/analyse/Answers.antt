@@ -1,8 +1,8 @@
 use Rattle.std.proofs.Common.{◌≡◌, ◌∙◌, ap, inl, length, subst, sym, arith}
 use Rattle.std.proofs.lemmas.List.{length-reverse}
 use Rattle.sat_watch.proofs.FewLemmas.{few_entries}
-use Rattle.sat_core.specs.Analysis.{IsAnalysis, IsFalsePlace, IsKnown, IsLeast}
-use Rattle.sat_core.proofs.UseLaws.{analysis_on, analysis_starts, least_current, least_met, met_from, none_used}
+use Rattle.sat_core.specs.Analysis.{AreOn, IsAnalysis, IsFalsePlace, IsKnown, IsLeast}
+use Rattle.sat_core.proofs.UseLaws.{analysis_on, analysis_starts, walk_starts}
 use Rattle.sat_core.proofs.analysis.analyse.Goals as goal
 use Rattle.sat_core.proofs.analysis.analyse.Goals.{After-meet_clause-least, After-point-point}
 
@@ -32,10 +32,13 @@ module _ (c : After-meet_clause-least) where
       c.meet_clause-least.ensures.meets c.requires.size
 
 -- and what is met behind the way to the point
-at_point : (c : After-point-point) →
-    IsAnalysis c.args.watches.now c.args.lits.now c.meet_clause-least.new.marks →
-    IsAnalysis c.args.watches.now c.args.lits.now c.point-point.new.marks
-at_point c = c.point-point.ensures.kept c.args.lits.now
+module _ (c : After-point-point)
+    (a : IsAnalysis c.args.watches.now c.args.lits.now c.meet_clause-least.new.marks) where
+  at_point : IsAnalysis c.args.watches.now c.args.lits.now c.point-point.new.marks
+  at_point = c.point-point.ensures.goes_on.kept c.args.lits.now a
+
+  on : AreOn (c.args.watches.now).trail c.point-point.new.marks
+  on = analysis_on at_point
 
 pub overflow_cast-top : goal.overflow_cast-top
 overflow_cast-top c =
@@ -44,56 +47,41 @@ overflow_cast-top c =
     let few = few_entries w.vars w.trail told.within told.once in
     omega (arith, few, length-reverse c.trail.result.now, ap length told.value, c.requires.few)
 
-pub point-point-requires-clause-met : goal.point-point-requires-clause-met
-point-point-requires-clause-met c some =
-    let at = (goal.at.point-point-requires-clause-met c).After-meet_clause-least in
+pub point-point-requires-clause-walk : goal.point-point-requires-clause-walk
+point-point-requires-clause-walk c some =
+    let at = (goal.at.point-point-requires-clause-walk c).After-meet_clause-least in
     let p = c.requires.current (known at) some in
-    least_met c.args.watches.now c.args.lits.now c.requires.clean
-    c.meet_clause-least.ensures.meets (least at) p.0 p.1 p.2
+    walk_starts c.args.watches.now c.args.lits.now c.requires.clean
+    c.meet_clause-least.ensures.meets (least at) p.0 p.1 p.2 (known at) c.requires.size
 
-pub point-point-requires-clause-current : goal.point-point-requires-clause-current
-point-point-requires-clause-current c some =
-    let at = (goal.at.point-point-requires-clause-current c).After-meet_clause-least in
-    let p = c.requires.current (known at) some in
-    least_current c.args.watches.now c.args.lits.now c.requires.clean
-    c.meet_clause-least.ensures.meets (least at) p.0 p.1 p.2
+pub invariant_of-analysis : goal.invariant_of-analysis
+invariant_of-analysis c =
+    let at = goal.at.invariant_of-analysis c in
+    let a = begun at.After-meet_clause-least in
+    record {
+      few = c.requires.few;
+      size = (at_point at.After-point-point a).size;
+      on = on at.After-point-point a;
+      current = c.level-level.ensures.value;
+    }
 
-pub point-point-requires-clause-lowest : goal.point-point-requires-clause-lowest
-point-point-requires-clause-lowest c p is current =
-    c.meet_clause-least.ensures.least.lowest p
-    (met_from c.args.watches.now c.args.lits.now c.requires.clean
-    c.meet_clause-least.ensures.meets p is) current
-
-pub point-point-requires-clause-within : goal.point-point-requires-clause-within
-point-point-requires-clause-within c =
-    analysis_on (begun (goal.at.point-point-requires-clause-within c).After-meet_clause-least)
-
-pub point-point-requires-clause-none_used : goal.point-point-requires-clause-none_used
-point-point-requires-clause-none_used c =
-    none_used c.args.watches.now c.args.lits.now c.requires.clean
-    c.meet_clause-least.ensures.meets
-
-pub find_implied-requires-clause-on : goal.find_implied-requires-clause-on
-find_implied-requires-clause-on c =
-    let at = goal.at.find_implied-requires-clause-on c in
-    analysis_on (at_point at.After-point-point (begun at.After-meet_clause-least))
-
-pub bump_conflict-requires-clause-on : goal.bump_conflict-requires-clause-on
-bump_conflict-requires-clause-on c =
-    let at = goal.at.bump_conflict-requires-clause-on c in
-    analysis_on (at_point at.After-point-point (begun at.After-meet_clause-least))
-
-pub use_left_out-requires-clause-within : goal.use_left_out-requires-clause-within
-use_left_out-requires-clause-within c =
-    let at = goal.at.use_left_out-requires-clause-within c in
-    analysis_on (at_point at.After-point-point (begun at.After-meet_clause-least))
+pub use_left_out-requires : goal.use_left_out-requires
+use_left_out-requires c =
+    let at = goal.at.use_left_out-requires c in
+    let a = begun at.After-meet_clause-least in
+    record {
+      known = known at.After-meet_clause-least;
+      size = (at_point at.After-point-point a).size;
+      on = on at.After-point-point a;
+      walking = c.find_implied.ensures.walking;
+    }
 
 pub returns-clause-analysed : goal.returns-clause-analysed
 returns-clause-analysed c =
     let at = goal.at.returns-clause-analysed c in
     record {
       known = known at.After-meet_clause-least;
-      analysis = c.use_left_out.ensures.kept c.args.lits.now
+      analysis = c.use_left_out.ensures.goes_on.kept c.args.lits.now
           (at_point at.After-point-point (begun at.After-meet_clause-least));
       zero = λ p met zero. c.use_left_out.ensures.used p met (inl zero);
       current = λ some. c.use_left_out.ensures.point c.point-point.result some
@@ -106,5 +94,5 @@ returns-clause-walk_size c =
       arith,
       c.clear.ensures.size,
       c.find_implied.ensures.walking.size,
-      c.use_left_out.ensures.size,
+      c.use_left_out.ensures.goes_on.size,
     )

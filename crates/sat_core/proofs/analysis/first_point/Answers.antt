@@ -1,6 +1,7 @@
-use Rattle.std.proofs.Common.{◌∙◌, length, ap, arith}
+use Rattle.std.proofs.Common.{length, ap, arith}
 use Rattle.std.proofs.lemmas.List.{length-reverse}
 use Rattle.sat_watch.proofs.FewLemmas.{few_entries}
+use Rattle.sat_core.proofs.UseLaws.{goes_further}
 use Rattle.sat_core.proofs.analysis.first_point.Goals as goal
 
 pub overflow_cast-place : goal.overflow_cast-place
@@ -14,10 +15,4 @@ pub loop-lowest-preserved : goal.loop-lowest-preserved
 loop-lowest-preserved c =
     let i = c.loop-lowest.invariant in
     let e = c.pass-lowest.ensures in
-    record {
-      kept = λ conflict a. e.kept conflict (i.kept conflict a);
-      size = e.size ∙ i.size;
-      walk = e.walk;
-      below = omega (arith, e.lower, c.loop-lowest-test.true);
-      within = omega (arith, i.within);
-    }
+    record { goes_on = goes_further i.goes_on e.goes_on; walk = e.walk }

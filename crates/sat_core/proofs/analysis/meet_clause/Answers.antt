@@ -1,6 +1,5 @@
-use Rattle.std.proofs.Common.{◌≡◌, ◌+◌, ◌++◌, ◌∷◌, [], ◌∙◌, pos, take, get_or, add-one, ap}
-use Rattle.std.proofs.lemmas.Option.{slice_get-get_or}
-use Rattle.list_laws.proofs.Places.{take-get}
+use Rattle.std.proofs.Common.{◌≡◌, ◌+◌, ◌++◌, ◌∷◌, [], pos, take, get_or}
+use Rattle.std.proofs.lemmas.List.{take_more}
 use Rattle.sat_clause.specs.declared.literal.Lit.{Lit}
 use Rattle.sat_clause.specs.Literal.{Clause, lit}
 use Rattle.sat_core.specs.Analysis.{IsFalsePlace}
@@ -15,8 +14,7 @@ loop-l-preserved c =
     let l : Lit = get_or lits i (lit (pos 0)) in
     let front : Clause = take i lits in
     let longer : take (i + 1) lits ≡ front ++ l ∷ [] =
-    ap (λ n. take n lits) (add-one i)
-    ∙ take-get lits i l (slice_get-get_or lits i (lit (pos 0)) c.loop-l-test.true) in
+    take_more lits i (lit (pos 0)) c.loop-l-test.true in
     let P = IsFalsePlace w.trail front in
     let Q = IsFalsePlace w.trail (l ∷ []) in
     let R = IsFalsePlace w.trail (front ++ l ∷ []) in

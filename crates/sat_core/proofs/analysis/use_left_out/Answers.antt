@@ -1,7 +1,8 @@
-use Rattle.std.proofs.Common.{◌∙◌, inl, inr, subst, sym, add-one, ℕ, arith}
+use Rattle.std.proofs.Common.{inl, inr, subst, sym, add-one, ℕ, arith}
 use Rattle.sat_core.specs.Analysis.{AreUsed}
 use Rattle.sat_core.specs.Implied.{IsLeftOut}
 use Rattle.sat_core.proofs.MarksLaws.{front_all}
+use Rattle.sat_core.proofs.UseLaws.{goes_further}
 use Rattle.sat_core.proofs.analysis.use_left_out.Goals as goal
 
 pub loop-i-preserved : goal.loop-i-preserved
@@ -10,10 +11,8 @@ loop-i-preserved c =
     let e = c.use_at.ensures in
     let w = c.args.watches.now in
     record {
-      kept = λ conflict a. e.kept conflict (i.kept conflict a);
-      size = e.size ∙ i.size;
-      within = e.within;
-      implied = e.implied;
+      walked = e.walked;
+      goes_on = goes_further i.goes_on e.goes_on;
       point = λ point some is. e.point point some (i.point point some is);
       used = subst (λ (n : ℕ). AreUsed (IsLeftOut w.trail c.args.implied.now.marks.used) n
           c.use_at.new.marks) (sym (add-one c.loop-i.i)) (e.used i.used);

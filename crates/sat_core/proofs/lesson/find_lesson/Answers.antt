@@ -1,4 +1,4 @@
-use Rattle.std.proofs.Common.{sym, subst}
+use Rattle.std.proofs.Common.{sym, subst, arith}
 use Rattle.std.proofs.lemmas.Result.{IfOk-weaker}
 use Rattle.sat_core.specs.Analysis.{AreOn, IsAnalysed}
 use Rattle.sat_core.specs.Marks.{MarkState}
@@ -7,17 +7,23 @@ use Rattle.sat_core.proofs.TrailPlaces.{at_within}
 use Rattle.sat_core.proofs.UseLaws.{analysed_sorted, analysis_on}
 use Rattle.sat_core.proofs.lesson.find_lesson.Goals as goal
 
-pub read-lesson-requires-clause-on : goal.read-lesson-requires-clause-on
-read-lesson-requires-clause-on c =
+pub invariant_of-analysis : goal.invariant_of-analysis
+invariant_of-analysis c =
     let w = c.args.watches.now in
-    subst (λ (s : MarkState). AreOn w.trail s) (sym c.sort.ensures.same)
-    (analysis_on c.analyse-point.ensures.analysed.analysis)
+    let met = c.analyse-point.ensures.analysed.analysis in
+    record {
+      few = c.requires.few;
+      size = rw c.sort.ensures.same met.size;
+      on = subst (λ (s : MarkState). AreOn w.trail s) (sym c.sort.ensures.same)
+          (analysis_on met);
+      current = c.level.ensures.value;
+    }
 
 pub read-lesson-requires-clause-point : goal.read-lesson-requires-clause-point
 read-lesson-requires-clause-point c some =
-    let w = c.args.watches.now in
-    let at = (c.analyse-point.ensures.analysed.current some).current in
-    at_within w.trail c.analyse-point.result at.0 at.1
+    let at = (c.analyse-point.ensures.analysed.current
+    (omega (arith, some, c.level.ensures.value))).current in
+    at_within c.args.watches.now.trail c.analyse-point.result at.0 at.1
 
 pub returns-clause-found : goal.returns-clause-found
 returns-clause-found c =

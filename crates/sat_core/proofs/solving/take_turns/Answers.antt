@@ -1,7 +1,6 @@
 use Rattle.std.proofs.Common.{rules, ◌≡◌, ◌∙◌, refl, ap, subst, arith}
 use Rattle.std.specs.Prelude.{IsTrue}
-use Rattle.sat_clause.specs.Learned.{deletions}
-use Rattle.sat_core.specs.SearchLog.{added_count}
+use Rattle.sat_clause.specs.Learned.{added_count, deletions}
 use Rattle.sat_core.specs.Underway.{IsTurn, IsUnderway}
 use Rattle.sat_core.proofs.UnderwayLemmas.{refuted, searched, spent, tracked_next, underway_may, underway_next, underway_start}
 use Rattle.sat_core.proofs.solving.take_turns.Goals as goal

@@ -1,8 +1,7 @@
 use Rattle.std.proofs.Common.{◌≡◌}
 use Rattle.std.specs.Prelude.{IsTrue}
-use Rattle.sat_clause.specs.Learned.{deletions}
+use Rattle.sat_clause.specs.Learned.{added_count, deletions}
 use Rattle.sat_core.specs.Deletions.{AreDeletions}
-use Rattle.sat_core.specs.SearchLog.{added_count}
 use Rattle.sat_core.specs.Underway.{IsUnderway}
 use Rattle.sat_core.proofs.solving.take_turns.Given as goal
 

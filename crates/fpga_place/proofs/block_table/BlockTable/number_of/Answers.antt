@@ -7,5 +7,5 @@ pub returns-then-eq-clause-number : goal.returns-then-eq-clause-number
 returns-then-eq-clause-number c = rw (← c.self.view_is)
     (found-guess c.self.inside.blocks.now c.args.name.now c.args.guess
     (c.self.invariant.own c.if-self.true) c.if-guess-self.true
-    (sym c.name_of.ensures
-    ∙ same_name c.name_of.result.now c.args.name.now (sym c.eq.ensures ∙ c.if-eq.true)))
+    (sym c.name_at.ensures
+    ∙ same_name c.name_at.result.now c.args.name.now (sym c.eq.ensures ∙ c.if-eq.true)))

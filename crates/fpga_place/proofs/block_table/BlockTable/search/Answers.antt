@@ -31,7 +31,7 @@ returns-then-ne-clause-number c =
     c.in-Some.ensures.lookup.3.0)
     (λ d. c.in-Some.ensures.lookup.3.1 d
     ∙ ap (λ (xs : List ℕ). get_or xs c.partition_point-place.result d) c.deref-2.ensures.value)
-    (other_name _ name c.name_of.result.now c.name_of.ensures c.if-ne.ensures))
+    (other_name _ name c.name_at.result.now c.name_at.ensures c.if-ne.ensures))
 
 pub returns-clause-number : goal.returns-clause-number
 returns-clause-number c =
@@ -48,4 +48,4 @@ returns-clause-number c =
     c.in-Some.ensures.lookup.3.0)
     (λ d. c.in-Some.ensures.lookup.3.1 d
     ∙ ap (λ (xs : List ℕ). get_or xs c.partition_point-place.result d) c.deref-2.ensures.value)
-    (one_name _ name c.name_of.result.now c.name_of.ensures c.if-ne.ensures))
+    (one_name _ name c.name_at.result.now c.name_at.ensures c.if-ne.ensures))

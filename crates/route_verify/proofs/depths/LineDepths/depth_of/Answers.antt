@@ -1,5 +1,4 @@
 use Rattle.std.proofs.Common.{◌≡◌, ◌∙◌, ap, sym, true}
-use Rattle.fpga_bounds.specs.declared.keys.ElemKey.{ElemKey}
 use Rattle.fpga_types.specs.Kinds.{is_channel}
 use Rattle.route_verify.specs.LineDepths.{depth_by, first_depth}
 use Rattle.route_verify.proofs.LineDepthLemmas.{depth-is}

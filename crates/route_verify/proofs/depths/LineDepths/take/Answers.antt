@@ -1,5 +1,4 @@
 use Rattle.std.proofs.Common.{arith}
-use Rattle.std.specs.Prelude.{Option, ℕ}
 use Rattle.route_verify.specs.LineDepths.{deep_of}
 use Rattle.route_verify.proofs.LineDepthLemmas.{last-below, taken-more}
 use Rattle.route_verify.proofs.depths.LineDepths.take.Goals as goal

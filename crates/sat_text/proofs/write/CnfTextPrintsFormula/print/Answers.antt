@@ -9,16 +9,16 @@ pub returns-in_default-clause-written : goal.returns-in_default-clause-written
 returns-in_default-clause-written g c =
     fails-longer c.args.writer.now (head_text c.args.formula.now.cnf)
     (flat_map clause_text c.args.formula.now.cnf.clauses)
-    (rw c.head.ensures.line at c.in_default.ensures)
+    (rw c.head_text.ensures.line at c.in_default.ensures)
 
 pub returns-clause-written : goal.returns-clause-written
 returns-clause-written g c =
     passes-then-writes (flat_map clause_text c.args.formula.now.cnf.clauses) _ _ _
-    (rw c.head.ensures.line at c.in-Ok.ensures) c.write_clauses.ensures.written
+    (rw c.head_text.ensures.line at c.in-Ok.ensures) c.write_clauses.ensures.written
 
 pub returns-clause-known : goal.returns-clause-known
 returns-clause-known g c ok few = printed_reads c.args.formula.now.cnf (record {
-  few_vars = c.head.ensures.few;
+  few_vars = c.head_text.ensures.few;
   few_clauses = few;
   within = search rules;
 })

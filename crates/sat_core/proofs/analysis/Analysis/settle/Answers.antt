@@ -1,0 +1,34 @@
+use Rattle.std.proofs.Common.{◌∙◌, sym, subst, arith}
+use Rattle.sat_clause.specs.Literal.{Clause}
+use Rattle.sat_core.specs.Implied.{IsCovered}
+use Rattle.sat_core.proofs.ImpliedLaws.{implied_marked}
+use Rattle.sat_core.proofs.analysis.Analysis.settle.Goals as goal
+
+pub mark-requires : goal.mark-requires
+mark-requires c =
+    omega (
+      arith,
+      c.entry_at-entry.ensures.few,
+      c.requires.on,
+      c.args.self.now.size,
+      c.requires.walking.size,
+    )
+
+pub returns-clause-walking : goal.returns-clause-walking
+returns-clause-walking c =
+    let w = c.args.self.now.watches.now in
+    let s = c.args.self.now.marks.now in
+    let implied = c.args.implied.now.marks.used in
+    let covered = subst (λ (lits : Clause). IsCovered w.trail s implied lits)
+    c.lits.ensures.value (c.are_covered.ensures c.if-not-are_covered.false) in
+    record {
+      implied = rw c.mark.ensures.used (implied_marked w s implied c.args.place
+          c.requires.walking.implied (
+            c.entry_at-entry.result,
+            c.entry_at-entry.ensures.at,
+            λ same. c.if-entry-self.false (same ∙ sym c.args.self.now.current),
+            (c.in-Some.reason, c.in-Some.is, covered),
+          ));
+      on = rw c.mark.ensures.visits c.requires.walking.on;
+      size = c.mark.ensures.size ∙ c.requires.walking.size;
+    }
