@@ -25,11 +25,35 @@ enum Refused {
     Output,
 }
 
-/// A system that moves one byte a call. A signal interrupts each second call.
+/// A system that moves one byte a call. A signal interrupts each second call on a file. Its
+/// standard output goes to a file.
 #[derive(Drop)]
 struct SlowSystem<'a, R> {
     rt: &'a R,
     refused: Refused,
+    output: &'a str,
+}
+
+impl<'a, R> SlowSystem<'a, R> {
+    fn new(rt: &'a R, refused: Refused, output: &'a str) -> SlowSystem<'a, R> {
+        SlowSystem {
+            rt,
+            refused,
+            output,
+        }
+    }
+}
+
+impl<'a, R: Files> SlowSystem<'a, R> {
+    /// Where standard output goes.
+    fn output(&self) -> io::Result<R::File> {
+        if let Refused::Output = self.refused {
+            return Err(ErrorKind::Other.into());
+        }
+        let mut how = OpenOptions::new();
+        self.rt
+            .open_file(how.append(true).create(true), self.output)
+    }
 }
 
 /// A file of it.
@@ -163,7 +187,7 @@ impl<'a, R: Files> Files for SlowSystem<'a, R> {
     }
 }
 
-impl<'a, R: Print> Print for SlowSystem<'a, R> {
+impl<'a, R: Files + Print> Print for SlowSystem<'a, R> {
     fn print<D: Display + Drop>(&self, value: D) -> io::Result<()> {
         self.rt.print(value)
     }
@@ -173,17 +197,11 @@ impl<'a, R: Print> Print for SlowSystem<'a, R> {
     }
 
     fn write_all(&self, bytes: &[u8]) -> io::Result<()> {
-        if let Refused::Output = self.refused {
-            return Err(ErrorKind::Other.into());
-        }
-        self.rt.write_all(bytes)
+        self.output()?.write_all(bytes)
     }
 
     fn write_some(&self, bytes: &[u8]) -> io::Result<usize> {
-        if let Refused::Output = self.refused {
-            return Err(ErrorKind::Other.into());
-        }
-        self.rt.write_some(first_of(bytes))
+        self.output()?.write(first_of(bytes))
     }
 }
 
@@ -192,7 +210,7 @@ const TEXT: &[u8] = b"each of these bytes";
 
 /// Whether the text is written to a file where the slow system refuses this.
 fn is_written_slowly<R: Files + Print>(rt: &R, refused: Refused, name: &str) -> bool {
-    is_written(&SlowSystem { rt, refused }, name, TEXT)
+    is_written(&SlowSystem::new(rt, refused, "unsaid.tmp"), name, TEXT)
 }
 
 /// Whether the text is read of a file where the slow system refuses this, or why it is not read.
@@ -202,14 +220,15 @@ fn has_text_slowly<R: Files>(
     refused: Refused,
     name: &str,
 ) -> Result<bool, ReadStop> {
-    has_text(alloc, &SlowSystem { rt, refused }, name, 100, TEXT)
+    let slow = SlowSystem::new(rt, refused, "unsaid.tmp");
+    has_text(alloc, &slow, name, 100, TEXT)
 }
 
-/// Whether a text can be said where the slow system refuses this.
-fn is_said<R: Files + Print>(rt: &R, refused: Refused) -> bool {
-    let slow = SlowSystem { rt, refused };
+/// Whether the text is said where the slow system refuses this.
+fn is_said<R: Files + Print>(rt: &R, refused: Refused, output: &str) -> bool {
+    let slow = SlowSystem::new(rt, refused, output);
     let mut shelf = FileShelf::new(&slow);
-    shelf.say(b"").is_ok() && shelf.say(b"\n").is_ok()
+    shelf.say(TEXT).is_ok()
 }
 
 #[test]
@@ -241,7 +260,14 @@ fn late_failures_are_faults(rt: HostRuntime) -> Result<(), Fail> {
 }
 
 #[test]
+fn output_takes_all_bytes(rt: HostRuntime) -> Result<(), Fail> {
+    assert!(rt; is_said(&rt, Refused::Nothing, "said.tmp"));
+    assert!(rt; matches!(has_text(rt.alloc(), &rt, "said.tmp", 100, TEXT), Ok(true)));
+    fs::remove_file(&rt, "said.tmp")?;
+    Ok(())
+}
+
+#[test]
 fn refused_output_is_a_fault(rt: HostRuntime) {
-    assert!(rt; is_said(&rt, Refused::Nothing));
-    assert!(rt; !is_said(&rt, Refused::Output));
+    assert!(rt; !is_said(&rt, Refused::Output, "unsaid.tmp"));
 }
