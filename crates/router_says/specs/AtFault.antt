@@ -149,7 +149,8 @@ IsRead before now (Some name) None =
 abbrev pub NamesKeywords : (before now : DeskState) → (names : TextFile → Option Bytes)
     → List ℕ → Type 0
 NamesKeywords before now names named = (text : Option Bytes)
-    × IsRead before now (names (Problem Architecture)) text × (named ≡ option_map_or missing_said text [])
+    × IsRead before now (names (Problem Architecture)) text
+    × (named ≡ option_map_or missing_said text [])
 
 -- the block of a line
 abbrev pub NamesBlock : (before now : DeskState) → (names : TextFile → Option Bytes)

@@ -66,7 +66,8 @@ route_source names = route_file_source (Problem Route) names.route
 -- the values do not fit together, and the outcome says why
 abbrev pub IsUnfit : RoutingProblem → Outcome → Type 0
 IsUnfit p outcome =
-    (fault : TextFault) × IsFirst (problem_faults p) fault × (outcome ≡ fault_outcome (Problem Route) fault)
+    (fault : TextFault) × IsFirst (problem_faults p) fault
+    × (outcome ≡ fault_outcome (Problem Route) fault)
 
 -- the four files give no problem, and the outcome says why: the work stops at a file, those before
 -- it read; or all four read, but do not fit
