@@ -139,6 +139,7 @@ pub(crate) fn take_inputs(alloc: Global, formula: &Formula) -> Result<Inputs, Al
     let mut watches = Watches::new(alloc, arena, formula.vars())?;
     let mut singles = ClauseList::new(alloc, formula.vars())?;
     attach_pairs(&mut watches, formula)?;
+    watches.make_tails(alloc);
     keep_others(alloc, &mut watches, &mut singles, formula)?;
     Ok(Inputs { watches, singles })
 }

@@ -278,6 +278,20 @@ before_goes_on n head before at cursor d e =
     let goes = path_goes_on n head at cursor.kept d cursor.is.front there in
     subst GoesOn (sym goes.1) tt
 
+last_leads : (n : Next) (from at : Option ClauseRef) (x : ClauseRef) (xs : List ClauseRef)
+    (d : ClauseRef) → IsPath n from (x ∷ xs) at → last_or (Some x) xs ≡ Some d → n d ≡ Some at
+last_leads n from at x [] d path last =
+    let is : x ≡ d = cc in ap n (sym is) ∙ (path.1.1 ∙ ap Some path.1.2)
+last_leads n from at x (y ∷ ys) d path last = last_leads n path.1.0 at y ys d path.1.2 last
+
+-- the clause before a place leads to it
+pub before_leads : (n : Next) (head : Option ClauseRef) (kept rest : List ClauseRef)
+    (before at : Option ClauseRef) (d : ClauseRef) → IsCursor n head kept rest before at →
+    before ≡ Some d → n d ≡ Some at
+before_leads n head [] rest before at d h e = let clash : None ≡ Some d = h.last ∙ e in cc
+before_leads n head (x ∷ xs) rest before at d h e =
+    last_leads n head at x xs d h.front (h.last ∙ e)
+
 not_before : (xs : List ClauseRef) (b : Option ClauseRef) (d : ClauseRef) → last_or None xs ≡ b →
     is_in xs d ≡ false → b ≢ Some d
 not_before xs b d last out e = never (is_in xs d) (last_in_all xs d (last ∙ e)) out

@@ -1,18 +1,20 @@
 -- A walk along a chain: where it begins, goes on and ends.
-use Rattle.std.proofs.Common.{◌≡◌, ◌≢◌, ℕ, suc, ◌+◌, ◌^◌, ◌<◌, ◌≤◌, Bool, true, false, inl, inr, List, [], ◌∷◌, ◌++◌, length, Option, None, Some, refl, sym, ap, ◌∙◌, subst, arith}
+use Rattle.std.proofs.Common.{◌≡◌, ◌≢◌, ℕ, suc, ◌+◌, ◌^◌, ◌<◌, ◌≤◌, Bool, true, false, inl, inr, List, [], ◌∷◌, ◌++◌, length, Option, None, Some, All, refl, sym, ap, ◌∙◌, subst, arith, length-append}
 use Rattle.std.proofs.lemmas.List.{append-nil}
 use Rattle.sat_clause.specs.declared.literal.Lit.{Lit}
-use Rattle.sat_clause.specs.Literal.{Clause, IsWithin, is_among}
+use Rattle.sat_clause.specs.Literal.{Clause, IsWithin, is_among, negation}
 use Rattle.sat_arena.specs.declared.clause_ref.ClauseRef.{ClauseRef}
 use Rattle.sat_arena.specs.Store.{Stored, is_held, stored_at}
 use Rattle.sat_watch.specs.declared.entry.TrailEntry.{TrailEntry}
 use Rattle.sat_watch.specs.declared.place.Place.{Place}
 use Rattle.sat_watch.specs.Chains.{ChainsState, GoesOn, HasCursor, IsChained, IsCursor, head_in, holders, is_in, is_watched, next_by, next_on, watch_of, watchers}
-use Rattle.sat_watch.specs.Watched.{Goes, IsVisited, IsWalking, OtherIsTrue, chain_length}
+use Rattle.sat_watch.specs.Tails.{IsTail}
+use Rattle.sat_watch.specs.Watched.{Goes, IsVisited, IsWalking, OtherIsTrue, chain_length, is_false}
 use Rattle.sat_watch.proofs.GoesLemmas.{counted_most, few_passing, few_refs, goes_trans, grows_true, rest_length}
-use Rattle.sat_watch.proofs.PathLemmas.{at_end, at_first, once_before, path_goes_on}
+use Rattle.sat_watch.proofs.PathLemmas.{at_end, at_first, in_both, once_before, path_goes_on}
 use Rattle.sat_arena.proofs.StoreLaws.{not_held}
 use Rattle.sat_watch.proofs.StoredLemmas.{next_is_held}
+use Rattle.sat_watch.proofs.TailLemmas.{pair_true, tail_all, tail_length, tail_rest}
 use Rattle.sat_watch.proofs.VisitLemmas.{goes_same, grows_refl}
 use Rattle.sat_watch.proofs.WatchLemmas.{lit_tells, own_next, pick}
 use Rattle.sat_clause.proofs.LiteralLaws.{among_here, among_more}
@@ -47,6 +49,16 @@ watched_goes (l ∷ m ∷ ls) f x y is = elim (lit_tells l f) [
         let clash : false ≡ true = sym none ∙ is in cc
   ]
 ]
+
+-- a clause that watches a literal is held
+watched_held : (ks : List Stored) (c : ClauseRef) (v : ℕ) (f : Lit) →
+    watch_of (stored_at ks c).lits v ≡ Some f → is_held ks c ≡ true
+watched_held ks c v f at = by_test (is_held ks c) refl where
+  by_test : (b : Bool) → is_held ks c ≡ b → is_held ks c ≡ true
+  by_test true e = e
+  by_test false e =
+      let clash : None ≡ Some f =
+      sym (ap (λ (k : Stored). watch_of k.lits v) (not_held ks c e)) ∙ at in cc
 
 pub walk_begins : (entries : List TrailEntry) (level : ℕ) (f : Lit) (s : ChainsState) (looks : ℕ)
     (next : Option ClauseRef) →
@@ -165,6 +177,52 @@ module _ {base : List TrailEntry} {level : ℕ} {f : Lit} {old : List Stored} {s
           last after moved.is in
           rw (was, now_is, long) (omega arith)
 
+  -- from this place on the chain is a tail, whose other literals are made true
+  module _ (os : List Lit) (cs : List ClauseRef) {now : List TrailEntry}
+      (tail : IsTail s.clauses f next os cs None)
+      (goes : Goes entries level f s.clauses s.clauses entries now) where
+    rest_is : w.rest ≡ cs
+    rest_is = tail_rest s.clauses f next os cs w.rest tail w.cursor.back
+
+    rest_long : length w.rest ≡ length os
+    rest_long = ap length rest_is ∙ tail_length s.clauses f next os cs None tail
+
+    -- with the looks at its clauses they are still few
+    pub tail_few : looks + length os ≤ start + holders f old
+    tail_few = let few = w.few in let long = rest_long in omega arith
+
+    -- each clause that watches f was counted, or is in the tail
+    pub tail_counts : IsChained s.vars s.clauses s.heads →
+        start + watchers f s.clauses ≤ looks + length os
+    tail_counts chained =
+        let each = w.each in let long = rest_long in
+        let few = few_passing (λ k. is_watched k.lits f) 0 s.clauses (w.kept ++ w.rest)
+        chained.placed
+        (λ d held watches. let k = stored_at s.clauses d in
+        let on = watched_goes k.lits f k.link0 k.link1 watches in
+        w.cursor.whole d on.0 on.1) in
+        omega (arith, length-append w.kept w.rest)
+
+    -- the other watched literal of each clause that watches f is true
+    pub tail_ends : All (λ o. is_false now (negation o) ≡ true) os →
+        IsChained s.vars s.clauses s.heads → (c : ClauseRef) →
+        OtherIsTrue now (stored_at s.clauses c).lits f
+    tail_ends all chained c = λ v o lt at at_o.
+        let k = stored_at s.clauses c in
+        let held = watched_held s.clauses c v f at in
+        let simple = chained.simple c held in
+        let on = own_next s.vars k.lits v f k.link0 k.link1 simple lt at in
+        elim (in_both c w.kept w.rest
+        (w.cursor.whole c (pick v k.link0 k.link1) on)) [
+          | inl kept ↦
+              grows_true s.clauses level entries now k.lits f goes.grows (w.kept_true c kept) v o lt
+              at at_o
+          | inr rest ↦
+              let pair = tail_all s.clauses f (λ m. is_false now (negation m) ≡ true) next os cs
+              None c tail all (subst (λ l. is_in l c ≡ true) rest_is rest) in
+              pair_true s.vars s.clauses f pair.0 c now simple pair.1 pair.2 v o lt at at_o
+        ]
+
   -- at the end each clause of the chain was kept
   all_kept : next ≡ None → (c : ClauseRef) (a : Option ClauseRef) →
       next_on s.clauses f c ≡ Some a → is_in w.kept c ≡ true
@@ -191,13 +249,6 @@ module _ {base : List TrailEntry} {level : ℕ} {f : Lit} {old : List Stored} {s
       OtherIsTrue entries (stored_at s.clauses c).lits f
   walk_ends is chained c = λ v o lt at at_o.
       let k = stored_at s.clauses c in
-      let held : is_held s.clauses c ≡ true = by_test (is_held s.clauses c) refl v at in
+      let held = watched_held s.clauses c v f at in
       let goes = own_next s.vars k.lits v f k.link0 k.link1 (chained.simple c held) lt at in
       w.kept_true c (all_kept is c (pick v k.link0 k.link1) goes) v o lt at at_o
-    where
-      by_test : (b : Bool) → is_held s.clauses c ≡ b → (v : ℕ) →
-          watch_of (stored_at s.clauses c).lits v ≡ Some f → is_held s.clauses c ≡ true
-      by_test true e v at = e
-      by_test false e v at =
-          let clash : None ≡ Some f =
-          sym (ap (λ (k : Stored). watch_of k.lits v) (not_held s.clauses c e)) ∙ at in cc

@@ -4,6 +4,7 @@ pub mod Forget
 pub mod Levels
 pub mod Link
 pub mod Relinking
+pub mod Tails
 pub mod Trail
 pub mod TrailStore
 pub mod Watched

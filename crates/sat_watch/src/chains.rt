@@ -1,6 +1,6 @@
 //! The clauses, and the chains of those that watch a literal.
 
-ghost use Rattle.std.specs.Prelude.{◌≡◌, ◌≢◌, ◌^◌, ◌<◌, ◌≤◌, ◌∷◌, [], List, length, map, swap, true, All, IfOk, IfSome, OnErr, OnOk, Some};
+ghost use Rattle.std.specs.Prelude.{◌≡◌, ◌≢◌, ◌^◌, ◌<◌, ◌≤◌, ◌∷◌, [], List, length, map, swap, true, All, IfOk, IfSome, Option, None, OnErr, OnOk, Some};
 ghost use Rattle.sat_clause.specs.declared.literal.Lit.{Lit};
 ghost use Rattle.sat_clause.specs.Learned.{IsSimple};
 ghost use Rattle.sat_clause.specs.Literal.{IsWithin};
@@ -10,11 +10,15 @@ ghost use Rattle.sat_arena.specs.Store.{behind_of, first_ref, is_held, link_of, 
 ghost use Rattle.sat_watch.specs.Chains.{AreChained, GoesOn, HasCursor, IsAdded, IsCursor, IsPlaceOf, IsRewatched, MayBePlaceOf, clause_of, head_at, head_in, holders, literals, next_on};
 ghost use Rattle.sat_watch.specs.Choice.{IsAhead, after_first as after_first_of};
 ghost use Rattle.sat_watch.specs.Relinking.{marked, stored_without};
+ghost use Rattle.sat_watch.specs.Tails.{IsTail, refs};
+ghost use Rattle.sat_watch.specs.TrailStore.{place_of};
 ghost use Rattle.sat_watch.specs.Watches.{attached};
 
 use crate::link::Link;
 use crate::links::{index, link_all, link_first, mark_all, push_ordered, put_first, unlink};
 use crate::place::Place;
+use crate::tails::{Tails, literal_at};
+use crate::trail::place;
 use sat_arena::{Arena, ClauseRef, Moves};
 use sat_clause::{LITERAL_LIMIT, Lit, VARIABLE_LIMIT};
 use std::alloc::{AllocError, Global};
@@ -26,10 +30,12 @@ pub(crate) struct Chains {
     vars: u32,
     arena: Arena,
     heads: Vec<Link>,
+    tails: Tails,
 }
 
 impl Model for Chains {
-    ghost use Rattle.sat_watch.specs.Chains.{ChainsState, IsChained};
+    ghost use Rattle.sat_watch.specs.Chains.{ChainsState};
+    ghost use Rattle.sat_watch.specs.Tails.{IsChainStore};
 
     ghost Value = { ChainsState };
 
@@ -40,7 +46,7 @@ impl Model for Chains {
       heads = c.heads.items;
     } };
 
-    ghost invariant = { λ c. IsChained c.vars c.arena.clauses c.heads.items };
+    ghost invariant = { λ c. IsChainStore c.vars c.arena.clauses c.heads.items c.tails };
 }
 
 /// Where what stood at position `j` stands, once the one at position `i` has changed places with
@@ -64,7 +70,13 @@ impl Chains {
         ensures chained { IfOk result AreChained }
     {
         let heads = vec![in alloc; Link::none(); vars as usize * 2]?;
-        Ok(Chains { vars, arena, heads })
+        let tails = Tails::new(alloc);
+        Ok(Chains {
+            vars,
+            arena,
+            heads,
+            tails,
+        })
     }
 
     /// Adds a clause of two or more literals, with the one at position `i` first, and then the one
@@ -233,6 +245,7 @@ impl Chains {
         ensures chained { AreChained self.new }
         ensures err { OnErr result (self.new ≡ self.old) }
     {
+        self.tails.clear();
         mark_all(&mut self.arena, clauses, true);
         let Ok(moves) = self.arena.compact(alloc) else {
             mark_all(&mut self.arena, clauses, false);
@@ -241,6 +254,128 @@ impl Chains {
         self.heads.fill(Link::none());
         link_all(&mut self.arena, &mut self.heads, &moves, self.vars);
         Ok(moves)
+    }
+
+    /// The tail of a literal's chain, where it begins with this clause: the other literals of its
+    /// clauses, and the words at which these stand.
+    pub(crate) fn tail_from(&self, f: Lit, clause: ClauseRef) -> Option<(&[Lit], &[u32])>
+        requires within { IsWithin self.now.vars f }
+        ensures { IfSome result (λ tail.
+            IsTail self.now.clauses f (Some clause) tail.0.now (refs tail.1.now) None) }
+    {
+        self.tails.from(place(self.vars, f), clause)
+    }
+
+    /// Puts the clause at a place in the chain of `l` behind those of a tail, or ends the tail
+    /// before it where it is no pair.
+    fn take_pair(
+        &self,
+        l: Lit,
+        at: Place,
+        others: &mut Vec<Lit>,
+        words: &mut Vec<u32>,
+    ) -> Result<(), AllocError>
+        requires at { IsPlaceOf self.now.clauses l at }
+        ensures { OnOk result ((after : Option ClauseRef) → (from : Option ClauseRef)
+            → link_of (stored_at self.now.clauses at.clause) at.which ≡ after
+            → IsTail self.now.clauses l from others.old.items (refs words.old.items)
+            (Some at.clause)
+            → (from' : Option ClauseRef)
+            × IsTail self.now.clauses l from' others.new.items (refs words.new.items) after) }
+    {
+        let lits = self.arena.lits(at.clause);
+        if lits.len() != 2 || at.clause.word > u64::from(u32::MAX) {
+            others.clear();
+            words.clear();
+            return Ok(());
+        }
+        others.push(lits[1 - at.which as usize])?;
+        words.push(at.clause.word as u32)?;
+        Ok(())
+    }
+
+    /// Finds the tail of a literal's chain.
+    fn find_tail(
+        &self,
+        l: Lit,
+        others: &mut Vec<Lit>,
+        words: &mut Vec<u32>,
+    ) -> Result<(), AllocError>
+        requires chained { AreChained self.now }
+        requires within { IsWithin self.now.vars l }
+        requires others { others.old.items ≡ [] }
+        requires words { words.old.items ≡ [] }
+        ensures { OnOk result ((from : Option ClauseRef)
+            × IsTail self.now.clauses l from others.new.items (refs words.new.items) None) }
+    {
+        let mut next = self.head(l);
+        while let Some(clause) = next {
+            let at = self.place(clause, l);
+            next = self.after(at);
+            self.take_pair(l, at, others, words)?;
+        }
+        Ok(())
+    }
+
+    /// Finds the tail of the chain of the literal at a place, if one is there.
+    fn tail_of_place(
+        &self,
+        place: usize,
+        others: &mut Vec<Lit>,
+        words: &mut Vec<u32>,
+    ) -> Result<(), AllocError>
+        requires others { others.old.items ≡ [] }
+        requires words { words.old.items ≡ [] }
+        ensures many { OnOk result (length words.new.items ≡ length others.new.items) }
+        ensures tail { OnOk result ((l : Lit) → IsWithin self.now.vars l
+            → place_of self.now.vars l ≡ place → (from : Option ClauseRef)
+            × IsTail self.now.clauses l from others.new.items (refs words.new.items) None) }
+    {
+        let Some(l) = literal_at(self.vars, place) else {
+            return Ok(());
+        };
+        self.find_tail(l, others, words)
+    }
+
+    /// Puts the tail of the next literal behind the others. Two vectors are lent, whatever they
+    /// hold.
+    ///
+    /// # Errors
+    /// Where memory is short; then there may be no tails.
+    fn add_tail(&mut self, others: &mut Vec<Lit>, words: &mut Vec<u32>) -> Result<(), AllocError>
+        ensures { self.new ≡ self.old }
+    {
+        let place = self.tails.count();
+        others.clear();
+        words.clear();
+        self.tail_of_place(place, others, words)?;
+        let Ok(()) = self.tails.push(others, words) else {
+            self.tails.clear();
+            return Err(AllocError);
+        };
+        Ok(())
+    }
+
+    /// Makes the tails of all literals, of which there is none before. Where memory is short some
+    /// or all are left out.
+    fn find_tails(&mut self, alloc: Global) -> Result<(), AllocError>
+        ensures { self.new ≡ self.old }
+    {
+        let mut others = Vec::new(alloc);
+        let mut words = Vec::new(alloc);
+        for _ in 0..u64::from(self.vars) * 2 + 2 {
+            self.add_tail(&mut others, &mut words)?;
+        }
+        Ok(())
+    }
+
+    /// Makes the tails of all chains anew. Where memory is short some or all are left out; chains
+    /// are then walked from clause to clause.
+    pub(crate) fn make_tails(&mut self, alloc: Global)
+        ensures { self.new ≡ self.old }
+    {
+        self.tails.clear();
+        let _made = self.find_tails(alloc);
     }
 
     /// Moves the watch of a clause from the literal at a place to the one at position `k`: it

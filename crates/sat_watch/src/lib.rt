@@ -21,6 +21,7 @@ mod link;
 mod links;
 mod place;
 mod sight;
+mod tails;
 mod trail;
 mod visit;
 mod watches;

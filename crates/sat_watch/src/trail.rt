@@ -37,7 +37,7 @@ impl Model for Trail {
 }
 
 /// The place of a literal in the table of truths, whose middle belongs to no literal.
-fn place(vars: u32, l: Lit) -> usize
+pub(crate) fn place(vars: u32, l: Lit) -> usize
     requires few { vars ≤ VARIABLE_LIMIT }
     requires within { IsWithin vars l }
     ensures { result ≡ place_of vars l }

@@ -1,10 +1,11 @@
 //! Visits of the clauses in the chain of a literal that has become false.
 
-ghost use Rattle.std.specs.Prelude.{◌≡◌, ◌+◌, ◌^◌, ◌<◌, ◌≤◌, ◌∷◌, [], IfNone, IfSome, true, None, Some};
-ghost use Rattle.sat_clause.specs.Literal.{IsWithin};
+ghost use Rattle.std.specs.Prelude.{◌≡◌, ◌+◌, ◌^◌, ◌<◌, ◌≤◌, ◌∷◌, [], All, IfNone, IfSome, Option, length, slice_index, true, false, None, Some};
+ghost use Rattle.sat_clause.specs.Literal.{IsWithin, negation};
 ghost use Rattle.sat_arena.specs.declared.clause_ref.ClauseRef.{ClauseRef};
-ghost use Rattle.sat_arena.specs.Store.{is_held, link_of, stored_at};
-ghost use Rattle.sat_watch.specs.Chains.{holders, HasCursor, IsPlaceOf, head_in, next_on, literals, watchers};
+ghost use Rattle.sat_arena.specs.Store.{is_held, link_of, ref, stored_at};
+ghost use Rattle.sat_watch.specs.Chains.{holders, HasCursor, IsPlaceOf, head_in, lit_at, next_on, literals, watchers};
+ghost use Rattle.sat_watch.specs.Tails.{IsPairOf, IsTail, refs};
 ghost use Rattle.sat_watch.specs.Watched.{AreWhole, GoesTo, HasCounted, IsVisited, OtherIsTrue, is_false, AreFalse};
 
 use crate::chains::Chains;
@@ -67,6 +68,91 @@ fn visit_clause(
     }
 }
 
+/// The clause at a position of a tail.
+fn clause_in(words: &[u32], i: usize) -> ClauseRef
+    requires { i < length words.now }
+    ensures { result ≡ ref (slice_index words.now i) }
+{
+    ClauseRef {
+        word: u64::from(words[i]),
+    }
+}
+
+/// Visits the pair at a position of the tail of the chain of `f`, which is false: its other literal
+/// is true then, or the clause is false. Whether it is true.
+fn visit_pair(
+    chains: &Chains,
+    trail: &mut Trail,
+    f: Lit,
+    level: u32,
+    others: &[Lit],
+    words: &[u32],
+    i: usize,
+) -> bool
+    requires whole { AreWhole chains.now trail.old }
+    requires is_false { is_false trail.old.entries f ≡ true }
+    requires pair { IsPairOf chains.now.clauses f (lit_at others.now i)
+        (ref (slice_index words.now i)) }
+    requires literal { i < length others.now }
+    requires clause { i < length words.now }
+    ensures whole { AreWhole chains.now trail.new }
+    ensures goes { GoesTo level f chains.now trail.old chains.now trail.new }
+    ensures is_true { result ≡ true
+        → is_false trail.new.entries (negation (lit_at others.now i)) ≡ true }
+    ensures stopped { result ≡ false → AreFalse trail.new.entries
+        (literals chains.now.clauses (ref (slice_index words.now i))) }
+{
+    let other = others[i];
+    if trail.is_true(other) {
+        return true;
+    }
+    if trail.is_false(other) {
+        return false;
+    }
+    trail.push(TrailEntry {
+        lit: other,
+        level,
+        reason: Some(clause_in(words, i)),
+    });
+    true
+}
+
+/// Goes over the tail of the chain of `f`, which is false: clauses of two literals, whose other ones
+/// are true then or are made true. Gives a clause that is false, or none.
+fn walk_tail(
+    chains: &Chains,
+    trail: &mut Trail,
+    f: Lit,
+    level: u32,
+    others: &[Lit],
+    words: &[u32],
+    looks: &mut u64,
+) -> Option<ClauseRef>
+    requires whole { AreWhole chains.now trail.old }
+    requires is_false { is_false trail.old.entries f ≡ true }
+    requires tail { (from : Option ClauseRef)
+        × IsTail chains.now.clauses f from others.now (refs words.now) None }
+    ensures whole { AreWhole chains.now trail.new }
+    ensures goes { GoesTo level f chains.now trail.old chains.now trail.new }
+    ensures none { IfNone result
+        (All (λ o. is_false trail.new.entries (negation o) ≡ true) others.now) }
+    ensures held { IfSome result (λ c. is_held chains.now.clauses c ≡ true) }
+    ensures stopped { IfSome result
+        (λ c. AreFalse trail.new.entries (literals chains.now.clauses c)) }
+    ensures looks { looks.new ≤ looks.old + length others.now }
+    ensures counted { looks.old ≤ looks.new }
+    ensures each { IfNone result (HasCounted looks.old (length others.now) looks.new) }
+{
+    for i in 0..others.len() {
+        if !visit_pair(chains, trail, f, level, others, words, i) {
+            *looks = looks.saturating_add(i as u64 + 1);
+            return Some(clause_in(words, i));
+        }
+    }
+    *looks = looks.saturating_add(others.len() as u64);
+    None
+}
+
 /// Walks along the chain of `f`, which is false. Gives a clause that is false, or none; then the
 /// other watched literal of each clause that still watches `f` is true, and each of these was
 /// looked at.
@@ -97,6 +183,10 @@ pub(crate) fn walk(
     let mut before = Link::none();
     let mut next = chains.head(f);
     while let Some(clause) = next {
+        if let Some((others, words)) = chains.tail_from(f, clause) {
+            *looks = looks.saturating_add(walked);
+            return walk_tail(chains, trail, f, level, others, words, looks);
+        }
         let at = chains.place(clause, f);
         let after = chains.after(at);
         walked += 1;

@@ -330,8 +330,19 @@ impl Watches {
         ensures err { OnErr result (self.new ≡ self.old) }
     {
         let moves = self.chains.remove(alloc, clauses)?;
+        self.chains.make_tails(alloc);
         self.trail.move_reasons(&moves);
         Ok(())
+    }
+
+    /// Puts what the chains come to at their ends, clauses of two literals, side by side, so that
+    /// propagation goes over them faster. It pays where many such clauses are attached and none of
+    /// more literals is yet. It costs time and memory linear in these clauses and the variables;
+    /// where memory is short nothing is gained, and nothing lost.
+    pub fn make_tails(&mut self, alloc: Global)
+        ensures { self.new ≡ self.old }
+    {
+        self.chains.make_tails(alloc);
     }
 
     /// Takes the oldest literal from the queue and walks along the chain of its negation. Gives a

@@ -1,8 +1,10 @@
-use Rattle.std.proofs.Common.{refl, sym, subst, ◌∙◌, arith}
+use Rattle.std.proofs.Common.{IfNone, Option, None, Some, refl, sym, subst, ◌∙◌, arith}
+use Rattle.sat_watch.specs.Tails.{IsTail, refs}
 use Rattle.sat_watch.specs.Watched.{IsWalking}
 use Rattle.sat_watch.proofs.GoesLemmas.{goes_trans}
-use Rattle.sat_watch.proofs.WalkLemmas.{counts_here, few_here, goes_here, walk_begins, walk_counts, walk_ends, walk_shorter, walks_on}
+use Rattle.sat_watch.proofs.WalkLemmas.{counts_here, few_here, goes_here, tail_counts, tail_ends, tail_few, walk_begins, walk_counts, walk_ends, walk_shorter, walks_on}
 use Rattle.sat_watch.proofs.visit.walk.Goals as goal
+use Rattle.sat_watch.proofs.visit.walk.Goals.{In-Some-tail_from}
 
 pub loop-next-init : goal.loop-next-init
 loop-next-init c = record {
@@ -50,7 +52,7 @@ loop-next-preserved c =
 pub returns-in_default-visit_clause-clause-looks : goal.returns-in_default-visit_clause-clause-looks
 returns-in_default-visit_clause-clause-looks c =
     let l = c.loop-next in let few = few_here l.invariant.walking c.in-Some.is in
-    omega (arith, c.saturating_add.ensures, l.invariant.looks, few)
+    omega (arith, c.saturating_add-in_default-visit_clause.ensures, l.invariant.looks, few)
 
 pub returns-clause-looks : goal.returns-clause-looks
 returns-clause-looks c =
@@ -66,3 +68,48 @@ returns-clause-each c =
 pub returns-clause-none : goal.returns-clause-none
 returns-clause-none c =
     walk_ends c.loop-next.invariant.walking c.in_default.is c.loop-next.invariant.whole.chained
+
+-- what the tail of the chain is, where the walk comes to it
+tail : (c : In-Some-tail_from) →
+    IsTail c.loop-next.chains.clauses c.args.f c.loop-next.next c.in-Some-tail_from.others.now
+    (refs c.in-Some-tail_from.words.now) None
+tail c =
+    subst (λ n. IsTail c.loop-next.chains.clauses c.args.f n c.in-Some-tail_from.others.now
+    (refs c.in-Some-tail_from.words.now) None) (sym c.in-Some.is) c.in-Some-tail_from.ensures
+
+pub returns-in-Some-tail_from-clause-goes : goal.returns-in-Some-tail_from-clause-goes
+returns-in-Some-tail_from-clause-goes c =
+    goes_trans c.loop-next.invariant.walking.goes c.walk_tail.ensures.goes
+
+pub returns-in-Some-tail_from-clause-looks : goal.returns-in-Some-tail_from-clause-looks
+returns-in-Some-tail_from-clause-looks c =
+    let at = (goal.at.returns-in-Some-tail_from-clause-looks c).In-Some-tail_from in
+    let l = c.loop-next in
+    let few = tail_few l.invariant.walking c.in-Some-tail_from.others.now
+    (refs c.in-Some-tail_from.words.now) (tail at) c.walk_tail.ensures.goes in
+    omega (arith, c.saturating_add.ensures, l.invariant.looks, c.walk_tail.ensures.looks)
+
+-- what follows from a fact follows where there is none too
+none_more : {X A B : Type 0} (o : Option X) → (A → B) → IfNone o A → IfNone o B
+none_more None more a = more a
+none_more (Some x) more a = tt
+
+pub returns-in-Some-tail_from-clause-none : goal.returns-in-Some-tail_from-clause-none
+returns-in-Some-tail_from-clause-none c =
+    let at = (goal.at.returns-in-Some-tail_from-clause-none c).In-Some-tail_from in
+    let l = c.loop-next in
+    none_more c.walk_tail.result
+    (λ all. tail_ends l.invariant.walking c.in-Some-tail_from.others.now
+    (refs c.in-Some-tail_from.words.now) (tail at) c.walk_tail.ensures.goes all
+    l.invariant.whole.chained)
+    c.walk_tail.ensures.none
+
+pub returns-in-Some-tail_from-clause-each : goal.returns-in-Some-tail_from-clause-each
+returns-in-Some-tail_from-clause-each c =
+    let at = (goal.at.returns-in-Some-tail_from-clause-each c).In-Some-tail_from in
+    let l = c.loop-next in
+    let counts = tail_counts l.invariant.walking c.in-Some-tail_from.others.now
+    (refs c.in-Some-tail_from.words.now) (tail at) c.walk_tail.ensures.goes
+    l.invariant.whole.chained in
+    none_more c.walk_tail.result
+    (λ each. omega (arith, c.saturating_add.ensures, l.invariant.looks)) c.walk_tail.ensures.each

@@ -3,6 +3,7 @@ use Rattle.sat_clause.specs.Learned.{IsSimple}
 use Rattle.sat_arena.specs.Store.{new_clause, ref, size_all}
 use Rattle.sat_watch.specs.Chains.{ChainsState, IsLast, with_order}
 use Rattle.sat_watch.proofs.AttachLemmas.{IsPutLast, ordered_added, ordered_chained, ordered_head, ordered_held, ordered_two}
+use Rattle.sat_watch.proofs.TailLemmas.{tails_added}
 use Rattle.sat_watch.proofs.chains.Chains.add.Goals as goal
 use Rattle.sat_watch.proofs.chains.Chains.add.Goals.{After-push_ordered-c}
 
@@ -10,7 +11,7 @@ put : (c : After-push_ordered-c) →
     IsPutLast c.self.inside.vars c.self.inside.arena.clauses c.push_ordered-c.new.arena.clauses
     c.self.inside.heads.items c.args.lits.now c.args.id c.args.i c.args.j c.push_ordered-c.result
 put c = record {
-  chained = c.self.invariant;
+  chained = c.self.invariant.chained;
   simple = subst (λ (s : ChainsState). IsSimple s.vars c.args.lits.now) (sym c.self.view_is)
       c.requires.simple;
   i_in = c.requires.i;
@@ -34,12 +35,22 @@ link_first-requires c =
 
 pub invariant_of-self-2 : goal.invariant_of-self-2
 invariant_of-self-2 c =
-    ordered_chained (put (goal.at.invariant_of-self-2 c).After-push_ordered-c)
-    c.link_first.new.arena.clauses c.link_first.new.heads.items c.link_first.ensures.clauses
-    c.link_first.ensures.heads
+    let put = put (goal.at.invariant_of-self-2 c).After-push_ordered-c in
+    let i = c.self.inside in
+    let added = ordered_added put c.link_first.new.arena.clauses c.link_first.new.heads.items
+    c.link_first.ensures.clauses c.link_first.ensures.heads i.arena.spare
+    c.link_first.new.arena.spare in
+    record {
+      chained =
+          ordered_chained put c.link_first.new.arena.clauses c.link_first.new.heads.items
+          c.link_first.ensures.clauses c.link_first.ensures.heads;
+      tails =
+          tails_added i.vars i.arena.clauses c.link_first.new.arena.clauses added.clause
+          c.push_ordered-c.result i.tails added.last c.self.invariant.tails;
+    }
 
 pub returns-clause-chained : goal.returns-clause-chained
-returns-clause-chained c = invariant_of-self-2 c
+returns-clause-chained c = (invariant_of-self-2 c).chained
 
 pub returns-clause-ok : goal.returns-clause-ok
 returns-clause-ok c =

@@ -6,6 +6,7 @@ use Rattle.sat_watch.specs.Chains.{IsChained}
 use Rattle.sat_watch.specs.Relinking.{AreRefsOf, AreUnlinked, marked}
 use Rattle.sat_watch.proofs.ForgetLemmas.{refs_without, unlinked_without, unmarked_again}
 use Rattle.sat_watch.proofs.RelinkLemmas.{marked_held}
+use Rattle.sat_watch.proofs.TailLemmas.{no_tails}
 use Rattle.sat_watch.proofs.chains.Chains.remove.Goals as goal
 use Rattle.sat_watch.proofs.chains.Chains.remove.Goals.{After-mark_all-in_default}
 
@@ -27,16 +28,21 @@ same c =
     c.mark_all-in_default.ensures.clauses ∙
     (ap (λ (s : Store). marked false refs s.clauses) c.in_default.ensures.err ∙
     (ap (marked false refs) c.mark_all.ensures.clauses ∙ unmarked_again refs
-    c.self.inside.arena.clauses c.self.invariant.unmarked))
+    c.self.inside.arena.clauses c.self.invariant.chained.unmarked))
 
 pub invariant_of-self : goal.invariant_of-self
 invariant_of-self c =
     let i = c.self.inside in
-    subst (λ l. IsChained i.vars l i.heads.items)
-    (sym (same (goal.at.invariant_of-self c).After-mark_all-in_default)) c.self.invariant
+    record {
+      chained =
+          subst (λ l. IsChained i.vars l i.heads.items)
+          (sym (same (goal.at.invariant_of-self c).After-mark_all-in_default))
+          c.self.invariant.chained;
+      tails = rw c.clear.ensures (no_tails i.vars c.mark_all-in_default.new.arena.clauses);
+    }
 
 pub returns-in_default-clause-chained : goal.returns-in_default-clause-chained
-returns-in_default-clause-chained c = invariant_of-self c
+returns-in_default-clause-chained c = (invariant_of-self c).chained
 
 pub returns-in_default-clause-err : goal.returns-in_default-clause-err
 returns-in_default-clause-err c =
@@ -51,7 +57,7 @@ returns-in_default-clause-err c =
 pub link_all-requires : goal.link_all-requires
 link_all-requires c =
     let i = c.self.inside in let ks = i.arena.clauses in let refs = c.args.clauses.now in
-    let h = c.self.invariant in
+    let h = c.self.invariant.chained in
     let is : c.compact.new.self.clauses ≡ compacted (marked true refs ks) =
     c.in-Ok.ensures.clauses ∙ ap compacted c.mark_all.ensures.clauses in
     let moves : c.in-Ok.moves ≡ moves_of (marked true refs ks) =

@@ -3,6 +3,8 @@ use Rattle.sat_arena.specs.declared.clause_ref.ClauseRef.{ClauseRef}
 use Rattle.sat_arena.specs.Store.{Stored}
 use Rattle.sat_watch.specs.Chains.{holders, ChainsState, IsCursor, IsChained, IsRewatched, clause_of, head_at, head_in, next_on}
 use Rattle.sat_watch.proofs.ChainLemmas.{CanRewatch, after_held, can_rewatch, clauses_after, code_clauses, code_heads, heads_after, now_chained, now_cursor, now_holders, rewatched, still_head, still_held, still_high}
+use Rattle.sat_watch.specs.Tails.{HasTails}
+use Rattle.sat_watch.proofs.TailLemmas.{tails_rewatched}
 use Rattle.sat_watch.proofs.chains.Chains.rewatch.Goals as goal
 use Rattle.sat_watch.proofs.chains.Chains.rewatch.Goals.{After-self, After-put_first}
 
@@ -13,7 +15,7 @@ can : (c : After-self) →
 can c =
     let i = c.self.inside in let a = c.args in
     can_rewatch
-    _ a.self.now a.f a.before a.at a.k a.after c.self.view_is c.self.invariant
+    _ a.self.now a.f a.before a.at a.k a.after c.self.view_is c.self.invariant.chained
     c.requires.within c.requires.at c.requires.before c.requires.low c.requires.high
     c.requires.cursor c.requires.after
 
@@ -56,12 +58,17 @@ put_first-requires c =
     }
 
 pub invariant_of-self : goal.invariant_of-self
-invariant_of-self c =
-    subst (λ (p : List Stored × List (Option ClauseRef)). IsChained c.self.inside.vars p.0 p.1)
-    (λ j. (sym (clauses_are c) j, sym (heads_are c) j)) (now_chained (moves c))
+invariant_of-self c = record {
+  chained =
+      subst (λ (p : List Stored × List (Option ClauseRef)). IsChained c.self.inside.vars p.0 p.1)
+      (λ j. (sym (clauses_are c) j, sym (heads_are c) j)) (now_chained (moves c));
+  tails =
+      subst (λ ks. HasTails c.self.inside.vars ks c.self.inside.tails) (sym (clauses_are c))
+      (tails_rewatched (moves c) c.self.inside.tails c.self.invariant.tails);
+}
 
 pub returns-clause-chained : goal.returns-clause-chained
-returns-clause-chained c = invariant_of-self c
+returns-clause-chained c = (invariant_of-self c).chained
 
 pub returns-clause-clauses : goal.returns-clause-clauses
 returns-clause-clauses c =

@@ -2,8 +2,9 @@ use Rattle.std.proofs.Common.{◌≡◌, ℕ, List, map, Option, None, sym, ap, 
 use Rattle.sat_arena.specs.declared.clause_ref.ClauseRef.{ClauseRef}
 use Rattle.sat_arena.specs.declared.moves.Move.{Move}
 use Rattle.sat_arena.specs.Compact.{moved_by}
+use Rattle.sat_watch.specs.Chains.{ChainsState}
 use Rattle.sat_watch.specs.Forget.{OthersMove, OthersStay, forgotten}
-use Rattle.sat_watch.specs.Watches.{IsWatches, WatchState, attached}
+use Rattle.sat_watch.specs.Watches.{IsWatches, WatchState, attached, watch_state}
 use Rattle.sat_watch.proofs.ForgetLemmas.{others_move, others_stay, state_forgotten, watches_forgotten}
 use Rattle.sat_watch.proofs.WatchesLemmas.{attached_held}
 use Rattle.sat_watch.proofs.watches.Watches.forget.Goals as goal
@@ -27,9 +28,9 @@ invariant_of-self-2 c =
     subst (λ (p : ℕ × ℕ × Option ClauseRef). IsWatches i.chains i.trail p.0 p.1 p.2)
     (λ x. (queued x, level x, none x)) c.self.invariant in
     let free = rw (← c.self.view_is) at c.requires.no_reason in
-    subst (λ (p : ℕ × ℕ × Option ClauseRef).
-    IsWatches c.remove.new.self c.move_reasons.new.self p.0 p.1 p.2)
-    (λ x. (sym queued x, sym level x, sym none x))
+    subst (λ (p : ChainsState × ℕ × ℕ × Option ClauseRef).
+    IsWatches p.0 c.move_reasons.new.self p.1 p.2 p.3)
+    (λ x. (sym c.make_tails.ensures x, sym queued x, sym level x, sym none x))
     (watches_forgotten i.chains c.remove.new.self i.trail c.move_reasons.new.self refs to
     (λ r. ap (λ (ms : List Move). moved_by ms r) c.in_ok-moves.ensures.moves)
     c.self.invariant.whole.chained c.in_ok-moves.ensures.vars c.in_ok-moves.ensures.clauses
@@ -40,23 +41,25 @@ pub returns-clause-ok : goal.returns-clause-ok
 returns-clause-ok c =
     let i = c.self.inside in let refs = c.args.clauses.now in
     let to = moved_by c.in_ok-moves.moves in
-    state_forgotten i.chains c.remove.new.self i.trail c.move_reasons.new.self refs to
+    ap (λ (k : ChainsState). watch_state k c.move_reasons.new.self i.queued i.level i.due)
+    c.make_tails.ensures ∙
+    (state_forgotten i.chains c.remove.new.self i.trail c.move_reasons.new.self refs to
     (λ r. ap (λ (ms : List Move). moved_by ms r) c.in_ok-moves.ensures.moves)
     c.self.invariant.whole.chained c.in_ok-moves.ensures.vars c.in_ok-moves.ensures.clauses
-    c.move_reasons.ensures.entries i.queued i.level i.due ∙ ap (forgotten refs) c.self.view_is
+    c.move_reasons.ensures.entries i.queued i.level i.due ∙ ap (forgotten refs) c.self.view_is)
 
 pub returns-clause-others : goal.returns-clause-others
 returns-clause-others c =
     let i = c.self.inside in let refs = c.args.clauses.now in
     subst (λ (s : WatchState). OthersMove refs s.clauses
-    (map attached c.remove.new.self.clauses)) c.self.view_is
-    (others_move i.chains.vars i.chains.clauses i.chains.heads c.self.invariant.whole.chained refs
-    c.remove.new.self.clauses c.in_ok-moves.ensures.clauses)
+    (map attached c.make_tails.new.self.clauses)) c.self.view_is
+    (rw c.make_tails.ensures (others_move i.chains.vars i.chains.clauses i.chains.heads
+    c.self.invariant.whole.chained refs c.remove.new.self.clauses c.in_ok-moves.ensures.clauses))
 
 pub returns-clause-left : goal.returns-clause-left
 returns-clause-left c =
     let i = c.self.inside in let refs = c.args.clauses.now in
     subst (λ (s : WatchState). OthersStay refs s.clauses
-    (map attached c.remove.new.self.clauses)) c.self.view_is
-    (others_stay i.chains.vars i.chains.clauses i.chains.heads c.self.invariant.whole.chained refs
-    c.remove.new.self.clauses c.in_ok-moves.ensures.clauses)
+    (map attached c.make_tails.new.self.clauses)) c.self.view_is
+    (rw c.make_tails.ensures (others_stay i.chains.vars i.chains.clauses i.chains.heads
+    c.self.invariant.whole.chained refs c.remove.new.self.clauses c.in_ok-moves.ensures.clauses))
