@@ -9,6 +9,10 @@
 //! that one's chain, or else its other watched literal is true, or is made true, or the clause is
 //! false. A way back changes neither chains nor watches.
 //!
+//! What a chain comes to at its end are mostly clauses of two literals, which never leave it: its
+//! *tail*. [`Watches::make_tails`] writes the other literals of all tails side by side, so that a
+//! walk goes over a tail without a look into the clauses. The chain still leads over them.
+//!
 //! A clause of one literal stands in no chain; it may be attached where that literal is true or
 //! becomes true at level 0. Clauses that are no reasons can be forgotten at level 0: the others
 //! close up in the arena, and all chains are made anew.
