@@ -120,6 +120,10 @@ impl Order {
         ensures { self.new ≡ record self.old { held = slice_set self.old.held (v - 1) true } }
     {
         let number = v - 1;
+        // A bit is looked at before what takes more memory.
+        if self.idle.has(number) {
+            return;
+        }
         if self.seats.place(number) < self.count {
             return;
         }
