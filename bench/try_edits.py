@@ -4,7 +4,7 @@
     try_edits.py CRATE..        those of bench/edits/CRATE, one crate after another
     try_edits.py                those of all crates
 
-The gate tries the edits that tell most, at most six a crate; the others stand in bench/edits. They are tried after a
+The gate tries few edits, of promises that no row or run turns; the others stand in bench/edits. They are tried after a
 change of the crate's contracts: over a copy of the repository in a folder of its own, in place of those that the gate
 tries, by `rt must-fail`. The copy has the libraries that `rt check` or `rt lib` left in `out/rlib`, so that no crate
 below is proved again. Ends with 1 where one is let through, or where its text no longer stands in its file.
