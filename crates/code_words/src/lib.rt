@@ -3,8 +3,6 @@
 
 mod causes;
 mod refusals;
-#[cfg(test)]
-mod tests;
 
 pub use causes::{cause, cause_within_reach};
 pub use refusals::refusal;

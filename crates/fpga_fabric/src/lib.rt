@@ -6,8 +6,6 @@ mod connection_box;
 mod meeting;
 mod side;
 mod switch_block;
-#[cfg(test)]
-mod tests;
 
 pub use connection_box::{box_count, fc, opens};
 pub use meeting::meet;

@@ -9,8 +9,6 @@ mod crossing;
 mod graph;
 mod joint;
 mod opened;
-#[cfg(test)]
-mod tests;
 
 pub use beside::cell_beside;
 pub use crossing::Crossing;

@@ -35,6 +35,21 @@ pub hash_lines : seen (text_lines Hash (codes "a # b\n#\n c\\")) ≡ (1, codes "
     ∷ (3, codes "c\\" ∷ []) ∷ []
 hash_lines = refl
 
+pub blanks_round_words : seen (text_lines Plain (codes " \t\r \n\ta\t\tb\r\nc\r\n\r"))
+    ≡ (2, codes "a" ∷ codes "b" ∷ []) ∷ (3, codes "c" ∷ []) ∷ []
+blanks_round_words = refl
+
+pub comment_ends_a_word : seen (text_lines Hash (codes "x#y z\n#\n")) ≡ (1, codes "x" ∷ []) ∷ []
+comment_ends_a_word = refl
+
+pub line_keeps_its_comment : map (λ l. l.raw) (text_lines Hash (codes " Block  a #1 \r\nb"))
+    ≡ codes " Block  a #1 \r" ∷ codes "b" ∷ []
+line_keeps_its_comment = refl
+
+pub empty_lines_count : map line_count ([] ∷ codes "\n\n\n" ∷ codes "a\n\n \nb \n\n" ∷ [])
+    ≡ 0 ∷ 3 ∷ 5 ∷ []
+empty_lines_count = refl
+
 -- the numbers of each line's first and last part, and its words
 abbrev joined_seen : Bytes → List (ℕ × ℕ × Words)
 joined_seen text = map (λ l. (l.number, l.last, l.words)) (text_lines Joined text)
@@ -67,7 +82,7 @@ greatest = refl
 pub too_great : whole_number_of (codes "18446744073709551616") ≡ None
 too_great = refl
 
-pub no_number : whole_number_of (codes "-1") ≡ None
+pub no_number : map whole_number_of (codes "-1" ∷ codes "1a" ∷ []) ≡ None ∷ None ∷ []
 no_number = refl
 
 pub no_digits : whole_number_of [] ≡ None
@@ -80,8 +95,9 @@ signed_least = refl
 pub signed_too_great : signed_number_of (codes "9223372036854775808") ≡ None
 signed_too_great = refl
 
-pub sign_alone : signed_number_of (codes "-") ≡ None
-sign_alone = refl
+pub no_signed_number : map signed_number_of (codes "-" ∷ codes "+1" ∷ codes "1a" ∷ [])
+    ≡ None ∷ None ∷ None ∷ []
+no_signed_number = refl
 
 pub decimal_without_point : millionths_of (codes "1") ≡ Some 1000000
 decimal_without_point = refl
@@ -95,8 +111,12 @@ cut_behind_six = refl
 pub decimal_past_64_bits : millionths_of (codes "18446744073709.551616") ≡ None
 decimal_past_64_bits = refl
 
-pub point_alone : millionths_of (codes ".") ≡ None
-point_alone = refl
+pub decimal_of_64_bits : millionths_of (codes "18446744073709.551615999")
+    ≡ Some 18446744073709551615
+decimal_of_64_bits = refl
+
+pub no_decimal : map millionths_of (codes "." ∷ codes "1.0." ∷ []) ≡ None ∷ None ∷ []
+no_decimal = refl
 
 -- a format of lines that begin with `a`: at most two of them, of which only the last has more words
 abbrev begins : Words → Bool

@@ -29,6 +29,9 @@ round_a_corner = refl
 pub round_the_other_corner : meeting array (cell X 2 1) (cell Y 1 1) ≡ met 1 1 Right Bottom
 round_the_other_corner = refl
 
+pub from_above : meeting array (cell Y 1 1) (cell X 2 0) ≡ met 1 0 Top Right
+from_above = refl
+
 pub at_the_border : meeting array (cell X 1 1) (cell Y 0 1) ≡ met 0 1 Right Bottom
 at_the_border = refl
 

@@ -7,3 +7,5 @@
 mod errors;
 #[cfg(test)]
 mod said;
+#[cfg(test)]
+mod words;
