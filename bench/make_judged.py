@@ -4,9 +4,9 @@
     make_judged.py FOLDER [PROGRAM]
 
 writes into FOLDER/data the architectures and designs, a routing of each by PROGRAM, and the tables `verify.rows` and
-`reach.rows`, with a line for each change; and FOLDER/stdout: how the changed routing of each row is to be judged, of
-`reach.rows` within the reach and then without it. That is worked out by `judge.py`. Changes are drawn from a fixed
-seed.
+`reach.rows`, with a line for each change; and FOLDER/judged: how the changed routing of each row is to be judged, of
+`reach.rows` within the reach and then without it. With these lines the stored output of `problem_rows` ends. They are
+worked out by `judge.py`. Changes are drawn from a fixed seed.
 
 A row is NAME ARCH DESIGN ROUTED WIDTH FROM TO|LINE|LINE ..: in the routing ROUTED of DESIGN the lines FROM to TO,
 counted from 1, are replaced by these. In `reach.rows` the reach stands behind the width.
@@ -22,7 +22,9 @@ from judge import Elem, Problem, Route, cells_at, judged, mapped, sides_of
 
 HERE = os.path.dirname(os.path.abspath(__file__))
 BUILT = os.path.join(HERE, "..", "crates", "router", "out", "router")
-DESIGNS = os.path.join(HERE, "..", "crates", "encode_rows", "data")
+DESIGNS = os.path.join(HERE, "..", "crates", "problem_rows", "data")
+# The architectures and designs that stand there and are not made here.
+GIVEN = ("branch", "global", "half", "junction", "subset", "universal", "wilton")
 SEED = 1
 
 # Each base: its name, its architecture and its design, and the width of its routing.
@@ -531,7 +533,8 @@ def replaced(text, first, last, lines):
 def designs(program, folder):
     """The architectures and designs, as files of the folder."""
     for name in os.listdir(DESIGNS):
-        if name.endswith((".arch", ".net", ".place", ".route")):
+        base, kind = os.path.splitext(name)
+        if base in GIVEN and kind in (".arch", ".net", ".place", ".route"):
             shutil.copy(os.path.join(DESIGNS, name), folder)
     subprocess.run([program, "gen", "1", "2", "1", "chain"], cwd=folder, stdout=subprocess.DEVNULL, check=True)
     with open(os.path.join(folder, "subset.arch")) as whole, open(os.path.join(folder, "part.arch"), "w") as part:
@@ -635,7 +638,7 @@ def main():
         out.writelines(row + "\n" for row, _ in rows)
     with open(os.path.join(folder, "reach.rows"), "w") as out:
         out.writelines(row + "\n" for row, _ in within)
-    with open(os.path.join(sys.argv[1], "stdout"), "w") as out:
+    with open(os.path.join(sys.argv[1], "judged"), "w") as out:
         out.writelines(f"{row.split()[0]}: {answer}\n" for row, answer in rows)
         for row, (inside, outside) in within:
             words = row.split()
