@@ -6,7 +6,7 @@ use std::test::Fail;
 fn codes_have_words(rt: HostRuntime) {
     let far = Some("the cells of this channel and the one before it do not meet");
     assert!(rt; cause(510) == far);
-    assert!(rt; cause(516).is_none());
+    assert!(rt; cause(516).is_none() && cause(550).is_none());
     let had = Some("the net has had this wire before, and no branch begins here");
     assert!(rt; cause_within_reach(805) == had);
     assert!(rt; cause_within_reach(803) == cause(803));
