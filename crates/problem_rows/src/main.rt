@@ -6,6 +6,7 @@ mod counts;
 mod encodings;
 mod fits;
 mod judgements;
+mod say;
 
 use crate::counts::print_counts;
 use crate::encodings::print_encodings;

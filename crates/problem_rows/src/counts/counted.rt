@@ -1,6 +1,7 @@
 //! What is printed of a problem at a width.
 ghost use Rattle.std.specs.Prelude.{◌≤◌};
 
+use crate::say::say;
 use fpga_bounds::PlacedProblem;
 use fpga_types::WIDTH_LIMIT;
 use route_count::counted_out;
@@ -19,15 +20,17 @@ pub(crate) fn print_counted(
     requires { (1 ≤ width) × (width ≤ WIDTH_LIMIT) }
 {
     if Strict.count(problem, width) > CLAUSE_LIMIT {
-        println!(rt; "too many clauses")?;
-        return Ok(());
+        return say(rt, "too many clauses");
     }
     let formula = Strict.build(alloc, problem, width)?;
-    let Some(log) = counted_out(alloc, &formula, problem, width)? else {
+    let log = counted_out(alloc, &formula, problem, width)?;
+    drop(formula);
+    let Some(log) = log else {
         println!(rt; "{width}: not counted out")?;
         return Ok(());
     };
     let steps = log.len();
+    drop(log);
     println!(rt; "{width}: {steps} steps")?;
     Ok(())
 }

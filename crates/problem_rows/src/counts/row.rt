@@ -1,8 +1,11 @@
 //! A row: an architecture, a design and widths.
 use crate::counts::counted::print_counted;
+use crate::say::say;
 use desk_io::Desk;
+use fpga_bounds::PlacedProblem;
 use rows_problem::{RowsError, problem_of_files, width_of};
 use std::alloc::Global;
+use std::str::SplitWhitespace;
 
 /// Prints what a row asks for, width by width, behind the row.
 pub(crate) fn print_row<D: Desk>(
@@ -11,22 +14,29 @@ pub(crate) fn print_row<D: Desk>(
     desk: &mut D,
     row: &str,
 ) -> Result<(), RowsError> {
-    println!(rt; "{row}")?;
+    say(rt, row)?;
     let mut words = row.split_whitespace();
     let (Some(arch), Some(design)) = (words.next(), words.next()) else {
-        println!(rt; "too few words")?;
-        return Ok(());
+        return say(rt, "too few words");
     };
-    let Ok(problem) = problem_of_files(alloc, desk, arch, design)? else {
-        println!(rt; "no problem")?;
-        return Ok(());
-    };
+    match problem_of_files(alloc, desk, arch, design)? {
+        Ok(problem) => print_widths(rt, alloc, &problem, words),
+        Err(_) => say(rt, "no problem"),
+    }
+}
+
+// Prints what comes of the problem at each width.
+fn print_widths(
+    rt: &impl Print,
+    alloc: Global,
+    problem: &PlacedProblem,
+    words: SplitWhitespace<'_>,
+) -> Result<(), RowsError> {
     for word in words {
-        let Some(width) = width_of(word) else {
-            println!(rt; "no width")?;
-            continue;
-        };
-        print_counted(rt, alloc, &problem, width)?;
+        match width_of(word) {
+            Some(width) => print_counted(rt, alloc, problem, width)?,
+            None => say(rt, "no width")?,
+        }
     }
     Ok(())
 }

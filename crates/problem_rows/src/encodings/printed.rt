@@ -3,11 +3,12 @@ ghost use Rattle.std.specs.Prelude.{◌≤◌};
 
 use crate::encodings::clauses::{clause_line, head_line};
 use crate::encodings::decoded::{tracks_line, values_of};
+use crate::say::say;
 use fpga_bounds::PlacedProblem;
-use fpga_types::WIDTH_LIMIT;
+use fpga_types::{RouteText, WIDTH_LIMIT};
 use route_encode::{Encoder, Strict};
 use rows_problem::RowsError;
-use sat_clause::{CLAUSE_LIMIT, holds};
+use sat_clause::{CLAUSE_LIMIT, Formula, Lit, holds};
 use std::alloc::Global;
 
 /// Prints the clauses of the problem, and the tracks of the route that the truth values say, if
@@ -22,26 +23,44 @@ pub(crate) fn print_problem(
     requires { (1 ≤ width) × (width ≤ WIDTH_LIMIT) }
 {
     if Strict.count(problem, width) > CLAUSE_LIMIT {
-        println!(rt; "too many clauses")?;
-        return Ok(());
+        return say(rt, "too many clauses");
     }
     let formula = Strict.build(alloc, problem, width)?;
-    let head = head_line(alloc, &formula)?;
-    println!(rt; "{head}")?;
-    for i in 0..formula.len() {
-        let line = clause_line(alloc, formula.clause(i))?;
-        println!(rt; "{line}")?;
-    }
+    print_clauses(rt, alloc, &formula)?;
     let Some(word) = word else {
         return Ok(());
     };
     let values = values_of(alloc, word)?;
     if values.len() != formula.vars() as usize || !holds(&values, &formula) {
-        println!(rt; "no model")?;
-        return Ok(());
+        return say(rt, "no model");
     }
+    drop(formula);
     let route = Strict.decode(alloc, problem, width, &values)?;
-    let tracks = tracks_line(alloc, &route)?;
+    drop(values);
+    print_tracks(rt, alloc, &route)
+}
+
+// Prints the clauses.
+fn print_clauses(rt: &impl Print, alloc: Global, formula: &Formula) -> Result<(), RowsError> {
+    let head = head_line(alloc, formula)?;
+    println!(rt; "{head}")?;
+    drop(head);
+    for i in 0..formula.len() {
+        print_clause(rt, alloc, formula.clause(i))?;
+    }
+    Ok(())
+}
+
+// Prints a clause.
+fn print_clause(rt: &impl Print, alloc: Global, lits: &[Lit]) -> Result<(), RowsError> {
+    let line = clause_line(alloc, lits)?;
+    println!(rt; "{line}")?;
+    Ok(())
+}
+
+// Prints the tracks of a route.
+fn print_tracks(rt: &impl Print, alloc: Global, route: &RouteText) -> Result<(), RowsError> {
+    let tracks = tracks_line(alloc, route)?;
     println!(rt; "{tracks}")?;
     Ok(())
 }

@@ -1,5 +1,6 @@
 //! A row: an architecture, a design, a width, and truth values, if there are some.
 use crate::encodings::printed::print_problem;
+use crate::say::say;
 use desk_io::Desk;
 use rows_problem::{RowsError, problem_of_files, width_of};
 use std::alloc::Global;
@@ -11,19 +12,17 @@ pub(crate) fn print_row<D: Desk>(
     desk: &mut D,
     row: &str,
 ) -> Result<(), RowsError> {
-    println!(rt; "{row}")?;
+    say(rt, row)?;
     let mut words = row.split_whitespace();
     let (Some(arch), Some(design), Some(width)) = (words.next(), words.next(), words.next()) else {
-        println!(rt; "too few words")?;
-        return Ok(());
+        return say(rt, "too few words");
     };
     let Some(width) = width_of(width) else {
-        println!(rt; "no width")?;
-        return Ok(());
+        return say(rt, "no width");
     };
-    let Ok(problem) = problem_of_files(alloc, desk, arch, design)? else {
-        println!(rt; "no problem")?;
-        return Ok(());
-    };
-    print_problem(rt, alloc, &problem, width, words.next())
+    let word = words.next();
+    match problem_of_files(alloc, desk, arch, design)? {
+        Ok(problem) => print_problem(rt, alloc, &problem, width, word),
+        Err(_) => say(rt, "no problem"),
+    }
 }

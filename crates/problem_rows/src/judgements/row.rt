@@ -1,9 +1,14 @@
 //! A row: a name, an architecture, a design, a routing, a width, a reach in a table of reaches, and
 //! which lines are changed.
+ghost use Rattle.std.specs.Prelude.{◌≤◌};
+
 use crate::judgements::Reaches;
 use crate::judgements::answer::answer;
 use crate::judgements::changed::{Change, changed};
+use crate::say::say;
 use desk_io::Desk;
+use fpga_bounds::PlacedProblem;
+use fpga_types::WIDTH_LIMIT;
 use rows_problem::{RowsError, problem_of_files, text, width_of};
 use std::alloc::Global;
 
@@ -22,12 +27,10 @@ pub(crate) fn print_row<D: Desk>(
     };
     let mut words = head.split_whitespace();
     let (Some(name), Some(arch), Some(design)) = (words.next(), words.next(), words.next()) else {
-        println!(rt; "too few words")?;
-        return Ok(());
+        return say(rt, "too few words");
     };
     let (Some(routed), Some(width)) = (words.next(), words.next()) else {
-        println!(rt; "{name}: too few words")?;
-        return Ok(());
+        return say(rt, "too few words");
     };
     let reach = match reaches {
         Reaches::None => None,
@@ -35,49 +38,94 @@ pub(crate) fn print_row<D: Desk>(
     };
     let (first, last) = (words.next().unwrap_or(""), words.next().unwrap_or(""));
     let change = Change::of(first, last, lines);
-    let routed = text(alloc, desk, format!(in alloc; "{routed}.routed")?.as_str())?;
-    let routed = changed(alloc, routed.as_str(), change)?;
+    let routed = changed_file(alloc, desk, routed, change)?;
+    let asked = Asked {
+        arch,
+        design,
+        width,
+        routed: routed.as_bytes(),
+    };
+    print_judged(rt, alloc, desk, name, asked, reach)
+}
+
+// The routing of this name with its lines changed.
+fn changed_file<D: Desk>(
+    alloc: Global,
+    desk: &mut D,
+    name: &str,
+    change: Change,
+) -> Result<String, RowsError> {
+    let name = format!(in alloc; "{name}.routed")?;
+    let routed = text(alloc, desk, name.as_str())?;
+    Ok(changed(alloc, routed.as_str(), change)?)
+}
+
+// What is judged: the routed text against the problem of the architecture and the design, at the
+// width that the word says.
+#[derive(Clone, Copy)]
+struct Asked<'a> {
+    arch: &'a str,
+    design: &'a str,
+    width: &'a str,
+    routed: &'a [u8],
+}
+
+// Prints how the text is judged within the reach, if one is told, and then without it.
+fn print_judged<D: Desk>(
+    rt: &impl Print,
+    alloc: Global,
+    desk: &mut D,
+    name: &str,
+    asked: Asked<'_>,
+    reach: Option<&str>,
+) -> Result<(), RowsError> {
     if let Some(reach) = reach {
-        let line = judged(
-            alloc,
-            desk,
-            arch,
-            design,
-            width,
-            Some(reach),
-            routed.as_bytes(),
-        )?;
+        let line = judged(alloc, desk, asked, Some(reach))?;
         println!(rt; "{name} within {reach}: {line}")?;
     }
-    let line = judged(alloc, desk, arch, design, width, None, routed.as_bytes())?;
+    let line = judged(alloc, desk, asked, None)?;
     println!(rt; "{name}: {line}")?;
     Ok(())
 }
 
-// How the routed text is judged against the problem of the architecture and the design, at the
-// width that the word says, within the reach that its word says or without one.
+// How the text is judged, within the reach that its word says or without one.
 fn judged<D: Desk>(
     alloc: Global,
     desk: &mut D,
-    arch: &str,
-    design: &str,
-    width: &str,
+    asked: Asked<'_>,
     reach: Option<&str>,
-    routed: &[u8],
 ) -> Result<String, RowsError> {
-    let Some(width) = width_of(width) else {
-        return Ok(String::from_str(alloc, "no width")?);
+    let Some(width) = width_of(asked.width) else {
+        return told(alloc, "no width");
     };
     // A reach, like a width, is from 1 to 64.
     let within = match reach {
         None => None,
         Some(word) => match width_of(word) {
             Some(reach) => Some(reach),
-            None => return Ok(String::from_str(alloc, "no reach")?),
+            None => return told(alloc, "no reach"),
         },
     };
-    let Ok(problem) = problem_of_files(alloc, desk, arch, design)? else {
-        return Ok(String::from_str(alloc, "no problem")?);
-    };
-    Ok(answer(alloc, &problem, width, within, routed)?)
+    match problem_of_files(alloc, desk, asked.arch, asked.design)? {
+        Ok(problem) => answered(alloc, &problem, width, within, asked.routed),
+        Err(_) => told(alloc, "no problem"),
+    }
+}
+
+// How the text is judged against the problem.
+fn answered(
+    alloc: Global,
+    problem: &PlacedProblem,
+    width: u32,
+    within: Option<u32>,
+    routed: &[u8],
+) -> Result<String, RowsError>
+    requires { (1 ≤ width) × (width ≤ WIDTH_LIMIT) }
+{
+    Ok(answer(alloc, problem, width, within, routed)?)
+}
+
+// The same text, owned.
+fn told(alloc: Global, text: &str) -> Result<String, RowsError> {
+    Ok(String::from_str(alloc, text)?)
 }
