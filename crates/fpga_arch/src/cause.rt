@@ -3,7 +3,7 @@
 use fpga_text::Coded;
 
 /// What is wrong with a line of an architecture text.
-#[derive(Clone, Copy, Debug, PartialEq, Eq)]
+#[derive(Clone, Copy)]
 pub enum Cause {
     /// The text ends, and a keyword had no line.
     MissingLine,

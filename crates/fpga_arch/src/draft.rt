@@ -16,7 +16,7 @@ use std::marker::Model;
 
 /// For each keyword whether it had a line, the width of the channels, if one had a line, and what
 /// the lines say.
-#[derive(Debug, Drop)]
+#[derive(Drop)]
 pub struct Draft {
     flags: [bool; 12],
     width: Option<u64>,

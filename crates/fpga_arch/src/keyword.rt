@@ -5,7 +5,7 @@ ghost use Rattle.fpga_arch.specs.Keywords.{keyword_of, place_of};
 use fpga_text::Word;
 
 /// The first word of a line that is used.
-#[derive(Clone, Copy, Debug, PartialEq, Eq)]
+#[derive(Clone, Copy)]
 pub enum Keyword {
     /// How many pads stand at a place of the border.
     IoRat,

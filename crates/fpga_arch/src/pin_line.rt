@@ -19,7 +19,7 @@ use fpga_text::{Coded, Line, TextFault};
 use fpga_types::{CLASS_LIMIT, PIN_LIMIT, PinSpec, SideSet};
 
 /// What stands behind the class of a pin.
-#[derive(Clone, Copy, Debug)]
+#[derive(Clone, Copy)]
 struct PinRest {
     /// Whether the pin takes global nets alone.
     global: bool,

@@ -8,7 +8,7 @@ ghost use Rattle.fpga_arch.specs.SegmentLines.{with_pair as said_with};
 use fpga_text::{Line, Word, millionths, whole_number};
 
 /// What the pairs of a segment line say.
-#[derive(Clone, Copy, Debug)]
+#[derive(Clone, Copy)]
 pub struct SegmentSaid {
     /// Whether a length is said.
     pub has_length: bool,

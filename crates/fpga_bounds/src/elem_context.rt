@@ -11,7 +11,7 @@ use fpga_text::{Coded, TextFault};
 use fpga_types::{Cell, Elem, ElemKind, FitCause, Grid, SLOT_LIMIT};
 
 /// What the codes of an element line look at.
-#[derive(Clone, Copy, Debug)]
+#[derive(Clone, Copy)]
 pub struct ElemContext {
     /// The element.
     pub elem: Elem,

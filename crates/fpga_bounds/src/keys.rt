@@ -7,7 +7,7 @@ use std::alloc::AllocError;
 use std::collections::BTreeSet;
 
 /// What two equal elements, or two elements at one pin, have in common.
-#[derive(Clone, Copy, Debug, PartialEq, Eq, PartialOrd, Ord)]
+#[derive(Clone, Copy, PartialEq, Eq, PartialOrd, Ord)]
 pub struct ElemKey {
     pub kind: ElemKind,
     pub x: u32,

@@ -19,7 +19,7 @@ use std::alloc::{AllocError, Global};
 use std::collections::BTreeSet;
 
 /// An element line, with what was read before it.
-#[derive(Clone, Copy, Debug)]
+#[derive(Clone, Copy)]
 pub struct ElemAt<'a> {
     /// The nets before its net.
     pub earlier: &'a [RouteNet],

@@ -25,7 +25,7 @@ use std::marker::Model;
 
 /// An architecture, a netlist, its placement and a global route of it that fit, with the slots, the
 /// steps and the pin steps of the route. Contracts see the four values.
-#[derive(Debug, Drop)]
+#[derive(Drop)]
 pub struct PlacedProblem {
     arch: Arch,
     netlist: Netlist,

@@ -16,7 +16,7 @@ use fpga_text::{Coded, TextFault};
 use fpga_types::{Arch, Cell, Elem, ElemKind, FitCause, Grid, Label, PinAt, Terminal};
 
 /// What the codes of an element line look at that are not those of the route alone.
-#[derive(Clone, Copy, Debug)]
+#[derive(Clone, Copy)]
 pub struct ProblemContext {
     /// What those of the route alone look at.
     pub route: ElemContext,

@@ -10,7 +10,7 @@ use std::collections::BTreeMap;
 use std::marker::Model;
 
 /// Slots in the order in which they came, each once. Contracts see the list of them.
-#[derive(Debug, Drop)]
+#[derive(Drop)]
 pub(crate) struct SlotTable {
     slots: Vec<Slot>,
     numbers: BTreeMap<Slot, u32>,

@@ -5,7 +5,7 @@ ghost use Rattle.fpga_types.specs.declared.limits.TheConstants.{WIDTH_LIMIT};
 use fpga_types::{Pattern, Side};
 
 /// The two sides of a switch block where two cells meet, in a channel of `width` tracks.
-#[derive(Clone, Copy, Debug, PartialEq, Eq)]
+#[derive(Clone, Copy)]
 pub struct Crossing {
     /// What the switch block joins.
     pub pattern: Pattern,

@@ -21,7 +21,7 @@ use std::marker::Model;
 
 /// The wires of an array at a width from 1 to 64, with the switch blocks and connection boxes of an
 /// architecture, which is lent.
-#[derive(Debug, Drop)]
+#[derive(Drop)]
 pub struct Graph<'a> {
     arch: &'a Arch,
     grid: Grid,

@@ -5,7 +5,7 @@ use std::marker::Model;
 /// A wire that another one is joined to. Contracts see the wire.
 ///
 /// The default, which fills the unused places of a list, is track 0 of a cell that no array has.
-#[derive(Clone, Copy, Debug, PartialEq, Eq)]
+#[derive(Clone, Copy)]
 pub struct Joint {
     pub wire: Wire,
 }

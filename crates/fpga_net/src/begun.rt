@@ -5,7 +5,7 @@ use fpga_text::Line;
 use fpga_types::BlockKind;
 
 /// A block as its line begins it.
-#[derive(Clone, Copy, Debug)]
+#[derive(Clone, Copy)]
 pub struct BegunBlock<'a> {
     pub name: &'a [u8],
     pub kind: BlockKind,

@@ -3,7 +3,7 @@
 use fpga_text::Coded;
 
 /// What is wrong with a line of a netlist text.
-#[derive(Clone, Copy, Debug, PartialEq, Eq)]
+#[derive(Clone, Copy)]
 pub enum Cause {
     /// A line of no form, one that stands where it may not, or a block line without one name.
     LineForm,

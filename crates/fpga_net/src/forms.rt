@@ -7,7 +7,7 @@ use fpga_text::{Line, is_text};
 use fpga_types::BlockKind;
 
 /// The forms of a line.
-#[derive(Clone, Copy, Debug)]
+#[derive(Clone, Copy)]
 pub enum LineForm {
     /// The first line of a block of this kind.
     Begins(BlockKind),

@@ -15,7 +15,7 @@ use std::alloc::{AllocError, Global};
 
 /// A net on a pin of a block: the block and the pin by number, what the pin is, and the net by
 /// name.
-#[derive(Clone, Copy, Debug)]
+#[derive(Clone, Copy)]
 pub struct NetUse<'a> {
     pub at: PinRef,
     pub pin: PinSpec,

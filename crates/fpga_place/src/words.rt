@@ -6,7 +6,7 @@ use fpga_text::{Line, whole_number};
 use fpga_types::Place;
 
 /// A block line whose numbers are some.
-#[derive(Clone, Copy, Debug)]
+#[derive(Clone, Copy)]
 pub struct BlockLine<'a> {
     pub name: &'a [u8],
     pub place: Place,

@@ -3,7 +3,7 @@
 use fpga_text::Coded;
 
 /// What is wrong with a line of a route text.
-#[derive(Clone, Copy, Debug, PartialEq, Eq)]
+#[derive(Clone, Copy)]
 pub enum Cause {
     /// A head line of another form, or one that is missing.
     HeadForm,

@@ -15,7 +15,7 @@ use std::alloc::{AllocError, Global};
 use std::marker::Model;
 
 /// The array, the nets whose lines were all read, and the net whose lines are being read.
-#[derive(Debug, Drop)]
+#[derive(Drop)]
 pub struct Draft {
     alloc: Global,
     grid: Grid,

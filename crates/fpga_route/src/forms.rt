@@ -8,7 +8,7 @@ use fpga_text::{FirstWords, Line, is_text};
 use fpga_types::{ElemKind, Label};
 
 /// The parts of a Net line.
-#[derive(Clone, Copy, Debug)]
+#[derive(Clone, Copy)]
 pub struct NetLine<'a> {
     pub k: &'a [u8],
     pub name: &'a [u8],
@@ -16,7 +16,7 @@ pub struct NetLine<'a> {
 }
 
 /// The parts of an element line.
-#[derive(Clone, Copy, Debug)]
+#[derive(Clone, Copy)]
 pub struct ElemLine<'a> {
     pub kind: ElemKind,
     pub x: &'a [u8],
@@ -26,7 +26,7 @@ pub struct ElemLine<'a> {
 }
 
 /// The forms of a line after the head.
-#[derive(Clone, Copy, Debug)]
+#[derive(Clone, Copy)]
 pub enum LineForm<'a> {
     /// The first line of a net.
     Net(NetLine<'a>),

@@ -14,7 +14,7 @@ use fpga_text::{Coded, FirstWords, Line, Lines, TextFault, size_line};
 use fpga_types::{Grid, SizeFault};
 
 /// What the head says: the array, and the number of the line that says it.
-#[derive(Clone, Copy, Debug)]
+#[derive(Clone, Copy)]
 pub struct Head {
     pub grid: Grid,
     pub line: u64,

@@ -6,7 +6,7 @@ use std::alloc::{AllocError, Global};
 use std::marker::Model;
 
 /// A net whose lines are still being read.
-#[derive(Debug, Drop)]
+#[derive(Drop)]
 pub struct OpenNet {
     k: u64,
     name: Name,

@@ -16,7 +16,7 @@ use fpga_types::{Elem, Grid, NET_LIMIT};
 
 /// Where a line after the head stands: the array, the Net lines before it, and whether the net
 /// that it stands in is global, if it stands in one.
-#[derive(Clone, Copy, Debug)]
+#[derive(Clone, Copy)]
 pub struct Standing {
     pub grid: Grid,
     pub nets: u32,

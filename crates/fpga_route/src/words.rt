@@ -7,7 +7,7 @@ use fpga_text::is_text;
 use fpga_types::{ElemKind, Label};
 
 /// The parts of a place.
-#[derive(Clone, Copy, Debug)]
+#[derive(Clone, Copy)]
 pub struct PlaceWord<'a> {
     pub x: &'a [u8],
     pub y: &'a [u8],

@@ -283,7 +283,6 @@ impl Prints<RouteText> for Body {
 }
 
 /// Prints a route: its two head lines, its nets and a newline at the end.
-#[derive(Debug)]
 pub struct WholeRoute;
 
 impl Prints<RouteText> for WholeRoute {

@@ -8,7 +8,7 @@ use crate::line::Line;
 use crate::said::is_text;
 
 /// The words of an array line that say its size: the columns and the rows.
-#[derive(Clone, Copy, Debug)]
+#[derive(Clone, Copy)]
 pub struct SizeLine<'a> {
     pub nx: &'a [u8],
     pub ny: &'a [u8],

@@ -8,7 +8,7 @@ use std::marker::Model;
 const LIMIT: usize = 8;
 
 /// The first words of a line.
-#[derive(Debug, Drop)]
+#[derive(Drop)]
 pub struct FirstWords<'a> {
     words: [&'a [u8]; 8],
     count: usize,

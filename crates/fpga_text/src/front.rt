@@ -17,14 +17,14 @@ const MOST_DIGITS: usize = 17;
 const AT_ONCE: usize = 8;
 
 /// The size of a number, and what stands behind it, from its next word on.
-#[derive(Clone, Copy, Debug)]
+#[derive(Clone, Copy)]
 struct FrontDigits<'a> {
     size: u64,
     behind: &'a [u8],
 }
 
 /// A number, and what stands behind it, from its next word on.
-#[derive(Clone, Copy, Debug)]
+#[derive(Clone, Copy)]
 pub struct FrontNumber<'a> {
     pub value: i64,
     pub behind: &'a [u8],

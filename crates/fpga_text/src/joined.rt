@@ -7,7 +7,7 @@ ghost use Rattle.fpga_text.specs.Words.{words as words_of, begins_word, words_la
 use crate::cut::{blank, first_byte, from_first_word, part_at};
 
 /// A line of a text as a part of a joined line.
-#[derive(Clone, Copy, Debug)]
+#[derive(Clone, Copy)]
 pub struct Part<'a> {
     /// The bytes that say words: no comment, and no backslash at the end.
     pub said: &'a [u8],
@@ -16,14 +16,14 @@ pub struct Part<'a> {
 }
 
 /// What is left of a line: words of one part, and the text that it goes on in, if it does.
-#[derive(Clone, Copy, Debug)]
+#[derive(Clone, Copy)]
 pub struct Rest<'a> {
     pub words: &'a [u8],
     pub later: &'a [u8],
 }
 
 /// Where a joined line has ended: the text behind it, and how many lines of the text it took.
-#[derive(Clone, Copy, Debug)]
+#[derive(Clone, Copy)]
 pub struct Behind<'a> {
     pub text: &'a [u8],
     pub taken: u64,

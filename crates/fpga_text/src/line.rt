@@ -11,7 +11,7 @@ use crate::number::{millionths, signed_number, whole_number};
 use std::marker::Model;
 
 /// A word, and the number of its line.
-#[derive(Clone, Copy, Debug, PartialEq, Eq)]
+#[derive(Clone, Copy)]
 pub struct Word<'a> {
     pub line: u64,
     pub text: &'a [u8],
@@ -29,7 +29,7 @@ impl<'a> Word<'a> {
 }
 
 /// A line: its number, its bytes without the newline, and its words that were not yet taken.
-#[derive(Debug, Drop)]
+#[derive(Drop)]
 pub struct Line<'a> {
     number: u64,
     last: u64,

@@ -10,7 +10,7 @@ use crate::style::Style;
 use std::marker::Model;
 
 /// The lines of a text that were not yet taken.
-#[derive(Debug, Drop)]
+#[derive(Drop)]
 pub struct Lines<'a> {
     rest: &'a [u8],
     taken: u64,
@@ -94,7 +94,7 @@ impl<'a> Lines<'a> {
 }
 
 /// The first line of a text.
-#[derive(Clone, Copy, Debug)]
+#[derive(Clone, Copy)]
 struct FirstLine<'a> {
     /// The bytes that say the words of its first part.
     said: &'a [u8],

@@ -1,7 +1,7 @@
 //! How a text is cut into lines.
 
 /// How a text is cut into lines.
-#[derive(Clone, Copy, Debug, PartialEq, Eq)]
+#[derive(Clone, Copy)]
 pub enum Style {
     /// Each line is looked at whole: CNF and LRAT texts.
     Plain,

@@ -9,7 +9,7 @@ use fpga_text::{SizeLine, whole_number};
 use thiserror::Error;
 
 /// Why an array line says no size.
-#[derive(Clone, Copy, Debug, PartialEq, Eq, Error)]
+#[derive(Clone, Copy, Debug, Error)]
 pub enum SizeFault {
     /// A word is no number, or 0.
     #[error("a word is no number, or 0")]

@@ -3,7 +3,7 @@
 use fpga_text::Coded;
 
 /// What keeps four values from being a routing problem, or a route from fitting by itself.
-#[derive(Clone, Copy, Debug, PartialEq, Eq)]
+#[derive(Clone, Copy)]
 pub enum FitCause {
     /// An array of another size than the placement's.
     OtherArray,

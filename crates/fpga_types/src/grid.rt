@@ -4,7 +4,7 @@ ghost use Rattle.std.specs.Prelude.{◌≡◌};
 use std::marker::Model;
 
 /// A side of a block or of a switch block.
-#[derive(Clone, Copy, Debug, PartialEq, Eq)]
+#[derive(Clone, Copy)]
 pub enum Side {
     Left,
     Right,
@@ -13,14 +13,14 @@ pub enum Side {
 }
 
 /// The direction in which a channel runs.
-#[derive(Clone, Copy, Debug, PartialEq, Eq, PartialOrd, Ord)]
+#[derive(Clone, Copy, PartialEq, Eq, PartialOrd, Ord)]
 pub enum Axis {
     X,
     Y,
 }
 
 /// An array of `nx` columns and `ny` rows of logic blocks, each from 1 to 100.
-#[derive(Clone, Copy, Debug, PartialEq, Eq)]
+#[derive(Clone, Copy)]
 pub struct Grid {
     pub nx: u32,
     pub ny: u32,
@@ -53,7 +53,7 @@ impl Grid {
 }
 
 /// A cell: one unit of a channel. `X` at (x,y) lies above row y, `Y` to the right of column x.
-#[derive(Clone, Copy, Debug, PartialEq, Eq, PartialOrd, Ord)]
+#[derive(Clone, Copy, PartialEq, Eq, PartialOrd, Ord)]
 pub struct Cell {
     pub axis: Axis,
     pub x: u32,
@@ -61,14 +61,14 @@ pub struct Cell {
 }
 
 /// One track of a cell.
-#[derive(Clone, Copy, Debug, PartialEq, Eq)]
+#[derive(Clone, Copy)]
 pub struct Wire {
     pub cell: Cell,
     pub track: u32,
 }
 
 /// A switch block: the corner above row j and to the right of column i.
-#[derive(Clone, Copy, Debug, PartialEq, Eq)]
+#[derive(Clone, Copy)]
 pub struct SwitchAt {
     pub i: u32,
     pub j: u32,
@@ -76,7 +76,7 @@ pub struct SwitchAt {
 
 /// A pin of a placed block: a pad by its place and subblock number, or a pin of a logic block by
 /// its place and number.
-#[derive(Clone, Copy, Debug, PartialEq, Eq)]
+#[derive(Clone, Copy)]
 pub enum PinAt {
     Pad { x: u32, y: u32, sub: u32 },
     Pin { x: u32, y: u32, pin: u32 },

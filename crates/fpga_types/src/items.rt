@@ -4,7 +4,7 @@ ghost use Rattle.std.specs.Prelude.{◌≡◌};
 use std::marker::Model;
 
 /// A row of values. Contracts see the list of them, and neither capacity nor allocator.
-#[derive(Debug, Drop)]
+#[derive(Drop)]
 pub struct Items<T> {
     row: Vec<T>,
 }

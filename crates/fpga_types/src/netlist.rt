@@ -3,7 +3,7 @@ use crate::items::Items;
 use crate::route::Name;
 
 /// What a block is.
-#[derive(Clone, Copy, Debug, PartialEq, Eq)]
+#[derive(Clone, Copy)]
 pub enum BlockKind {
     /// A pad that drives its net.
     Input,
@@ -15,7 +15,7 @@ pub enum BlockKind {
 
 /// A block: its name, its kind and, for each of its pins, the number of the net there, if there is
 /// one. A pad has one pin.
-#[derive(Debug, Drop)]
+#[derive(Drop)]
 pub struct Block {
     pub name: Name,
     pub kind: BlockKind,
@@ -23,7 +23,7 @@ pub struct Block {
 }
 
 /// A pin of a block, both by number. The pin of a pad is 0.
-#[derive(Clone, Copy, Debug, PartialEq, Eq)]
+#[derive(Clone, Copy)]
 pub struct PinRef {
     pub block: u32,
     pub pin: u32,
@@ -31,7 +31,7 @@ pub struct PinRef {
 
 /// A net: its name, whether it has dedicated wiring, the first pin that drives it, if there is one,
 /// and its sinks.
-#[derive(Debug, Drop)]
+#[derive(Drop)]
 pub struct Net {
     pub name: Name,
     pub global: bool,
@@ -40,7 +40,7 @@ pub struct Net {
 }
 
 /// Nets and blocks. Their numbers are their positions.
-#[derive(Debug, Drop)]
+#[derive(Drop)]
 pub struct Netlist {
     pub nets: Items<Net>,
     pub blocks: Items<Block>,

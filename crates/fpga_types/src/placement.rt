@@ -9,7 +9,7 @@ use crate::netlist::BlockKind;
 
 /// Where a block stands. The subblock number tells the pads of a place apart; that of a logic block
 /// has no meaning.
-#[derive(Clone, Copy, Debug, PartialEq, Eq)]
+#[derive(Clone, Copy)]
 pub struct Place {
     pub x: u32,
     pub y: u32,
@@ -17,14 +17,14 @@ pub struct Place {
 }
 
 /// What no two blocks share: the place of a logic block, or a pad's place with its subblock number.
-#[derive(Clone, Copy, Debug, PartialEq, Eq, PartialOrd, Ord)]
+#[derive(Clone, Copy, PartialEq, Eq, PartialOrd, Ord)]
 pub enum Spot {
     Block { x: u32, y: u32 },
     Pad { x: u32, y: u32, sub: u32 },
 }
 
 /// The array, and the place of each block, in the order of their numbers.
-#[derive(Debug, Drop)]
+#[derive(Drop)]
 pub struct Placement {
     pub grid: Grid,
     pub places: Items<Place>,

@@ -7,7 +7,7 @@ use crate::problem::Slot;
 use std::marker::Model;
 
 /// A name, or a line that is kept as it stood. Contracts see the list of its bytes.
-#[derive(Debug, Drop)]
+#[derive(Drop)]
 pub struct Name {
     pub bytes: Items<u8>,
 }
@@ -21,7 +21,7 @@ impl Model for Name {
 }
 
 /// What an element line speaks of.
-#[derive(Clone, Copy, Debug, PartialEq, Eq, PartialOrd, Ord)]
+#[derive(Clone, Copy, PartialEq, Eq, PartialOrd, Ord)]
 pub enum ElemKind {
     Source,
     Opin,
@@ -106,7 +106,7 @@ impl Grid {
 }
 
 /// What the number of an element line counts.
-#[derive(Clone, Copy, Debug, PartialEq, Eq, PartialOrd, Ord)]
+#[derive(Clone, Copy, PartialEq, Eq, PartialOrd, Ord)]
 pub enum Label {
     Class,
     Pin,
@@ -115,7 +115,7 @@ pub enum Label {
 }
 
 /// An element line, and the number of its line.
-#[derive(Clone, Copy, Debug, PartialEq, Eq)]
+#[derive(Clone, Copy)]
 pub struct Elem {
     pub kind: ElemKind,
     pub x: u32,
@@ -160,7 +160,7 @@ impl Elem {
 }
 
 /// A net of a route: its elements in line order or, of a global net, its kept lines.
-#[derive(Debug, Drop)]
+#[derive(Drop)]
 pub struct RouteNet {
     pub k: u64,
     pub name: Name,
@@ -171,7 +171,7 @@ pub struct RouteNet {
 }
 
 /// A route text: its array, its number of lines, and its nets in line order.
-#[derive(Debug, Drop)]
+#[derive(Drop)]
 pub struct RouteText {
     pub grid: Grid,
     pub grid_line: u64,

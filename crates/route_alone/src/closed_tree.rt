@@ -14,7 +14,7 @@ use fpga_types::{Pattern, PinStep, WIDTH_LIMIT};
 use std::alloc::{AllocError, Global};
 
 /// A tree, by its first slot, and the pin steps of its slots.
-#[derive(Debug, Drop)]
+#[derive(Drop)]
 pub struct ClosedTree {
     pub tree: u32,
     pub pins: Vec<PinStep>,

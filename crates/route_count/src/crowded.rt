@@ -15,7 +15,7 @@ use sat_count::COUNTED_LIMIT;
 use std::alloc::{AllocError, Global};
 
 /// Slots that are to have different tracks, one more than there are tracks.
-#[derive(Debug, Drop)]
+#[derive(Drop)]
 pub enum Crowding {
     /// Slots of one cell.
     Cell(ArrayVec<u32, COUNTED_LIMIT>),

@@ -14,7 +14,7 @@ use fpga_types::{Block, BlockKind, Grid, Net, PinRef, Place};
 use std::alloc::{AllocError, Global};
 
 /// A rectangle that a block is drawn as.
-#[derive(Clone, Copy, Debug)]
+#[derive(Clone, Copy)]
 struct Area {
     at: Point,
     width: u64,

@@ -7,7 +7,7 @@ use std::alloc::AllocError;
 
 /// What a group begins with: a mark before its class, which may be empty, its class, a colour
 /// behind that, which may be empty, and its name.
-#[derive(Clone, Copy, Debug)]
+#[derive(Clone, Copy)]
 pub(crate) struct Label<'a> {
     pub(crate) mark: &'a str,
     pub(crate) class: &'a str,

@@ -3,7 +3,7 @@ use crate::scale::{BLOCK, Point, block_start, channel_start, part_middle};
 use fpga_types::{Arch, Axis, Cell, PinAt};
 
 /// A wire as it is drawn: its cell, and how far it is from the start of the channel.
-#[derive(Clone, Copy, Debug)]
+#[derive(Clone, Copy)]
 pub(crate) struct Strand {
     pub(crate) cell: Cell,
     pub(crate) across: u64,

@@ -17,7 +17,7 @@ pub(crate) const CHANNEL: u64 = 520;
 pub(crate) const PAD: u64 = 190;
 
 /// A point of the picture.
-#[derive(Clone, Copy, Debug)]
+#[derive(Clone, Copy)]
 pub(crate) struct Point {
     pub(crate) x: u64,
     pub(crate) y: u64,

@@ -10,7 +10,7 @@ use fpga_fabric::fc;
 use fpga_types::{Arch, PinStep, STEP_LIMIT, WIDTH_LIMIT};
 
 /// How many clauses and literals a formula has.
-#[derive(Clone, Copy, Debug)]
+#[derive(Clone, Copy)]
 pub(crate) struct FormulaSize {
     /// How many clauses.
     pub clauses: u64,

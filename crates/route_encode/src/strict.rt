@@ -29,7 +29,7 @@ use std::alloc::{AllocError, Global};
 ///
 /// The clauses are the connectivity and exclusivity constraints of Nam, Sakallah and Rutenbar (IEEE
 /// Transactions on CAD, 2002), with a variable for each track of each slot.
-#[derive(Clone, Copy, Debug, PartialEq, Eq)]
+#[derive(Clone, Copy)]
 pub struct Strict;
 
 impl Encoder for Strict {

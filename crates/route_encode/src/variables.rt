@@ -7,7 +7,7 @@ ghost use Rattle.sat_clause.specs.Literal.{IsWithin};
 use sat_clause::Lit;
 
 /// The variables of an encoding, one for each track of each slot: slot by slot, from 1 on.
-#[derive(Clone, Copy, Debug)]
+#[derive(Clone, Copy)]
 pub struct Variables {
     /// How many slots there are, at most 200,000.
     pub slots: u32,

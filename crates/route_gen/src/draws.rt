@@ -14,14 +14,14 @@ use std::marker::Model;
 pub const INPUT_COUNT: usize = 4;
 
 /// Where a net ends: an input of a block. Inputs have the first numbers among its pins.
-#[derive(Clone, Copy, Debug, PartialEq, Eq)]
+#[derive(Clone, Copy)]
 pub struct Sink {
     pub block: u32,
     pub pin: u32,
 }
 
 /// The inputs of a block that are taken, by the nets that end there. Contracts see the nets.
-#[derive(Debug, Drop)]
+#[derive(Drop)]
 pub struct Inputs {
     nets: ArrayVec<u32, INPUT_COUNT>,
 }
@@ -71,7 +71,7 @@ impl Inputs {
 }
 
 /// What is drawn: where each net ends, and the nets that end at each block.
-#[derive(Debug, Drop)]
+#[derive(Drop)]
 pub struct Draws {
     pub sinks: Vec<Sink>,
     pub inputs: Vec<Inputs>,

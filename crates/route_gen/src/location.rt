@@ -4,7 +4,7 @@ ghost use Rattle.fpga_types.specs.declared.limits.TheConstants.{SIDE_LIMIT};
 ghost use Rattle.route_gen.specs.Draws as spec;
 
 /// A place of the array by its column and its row, both from 1 on.
-#[derive(Clone, Copy, Debug, PartialEq, Eq)]
+#[derive(Clone, Copy)]
 pub struct Location {
     pub column: u32,
     pub row: u32,

@@ -8,7 +8,7 @@ use std::marker::Model;
 const STATES: u64 = 1 << 31;
 
 /// The sample `rand` of the ANSI C standard, with a state of 31 bits.
-#[derive(Debug, Drop)]
+#[derive(Drop)]
 pub struct Rand {
     state: u32,
 }

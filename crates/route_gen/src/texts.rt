@@ -13,7 +13,7 @@ use std::marker::Model;
 use thiserror::Error;
 
 /// The texts of an architecture, a netlist, its placement and a global route of it.
-#[derive(Debug, Drop)]
+#[derive(Drop)]
 pub struct FourTexts {
     pub architecture: Vec<u8>,
     pub netlist: Vec<u8>,
@@ -35,7 +35,7 @@ impl Model for FourTexts {
 }
 
 /// Why no texts were made.
-#[derive(Clone, Copy, Debug, PartialEq, Eq, Error)]
+#[derive(Clone, Copy, Debug, Error)]
 pub enum GenStop {
     /// There are more nets than blocks to drive them.
     #[error("there are more nets than blocks")]

@@ -30,7 +30,7 @@ pub fn reach_count(problem: &PlacedProblem, width: u32, reach: u32) -> u64
 }
 
 /// What the number of clauses and literals is told by.
-#[derive(Clone, Copy, Debug)]
+#[derive(Clone, Copy)]
 pub(crate) struct ReachTally {
     /// How many SINK lines the ordinary nets have.
     pub sinks: u64,

@@ -9,7 +9,7 @@ use route_encode::add_clause;
 use sat_clause::Formula;
 
 /// What the clauses about each wire for itself say.
-#[derive(Clone, Copy, Debug)]
+#[derive(Clone, Copy)]
 pub(crate) enum WireRule {
     /// It is used where it is reached.
     Used,

@@ -15,7 +15,7 @@ use std::alloc::{AllocError, Global};
 
 /// Routing within a reach: a net may take several wires of its cells, and each of its sinks is
 /// reached from its source over at most so many joins of them.
-#[derive(Clone, Copy, Debug)]
+#[derive(Clone, Copy)]
 pub struct Reach {
     /// The greatest number of joins, from 1 to 64.
     pub reach: u32,

@@ -7,7 +7,7 @@ use std::alloc::{AllocError, Global};
 use std::marker::Model;
 
 /// What leads to a wire of a net.
-#[derive(Clone, Copy, Debug)]
+#[derive(Clone, Copy)]
 pub(crate) enum Lead {
     /// An OPIN line of the net, whose pin touches the wire's cell and opens its track.
     Pin(Elem),
@@ -16,7 +16,7 @@ pub(crate) enum Lead {
 }
 
 /// A wire that is reached: over so many joins, and from there.
-#[derive(Clone, Copy, Debug)]
+#[derive(Clone, Copy)]
 pub(crate) struct Reached {
     pub depth: u32,
     pub lead: Lead,
@@ -24,7 +24,7 @@ pub(crate) struct Reached {
 
 /// The wires of one net, by slot and then by track, each with how it is reached if it is. Contracts
 /// see the number of the net's first slot among all, the number of tracks, and the list of wires.
-#[derive(Debug, Drop)]
+#[derive(Drop)]
 pub(crate) struct NetTree {
     first: usize,
     width: u32,

@@ -9,7 +9,7 @@ use sat_clause::Lit;
 
 /// The variables of so many wires for a reach: one for each wire, that it is used, and then, wire
 /// by wire, that it is reached within 0 joins, within 1 and so on.
-#[derive(Clone, Copy, Debug)]
+#[derive(Clone, Copy)]
 pub(crate) struct WireVariables {
     /// How many wires there are.
     pub wires: u32,

@@ -6,7 +6,7 @@ ghost use Rattle.route_sweep.specs.declared.asking.TheConstants.{BUDGET_LIMIT};
 pub const BUDGET_LIMIT: u64 = 100_000_000;
 
 /// What a search is asked for, beside the problem and the width.
-#[derive(Clone, Copy, Debug)]
+#[derive(Clone, Copy)]
 pub struct Ask<'a> {
     /// How many clauses may be learned, from 1 to 100,000,000.
     pub budget: u64,

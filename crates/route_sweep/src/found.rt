@@ -40,7 +40,7 @@ impl fmt::Display for FileSlot {
 }
 
 /// What is found at one width.
-#[derive(Clone, Copy, Debug, PartialEq, Eq)]
+#[derive(Clone, Copy)]
 pub enum Found {
     /// A routing, which was written.
     Routed,
@@ -51,7 +51,7 @@ pub enum Found {
 }
 
 /// What a climb through the widths comes to.
-#[derive(Clone, Copy, Debug, PartialEq, Eq)]
+#[derive(Clone, Copy)]
 pub enum Climbed {
     /// This is the least width that has a routing, which was written.
     Routed { width: u32 },
@@ -62,7 +62,7 @@ pub enum Climbed {
 }
 
 /// What ends a search before it has found anything, or before all of it is written.
-#[derive(Clone, Copy, Debug, PartialEq, Eq, Error)]
+#[derive(Clone, Copy, Debug, Error)]
 pub enum Stop {
     /// The shelf failed on this file.
     #[error("the file of the {slot} was not written")]

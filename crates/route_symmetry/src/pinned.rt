@@ -14,7 +14,7 @@ use std::alloc::{AllocError, Global};
 /// The clauses of [`Strict`], followed by one for each pinned slot where all tracks are alike: the
 /// nets of one cell, of those with the most slots the first by number, have the tracks 0, 1 and so
 /// on. There is a model exactly where `Strict` has one.
-#[derive(Clone, Copy, Debug, PartialEq, Eq)]
+#[derive(Clone, Copy)]
 pub struct Pinned;
 
 impl Encoder for Pinned {

@@ -14,7 +14,7 @@ use std::collections::BTreeMap;
 /// The lines of a net that were taken, one behind the other, with the depth of its channel lines:
 /// behind an OPIN 0, behind a channel line one more than its own, and behind a SINK that of the
 /// first line that it equals. A channel line behind another line has none, nor has one behind it.
-#[derive(Debug, Drop)]
+#[derive(Drop)]
 pub struct LineDepths {
     tracked: bool,
     // The depth of the first of each equal channel lines.

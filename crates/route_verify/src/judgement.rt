@@ -2,7 +2,7 @@
 
 /// A legal detailed route; or one that is not, by the first line with a cause against it, and the
 /// number of the least cause there.
-#[derive(Clone, Copy, Debug, PartialEq, Eq)]
+#[derive(Clone, Copy)]
 pub enum Judgement {
     /// Nothing is against it.
     Legal,

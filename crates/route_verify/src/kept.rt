@@ -11,7 +11,7 @@ use std::alloc::{AllocError, Global};
 use std::collections::BTreeSet;
 
 /// The wires of some nets, and the wires and depths of the first lines of the net behind them.
-#[derive(Debug, Drop)]
+#[derive(Drop)]
 pub(crate) struct Kept {
     pub taken: BTreeSet<WireKey>,
     pub wires: BTreeSet<WireKey>,

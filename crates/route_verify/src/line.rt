@@ -17,7 +17,7 @@ use fpga_text::{Coded, TextFault};
 use fpga_types::ElemKind;
 
 /// What is at hand of an element line while its net is read.
-#[derive(Clone, Copy, Debug)]
+#[derive(Clone, Copy)]
 pub(crate) struct ElemLine {
     /// What the codes of a route alone look at. How many slots there are is not asked.
     pub route: ElemContext,
@@ -30,7 +30,7 @@ pub(crate) struct ElemLine {
 }
 
 /// What the causes against an element line look at.
-#[derive(Clone, Copy, Debug)]
+#[derive(Clone, Copy)]
 pub(crate) struct LineContext {
     /// What the codes of the fit look at. How many slots there are is not asked.
     pub fit: ProblemContext,

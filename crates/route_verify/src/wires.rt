@@ -10,7 +10,7 @@ use std::alloc::AllocError;
 use std::collections::BTreeSet;
 
 /// A wire, as a set keeps it.
-#[derive(Clone, Copy, Debug, PartialEq, Eq, PartialOrd, Ord)]
+#[derive(Clone, Copy, PartialEq, Eq, PartialOrd, Ord)]
 pub(crate) struct WireKey {
     pub cell: Cell,
     pub track: u32,

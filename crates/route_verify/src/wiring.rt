@@ -9,7 +9,7 @@ use std::marker::Model;
 
 /// The switch blocks and connection boxes of an architecture in an array, with so many tracks a
 /// channel.
-#[derive(Debug, Drop)]
+#[derive(Drop)]
 pub(crate) struct Wiring<'a> {
     arch: &'a Arch,
     grid: Grid,

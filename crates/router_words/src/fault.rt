@@ -5,7 +5,7 @@ ghost use Rattle.router_words.specs.Refusal.{code_of};
 use thiserror::Error;
 
 /// Why words are not taken.
-#[derive(Clone, Copy, Debug, PartialEq, Eq, Error)]
+#[derive(Clone, Copy, Debug, Error)]
 pub enum Refusal {
     /// There is no first word, or it names no command.
     #[error("the first word names no command")]
@@ -36,7 +36,7 @@ impl Refusal {
 }
 
 /// Why there is no job.
-#[derive(Clone, Copy, Debug, PartialEq, Eq, Error)]
+#[derive(Clone, Copy, Debug, Error)]
 pub enum WordsFault {
     /// The words are not taken.
     #[error("{0}")]

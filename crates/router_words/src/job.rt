@@ -8,7 +8,7 @@ ghost use Rattle.router_words.specs.declared.limits.TheConstants.{BUDGET_LIMIT, 
 use crate::method::Method;
 
 /// The names of the files of a problem.
-#[derive(Clone, Copy, Debug)]
+#[derive(Clone, Copy)]
 pub struct FourNames<'a> {
     /// The name of the architecture file.
     pub architecture: &'a str,
@@ -21,7 +21,7 @@ pub struct FourNames<'a> {
 }
 
 /// What a search is told, whatever its problem.
-#[derive(Clone, Copy, Debug)]
+#[derive(Clone, Copy)]
 pub struct SearchJob<'a> {
     /// How many tracks each channel has, or the most of them that are tried, from 1 to 64.
     pub width: u32,
@@ -42,7 +42,7 @@ pub struct SearchJob<'a> {
 }
 
 /// Searches that take turns over one log, in an order that is drawn.
-#[derive(Clone, Copy, Debug)]
+#[derive(Clone, Copy)]
 pub struct Members {
     /// How many searches there are, from 1 to 8.
     pub count: u32,
@@ -53,7 +53,7 @@ pub struct Members {
 }
 
 /// To look for a routing.
-#[derive(Clone, Copy, Debug)]
+#[derive(Clone, Copy)]
 pub struct RouteJob<'a> {
     /// The files of the problem.
     pub files: FourNames<'a>,
@@ -64,7 +64,7 @@ pub struct RouteJob<'a> {
 }
 
 /// To look for the least width that has a routing.
-#[derive(Clone, Copy, Debug)]
+#[derive(Clone, Copy)]
 pub struct SweepJob<'a> {
     /// The files of the problem.
     pub files: FourNames<'a>,
@@ -73,7 +73,7 @@ pub struct SweepJob<'a> {
 }
 
 /// To write the clauses of a routing.
-#[derive(Clone, Copy, Debug)]
+#[derive(Clone, Copy)]
 pub struct EncodeJob<'a> {
     /// The files of the problem.
     pub files: FourNames<'a>,
@@ -88,7 +88,7 @@ pub struct EncodeJob<'a> {
 }
 
 /// To look for a routing, or else for the nets that stand against each other.
-#[derive(Clone, Copy, Debug)]
+#[derive(Clone, Copy)]
 pub struct CoreJob<'a> {
     /// The files of the problem.
     pub files: FourNames<'a>,
@@ -103,7 +103,7 @@ pub struct CoreJob<'a> {
 }
 
 /// To check a refutation.
-#[derive(Clone, Copy, Debug)]
+#[derive(Clone, Copy)]
 pub struct CheckJob<'a> {
     /// The name of the CNF file.
     pub cnf: &'a str,
@@ -112,7 +112,7 @@ pub struct CheckJob<'a> {
 }
 
 /// To judge a routed file.
-#[derive(Clone, Copy, Debug)]
+#[derive(Clone, Copy)]
 pub struct VerifyJob<'a> {
     /// The files of the problem.
     pub files: FourNames<'a>,
@@ -128,7 +128,7 @@ pub struct VerifyJob<'a> {
 }
 
 /// What a generated problem is made from.
-#[derive(Clone, Copy, Debug)]
+#[derive(Clone, Copy)]
 pub struct Recipe {
     /// The number that its nets are drawn by, at most 2,147,483,647.
     pub seed: u32,
@@ -142,7 +142,7 @@ pub struct Recipe {
 }
 
 /// To write a generated problem.
-#[derive(Clone, Copy, Debug)]
+#[derive(Clone, Copy)]
 pub struct GenJob<'a> {
     /// What the problem is made from.
     pub recipe: Recipe,
@@ -151,7 +151,7 @@ pub struct GenJob<'a> {
 }
 
 /// To look for the least width that has a routing of a generated problem.
-#[derive(Clone, Copy, Debug)]
+#[derive(Clone, Copy)]
 pub struct TrialJob<'a> {
     /// What the problem is made from.
     pub recipe: Recipe,
@@ -160,7 +160,7 @@ pub struct TrialJob<'a> {
 }
 
 /// What the words ask for. It lends them.
-#[derive(Clone, Copy, Debug)]
+#[derive(Clone, Copy)]
 pub enum Job<'a> {
     /// A routing.
     Route(RouteJob<'a>),

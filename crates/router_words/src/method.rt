@@ -1,7 +1,7 @@
 //! How routings are said by clauses.
 
 /// How a job has the routings of its problem said by clauses.
-#[derive(Clone, Copy, Debug, PartialEq, Eq)]
+#[derive(Clone, Copy)]
 pub enum Method {
     /// Each net has one track in each cell of its global route.
     Strictly,

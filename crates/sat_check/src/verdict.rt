@@ -3,7 +3,7 @@
 use sat_clause::Cause;
 
 /// What a log says of a formula.
-#[derive(Clone, Copy, Debug, PartialEq, Eq)]
+#[derive(Clone, Copy, PartialEq, Eq)]
 pub enum Verdict {
     /// The log refutes the formula: no truth values satisfy it.
     Accepted,

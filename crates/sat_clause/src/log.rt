@@ -10,7 +10,7 @@ use std::alloc::{AllocError, Global};
 use std::marker::Model;
 
 /// A step of a log, as LRAT has them: it adds a clause with hints, or deletes clauses.
-#[derive(Clone, Copy, Debug)]
+#[derive(Clone, Copy)]
 pub struct StepView<'a> {
     /// The id of the added clause; of a deletion, a number that says nothing.
     pub id: u32,
@@ -24,7 +24,7 @@ pub struct StepView<'a> {
 }
 
 /// A step's id, and whether it is a deletion.
-#[derive(Clone, Copy, Debug)]
+#[derive(Clone, Copy)]
 struct Head {
     id: u32,
     erase: bool,

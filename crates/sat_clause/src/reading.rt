@@ -9,7 +9,7 @@ use crate::limits::LITERAL_LIMIT;
 
 /// What a clause says where some literals are false. Its other literals are open, and one that
 /// stands in it twice counts once.
-#[derive(Clone, Copy, Debug, PartialEq, Eq)]
+#[derive(Clone, Copy)]
 pub enum Reading {
     /// No literal is open, so the clause is false.
     Conflict,

@@ -17,7 +17,7 @@ use std::alloc::{AllocError, Global};
 /// What one of the four clauses says of a new variable: it is true where the slot had the track, or
 /// where it had the last one and the last slot had this one; where it is true and the slot did not
 /// have the track, it had the last one, and the last slot had this one.
-#[derive(Clone, Copy, Debug)]
+#[derive(Clone, Copy)]
 enum Meaning {
     ByKept,
     ByMoved,
@@ -27,7 +27,7 @@ enum Meaning {
 
 /// A kind of clause of two slots and a track: not both have it where the lower one had it above, or
 /// not both have it.
-#[derive(Clone, Copy, Debug)]
+#[derive(Clone, Copy)]
 enum PairKind {
     Helped,
     Apart,

@@ -14,7 +14,7 @@ use sat_clause::{Cause, FalseLiterals, LITERAL_LIMIT, Lit, Reading, read_clause}
 use std::alloc::AllocError;
 
 /// What hints come to.
-#[derive(Clone, Copy, Debug)]
+#[derive(Clone, Copy)]
 pub(crate) enum Led {
     /// The literals of the last clause are all false.
     Conflict,

@@ -4,7 +4,7 @@ ghost use Rattle.std.specs.Prelude.{◌≡◌, ◌<◌, ◌≤◌, ◌∷◌, []
 ghost use Rattle.sat_rat.specs.Groups.{Group as GroupOf, IsAtGroup, front, groups_of};
 
 /// A group: the id of its clause, its own hints, and what stands behind it.
-#[derive(Clone, Copy, Debug)]
+#[derive(Clone, Copy)]
 pub(crate) struct Group<'a> {
     pub(crate) id: u64,
     pub(crate) hints: &'a [i64],

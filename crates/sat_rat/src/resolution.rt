@@ -21,7 +21,7 @@ use sat_clause::{Cause, FalseLiterals, LITERAL_LIMIT, Lit};
 use std::alloc::{AllocError, Global};
 
 /// What a group comes to.
-#[derive(Clone, Copy, Debug)]
+#[derive(Clone, Copy)]
 pub(crate) enum Grouped {
     /// It is good, and its clause has the literal so many times.
     Good { count: u64 },

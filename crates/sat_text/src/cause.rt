@@ -3,7 +3,7 @@
 use fpga_text::Coded;
 
 /// What is wrong with a line of a CNF or an LRAT text.
-#[derive(Clone, Copy, Debug, PartialEq, Eq)]
+#[derive(Clone, Copy)]
 pub enum Cause {
     /// CNF: no head line where one is due, or a second one.
     HeadForm,

@@ -16,14 +16,14 @@ pub const MOST_VARIABLES: u64 = VARIABLE_LIMIT as u64;
 pub const MOST_CLAUSES: u64 = CLAUSE_LIMIT;
 
 /// The numbers of variables and of clauses that a head line says.
-#[derive(Clone, Copy, Debug, PartialEq, Eq)]
+#[derive(Clone, Copy)]
 pub struct Head {
     pub vars: u32,
     pub clauses: u32,
 }
 
 /// The words of a head line where its numbers are due.
-#[derive(Clone, Copy, Debug)]
+#[derive(Clone, Copy)]
 struct HeadLine<'a> {
     vars: &'a [u8],
     clauses: &'a [u8],

@@ -1,7 +1,7 @@
 //! Which hints an added clause may have.
 
 /// Which hints an added clause may have.
-#[derive(Clone, Copy, Debug, PartialEq, Eq)]
+#[derive(Clone, Copy)]
 pub enum HintRule {
     /// None that is negative: each step follows by unit propagation alone.
     Plain,

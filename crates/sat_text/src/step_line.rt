@@ -25,7 +25,7 @@ pub const MOST_ID: u64 = ID_LIMIT as u64;
 pub const MOST_VARIABLE: u64 = VARIABLE_LIMIT as u64;
 
 /// What a line says that adds a clause.
-#[derive(Clone, Copy, Debug)]
+#[derive(Clone, Copy)]
 pub struct Addition<'a> {
     pub id: u32,
     pub lits: &'a [i64],
@@ -33,7 +33,7 @@ pub struct Addition<'a> {
 }
 
 /// What a line says that deletes clauses.
-#[derive(Clone, Copy, Debug)]
+#[derive(Clone, Copy)]
 pub struct Deletion<'a> {
     pub id: u32,
     pub ids: &'a [i64],

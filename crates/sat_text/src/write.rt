@@ -55,7 +55,6 @@ fn head_text(formula: &Formula) -> ArrayString<HEAD_ROOM>
 }
 
 /// Prints a formula: the head line, and each clause on a line.
-#[derive(Debug)]
 pub struct CnfText;
 
 impl Prints<Formula> for CnfText {

@@ -79,7 +79,6 @@ fn write_step<S: Shelf>(
 }
 
 /// Prints a log: each step on a line.
-#[derive(Debug)]
 pub struct LratText;
 
 impl Prints<Log> for LratText {
