@@ -6,11 +6,11 @@ ghost use Rattle.fpga_types.specs.declared.limits.TheConstants.{SLOT_LIMIT, WIDT
 ghost use Rattle.route_alone.specs.Alone.{HasTrackless, IsTracklessTree, is_of_tree};
 ghost use Rattle.route_crowd.specs.Crowd.{tree_of};
 
-use crate::roots::tree_roots;
 use crate::tracks::{closed_tracks, first_full};
 use fpga_bounds::PlacedProblem;
 use fpga_graph::Graph;
 use fpga_types::{Pattern, PinStep, WIDTH_LIMIT};
+use route_crowd::tree_roots;
 use std::alloc::{AllocError, Global};
 
 /// A tree, by its first slot, and the pin steps of its slots.

@@ -3,7 +3,6 @@
 
 mod closed_tree;
 mod laws;
-mod roots;
 mod tracks;
 
 pub use closed_tree::{ClosedTree, trackless};

@@ -20,3 +20,4 @@ pub use laws::{
 };
 pub use limits::{CROWD_LIMIT, START_LIMIT};
 pub use ordered::Precedence;
+pub use trees::tree_roots;

@@ -12,11 +12,7 @@ use std::alloc::{AllocError, Global};
 ///
 /// # Errors
 /// Where memory is short.
-pub(crate) fn tree_roots(
-    alloc: Global,
-    count: u32,
-    steps: &[RouteStep],
-) -> Result<Vec<u32>, AllocError>
+pub fn tree_roots(alloc: Global, count: u32, steps: &[RouteStep]) -> Result<Vec<u32>, AllocError>
     requires few { count ≤ SLOT_LIMIT }
     requires within { AreWithin count steps.now }
     ensures { IfOk result (λ roots. roots.items ≡ roots_of steps.now count) }
