@@ -1,1 +1,4 @@
+pub mod FileLemmas
+mod LimitRows
+pub mod SourceLemmas
 mod TextLemmas

@@ -1,2 +1,4 @@
-pub mod Texts
+pub mod Files
 pub mod Refused
+pub mod Sources
+pub mod Texts

@@ -2,6 +2,7 @@
 ghost use Rattle.std.specs.Prelude.{◌≡◌};
 
 use crate::refusal::Refusal;
+use crate::unread::{FileFault, Unread};
 use fpga_text::TextFault;
 use std::fmt;
 
@@ -20,6 +21,13 @@ impl TextFile {
         ensures { result ≡ record { file = self; fault = fault } }
     {
         Refusal { file: self, fault }
+    }
+
+    /// This file gives no value for this reason.
+    pub(crate) fn unread(self, fault: FileFault) -> Unread
+        ensures { result ≡ record { file = self; fault = fault } }
+    {
+        Unread { file: self, fault }
     }
 }
 
