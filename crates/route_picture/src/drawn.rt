@@ -1,6 +1,7 @@
 //! From words to a picture on standard output.
 ghost use Rattle.std.specs.Prelude.{◌≡◌, ◌≤◌, IfErr, IfOk, MatchResult, OnOk, map, option_map, string_bytes};
 ghost use Rattle.std.specs.Option.{option_copied};
+ghost use Rattle.fpga_problem.specs.declared.source.TheConstants.{TEXT_BYTES};
 ghost use Rattle.fpga_types.specs.declared.limits.TheConstants.{WIDTH_LIMIT};
 ghost use Rattle.route_picture.specs.Files.{AreRead, IsText, IsTextIf, IsUnread, StopsAt, StopsAtIf};
 ghost use Rattle.route_picture.specs.Printed.{IsDrawn, IsPrinted, IsStopped, IsUndrawn};
@@ -13,11 +14,8 @@ use crate::shown::shown;
 use crate::stop::Stop;
 use crate::words::{FourNames, Words, read_words};
 use desk_io::{Desk, ReadStop, Shelf, read_file};
-use fpga_problem::{TextFile, read_problem};
+use fpga_problem::{TEXT_BYTES, TextFile, read_problem};
 use std::alloc::Global;
-
-// No file is longer.
-const LIMIT: u64 = 1 << 26;
 
 /// Prints the picture that the words ask for: reads their files at the desk, and says the picture
 /// to the shelf.
@@ -29,9 +27,9 @@ pub(crate) fn print_picture<D: Desk, S: Shelf>(
     shelf: &mut S,
     words: &[String],
 ) -> Result<(), Stop>
-    ensures printed { OnOk result (IsPrinted (map string_bytes words.entry.now) LIMIT
+    ensures printed { OnOk result (IsPrinted (map string_bytes words.entry.now) TEXT_BYTES
         (D.state desk.old).files (S.state shelf.old) (S.state shelf.new)) }
-    ensures stopped { IfErr result (IsStopped (map string_bytes words.entry.now) LIMIT
+    ensures stopped { IfErr result (IsStopped (map string_bytes words.entry.now) TEXT_BYTES
         (D.state desk.old) (D.state desk.new) (S.state shelf.old) (S.state shelf.new)) }
 {
     let words = match read_words(words) {
@@ -52,9 +50,9 @@ pub(crate) fn print_picture<D: Desk, S: Shelf>(
 fn picture<D: Desk>(alloc: Global, desk: &mut D, words: Words<'_>) -> Result<String, Stop>
     requires { (1 ≤ words.width) × (words.width ≤ WIDTH_LIMIT) }
     ensures { MatchResult result
-        (λ picture. IsDrawn (words_said words.entry) LIMIT (D.state desk.old).files
+        (λ picture. IsDrawn (words_said words.entry) TEXT_BYTES (D.state desk.old).files
         (string_bytes picture))
-        (IsUndrawn (words_said words.entry) LIMIT (D.state desk.old) (D.state desk.new)) }
+        (IsUndrawn (words_said words.entry) TEXT_BYTES (D.state desk.old) (D.state desk.new)) }
 {
     let texts = match read_texts(alloc, desk, words) {
         Ok(texts) => texts,
@@ -78,9 +76,9 @@ fn picture<D: Desk>(alloc: Global, desk: &mut D, words: Words<'_>) -> Result<Str
 // The bytes of the files that the words name.
 fn read_texts<D: Desk>(alloc: Global, desk: &mut D, words: Words<'_>) -> Result<FileTexts, Stop>
     ensures { MatchResult result
-        (λ texts. AreRead (words_said words.entry) LIMIT (D.state desk.old) texts
+        (λ texts. AreRead (words_said words.entry) TEXT_BYTES (D.state desk.old) texts
         (D.state desk.new))
-        (IsUnread (words_said words.entry) LIMIT (D.state desk.old) (D.state desk.new)) }
+        (IsUnread (words_said words.entry) TEXT_BYTES (D.state desk.old) (D.state desk.new)) }
 {
     let FourNames {
         arch,
@@ -131,9 +129,9 @@ fn bytes_if<D: Desk>(
 ) -> Result<Option<Vec<u8>>, Stop>
     ensures files { (D.state desk.new).files ≡ (D.state desk.old).files }
     ensures bytes { IfOk result (λ bytes. IsTextIf (D.state desk.old).files
-        (option_copied name.entry) LIMIT (option_map (λ bytes. bytes.items) bytes)) }
+        (option_copied name.entry) TEXT_BYTES (option_map (λ bytes. bytes.items) bytes)) }
     ensures faults { IfOk result (λ _. (D.state desk.new).faults ≡ (D.state desk.old).faults) }
-    ensures stop { IfErr result (λ stop. StopsAtIf file (option_copied name.entry) LIMIT
+    ensures stop { IfErr result (λ stop. StopsAtIf file (option_copied name.entry) TEXT_BYTES
         (D.state desk.old).files (D.state desk.old).faults (D.state desk.new) stop) }
 {
     let Some(name) = name else {
@@ -149,12 +147,12 @@ fn bytes_if<D: Desk>(
 fn bytes<D: Desk>(alloc: Global, desk: &mut D, name: &str, file: GivenFile) -> Result<Vec<u8>, Stop>
     ensures files { (D.state desk.new).files ≡ (D.state desk.old).files }
     ensures bytes { IfOk result
-        (λ bytes. IsText (D.state desk.old).files name.now LIMIT bytes.items) }
+        (λ bytes. IsText (D.state desk.old).files name.now TEXT_BYTES bytes.items) }
     ensures faults { IfOk result (λ _. (D.state desk.new).faults ≡ (D.state desk.old).faults) }
-    ensures stop { IfErr result (StopsAt file name.now LIMIT
+    ensures stop { IfErr result (StopsAt file name.now TEXT_BYTES
         (D.state desk.old).files (D.state desk.old).faults (D.state desk.new)) }
 {
-    match read_file(alloc, desk, name, LIMIT) {
+    match read_file(alloc, desk, name, TEXT_BYTES) {
         Ok(bytes) => Ok(bytes),
         Err(ReadStop::Fault) => Err(Stop::Unread(file)),
         Err(ReadStop::TooLong) => Err(Stop::TooLong(file)),

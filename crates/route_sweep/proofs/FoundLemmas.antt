@@ -8,13 +8,12 @@ use Rattle.sat_clause.specs.declared.limits.TheConstants.{VARIABLE_LIMIT}
 use Rattle.sat_clause.specs.Formula.{Cnf, IsUnsat}
 use Rattle.sat_clause.specs.Step.{Step}
 use Rattle.sat_clause.proofs.Refutes.{refutes}
-use Rattle.sat_clause.specs.Learned.{added_count}
-use Rattle.sat_core.specs.Answer.{IsAnswer, IsDecided, most_added}
+use Rattle.sat_core.specs.Answer.{most_added}
 use Rattle.sat_core.specs.declared.answer.Answer.{Answer}
 use Rattle.sat_core.specs.declared.answer.Answer.TheVariants.{Refuted as HasNone, Spent as IsOpen}
 use Rattle.sat_rat.proofs.FullSound.{accepts_more}
 use Rattle.route_sweep.specs.Asked.{Asked}
-use Rattle.route_sweep.specs.Found.{FindsAt, FindsBy, HasFew, IsCountedOut, IsLeftOpenBy, IsLogOf, IsRefutedAs, IsRefutedBy, IsRefutedIf, LogReadsBack, LogReadsBackIf, WritesLog}
+use Rattle.route_sweep.specs.Found.{FindsAt, FindsBy, HasFew, HasSearched, IsCountedOut, IsLeftOpenBy, IsLogOf, IsRefutedAs, IsRefutedBy, IsRefutedIf, LogReadsBack, LogReadsBackIf, WritesLog}
 use Rattle.route_sweep.specs.Written.{WritesProof, WritesRoute}
 use Rattle.route_sweep.specs.declared.asking.TheConstants.{BUDGET_LIMIT}
 use Rattle.route_sweep.specs.declared.found.FileSlot.TheVariants.{Route, Clauses, Log}
@@ -110,10 +109,7 @@ pub record HasEnded (ask : Asked) (width : ℕ) (forbidden : Type 0) (answer : A
   pub uncounted : IsTrue ask.count → ¬ forbidden
   pub few_vars : formula.vars ≤ VARIABLE_LIMIT
   pub affordable : ask.budget ≤ BUDGET_LIMIT
-  pub of : IsLogOf ask formula log
-  pub within : added_count log ≤ ask.budget
-  pub end : IsAnswer formula ask.budget log answer
-  pub decided : most_added ask.keep formula.vars ≤ ask.budget → IsDecided answer
+  pub searched : HasSearched ask formula log answer
   pub writes : WritesProof ask width formula log before now result
 
 -- a log that reads back does so whether or not counting comes first
@@ -131,7 +127,7 @@ module _ (ask : Asked) (width : ℕ) (forbidden : Type 0) (formula : Cnf)
   ended answer h = record {
     few = few;
     reads = log-reads formula log ask.budget h.few_vars (omega (arith, few, h.affordable))
-        h.of.search h.within;
+        h.searched.of.search h.searched.within;
     writes = h.writes;
   }
 
@@ -159,9 +155,9 @@ module _ (ask : Asked) (width : ℕ) (forbidden : Type 0) (formula : Cnf)
       (finds-refuted (IsRefutedAs ask forbidden formula good) (IsLeftOpenBy ask forbidden formula)
       ask width forbidden formula good before now log
       (by-search ask.count h.uncounted (record {
-        of = h.of;
-        refutes = h.end;
-        none_good = none (refutes formula log h.end.accepts);
+        of = h.searched.of;
+        refutes = h.searched.end;
+        none_good = none (refutes formula log h.searched.end.accepts);
       }))
       result (record {
         few = few;
@@ -209,14 +205,14 @@ module _ (ask : Asked) (width : ℕ) (forbidden : Type 0) (formula : Cnf)
   spent-by Refutes cnf built past came is =
       let h : HasEnded ask width forbidden IsOpen log before now result formula =
       subst (HasEnded ask width forbidden IsOpen log before now result) built past in
-      let few_asked : ¬ (most_added ask.keep formula.vars ≤ ask.budget) = h.decided in
+      let few_asked : ¬ (most_added ask.keep formula.vars ≤ ask.budget) = h.searched.decided in
       subst (FindsBy Refutes (IsLeftOpenBy ask forbidden formula) ask width forbidden formula good
       before now) (sym is)
       (finds-spent Refutes (IsLeftOpenBy ask forbidden formula) ask width forbidden formula good
       before now log
       (record {
-        of = h.of;
-        spends = h.end;
+        of = h.searched.of;
+        spends = h.searched.end;
         short = omega (arith, few_asked);
         uncounted = h.uncounted;
       })

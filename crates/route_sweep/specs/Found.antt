@@ -8,10 +8,11 @@ use Rattle.fpga_route.specs.ReadBack.{IsPrintable, ReadsBack}
 use Rattle.fpga_types.specs.declared.route.RouteText.{RouteText}
 use Rattle.sat_clause.specs.declared.limits.TheConstants.{CLAUSE_LIMIT}
 use Rattle.sat_clause.specs.Formula.{Cnf, IsUnsat}
-use Rattle.sat_clause.specs.Learned.{deletions}
+use Rattle.sat_clause.specs.Learned.{added_count, deletions}
 use Rattle.sat_clause.specs.Step.{Step}
-use Rattle.sat_core.specs.Answer.{IsRefutation, SpendsAll, most_added}
+use Rattle.sat_core.specs.Answer.{IsAnswer, IsDecided, IsRefutation, SpendsAll, most_added}
 use Rattle.sat_core.specs.SearchLog.{IsSearchLog}
+use Rattle.sat_core.specs.declared.answer.Answer.{Answer}
 use Rattle.sat_rat.specs.FullJudge.{FullAccepts}
 use Rattle.sat_text.specs.CnfText.{ReadsCnf}
 use Rattle.sat_text.specs.LratText.{ReadsLrat}
@@ -41,6 +42,14 @@ IsUnbuilt formula (Fault slot) = ⊥
 pub record IsLogOf (ask : Asked) (formula : Cnf) (log : List Step) : Type 0 where
   pub search : IsSearchLog formula log
   pub kept : IsTrue ask.keep → deletions log ≡ 0
+
+-- a search through the formula has come to this answer with this log, within the budget
+pub record HasSearched (ask : Asked) (formula : Cnf) (log : List Step) (answer : Answer) : Type 0
+  where
+    pub of : IsLogOf ask formula log
+    pub within : added_count log ≤ ask.budget
+    pub end : IsAnswer formula ask.budget log answer
+    pub decided : most_added ask.keep formula.vars ≤ ask.budget → IsDecided answer
 
 -- the log refutes the formula within the budget, and no route is a routing
 pub record IsRefutedBy

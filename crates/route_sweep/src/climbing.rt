@@ -8,7 +8,7 @@ ghost use Rattle.route_sweep.specs.Climb.{ClimbsTo, numbered};
 
 use crate::asking::Ask;
 use crate::found::{Climbed, Found, Stop};
-use crate::searching::one_width;
+use crate::searching::{Alone, one_width};
 use desk_io::Shelf;
 use fpga_bounds::PlacedProblem;
 use fpga_types::WIDTH_LIMIT;
@@ -51,7 +51,7 @@ pub fn climb<E: Encoder, S: Shelf>(
             numbered: true,
             count,
         };
-        match one_width(alloc, encoder, problem, width, &ask, shelf) {
+        match one_width(alloc, &Alone, encoder, problem, width, &ask, shelf) {
             Ok(Found::Refuted) => {}
             Ok(Found::Routed) => return Ok(Climbed::Routed { width }),
             Ok(Found::Spent { learned }) => return Ok(Climbed::Undecided { width, learned }),

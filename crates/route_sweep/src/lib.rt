@@ -15,5 +15,5 @@ pub use building::few_clauses;
 pub use climbing::climb;
 pub use counting::count_first;
 pub use found::{Climbed, FileSlot, Found, Stop};
-pub use searching::one_width;
+pub use searching::{Alone, Searcher, one_width};
 pub use writing::{write_proof, write_routing};

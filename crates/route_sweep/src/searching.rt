@@ -1,10 +1,10 @@
 //! The search at one width.
-ghost use Rattle.std.specs.Prelude.{◌≤◌, IsTrue};
+ghost use Rattle.std.specs.Prelude.{◌≡◌, ◌≤◌, [], IfOk, IsTrue};
 ghost use Rattle.route_count.specs.Begun.{IsBegunBy};
 ghost use Rattle.route_count.specs.Crowded.{IsCrowded};
 ghost use Rattle.route_encode.specs.Encoding.{cnf_of};
 ghost use Rattle.route_sweep.specs.Asked.{asked};
-ghost use Rattle.route_sweep.specs.Found.{FindsAt};
+ghost use Rattle.route_sweep.specs.Found.{FindsAt, HasFew, HasSearched};
 
 use crate::asking::Ask;
 use crate::building::few_clauses;
@@ -15,9 +15,45 @@ use desk_io::Shelf;
 use fpga_bounds::PlacedProblem;
 use fpga_types::WIDTH_LIMIT;
 use route_encode::Encoder;
-use sat_clause::Log;
+use sat_clause::{Formula, Log};
 use sat_core::{Answer, solve};
-use std::alloc::Global;
+use std::alloc::{AllocError, Global};
+
+/// Who searches through the clauses of a problem: one search, or several.
+pub trait Searcher {
+    /// What the search comes to. The log has no step before, and then those of the search.
+    ///
+    /// # Errors
+    /// Where memory is short.
+    fn search(
+        &self,
+        alloc: Global,
+        formula: &Formula,
+        ask: &Ask<'_>,
+        log: &mut Log,
+    ) -> Result<Answer, AllocError>
+        requires few { HasFew formula.now.cnf }
+        requires fresh { log.old.steps ≡ [] }
+        ensures { IfOk result (HasSearched (asked ask.now) formula.now.cnf log.new.steps) };
+}
+
+/// One search alone.
+pub struct Alone;
+
+impl Searcher for Alone {
+    fn search(
+        &self,
+        alloc: Global,
+        formula: &Formula,
+        ask: &Ask<'_>,
+        log: &mut Log,
+    ) -> Result<Answer, AllocError> {
+        let Ok(answer) = solve(alloc, formula, ask.budget, ask.keep, log) else {
+            return Err(AllocError);
+        };
+        Ok(answer)
+    }
+}
 
 /// Searches for a routing of a problem at a width from 1 to 64, and writes the routing; or else the
 /// clauses, and then the log of the search. Where it is asked for, a width that numbers alone
@@ -31,8 +67,9 @@ use std::alloc::Global;
 /// `Fault` names the file on which the shelf failed; it and those that were written before it stand
 /// as far as they were written. `TooManyClauses` has their number, and `Memory` comes where memory
 /// is short: nothing was written then.
-pub fn one_width<E: Encoder, S: Shelf>(
+pub fn one_width<R: Searcher, E: Encoder, S: Shelf>(
     alloc: Global,
+    searcher: &R,
     encoder: &E,
     problem: &PlacedProblem,
     width: u32,
@@ -58,7 +95,7 @@ pub fn one_width<E: Encoder, S: Shelf>(
         Err(stop) => return Err(stop),
     }
     let mut log = Log::new(alloc);
-    match solve(alloc, &formula, ask.budget, ask.keep, &mut log) {
+    match searcher.search(alloc, &formula, ask, &mut log) {
         Ok(Answer::Model(values)) => {
             let Ok(found) = encoder.decode(alloc, problem, width, &values) else {
                 return Err(Stop::Memory);

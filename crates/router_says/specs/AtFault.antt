@@ -23,7 +23,7 @@ use Rattle.router_says.specs.declared.at_fault.Sought.{Sought}
 use Rattle.router_says.specs.declared.at_fault.Sought.TheVariants.{Keywords, Block, GlobalPin, SharedClass}
 use Rattle.router_says.specs.declared.at_fault.TheConstants.{LIMIT}
 use Rattle.router_says.specs.declared.pin_use.PinUse.{PinUse}
-use Rattle.router_top.specs.Sources.{IsLonger}
+use Rattle.fpga_problem.specs.Sources.{IsLonger}
 use Rattle.router_top.specs.declared.text_file.TextFile.{TextFile}
 use Rattle.router_top.specs.declared.text_file.TextFile.TheVariants.{Problem}
 

@@ -1,21 +1,22 @@
 -- The names of the files that a job reads, as its words give them.
 use Rattle.std.specs.Prelude.{ℕ, ◌++◌, List, codes, Option, Some, None, Result, Ok, Err, option_and_then, option_map}
+use Rattle.fpga_problem.specs.Files.{FileNames}
 use Rattle.fpga_problem.specs.declared.text_file.TextFile.TheVariants.{Architecture, Netlist, Placement, Route}
-use Rattle.router_says.specs.declared.names.Written.{Written}
-use Rattle.router_says.specs.declared.names.Written.TheVariants.{Each, One}
-use Rattle.router_top.specs.TextFiles.{file_word}
+use Rattle.router_top.specs.Report.{file_word}
 use Rattle.router_top.specs.declared.text_file.TextFile.{TextFile}
 use Rattle.router_top.specs.declared.text_file.TextFile.TheVariants.{Cnf, Lrat, Problem, Routed}
 use Rattle.router_words.specs.Command.{job_of}
-use Rattle.router_words.specs.Job.{CheckAsked, FilesAsked, JobAsked, VerifyAsked, Routes, Sweeps, Encodes, Blames, Checks, Verifies, Generates, Tries, job_said}
+use Rattle.router_words.specs.Job.{CheckAsked, JobAsked, VerifyAsked, Routes, Sweeps, Encodes, Blames, Checks, Verifies, Generates, Tries, job_said}
 use Rattle.router_words.specs.Word.{Word}
 use Rattle.router_words.specs.declared.fault.Refusal.{Refusal}
 use Rattle.router_words.specs.declared.job.Job.{Job}
 use Rattle.router_words.specs.declared.method.Method.{Method}
 use Rattle.router_words.specs.declared.method.Method.TheVariants.{Within}
+use Rattle.router_says.specs.declared.names.Written.{Written}
+use Rattle.router_says.specs.declared.names.Written.TheVariants.{Each, One}
 
 -- the name among those of a problem's four files
-abbrev pub name_of_four : FilesAsked → TextFile → Option Word
+abbrev pub name_of_four : FileNames → TextFile → Option Word
 name_of_four files (Problem Architecture) = Some files.architecture
 name_of_four files (Problem Netlist) = Some files.netlist
 name_of_four files (Problem Placement) = Some files.placement

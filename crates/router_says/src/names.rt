@@ -1,6 +1,7 @@
 //! The names of the files that a job reads and writes.
 ghost use Rattle.std.specs.Prelude.{◌≡◌, IfOk, option_map};
 ghost use Rattle.std.specs.Option.{option_copied};
+ghost use Rattle.fpga_problem.specs.Files.{names_said};
 ghost use Rattle.router_says.specs.Names.{
   asked,
   asked_in,
@@ -14,12 +15,12 @@ ghost use Rattle.router_says.specs.Names.{
   reach_of as reach_of_job,
 };
 ghost use Rattle.router_top.specs.declared.text_file.TextFile.TheVariants.{Problem};
-ghost use Rattle.router_words.specs.Job.{check_said, files_said, verify_said};
+ghost use Rattle.router_words.specs.Job.{check_said, verify_said};
 ghost use Rattle.router_words.specs.Word.{words_of};
 
-use fpga_problem::TextFile as ProblemFile;
+use fpga_problem::{FourNames, TextFile as ProblemFile};
 use router_top::TextFile;
-use router_words::{CheckJob, FourNames, Job, Method, VerifyJob, WordsFault, read_words};
+use router_words::{CheckJob, Job, Method, VerifyJob, WordsFault, read_words};
 use std::alloc::{AllocError, Global};
 
 /// The job that the words ask for, if they ask for one.
@@ -59,7 +60,7 @@ pub(crate) fn problem_name<'a>(job: Option<Job<'a>>, file: ProblemFile) -> Optio
 }
 
 fn name_of_four<'a>(files: FourNames<'a>, file: TextFile) -> Option<&'a str>
-    ensures { option_copied result ≡ name_of_four (files_said files.entry) file }
+    ensures { option_copied result ≡ name_of_four (names_said files.entry) file }
 {
     match file {
         TextFile::Problem(ProblemFile::Architecture) => Some(files.architecture),

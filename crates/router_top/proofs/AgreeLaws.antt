@@ -1,43 +1,35 @@
 -- Outcomes that are true of the same words and files agree: they are one, or one of them says that
 -- a search was left open.
-use Rattle.std.proofs.Common.{true, false, ◌≡◌, ◌∙◌, ◌⊎◌, ℕ, zero, suc, ◌<◌, ◌≤◌, List, length, Some, Ok, Err, Result, refl, sym, ap, subst, inl, inr, arith}
 use Rattle.std.specs.Prelude.{◌*◌, MatchResult, Option}
-use Rattle.desk_io.specs.Files.{FileMap}
+use Rattle.std.proofs.Common.{true, false, ◌≡◌, ◌∙◌, ◌⊎◌, ℕ, zero, suc, ◌<◌, ◌≤◌, List, length, Some, Ok, Err, Result, refl, sym, ap, subst, inl, inr, arith}
+use Rattle.fpga_problem.proofs.FileLemmas.{one-problem}
+use Rattle.fpga_problem.proofs.SourceLemmas.{reads-alike}
 use Rattle.fpga_route.specs.Value.{route_value}
-use Rattle.fpga_types.specs.Problem.{RoutingProblem}
 use Rattle.fpga_types.specs.Slots.{slots}
 use Rattle.fpga_types.specs.declared.limits.TheConstants.{SLOT_LIMIT}
 use Rattle.list_laws.proofs.Places.{some_is}
-use Rattle.route_sweep.specs.Found.{HasFew}
 use Rattle.route_verify.specs.Reach.{judged_by}
-use Rattle.sat_clause.specs.Formula.{Cnf}
 use Rattle.sat_clause.specs.declared.limits.TheConstants.{CLAUSE_LIMIT}
 use Rattle.sat_rat.specs.FullJudge.{full_judge}
 use Rattle.sat_text.specs.CnfText.{cnf_said}
 use Rattle.sat_text.specs.LratText.{lrat_said}
-use Rattle.router_words.specs.Command.{job_of}
 use Rattle.router_words.specs.Refusal.{code_of}
-use Rattle.router_words.specs.Job.{Blames, CheckAsked, Checks, Encodes, FilesAsked, Generates, JobAsked, RecipeAsked, Routes, Sweeps, TrialAsked, Tries, Verifies, VerifyAsked}
-use Rattle.router_words.specs.Word.{Word}
 use Rattle.router_words.specs.declared.fault.Refusal.{Refusal}
-use Rattle.router_words.specs.declared.method.Method.{Method}
-use Rattle.router_top.specs.Check.{ChecksTo, cnf_source, judgement_outcome, lrat_source}
+use Rattle.router_top.specs.Check.{ChecksTo, cnf_source, judgement_outcome, lrat_source, JudgesTo, VerifiesTo, judged_outcome}
 use Rattle.router_top.specs.Generated.{IsTooLarge, Makes}
 use Rattle.router_top.specs.Method.{HasNone, clauses_by}
 use Rattle.router_top.specs.Search.{Search, clauses_held, core_search, route_search, sweep_of, sweep_search}
-use Rattle.router_top.specs.Sources.{IsHalted, ReadsThen}
 use Rattle.router_top.specs.Suited.{IsLeastUnsuited, IsTrueOfSuited, IsUnsuited, Suits, is_suited, obstacle_to}
+use Rattle.router_top.specs.Report.{unread_outcome}
 use Rattle.router_top.specs.Truth.{Agrees, IsOpenBelow, IsReached, IsTrueAt, IsTrueOf, IsTrueOfClauses, IsTrueOfEncoding, IsTrueOfJob, IsTrueOfRecipe, IsTrueOfSearch, IsTrueOfSuitedSearch, IsTrueOfTurns, IsTrueOfWork}
-use Rattle.router_top.specs.Verify.{JudgesTo, VerifiesTo, judged_outcome, routed_source}
+use Rattle.router_top.specs.Subject.{FileMap, FileNames, IsHalted, ReadsThen, route_source, RoutingProblem, HasFew, Cnf, job_of, Blames, CheckAsked, Checks, Encodes, Generates, JobAsked, RecipeAsked, Routes, Sweeps, TrialAsked, Tries, Verifies, VerifyAsked, Word, Method, Outcome, Done, NotSymmetric, Undecided, Usage}
 use Rattle.router_top.specs.declared.outcome.Obstacle.{Obstacle}
-use Rattle.router_top.specs.declared.outcome.Outcome.{Outcome}
-use Rattle.router_top.specs.declared.outcome.Outcome.TheVariants.{Done, NotSymmetric, Undecided, Usage}
-use Rattle.router_top.proofs.FourLaws.{lack-poses, one-lack, one-problem}
+use Rattle.router_top.specs.declared.text_file.TextFile.TheVariants.{Cnf as CnfFile, Lrat, Routed}
 use Rattle.router_top.proofs.GeneratedLaws.{one-made}
-use Rattle.router_top.proofs.SourceLaws.{reads-alike}
+use Rattle.router_top.proofs.StopLaws.{lack-poses, one-lack}
 
 -- two true outcomes of the work on a problem are one, or both are true of one problem
-work-agrees : (files : FileMap) (names : FilesAsked) (says : RoutingProblem → Outcome → Type 0)
+work-agrees : (files : FileMap) (names : FileNames) (says : RoutingProblem → Outcome → Type 0)
     (a b : Outcome) → IsTrueOfWork names says (Some files) a
     → IsTrueOfWork names says (Some files) b
     → ((p : RoutingProblem) → says p a → says p b → Agrees a b) → Agrees a b
@@ -221,23 +213,15 @@ module _ (method : Method) (first last : ℕ) (p : RoutingProblem) where
 check-agrees : (job : CheckAsked) (files : FileMap) (a b : Outcome)
     → ChecksTo (IsHalted (Some files)) (Some files) job a
     → ChecksTo (IsHalted (Some files)) (Some files) job b → a ≡ b
-check-agrees job files a b h g =
-    reads-alike files (cnf_source job.cnf) cnf_said
-    (λ cnf. ReadsThen (IsHalted (Some files)) (Some files)
-    (lrat_source job.lrat (length cnf.clauses)) lrat_said
-    (λ log outcome. outcome ≡ judgement_outcome (full_judge cnf log))) a b h g
-    (λ cnf u v. reads-alike files (lrat_source job.lrat (length cnf.clauses)) lrat_said
-    (λ log outcome. outcome ≡ judgement_outcome (full_judge cnf log)) a b u v
-    (λ log e f. e ∙ sym f))
+check-agrees job files a b h g = reads-alike files h g
+    (λ cnf h g. reads-alike files h g (λ log is other. is ∙ sym other))
 
 verify-agrees : (job : VerifyAsked) (files : FileMap) (a b : Outcome)
     → VerifiesTo (IsHalted (Some files)) (Some files) job a
     → VerifiesTo (IsHalted (Some files)) (Some files) job b → Agrees a b
 verify-agrees job files a b h g =
     work-agrees files job.files (JudgesTo (IsHalted (Some files)) (Some files) job) a b h g
-    (λ p u v. inl (reads-alike files (routed_source job.routed) route_value
-    (λ found outcome. outcome ≡ judged_outcome (judged_by job.reach job.width p found)) a b u v
-    (λ found e f. e ∙ sym f)))
+    (λ p h g. inl (reads-alike files h g (λ found is other. is ∙ sym other)))
 
 -- ---- a generated problem
 

@@ -1,36 +1,26 @@
 -- What the work of a run has come to, whatever its words ask for. The laws on runs go by these four
 -- kinds; which of them a job comes to is said in one place.
-use Rattle.std.proofs.Common.{◌≡◌, ℕ, ◌≤◌, List, [], ◌∷◌, ◌++◌, length, take, Ok, Result}
 use Rattle.std.specs.Prelude.{◌⊎◌}
-use Rattle.desk_io.specs.Files.{Bytes, HasRisen}
-use Rattle.desk_io.specs.ShelfState.{ShelfState}
+use Rattle.std.proofs.Common.{◌≡◌, ℕ, ◌≤◌, List, [], ◌∷◌, ◌++◌, length, take, Ok, Result}
+use Rattle.desk_io.specs.Files.{HasRisen}
 use Rattle.fpga_types.specs.Given.{IsGiven}
 use Rattle.fpga_types.specs.declared.limits.TheConstants.{WIDTH_LIMIT}
-use Rattle.fpga_types.specs.declared.route.RouteText.{RouteText}
-use Rattle.route_sweep.specs.Found.{HasFew}
 use Rattle.route_sweep.specs.declared.found.Found.{Found}
 use Rattle.route_sweep.specs.declared.found.Found.TheVariants.{Refuted}
 use Rattle.route_sweep.specs.declared.found.Stop.{Stop}
-use Rattle.sat_clause.specs.Step.{Step}
 use Rattle.sat_clause.specs.declared.limits.TheConstants.{CLAUSE_LIMIT}
-use Rattle.router_words.specs.Word.{Word}
 use Rattle.router_top.specs.Comes.{ComesTo, lower_files}
-use Rattle.router_top.specs.Files.{WritesFiles}
-use Rattle.router_top.specs.JobFiles.{AreFilesOf, IsClimb, LeavesWhole, files_in, in_slots}
+use Rattle.router_top.specs.Written.{WritesFiles, AreWritten, JobFile, with_files}
+use Rattle.router_top.specs.JobFiles.{AreFilesOf, IsClimb, LeavesWhole}
 use Rattle.router_top.specs.Means.{Means}
 use Rattle.router_top.specs.Method.{clauses_by}
-use Rattle.router_top.specs.Outcomes.{found_outcome}
+use Rattle.router_top.specs.Report.{found_outcome}
 use Rattle.router_top.specs.Run.{Scene}
 use Rattle.router_top.specs.Saying.{HasNoLead, IsLead, Leads, more_said}
-use Rattle.router_top.specs.Search.{clauses_held}
-use Rattle.router_top.specs.SearchFiles.{proof_files, route_file}
+use Rattle.router_top.specs.Search.{clauses_held, proof_files, route_file}
 use Rattle.router_top.specs.Truth.{IsTrueOf, IsTrueOfSearch}
 use Rattle.router_top.specs.Work.{Finds}
-use Rattle.router_top.specs.Written.{AreWritten, NamedText, with_files}
-use Rattle.router_top.specs.declared.outcome.Outcome.{Outcome}
-use Rattle.router_top.specs.declared.outcome.Outcome.TheVariants.{Done, Unroutable, WriteFault, OutOfMemory}
-use Rattle.router_top.specs.declared.slot.Slot.{Slot}
-use Rattle.router_top.specs.declared.slot.Slot.TheVariants.{Said}
+use Rattle.router_top.specs.Subject.{Bytes, ShelfState, RouteText, HasFew, Step, Word, Outcome, Done, Unroutable, WriteFault, OutOfMemory, Said}
 use Rattle.router_top.proofs.WrittenLaws.{AreApart}
 
 -- no fault of the shelf, and no width that is unroutable
@@ -44,10 +34,10 @@ abbrev pub IsHeard : Outcome → Type 0
 IsHeard (WriteFault Said) = ⊥
 IsHeard outcome = Unit {0}
 
--- none of these slots is of what is said
-abbrev pub AreHeard : List Slot → Type 0
+-- none of these files is what is said
+abbrev pub AreHeard : List JobFile → Type 0
 AreHeard [] = Unit {0}
-AreHeard (slot ∷ slots) = IsHeard (WriteFault slot) × AreHeard slots
+AreHeard (file ∷ files) = IsHeard (WriteFault file.slot) × AreHeard files
 
 -- something kept the run from its work, or it judged a file: nothing was written
 pub record IsIdle (words : List Word) (at : Scene) (o : Outcome) : Type 0 where
@@ -99,13 +89,11 @@ pub record HasSearched (words : List Word) (at : Scene) (o : Outcome) : Type 0 w
 
 -- files were written in silence, one after the other, or not all of them
 pub record HasWritten (words : List Word) (at : Scene) (o : Outcome) : Type 0 where
-  pub slots : List Slot
-  pub files : List NamedText
-  pub of : AreFilesOf words at.desk.files (in_slots slots files)
-  pub matched : files_in (in_slots slots files) ≡ files
+  pub files : List JobFile
+  pub of : AreFilesOf words at.desk.files files
   pub apart : AreApart files
-  pub heard : AreHeard slots
-  pub writes : WritesFiles slots files at.shelf at.shelf_now o
+  pub heard : AreHeard files
+  pub writes : WritesFiles files at.shelf at.shelf_now o
   pub leads : HasNoLead words o
   pub means : o ≡ Done → AreWritten files at.shelf.files at.shelf_now.files
       → Means words at.desk.files at.shelf.files at.shelf_now.files Done

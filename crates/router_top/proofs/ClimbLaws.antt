@@ -1,28 +1,23 @@
 -- What a climb comes to at the width where it ends, and what it has shown of the lower ones.
-use Rattle.std.proofs.Common.{◌≡◌, ◌∙◌, ◌⊎◌, ℕ, zero, suc, ◌+◌, ◌≤◌, ◌<◌, List, [], ◌∷◌, ◌++◌, Option, refl, sym, ap, subst, inl, inr, arith}
 use Rattle.std.specs.Prelude.{Result, Ok, Err, flat_map}
 use Rattle.std.specs.List.{range_with_len}
+use Rattle.std.proofs.Common.{◌≡◌, ◌∙◌, ◌⊎◌, ℕ, zero, suc, ◌+◌, ◌≤◌, ◌<◌, List, [], ◌∷◌, ◌++◌, Option, refl, sym, ap, subst, inl, inr, arith}
 use Rattle.std.proofs.lemmas.Grind.{flat_map-append}
-use Rattle.desk_io.specs.Files.{FileMap}
-use Rattle.desk_io.specs.ShelfState.{ShelfState}
 use Rattle.fpga_types.specs.Fits.{Fits}
 use Rattle.fpga_types.specs.Given.{IsGiven}
-use Rattle.fpga_types.specs.Problem.{RoutingProblem}
 use Rattle.route_count.specs.Crowded.{IsCrowded}
 use Rattle.route_sweep.specs.Climb.{AreRefuted, climbed}
 use Rattle.route_sweep.specs.Found.{IsRefutedAs, LogReadsBackIf, WritesLog}
 use Rattle.route_sweep.specs.declared.found.Found.{Found}
 use Rattle.route_sweep.specs.declared.found.Found.TheVariants.{Routed as IsRouted, Refuted, Spent}
 use Rattle.route_sweep.specs.declared.found.Stop.{Stop}
-use Rattle.sat_clause.specs.Step.{Step}
-use Rattle.router_words.specs.Job.{SweepAsked}
 use Rattle.router_top.specs.Comes.{IsRefutedAt}
 use Rattle.router_top.specs.Method.{IsRoutingBy, clauses_by}
-use Rattle.router_top.specs.Outcomes.{climbed_outcome, found_outcome}
-use Rattle.router_top.specs.Search.{Search, sweep_search}
-use Rattle.router_top.specs.SearchFiles.{proof_files}
+use Rattle.router_top.specs.Report.{climbed_outcome, found_outcome}
+use Rattle.router_top.specs.Search.{Search, sweep_search, proof_files}
 use Rattle.router_top.specs.Work.{Finds}
-use Rattle.router_top.specs.Written.{NamedText, with_files}
+use Rattle.router_top.specs.Written.{JobFile, with_files}
+use Rattle.router_top.specs.Subject.{FileMap, ShelfState, RoutingProblem, Step, SweepAsked}
 use Rattle.router_top.proofs.EndLaws.{refutes-none, refutes-strictly}
 use Rattle.router_top.proofs.WrittenLaws.{with_files-append}
 
@@ -159,7 +154,7 @@ module _ (job : SweepAsked) (p : RoutingProblem) (given : IsGiven p) (fits : Fit
       let at : logs (suc below) ≡ log = later-above below log (h.logs (suc below)) in
       let old : (k : ℕ) → k ≤ below → logs k ≡ h.logs k =
       (λ k low. later-upto below k log (h.logs k) low) in
-      let files_of : (ℕ → List Step) → ℕ → List NamedText =
+      let files_of : (ℕ → List Step) → ℕ → List JobFile =
       (λ of k. proof_files search p k (of k)) in
       let lower = rows-alike (files_of logs) (files_of h.logs) 1 below
       (λ k low high. ap (proof_files search p k) (old k (omega (arith, high)))) in
@@ -180,7 +175,7 @@ module _ (job : SweepAsked) (p : RoutingProblem) (given : IsGiven p) (fits : Fit
             ∙ sym (with_files-append
             (flat_map (files_of h.logs) (range_with_len 1 below))
             (proof_files search p (suc below) log) before)
-            ∙ ap (λ (fs : List NamedText). with_files fs before) (sym all);
+            ∙ ap (λ (fs : List JobFile). with_files fs before) (sym all);
       }
 
   pub climbed-logs : (below : ℕ) (before now : ShelfState) → HasClimbed below before now

@@ -1,15 +1,14 @@
 -- What each job has come to, by what it leaves.
-use Rattle.std.proofs.Common.{◌≡◌, ◌∙◌, ◌⊎◌, ℕ, ◌+◌, ◌-◌, ◌≤◌, List, [], ◌∷◌, ◌++◌, length, Option, Ok, Err, Result, refl, sym, ap, subst, inl, inr, arith, take}
 use Rattle.std.specs.Prelude.{◌<◌, MatchResult, None, Some, flat_map}
 use Rattle.std.specs.List.{range_with_len}
-use Rattle.desk_io.specs.Files.{Bytes, FileMap, HasRisen}
-use Rattle.desk_io.specs.ShelfState.{ShelfState, after_say}
+use Rattle.std.proofs.Common.{◌≡◌, ◌∙◌, ◌⊎◌, ℕ, ◌+◌, ◌-◌, ◌≤◌, List, [], ◌∷◌, ◌++◌, length, Option, Ok, Err, Result, refl, sym, ap, subst, inl, inr, arith, take}
+use Rattle.desk_io.specs.Files.{HasRisen}
 use Rattle.desk_io.proofs.FileLemmas.{has_risen}
+use Rattle.fpga_problem.proofs.SourceLemmas.{calm-reads}
 use Rattle.fpga_route.specs.Value.{route_value}
 use Rattle.fpga_types.specs.Given.{IsGiven}
-use Rattle.fpga_types.specs.Problem.{RoutingProblem}
 use Rattle.fpga_types.specs.declared.limits.TheConstants.{WIDTH_LIMIT}
-use Rattle.fpga_types.specs.declared.route.RouteText.{RouteText}
+use Rattle.route_core.specs.Blamed.{blamed}
 use Rattle.route_count.specs.Crowded.{IsCrowded}
 use Rattle.route_sweep.specs.Climb.{EndsAt}
 use Rattle.route_sweep.specs.declared.found.FileSlot.{FileSlot}
@@ -17,66 +16,48 @@ use Rattle.route_sweep.specs.declared.found.FileSlot.TheVariants.{Clauses}
 use Rattle.route_sweep.specs.declared.found.Found.{Found}
 use Rattle.route_sweep.specs.declared.found.Stop.{Stop}
 use Rattle.route_sweep.specs.declared.found.Stop.TheVariants.{Fault, TooManyClauses, Memory}
+use Rattle.route_sweep.specs.declared.found.Found.TheVariants.{Routed as IsRouted, Refuted, Spent}
 use Rattle.route_verify.specs.Reach.{judged_by}
 use Rattle.route_verify.specs.declared.judgement.Judgement.{Judgement as Judged}
 use Rattle.route_verify.specs.declared.judgement.Judgement.TheVariants.{Legal as IsLegal, NotLegal as IsNotLegal}
-use Rattle.sat_clause.specs.Formula.{Cnf}
 use Rattle.sat_clause.specs.Judge.{Judgement, Accepted as IsAccepted, Refused as IsRefused}
-use Rattle.sat_clause.specs.Step.{HaveLiterals, Step}
+use Rattle.sat_clause.specs.Step.{HaveLiterals}
 use Rattle.sat_clause.specs.declared.limits.TheConstants.{CLAUSE_LIMIT}
 use Rattle.sat_rat.specs.FullJudge.{full_judge}
 use Rattle.sat_rat.proofs.FullSound.{full_refutes}
 use Rattle.sat_text.specs.CnfText.{cnf_said}
 use Rattle.sat_text.specs.LratText.{lrat_said}
-use Rattle.router_words.specs.Command.{job_of}
 use Rattle.router_words.specs.Refusal.{code_of}
-use Rattle.router_words.specs.Job.{CheckAsked, Checks, EncodeAsked, Encodes as EncodesJob, FilesAsked, GenAsked, Generates, JobAsked, RouteAsked, Routes, SweepAsked, Sweeps as SweepsJob, TrialAsked, Tries as TriesJob, Verifies, VerifyAsked, Blames, CoreAsked}
-use Rattle.router_words.specs.Word.{Word}
 use Rattle.router_words.specs.declared.fault.Refusal.{Refusal}
-use Rattle.router_words.specs.declared.method.Method.{Method}
-use Rattle.router_top.specs.Check.{ChecksTo, cnf_source, judgement_outcome, lrat_source}
+use Rattle.router_top.specs.Check.{JudgesTo, ChecksTo, cnf_source, judgement_outcome, lrat_source, VerifiesTo, judged_outcome}
 use Rattle.router_top.specs.Comes.{ComesTo, lower_files}
-use Rattle.router_top.specs.Files.{problem_slots}
-use Rattle.router_top.specs.FourFiles.{Poses}
 use Rattle.router_top.specs.Generated.{PosesNone, generated_files, texts_of}
 use Rattle.router_top.specs.JobFiles.{IsClimb, LeavesWhole}
 use Rattle.router_top.specs.Means.{IsJudged, Means}
 use Rattle.router_top.specs.Method.{IsRoutingBy, clauses_by}
-use Rattle.router_top.specs.Outcomes.{climbed_outcome, found_outcome, written_outcome}
-use Rattle.router_top.specs.Prepared.{LeavesPrepared}
+use Rattle.router_top.specs.Report.{climbed_outcome, found_outcome, unread_outcome, written_outcome}
+use Rattle.router_top.specs.Suited.{LeavesPrepared, EncodeLeaves, IsUnsuited, LeavesSuited, RouteLeaves, Suits, SweepLeaves}
 use Rattle.router_top.specs.Run.{Leaves, LeavesJob, LeavesWork, Scene, TriesGenerated, WritesGenerated}
 use Rattle.router_top.specs.Saying.{more_said, AreNetLines, IsUnroutable, Leads}
-use Rattle.router_top.specs.Search.{files_of, route_search, search_asked, sweep_of, sweep_search, Search, clauses_held, core_search, lower_widths}
-use Rattle.router_top.specs.SearchFiles.{proof_files, route_file}
-use Rattle.router_top.specs.Sources.{IsHalted, IsStopped, ReadsThen, Says}
-use Rattle.router_top.specs.Suited.{EncodeLeaves, IsUnsuited, LeavesSuited, RouteLeaves, Suits, SweepLeaves}
-use Rattle.router_top.specs.Trial.{trial_line}
+use Rattle.router_top.specs.Search.{files_of, route_search, search_asked, sweep_of, sweep_search, Search, clauses_held, core_search, lower_widths, proof_files, route_file}
+use Rattle.router_top.specs.Work.{trial_line, Encodes, LeavesRoute, Sweeps, WritesClauses, clauses_file, Finds}
 use Rattle.router_top.specs.Truth.{IsTrueOf, IsTrueOfEncoding, IsTrueOfJob, IsTrueOfSearch, IsTrueOfSuitedSearch, IsTrueOfWork}
-use Rattle.router_top.specs.Verify.{VerifiesTo, judged_outcome, routed_source}
-use Rattle.router_top.specs.Work.{Encodes, LeavesRoute, Sweeps, WritesClauses, clauses_file, Finds}
-use Rattle.router_top.specs.Written.{NamedText, with_files, AreWritten}
-use Rattle.router_top.specs.declared.outcome.Outcome.{Outcome}
-use Rattle.router_top.specs.declared.outcome.Outcome.TheVariants.{Done, Usage, WriteFault, OutOfMemory, Unroutable, Limit}
-use Rattle.router_top.specs.declared.slot.Slot.TheVariants.{File}
+use Rattle.router_top.specs.Written.{JobFile, with_files, AreWritten}
+use Rattle.router_top.specs.Core.{LeavesCore, SaysBlamed, SaysNets, net_lines}
+use Rattle.router_top.specs.Headline.{IsRefuted}
+use Rattle.router_top.specs.Subject.{Bytes, FileMap, ShelfState, after_say, FileNames, Poses, IsHalted, IsStopped, ReadsThen, Says, route_source, RoutingProblem, RouteText, HasFew, Cnf, Step, job_of, CheckAsked, Checks, EncodeAsked, Encodes as EncodesJob, GenAsked, Generates, JobAsked, RouteAsked, Routes, SweepAsked, Sweeps as SweepsJob, TrialAsked, Tries as TriesJob, Verifies, VerifyAsked, Blames, CoreAsked, Word, Method, Strictly, Outcome, Done, Usage, WriteFault, OutOfMemory, Unroutable, Limit, File}
+use Rattle.router_top.specs.declared.text_file.TextFile.TheVariants.{Cnf as CnfFile, Lrat, Routed}
 use Rattle.router_top.proofs.Came.{Came, Cut, HasCome, Idle, IsSpared, Searched, Wrote, ended_with}
 use Rattle.router_top.proofs.ClimbLaws.{climbed-calm, climbed-logs, climbed-outcome, climbed-said}
-use Rattle.router_top.proofs.FourLaws.{calm-lack}
 use Rattle.router_top.proofs.GeneratedLaws.{made-poses, problem-apart}
 use Rattle.router_top.proofs.LeftLaws.{none-left, log-left}
 use Rattle.router_top.proofs.LiteralLaws.{log_literals}
 use Rattle.router_top.proofs.NameLaws.{proof-apart, proofs-then-proof, proofs-then-route, route-apart}
 use Rattle.router_top.proofs.SaidLaws.{finds-silent, more-none}
-use Rattle.router_top.proofs.SourceLaws.{calm-reads}
-use Rattle.router_top.proofs.StopLaws.{HoldsOfStops, lacks-hold, reads-hold, unsuited-holds}
+use Rattle.router_top.proofs.StopLaws.{HoldsOfStops, IsSpent, calm-lack, lacks-hold, reads-hold, unsuited-holds}
 use Rattle.router_top.proofs.TurnLaws.{one-held}
 use Rattle.router_top.proofs.WrittenLaws.{AreApart}
-use Rattle.router_top.specs.Core.{LeavesCore, SaysBlamed, SaysNets, net_lines}
 use Rattle.router_top.proofs.MeansLaws.{refuted-there}
-use Rattle.route_sweep.specs.declared.found.Found.TheVariants.{Routed as IsRouted, Refuted, Spent}
-use Rattle.router_words.specs.declared.method.Method.TheVariants.{Strictly}
-use Rattle.router_top.specs.Headline.{IsRefuted}
-use Rattle.route_core.specs.Blamed.{blamed}
-use Rattle.route_sweep.specs.Found.{HasFew}
 
 less-itself : (n : ℕ) → n - n ≡ 0
 less-itself n = omega arith
@@ -133,7 +114,7 @@ module _ (words : List Word) (at : Scene) where
         (λ job. IsTrueOfJob job at.desk.files o) (λ cause. o ≡ Usage (code_of cause))) (sym asked)
 
     -- the work on the problem of four files
-    work-came : (names : FilesAsked) (says : RoutingProblem → Outcome → Type 0)
+    work-came : (names : FileNames) (says : RoutingProblem → Outcome → Type 0)
         (works : RoutingProblem → ShelfState → ShelfState → Outcome → Type 0) (o : Outcome)
         → (IsTrueOfWork names says at.desk.files o → IsTrueOfJob job at.desk.files o)
         → NoTrial o
@@ -142,7 +123,7 @@ module _ (words : List Word) (at : Scene) where
         → LeavesWork names works at o → Came words at o
     work-came names says works o told none came (inl h) =
         idle o h.1 none
-        (lacks-hold Spares stops-spare at.desk at.desk_now at.desk.files names o h.0)
+        (lacks-hold Spares stops-spare (IsStopped at.desk at.desk_now) at.desk.files names o h.0)
         (λ calm. elim (calm-lack at.desk at.desk_now names o calm h.0) [
           | inl lack ↦ inl (true-of o (told (inl lack)))
           | inr short ↦ inr short
@@ -193,8 +174,8 @@ module _ (words : List Word) (at : Scene) where
       lower = λ k low high. absurd (omega (arith, low, high));
     }
 
-    alone : (more : List NamedText) → AreApart more → AreApart (lower_files comes-alone ++ more)
-    alone more = subst (λ (fs : List NamedText). AreApart (fs ++ more)) (sym none-lower)
+    alone : (more : List JobFile) → AreApart more → AreApart (lower_files comes-alone ++ more)
+    alone more = subst (λ (fs : List JobFile). AreApart (fs ++ more)) (sym none-lower)
 
     abbrev come-alone : IsGiven p → search.first ≤ WIDTH_LIMIT
         → (HasFew (clauses_by search.method search.first p)
@@ -209,7 +190,7 @@ module _ (words : List Word) (at : Scene) where
       narrow = narrow;
       room = room;
       between = at.shelf;
-      lower = sym (ap (λ (fs : List NamedText). with_files fs at.shelf.files) none-lower);
+      lower = sym (ap (λ (fs : List JobFile). with_files fs at.shelf.files) none-lower);
       calm = refl;
       climbs = inl refl;
       route_apart = λ found. alone (route_file search found ∷ []) (route-apart search p found);
@@ -479,7 +460,6 @@ module _ (words : List Word) (at : Scene) where
     written-came : (came : Result (Unit {0}) Stop) (o : Outcome) → o ≡ written_outcome came
         → WritesClauses job formula at.shelf at.shelf_now came → Came words at o
     written-came (Ok written) o is h = Wrote (record {
-      slots = File Clauses ∷ [];
       files = clauses_file job p ∷ [];
       of = inr (inl (record {
         job = job;
@@ -489,7 +469,6 @@ module _ (words : List Word) (at : Scene) where
         few = h.0;
         order = refl;
       }));
-      matched = refl;
       apart = (tt, tt);
       heard = (tt, tt);
       writes = inl (is, h.2);
@@ -506,7 +485,6 @@ module _ (words : List Word) (at : Scene) where
       told = encode-true Done (inr (suits, inr (h.0, refl)));
     })
     written-came (Err (Fault slot)) o is h = Wrote (record {
-      slots = File Clauses ∷ [];
       files = clauses_file job p ∷ [];
       of = inr (inl (record {
         job = job;
@@ -516,7 +494,6 @@ module _ (words : List Word) (at : Scene) where
         few = h.1;
         order = refl;
       }));
-      matched = refl;
       apart = (tt, tt);
       heard = (tt, tt);
       writes = inr (
@@ -542,12 +519,6 @@ module _ (words : List Word) (at : Scene) where
   -- ---- the check of a log
 
   module _ (job : CheckAsked) (asked : job_of words ≡ Ok (Checks job)) where
-    -- what is judged, by the clauses
-    abbrev ReadLog : (stops : Option FileMap) → Cnf → Outcome → Type 0
-    ReadLog files cnf = ReadsThen (IsHalted files) files
-        (lrat_source job.lrat (length cnf.clauses)) lrat_said
-        (λ log outcome. outcome ≡ judgement_outcome (full_judge cnf log))
-
     verdict-spares : (cnf : Cnf) (log : List Step)
         → Says at.desk.files (cnf_source job.cnf) cnf_said cnf
         → Says at.desk.files (lrat_source job.lrat (length cnf.clauses)) lrat_said log
@@ -570,27 +541,22 @@ module _ (words : List Word) (at : Scene) where
     )
     verdict-spares cnf log reads_cnf reads_lrat (IsRefused step cause) refused = (tt, tt)
 
-    abbrev AfterCnf : Cnf → Outcome → Type 0
-    AfterCnf cnf = ReadsThen (IsStopped at.desk at.desk_now) at.desk.files
-        (lrat_source job.lrat (length cnf.clauses)) lrat_said
-        (λ log outcome. outcome ≡ judgement_outcome (full_judge cnf log))
+    calm-check : (o : Outcome) → ¬ HasRisen at.desk.faults at.desk_now.faults
+        → ChecksTo (IsStopped at.desk at.desk_now) at.desk.files job o
+        → ChecksTo (IsHalted at.desk.files) at.desk.files job o ⊎ IsSpent o
+    calm-check o calm = calm-reads at.desk at.desk_now IsSpent calm refl
+        (λ cnf. calm-reads at.desk at.desk_now IsSpent calm refl (λ log. inl))
 
     check-came : (o : Outcome)
         → ChecksTo (IsStopped at.desk at.desk_now) at.desk.files job o
         → at.shelf_now ≡ at.shelf → Came words at o
-    check-came o h same = idle o same (λ other is. cc)
-        (reads-hold Spares stops-spare at.desk at.desk_now at.desk.files (cnf_source job.cnf)
-        cnf_said AfterCnf o
-        (λ cnf reads_cnf. reads-hold Spares stops-spare at.desk at.desk_now at.desk.files
-        (lrat_source job.lrat (length cnf.clauses)) lrat_said
-        (λ log outcome. outcome ≡ judgement_outcome (full_judge cnf log)) o
-        (λ log reads_lrat is. subst Spares (sym is)
-        (verdict-spares cnf log reads_cnf reads_lrat (full_judge cnf log) refl))) h)
-        (λ calm. elim (calm-reads at.desk at.desk_now (cnf_source job.cnf) cnf_said AfterCnf
-        (ReadLog at.desk.files) o calm
-        (λ cnf. calm-reads at.desk at.desk_now (lrat_source job.lrat (length cnf.clauses))
-        lrat_said (λ log outcome. outcome ≡ judgement_outcome (full_judge cnf log))
-        (λ log outcome. outcome ≡ judgement_outcome (full_judge cnf log)) o calm (λ log. inl)) h) [
+    check-came o h same =
+        idle o same (λ other is. cc)
+        (reads-hold Spares stops-spare (IsStopped at.desk at.desk_now) at.desk.files CnfFile h
+        (λ cnf reads_cnf more. reads-hold Spares stops-spare (IsStopped at.desk at.desk_now)
+        at.desk.files Lrat more (λ log reads_lrat is. subst Spares (sym is)
+        (verdict-spares cnf log reads_cnf reads_lrat (full_judge cnf log) refl))))
+        (λ calm. elim (calm-check o calm h) [
           | inl told ↦ inl (true-of (Checks job) asked o told)
           | inr short ↦ inr short
         ])
@@ -606,11 +572,9 @@ module _ (words : List Word) (at : Scene) where
     verify-spares : (o : Outcome) → VerifiesTo (IsStopped at.desk at.desk_now) at.desk.files job o
         → Spares o
     verify-spares o (inl h) =
-        lacks-hold Spares stops-spare at.desk at.desk_now at.desk.files job.files o h
+        lacks-hold Spares stops-spare (IsStopped at.desk at.desk_now) at.desk.files job.files o h
     verify-spares o (inr (p, poses, h)) =
-        reads-hold Spares stops-spare at.desk at.desk_now at.desk.files (routed_source job.routed)
-        route_value
-        (λ found outcome. outcome ≡ judged_outcome (judged_by job.reach job.width p found)) o
+        reads-hold Spares stops-spare (IsStopped at.desk at.desk_now) at.desk.files Routed h
         (λ found reads is. subst Spares (sym is)
         (judged-spares (judged_by job.reach job.width p found) (record {
           job = job;
@@ -620,7 +584,7 @@ module _ (words : List Word) (at : Scene) where
           poses = poses;
           reads = reads;
           is = refl;
-        }))) h
+        })))
 
     calm-verify : (o : Outcome) → ¬ HasRisen at.desk.faults at.desk_now.faults
         → VerifiesTo (IsStopped at.desk at.desk_now) at.desk.files job o
@@ -630,10 +594,9 @@ module _ (words : List Word) (at : Scene) where
       | inr short ↦ inr short
     ]
     calm-verify o calm (inr (p, poses, h)) =
-        let judges = λ (found : RouteText) (outcome : Outcome).
-        outcome ≡ judged_outcome (judged_by job.reach job.width p found) in
-        elim (calm-reads at.desk at.desk_now (routed_source job.routed) route_value judges judges
-        o calm (λ found. inl) h) [
+        let settled : JudgesTo (IsHalted at.desk.files) at.desk.files job p o ⊎ IsSpent o =
+        calm-reads at.desk at.desk_now IsSpent calm refl (λ found. inl) h in
+        elim settled [
           | inl told ↦ inl (inr (p, poses, told))
           | inr short ↦ inr short
         ]
@@ -655,10 +618,8 @@ module _ (words : List Word) (at : Scene) where
         (λ calm. inl (true-of (Generates job) asked o (inl many)))
     made-came o (inl (inr short, same)) = spent o same (λ other is. cc) short
     made-came o (inr (room, h)) = Wrote (record {
-      slots = problem_slots;
       files = generated_files job.recipe job.prefix;
       of = inr (inr (inl (record { job = job; asked = asked; room = room; order = refl })));
-      matched = refl;
       apart = problem-apart job.prefix (texts_of job.recipe);
       heard = (tt, (tt, (tt, (tt, tt))));
       writes = h;

@@ -1,14 +1,9 @@
 -- Where no fault has risen, what a run leaves is true, or memory ran out.
-use Rattle.std.proofs.Common.{◌≡◌, ◌∙◌, ◌⊎◌, ℕ, ◌<◌, ◌≤◌, List, [], ◌∷◌, Option, Ok, Err, Result, refl, sym, ap, subst, inl, inr, arith}
 use Rattle.std.specs.Prelude.{None, Some}
-use Rattle.desk_io.specs.DeskState.{DeskState}
-use Rattle.desk_io.specs.Files.{Bytes, FileMap, HasRisen}
-use Rattle.desk_io.specs.ShelfState.{ShelfState, after_say}
+use Rattle.std.proofs.Common.{◌≡◌, ◌∙◌, ◌⊎◌, ℕ, ◌<◌, ◌≤◌, List, [], ◌∷◌, Option, Ok, Err, Result, refl, sym, ap, subst, inl, inr, arith}
+use Rattle.desk_io.specs.Files.{HasRisen}
 use Rattle.desk_io.specs.WholeFile.{FailsToWrite, after_writing}
 use Rattle.desk_io.proofs.FileLemmas.{has_risen}
-use Rattle.fpga_types.specs.declared.route.RouteText.{RouteText}
-use Rattle.sat_clause.specs.Formula.{Cnf}
-use Rattle.sat_clause.specs.declared.limits.TheConstants.{CLAUSE_LIMIT}
 use Rattle.route_sweep.specs.Asked.{Asked}
 use Rattle.route_sweep.specs.Found.{FailsOn}
 use Rattle.route_sweep.specs.declared.found.FileSlot.{FileSlot}
@@ -17,21 +12,16 @@ use Rattle.route_sweep.specs.declared.found.Found.{Found}
 use Rattle.route_sweep.specs.declared.found.Found.TheVariants.{Routed as IsRouted, Refuted, Spent}
 use Rattle.route_sweep.specs.declared.found.Stop.{Stop}
 use Rattle.route_sweep.specs.declared.found.Stop.TheVariants.{Fault, TooManyClauses, Memory}
-use Rattle.sat_clause.specs.Step.{Step}
-use Rattle.router_words.specs.Word.{Word}
-use Rattle.router_top.specs.Files.{FailsAmong, WritesFiles}
-use Rattle.router_top.specs.Ends.{LeavesOpen, Refutes}
+use Rattle.sat_clause.specs.declared.limits.TheConstants.{CLAUSE_LIMIT}
+use Rattle.router_top.specs.Written.{FailsAmong, WritesFiles, JobFile}
+use Rattle.router_top.specs.Comes.{LeavesOpen, Refutes}
 use Rattle.router_top.specs.Method.{IsRoutingBy, clauses_by}
-use Rattle.router_top.specs.Outcomes.{found_outcome}
-use Rattle.router_top.specs.Report.{line_of}
+use Rattle.router_top.specs.Report.{found_outcome, line_of}
 use Rattle.router_top.specs.Run.{Runs, Scene, scene}
 use Rattle.router_top.specs.Search.{Search, clauses_held}
 use Rattle.router_top.specs.Truth.{Agrees, IsComplete, IsReached, IsTrueAt, IsTrueOf, IsTrueOfClauses, IsTrueOfTurns}
 use Rattle.router_top.specs.Work.{Finds}
-use Rattle.router_top.specs.declared.outcome.Outcome.{Outcome}
-use Rattle.router_top.specs.declared.outcome.Outcome.TheVariants.{Routed, Unroutable, Undecided, Limit, OutOfMemory}
-use Rattle.router_top.specs.Written.{NamedText}
-use Rattle.router_top.specs.declared.slot.Slot.{Slot}
+use Rattle.router_top.specs.Subject.{DeskState, Bytes, FileMap, ShelfState, after_say, RouteText, Cnf, Step, Word, Outcome, Routed, Unroutable, Undecided, Limit, OutOfMemory, Slot}
 use Rattle.router_top.proofs.AgreeLaws.{outcomes-agree}
 use Rattle.router_top.proofs.Came.{Came, Cut, HasCome, HasWritten, Idle, Searched, Wrote, ended_with}
 use Rattle.router_top.proofs.EndLaws.{refutes-none}
@@ -78,14 +68,13 @@ module _ (ask : Asked) (width : ℕ) (formula : Cnf) (good : RouteText → Type 
   fails-risen Clauses h = write-risen before _ _ now h.fails
   fails-risen Log h = write-risen _ _ _ now h.fails
 
-among-risen : (slots : List Slot) (files : List NamedText) (before now : ShelfState) (slot : Slot)
-    → FailsAmong slots files before now slot → HasRisen before.faults now.faults
-among-risen [] files before now slot h = absurd h
-among-risen (at ∷ slots) [] before now slot h = absurd h
-among-risen (at ∷ slots) (file ∷ files) before now slot (inl h) =
+among-risen : (files : List JobFile) (before now : ShelfState) (slot : Slot)
+    → FailsAmong files before now slot → HasRisen before.faults now.faults
+among-risen [] before now slot h = absurd h
+among-risen (file ∷ files) before now slot (inl h) =
     write-risen before file.name file.text now h.1
-among-risen (at ∷ slots) (file ∷ files) before now slot (inr h) =
-    among-risen slots files (after_writing before file.name file.text) now slot h
+among-risen (file ∷ files) before now slot (inr h) =
+    among-risen files (after_writing before file.name file.text) now slot h
 
 module _ (words : List Word) (at : Scene) (calm : ¬ HasRisen at.desk.faults at.desk_now.faults)
   where
@@ -169,12 +158,12 @@ module _ (words : List Word) (at : Scene) (calm : ¬ HasRisen at.desk.faults at.
 
     -- files in a row
     files-settle : (o : Outcome) (h : HasWritten words at o)
-        → WritesFiles h.slots h.files at.shelf at.shelf_now o → SettlesHere o
+        → WritesFiles h.files at.shelf at.shelf_now o → SettlesHere o
     files-settle o h (inl done) = by-word at.shelf at.shelf_now Says o
         (omega (arith, ap (λ (s : ShelfState). s.faults) done.1, faults-after h.files at.shelf))
         (subst Says (sym done.0) h.told)
     files-settle o h (inr fails) = by-fault at.shelf at.shelf_now Says o
-        (among-risen h.slots h.files at.shelf at.shelf_now fails.0 fails.1)
+        (among-risen h.files at.shelf at.shelf_now fails.0 fails.1)
 
     came-settles : (o : Outcome) → Came words at o → SettlesHere o
     came-settles o (Idle h) = record {

@@ -1,53 +1,47 @@
 -- What `core` leaves of its problem, by what its search came to.
-use Rattle.std.proofs.Common.{◌≡◌, ◌≢◌, ◌∙◌, ℕ, suc, ◌≤◌, ℤ, List, [], ◌∷◌, length, Ok, Err, Result, refl, sym, ap, subst, inl, inr, arith, All, ◌++◌, take, get_or, ◌<◌, ◌+◌}
 use Rattle.std.specs.Prelude.{max}
 use Rattle.std.specs.Result.{result_and}
+use Rattle.std.proofs.Common.{◌≡◌, ◌≢◌, ◌∙◌, ℕ, suc, ◌≤◌, ℤ, List, [], ◌∷◌, length, Ok, Err, Result, refl, sym, ap, subst, inl, inr, arith, All, ◌++◌, take, get_or, ◌<◌, ◌+◌}
 use Rattle.std.proofs.lemmas.List.Elements.{All-cons, All-nil}
-use Rattle.desk_io.specs.ShelfState.{ShelfState}
+use Rattle.std.proofs.lemmas.List.{append-nil}
+use Rattle.std.proofs.lemmas.Grind.{flat_map-append}
+use Rattle.std.proofs.Math.Seq.{take-length}
 use Rattle.fpga_types.specs.Given.{IsGiven}
-use Rattle.fpga_types.specs.Problem.{RoutingProblem}
 use Rattle.fpga_types.specs.declared.limits.TheConstants.{WIDTH_LIMIT}
-use Rattle.fpga_types.specs.declared.route.RouteText.{RouteText}
+use Rattle.list_laws.proofs.Places.{take-get, get-there}
 use Rattle.route_core.specs.Blamed.{blamed}
 use Rattle.route_core.specs.Core.{AreUnroutable}
 use Rattle.route_core.specs.Trimmed.{AddedRise, AreFrom, IsPartOf, IsSubList, IsTrimmed}
+use Rattle.route_core.proofs.TrimmingLemmas.{trimmed_itself}
 use Rattle.route_count.specs.Crowded.{IsCrowded}
-use Rattle.route_sweep.specs.Found.{HasFew, IsUnbuilt}
+use Rattle.route_sweep.specs.Found.{IsUnbuilt}
 use Rattle.route_sweep.specs.Written.{WritesProof}
 use Rattle.route_sweep.specs.declared.found.Found.{Found}
 use Rattle.route_sweep.specs.declared.found.Found.TheVariants.{Routed as IsRouted, Refuted, Spent}
 use Rattle.route_sweep.specs.declared.found.Stop.{Stop}
 use Rattle.route_sweep.specs.declared.found.Stop.TheVariants.{Fault, TooManyClauses, Memory}
 use Rattle.route_sweep.proofs.FoundLemmas.{finds-refuted}
-use Rattle.sat_clause.specs.Formula.{Cnf, IsUnsat}
+use Rattle.route_sweep.proofs.LogLemmas.{log-printable}
+use Rattle.sat_clause.specs.Formula.{IsUnsat}
 use Rattle.sat_clause.specs.Literal.{Clause, IsWithin}
-use Rattle.sat_clause.specs.Step.{Step, Added, Erased}
+use Rattle.sat_clause.specs.Step.{Added, Erased}
+use Rattle.sat_clause.specs.Judge.{Accepts}
+use Rattle.sat_clause.specs.Learned.{added_count}
 use Rattle.sat_clause.specs.declared.limits.TheConstants.{VARIABLE_LIMIT}
+use Rattle.sat_clause.proofs.Refutes.{refutes}
 use Rattle.sat_core.specs.SearchLog.{AreNumbered, IsSearchLog}
 use Rattle.sat_text.specs.LratText.{ReadsLrat}
 use Rattle.sat_text.specs.Printed.{log_text}
 use Rattle.sat_text.specs.ReadBack.{IsIdNumber, IsPrintableLog, IsPrintableStep}
-use Rattle.router_words.specs.Job.{CoreAsked}
-use Rattle.router_words.specs.declared.method.Method.TheVariants.{Strictly}
-use Rattle.router_top.specs.Core.{LeavesCore, SaysNets, net_line, net_lines}
-use Rattle.router_top.specs.Ends.{IsCutDown, LeavesOpen, Refutes}
-use Rattle.router_top.specs.Method.{IsRoutingBy, clauses_by}
-use Rattle.router_top.specs.Outcomes.{found_outcome, stop_outcome}
-use Rattle.router_top.specs.Search.{core_search}
-use Rattle.router_top.specs.Work.{Finds}
-use Rattle.router_top.specs.declared.outcome.Outcome.{Outcome}
-use Rattle.sat_clause.specs.Judge.{Accepts}
-use Rattle.sat_clause.proofs.Refutes.{refutes}
-use Rattle.sat_clause.specs.Learned.{added_count}
-use Rattle.route_core.proofs.TrimmingLemmas.{trimmed_itself}
-use Rattle.route_sweep.proofs.LogLemmas.{log-printable}
 use Rattle.sat_text.proofs.LogBack.{printed_log_reads}
 use Rattle.router_words.specs.declared.limits.TheConstants.{BUDGET_LIMIT}
-use Rattle.std.proofs.lemmas.List.{append-nil}
-use Rattle.desk_io.specs.Files.{Bytes}
-use Rattle.std.proofs.lemmas.Grind.{flat_map-append}
-use Rattle.std.proofs.Math.Seq.{take-length}
-use Rattle.list_laws.proofs.Places.{take-get, get-there}
+use Rattle.router_top.specs.Core.{LeavesCore, SaysNets, net_line, net_lines}
+use Rattle.router_top.specs.Comes.{IsCutDown, LeavesOpen, Refutes}
+use Rattle.router_top.specs.Method.{IsRoutingBy, clauses_by}
+use Rattle.router_top.specs.Report.{found_outcome, stop_outcome}
+use Rattle.router_top.specs.Search.{core_search}
+use Rattle.router_top.specs.Work.{Finds}
+use Rattle.router_top.specs.Subject.{Bytes, ShelfState, RoutingProblem, RouteText, HasFew, Cnf, Step, CoreAsked, Strictly, Outcome}
 
 -- ---- logs
 

@@ -2,15 +2,14 @@
 use Rattle.std.proofs.Common.{ℕ, Bool, true, false, List}
 use Rattle.fpga_types.specs.Fits.{Fits}
 use Rattle.fpga_types.specs.Given.{IsGiven}
-use Rattle.fpga_types.specs.Problem.{RoutingProblem}
 use Rattle.route_count.specs.Crowded.{IsCrowded}
 use Rattle.route_sweep.specs.Found.{IsRefutedIf}
 use Rattle.sat_clause.specs.Formula.{IsUnsat}
-use Rattle.sat_clause.specs.Step.{Step}
 use Rattle.sat_clause.proofs.Refutes.{refutes}
-use Rattle.router_top.specs.Ends.{Refutes, RefutesBy}
+use Rattle.router_top.specs.Comes.{Refutes, RefutesBy}
 use Rattle.router_top.specs.Method.{CoversStrict, HasNone, IsRoutingBy, clauses_by}
 use Rattle.router_top.specs.Search.{Search}
+use Rattle.router_top.specs.Subject.{RoutingProblem, Step}
 use Rattle.router_top.proofs.MethodLaws.{covers-strict, none-legal}
 
 module _ (search : Search) (width : ℕ) (p : RoutingProblem) (log : List Step) where

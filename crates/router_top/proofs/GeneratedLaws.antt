@@ -1,26 +1,25 @@
 -- The files of a generated problem: their names differ, so that on a desk of their own each stands
 -- with its text; and what is left where they are written one after the other.
-use Rattle.std.proofs.Common.{◌≡◌, ◌≢◌, ◌∙◌, ◌+◌, ◌<◌, ◌≤◌, List, [], ◌∷◌, ◌++◌, codes, get_or, length, Some, refl, sym, ap, subst, inl, inr, arith}
 use Rattle.std.specs.FinMap.{empty}
 use Rattle.std.specs.Prelude.{◌==◌, false}
+use Rattle.std.proofs.Common.{◌≡◌, ◌≢◌, ◌∙◌, ◌+◌, ◌<◌, ◌≤◌, List, [], ◌∷◌, ◌++◌, codes, get_or, length, Some, refl, sym, ap, subst, inl, inr, arith}
 use Rattle.std.proofs.lemmas.Bool.{eq-eqb, false≢true}
 use Rattle.std.proofs.lemmas.List.{append_cancel_left}
-use Rattle.desk_io.specs.Files.{Bytes}
-use Rattle.desk_io.specs.ShelfState.{ShelfState}
 use Rattle.desk_io.specs.WholeFile.{after_writing}
 use Rattle.fpga_net.specs.Value.{net_value}
 use Rattle.fpga_place.specs.Value.{place_value}
 use Rattle.fpga_problem.specs.Texts.{faults_of, problem_said}
 use Rattle.fpga_problem.specs.declared.text_file.TextFile.{TextFile as ProblemFile}
 use Rattle.fpga_problem.specs.declared.text_file.TextFile.TheVariants.{Architecture, Netlist as NetlistFile, Placement, Route}
+use Rattle.fpga_problem.specs.declared.unread.FileFault.TheVariants.{Text}
 use Rattle.fpga_route.specs.Codes.{route_faults}
-use Rattle.fpga_text.proofs.FaultLemmas.{past-nothing, past-part}
 use Rattle.fpga_text.specs.FirstFault.{IsFirst, IsRefusal, first_fault}
 use Rattle.fpga_text.specs.declared.fault.TextFault.{TextFault}
 use Rattle.fpga_text.specs.declared.fault.TextFault.TheVariants.{Bad, Limit as PastLimit, Memory}
+use Rattle.fpga_text.proofs.FaultLemmas.{past-nothing, past-part}
 use Rattle.fpga_types.specs.FitCauses.{code_of}
 use Rattle.fpga_types.specs.Fits.{Fits, problem_faults}
-use Rattle.fpga_types.specs.Problem.{RoutingProblem, problem_of}
+use Rattle.fpga_types.specs.Problem.{problem_of}
 use Rattle.fpga_types.specs.Slots.{slots}
 use Rattle.fpga_types.specs.Texts.{Texts}
 use Rattle.fpga_types.specs.declared.fit_cause.FitCause.TheVariants.{PastLimit as TooManySlots}
@@ -31,13 +30,10 @@ use Rattle.list_laws.proofs.Places.{none_is_not_some, some_is}
 use Rattle.route_gen.specs.Fitting.{AreRead, IsForSlots}
 use Rattle.route_gen.proofs.FittingLemmas.{first-fits, texts-read}
 use Rattle.route_gen.proofs.LengthLemmas.{texts-short}
-use Rattle.router_words.specs.Job.{RecipeAsked}
-use Rattle.router_words.specs.Word.{Word}
-use Rattle.router_top.specs.Files.{after_files}
-use Rattle.router_top.specs.FourFiles.{Poses}
+use Rattle.router_top.specs.Written.{after_files, JobFile, with_files}
 use Rattle.router_top.specs.Generated.{HasRoom, IsMade, Makes, PosesNone, generated_desk, generated_files, generated_names, problem_files, texts_of}
-use Rattle.router_top.specs.Sources.{fault_outcome}
-use Rattle.router_top.specs.Written.{NamedText, with_files}
+use Rattle.router_top.specs.Report.{unread_outcome}
+use Rattle.router_top.specs.Subject.{Bytes, ShelfState, Poses, RoutingProblem, RecipeAsked, Word}
 use Rattle.router_top.specs.declared.text_file.TextFile.TheVariants.{Problem}
 use Rattle.router_top.proofs.SlotCountLaws.{many-slots}
 use Rattle.router_top.proofs.TrackLaws.{texts-tracks}
@@ -176,7 +172,7 @@ module _ (recipe : RecipeAsked) (side : (1 ≤ recipe.side) × (recipe.side ≤ 
   -- the first fault of what the texts say is that there are too many slots
   said-many : (file : ProblemFile) (fault : TextFault) →
       IsFirst (faults_of (texts_of recipe) file) fault →
-      PosesNone recipe (fault_outcome (Problem file) fault)
+      PosesNone recipe (unread_outcome (Problem file) (Text fault))
   said-many Architecture fault first =
       absurd (none_is_not_some (sym said-made.read.faultless ∙ first))
   said-many NetlistFile fault first =
@@ -193,14 +189,15 @@ module _ (recipe : RecipeAsked) (side : (1 ≤ recipe.side) × (recipe.side ≤ 
           said,
           said-made,
           made-many recipe said said-made many,
-          ap (fault_outcome (Problem Route)) (some_is (sym first ∙ past.same ∙ many)),
+          ap (λ (f : TextFault). unread_outcome (Problem Route) (Text f))
+              (some_is (sym first ∙ past.same ∙ many)),
         )
       ]
 
   -- where the texts are refused, there are too many slots, or memory ran out
   pub refused-many : (file : ProblemFile) (fault : TextFault) →
       IsRefusal (faults_of (texts_of recipe) file) fault →
-      PosesNone recipe (fault_outcome (Problem file) fault)
+      PosesNone recipe (unread_outcome (Problem file) (Text fault))
   refused-many file (Bad line code) refused = said-many file (Bad line code) refused
   refused-many file (PastLimit code count) refused = said-many file (PastLimit code count) refused
   refused-many file Memory refused = inl (inr refl)
@@ -208,14 +205,14 @@ module _ (recipe : RecipeAsked) (side : (1 ≤ recipe.side) × (recipe.side ≤ 
 -- ---- writing
 
 -- files that were written stand behind those before
-pub files-after : (files : List NamedText) (before : ShelfState) →
+pub files-after : (files : List JobFile) (before : ShelfState) →
     (after_files files before).files ≡ with_files files before.files
 files-after [] before = refl
 files-after (file ∷ more) before =
     files-after more (after_writing before file.name file.text)
 
 -- and the shelf has not failed meanwhile
-pub faults-after : (files : List NamedText) (before : ShelfState) →
+pub faults-after : (files : List JobFile) (before : ShelfState) →
     (after_files files before).faults ≡ before.faults
 faults-after [] before = refl
 faults-after (file ∷ more) before =

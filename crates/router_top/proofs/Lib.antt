@@ -5,7 +5,6 @@ mod ComeLaws
 mod CompleteLaws
 mod CoreLaws
 mod EndLaws
-mod FourLaws
 mod GeneratedLaws
 mod LeftLaws
 mod LimitRows
@@ -16,7 +15,6 @@ mod NameLaws
 mod PreparedLaws
 mod SaidLaws
 mod SlotCountLaws
-mod SourceLaws
 mod StopLaws
 mod TrackLaws
 mod TurnLaws

@@ -1,25 +1,18 @@
 -- What the answer of a run means.
 use Rattle.std.proofs.Common.{◌≡◌, ◌∙◌, List, [], ◌∷◌, ◌++◌, Option, Ok, Err, Result, refl, sym, ap, subst, inl, inr}
-use Rattle.desk_io.specs.DeskState.{DeskState}
-use Rattle.desk_io.specs.Files.{FileMap}
-use Rattle.desk_io.specs.ShelfState.{ShelfState}
 use Rattle.route_sweep.specs.declared.found.Found.{Found}
 use Rattle.route_sweep.specs.declared.found.Found.TheVariants.{Routed as IsRoutedThere, Refuted, Spent}
 use Rattle.route_sweep.specs.declared.found.Stop.{Stop}
 use Rattle.route_sweep.specs.declared.found.Stop.TheVariants.{Fault, TooManyClauses, Memory}
-use Rattle.router_words.specs.Word.{Word}
 use Rattle.router_top.specs.Comes.{lower_files}
-use Rattle.router_top.specs.Files.{WritesFiles}
+use Rattle.router_top.specs.Written.{WritesFiles, AreWritten, JobFile, with_files}
 use Rattle.router_top.specs.Headline.{IsRefuted}
 use Rattle.router_top.specs.Means.{Means}
-use Rattle.router_top.specs.Outcomes.{found_outcome}
-use Rattle.router_top.specs.Report.{unsaid}
+use Rattle.router_top.specs.Report.{found_outcome, unsaid}
 use Rattle.router_top.specs.Run.{Runs, Scene, scene}
-use Rattle.router_top.specs.SearchFiles.{proof_files, route_file}
+use Rattle.router_top.specs.Search.{proof_files, route_file}
 use Rattle.router_top.specs.Work.{Finds}
-use Rattle.router_top.specs.Written.{AreWritten, NamedText, with_files}
-use Rattle.router_top.specs.declared.outcome.Outcome.{Outcome}
-use Rattle.router_top.specs.declared.outcome.Outcome.TheVariants.{WriteFault}
+use Rattle.router_top.specs.Subject.{DeskState, FileMap, ShelfState, Word, Outcome, WriteFault}
 use Rattle.router_top.proofs.Came.{Came, Cut, HasCome, HasWritten, Idle, Searched, Wrote, ended_with}
 use Rattle.router_top.proofs.EndLaws.{refutes-none, refutes-strictly}
 use Rattle.router_top.proofs.GeneratedLaws.{files-after}
@@ -34,7 +27,7 @@ module _ (words : List Word) (at : Scene) where
   -- a search that has come to a width
   module _ (o : Outcome) (h : HasCome words at o) where
     -- more files behind those of lower widths
-    pub behind : (more : List NamedText) → AreApart (lower_files h.comes ++ more)
+    pub behind : (more : List JobFile) → AreApart (lower_files h.comes ++ more)
         → (wrote : ShelfState) → at.shelf_now ≡ wrote
         → wrote.files ≡ with_files more h.between.files
         → AreWritten (lower_files h.comes ++ more) at.shelf.files at.shelf_now.files
@@ -100,7 +93,7 @@ module _ (words : List Word) (at : Scene) where
 
   -- files that were written
   files-mean : (o : Outcome) (h : HasWritten words at o)
-      → WritesFiles h.slots h.files at.shelf at.shelf_now o → MeansHere o
+      → WritesFiles h.files at.shelf at.shelf_now o → MeansHere o
   files-mean o h (inl done) = subst MeansHere (sym done.0)
       (h.means done.0 (are-written h.files at.shelf.files at.shelf_now.files
       (ap (λ (s : ShelfState). s.files) done.1 ∙ files-after h.files at.shelf) h.apart))

@@ -1,20 +1,17 @@
 -- What the commands need to know of each method.
 use Rattle.std.proofs.Common.{ℕ, ◌≤◌, map, sym, subst, arith}
-use Rattle.desk_io.specs.Files.{Bytes}
 use Rattle.fpga_route.specs.ReadBack.{IsPrintable}
 use Rattle.fpga_route.specs.Value.{Reads}
 use Rattle.fpga_route.proofs.PrintableLemmas.{can_print, can_print_tracks}
 use Rattle.fpga_types.specs.Fits.{Fits}
 use Rattle.fpga_types.specs.Given.{IsGiven}
 use Rattle.fpga_types.specs.Legal.{tracks_of}
-use Rattle.fpga_types.specs.Problem.{RoutingProblem}
 use Rattle.fpga_types.specs.declared.limits.TheConstants.{WIDTH_LIMIT}
-use Rattle.fpga_types.specs.declared.route.RouteText.{RouteText}
-use Rattle.route_encode.specs.Good.{IsRoutingOf}
-use Rattle.route_encode.proofs.ProblemExactness.{unsat-says-unroutable}
 use Rattle.route_crowd.specs.Crowd.{crowd}
 use Rattle.route_crowd.proofs.ClauseLemmas.{unsat_unroutable as unsat-ordered}
 use Rattle.route_crowd.proofs.CrowdSlots.{crowd-slots}
+use Rattle.route_encode.specs.Good.{IsRoutingOf}
+use Rattle.route_encode.proofs.ProblemExactness.{unsat-says-unroutable}
 use Rattle.route_reach.specs.Trees.{wires_of}
 use Rattle.route_reach.proofs.PrintLemmas.{routes-read-back}
 use Rattle.route_reach.proofs.ProblemExactness.{unsat-says-unreachable}
@@ -22,9 +19,8 @@ use Rattle.route_reach.proofs.RouteLemmas.{routes-say-reached}
 use Rattle.route_reach.proofs.StrictLemmas.{reach-covers-strict}
 use Rattle.route_symmetry.proofs.EncodeLemmas.{unsat_unroutable}
 use Rattle.sat_clause.specs.Formula.{IsUnsat}
-use Rattle.router_words.specs.declared.method.Method.{Method}
-use Rattle.router_words.specs.declared.method.Method.TheVariants.{Ordered, Pinned, Strictly, Within}
 use Rattle.router_top.specs.Method.{CoversStrict, HasNone, HasOne, IsRoutingBy, clauses_by}
+use Rattle.router_top.specs.Subject.{Bytes, RoutingProblem, RouteText, Method, Ordered, Pinned, Strictly, Within}
 
 -- a problem that fits, of whose clauses no values satisfy all, has no legal routing
 pub none-legal : (method : Method) (width : ℕ) (p : RoutingProblem) → IsGiven p → Fits p

@@ -1,20 +1,16 @@
 -- The names of the files of a search differ: those of clauses, logs and routings, and those of
 -- different widths.
-use Rattle.std.proofs.Common.{◌≡◌, ◌≢◌, ◌∙◌, ℕ, zero, suc, ◌+◌, ◌<◌, ◌≤◌, Bool, true, List, [], ◌∷◌, ◌++◌, codes, Option, Some, None, refl, sym, ap, arith}
 use Rattle.std.specs.Prelude.{decimal, flat_map, if◌then◌else◌}
 use Rattle.std.specs.List.{last_or, range_with_len}
+use Rattle.std.proofs.Common.{◌≡◌, ◌≢◌, ◌∙◌, ℕ, zero, suc, ◌+◌, ◌<◌, ◌≤◌, Bool, true, List, [], ◌∷◌, ◌++◌, codes, Option, Some, None, refl, sym, ap, arith}
 use Rattle.std.proofs.lemmas.Fmt.{decimal_injective}
 use Rattle.std.proofs.lemmas.List.{append_cancel_left, append_cancel_right}
-use Rattle.desk_io.specs.Files.{Bytes}
-use Rattle.fpga_types.specs.Problem.{RoutingProblem}
-use Rattle.fpga_types.specs.declared.route.RouteText.{RouteText}
 use Rattle.list_laws.proofs.Places.{some_is}
 use Rattle.route_sweep.specs.Asked.{Asked}
 use Rattle.route_sweep.specs.Names.{cnf_name, lrat_name, numbered_prefix, proof_prefix, route_name}
-use Rattle.sat_clause.specs.Step.{Step}
-use Rattle.router_top.specs.Search.{Search}
-use Rattle.router_top.specs.SearchFiles.{proof_files, route_file}
-use Rattle.router_top.specs.Written.{NamedText}
+use Rattle.router_top.specs.Search.{Search, proof_files, route_file}
+use Rattle.router_top.specs.Written.{JobFile}
+use Rattle.router_top.specs.Subject.{Bytes, RoutingProblem, RouteText, Step}
 use Rattle.router_top.proofs.WrittenLaws.{AreApart, NoneHas}
 
 -- ---- the last byte of a name
@@ -72,12 +68,12 @@ module _ (search : Search) (p : RoutingProblem) where
 
   module _ (numbered : search.ask.numbered ≡ true) (logs : ℕ → List Step) where
     -- the files of so many widths from this one on
-    abbrev proofs : (first count : ℕ) → List NamedText
+    abbrev proofs : (first count : ℕ) → List JobFile
     proofs first count =
         flat_map (λ k. proof_files search p k (logs k)) (range_with_len first count)
 
     -- a name that is none of a width is not among them
-    none-has : (name : Bytes) (first count : ℕ) (tail : List NamedText) →
+    none-has : (name : Bytes) (first count : ℕ) (tail : List JobFile) →
         ((k : ℕ) → first ≤ k → k < first + count →
         (name ≢ cnf_name search.ask k) × (name ≢ lrat_name search.ask k)) →
         NoneHas name tail → NoneHas name (proofs first count ++ tail)
@@ -89,7 +85,7 @@ module _ (search : Search) (p : RoutingProblem) where
         (here.0, (here.1, behind))
 
     -- files of different widths are apart, and from what is apart from each of them
-    pub proofs-apart : (first count : ℕ) (tail : List NamedText) → first + count ≤ 65 →
+    pub proofs-apart : (first count : ℕ) (tail : List JobFile) → first + count ≤ 65 →
         ((k : ℕ) → first ≤ k → k < first + count →
         NoneHas (cnf_name search.ask k) tail × NoneHas (lrat_name search.ask k) tail) →
         AreApart tail → AreApart (proofs first count ++ tail)

@@ -1,9 +1,7 @@
 -- The encoder that a job has made of its problem says what its method says.
-use Rattle.std.proofs.Common.{◌≡◌, ◌∙◌, ℕ, true, List, [], refl, sym, ap, subst, arith}
 use Rattle.std.specs.Prelude.{if◌then◌else◌}
+use Rattle.std.proofs.Common.{◌≡◌, ◌∙◌, ℕ, true, List, [], refl, sym, ap, subst, arith}
 use Rattle.std.proofs.lemmas.List.{append-nil}
-use Rattle.fpga_types.specs.Problem.{RoutingProblem}
-use Rattle.fpga_types.specs.declared.route.RouteText.{RouteText}
 use Rattle.route_count.specs.Begun.{IsBegunBy}
 use Rattle.route_crowd.specs.Crowd.{crowd}
 use Rattle.route_crowd.specs.Groups.{is_exchangeable}
@@ -12,12 +10,10 @@ use Rattle.route_crowd.proofs.CrowdSlots.{among-crowd}
 use Rattle.route_encode.specs.Encoding.{cnf_of}
 use Rattle.route_symmetry.specs.Full.{is_full}
 use Rattle.route_symmetry.specs.Pinned.{pin_clauses}
-use Rattle.sat_clause.specs.Formula.{Cnf}
 use Rattle.router_words.specs.Near.{has_one_track}
-use Rattle.router_words.specs.declared.method.Method.{Method}
-use Rattle.router_words.specs.declared.method.Method.TheVariants.{Ordered, Pinned, Strictly, Within}
 use Rattle.router_top.specs.Method.{IsRoutingBy, clauses_by}
-use Rattle.router_top.specs.Prepared.{IsEncoderOf, clauses_along}
+use Rattle.router_top.specs.Suited.{IsEncoderOf, clauses_along}
+use Rattle.router_top.specs.Subject.{RoutingProblem, RouteText, Cnf, Method, Ordered, Pinned, Strictly, Within}
 use Rattle.router_top.specs.declared.chosen.Chosen.{Chosen}
 
 -- where the row is the crowd, the clauses are those of the method

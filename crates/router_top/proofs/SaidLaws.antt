@@ -1,34 +1,24 @@
 -- What a run says, whatever fails.
 use Rattle.std.proofs.Common.{◌≡◌, ◌∙◌, ◌⊎◌, ℕ, ◌≤◌, List, [], ◌∷◌, ◌++◌, length, take, Option, Some, None, Ok, Err, Result, refl, sym, ap, subst, inl, inr, append_assoc, arith}
 use Rattle.std.proofs.lemmas.List.{append-nil}
-use Rattle.desk_io.specs.DeskState.{DeskState}
-use Rattle.desk_io.specs.Files.{Bytes, FileMap}
-use Rattle.desk_io.specs.ShelfState.{ShelfState}
-use Rattle.desk_io.specs.WholeFile.{FailsToWrite, after_writing}
 use Rattle.std.proofs.Math.Seq.{take-length}
+use Rattle.desk_io.specs.WholeFile.{FailsToWrite, after_writing}
 use Rattle.route_sweep.specs.Written.{after_clauses}
 use Rattle.route_sweep.specs.declared.found.FileSlot.TheVariants.{Route as RouteSlot, Clauses, Log}
 use Rattle.route_sweep.specs.declared.found.Found.{Found}
 use Rattle.route_sweep.specs.declared.found.Found.TheVariants.{Routed as IsRouted, Refuted, Spent}
 use Rattle.route_sweep.specs.declared.found.Stop.{Stop}
 use Rattle.route_sweep.specs.declared.found.Stop.TheVariants.{Fault, TooManyClauses, Memory}
-use Rattle.router_words.specs.Word.{Word}
-use Rattle.router_top.specs.Files.{FailsAmong, WritesFiles, after_files}
-use Rattle.router_top.specs.Outcomes.{found_outcome}
-use Rattle.router_top.specs.Report.{line_of, unsaid}
+use Rattle.router_top.specs.Written.{FailsAmong, WritesFiles, after_files, JobFile}
+use Rattle.router_top.specs.Report.{found_outcome, line_of, unsaid}
 use Rattle.router_top.specs.Run.{Reports, Runs, Scene, scene}
 use Rattle.router_top.specs.Saying.{IsLead, Leads, Speaks, more_said}
-use Rattle.router_top.specs.Written.{NamedText}
-use Rattle.router_top.specs.declared.outcome.Outcome.{Outcome}
-use Rattle.router_top.specs.declared.outcome.Outcome.TheVariants.{WriteFault}
-use Rattle.router_top.specs.declared.slot.Slot.{Slot}
-use Rattle.router_top.specs.declared.slot.Slot.TheVariants.{Said}
-use Rattle.router_top.proofs.Came.{Came, Cut, HasWritten, Idle, IsCut, IsHeard, IsSpared, Searched, Wrote}
-use Rattle.router_top.proofs.LeftLaws.{among-heard}
 use Rattle.router_top.specs.Search.{Search}
 use Rattle.router_top.specs.Work.{Finds}
 use Rattle.router_top.specs.Method.{clauses_by}
-use Rattle.fpga_types.specs.Problem.{RoutingProblem}
+use Rattle.router_top.specs.Subject.{DeskState, Bytes, FileMap, ShelfState, RoutingProblem, Word, Outcome, WriteFault, Slot, Said}
+use Rattle.router_top.proofs.Came.{Came, Cut, HasWritten, Idle, IsCut, IsHeard, IsSpared, Searched, Wrote}
+use Rattle.router_top.proofs.LeftLaws.{among-heard}
 
 -- ---- texts behind texts
 
@@ -67,20 +57,19 @@ module _ (search : Search) (p : RoutingProblem) (width : ℕ) (before now : Shel
   finds-silent (Err (TooManyClauses count)) h = ap (λ (s : ShelfState). s.said) h.1
   finds-silent (Err Memory) h = ap (λ (s : ShelfState). s.said) h.1
 
-after-silent : (files : List NamedText) (before : ShelfState)
+after-silent : (files : List JobFile) (before : ShelfState)
     → (after_files files before).said ≡ before.said
 after-silent [] before = refl
 after-silent (file ∷ more) before =
     after-silent more (after_writing before file.name file.text)
 
-among-silent : (slots : List Slot) (files : List NamedText) (before now : ShelfState) (slot : Slot)
-    → FailsAmong slots files before now slot → now.said ≡ before.said
-among-silent [] files before now slot h = absurd h
-among-silent (first ∷ slots) [] before now slot h = absurd h
-among-silent (first ∷ slots) (file ∷ files) before now slot (inl h) =
+among-silent : (files : List JobFile) (before now : ShelfState) (slot : Slot)
+    → FailsAmong files before now slot → now.said ≡ before.said
+among-silent [] before now slot h = absurd h
+among-silent (file ∷ files) before now slot (inl h) =
     fails-silent before now file.name file.text h.1
-among-silent (first ∷ slots) (file ∷ files) before now slot (inr h) =
-    among-silent slots files (after_writing before file.name file.text) now slot h
+among-silent (file ∷ files) before now slot (inr h) =
+    among-silent files (after_writing before file.name file.text) now slot h
 
 -- ---- what the work has said
 
@@ -105,7 +94,7 @@ module _ (words : List Word) (at : Scene) where
       ⊎ IsCut words at o
 
   files-led : (o : Outcome) (h : HasWritten words at o)
-      → WritesFiles h.slots h.files at.shelf at.shelf_now o → HasLed o
+      → WritesFiles h.files at.shelf at.shelf_now o → HasLed o
   files-led o h (inl done) = inl (
     [],
     inr (refl, h.leads),
@@ -116,8 +105,8 @@ module _ (words : List Word) (at : Scene) where
   files-led o h (inr (slot, fails, is)) = inl (
     [],
     inr (refl, h.leads),
-    among-silent h.slots h.files at.shelf at.shelf_now slot fails ∙ sym (more-none at.shelf.said),
-    subst IsHeard (sym is) (among-heard h.slots h.files at.shelf at.shelf_now slot h.heard fails),
+    among-silent h.files at.shelf at.shelf_now slot fails ∙ sym (more-none at.shelf.said),
+    subst IsHeard (sym is) (among-heard h.files at.shelf at.shelf_now slot h.heard fails),
   )
 
   came-led : (o : Outcome) → Came words at o → HasLed o

@@ -1,13 +1,16 @@
 -- Where a fit is refused for its slots, the route has more of them than may be.
-use Rattle.std.proofs.Common.{◌≡◌, ◌∙◌, ℕ, ◌+◌, ◌<◌, ◌≤◌, Bool, true, false, Option, Some, None, List, [], ◌∷◌, ◌++◌, length, refl, sym, ap, subst, inl, inr, arith, append_assoc, length-append}
 use Rattle.std.specs.Prelude.{◌&&◌, ◌||◌, ◌==◌, not, filter_map, flat_map, map, option_map, if◌then◌else◌}
 use Rattle.std.specs.List.{cons_option, enumerate_from, list_any}
 use Rattle.std.specs.Option.{option_or}
+use Rattle.std.proofs.Common.{◌≡◌, ◌∙◌, ℕ, ◌+◌, ◌<◌, ◌≤◌, Bool, true, false, Option, Some, None, List, [], ◌∷◌, ◌++◌, length, refl, sym, ap, subst, inl, inr, arith, append_assoc, length-append}
 use Rattle.std.proofs.lemmas.Bool.{and_from, eq-eqb, false≢true, ne_eqb}
 use Rattle.std.proofs.lemmas.Bool.Decides.{Decides-eqb}
 use Rattle.std.proofs.lemmas.List.{append-nil}
 use Rattle.std.proofs.lemmas.List.Elements.{filter_map-append}
 use Rattle.std.proofs.lemmas.List.Folds.{list_any-append}
+use Rattle.fpga_bounds.specs.SlotTable.{with_slot}
+use Rattle.fpga_bounds.proofs.SlotTableLemmas.{same_slot-is}
+use Rattle.fpga_bounds.proofs.SlotsOfLemmas.{any-first_seen, channel_slots, channel_slots-push, first_seen-with}
 use Rattle.fpga_text.specs.FirstFault.{Faults, IsFirst}
 use Rattle.fpga_text.specs.declared.fault.TextFault.{TextFault}
 use Rattle.fpga_text.specs.declared.fault.TextFault.TheVariants.{Bad, Limit}
@@ -15,7 +18,6 @@ use Rattle.fpga_types.specs.Fabric.{same_cell}
 use Rattle.fpga_types.specs.Fit.{RouteLine, comes_again, context_of, is_out_of_order, leaps, line_number, net_lines, route_lines, same_elem, same_place, slots_past, splits, starts_loose}
 use Rattle.fpga_types.specs.Fits.{device_of, end_fault, is_other_pin, is_other_sink, is_other_source, is_pin_apart, is_repeated, is_sink_not_once, is_unknown, lacks_net, net_line_fault, problem_context, problem_faults, same_size}
 use Rattle.fpga_types.specs.Kinds.{is_channel, same_kind, same_label}
-use Rattle.fpga_types.specs.Problem.{RoutingProblem}
 use Rattle.fpga_types.specs.Slots.{channel_at, elem_cell, elem_slot, first_seen, same_slot, slots, slots_of}
 use Rattle.fpga_types.specs.declared.grid.Axis.{Axis}
 use Rattle.fpga_types.specs.declared.grid.Axis.TheVariants.{X, Y}
@@ -27,13 +29,10 @@ use Rattle.fpga_types.specs.declared.route.ElemKind.{ElemKind}
 use Rattle.fpga_types.specs.declared.route.ElemKind.TheVariants.{Source, Opin, ChanX, ChanY, Ipin, Sink}
 use Rattle.fpga_types.specs.declared.route.Label.TheVariants.{Track}
 use Rattle.fpga_types.specs.declared.route.RouteNet.{RouteNet}
-use Rattle.fpga_types.specs.declared.route.RouteText.{RouteText}
-use Rattle.fpga_bounds.specs.SlotTable.{with_slot}
-use Rattle.fpga_bounds.proofs.SlotTableLemmas.{same_slot-is}
-use Rattle.fpga_bounds.proofs.SlotsOfLemmas.{any-first_seen, channel_slots, channel_slots-push, first_seen-with}
 use Rattle.list_laws.proofs.Members.{In, In-append_cases, In-append_left, from_In-flat_map, from_In-map}
 use Rattle.list_laws.proofs.Places.{some_is}
 use Rattle.route_gen.proofs.WalkLemmas.{Place, place-in}
+use Rattle.router_top.specs.Subject.{RoutingProblem, RouteText}
 
 -- each channel line has a track
 abbrev pub AreTracks : List Elem → Type 0

@@ -1,26 +1,17 @@
--- What holds of each outcome that keeps a run from its work.
-use Rattle.std.proofs.Common.{ℕ, Option, Some, sym, subst, inl, inr}
-use Rattle.desk_io.specs.DeskState.{DeskState}
-use Rattle.desk_io.specs.Files.{Bytes, FileMap}
-use Rattle.fpga_arch.specs.Value.{arch_value}
-use Rattle.fpga_net.specs.Value.{net_value}
-use Rattle.fpga_place.specs.Value.{place_value}
-use Rattle.fpga_problem.specs.declared.text_file.TextFile.TheVariants.{Route}
-use Rattle.fpga_route.specs.Value.{route_value}
-use Rattle.fpga_text.specs.declared.fault.TextFault.{TextFault}
+-- What holds of each outcome that keeps a run from its work, and which of them come again.
+use Rattle.std.proofs.Common.{◌≡◌, ◌∙◌, ◌⊎◌, ℕ, Option, Some, sym, ap, subst, inl, inr}
+use Rattle.desk_io.specs.Files.{HasRisen}
+use Rattle.fpga_problem.specs.Sources.{IsDeskFault, Reads, Stops}
+use Rattle.fpga_problem.specs.declared.unread.FileFault.TheVariants.{Desk, Text, TooLong}
+use Rattle.fpga_problem.specs.declared.unread.Unread.{Unread}
 use Rattle.fpga_text.specs.declared.fault.TextFault.TheVariants.{Bad, Limit as PastLimit, Memory as NoMemory}
-use Rattle.fpga_types.specs.Problem.{RoutingProblem, problem_of}
-use Rattle.router_words.specs.Job.{FilesAsked}
-use Rattle.router_words.specs.declared.method.Method.{Method}
-use Rattle.router_top.specs.FourFiles.{GivesNone, IsUnfit, arch_source, net_source, place_source, route_source}
-use Rattle.router_top.specs.Sources.{IsStopped, ReadsThen, Says, Source, fault_outcome}
+use Rattle.router_top.specs.Report.{GivesNone, unread_outcome, IsReadFault}
 use Rattle.router_top.specs.Suited.{IsUnsuited}
+use Rattle.router_top.specs.Subject.{DeskState, Bytes, FileMap, FileNames, Poses, IsHalted, IsStopped, ReadsThen, Says, Source, FileFault, RoutingProblem, Method, Outcome, InputFault, Limit, NotSymmetric, ReadFault, OutOfMemory}
 use Rattle.router_top.specs.declared.outcome.Obstacle.{Obstacle}
-use Rattle.router_top.specs.declared.outcome.Outcome.{Outcome}
-use Rattle.router_top.specs.declared.outcome.Outcome.TheVariants.{InputFault, Limit, NotSymmetric, ReadFault, OutOfMemory}
 use Rattle.router_top.specs.declared.text_file.TextFile.{TextFile}
 use Rattle.router_top.specs.declared.text_file.TextFile.TheVariants.{Problem}
-use Rattle.router_top.proofs.FourLaws.{AfterArch, AfterNetlist, AfterPlacement}
+use Rattle.fpga_problem.proofs.FileLemmas as four
 
 -- this holds of want of memory, of faults of the desk, of faults of texts and of limits
 pub record HoldsOfStops (Q : Outcome → Type 0) : Type 0 where
@@ -30,37 +21,23 @@ pub record HoldsOfStops (Q : Outcome → Type 0) : Type 0 where
   pub limit : (file : Option TextFile) (code count : ℕ) → Q (Limit file code count)
 
 module _ (Q : Outcome → Type 0) (each : HoldsOfStops Q) where
-  fault-holds : (file : TextFile) (fault : TextFault) → Q (fault_outcome file fault)
-  fault-holds file (Bad line code) = each.input file line code
-  fault-holds file (PastLimit code count) = each.limit (Some file) code count
-  fault-holds file NoMemory = each.memory
+  unread-holds : (file : TextFile) (fault : FileFault) → Q (unread_outcome file fault)
+  unread-holds file Desk = each.read file
+  unread-holds file TooLong = each.limit _ _ _
+  unread-holds file (Text (Bad line code)) = each.input file line code
+  unread-holds file (Text (PastLimit code count)) = each.limit (Some file) code count
+  unread-holds file (Text NoMemory) = each.memory
 
-  module _ (desk desk_now : DeskState) (files : Option FileMap) where
-    stop-holds : (source : Source) (o : Outcome) → IsStopped desk desk_now source o → Q o
-    stop-holds source o (inl h) = subst Q (sym h) each.memory
-    stop-holds source o (inr (inl h)) = subst Q (sym h.1) (each.read source.file)
-    stop-holds source o (inr (inr (inl h))) = subst Q (sym h.1) (each.limit _ _ _)
-    stop-holds source o (inr (inr (inr h))) = subst Q (sym h.2) (fault-holds source.file h.0)
+  module _ (stops : Source → FileFault → Type 0) (files : Option FileMap) where
+    pub reads-hold : {T : Type 0} {source : Source} (file : TextFile) {value : Bytes → T}
+        {rest : T → Outcome → Type 0} {o : Outcome}
+        → ReadsThen stops files source (unread_outcome file) value rest o
+        → ((said : T) → Says files source value said → rest said o → Q o) → Q o
+    reads-hold file (Stops h) on = subst Q (sym h.tells) (unread-holds file h.fault)
+    reads-hold file (Reads said says h) on = on said says h
 
-    pub reads-hold : {T : Type 0} (source : Source) (value : Bytes → T)
-        (rest : T → Outcome → Type 0) (o : Outcome)
-        → ((said : T) → Says files source value said → rest said o → Q o)
-        → ReadsThen (IsStopped desk desk_now) files source value rest o → Q o
-    reads-hold source value rest o on (inl h) = stop-holds source o h
-    reads-hold source value rest o on (inr h) = on h.0 h.1 h.2
-
-    pub lacks-hold : (names : FilesAsked) (o : Outcome)
-        → GivesNone (IsStopped desk desk_now) files names o → Q o
-    lacks-hold names o =
-        reads-hold (arch_source names) arch_value
-        (AfterArch (IsStopped desk desk_now) files names) o
-        (λ arch says. reads-hold (net_source names arch) (net_value arch)
-        (AfterNetlist (IsStopped desk desk_now) files names arch) o
-        (λ netlist says. reads-hold (place_source names arch netlist) (place_value netlist)
-        (AfterPlacement (IsStopped desk desk_now) files names arch netlist) o
-        (λ placement says. reads-hold (route_source names) route_value
-        (λ route. IsUnfit (problem_of arch netlist placement route)) o
-        (λ route says unfit. subst Q (sym unfit.2) (fault-holds (Problem Route) unfit.0)))))
+    pub lacks-hold : (names : FileNames) (o : Outcome) → GivesNone stops files names o → Q o
+    lacks-hold names o h = subst Q (sym h.2) (unread-holds (Problem h.0.file) h.0.fault)
 
 -- what holds of such outcomes holds of a method that does not suit the problem
 pub unsuited-holds : (Q : Outcome → Type 0)
@@ -68,3 +45,40 @@ pub unsuited-holds : (Q : Outcome → Type 0)
     → (method : Method) (first last : ℕ) (p : RoutingProblem) (o : Outcome)
     → IsUnsuited method first last p o → Q o
 unsuited-holds Q each method first last p o h = subst Q (sym h.3) (each h.0 h.1)
+
+-- ---- four files
+
+abbrev stop_of : Unread → Outcome
+stop_of unread = unread_outcome (Problem unread.file) unread.fault
+
+module _ (files : FileMap) (names : FileNames) where
+  -- four files are kept from a problem in one way
+  pub one-lack : (a b : Outcome) → GivesNone (IsHalted (Some files)) (Some files) names a →
+      GivesNone (IsHalted (Some files)) (Some files) names b → a ≡ b
+  one-lack a b h g =
+      h.2 ∙ ap stop_of (four.one-lack files names h.0 g.0 h.1 g.1) ∙ sym g.2
+
+  -- four files that pose a problem are not kept from it
+  pub lack-poses : (p : RoutingProblem) (a : Outcome) →
+      GivesNone (IsHalted (Some files)) (Some files) names a → Poses (Some files) names p → ⊥
+  lack-poses p a h = four.lack-poses files names p h.0 h.1
+
+-- memory ran out
+abbrev pub IsSpent : Outcome → Type 0
+IsSpent outcome = outcome ≡ OutOfMemory
+
+-- where the desk has not failed, four files that give no problem are kept from it by what they hold
+pub calm-lack : (desk now : DeskState) (names : FileNames) (a : Outcome) →
+    ¬ HasRisen desk.faults now.faults → GivesNone (IsStopped desk now) desk.files names a →
+    GivesNone (IsHalted desk.files) desk.files names a ⊎ IsSpent a
+calm-lack desk now names a calm h = elim (four.calm-lack desk now names h.0 calm h.1) [
+  | inl halt ↦ inl (h.0, halt, h.2)
+  | inr spent ↦ inr (h.2 ∙ ap (unread_outcome (Problem h.0.file)) spent)
+]
+
+-- a fault of the desk is told as one
+pub desk-fault : (file : TextFile) (fault : FileFault) (o : Outcome) →
+    o ≡ unread_outcome file fault → IsDeskFault fault → IsReadFault o
+desk-fault file Desk o is h = subst IsReadFault (sym is) tt
+desk-fault file TooLong o is h = absurd h
+desk-fault file (Text fault) o is h = absurd h

@@ -1,16 +1,14 @@
 -- Each channel line of a generated route has a track.
-use Rattle.std.proofs.Common.{◌≡◌, ◌∙◌, ℕ, ◌*◌, ◌≤◌, List, [], ◌∷◌, refl, sym, ap, subst, true}
 use Rattle.std.specs.List.{AllByRecursion, enumerate_from}
+use Rattle.std.proofs.Common.{◌≡◌, ◌∙◌, ℕ, ◌*◌, ◌≤◌, List, [], ◌∷◌, refl, sym, ap, subst, true}
 use Rattle.std.proofs.lemmas.Bool.{false≢true}
+use Rattle.fpga_route.specs.ReadBack.{SameButLines, elem_without_line, net_without_lines}
 use Rattle.fpga_types.specs.Kinds.{is_channel}
-use Rattle.fpga_types.specs.Problem.{RoutingProblem}
 use Rattle.fpga_types.specs.declared.limits.TheConstants.{SIDE_LIMIT}
 use Rattle.fpga_types.specs.declared.route.Elem.{Elem}
 use Rattle.fpga_types.specs.declared.route.ElemKind.TheVariants.{Ipin, Sink as SinkKind}
 use Rattle.fpga_types.specs.declared.route.Label.TheVariants.{Class, Pin, Track}
 use Rattle.fpga_types.specs.declared.route.RouteNet.{RouteNet}
-use Rattle.fpga_types.specs.declared.route.RouteText.{RouteText}
-use Rattle.fpga_route.specs.ReadBack.{SameButLines, elem_without_line, net_without_lines}
 use Rattle.list_laws.proofs.Members.{In, In-map, from_In-map}
 use Rattle.route_gen.specs.Draws.{location_of, sinks_of}
 use Rattle.route_gen.specs.Fitting.{AreRead}
@@ -24,6 +22,7 @@ use Rattle.route_gen.proofs.ReadingLemmas.{route-reads}
 use Rattle.route_gen.proofs.TraceLemmas.{all_joined}
 use Rattle.route_gen.proofs.WalkLemmas.{in-all}
 use Rattle.route_gen.proofs.WayLemmas.{cells-all}
+use Rattle.router_top.specs.Subject.{RoutingProblem, RouteText}
 use Rattle.router_top.proofs.SlotCountLaws.{AreTracks}
 
 -- each channel line of a route has a track

@@ -1,24 +1,21 @@
 -- What one search leaves, or several that take turns, is what `route` leaves.
-use Rattle.std.proofs.Common.{◌≡◌, ◌≤◌, ℕ, length, Result, sym, subst, inl, inr, arith}
 use Rattle.std.specs.Prelude.{◌*◌, ◌<◌, ◌||◌, true, Option, Some, None, is_some}
 use Rattle.std.specs.Option.{option_map_or}
-use Rattle.desk_io.specs.ShelfState.{ShelfState}
+use Rattle.std.proofs.Common.{◌≡◌, ◌≤◌, ℕ, length, Result, sym, subst, inl, inr, arith}
 use Rattle.fpga_types.specs.Given.{IsGiven}
-use Rattle.fpga_types.specs.Problem.{RoutingProblem}
 use Rattle.fpga_types.specs.declared.limits.TheConstants.{WIDTH_LIMIT}
 use Rattle.route_count.specs.Crowded.{IsCrowded}
 use Rattle.route_sweep.specs.Asked.{Asked}
-use Rattle.route_sweep.specs.Found.{FindsAt, HasFew}
+use Rattle.route_sweep.specs.Found.{FindsAt}
 use Rattle.route_sweep.specs.declared.found.Found.{Found}
 use Rattle.route_sweep.specs.declared.found.Stop.{Stop}
 use Rattle.sat_clause.specs.declared.limits.TheConstants.{CLAUSE_LIMIT}
-use Rattle.router_words.specs.Job.{MembersAsked, RouteAsked}
+use Rattle.router_words.specs.Job.{MembersAsked}
 use Rattle.router_top.specs.Method.{IsRoutingBy, clauses_by}
-use Rattle.router_top.specs.Outcomes.{found_outcome}
+use Rattle.router_top.specs.Report.{found_outcome}
 use Rattle.router_top.specs.Search.{asks_to_keep}
 use Rattle.router_top.specs.Work.{LeavesRoute}
-use Rattle.router_top.specs.declared.outcome.Outcome.{Outcome}
-use Rattle.router_top.specs.declared.outcome.Outcome.TheVariants.{Limit}
+use Rattle.router_top.specs.Subject.{ShelfState, RoutingProblem, HasFew, RouteAsked, Outcome, Limit}
 
 -- one search alone holds no more clauses than there are
 pub one-held : (n : ℕ) → n ≤ CLAUSE_LIMIT → 1 * n ≤ CLAUSE_LIMIT

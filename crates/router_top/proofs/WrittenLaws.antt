@@ -9,7 +9,7 @@ use Rattle.desk_io.specs.Files.{Bytes, FileMap}
 use Rattle.desk_io.specs.Reading.{IsWhole}
 use Rattle.desk_io.proofs.FileLemmas.{get-inserted, same_name, same_name-eq}
 use Rattle.list_laws.proofs.Places.{some_is}
-use Rattle.router_top.specs.Written.{AreWritten, NamedText, with_file, with_files}
+use Rattle.router_top.specs.Written.{AreWritten, JobFile, with_file, with_files}
 
 -- ---- one file
 
@@ -22,7 +22,7 @@ get-other m k v q other = get-insert nat_list_cmp_total m k v q ∙ by-test (sam
     by-test false same = refl
 
 -- a file that was written is there
-there : (file : NamedText) (files : Option FileMap) →
+there : (file : JobFile) (files : Option FileMap) →
     IsWhole (with_file file files) file.name file.text
 there file None = λ fs told. cc
 there file (Some old) = λ fs told.
@@ -30,7 +30,7 @@ there file (Some old) = λ fs told.
     (get-inserted old file.name file.text)
 
 -- one of another name stays
-stays : (file : NamedText) (files : Option FileMap) (name text : Bytes) → name ≢ file.name →
+stays : (file : JobFile) (files : Option FileMap) (name text : Bytes) → name ≢ file.name →
     IsWhole files name text → IsWhole (with_file file files) name text
 stays file None name text other h = λ fs told. cc
 stays file (Some old) name text other h = λ fs told.
@@ -40,16 +40,16 @@ stays file (Some old) name text other h = λ fs told.
 -- ---- more of them
 
 -- none of these files has the name
-abbrev pub NoneHas : Bytes → List NamedText → Type 0
+abbrev pub NoneHas : Bytes → List JobFile → Type 0
 NoneHas name [] = ⊤
 NoneHas name (file ∷ more) = (name ≢ file.name) × NoneHas name more
 
 -- no two of these files have one name
-abbrev pub AreApart : List NamedText → Type 0
+abbrev pub AreApart : List JobFile → Type 0
 AreApart [] = ⊤
 AreApart (file ∷ more) = NoneHas file.name more × AreApart more
 
-stays-behind : (more : List NamedText) (files : Option FileMap) (name text : Bytes) →
+stays-behind : (more : List JobFile) (files : Option FileMap) (name text : Bytes) →
     NoneHas name more → IsWhole files name text → IsWhole (with_files more files) name text
 stays-behind [] files name text none h = h
 stays-behind (file ∷ more) files name text none h =
@@ -57,11 +57,11 @@ stays-behind (file ∷ more) files name text none h =
     (stays file files name text none.0 h)
 
 -- each of these files stands with its text
-abbrev pub Stand : Option FileMap → List NamedText → Type 0
+abbrev pub Stand : Option FileMap → List JobFile → Type 0
 Stand files [] = ⊤
 Stand files (file ∷ more) = IsWhole files file.name file.text × Stand files more
 
-pub written-stand : (written : List NamedText) (files : Option FileMap) → AreApart written →
+pub written-stand : (written : List JobFile) (files : Option FileMap) → AreApart written →
     Stand (with_files written files) written
 written-stand [] files apart = tt
 written-stand (file ∷ more) files apart = (
@@ -69,7 +69,7 @@ written-stand (file ∷ more) files apart = (
   written-stand more (with_file file files) apart.1,
 )
 
-pub all-stand : (written : List NamedText) (files : Option FileMap) → Stand files written →
+pub all-stand : (written : List JobFile) (files : Option FileMap) → Stand files written →
     All (λ file. IsWhole files file.name file.text) written
 all-stand [] files each = All-nil (λ file. IsWhole files file.name file.text)
 all-stand (file ∷ more) files each =
@@ -77,7 +77,7 @@ all-stand (file ∷ more) files each =
     (all-stand more files each.1)
 
 -- files whose names differ were written
-pub are-written : (written : List NamedText) (before now : Option FileMap) →
+pub are-written : (written : List JobFile) (before now : Option FileMap) →
     now ≡ with_files written before → AreApart written → AreWritten written before now
 are-written written before now only apart = record {
   only = only;
@@ -87,7 +87,7 @@ are-written written before now only apart = record {
 }
 
 -- files behind others
-pub with_files-append : (xs ys : List NamedText) (files : Option FileMap) →
+pub with_files-append : (xs ys : List JobFile) (files : Option FileMap) →
     with_files (xs ++ ys) files ≡ with_files ys (with_files xs files)
 with_files-append [] ys files = refl
 with_files-append (x ∷ xs) ys files = with_files-append xs ys (with_file x files)

@@ -2,24 +2,17 @@
 -- blames.
 use Rattle.std.specs.Prelude.{◌≡◌, ◌⊎◌, ◌++◌, ◌≤◌, ℕ, List, [], codes, flat_map, slice_get, Result, Ok}
 use Rattle.std.specs.Option.{option_map_or}
-use Rattle.desk_io.specs.Files.{Bytes}
-use Rattle.desk_io.specs.ShelfState.{FailsToSay, ShelfState, after_say}
 use Rattle.fpga_types.specs.Given.{IsGiven}
-use Rattle.fpga_types.specs.Problem.{RoutingProblem}
 use Rattle.fpga_types.specs.declared.limits.TheConstants.{WIDTH_LIMIT}
 use Rattle.fpga_types.specs.declared.route.RouteNet.{RouteNet}
-use Rattle.fpga_types.specs.declared.route.RouteText.{RouteText}
 use Rattle.route_core.specs.Blamed.{blamed}
 use Rattle.route_sweep.specs.declared.found.Found.{Found}
 use Rattle.route_sweep.specs.declared.found.Found.TheVariants.{Refuted}
 use Rattle.route_sweep.specs.declared.found.Stop.{Stop}
-use Rattle.router_words.specs.Job.{CoreAsked}
-use Rattle.router_top.specs.Outcomes.{found_outcome}
+use Rattle.router_top.specs.Report.{found_outcome}
 use Rattle.router_top.specs.Search.{Search, core_search}
 use Rattle.router_top.specs.Work.{Finds}
-use Rattle.router_top.specs.declared.outcome.Outcome.{Outcome}
-use Rattle.router_top.specs.declared.outcome.Outcome.TheVariants.{Unroutable, WriteFault}
-use Rattle.router_top.specs.declared.slot.Slot.TheVariants.{Said}
+use Rattle.router_top.specs.Subject.{Bytes, FailsToSay, ShelfState, after_say, RoutingProblem, RouteText, CoreAsked, Outcome, Unroutable, WriteFault, Said}
 
 -- the name of a net by its position among those of a route
 abbrev pub net_name : RouteText → (position : ℕ) → Bytes

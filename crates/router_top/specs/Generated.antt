@@ -1,21 +1,17 @@
 -- Problems that are made from a number: their files, and the desk on which these stand alone.
 use Rattle.std.specs.Prelude.{◌≡◌, ◌⊎◌, ◌*◌, ◌<◌, ◌≤◌, ◌++◌, ◌+◌, false, List, [], ◌∷◌, length, codes, Some, None}
 use Rattle.std.specs.FinMap.{empty}
-use Rattle.desk_io.specs.DeskState.{DeskState}
 use Rattle.fpga_problem.specs.declared.text_file.TextFile.TheVariants.{Route}
 use Rattle.fpga_types.specs.FitCauses.{code_of}
-use Rattle.fpga_types.specs.Problem.{RoutingProblem}
 use Rattle.fpga_types.specs.Slots.{slots}
 use Rattle.fpga_types.specs.Texts.{Texts}
 use Rattle.fpga_types.specs.declared.fit_cause.FitCause.TheVariants.{PastLimit}
 use Rattle.fpga_types.specs.declared.limits.TheConstants.{SIDE_LIMIT, SLOT_LIMIT}
 use Rattle.route_gen.specs.Fitting.{AreRead}
 use Rattle.route_gen.specs.Generated.{generated}
-use Rattle.router_words.specs.Job.{FilesAsked, RecipeAsked}
-use Rattle.router_words.specs.Word.{Word}
-use Rattle.router_top.specs.Written.{NamedText, with_files}
-use Rattle.router_top.specs.declared.outcome.Outcome.{Outcome}
-use Rattle.router_top.specs.declared.outcome.Outcome.TheVariants.{Limit, OutOfMemory}
+use Rattle.router_top.specs.Written.{JobFile, with_files}
+use Rattle.router_top.specs.Subject.{DeskState, FileNames, RoutingProblem, RecipeAsked, Word, Outcome, Limit, OutOfMemory}
+use Rattle.router_top.specs.declared.slot.Slot.TheVariants.{Architecture, Netlist, Placement, GlobalRoute}
 use Rattle.router_top.specs.declared.text_file.TextFile.TheVariants.{Problem}
 
 -- there is a block to drive each net
@@ -36,7 +32,7 @@ abbrev pub texts_of : RecipeAsked → Texts
 texts_of recipe = generated recipe.seed recipe.side recipe.nets
 
 -- the names of its files
-abbrev pub generated_names : (prefix : Word) → FilesAsked
+abbrev pub generated_names : (prefix : Word) → FileNames
 generated_names prefix = record {
   architecture = prefix ++ codes ".arch";
   netlist = prefix ++ codes ".net";
@@ -45,12 +41,12 @@ generated_names prefix = record {
 }
 
 -- four texts under these names, in the order in which they are written
-abbrev pub problem_files : FilesAsked → Texts → List NamedText
+abbrev pub problem_files : FileNames → Texts → List JobFile
 problem_files names texts =
-    record { name = names.architecture; text = texts.architecture }
-    ∷ record { name = names.netlist; text = texts.netlist }
-    ∷ record { name = names.placement; text = texts.placement }
-    ∷ record { name = names.route; text = texts.route } ∷ []
+    record { slot = Architecture; name = names.architecture; text = texts.architecture }
+    ∷ record { slot = Netlist; name = names.netlist; text = texts.netlist }
+    ∷ record { slot = Placement; name = names.placement; text = texts.placement }
+    ∷ record { slot = GlobalRoute; name = names.route; text = texts.route } ∷ []
 
 -- an array may have this side, there is a block to drive each net, and the texts read as the four
 -- values of this problem
@@ -75,11 +71,11 @@ abbrev pub PosesNone : RecipeAsked → Outcome → Type 0
 PosesNone recipe outcome = MakesNone recipe outcome ⊎ IsTooLarge recipe outcome
 
 -- the files of the problem
-abbrev pub generated_files : RecipeAsked → (prefix : Word) → List NamedText
+abbrev pub generated_files : RecipeAsked → (prefix : Word) → List JobFile
 generated_files recipe prefix = problem_files (generated_names prefix) (texts_of recipe)
 
 -- a desk with these files alone, which has not failed
-abbrev pub desk_with : List NamedText → DeskState
+abbrev pub desk_with : List JobFile → DeskState
 desk_with files = record {
   files = with_files files (Some empty);
   is_started = false;

@@ -6,17 +6,12 @@
 -- reach a net may have several wires of a cell, and reaches each of its sinks over so many joins at
 -- the most: which routings a job asks for its method says.
 use Rattle.std.specs.Prelude.{◌≡◌, ℕ, List, [], ◌∷◌, ◌++◌, Option}
-use Rattle.desk_io.specs.Files.{FileMap}
-use Rattle.fpga_types.specs.declared.route.RouteText.{RouteText}
 use Rattle.fpga_route.specs.ReadBack.{ReadsBack}
-use Rattle.route_sweep.specs.Found.{HasFew}
-use Rattle.sat_clause.specs.Step.{Step}
-use Rattle.router_words.specs.Word.{Word}
-use Rattle.router_top.specs.Comes.{ComesTo, IsRefutedAt, lower_files}
-use Rattle.router_top.specs.Ends.{LeavesOpen}
+use Rattle.router_top.specs.Comes.{ComesTo, IsRefutedAt, lower_files, LeavesOpen}
 use Rattle.router_top.specs.Method.{IsRoutingBy, clauses_by}
-use Rattle.router_top.specs.SearchFiles.{ReadBack, proof_files, route_file}
+use Rattle.router_top.specs.Search.{ReadBack, proof_files, route_file}
 use Rattle.router_top.specs.Written.{AreWritten}
+use Rattle.router_top.specs.Subject.{FileMap, RouteText, HasFew, Step, Word}
 
 -- at this width a routing was found. Beside the files of lower widths one alone was written: the
 -- global route with the tracks of a legal routing, as it reads back

@@ -1,32 +1,20 @@
 -- What each answer means.
 use Rattle.std.specs.Prelude.{◌≡◌, ◌⊎◌, List, [], ◌∷◌, ⊤, length, Ok, Option}
-use Rattle.desk_io.specs.Files.{FileMap}
 use Rattle.fpga_route.specs.Value.{route_value}
-use Rattle.fpga_types.specs.Problem.{RoutingProblem}
-use Rattle.fpga_types.specs.declared.route.RouteText.{RouteText}
-use Rattle.route_sweep.specs.Found.{HasFew}
 use Rattle.route_verify.specs.Reach.{judged_by}
 use Rattle.route_verify.specs.declared.judgement.Judgement.{Judgement}
 use Rattle.route_verify.specs.declared.judgement.Judgement.TheVariants.{Legal as IsLegal, NotLegal as IsNotLegal}
-use Rattle.sat_clause.specs.Formula.{Cnf, IsUnsat}
-use Rattle.sat_clause.specs.Step.{Step}
+use Rattle.sat_clause.specs.Formula.{IsUnsat}
 use Rattle.sat_rat.specs.FullJudge.{FullAccepts}
 use Rattle.sat_text.specs.CnfText.{ReadsCnf, cnf_said}
 use Rattle.sat_text.specs.LratText.{lrat_said}
-use Rattle.router_words.specs.Command.{job_of}
-use Rattle.router_words.specs.Job.{CheckAsked, Checks, EncodeAsked, Encodes, GenAsked, Generates, VerifyAsked, Verifies}
-use Rattle.router_words.specs.Word.{Word}
 use Rattle.router_top.specs.Check.{cnf_source, lrat_source}
-use Rattle.router_top.specs.FourFiles.{Poses}
 use Rattle.router_top.specs.Generated.{HasRoom, generated_files}
 use Rattle.router_top.specs.Headline.{IsLeftOpen, IsRefuted, IsRouted}
 use Rattle.router_top.specs.Method.{clauses_by}
-use Rattle.router_top.specs.Sources.{Says}
-use Rattle.router_top.specs.Verify.{routed_source}
 use Rattle.router_top.specs.Work.{clauses_file}
 use Rattle.router_top.specs.Written.{AreWritten}
-use Rattle.router_top.specs.declared.outcome.Outcome.{Outcome}
-use Rattle.router_top.specs.declared.outcome.Outcome.TheVariants.{Accepted, Done, LegalRoute, NotLegal, Routed, Undecided, Unroutable}
+use Rattle.router_top.specs.Subject.{FileMap, Poses, Says, route_source, RoutingProblem, RouteText, HasFew, Cnf, Step, job_of, CheckAsked, Checks, EncodeAsked, Encodes, GenAsked, Generates, VerifyAsked, Verifies, Word, Outcome, Accepted, Done, LegalRoute, NotLegal, Routed, Undecided, Unroutable}
 
 -- the words ask for the clauses, and one file alone was written: those of the problem
 pub record IsEncoded (words : List Word) (desk before now : Option FileMap) : Type 0 where
@@ -68,7 +56,7 @@ pub record IsJudged (words : List Word) (desk : Option FileMap) (judgement : Jud
   pub found : RouteText
   pub asked : job_of words ≡ Ok (Verifies job)
   pub poses : Poses desk job.files p
-  pub reads : Says desk (routed_source job.routed) route_value found
+  pub reads : Says desk (route_source job.routed) route_value found
   pub is : judged_by job.reach job.width p found ≡ judgement
 
 -- what an answer means, by the files of the desk and those of the shelf before the run and after

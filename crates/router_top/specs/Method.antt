@@ -1,22 +1,18 @@
 -- What a method makes of a problem: its clauses, its routings, and what it means that there is one
 -- or none. Nothing else here knows of an encoding.
 use Rattle.std.specs.Prelude.{ℕ, ◌≤◌, List, ⊤}
-use Rattle.fpga_types.specs.Problem.{RoutingProblem}
 use Rattle.fpga_types.specs.declared.grid.Wire.{Wire}
-use Rattle.fpga_types.specs.declared.route.RouteText.{RouteText}
+use Rattle.route_crowd.specs.Crowd.{crowd}
+use Rattle.route_crowd.specs.Precedence.{ordered_cnf}
 use Rattle.route_encode.specs.Encoding.{cnf_of}
 use Rattle.route_encode.specs.Exact.{IsLegalRouting, IsUnroutableAt}
 use Rattle.route_encode.specs.Good.{IsRoutingOf}
-use Rattle.route_crowd.specs.Crowd.{crowd}
-use Rattle.route_crowd.specs.Precedence.{ordered_cnf}
 use Rattle.route_reach.specs.Encoding.{reach_cnf}
 use Rattle.route_reach.specs.Good.{IsReachRoute}
 use Rattle.route_reach.specs.Reach.{IsReachLegal}
 use Rattle.route_reach.specs.TraceDepth.{trace_depth}
 use Rattle.route_symmetry.specs.Pinned.{pinned_cnf}
-use Rattle.sat_clause.specs.Formula.{Cnf}
-use Rattle.router_words.specs.declared.method.Method.{Method}
-use Rattle.router_words.specs.declared.method.Method.TheVariants.{Ordered, Pinned, Strictly, Within}
+use Rattle.router_top.specs.Subject.{RoutingProblem, RouteText, Cnf, Method, Ordered, Pinned, Strictly, Within}
 
 -- the clauses that say a routing of the problem at a width
 abbrev pub clauses_by : Method → (width : ℕ) → RoutingProblem → Cnf

@@ -1,10 +1,59 @@
--- The exit status and the report line of each outcome.
-use Rattle.std.specs.Prelude.{ℕ, ◌++◌, List, codes, decimal, Result, Ok, Err}
-use Rattle.router_top.specs.Slots.{number_of}
-use Rattle.router_top.specs.TextFiles.{file_word}
-use Rattle.router_top.specs.declared.outcome.Outcome.{Outcome}
-use Rattle.router_top.specs.declared.slot.Slot.TheVariants.{Said}
-use Rattle.router_top.specs.declared.outcome.Outcome.TheVariants.{Routed, Unroutable, Undecided, Done, Accepted, NotAccepted, LegalRoute, NotLegal, InputFault, Limit, NotSymmetric, Usage, ReadFault, WriteFault, OutOfMemory}
+-- The outcomes of runs: what work comes to by where it ended or stopped, the exit status and the
+-- report line; the files that commands read and write, by number and by word.
+use Rattle.std.specs.Prelude.{ℕ, List, codes, ◌++◌, decimal, ◌≡◌, ◌+◌, None, Option, Some, Result, Ok, Err}
+use Rattle.fpga_problem.specs.Files.{AreUnread}
+use Rattle.fpga_problem.specs.declared.text_file.TextFile.TheVariants.{Architecture, Netlist, Placement, Route}
+use Rattle.fpga_problem.specs.declared.source.TheConstants.{TEXT_BYTES}
+use Rattle.fpga_problem.specs.declared.unread.FileFault.TheVariants.{Desk, Text, TooLong}
+use Rattle.fpga_problem.specs.declared.unread.Unread.{Unread}
+use Rattle.fpga_text.specs.declared.fault.TextFault.TheVariants.{Bad, Limit as PastLimit, Memory as NoMemory}
+use Rattle.route_sweep.specs.Slots.{slot_number}
+use Rattle.route_sweep.specs.declared.found.Climbed.{Climbed}
+use Rattle.route_sweep.specs.declared.found.Climbed.TheVariants.{Routed as IsLeast, Unroutable as HasNone, Undecided as IsOpen}
+use Rattle.route_sweep.specs.declared.found.Found.{Found}
+use Rattle.route_sweep.specs.declared.found.Found.TheVariants.{Routed as IsRouted, Refuted, Spent}
+use Rattle.route_sweep.specs.declared.found.Stop.{Stop}
+use Rattle.route_sweep.specs.declared.found.Stop.TheVariants.{Fault, TooManyClauses, Memory}
+use Rattle.router_top.specs.Subject.{Outcome, Routed, Unroutable, Undecided, Done, Accepted, NotAccepted, LegalRoute, NotLegal, InputFault, Limit, NotSymmetric, Usage, ReadFault, WriteFault, OutOfMemory, Slot, Said, File, FileMap, FileNames, Source, FileFault}
+use Rattle.router_top.specs.declared.text_file.TheConstants.{PROOF_BYTES}
+use Rattle.router_top.specs.declared.text_file.TextFile.{TextFile}
+use Rattle.router_top.specs.declared.text_file.TextFile.TheVariants.{Cnf, Lrat, Problem, Routed}
+use Rattle.router_top.specs.declared.slot.Slot.TheVariants.{Architecture, Netlist, Placement, GlobalRoute}
+
+-- the number of a file among those of all commands
+abbrev pub file_number : TextFile → ℕ
+file_number (Problem Architecture) = 1
+file_number (Problem Netlist) = 2
+file_number (Problem Placement) = 3
+file_number (Problem Route) = 4
+file_number Cnf = 5
+file_number Lrat = 6
+file_number Routed = 7
+
+-- how many bytes a file may have
+abbrev pub byte_limit : TextFile → ℕ
+byte_limit Cnf = PROOF_BYTES
+byte_limit Lrat = PROOF_BYTES
+byte_limit file = TEXT_BYTES
+
+-- the word for a file in a report
+abbrev pub file_word : TextFile → List ℕ
+file_word (Problem Architecture) = codes "architecture"
+file_word (Problem Netlist) = codes "netlist"
+file_word (Problem Placement) = codes "placement"
+file_word (Problem Route) = codes "route"
+file_word Cnf = codes "cnf"
+file_word Lrat = codes "lrat"
+file_word Routed = codes "routed"
+
+-- the number by which reports name it
+abbrev pub number_of : Slot → ℕ
+number_of Said = 0
+number_of (File slot) = slot_number slot
+number_of Architecture = 4
+number_of Netlist = 5
+number_of Placement = 6
+number_of GlobalRoute = 7
 
 -- the exit status
 abbrev pub status_of : Outcome → ℕ
@@ -63,7 +112,43 @@ abbrev pub IsReadFault : Outcome → Type 0
 IsReadFault (ReadFault file) = Unit {0}
 IsReadFault outcome = ⊥
 
--- the same where it kept a value from being had
-abbrev pub IsReadFaultErr : {T : Type 0} → Result T Outcome → Type 0
-IsReadFaultErr (Ok value) = ⊥
-IsReadFaultErr (Err outcome) = IsReadFault outcome
+-- where a file gives no value
+abbrev pub unread_outcome : TextFile → FileFault → Outcome
+unread_outcome file Desk = ReadFault file
+unread_outcome file TooLong =
+    Limit (Some file) (910 + file_number file) (byte_limit file + 1)
+unread_outcome file (Text (Bad line code)) = InputFault file line code
+unread_outcome file (Text (PastLimit code count)) = Limit (Some file) code count
+unread_outcome file (Text NoMemory) = OutOfMemory
+
+-- the four files give no problem, and the outcome says why: the work stops at a file, those before
+-- it read; or all four read, but do not fit
+abbrev pub GivesNone : (Source → FileFault → Type 0) → Option FileMap → FileNames → Outcome → Type 0
+GivesNone stops files names outcome =
+    (unread : Unread) × AreUnread stops files names unread
+    × (outcome ≡ unread_outcome (Problem unread.file) unread.fault)
+
+-- where the work on the clauses of a problem stopped
+abbrev pub stop_outcome : Stop → Outcome
+stop_outcome (Fault slot) = WriteFault (File slot)
+stop_outcome (TooManyClauses count) = Limit None 901 count
+stop_outcome Memory = OutOfMemory
+
+-- where a search at a width ended, or stopped
+abbrev pub found_outcome : (width : ℕ) → Result Found Stop → Outcome
+found_outcome width (Ok IsRouted) = Routed width
+found_outcome width (Ok Refuted) = Unroutable width
+found_outcome width (Ok (Spent learned)) = Undecided width learned
+found_outcome width (Err stop) = stop_outcome stop
+
+-- where a climb through the widths ended, or stopped
+abbrev pub climbed_outcome : Result Climbed Stop → Outcome
+climbed_outcome (Ok (IsLeast width)) = Routed width
+climbed_outcome (Ok (HasNone width)) = Unroutable width
+climbed_outcome (Ok (IsOpen width learned)) = Undecided width learned
+climbed_outcome (Err stop) = stop_outcome stop
+
+-- where what was asked for was written, or not
+abbrev pub written_outcome : {Written : Type 0} → Result Written Stop → Outcome
+written_outcome (Ok written) = Done
+written_outcome (Err stop) = stop_outcome stop

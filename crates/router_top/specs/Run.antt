@@ -1,24 +1,14 @@
 -- A run: the words, then the files in their order, then the work, and last the report.
 use Rattle.std.specs.Prelude.{◌≡◌, ◌⊎◌, List, MatchResult}
-use Rattle.desk_io.specs.DeskState.{DeskState}
-use Rattle.desk_io.specs.ShelfState.{FailsToSay, ShelfState, after_say}
-use Rattle.fpga_types.specs.Problem.{RoutingProblem}
-use Rattle.router_words.specs.Command.{job_of}
 use Rattle.router_words.specs.Refusal.{code_of}
-use Rattle.router_words.specs.Job.{Blames, Checks, Encodes as EncodesJob, FilesAsked, GenAsked, Generates, JobAsked, RecipeAsked, Routes, Sweeps as SweepsJob, TrialAsked, Tries as TriesJob, Verifies}
-use Rattle.router_words.specs.Word.{Word}
-use Rattle.router_top.specs.Check.{ChecksTo}
+use Rattle.router_top.specs.Check.{ChecksTo, VerifiesTo}
 use Rattle.router_top.specs.Core.{LeavesCore}
-use Rattle.router_top.specs.Files.{WritesFiles, problem_slots}
-use Rattle.router_top.specs.FourFiles.{GivesNone, Poses}
+use Rattle.router_top.specs.Written.{WritesFiles}
 use Rattle.router_top.specs.Generated.{HasRoom, Makes, MakesNone, PosesNone, generated_files}
-use Rattle.router_top.specs.Report.{IsReadFault, line_of, unsaid}
-use Rattle.router_top.specs.Sources.{IsStopped}
+use Rattle.router_top.specs.Report.{GivesNone, IsReadFault, line_of, unsaid}
 use Rattle.router_top.specs.Suited.{EncodeLeaves, RouteLeaves, SweepLeaves}
-use Rattle.router_top.specs.Trial.{Tries}
-use Rattle.router_top.specs.Verify.{VerifiesTo}
-use Rattle.router_top.specs.declared.outcome.Outcome.{Outcome}
-use Rattle.router_top.specs.declared.outcome.Outcome.TheVariants.{Usage, OutOfMemory}
+use Rattle.router_top.specs.Work.{Tries}
+use Rattle.router_top.specs.Subject.{DeskState, FailsToSay, ShelfState, after_say, FileNames, Poses, IsStopped, RoutingProblem, job_of, Blames, Checks, Encodes as EncodesJob, GenAsked, Generates, JobAsked, RecipeAsked, Routes, Sweeps as SweepsJob, TrialAsked, Tries as TriesJob, Verifies, Word, Outcome, Usage, OutOfMemory}
 
 -- the desk and the shelf before the work and after it
 pub record Scene : Type 0 where
@@ -33,7 +23,7 @@ scene desk desk_now shelf shelf_now =
 
 -- nothing was written, since the four files give no problem; or they pose one, and this is what the
 -- work on it leaves
-abbrev pub LeavesWork : FilesAsked
+abbrev pub LeavesWork : FileNames
     → (RoutingProblem → (before now : ShelfState) → Outcome → Type 0) → Scene → Outcome → Type 0
 LeavesWork names works at outcome =
     (GivesNone (IsStopped at.desk at.desk_now) at.desk.files names outcome
@@ -49,7 +39,7 @@ LeavesMade recipe left before now outcome =
 -- the making of a problem, and the writing of its files
 abbrev pub WritesGenerated : GenAsked → (before now : ShelfState) → Outcome → Type 0
 WritesGenerated job before now outcome = LeavesMade job.recipe
-    (WritesFiles problem_slots (generated_files job.recipe job.prefix) before now outcome)
+    (WritesFiles (generated_files job.recipe job.prefix) before now outcome)
     before now outcome
 
 -- nothing was written, since no problem was made, or one that is too large; or a problem was made

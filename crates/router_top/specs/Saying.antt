@@ -1,20 +1,12 @@
 -- What a run says, whatever fails: the lead, and then the report line.
 use Rattle.std.specs.Prelude.{◌≡◌, ◌⊎◌, ℕ, ◌≤◌, ◌++◌, List, [], length, take, Ok, Option, option_map}
-use Rattle.desk_io.specs.Files.{Bytes, FileMap}
-use Rattle.desk_io.specs.ShelfState.{ShelfState}
-use Rattle.fpga_types.specs.Problem.{RoutingProblem}
 use Rattle.route_core.specs.Blamed.{blamed}
-use Rattle.router_words.specs.Command.{job_of}
-use Rattle.router_words.specs.Job.{Blames, CoreAsked, TrialAsked, Tries}
-use Rattle.router_words.specs.Word.{Word}
 use Rattle.router_top.specs.Core.{net_lines}
 use Rattle.router_top.specs.Generated.{Makes, PosesNone}
 use Rattle.router_top.specs.Headline.{IsRefuted}
 use Rattle.router_top.specs.Report.{line_of}
-use Rattle.router_top.specs.Trial.{trial_line}
-use Rattle.router_top.specs.declared.outcome.Outcome.{Outcome}
-use Rattle.router_top.specs.declared.outcome.Outcome.TheVariants.{Unroutable, WriteFault}
-use Rattle.router_top.specs.declared.slot.Slot.TheVariants.{Said}
+use Rattle.router_top.specs.Work.{trial_line}
+use Rattle.router_top.specs.Subject.{Bytes, FileMap, ShelfState, RoutingProblem, job_of, Blames, CoreAsked, TrialAsked, Tries, Word, Outcome, Unroutable, WriteFault, Said}
 
 -- the bytes said, and a text behind them
 abbrev pub more_said : Option Bytes → Bytes → Option Bytes

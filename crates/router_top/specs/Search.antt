@@ -1,22 +1,26 @@
--- The searches that jobs ask for: for a routing at one width, or at the least width that has one.
-use Rattle.std.specs.Prelude.{ℕ, ◌*◌, ◌-◌, ◌||◌, Bool, true, false, List, length, Option, None, Some, is_some}
+-- The searches that jobs ask for: for a routing at one width, or at the least width that has one;
+-- the files that they write, and how these read back.
+use Rattle.std.specs.Prelude.{ℕ, ◌*◌, ◌-◌, ◌||◌, Bool, true, false, List, length, Option, None, Some, is_some, [], ◌∷◌}
 use Rattle.std.specs.List.{range_with_len}
 use Rattle.std.specs.Option.{option_map_or}
-use Rattle.desk_io.specs.Files.{FileMap}
-use Rattle.fpga_types.specs.Problem.{RoutingProblem}
+use Rattle.fpga_route.specs.Printed.{printed}
 use Rattle.route_sweep.specs.Asked.{Asked}
-use Rattle.router_words.specs.Job.{Blames, CoreAsked, FilesAsked, JobAsked, RouteAsked, Routes, SearchAsked, SweepAsked, Sweeps, TrialAsked, Tries}
-use Rattle.router_words.specs.declared.method.Method.{Method}
-use Rattle.router_words.specs.declared.method.Method.TheVariants.{Strictly}
+use Rattle.route_sweep.specs.Found.{LogReadsBackIf}
+use Rattle.route_sweep.specs.Names.{cnf_name, lrat_name, route_name}
+use Rattle.route_sweep.specs.declared.found.FileSlot.TheVariants.{Route, Clauses, Log}
+use Rattle.sat_text.specs.CnfText.{ReadsCnf}
+use Rattle.sat_text.specs.Printed.{cnf_text, log_text}
 use Rattle.router_top.specs.Generated.{generated_desk, generated_names}
 use Rattle.router_top.specs.Method.{clauses_by}
+use Rattle.router_top.specs.Written.{JobFile}
+use Rattle.router_top.specs.Subject.{FileMap, FileNames, RoutingProblem, RouteText, Cnf, Step, Blames, CoreAsked, JobAsked, RouteAsked, Routes, SearchAsked, SweepAsked, Sweeps, TrialAsked, Tries, Method, Strictly, File}
 
 -- a search of the problem of these files at the widths from the first on, one after the other,
 -- until one is not refuted or the last one was; how routings are said by clauses, what is asked of
 -- the search at each width, how many take turns there as one, and whether a refutation is cut down
 -- to what it needs
 pub record Search : Type 0 where
-  pub files : FilesAsked
+  pub files : FileNames
   pub first : ℕ
   pub last : ℕ
   pub method : Method
@@ -109,3 +113,29 @@ clauses_held search width p = search.members * length (clauses_by search.method 
 -- the widths of the search that are lower than this one
 abbrev pub lower_widths : Search → (width : ℕ) → List ℕ
 lower_widths search width = range_with_len search.first (width - search.first)
+
+-- the global route with the tracks that were found
+abbrev pub route_file : Search → RouteText → JobFile
+route_file search found =
+    record { slot = File Route; name = route_name search.ask; text = printed found }
+
+-- the clauses at a width, and then a log
+abbrev pub proof_files : Search → RoutingProblem → (width : ℕ) → List Step → List JobFile
+proof_files search p width log =
+    record {
+      slot = File Clauses;
+      name = cnf_name search.ask width;
+      text = cnf_text (clauses_by search.method width p);
+    }
+    ∷ record { slot = File Log; name = lrat_name search.ask width; text = log_text log } ∷ []
+
+-- both texts of a refutation read back; where counting comes first, the log does unless numbers
+-- alone forbid the width
+pub record ReadBackIf (counts : Bool) (forbidden : Type 0) (cnf : Cnf) (log : List Step)
+    : Type 0 where
+  pub clauses : ReadsCnf (cnf_text cnf) cnf
+  pub steps : LogReadsBackIf counts forbidden cnf log
+
+-- both texts of a search read back
+abbrev pub ReadBack : Cnf → List Step → Type 0
+ReadBack cnf log = ReadBackIf false ⊥ cnf log

@@ -1,19 +1,39 @@
--- Whether the method of a job suits its problem at each width that the job may come to, and what
--- the job leaves by that.
-use Rattle.std.specs.Prelude.{◌≡◌, ◌⊎◌, ℕ, ◌<◌, ◌≤◌, Bool, true, false, Option, Some, None, option_map}
-use Rattle.desk_io.specs.ShelfState.{ShelfState}
-use Rattle.fpga_types.specs.Problem.{RoutingProblem}
+-- Whether the method of a job suits its problem at each width that the job may come to, the encoder
+-- that is made of the problem before the work, and what the job leaves by both.
+use Rattle.std.specs.Prelude.{◌≡◌, ◌⊎◌, ℕ, List, ◌<◌, ◌≤◌, Bool, true, false, Option, Some, None, option_map}
+use Rattle.route_crowd.specs.Crowd.{crowd}
+use Rattle.route_crowd.specs.Precedence.{ordered_cnf, slots_among}
 use Rattle.route_crowd.specs.Groups.{is_exchangeable, obstacle_of}
 use Rattle.route_symmetry.specs.Full.{asymmetry_of, is_full}
-use Rattle.router_words.specs.Job.{EncodeAsked, RouteAsked, SweepAsked}
-use Rattle.router_words.specs.declared.method.Method.{Method}
-use Rattle.router_words.specs.declared.method.Method.TheVariants.{Ordered, Pinned, Strictly, Within}
-use Rattle.router_top.specs.Prepared.{LeavesPrepared}
+use Rattle.router_top.specs.Method.{clauses_by}
 use Rattle.router_top.specs.Work.{Encodes, LeavesRoute, Sweeps}
+use Rattle.router_top.specs.Subject.{ShelfState, RoutingProblem, Cnf, EncodeAsked, RouteAsked, SweepAsked, Method, Ordered, Pinned, Strictly, Within, Outcome, OutOfMemory, NotSymmetric}
+use Rattle.router_top.specs.declared.chosen.Chosen.{Chosen}
 use Rattle.router_top.specs.declared.outcome.Obstacle.{Obstacle}
 use Rattle.router_top.specs.declared.outcome.Obstacle.TheVariants.{Order, Pins}
-use Rattle.router_top.specs.declared.outcome.Outcome.{Outcome}
-use Rattle.router_top.specs.declared.outcome.Outcome.TheVariants.{NotSymmetric}
+
+-- the clauses by a method, where this row of slots, as far as they are the problem's, is the one
+-- that is kept in order
+abbrev pub clauses_along : Method → (row : List ℕ) → (width : ℕ) → RoutingProblem → Cnf
+clauses_along Ordered row width p = ordered_cnf width p (slots_among p row)
+clauses_along method row width p = clauses_by method width p
+
+-- the encoder is that of the method; where tracks are kept in order, its row is the crowd of the
+-- problem
+pub record IsEncoderOf (method : Method) (p : RoutingProblem) (chosen : Chosen) : Type 0 where
+  pub is : chosen.method ≡ method
+  pub row : method ≡ Ordered → chosen.order.row.items ≡ crowd p
+
+-- memory was short for the crowd, where tracks are to be kept in its order
+abbrev pub IsUnprepared : Method → Outcome → Type 0
+IsUnprepared method outcome = (method ≡ Ordered) × (outcome ≡ OutOfMemory)
+
+-- nothing was written, since memory was short before the work began; or this is what it leaves
+abbrev pub LeavesPrepared : Method
+    → (RoutingProblem → (before now : ShelfState) → Outcome → Type 0)
+    → RoutingProblem → (before now : ShelfState) → Outcome → Type 0
+LeavesPrepared method works p before now outcome =
+    (IsUnprepared method outcome × (now ≡ before)) ⊎ works p before now outcome
 
 -- the method suits the problem at a width: where tracks are pinned, all of them are alike there,
 -- and where they are kept in order, their groups may change places

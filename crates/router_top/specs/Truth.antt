@@ -1,27 +1,16 @@
 -- What each outcome but those of faults says of the words and of the files.
 use Rattle.std.specs.Prelude.{◌≡◌, ◌⊎◌, ℕ, ◌<◌, ◌≤◌, List, length, MatchResult, Option, None, Some}
 use Rattle.std.specs.Option.{ForSome}
-use Rattle.desk_io.specs.DeskState.{DeskState}
-use Rattle.desk_io.specs.Files.{FileMap, HasRisen}
-use Rattle.desk_io.specs.ShelfState.{ShelfState}
-use Rattle.fpga_types.specs.Problem.{RoutingProblem}
-use Rattle.route_sweep.specs.Found.{HasFew}
-use Rattle.sat_clause.specs.Formula.{Cnf}
+use Rattle.desk_io.specs.Files.{HasRisen}
 use Rattle.sat_clause.specs.declared.limits.TheConstants.{CLAUSE_LIMIT}
-use Rattle.router_words.specs.Command.{job_of}
 use Rattle.router_words.specs.Refusal.{code_of}
-use Rattle.router_words.specs.Job.{Blames, Checks, EncodeAsked, Encodes, FilesAsked, Generates, JobAsked, RecipeAsked, Routes, Sweeps, Tries, Verifies}
-use Rattle.router_words.specs.Word.{Word}
-use Rattle.router_top.specs.Check.{ChecksTo}
-use Rattle.router_top.specs.FourFiles.{GivesNone, Poses}
+use Rattle.router_top.specs.Check.{ChecksTo, VerifiesTo}
 use Rattle.router_top.specs.Generated.{HasRoom, IsTooLarge, IsTooMany, Makes}
 use Rattle.router_top.specs.Method.{HasNone, HasOne, clauses_by}
+use Rattle.router_top.specs.Report.{GivesNone}
 use Rattle.router_top.specs.Search.{Search, clauses_held, core_search, route_search, sweep_of, sweep_search}
-use Rattle.router_top.specs.Sources.{IsHalted}
 use Rattle.router_top.specs.Suited.{IsTrueOfSuited}
-use Rattle.router_top.specs.Verify.{VerifiesTo}
-use Rattle.router_top.specs.declared.outcome.Outcome.{Outcome}
-use Rattle.router_top.specs.declared.outcome.Outcome.TheVariants.{Routed, Unroutable, Undecided, Done, Limit, Usage, OutOfMemory}
+use Rattle.router_top.specs.Subject.{DeskState, FileMap, ShelfState, FileNames, Poses, IsHalted, RoutingProblem, HasFew, Cnf, job_of, Blames, Checks, EncodeAsked, Encodes, Generates, JobAsked, RecipeAsked, Routes, Sweeps, Tries, Verifies, Word, Outcome, Routed, Unroutable, Undecided, Done, Limit, Usage, OutOfMemory}
 
 -- the formula has more clauses than may be built, and the outcome has their number; or it has not,
 -- and this is true
@@ -74,7 +63,7 @@ IsTrueOfEncoding job p outcome =
     (IsTrueOfClauses (clauses_by job.method job.width p) (outcome ≡ Done) outcome) outcome
 
 -- the four files give no problem, and the outcome says why; or they pose one, of which it is true
-abbrev pub IsTrueOfWork : FilesAsked → (RoutingProblem → Outcome → Type 0) → Option FileMap
+abbrev pub IsTrueOfWork : FileNames → (RoutingProblem → Outcome → Type 0) → Option FileMap
     → Outcome → Type 0
 IsTrueOfWork names says files outcome =
     GivesNone (IsHalted files) files names outcome

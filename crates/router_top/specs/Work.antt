@@ -1,33 +1,28 @@
--- What the work on a problem leaves on the shelf, by its outcome.
-use Rattle.std.specs.Prelude.{◌≡◌, ◌⊎◌, ℕ, ◌++◌, ◌<◌, ◌≤◌, codes, None, Result, Ok, Err}
-use Rattle.desk_io.specs.Files.{Bytes}
-use Rattle.desk_io.specs.ShelfState.{ShelfState}
+-- What the work on a problem leaves on the shelf, by its outcome; last of a trial, which is a sweep
+-- that says first how large its generated problem is.
+use Rattle.std.specs.Prelude.{◌≡◌, ◌⊎◌, ℕ, ◌++◌, ◌<◌, ◌≤◌, codes, None, Result, Ok, Err, decimal, length}
 use Rattle.desk_io.specs.WholeFile.{FailsToWrite, after_writing}
 use Rattle.fpga_types.specs.Given.{IsGiven}
-use Rattle.fpga_types.specs.Problem.{RoutingProblem}
+use Rattle.fpga_types.specs.Slots.{pairs, slots, steps}
 use Rattle.fpga_types.specs.declared.limits.TheConstants.{WIDTH_LIMIT}
 use Rattle.route_count.specs.Crowded.{IsCrowded}
 use Rattle.route_sweep.specs.Asked.{Asked}
 use Rattle.route_sweep.specs.Climb.{ClimbsTo}
-use Rattle.route_sweep.specs.Found.{FindsBy, HasFew, IsUnbuilt}
+use Rattle.route_sweep.specs.Found.{FindsBy, IsUnbuilt}
 use Rattle.route_sweep.specs.declared.found.Climbed.{Climbed}
 use Rattle.route_sweep.specs.declared.found.FileSlot.TheVariants.{Clauses}
 use Rattle.route_sweep.specs.declared.found.Found.{Found}
 use Rattle.route_sweep.specs.declared.found.Stop.{Stop}
 use Rattle.route_sweep.specs.declared.found.Stop.TheVariants.{Fault}
-use Rattle.sat_clause.specs.Formula.{Cnf}
 use Rattle.sat_clause.specs.declared.limits.TheConstants.{CLAUSE_LIMIT}
 use Rattle.sat_text.specs.CnfText.{ReadsCnf}
 use Rattle.sat_text.specs.Printed.{cnf_text}
-use Rattle.router_words.specs.Job.{EncodeAsked, RouteAsked, SweepAsked}
-use Rattle.router_words.specs.declared.method.Method.{Method}
-use Rattle.router_top.specs.Ends.{LeavesOpen, Refutes}
+use Rattle.router_top.specs.Comes.{LeavesOpen, Refutes}
 use Rattle.router_top.specs.Method.{IsRoutingBy, clauses_by}
-use Rattle.router_top.specs.Outcomes.{climbed_outcome, found_outcome, written_outcome}
-use Rattle.router_top.specs.Search.{Search, clauses_held, route_search, sweep_search}
-use Rattle.router_top.specs.Written.{NamedText}
-use Rattle.router_top.specs.declared.outcome.Outcome.{Outcome}
-use Rattle.router_top.specs.declared.outcome.Outcome.TheVariants.{Limit}
+use Rattle.router_top.specs.Report.{climbed_outcome, found_outcome, written_outcome}
+use Rattle.router_top.specs.Search.{Search, clauses_held, route_search, sweep_search, sweep_of}
+use Rattle.router_top.specs.Written.{JobFile}
+use Rattle.router_top.specs.Subject.{Bytes, ShelfState, FailsToSay, after_say, RoutingProblem, HasFew, Cnf, EncodeAsked, RouteAsked, SweepAsked, TrialAsked, Method, Outcome, Limit, WriteFault, File, Said}
 
 -- what a search finds at a width of its problem, and what is written of it
 abbrev pub Finds : Search → RoutingProblem → (width : ℕ) → (before now : ShelfState)
@@ -89,8 +84,9 @@ abbrev pub clauses_name : EncodeAsked → Bytes
 clauses_name job = job.prefix ++ codes ".cnf"
 
 -- the file of the clauses of the problem
-abbrev pub clauses_file : EncodeAsked → RoutingProblem → NamedText
+abbrev pub clauses_file : EncodeAsked → RoutingProblem → JobFile
 clauses_file job p = record {
+  slot = File Clauses;
   name = clauses_name job;
   text = cnf_text (clauses_by job.method job.width p);
 }
@@ -114,3 +110,18 @@ pub record Encodes
   pub came : Result (Unit {0}) Stop
   pub writes : WritesClauses job (clauses_by job.method job.width p) before now came
   pub is : outcome ≡ written_outcome came
+
+-- the trial line with its newline: how many slots and steps the problem has, and how many pairs of
+-- slots of different nets take one cell
+abbrev pub trial_line : RoutingProblem → Bytes
+trial_line p =
+    codes "trial: slots " ++ decimal (length (slots p.route))
+    ++ codes " steps " ++ decimal (length (steps p.route))
+    ++ codes " pairs " ++ decimal (length (pairs (slots p.route))) ++ codes "\n"
+
+-- the trial line was said, and behind it the sweep left this; or a front part of it was, and the
+-- run has failed to write
+abbrev pub Tries : TrialAsked → RoutingProblem → (before now : ShelfState) → Outcome → Type 0
+Tries job p before now outcome =
+    Sweeps (sweep_of job) p (after_say before (trial_line p)) now outcome
+    ⊎ (FailsToSay before (trial_line p) now × (outcome ≡ WriteFault Said))

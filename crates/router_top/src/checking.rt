@@ -1,5 +1,6 @@
 //! The command `check`: whether a log refutes a formula.
-ghost use Rattle.std.specs.Prelude.{◌≡◌, IfErr, IfOk, length};
+ghost use Rattle.std.specs.Prelude.{◌≡◌, length};
+ghost use Rattle.fpga_problem.specs.Sources.{IsStopped, ReadsTo, Says};
 ghost use Rattle.fpga_text.specs.FirstFault.{Answers};
 ghost use Rattle.sat_check.specs.Verdict.{judgement_of};
 ghost use Rattle.sat_rat.specs.FullJudge.{full_judge};
@@ -7,14 +8,13 @@ ghost use Rattle.sat_text.specs.CnfText.{cnf_said};
 ghost use Rattle.sat_text.specs.LratText.{full_lrat_faults, lrat_said};
 ghost use Rattle.router_words.specs.Job.{check_said};
 ghost use Rattle.router_top.specs.Check.{ChecksTo, SaysOf, cnf_source, lrat_source};
-ghost use Rattle.router_top.specs.Report.{IsReadFault, IsReadFaultErr};
-ghost use Rattle.router_top.specs.Sources.{IsStopped, Says};
+ghost use Rattle.router_top.specs.Report.{IsReadFault};
 
-use crate::limits::PROOF_BYTES;
 use crate::outcome::Outcome;
-use crate::source::{read_bytes, refused};
-use crate::text_file::TextFile;
+use crate::stopping::unread;
+use crate::text_file::{PROOF_BYTES, TextFile};
 use desk_io::Desk;
+use fpga_problem::{FileFault, read_bytes};
 use fpga_text::TextFault;
 use router_words::CheckJob;
 use sat_check::Verdict;
@@ -23,23 +23,19 @@ use sat_rat::FullReplay;
 use sat_text::{LogLines, read_cnf};
 use std::alloc::Global;
 
-// The formula of a CNF file. The error is what the run comes to, here and below.
-fn read_formula<D: Desk>(alloc: Global, desk: &mut D, name: &str) -> Result<Formula, Outcome>
-    ensures says { IfOk result (λ formula. Says (D.state desk.old).files (cnf_source name.now)
-        cnf_said formula.cnf) }
-    ensures stop { IfErr result
-        (IsStopped (D.state desk.old) (D.state desk.new) (cnf_source name.now)) }
-    ensures files { (D.state desk.new).files ≡ (D.state desk.old).files }
-    ensures quiet { ¬ IsReadFaultErr result
-        → (D.state desk.new).faults ≡ (D.state desk.old).faults }
+// The formula of a CNF file.
+fn read_formula<D: Desk>(alloc: Global, desk: &mut D, name: &str) -> Result<Formula, FileFault>
+    ensures { ReadsTo (D.state desk.old) (D.state desk.new) (cnf_source name.now)
+        (λ formula. Says (D.state desk.old).files (cnf_source name.now) cnf_said formula.cnf)
+        result }
 {
-    let text = match read_bytes(alloc, desk, TextFile::Cnf, name, PROOF_BYTES) {
+    let text = match read_bytes(alloc, desk, name, PROOF_BYTES) {
         Ok(text) => text,
-        Err(outcome) => return Err(outcome),
+        Err(fault) => return Err(fault),
     };
     match read_cnf(alloc, &text) {
         Ok(formula) => Ok(formula),
-        Err(fault) => Err(refused(TextFile::Cnf, fault)),
+        Err(fault) => Err(FileFault::Text(fault)),
     }
 }
 
@@ -74,22 +70,19 @@ fn replay_file<D: Desk>(
     desk: &mut D,
     name: &str,
     formula: &Formula,
-) -> Result<Verdict, Outcome>
-    ensures says { IfOk result (λ verdict. SaysOf (D.state desk.old).files name.now
-        formula.now.cnf (judgement_of verdict)) }
-    ensures stop { IfErr result (IsStopped (D.state desk.old) (D.state desk.new)
-        (lrat_source name.now (length formula.now.cnf.clauses))) }
-    ensures files { (D.state desk.new).files ≡ (D.state desk.old).files }
-    ensures quiet { ¬ IsReadFaultErr result
-        → (D.state desk.new).faults ≡ (D.state desk.old).faults }
+) -> Result<Verdict, FileFault>
+    ensures { ReadsTo (D.state desk.old) (D.state desk.new)
+        (lrat_source name.now (length formula.now.cnf.clauses))
+        (λ verdict. SaysOf (D.state desk.old).files name.now formula.now.cnf (judgement_of verdict))
+        result }
 {
-    let text = match read_bytes(alloc, desk, TextFile::Lrat, name, PROOF_BYTES) {
+    let text = match read_bytes(alloc, desk, name, PROOF_BYTES) {
         Ok(text) => text,
-        Err(outcome) => return Err(outcome),
+        Err(fault) => return Err(fault),
     };
     match replay_text(alloc, formula, &text) {
         Ok(verdict) => Ok(verdict),
-        Err(fault) => Err(refused(TextFile::Lrat, fault)),
+        Err(fault) => Err(FileFault::Text(fault)),
     }
 }
 
@@ -102,11 +95,11 @@ pub fn check_files<D: Desk>(alloc: Global, job: &CheckJob<'_>, desk: &mut D) -> 
 {
     let formula = match read_formula(alloc, desk, job.cnf) {
         Ok(formula) => formula,
-        Err(outcome) => return outcome,
+        Err(fault) => return unread(TextFile::Cnf, fault),
     };
     let verdict = match replay_file(alloc, desk, job.lrat, &formula) {
         Ok(verdict) => verdict,
-        Err(outcome) => return outcome,
+        Err(fault) => return unread(TextFile::Lrat, fault),
     };
     match verdict {
         Verdict::Accepted => Outcome::Accepted,

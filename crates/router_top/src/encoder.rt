@@ -2,7 +2,7 @@
 ghost use Rattle.std.specs.Prelude.{◌≡◌, IfOk, OnErr};
 ghost use Rattle.router_words.specs.Near.{IsNear};
 ghost use Rattle.router_top.specs.Method.{IsRoutingBy};
-ghost use Rattle.router_top.specs.Prepared.{IsEncoderOf, clauses_along};
+ghost use Rattle.router_top.specs.Suited.{IsEncoderOf, clauses_along};
 ghost use Rattle.router_words.specs.declared.method.Method.TheVariants.{Ordered};
 
 use crate::chosen::Chosen;

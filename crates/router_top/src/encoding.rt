@@ -3,8 +3,8 @@ ghost use Rattle.std.specs.Prelude.{◌≡◌, IfErr, IfOk, OnOk};
 ghost use Rattle.route_sweep.specs.Found.{HasFew, IsUnbuilt};
 ghost use Rattle.router_words.specs.Job.{encode_said};
 ghost use Rattle.router_top.specs.Method.{clauses_by};
-ghost use Rattle.router_top.specs.Outcomes.{written_outcome};
-ghost use Rattle.router_top.specs.Prepared.{IsEncoderOf};
+ghost use Rattle.router_top.specs.Report.{written_outcome};
+ghost use Rattle.router_top.specs.Suited.{IsEncoderOf};
 ghost use Rattle.router_top.specs.Work.{WritesClauses};
 
 use crate::chosen::Chosen;
@@ -78,7 +78,7 @@ fn written_outcome(came: Result<(), Stop>) -> Outcome
 // Builds the clauses and writes them.
 impl<'a> ProblemWork for EncodeJob<'a> {
     ghost use Rattle.router_words.specs.Job.{encode_said};
-    ghost use Rattle.router_top.specs.Prepared.{LeavesPrepared};
+    ghost use Rattle.router_top.specs.Suited.{LeavesPrepared};
     ghost use Rattle.router_top.specs.Work.{Encodes};
 
     ghost leaves = { λ job. LeavesPrepared job.method (Encodes (encode_said job)) };

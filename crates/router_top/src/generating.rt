@@ -1,7 +1,7 @@
 //! The command `gen`: the four files of a generated problem.
 ghost use Rattle.std.specs.Prelude.{◌≡◌, IfErr, IfOk, OnOk};
 ghost use Rattle.router_words.specs.Job.{gen_said, recipe_said};
-ghost use Rattle.router_top.specs.Files.{WritesFiles, problem_slots};
+ghost use Rattle.router_top.specs.Written.{WritesFiles};
 ghost use Rattle.router_top.specs.Generated.{HasRoom, MakesNone, generated_names, problem_files, texts_of};
 ghost use Rattle.router_top.specs.Run.{WritesGenerated};
 
@@ -42,9 +42,9 @@ struct ProblemNames {
 
 impl Model for ProblemNames {
     ghost use Rattle.std.specs.Prelude.{string_bytes};
-    ghost use Rattle.router_words.specs.Job.{FilesAsked};
+    ghost use Rattle.fpga_problem.specs.Files.{FileNames};
 
-    ghost Value = { FilesAsked };
+    ghost Value = { FileNames };
 
     ghost view = { λ n. record {
       architecture = string_bytes n.architecture;
@@ -86,7 +86,7 @@ impl Prints<Vec<u8>> for WholeText {
 
 // Writes four texts, each under its name.
 fn write_texts<S: Shelf>(shelf: &mut S, names: &ProblemNames, texts: &FourTexts) -> Outcome
-    ensures { WritesFiles problem_slots (problem_files names.now texts.now) (S.state shelf.old)
+    ensures { WritesFiles (problem_files names.now texts.now) (S.state shelf.old)
         (S.state shelf.new) result }
 {
     let name = names.architecture.as_str();

@@ -1,15 +1,16 @@
 //! Work on the problem that four files pose.
 ghost use Rattle.std.specs.Prelude.{◌≡◌};
+ghost use Rattle.fpga_problem.specs.Files.{names_said};
 ghost use Rattle.fpga_types.specs.Given.{IsGiven};
-ghost use Rattle.router_words.specs.Job.{files_said};
 ghost use Rattle.router_top.specs.Report.{IsReadFault};
 ghost use Rattle.router_top.specs.Run.{LeavesWork, scene};
 
-use crate::four_files::pose_problem;
 use crate::outcome::Outcome;
+use crate::stopping::unread;
+use crate::text_file::TextFile;
 use desk_io::{Desk, Shelf};
 use fpga_bounds::PlacedProblem;
-use router_words::FourNames;
+use fpga_problem::{FourNames, read_files};
 use std::alloc::Global;
 
 /// What a command does with a problem.
@@ -42,15 +43,15 @@ pub fn work_on<D: Desk, S: Shelf, W: ProblemWork>(
     desk: &mut D,
     shelf: &mut S,
 ) -> Outcome
-    ensures leaves { LeavesWork (files_said names.now) (W.leaves work.now)
+    ensures leaves { LeavesWork (names_said names.now) (W.leaves work.now)
         (scene (D.state desk.old) (D.state desk.new) (S.state shelf.old) (S.state shelf.new))
         result }
     ensures files { (D.state desk.new).files ≡ (D.state desk.old).files }
     ensures quiet { ¬ IsReadFault result → (D.state desk.new).faults ≡ (D.state desk.old).faults }
 {
-    let problem = match pose_problem(alloc, desk, names) {
+    let problem = match read_files(alloc, desk, names) {
         Ok(problem) => problem,
-        Err(outcome) => return outcome,
+        Err(stop) => return unread(TextFile::Problem(stop.file), stop.fault),
     };
     work.work(alloc, &problem, shelf)
 }

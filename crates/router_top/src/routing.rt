@@ -2,8 +2,8 @@
 ghost use Rattle.std.specs.Prelude.{◌≡◌, None, Some};
 ghost use Rattle.route_sweep.specs.Asked.{asked};
 ghost use Rattle.router_words.specs.Job.{route_said, search_said};
-ghost use Rattle.router_top.specs.Outcomes.{found_outcome};
-ghost use Rattle.router_top.specs.Prepared.{IsEncoderOf};
+ghost use Rattle.router_top.specs.Report.{found_outcome};
+ghost use Rattle.router_top.specs.Suited.{IsEncoderOf};
 ghost use Rattle.router_top.specs.Search.{asks_to_keep};
 ghost use Rattle.router_top.specs.Work.{LeavesRoute};
 
@@ -11,10 +11,10 @@ use crate::chosen::Chosen;
 use crate::outcome::Outcome;
 use crate::problem_work::{ProblemWork, was_given};
 use crate::stopping::stopped;
-use crate::turning::{find_by_turns, without_room};
+use crate::turning::{Turns, without_room};
 use desk_io::Shelf;
 use fpga_bounds::PlacedProblem;
-use route_sweep::{Ask, Found, Stop, one_width};
+use route_sweep::{Alone, Ask, Found, Stop, one_width};
 use router_words::{Members, RouteJob, SearchJob};
 use std::alloc::Global;
 
@@ -61,7 +61,7 @@ fn search_alone<S: Shelf>(
     was_given(problem);
     let search = job.search;
     let ask = ask_for(&search, search.keep);
-    let came = one_width(alloc, encoder, problem, search.width, &ask, shelf);
+    let came = one_width(alloc, &Alone, encoder, problem, search.width, &ask, shelf);
     found(search.width, came)
 }
 
@@ -90,7 +90,8 @@ fn search_by_turns<S: Shelf>(
         },
         None => {
             let ask = ask_for(&search, true);
-            let came = find_by_turns(alloc, encoder, problem, search.width, members, &ask, shelf);
+            let turns = Turns(members);
+            let came = one_width(alloc, &turns, encoder, problem, search.width, &ask, shelf);
             found(search.width, came)
         }
     }
@@ -99,7 +100,7 @@ fn search_by_turns<S: Shelf>(
 // Searches for a legal routing, and writes it; or else the clauses and the log of the search.
 impl<'a> ProblemWork for RouteJob<'a> {
     ghost use Rattle.router_words.specs.Job.{route_said};
-    ghost use Rattle.router_top.specs.Prepared.{LeavesPrepared};
+    ghost use Rattle.router_top.specs.Suited.{LeavesPrepared};
     ghost use Rattle.router_top.specs.Work.{LeavesRoute};
 
     ghost leaves = { λ job. LeavesPrepared job.search.method (LeavesRoute (route_said job)) };

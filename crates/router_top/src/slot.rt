@@ -1,6 +1,6 @@
 //! What a run writes, by number.
 ghost use Rattle.std.specs.Prelude.{◌≡◌, ◌≤◌};
-ghost use Rattle.router_top.specs.Slots.{number_of};
+ghost use Rattle.router_top.specs.Report.{number_of};
 
 use route_sweep::FileSlot;
 

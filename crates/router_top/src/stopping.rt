@@ -1,12 +1,15 @@
-//! What a run comes to where the work on the clauses of a problem stopped.
+//! What a run comes to where its work stopped.
 ghost use Rattle.std.specs.Prelude.{◌≡◌};
-ghost use Rattle.router_top.specs.Outcomes.{stop_outcome};
+ghost use Rattle.router_top.specs.Report.{stop_outcome, unread_outcome};
 
 use crate::outcome::Outcome;
 use crate::slot::Slot;
+use crate::text_file::TextFile;
+use fpga_problem::FileFault;
+use fpga_text::TextFault;
 use route_sweep::Stop;
 
-/// What the run comes to by where its work stopped.
+/// What the run comes to by where its work on the clauses of a problem stopped.
 pub fn stopped(stop: Stop) -> Outcome
     ensures { result ≡ stop_outcome stop }
 {
@@ -20,5 +23,26 @@ pub fn stopped(stop: Stop) -> Outcome
             count,
         },
         Stop::Memory => Outcome::OutOfMemory,
+    }
+}
+
+/// What the run comes to by why a file gives no value.
+pub fn unread(file: TextFile, fault: FileFault) -> Outcome
+    ensures { result ≡ unread_outcome file fault }
+{
+    match fault {
+        FileFault::Desk => Outcome::ReadFault { file },
+        FileFault::TooLong => Outcome::Limit {
+            file: Some(file),
+            code: 910 + file.number(),
+            count: file.byte_limit() + 1,
+        },
+        FileFault::Text(TextFault::Bad { line, code }) => Outcome::InputFault { file, line, code },
+        FileFault::Text(TextFault::Limit { code, count }) => Outcome::Limit {
+            file: Some(file),
+            code,
+            count,
+        },
+        FileFault::Text(TextFault::Memory) => Outcome::OutOfMemory,
     }
 }

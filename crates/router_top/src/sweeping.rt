@@ -1,8 +1,8 @@
 //! The command `sweep`: a search for the least width that has a legal routing.
 ghost use Rattle.std.specs.Prelude.{◌≡◌, true};
 ghost use Rattle.router_words.specs.Job.{search_said};
-ghost use Rattle.router_top.specs.Outcomes.{climbed_outcome};
-ghost use Rattle.router_top.specs.Prepared.{IsEncoderOf};
+ghost use Rattle.router_top.specs.Report.{climbed_outcome};
+ghost use Rattle.router_top.specs.Suited.{IsEncoderOf};
 ghost use Rattle.router_top.specs.Search.{ask_of};
 ghost use Rattle.router_top.specs.Work.{Climbs};
 
@@ -56,7 +56,7 @@ pub fn search_widths<S: Shelf>(
 // Searches at one width after another.
 impl<'a> ProblemWork for SweepJob<'a> {
     ghost use Rattle.router_words.specs.Job.{sweep_said};
-    ghost use Rattle.router_top.specs.Prepared.{LeavesPrepared};
+    ghost use Rattle.router_top.specs.Suited.{LeavesPrepared};
     ghost use Rattle.router_top.specs.Work.{Sweeps};
 
     ghost leaves = { λ job. LeavesPrepared job.search.method (Sweeps (sweep_said job)) };

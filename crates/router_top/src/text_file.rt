@@ -1,8 +1,11 @@
-//! The files that commands read, by number and by word.
+//! The files that commands read, by number and by word, and how long they may be.
 ghost use Rattle.std.specs.Prelude.{◌≡◌, ◌≤◌, length};
-ghost use Rattle.router_top.specs.TextFiles.{file_number, file_word};
+ghost use Rattle.router_top.specs.Report.{byte_limit, file_number, file_word};
 
-use fpga_problem::TextFile as ProblemFile;
+use fpga_problem::{TEXT_BYTES, TextFile as ProblemFile};
+
+/// How many bytes a CNF or an LRAT file may have.
+pub const PROOF_BYTES: u64 = 2_147_483_648;
 
 /// A file that a command reads.
 #[derive(Clone, Copy, Debug, PartialEq, Eq)]
@@ -27,6 +30,16 @@ impl TextFile {
             TextFile::Cnf => 5,
             TextFile::Lrat => 6,
             TextFile::Routed => 7,
+        }
+    }
+
+    /// How many bytes the file may have.
+    pub(crate) fn byte_limit(self) -> u64
+        ensures { result ≡ byte_limit self }
+    {
+        match self {
+            TextFile::Cnf | TextFile::Lrat => PROOF_BYTES,
+            TextFile::Problem(_) | TextFile::Routed => TEXT_BYTES,
         }
     }
 

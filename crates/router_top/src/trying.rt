@@ -5,19 +5,19 @@ ghost use Rattle.fpga_types.specs.declared.limits.TheConstants.{SLOT_LIMIT};
 ghost use Rattle.router_words.specs.Job.{recipe_said, trial_said};
 ghost use Rattle.router_top.specs.Generated.{IsMade, PosesNone};
 ghost use Rattle.router_top.specs.Run.{TriesGenerated};
-ghost use Rattle.router_top.specs.Trial.{trial_line};
+ghost use Rattle.router_top.specs.Work.{trial_line};
 
 use crate::chosen::Chosen;
 use crate::generating::make_texts;
 use crate::outcome::{LINE_ROOM, Outcome, push_count};
 use crate::slot::Slot;
-use crate::source::refused;
+use crate::stopping::unread;
 use crate::sweeping::search_widths;
 use crate::text_file::TextFile;
 use arrayvec::ArrayString;
 use desk_io::Shelf;
 use fpga_bounds::PlacedProblem;
-use fpga_problem::{FourTexts, read_problem};
+use fpga_problem::{FileFault, FourTexts, read_problem};
 use router_words::{Recipe, TrialJob};
 use std::alloc::Global;
 
@@ -57,7 +57,10 @@ fn make_problem(alloc: Global, recipe: Recipe) -> Result<PlacedProblem, Outcome>
     };
     match read_problem(alloc, &lent(&texts)) {
         Ok(problem) => Ok(problem),
-        Err(refusal) => Err(refused(TextFile::Problem(refusal.file), refusal.fault)),
+        Err(refusal) => Err(unread(
+            TextFile::Problem(refusal.file),
+            FileFault::Text(refusal.fault),
+        )),
     }
 }
 

@@ -1,19 +1,19 @@
 //! The command `verify`: whether a routed file is a legal routing of a problem.
 ghost use Rattle.std.specs.Prelude.{◌≡◌, ◌⊎◌, IfOk};
+ghost use Rattle.fpga_problem.specs.Sources.{IsStopped};
 ghost use Rattle.fpga_types.specs.Sound.{IsSound};
 ghost use Rattle.route_verify.specs.Reach.{judged_by};
 ghost use Rattle.router_words.specs.Job.{verify_said};
 ghost use Rattle.router_top.specs.Report.{IsReadFault};
-ghost use Rattle.router_top.specs.Sources.{IsStopped};
-ghost use Rattle.router_top.specs.Verify.{VerifiesTo, judged_outcome};
+ghost use Rattle.router_top.specs.Check.{VerifiesTo, judged_outcome};
 ghost use Rattle.router_top.specs.declared.outcome.Outcome.TheVariants.{OutOfMemory};
 
-use crate::four_files::pose_problem;
 use crate::outcome::Outcome;
-use crate::route_text::read_route_text;
+use crate::stopping::unread;
 use crate::text_file::TextFile;
 use desk_io::Desk;
 use fpga_bounds::PlacedProblem;
+use fpga_problem::{read_files, read_route_file};
 use fpga_types::RouteText;
 use route_verify::{Judgement, verify, verify_reach};
 use router_words::VerifyJob;
@@ -56,13 +56,13 @@ pub fn verify_file<D: Desk>(alloc: Global, job: &VerifyJob<'_>, desk: &mut D) ->
     ensures files { (D.state desk.new).files ≡ (D.state desk.old).files }
     ensures quiet { ¬ IsReadFault result → (D.state desk.new).faults ≡ (D.state desk.old).faults }
 {
-    let problem = match pose_problem(alloc, desk, &job.files) {
+    let problem = match read_files(alloc, desk, &job.files) {
         Ok(problem) => problem,
-        Err(outcome) => return outcome,
+        Err(stop) => return unread(TextFile::Problem(stop.file), stop.fault),
     };
-    let found = match read_route_text(alloc, desk, TextFile::Routed, job.routed) {
+    let found = match read_route_file(alloc, desk, job.routed) {
         Ok(found) => found,
-        Err(outcome) => return outcome,
+        Err(fault) => return unread(TextFile::Routed, fault),
     };
     judge(alloc, job, &problem, &found)
 }

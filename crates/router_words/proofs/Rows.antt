@@ -2,8 +2,9 @@
 use Rattle.std.proofs.Common.{◌≡◌, ℕ, Bool, true, false, List, [], ◌∷◌, codes, refl}
 use Rattle.std.specs.Prelude.{Result, Ok, Err, None, Some}
 use Rattle.clap.proofs.OnLiterals.{clap_on_literals}
+use Rattle.fpga_problem.specs.Files.{FileNames}
 use Rattle.router_words.specs.Command.{job_of}
-use Rattle.router_words.specs.Job.{Blames, Checks, Encodes, FilesAsked, Generates, JobAsked, Routes, SearchAsked, Sweeps, Tries, Verifies}
+use Rattle.router_words.specs.Job.{Blames, Checks, Encodes, Generates, JobAsked, Routes, SearchAsked, Sweeps, Tries, Verifies}
 use Rattle.router_words.specs.Word.{Word}
 use Rattle.router_words.specs.declared.fault.Refusal.{Refusal}
 use Rattle.router_words.specs.declared.fault.Refusal.TheVariants.{Clash, Command, Form, Number}
@@ -12,7 +13,7 @@ use Rattle.router_words.specs.declared.method.Method.TheVariants.{Ordered, Pinne
 abbrev Asked : Type 0
 Asked = Result JobAsked Refusal
 
-abbrev four_files : FilesAsked
+abbrev four_files : FileNames
 four_files = record {
   architecture = codes "a";
   netlist = codes "n";

@@ -5,9 +5,10 @@ use Rattle.std.specs.Str.{bytes_eq}
 use Rattle.clap.specs.Words.{App, Row, first_of, matches_of}
 use Rattle.fpga_text.specs.Numbers.{whole_number_of}
 use Rattle.fpga_types.specs.declared.limits.TheConstants.{REACH_LIMIT, SIDE_LIMIT, WIDTH_LIMIT}
+use Rattle.fpga_problem.specs.Files.{FileNames}
 use Rattle.router_words.specs.Form.{check_form, core_form, encode_form, gen_form, route_form, sweep_form, trial_form, verify_form}
 use Rattle.router_words.specs.Near.{has_one_track}
-use Rattle.router_words.specs.Job.{Blames, Checks, Encodes, FilesAsked, Generates, JobAsked, MembersAsked, RecipeAsked, Routes, SearchAsked, Sweeps, Tries, Verifies, job_said}
+use Rattle.router_words.specs.Job.{Blames, Checks, Encodes, Generates, JobAsked, MembersAsked, RecipeAsked, Routes, SearchAsked, Sweeps, Tries, Verifies, job_said}
 use Rattle.router_words.specs.Results.{and_then, map_ok}
 use Rattle.router_words.specs.Taken.{HasRequired, is_taken}
 use Rattle.router_words.specs.Word.{Word}
@@ -43,7 +44,7 @@ number_within least greatest word =
     and_then (ok_or (whole_number_of word) Number) (in_range least greatest)
 
 -- ARCH NET PLACE ROUTE
-abbrev pub files_asked : List Row → FilesAsked
+abbrev pub files_asked : List Row → FileNames
 files_asked rows = record {
   architecture = word_in (codes "architecture") rows;
   netlist = word_in (codes "netlist") rows;

@@ -1,10 +1,10 @@
 -- What the words of a command ask for.
 use Rattle.std.specs.Prelude.{ℕ, Bool, Option, option_map}
+use Rattle.fpga_problem.specs.Files.{FileNames, names_said}
 use Rattle.router_words.specs.Word.{Word}
 use Rattle.router_words.specs.declared.job.CheckJob.{CheckJob}
 use Rattle.router_words.specs.declared.job.CoreJob.{CoreJob}
 use Rattle.router_words.specs.declared.job.EncodeJob.{EncodeJob}
-use Rattle.router_words.specs.declared.job.FourNames.{FourNames}
 use Rattle.router_words.specs.declared.job.GenJob.{GenJob}
 use Rattle.router_words.specs.declared.job.Job.{Job}
 use Rattle.router_words.specs.declared.job.Job.TheVariants.{Check, Core, Encode, Gen, Route, Sweep, Trial, Verify}
@@ -16,13 +16,6 @@ use Rattle.router_words.specs.declared.job.SweepJob.{SweepJob}
 use Rattle.router_words.specs.declared.job.TrialJob.{TrialJob}
 use Rattle.router_words.specs.declared.job.VerifyJob.{VerifyJob}
 use Rattle.router_words.specs.declared.method.Method.{Method}
-
--- the names of the files of a problem
-pub record FilesAsked : Type 0 where
-  pub architecture : Word
-  pub netlist : Word
-  pub placement : Word
-  pub route : Word
 
 -- what a search is told: the width, or the greatest one that is tried; what the names of written
 -- files begin with; how many clauses may be learned at each width, and whether none is forgotten;
@@ -44,19 +37,19 @@ pub record MembersAsked : Type 0 where
 -- to look for a routing: the files, what the search is told, and the searches that take turns,
 -- where there is not one alone
 pub record RouteAsked : Type 0 where
-  pub files : FilesAsked
+  pub files : FileNames
   pub search : SearchAsked
   pub members : Option MembersAsked
 
 -- to look for the least width that has a routing: the same
 pub record SweepAsked : Type 0 where
-  pub files : FilesAsked
+  pub files : FileNames
   pub search : SearchAsked
 
 -- to write the clauses: the files, the width, what the name of the written file begins with, and
 -- how routings are said by clauses
 pub record EncodeAsked : Type 0 where
-  pub files : FilesAsked
+  pub files : FileNames
   pub width : ℕ
   pub prefix : Word
   pub method : Method
@@ -64,7 +57,7 @@ pub record EncodeAsked : Type 0 where
 -- to look for a routing, or else for the nets to blame: the files, the width, what the names of
 -- written files begin with, and how many clauses may be learned
 pub record CoreAsked : Type 0 where
-  pub files : FilesAsked
+  pub files : FileNames
   pub width : ℕ
   pub prefix : Word
   pub conflicts : ℕ
@@ -78,7 +71,7 @@ pub record CheckAsked : Type 0 where
 -- within how many joins of wires a net is to reach its sinks, where it may have several wires of a
 -- cell
 pub record VerifyAsked : Type 0 where
-  pub files : FilesAsked
+  pub files : FileNames
   pub width : ℕ
   pub routed : Word
   pub reach : Option ℕ
@@ -114,14 +107,6 @@ pub data JobAsked : Type 0 where
 
 -- ---- what a job says, by the bytes of its words
 
-abbrev pub files_said : FourNames → FilesAsked
-files_said files = record {
-  architecture = files.architecture.now;
-  netlist = files.netlist.now;
-  placement = files.placement.now;
-  route = files.route.now;
-}
-
 abbrev pub search_said : SearchJob → SearchAsked
 search_said search = record {
   width = search.width;
@@ -137,17 +122,17 @@ members_said members = record { count = members.count; seed = members.seed }
 
 abbrev pub route_said : RouteJob → RouteAsked
 route_said job = record {
-  files = files_said job.files;
+  files = names_said job.files;
   search = search_said job.search;
   members = option_map members_said job.members;
 }
 
 abbrev pub sweep_said : SweepJob → SweepAsked
-sweep_said job = record { files = files_said job.files; search = search_said job.search }
+sweep_said job = record { files = names_said job.files; search = search_said job.search }
 
 abbrev pub encode_said : EncodeJob → EncodeAsked
 encode_said job = record {
-  files = files_said job.files;
+  files = names_said job.files;
   width = job.width;
   prefix = job.prefix.now;
   method = job.method;
@@ -155,7 +140,7 @@ encode_said job = record {
 
 abbrev pub core_said : CoreJob → CoreAsked
 core_said job = record {
-  files = files_said job.files;
+  files = names_said job.files;
   width = job.width;
   prefix = job.prefix.now;
   conflicts = job.conflicts;
@@ -166,7 +151,7 @@ check_said job = record { cnf = job.cnf.now; lrat = job.lrat.now }
 
 abbrev pub verify_said : VerifyJob → VerifyAsked
 verify_said job = record {
-  files = files_said job.files;
+  files = names_said job.files;
   width = job.width;
   routed = job.routed.now;
   reach = job.reach;

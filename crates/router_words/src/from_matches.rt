@@ -1,10 +1,11 @@
 //! The job that the matches of a command's form say.
 ghost use Rattle.std.specs.Prelude.{◌≡◌, ◌≤◌, IfOk, IfSome, codes, is_some, option_map, true};
 ghost use Rattle.clap.specs.Words.{first_of, found_of, rows_of};
+ghost use Rattle.fpga_problem.specs.Files.{names_said};
 ghost use Rattle.fpga_types.specs.declared.limits.TheConstants.{REACH_LIMIT, WIDTH_LIMIT};
 ghost use Rattle.router_words.specs.Command.{check_asked, conflicts_asked, core_asked, encode_asked, files_asked, gen_asked, members_asked, members_with, method_asked, method_within, number_if_any, number_within, has_clash, has_two_methods, reach_asked, recipe_asked, route_asked, search_asked, search_by_method, sweep_asked, trial_asked, verify_asked, width_asked, word_in};
 ghost use Rattle.router_words.specs.Form.{check_form, core_form, encode_form, gen_form, route_form, sweep_form, trial_form, verify_form};
-ghost use Rattle.router_words.specs.Job.{files_said, job_said, members_said, recipe_said, search_said};
+ghost use Rattle.router_words.specs.Job.{job_said, members_said, recipe_said, search_said};
 ghost use Rattle.router_words.specs.Near.{IsNear, has_one_track};
 ghost use Rattle.router_words.specs.Results.{map_ok};
 ghost use Rattle.router_words.specs.Taken.{HasFiles, HasRecipe, HasRequired};
@@ -12,8 +13,8 @@ ghost use Rattle.router_words.specs.declared.limits.TheConstants.{BUDGET_LIMIT, 
 
 use crate::fault::Refusal;
 use crate::job::{
-    CheckJob, CoreJob, EncodeJob, FourNames, GenJob, Job, Members, Recipe, RouteJob, SearchJob,
-    SweepJob, TrialJob, VerifyJob,
+    CheckJob, CoreJob, EncodeJob, GenJob, Job, Members, Recipe, RouteJob, SearchJob, SweepJob,
+    TrialJob, VerifyJob,
 };
 use crate::limits::{
     BUDGET_DEFAULT, BUDGET_LIMIT, GENERATED_NETS_LIMIT, MEMBER_LIMIT, SEED_DEFAULT, SEED_LIMIT,
@@ -21,12 +22,13 @@ use crate::limits::{
 use crate::matched::{first_word, is_given, number_within, required_word};
 use crate::method::Method;
 use clap::ArgMatches;
+use fpga_problem::FourNames;
 use fpga_types::{REACH_LIMIT, SIDE_LIMIT, WIDTH_LIMIT};
 
 // The names of the files of a problem.
 fn file_names<'a>(matches: &ArgMatches<'a>) -> FourNames<'a>
     requires { HasFiles (rows_of (found_of matches.now)) }
-    ensures { files_said result ≡ files_asked (rows_of (found_of matches.now)) }
+    ensures { names_said result ≡ files_asked (rows_of (found_of matches.now)) }
 {
     FourNames {
         architecture: required_word(matches, "architecture"),

@@ -6,19 +6,7 @@ ghost use Rattle.router_words.specs.Near.{IsNear, has_one_track};
 ghost use Rattle.router_words.specs.declared.limits.TheConstants.{BUDGET_LIMIT, GENERATED_NETS_LIMIT, MEMBER_LIMIT, SEED_LIMIT};
 
 use crate::method::Method;
-
-/// The names of the files of a problem.
-#[derive(Clone, Copy)]
-pub struct FourNames<'a> {
-    /// The name of the architecture file.
-    pub architecture: &'a str,
-    /// The name of the netlist file.
-    pub netlist: &'a str,
-    /// The name of the placement file.
-    pub placement: &'a str,
-    /// The name of the route file.
-    pub route: &'a str,
-}
+use fpga_problem::FourNames;
 
 /// What a search is told, whatever its problem.
 #[derive(Clone, Copy)]

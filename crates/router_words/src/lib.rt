@@ -45,8 +45,8 @@ mod read;
 
 pub use fault::{Refusal, WordsFault};
 pub use job::{
-    CheckJob, CoreJob, EncodeJob, FourNames, GenJob, Job, Members, Recipe, RouteJob, SearchJob,
-    SweepJob, TrialJob, VerifyJob,
+    CheckJob, CoreJob, EncodeJob, GenJob, Job, Members, Recipe, RouteJob, SearchJob, SweepJob,
+    TrialJob, VerifyJob,
 };
 pub use limits::{
     BUDGET_DEFAULT, BUDGET_LIMIT, GENERATED_NETS_LIMIT, MEMBER_LIMIT, SEED_DEFAULT, SEED_LIMIT,

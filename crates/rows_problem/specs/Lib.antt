@@ -1,3 +1,3 @@
-pub mod Files
+pub mod Names
 pub mod Unread
 pub mod Width

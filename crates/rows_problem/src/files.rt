@@ -1,39 +1,39 @@
 //! The problem of the files of an architecture and a design.
-ghost use Rattle.std.specs.Prelude.{◌≡◌, IfErr, IfOk};
-ghost use Rattle.rows_problem.specs.Files.{FilesSay, design_names};
-ghost use Rattle.rows_problem.specs.Unread.{OneIsUnread};
+ghost use Rattle.std.specs.Prelude.{IfOk, MatchResult};
+ghost use Rattle.fpga_problem.specs.Files.{AreUnread, Poses};
+ghost use Rattle.fpga_problem.specs.Sources.{IsStopped};
+ghost use Rattle.rows_problem.specs.Names.{design_names};
 
-use crate::stop::RowsError;
-use crate::texts::text_with_ending;
 use desk_io::Desk;
 use fpga_bounds::PlacedProblem;
-use fpga_problem::{FourTexts, Refusal, read_problem};
-use std::alloc::Global;
+use fpga_problem::{FourNames, Unread, read_files};
+use std::alloc::{AllocError, Global};
 
-/// The problem of ARCH.arch and of DESIGN.net, DESIGN.place and DESIGN.route, or which of them is
-/// refused. The error is of a file that is not read, or of memory.
+/// The problem of ARCH.arch and of DESIGN.net, DESIGN.place and DESIGN.route, or which of them
+/// gives no value, and why. The error is of memory for their names.
 pub fn problem_of_files<D: Desk>(
     alloc: Global,
     desk: &mut D,
     arch: &str,
     design: &str,
-) -> Result<Result<PlacedProblem, Refusal>, RowsError>
-    ensures said { IfOk result
-        (FilesSay (D.state desk.old).files (design_names arch.now design.now)) }
-    ensures unread { IfErr result (OneIsUnread (design_names arch.now design.now)
-        (D.state desk.old) (D.state desk.new)) }
+) -> Result<Result<PlacedProblem, Unread>, AllocError>
+    ensures { IfOk result (λ answer. MatchResult answer
+        (Poses (D.state desk.old).files (design_names arch.now design.now))
+        (AreUnread (IsStopped (D.state desk.old) (D.state desk.new)) (D.state desk.old).files
+        (design_names arch.now design.now))) }
 {
-    let architecture = text_with_ending(alloc, desk, arch, ".arch")?;
-    let netlist = text_with_ending(alloc, desk, design, ".net")?;
-    let placement = text_with_ending(alloc, desk, design, ".place")?;
-    let route = text_with_ending(alloc, desk, design, ".route")?;
-    Ok(read_problem(
+    let architecture = format!(in alloc; "{arch}.arch")?;
+    let netlist = format!(in alloc; "{design}.net")?;
+    let placement = format!(in alloc; "{design}.place")?;
+    let route = format!(in alloc; "{design}.route")?;
+    Ok(read_files(
         alloc,
-        &FourTexts {
-            architecture: architecture.as_bytes(),
-            netlist: netlist.as_bytes(),
-            placement: placement.as_bytes(),
-            route: route.as_bytes(),
+        desk,
+        &FourNames {
+            architecture: &architecture,
+            netlist: &netlist,
+            placement: &placement,
+            route: &route,
         },
     ))
 }

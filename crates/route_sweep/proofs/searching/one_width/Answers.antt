@@ -1,14 +1,13 @@
 use Rattle.std.proofs.Common.{◌≤◌, ap, subst, sym}
 use Rattle.std.specs.Prelude.{IfSome, is_some}
 use Rattle.sat_clause.specs.declared.limits.TheConstants.{VARIABLE_LIMIT}
-use Rattle.sat_core.specs.Answer.{IsAnswer, IsDecided}
 use Rattle.sat_core.specs.declared.answer.Answer.TheVariants.{Refuted, Spent}
 use Rattle.route_sweep.specs.Asked.{asked}
 use Rattle.route_count.specs.Begun.{IsBegunBy}
 use Rattle.route_count.specs.Crowded.{IsCrowded}
 use Rattle.route_encode.specs.Encoding.{cnf_of}
 use Rattle.sat_clause.specs.Formula.{Cnf}
-use Rattle.route_sweep.specs.Found.{IsCountedOut, IsLeftOpenBy, IsRefutedAs}
+use Rattle.route_sweep.specs.Found.{HasFew, HasSearched, IsCountedOut, IsLeftOpenBy, IsRefutedAs}
 use Rattle.route_sweep.proofs.FoundLemmas.{HasEnded, counted-at, finds-routing, refuted-at, spent-at}
 use Rattle.route_sweep.proofs.searching.one_width.Goals as goal
 
@@ -48,7 +47,7 @@ returns-in-Ok-Refuted g c =
     let formula = g.E.Encoder.formula_of c.args.encoder.now c.args.problem.now c.args.width in
     let before = g.S.Shelf.state c.args.shelf.now in
     let now = g.S.Shelf.state c.write_proof-in-Ok-Refuted.new.shelf in
-    let log = c.solve.new.log.steps in
+    let log = c.search.new.log.steps in
     let cnf = c.in-Ok.formula.cnf in
     let forbidden = IsCrowded c.args.width c.args.problem.now in
     let ended : HasEnded ask c.args.width forbidden Refuted log before now
@@ -58,15 +57,7 @@ returns-in-Ok-Refuted g c =
       few_vars = subst (λ s. s.cnf.vars ≤ VARIABLE_LIMIT) c.formula.view_is
           c.formula.invariant.few_vars;
       affordable = c.args.ask.now.affordable.1;
-      of = record {
-        search = c.in-Ok-Refuted.ensures.logged;
-        kept = c.in-Ok-Refuted.ensures.kept;
-      };
-      within = c.in-Ok-Refuted.ensures.within;
-      end = subst (IsAnswer cnf ask.budget log) c.in-Ok-Refuted.field-0-is
-          c.in-Ok-Refuted.ensures.answer;
-      decided = λ large. subst IsDecided c.in-Ok-Refuted.field-0-is
-          (c.in-Ok-Refuted.ensures.decided large);
+      searched = subst (HasSearched ask cnf log) c.in-Ok-Refuted.field-0-is c.in-Ok-Refuted.ensures;
       writes = c.write_proof-in-Ok-Refuted.ensures;
     } in
     refuted-at ask c.args.width forbidden formula
@@ -80,7 +71,7 @@ returns-in-Ok-Spent g c =
     let formula = g.E.Encoder.formula_of c.args.encoder.now c.args.problem.now c.args.width in
     let before = g.S.Shelf.state c.args.shelf.now in
     let now = g.S.Shelf.state c.write_proof-in-Ok-Spent.new.shelf in
-    let log = c.solve.new.log.steps in
+    let log = c.search.new.log.steps in
     let cnf = c.in-Ok.formula.cnf in
     let forbidden = IsCrowded c.args.width c.args.problem.now in
     let ended : HasEnded ask c.args.width forbidden Spent log before now
@@ -90,18 +81,13 @@ returns-in-Ok-Spent g c =
       few_vars = subst (λ s. s.cnf.vars ≤ VARIABLE_LIMIT) c.formula.view_is
           c.formula.invariant.few_vars;
       affordable = c.args.ask.now.affordable.1;
-      of = record {
-        search = c.in-Ok-Spent.ensures.logged;
-        kept = c.in-Ok-Spent.ensures.kept;
-      };
-      within = c.in-Ok-Spent.ensures.within;
-      end = subst (IsAnswer cnf ask.budget log) c.in-Ok-Spent.field-0-is
-          c.in-Ok-Spent.ensures.answer;
-      decided = λ large. subst IsDecided c.in-Ok-Spent.field-0-is
-          (c.in-Ok-Spent.ensures.decided large);
+      searched = subst (HasSearched ask cnf log) c.in-Ok-Spent.field-0-is c.in-Ok-Spent.ensures;
       writes = c.write_proof-in-Ok-Spent.ensures;
     } in
     spent-at ask c.args.width forbidden formula
     (g.E.Encoder.is_good c.args.encoder.now c.args.problem.now c.args.width) before now log
     c.in-Ok.ensures.few c.write_proof-in-Ok-Spent.result cnf c.in-Ok.ensures.formula ended
     c.and-in-Ok-Spent.result c.and-in-Ok-Spent.ensures
+
+pub search-requires-clause-few : goal.search-requires-clause-few
+search-requires-clause-few g c = subst HasFew (sym c.in-Ok.ensures.formula) c.in-Ok.ensures.few

@@ -6,7 +6,7 @@ use Rattle.desk_io.specs.declared.read.ReadStop.{ReadStop}
 use Rattle.desk_io.specs.declared.read.ReadStop.TheVariants.{Fault, TooLong}
 use Rattle.router_says.specs.AtFault.{IsRead}
 use Rattle.router_says.specs.declared.at_fault.TheConstants.{LIMIT}
-use Rattle.router_top.specs.Sources.{IsLonger}
+use Rattle.fpga_problem.specs.Sources.{IsLonger}
 use Rattle.router_says.proofs.at_fault.text_of.Goals as goal
 
 -- a value that is there

@@ -1,10 +1,9 @@
 use Rattle.std.proofs.Common.{◌∙◌, length, Err, Ok, refl, ap, subst, inl, inr}
-use Rattle.desk_io.specs.Files.{Bytes}
-use Rattle.desk_io.specs.ShelfState.{FailsToSay, after_say}
 use Rattle.route_sweep.specs.Asked.{Asked}
 use Rattle.route_sweep.specs.Written.{WritesProof}
 use Rattle.route_sweep.specs.declared.found.Stop.TheVariants.{Memory}
 use Rattle.router_words.specs.Job.{core_said}
+use Rattle.router_top.specs.Subject.{Bytes, FailsToSay, after_say}
 use Rattle.router_top.proofs.CoreLaws.{numbered-rise, refuted-names, refuted-stops, stops-core}
 use Rattle.router_top.proofs.coring.refute.Goals as goal
 

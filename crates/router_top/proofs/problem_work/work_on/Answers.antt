@@ -1,5 +1,13 @@
 use Rattle.std.proofs.Common.{inl, refl}
+use Rattle.router_top.specs.declared.text_file.TextFile.TheVariants.{Problem}
+use Rattle.router_top.proofs.StopLaws.{desk-fault}
 use Rattle.router_top.proofs.problem_work.work_on.Goals as goal
 
 pub returns-in-Err-clause-leaves : goal.returns-in-Err-clause-leaves
-returns-in-Err-clause-leaves g c = inl (c.in-Err.ensures.stop, refl)
+returns-in-Err-clause-leaves g c =
+    inl ((c.in-Err.stop, c.in-Err.ensures.stop, c.unread.ensures), refl)
+
+pub returns-in-Err-clause-quiet : goal.returns-in-Err-clause-quiet
+returns-in-Err-clause-quiet g c told =
+    c.in-Err.ensures.quiet (λ fails. told (desk-fault (Problem c.in-Err.stop.file)
+    c.in-Err.stop.fault c.unread.result c.unread.ensures fails))

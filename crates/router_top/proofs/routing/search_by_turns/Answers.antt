@@ -22,8 +22,8 @@ returns-in-Some g c =
     (by (λ formula good. c.in-Some.count ≡ c.args.members.count * length (formula width).clauses)
     c.in-Some.ensures.crowded.2) refl refl
 
-pub find_by_turns-came-requires-clause-begun : goal.find_by_turns-came-requires-clause-begun
-find_by_turns-came-requires-clause-begun g c = λ counts.
+pub one_width-came-requires-clause-begun : goal.one_width-came-requires-clause-begun
+one_width-came-requires-clause-begun g c = λ counts.
     encoder-begins c.args.job.now.search.method c.args.problem.now c.args.encoder.now
     c.requires.encoder
     (c.args.job.now.search.countable (subst IsTrue c.ask_for-ask.ensures.count counts))
@@ -33,7 +33,7 @@ pub returns-in-None : goal.returns-in-None
 returns-in-None g c =
     let width = c.args.job.now.search.width in
     let before = g.S.Shelf.state c.args.shelf.now in
-    let now = g.S.Shelf.state c.find_by_turns-came.new.shelf in
+    let now = g.S.Shelf.state c.one_width-came.new.shelf in
     let by = by-encoder c.args.job.now.search.method c.args.problem.now c.args.encoder.now
     c.requires.encoder in
     by-turns (route_said c.args.job.now) c.args.problem.now before now c.found.result
@@ -41,7 +41,7 @@ returns-in-None g c =
     (ap (option_map members_said) c.requires.members) c.args.job.now.search.in_range.1
     (by (λ formula good. HasFew (formula width)
     → c.args.members.count * length (formula width).clauses ≤ CLAUSE_LIMIT) c.in-None.ensures.room)
-    (asked c.ask_for-ask.result) c.ask_for-ask.ensures.asked c.find_by_turns-came.result
+    (asked c.ask_for-ask.result) c.ask_for-ask.ensures.asked c.one_width-came.result
     (by (λ formula good. FindsAt (asked c.ask_for-ask.result) width
     (IsCrowded width c.args.problem.now) (formula width) (good width) before now
-    c.find_by_turns-came.result) c.find_by_turns-came.ensures) c.found.ensures
+    c.one_width-came.result) c.one_width-came.ensures) c.found.ensures

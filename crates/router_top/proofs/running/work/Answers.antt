@@ -35,3 +35,8 @@ pub returns-in-Ok-Core-clause-leaves : goal.returns-in-Ok-Core-clause-leaves
 returns-in-Ok-Core-clause-leaves g c =
     let asked = rw c.in-Ok-Core.field-0-is at c.in-Ok-Core.ensures.answers in
     inr (rw asked c.work_on-in-Ok-Core.ensures.leaves)
+
+pub returns-in-Ok-Check-clause-leaves : goal.returns-in-Ok-Check-clause-leaves
+returns-in-Ok-Check-clause-leaves g c =
+    let asked = rw c.in-Ok-Check.field-0-is at c.in-Ok-Check.ensures.answers in
+    inr (rw asked (c.check_files.ensures.checks, refl))

@@ -1,9 +1,8 @@
 use Rattle.std.proofs.Common.{◌∙◌, refl, ap, subst, inl, inr}
-use Rattle.desk_io.specs.Files.{Bytes}
-use Rattle.desk_io.specs.ShelfState.{FailsToSay, ShelfState, after_say}
 use Rattle.router_words.specs.Job.{trial_said}
 use Rattle.router_top.specs.Search.{sweep_of}
 use Rattle.router_top.specs.Work.{Sweeps}
+use Rattle.router_top.specs.Subject.{Bytes, FailsToSay, ShelfState, after_say}
 use Rattle.router_top.proofs.trying.trial.Goals as goal
 
 pub returns-in-Err : goal.returns-in-Err

@@ -1,34 +1,57 @@
-use Rattle.std.proofs.Common.{inl, inr}
+use Rattle.std.proofs.Common.{◌∙◌, inl, inr}
+use Rattle.fpga_problem.specs.Sources.{Reads, Stops, route_source}
+use Rattle.fpga_problem.specs.declared.unread.FileFault.TheVariants.{Text}
+use Rattle.fpga_problem.proofs.SourceLemmas.{says-before, stop-before}
+use Rattle.fpga_text.specs.declared.fault.TextFault.TheVariants.{Memory}
 use Rattle.router_words.specs.Job.{verify_said}
-use Rattle.router_top.specs.Verify.{routed_source}
-use Rattle.router_top.proofs.SourceLaws.{says-before, stop-before}
+use Rattle.router_top.specs.declared.text_file.TextFile.TheVariants.{Problem, Routed}
+use Rattle.router_top.proofs.StopLaws.{desk-fault}
 use Rattle.router_top.proofs.verifying.verify_file.Goals as goal
 
 pub returns-in-Err-clause-verifies : goal.returns-in-Err-clause-verifies
-returns-in-Err-clause-verifies g c = inl c.in-Err.ensures.stop
+returns-in-Err-clause-verifies g c =
+    inl (c.in-Err.stop, c.in-Err.ensures.stop, c.unread.ensures)
 
-pub returns-in-Err-read_route_text-clause-verifies :
-    goal.returns-in-Err-read_route_text-clause-verifies
-returns-in-Err-read_route_text-clause-verifies g c =
+pub returns-in-Err-clause-quiet : goal.returns-in-Err-clause-quiet
+returns-in-Err-clause-quiet g c told =
+    c.in-Err.ensures.quiet (λ fails. told (desk-fault (Problem c.in-Err.stop.file)
+    c.in-Err.stop.fault c.unread.result c.unread.ensures fails))
+
+pub returns-in-Err-read_route_file-clause-verifies :
+    goal.returns-in-Err-read_route_file-clause-verifies
+returns-in-Err-read_route_file-clause-verifies g c =
+    let fault = c.in-Err-read_route_file.fault in
     inr (
       c.in-Ok.problem,
       c.in-Ok.ensures.poses,
-      inl (
-          stop-before (g.D.Desk.state c.pose_problem.new.desk)
-          (g.D.Desk.state c.read_route_text.new.desk) (g.D.Desk.state c.args.desk.now)
-          (routed_source (verify_said c.args.job.now).routed) c.in-Err-read_route_text.outcome
-          c.in-Ok.ensures.files (c.in-Ok.ensures.quiet (λ e. e))
-          c.in-Err-read_route_text.ensures.stop),
+      Stops (record {
+        fault = fault;
+        because = stop-before (g.D.Desk.state c.read_files.new.desk)
+            (g.D.Desk.state c.read_route_file.new.desk) (g.D.Desk.state c.args.desk.now)
+            (route_source (verify_said c.args.job.now).routed) fault c.in-Ok.ensures.files
+            (c.in-Ok.ensures.quiet (λ e. e)) c.in-Err-read_route_file.ensures.reads.answers;
+        tells = c.unread-in-Err-read_route_file.ensures;
+      }),
     )
+
+pub returns-in-Err-read_route_file-clause-quiet : goal.returns-in-Err-read_route_file-clause-quiet
+returns-in-Err-read_route_file-clause-quiet g c told =
+    c.in-Err-read_route_file.ensures.reads.quiet (λ fails. told (desk-fault Routed
+    c.in-Err-read_route_file.fault c.unread-in-Err-read_route_file.result
+    c.unread-in-Err-read_route_file.ensures fails)) ∙ c.in-Ok.ensures.quiet (λ e. e)
 
 pub returns-clause-verifies : goal.returns-clause-verifies
 returns-clause-verifies g c =
-    let says = says-before c.in-Ok.ensures.files c.in-Ok-read_route_text.ensures.says in
+    let says = says-before c.in-Ok.ensures.files c.in-Ok-read_route_file.ensures.reads.answers in
     elim c.judge.ensures [
-      | inl spent ↦ inl (inl (inl spent))
+      | inl spent ↦ inr (
+        c.in-Ok.problem,
+        c.in-Ok.ensures.poses,
+        Stops (record { fault = Text Memory; because = tt; tells = spent }),
+      )
       | inr is ↦ inr (
         c.in-Ok.problem,
         c.in-Ok.ensures.poses,
-        inr (c.in-Ok-read_route_text.found, says, is),
+        Reads c.in-Ok-read_route_file.found says is,
       )
     ]

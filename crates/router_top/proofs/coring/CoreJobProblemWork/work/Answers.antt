@@ -1,7 +1,4 @@
 use Rattle.std.proofs.Common.{◌≡◌, ◌≤◌, ap, false, refl, subst}
-use Rattle.sat_clause.specs.declared.limits.TheConstants.{VARIABLE_LIMIT}
-use Rattle.sat_core.specs.Answer.{IsAnswer, IsDecided}
-use Rattle.sat_core.specs.declared.answer.Answer.TheVariants.{Spent as IsOpen}
 use Rattle.route_count.specs.Crowded.{IsCrowded}
 use Rattle.route_sweep.specs.Asked.{Asked, asked}
 use Rattle.route_sweep.specs.Found.{FindsBy, IsLeftOpenBy}
@@ -9,9 +6,12 @@ use Rattle.route_sweep.specs.Written.{WritesRoute}
 use Rattle.route_sweep.specs.declared.found.Found.TheVariants.{Routed as IsRouted, Spent}
 use Rattle.route_sweep.specs.declared.found.Stop.TheVariants.{Memory}
 use Rattle.route_sweep.proofs.FoundLemmas.{HasEnded, finds-routing, spent-by}
+use Rattle.sat_clause.specs.declared.limits.TheConstants.{VARIABLE_LIMIT}
+use Rattle.sat_core.specs.Answer.{IsAnswer, IsDecided}
+use Rattle.sat_core.specs.declared.answer.Answer.TheVariants.{Spent as IsOpen}
 use Rattle.router_words.specs.Job.{core_said}
 use Rattle.router_words.specs.declared.method.Method.TheVariants.{Strictly}
-use Rattle.router_top.specs.Ends.{LeavesOpen, Refutes}
+use Rattle.router_top.specs.Comes.{LeavesOpen, Refutes}
 use Rattle.router_top.specs.Method.{IsRoutingBy, clauses_by}
 use Rattle.router_top.specs.Search.{core_search}
 use Rattle.router_top.proofs.CoreLaws.{found-core, stops-core, unbuilt-core}
@@ -79,15 +79,17 @@ returns-in-Ok-Spent g c =
       few_vars = subst (λ s. s.cnf.vars ≤ VARIABLE_LIMIT) c.formula.view_is
           c.formula.invariant.few_vars;
       affordable = c.ask_for-ask.result.affordable.1;
-      of = record {
-        search = c.in-Ok-Spent.ensures.logged;
-        kept = c.in-Ok-Spent.ensures.kept;
+      searched = record {
+        of = record {
+          search = c.in-Ok-Spent.ensures.logged;
+          kept = c.in-Ok-Spent.ensures.kept;
+        };
+        within = c.in-Ok-Spent.ensures.within;
+        end = subst (IsAnswer cnf ask.budget log) c.in-Ok-Spent.field-0-is
+            c.in-Ok-Spent.ensures.answer;
+        decided = λ large. subst IsDecided c.in-Ok-Spent.field-0-is
+            (c.in-Ok-Spent.ensures.decided large);
       };
-      within = c.in-Ok-Spent.ensures.within;
-      end = subst (IsAnswer cnf ask.budget log) c.in-Ok-Spent.field-0-is
-          c.in-Ok-Spent.ensures.answer;
-      decided = λ large. subst IsDecided c.in-Ok-Spent.field-0-is
-          (c.in-Ok-Spent.ensures.decided large);
       writes = c.write_proof-written.ensures;
     } in
     let found = spent-by ask width forbidden formula good before now log c.in-Ok.ensures.few
