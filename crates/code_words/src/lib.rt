@@ -1,8 +1,11 @@
-//! What the codes of reports mean, in words. `docs/FORMATS.md` has where each holds.
+//! What the codes of reports and the errors of the system mean, in words. `docs/FORMATS.md` has
+//! where each code holds.
 #![tactic(auto)]
 
 mod causes;
+mod errors;
 mod refusals;
 
 pub use causes::{cause, cause_within_reach};
+pub use errors::system_error;
 pub use refusals::refusal;
