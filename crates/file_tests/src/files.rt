@@ -2,17 +2,29 @@
 use desk_io::{FileDesk, FileShelf, ReadStop, Shelf, read_file};
 use std::alloc::{AllocError, Global};
 use std::fs;
-use std::io::Print;
+use std::io::{ErrorKind, Print};
 use std::rt::Files;
 use std::test::Fail;
 
+/// What kind of error the system gives where a file is created and takes a text.
+pub(crate) fn write_error<R: Files + Print>(rt: &R, name: &str, text: &[u8]) -> Option<ErrorKind> {
+    let mut shelf = FileShelf::new(rt);
+    if shelf.create(name).is_ok() && shelf.append(text).is_ok() {
+        let _ = shelf.finish();
+    }
+    shelf.file_error()
+}
+
 /// Whether a file is created and takes a text.
 pub(crate) fn is_written<R: Files + Print>(rt: &R, name: &str, text: &[u8]) -> bool {
-    let mut shelf = FileShelf::new(rt);
-    if shelf.create(name).is_err() || shelf.append(text).is_err() {
-        return false;
-    }
-    shelf.finish().is_ok()
+    write_error(rt, name, text).is_none()
+}
+
+/// What kind of error the system gives where a file is read.
+pub(crate) fn read_error<R: Files>(alloc: Global, rt: &R, name: &str) -> Option<ErrorKind> {
+    let mut desk = FileDesk::new(rt);
+    let _ = read_file(alloc, &mut desk, name, 100);
+    desk.last_error()
 }
 
 /// Whether a file of at most so many bytes has this text, or why it is not read.
@@ -88,12 +100,16 @@ fn files_are_refused(rt: HostRuntime) -> Result<(), Fail> {
 fn folders_are_refused(rt: HostRuntime) {
     assert!(rt; has_text(rt.alloc(), &rt, ".", 5, b"").is_err());
     assert!(rt; has_text(rt.alloc(), &rt, "no_folder/file", 5, b"").is_err());
-    assert!(rt; !is_written(&rt, ".", b""));
-    assert!(rt; !is_written(&rt, "no_folder/file", b""));
+    let (folder, missing) = (Some(ErrorKind::IsADirectory), Some(ErrorKind::NotFound));
+    assert_eq!(rt; read_error(rt.alloc(), &rt, "."), folder);
+    assert_eq!(rt; read_error(rt.alloc(), &rt, "no_folder/file"), missing);
+    assert_eq!(rt; write_error(&rt, ".", b""), folder);
+    assert_eq!(rt; write_error(&rt, "no_folder/file", b""), missing);
 }
 
 // A device that is full takes no byte, where the system has one.
 #[test]
 fn a_full_device_is_refused(rt: HostRuntime) {
-    assert!(rt; !is_there(&rt, "/dev/full") || !is_written(&rt, "/dev/full", b"x"));
+    let full = write_error(&rt, "/dev/full", b"x");
+    assert!(rt; !is_there(&rt, "/dev/full") || full == Some(ErrorKind::StorageFull));
 }

@@ -2,7 +2,7 @@
 //! over those of the real one.
 ghost use Rattle.std.specs.Prelude.{◌≤◌, length};
 
-use crate::files::{has_text, is_written};
+use crate::files::{has_text, write_error};
 use desk_io::{FileShelf, ReadStop, Shelf};
 use std::alloc::{Allocator, Global};
 use std::fmt::Display;
@@ -208,9 +208,9 @@ impl<'a, R: Files + Print> Print for SlowSystem<'a, R> {
 /// What is written and read.
 const TEXT: &[u8] = b"each of these bytes";
 
-/// Whether the text is written to a file where the slow system refuses this.
-fn is_written_slowly<R: Files + Print>(rt: &R, refused: Refused, name: &str) -> bool {
-    is_written(&SlowSystem::new(rt, refused, "unsaid.tmp"), name, TEXT)
+/// What kind of error comes where the text is written to a file and the slow system refuses this.
+fn slow_write_error<R: Files + Print>(rt: &R, refused: Refused, name: &str) -> Option<ErrorKind> {
+    write_error(&SlowSystem::new(rt, refused, "unsaid.tmp"), name, TEXT)
 }
 
 /// Whether the text is read of a file where the slow system refuses this, or why it is not read.
@@ -224,16 +224,17 @@ fn has_text_slowly<R: Files>(
     has_text(alloc, &slow, name, 100, TEXT)
 }
 
-/// Whether the text is said where the slow system refuses this.
-fn is_said<R: Files + Print>(rt: &R, refused: Refused, output: &str) -> bool {
+/// What kind of error comes where the text is said and the slow system refuses this.
+fn say_error<R: Files + Print>(rt: &R, refused: Refused, output: &str) -> Option<ErrorKind> {
     let slow = SlowSystem::new(rt, refused, output);
     let mut shelf = FileShelf::new(&slow);
-    shelf.say(TEXT).is_ok()
+    let _ = shelf.say(TEXT);
+    shelf.say_error()
 }
 
 #[test]
 fn interrupted_calls_move_all_bytes(rt: HostRuntime) -> Result<(), Fail> {
-    assert!(rt; is_written_slowly(&rt, Refused::Nothing, "slow.tmp"));
+    assert_eq!(rt; slow_write_error(&rt, Refused::Nothing, "slow.tmp"), None);
     assert!(rt; matches!(has_text(rt.alloc(), &rt, "slow.tmp", 100, TEXT), Ok(true)));
     let whole = has_text_slowly(rt.alloc(), &rt, Refused::Nothing, "slow.tmp");
     assert!(rt; matches!(whole, Ok(true)));
@@ -246,14 +247,20 @@ fn interrupted_calls_move_all_bytes(rt: HostRuntime) -> Result<(), Fail> {
 #[test]
 fn late_failures_are_faults(rt: HostRuntime) -> Result<(), Fail> {
     for (refused, want) in [
-        (Refused::Nothing, true),
-        (Refused::Flush, false),
-        (Refused::Sync(ErrorKind::Other), false),
-        (Refused::Sync(ErrorKind::Interrupted), false),
+        (Refused::Nothing, None),
+        (Refused::Flush, Some(ErrorKind::Other)),
+        (
+            Refused::Sync(ErrorKind::TimedOut),
+            Some(ErrorKind::TimedOut),
+        ),
+        (
+            Refused::Sync(ErrorKind::Interrupted),
+            Some(ErrorKind::Interrupted),
+        ),
         // A pipe or a terminal has no disk.
-        (Refused::Sync(ErrorKind::InvalidInput), true),
+        (Refused::Sync(ErrorKind::InvalidInput), None),
     ] {
-        assert!(rt; is_written_slowly(&rt, refused, "late.tmp") == want);
+        assert_eq!(rt; slow_write_error(&rt, refused, "late.tmp"), want);
     }
     fs::remove_file(&rt, "late.tmp")?;
     Ok(())
@@ -261,7 +268,7 @@ fn late_failures_are_faults(rt: HostRuntime) -> Result<(), Fail> {
 
 #[test]
 fn output_takes_all_bytes(rt: HostRuntime) -> Result<(), Fail> {
-    assert!(rt; is_said(&rt, Refused::Nothing, "said.tmp"));
+    assert_eq!(rt; say_error(&rt, Refused::Nothing, "said.tmp"), None);
     assert!(rt; matches!(has_text(rt.alloc(), &rt, "said.tmp", 100, TEXT), Ok(true)));
     fs::remove_file(&rt, "said.tmp")?;
     Ok(())
@@ -269,5 +276,6 @@ fn output_takes_all_bytes(rt: HostRuntime) -> Result<(), Fail> {
 
 #[test]
 fn refused_output_is_a_fault(rt: HostRuntime) {
-    assert!(rt; !is_said(&rt, Refused::Output, "unsaid.tmp"));
+    let error = say_error(&rt, Refused::Output, "unsaid.tmp");
+    assert_eq!(rt; error, Some(ErrorKind::Other));
 }
