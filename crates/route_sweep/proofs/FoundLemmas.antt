@@ -36,8 +36,10 @@ module _ (Refutes LeavesOpen : List Step → Type 0) (ask : Asked) (width : ℕ)
   )
   routed (Err (Fault Route)) writes =
       (few, record { found = found; routing = routing; fails = writes.1 })
-  routed (Err (Fault Clauses)) writes = absurd (let clash : Clauses ≡ Route = writes.0 in cc)
-  routed (Err (Fault Log)) writes = absurd (let clash : Log ≡ Route = writes.0 in cc)
+  routed (Err (Fault (Clauses of))) writes =
+      absurd (let clash : Clauses of ≡ Route = writes.0 in cc)
+  routed (Err (Fault (Log of))) writes =
+      absurd (let clash : Log of ≡ Route = writes.0 in cc)
   routed (Err (TooManyClauses count)) writes = absurd writes
   routed (Err Memory) writes = (few, writes)
 
@@ -74,9 +76,9 @@ module _ (Refutes LeavesOpen : List Step → Type 0) (ask : Asked) (width : ℕ)
       → IsWritten Reads ask width formula log before now (Err stop)
       → FindsBy Refutes LeavesOpen ask width forbidden formula good before now (Err stop)
   stopped Reads ended (Fault Route) h = absurd h.writes
-  stopped Reads ended (Fault Clauses) h =
+  stopped Reads ended (Fault (Clauses of)) h =
       (h.few, record { log = log; ended = ended; fails = h.writes })
-  stopped Reads ended (Fault Log) h =
+  stopped Reads ended (Fault (Log of)) h =
       (h.few, record { log = log; ended = ended; fails = h.writes })
   stopped Reads ended (TooManyClauses count) h = absurd h.writes
   stopped Reads ended Memory h = (h.few, h.writes)

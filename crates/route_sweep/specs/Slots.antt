@@ -6,5 +6,5 @@ use Rattle.route_sweep.specs.declared.found.FileSlot.TheVariants.{Route, Clauses
 -- the number of a file in reports
 abbrev pub slot_number : FileSlot → ℕ
 slot_number Route = 1
-slot_number Clauses = 2
-slot_number Log = 3
+slot_number (Clauses width) = 2
+slot_number (Log width) = 3

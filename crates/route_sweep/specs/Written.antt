@@ -26,14 +26,14 @@ abbrev pub after_proof : ShelfState → Asked → (width : ℕ) → Cnf → List
 after_proof shelf ask width formula log =
     after_writing (after_clauses shelf ask width formula) (lrat_name ask width) (log_text log)
 
--- the clauses were not written whole; or they were, but not the log behind them
+-- the clauses at the width were not written whole; or they were, but not the log behind them
 abbrev pub FailsToWriteProof : Asked → (width : ℕ) → Cnf → List Step → (before now : ShelfState)
     → FileSlot → Type 0
 FailsToWriteProof ask width formula log before now Route = ⊥
-FailsToWriteProof ask width formula log before now Clauses =
-    FailsToWrite before (cnf_name ask width) (cnf_text formula) now
-FailsToWriteProof ask width formula log before now Log =
-    FailsToWrite (after_clauses before ask width formula) (lrat_name ask width) (log_text log) now
+FailsToWriteProof ask width formula log before now (Clauses of) =
+    (of ≡ width) × FailsToWrite before (cnf_name ask width) (cnf_text formula) now
+FailsToWriteProof ask width formula log before now (Log of) = (of ≡ width)
+    × FailsToWrite (after_clauses before ask width formula) (lrat_name ask width) (log_text log) now
 
 -- what is left where the clauses and the log were to be written: both were, and the clauses read
 -- back; or one of them was not; or memory was too short for their names

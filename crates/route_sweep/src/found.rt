@@ -10,10 +10,10 @@ use thiserror::Error;
 pub enum FileSlot {
     /// The routing.
     Route,
-    /// The clauses.
-    Clauses,
-    /// The log.
-    Log,
+    /// The clauses at this width.
+    Clauses { width: u32 },
+    /// The log of the search at this width.
+    Log { width: u32 },
 }
 
 impl FileSlot {
@@ -23,8 +23,8 @@ impl FileSlot {
     {
         match self {
             FileSlot::Route => 1,
-            FileSlot::Clauses => 2,
-            FileSlot::Log => 3,
+            FileSlot::Clauses { .. } => 2,
+            FileSlot::Log { .. } => 3,
         }
     }
 }
@@ -33,8 +33,8 @@ impl fmt::Display for FileSlot {
     fn fmt<W: fmt::Write>(&self, f: &mut fmt::Formatter<W>) -> fmt::Result {
         match self {
             FileSlot::Route => write!(f, "routing"),
-            FileSlot::Clauses => write!(f, "clauses"),
-            FileSlot::Log => write!(f, "log"),
+            FileSlot::Clauses { .. } => write!(f, "clauses"),
+            FileSlot::Log { .. } => write!(f, "log"),
         }
     }
 }

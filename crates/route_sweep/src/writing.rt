@@ -66,12 +66,12 @@ pub fn write_proof<S: Shelf>(
     };
     let Ok(()) = write_file(&CnfText, shelf, cnf_name.as_str(), formula) else {
         return Err(Stop::Fault {
-            slot: FileSlot::Clauses,
+            slot: FileSlot::Clauses { width },
         });
     };
     let Ok(()) = write_file(&LratText, shelf, lrat_name.as_str(), log) else {
         return Err(Stop::Fault {
-            slot: FileSlot::Log,
+            slot: FileSlot::Log { width },
         });
     };
     Ok(())
