@@ -29,6 +29,8 @@ use Rattle.sat_text.specs.CnfText.{cnf_said}
 use Rattle.sat_text.specs.LratText.{lrat_said}
 use Rattle.router_words.specs.Refusal.{code_of}
 use Rattle.router_words.specs.declared.fault.Refusal.{Refusal}
+use Rattle.router_top.specs.SizeCauses.{size_code}
+use Rattle.router_top.specs.declared.size_cause.SizeCause.TheVariants.{FormulaClauses}
 use Rattle.router_top.specs.Check.{JudgesTo, ChecksTo, cnf_source, judgement_outcome, lrat_source, VerifiesTo, judged_outcome}
 use Rattle.router_top.specs.Comes.{ComesTo, lower_files}
 use Rattle.router_top.specs.Generated.{PosesNone, generated_files, texts_of}
@@ -497,7 +499,7 @@ module _ (words : List Word) (at : Scene) where
       apart = (tt, tt);
       heard = (tt, tt);
       writes = inr (
-        File Clauses,
+        File (Clauses job.width),
         inl (refl, h.2),
         is ∙ ap (λ (s : FileSlot). WriteFault (File s)) h.0,
       );
@@ -511,7 +513,7 @@ module _ (words : List Word) (at : Scene) where
           suits,
           inl (
             subst (λ (n : ℕ). CLAUSE_LIMIT < n) h.0.0 h.0.1,
-            is ∙ ap (Limit None 901) h.0.0,
+            is ∙ ap (Limit None (size_code FormulaClauses)) h.0.0,
           ),
         ))))
     written-came (Err Memory) o is h = spent o h.1 (λ other is. cc) is

@@ -13,6 +13,8 @@ use Rattle.route_sweep.specs.declared.found.Found.TheVariants.{Routed as IsRoute
 use Rattle.route_sweep.specs.declared.found.Stop.{Stop}
 use Rattle.route_sweep.specs.declared.found.Stop.TheVariants.{Fault, TooManyClauses, Memory}
 use Rattle.sat_clause.specs.declared.limits.TheConstants.{CLAUSE_LIMIT}
+use Rattle.router_top.specs.SizeCauses.{size_code}
+use Rattle.router_top.specs.declared.size_cause.SizeCause.TheVariants.{FormulaClauses}
 use Rattle.router_top.specs.Written.{FailsAmong, WritesFiles, JobFile}
 use Rattle.router_top.specs.Comes.{LeavesOpen, Refutes}
 use Rattle.router_top.specs.Method.{IsRoutingBy, clauses_by}
@@ -65,8 +67,8 @@ module _ (ask : Asked) (width : ℕ) (formula : Cnf) (good : RouteText → Type 
   fails-risen : (slot : FileSlot) → FailsOn ask width formula good Ends before now slot →
       HasRisen before.faults now.faults
   fails-risen RouteSlot h = write-risen before _ _ now h.fails
-  fails-risen Clauses h = write-risen before _ _ now h.fails
-  fails-risen Log h = write-risen _ _ _ now h.fails
+  fails-risen (Clauses of) h = write-risen before _ _ now h.fails.1
+  fails-risen (Log of) h = write-risen _ _ _ now h.fails.1
 
 among-risen : (files : List JobFile) (before now : ShelfState) (slot : Slot)
     → FailsAmong files before now slot → HasRisen before.faults now.faults
@@ -148,8 +150,8 @@ module _ (words : List Word) (at : Scene) (calm : ¬ HasRisen at.desk.faults at.
           (IsRoutingBy search.method h.width h.comes.p)
           (λ log. Refutes search h.comes.p h.width log ⊎ LeavesOpen search h.comes.p h.width log)
           h.between wrote slot f.1)))
-      found-settles (Err (TooManyClauses count)) f last = true-there (Limit None 901 count)
-          (inl (subst (λ (n : ℕ). CLAUSE_LIMIT < n) f.0.0 f.0.1, ap (Limit None 901) f.0.0))
+      found-settles (Err (TooManyClauses count)) f last = true-there (Limit None (size_code FormulaClauses) count)
+          (inl (subst (λ (n : ℕ). CLAUSE_LIMIT < n) f.0.0 f.0.1, ap (Limit None (size_code FormulaClauses)) f.0.0))
           (ap (λ (s : ShelfState). s.faults) f.1)
       found-settles (Err Memory) f last = record {
         kept = omega (arith, faults, ap (λ (s : ShelfState). s.faults) f.1, h.calm);

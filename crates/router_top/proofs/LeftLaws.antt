@@ -10,6 +10,8 @@ use Rattle.desk_io.specs.WholeFile.{FailsToWrite, after_writing}
 use Rattle.list_laws.proofs.Places.{some_is}
 use Rattle.route_sweep.specs.Names.{cnf_name, lrat_name}
 use Rattle.route_sweep.specs.Written.{after_clauses}
+use Rattle.route_sweep.specs.declared.found.FileSlot.{FileSlot}
+use Rattle.route_sweep.specs.declared.found.FileSlot.{FileSlot}
 use Rattle.route_sweep.specs.declared.found.FileSlot.TheVariants.{Route as RouteSlot, Clauses, Log}
 use Rattle.route_sweep.specs.declared.found.Found.{Found}
 use Rattle.route_sweep.specs.declared.found.Found.TheVariants.{Routed as IsRouted, Refuted, Spent}
@@ -27,6 +29,7 @@ use Rattle.router_top.specs.Work.{Finds}
 use Rattle.router_top.specs.Subject.{DeskState, Bytes, FileMap, ShelfState, RoutingProblem, HasFew, Cnf, Step, Word, Outcome, InputFault, Limit, NotSymmetric, ReadFault, Unroutable, Usage, WriteFault, Slot, Said, File}
 use Rattle.router_top.proofs.Came.{AreHeard, Came, Cut, HasCome, HasWritten, Idle, IsHeard, IsSpared, Searched, Wrote, ended_with}
 use Rattle.router_top.proofs.GeneratedLaws.{files-after}
+use Rattle.router_top.proofs.SlotNameLaws.{part-named}
 use Rattle.router_top.proofs.WrittenLaws.{AreApart, NoneHas, Stand, all-stand, are-written, get-other, with_files-append, written-stand}
 
 -- ---- names that differ
@@ -185,6 +188,7 @@ module _ (words : List Word) (desk before : Option FileMap) where
         later = later;
         order = order;
         named = refl;
+        name = part-named words desk files of whole part later order;
         between = between.files;
         written = written;
         begun = begun;
@@ -341,17 +345,22 @@ module _ (words : List Word) (at : Scene) where
     -- the clauses and a log at the width
     abbrev clauses-file : JobFile
     clauses-file = record {
-      slot = File Clauses;
+      slot = File (Clauses h.width);
       name = cnf_name h.comes.search.ask h.width;
       text = cnf_text formula;
     }
 
     abbrev log-file : List Step → JobFile
     log-file log = record {
-      slot = File Log;
+      slot = File (Log h.width);
       name = lrat_name h.comes.search.ask h.width;
       text = log_text log;
     }
+
+    -- what is left where the file of a slot was not written whole
+    abbrev PartHere : FileSlot → Type 0
+    PartHere slot =
+        LeavesPart words at.desk.files at.shelf.files at.shelf_now.files (File slot)
 
     found-left : (came : Result Found Stop)
         → Finds h.comes.search h.comes.p h.width h.between at.shelf_now came
@@ -367,15 +376,17 @@ module _ (words : List Word) (at : Scene) where
         (f.0, inl (f.1.found, f.1.routing, refl)) (h.route_apart f.1.found) []
         (route_file h.comes.search f.1.found) [] refl
         h.between refl f.1.fails
-    found-left (Err (Fault Clauses)) f =
-        part-here (proof_files h.comes.search h.comes.p h.width f.1.log)
+    found-left (Err (Fault (Clauses of))) f =
+        subst (λ (k : ℕ). PartHere (Clauses k)) (sym f.1.fails.0)
+        (part-here (proof_files h.comes.search h.comes.p h.width f.1.log)
         (f.0, inr (f.1.log, f.1.ended, refl)) (h.proof_apart f.1.log) [] clauses-file
-        (log-file f.1.log ∷ []) refl h.between refl f.1.fails
-    found-left (Err (Fault Log)) f =
-        part-here (proof_files h.comes.search h.comes.p h.width f.1.log)
+        (log-file f.1.log ∷ []) refl h.between refl f.1.fails.1)
+    found-left (Err (Fault (Log of))) f =
+        subst (λ (k : ℕ). PartHere (Log k)) (sym f.1.fails.0)
+        (part-here (proof_files h.comes.search h.comes.p h.width f.1.log)
         (f.0, inr (f.1.log, f.1.ended, refl)) (h.proof_apart f.1.log) (clauses-file ∷ [])
         (log-file f.1.log) [] refl (after_clauses h.between h.comes.search.ask h.width formula) refl
-        f.1.fails
+        f.1.fails.1)
     found-left (Err (TooManyClauses count)) f = elim h.climbs [
       | inl alone ↦ inl (ap (λ (s : ShelfState). s.files) f.1 ∙ alone)
       | inr climb ↦ inr (refl, climb, low-left f.1)

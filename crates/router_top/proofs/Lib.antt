@@ -15,6 +15,7 @@ mod NameLaws
 mod PreparedLaws
 mod SaidLaws
 mod SlotCountLaws
+mod SlotNameLaws
 mod StopLaws
 mod TrackLaws
 mod TurnLaws

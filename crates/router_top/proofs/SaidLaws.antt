@@ -50,10 +50,10 @@ module _ (search : Search) (p : RoutingProblem) (width : ℕ) (before now : Shel
   finds-silent (Ok Refuted) h = ap (λ (s : ShelfState). s.said) h.1.written
   finds-silent (Ok (Spent learned)) h = ap (λ (s : ShelfState). s.said) h.2.written
   finds-silent (Err (Fault RouteSlot)) h = fails-silent before now _ _ h.1.fails
-  finds-silent (Err (Fault Clauses)) h = fails-silent before now _ _ h.1.fails
-  finds-silent (Err (Fault Log)) h =
+  finds-silent (Err (Fault (Clauses of))) h = fails-silent before now _ _ h.1.fails.1
+  finds-silent (Err (Fault (Log of))) h =
       fails-silent (after_clauses before search.ask width (clauses_by search.method width p)) now
-      _ _ h.1.fails
+      _ _ h.1.fails.1
   finds-silent (Err (TooManyClauses count)) h = ap (λ (s : ShelfState). s.said) h.1
   finds-silent (Err Memory) h = ap (λ (s : ShelfState). s.said) h.1
 

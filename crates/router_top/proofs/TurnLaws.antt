@@ -11,6 +11,8 @@ use Rattle.route_sweep.specs.declared.found.Found.{Found}
 use Rattle.route_sweep.specs.declared.found.Stop.{Stop}
 use Rattle.sat_clause.specs.declared.limits.TheConstants.{CLAUSE_LIMIT}
 use Rattle.router_words.specs.Job.{MembersAsked}
+use Rattle.router_top.specs.SizeCauses.{size_code}
+use Rattle.router_top.specs.declared.size_cause.SizeCause.TheVariants.{ClausesOfTurns}
 use Rattle.router_top.specs.Method.{IsRoutingBy, clauses_by}
 use Rattle.router_top.specs.Report.{found_outcome}
 use Rattle.router_top.specs.Search.{asks_to_keep}
@@ -73,7 +75,7 @@ module _ (job : RouteAsked) (p : RoutingProblem) (before now : ShelfState) (o : 
   pub crowded : (members : MembersAsked) → job.members ≡ Some members
       → HasFew (clauses_by job.search.method job.search.width p) → (count : ℕ)
       → CLAUSE_LIMIT < count → count ≡ members.count * clause-number → now ≡ before
-      → o ≡ Limit None 904 count → LeavesRoute job p before now o
+      → o ≡ Limit None (size_code ClausesOfTurns) count → LeavesRoute job p before now o
   crowded members some few count many product same is =
       let sum : count ≡ held job.members =
       subst (λ (m : Option MembersAsked). count ≡ held m) (sym some) product in
@@ -81,5 +83,5 @@ module _ (job : RouteAsked) (p : RoutingProblem) (before now : ShelfState) (o : 
         few = few;
         many = subst (λ (n : ℕ). CLAUSE_LIMIT < n) sum many;
         same = same;
-        is = subst (λ (n : ℕ). o ≡ Limit None 904 n) sum is;
+        is = subst (λ (n : ℕ). o ≡ Limit None (size_code ClausesOfTurns) n) sum is;
       })

@@ -9,6 +9,8 @@ use Rattle.fpga_types.specs.declared.fit_cause.FitCause.TheVariants.{PastLimit}
 use Rattle.fpga_types.specs.declared.limits.TheConstants.{SIDE_LIMIT, SLOT_LIMIT}
 use Rattle.route_gen.specs.Fitting.{AreRead}
 use Rattle.route_gen.specs.Generated.{generated}
+use Rattle.router_top.specs.SizeCauses.{size_code}
+use Rattle.router_top.specs.declared.size_cause.SizeCause.TheVariants.{GeneratedNets}
 use Rattle.router_top.specs.Written.{JobFile, with_files}
 use Rattle.router_top.specs.Subject.{DeskState, FileNames, RoutingProblem, RecipeAsked, Word, Outcome, Limit, OutOfMemory}
 use Rattle.router_top.specs.declared.slot.Slot.TheVariants.{Architecture, Netlist, Placement, GlobalRoute}
@@ -21,7 +23,7 @@ HasRoom recipe = recipe.nets ≤ recipe.side * recipe.side
 -- there are more nets than blocks, and the outcome has their number
 abbrev pub IsTooMany : RecipeAsked → Outcome → Type 0
 IsTooMany recipe outcome =
-    (recipe.side * recipe.side < recipe.nets) × (outcome ≡ Limit None 903 recipe.nets)
+    (recipe.side * recipe.side < recipe.nets) × (outcome ≡ Limit None (size_code GeneratedNets) recipe.nets)
 
 -- no problem was made, and the outcome says why
 abbrev pub MakesNone : RecipeAsked → Outcome → Type 0

@@ -1,6 +1,6 @@
 -- The files of a job in the order in which they are written, and what a run leaves of them,
 -- whatever fails.
-use Rattle.std.specs.Prelude.{◌≡◌, ◌⊎◌, ℕ, ◌≤◌, ◌++◌, List, [], ◌∷◌, length, take, Ok, Option, None, option_and_then}
+use Rattle.std.specs.Prelude.{◌≡◌, ◌⊎◌, ℕ, ◌≤◌, ◌++◌, List, [], ◌∷◌, length, take, Ok, Option, None, Some, option_and_then}
 use Rattle.std.specs.List.{All}
 use Rattle.std.specs.Option.{ForSome}
 use Rattle.std.specs.FinMap.{get}
@@ -10,11 +10,19 @@ use Rattle.router_top.specs.Comes.{ComesTo, lower_files, EndsSearch}
 use Rattle.router_top.specs.Generated.{HasRoom, generated_files}
 use Rattle.router_top.specs.Method.{IsRoutingBy, clauses_by}
 use Rattle.router_top.specs.Search.{Search, proof_files, route_file}
+use Rattle.router_top.specs.SizeCauses.{size_code}
+use Rattle.router_top.specs.SlotNames.{name_written}
+use Rattle.router_top.specs.declared.size_cause.SizeCause.TheVariants.{FormulaClauses}
 use Rattle.router_top.specs.Work.{clauses_file}
 use Rattle.router_top.specs.Written.{AreWritten, JobFile, with_file}
-use Rattle.router_top.specs.Subject.{Bytes, FileMap, Poses, RoutingProblem, RouteText, HasFew, Step, job_of, EncodeAsked, Encodes, GenAsked, Generates, SweepAsked, Sweeps, TrialAsked, Tries, Word, Outcome, InputFault, Limit, NotSymmetric, Usage, ReadFault, WriteFault, Slot, Said}
+use Rattle.router_top.specs.Subject.{Bytes, FileMap, Poses, RoutingProblem, RouteText, HasFew, Step, job_of, EncodeAsked, Encodes, GenAsked, Generates, JobAsked, SweepAsked, Sweeps, TrialAsked, Tries, Word, Outcome, InputFault, Limit, NotSymmetric, Usage, ReadFault, WriteFault, Slot, Said}
 
 -- ---- the files of each job
+
+-- the job that the words ask for gives the file of this slot its name
+abbrev pub IsNamed : List Word → JobFile → Type 0
+IsNamed words file =
+    (job : JobAsked) → job_of words ≡ Ok job → name_written job file.slot ≡ Some file.name
 
 -- what a search writes at a width that has few enough clauses: a legal routing; or the clauses, and
 -- then a log that refutes them or leaves them open
@@ -96,6 +104,7 @@ pub record LeavesPart (words : List Word) (desk before now : Option FileMap) (sl
   pub later : List JobFile
   pub order : files ≡ whole ++ part ∷ later
   pub named : part.slot ≡ slot
+  pub name : IsNamed words part
   pub between : Option FileMap
   pub written : AreWritten whole before between
   pub begun : IsBegun part between now
@@ -118,7 +127,8 @@ LeavesFiles words desk before now (ReadFault file) = now ≡ before
 LeavesFiles words desk before now (InputFault file line code) = now ≡ before
 LeavesFiles words desk before now (NotSymmetric width why) = now ≡ before
 LeavesFiles words desk before now (Limit file code count) =
-    (now ≡ before) ⊎ ((code ≡ 901) × IsClimb words × LeavesWhole words desk before now)
+    (now ≡ before)
+    ⊎ ((code ≡ size_code FormulaClauses) × IsClimb words × LeavesWhole words desk before now)
 LeavesFiles words desk before now (WriteFault Said) = LeavesWhole words desk before now
 LeavesFiles words desk before now (WriteFault slot) = LeavesPart words desk before now slot
 LeavesFiles words desk before now outcome = LeavesWhole words desk before now

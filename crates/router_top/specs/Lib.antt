@@ -10,6 +10,8 @@ pub mod Report
 pub mod Run
 pub mod Saying
 pub mod Search
+pub mod SizeCauses
+pub mod SlotNames
 pub mod Subject
 pub mod Suited
 pub mod Truth

@@ -15,20 +15,12 @@ use Rattle.route_sweep.specs.declared.found.Found.TheVariants.{Routed as IsRoute
 use Rattle.route_sweep.specs.declared.found.Stop.{Stop}
 use Rattle.route_sweep.specs.declared.found.Stop.TheVariants.{Fault, TooManyClauses, Memory}
 use Rattle.router_top.specs.Subject.{Outcome, Routed, Unroutable, Undecided, Done, Accepted, NotAccepted, LegalRoute, NotLegal, InputFault, Limit, NotSymmetric, Usage, ReadFault, WriteFault, OutOfMemory, Slot, Said, File, FileMap, FileNames, Source, FileFault}
+use Rattle.router_top.specs.SizeCauses.{size_code}
+use Rattle.router_top.specs.declared.size_cause.SizeCause.TheVariants.{FileBytes, FormulaClauses}
 use Rattle.router_top.specs.declared.text_file.TheConstants.{PROOF_BYTES}
 use Rattle.router_top.specs.declared.text_file.TextFile.{TextFile}
 use Rattle.router_top.specs.declared.text_file.TextFile.TheVariants.{Cnf, Lrat, Problem, Routed}
 use Rattle.router_top.specs.declared.slot.Slot.TheVariants.{Architecture, Netlist, Placement, GlobalRoute}
-
--- the number of a file among those of all commands
-abbrev pub file_number : TextFile → ℕ
-file_number (Problem Architecture) = 1
-file_number (Problem Netlist) = 2
-file_number (Problem Placement) = 3
-file_number (Problem Route) = 4
-file_number Cnf = 5
-file_number Lrat = 6
-file_number Routed = 7
 
 -- how many bytes a file may have
 abbrev pub byte_limit : TextFile → ℕ
@@ -116,7 +108,7 @@ IsReadFault outcome = ⊥
 abbrev pub unread_outcome : TextFile → FileFault → Outcome
 unread_outcome file Desk = ReadFault file
 unread_outcome file TooLong =
-    Limit (Some file) (910 + file_number file) (byte_limit file + 1)
+    Limit (Some file) (size_code (FileBytes file)) (byte_limit file + 1)
 unread_outcome file (Text (Bad line code)) = InputFault file line code
 unread_outcome file (Text (PastLimit code count)) = Limit (Some file) code count
 unread_outcome file (Text NoMemory) = OutOfMemory
@@ -131,7 +123,7 @@ GivesNone stops files names outcome =
 -- where the work on the clauses of a problem stopped
 abbrev pub stop_outcome : Stop → Outcome
 stop_outcome (Fault slot) = WriteFault (File slot)
-stop_outcome (TooManyClauses count) = Limit None 901 count
+stop_outcome (TooManyClauses count) = Limit None (size_code FormulaClauses) count
 stop_outcome Memory = OutOfMemory
 
 -- where a search at a width ended, or stopped

@@ -123,11 +123,16 @@ route_file search found =
 abbrev pub proof_files : Search → RoutingProblem → (width : ℕ) → List Step → List JobFile
 proof_files search p width log =
     record {
-      slot = File Clauses;
+      slot = File (Clauses width);
       name = cnf_name search.ask width;
       text = cnf_text (clauses_by search.method width p);
     }
-    ∷ record { slot = File Log; name = lrat_name search.ask width; text = log_text log } ∷ []
+    ∷ record {
+      slot = File (Log width);
+      name = lrat_name search.ask width;
+      text = log_text log;
+    }
+    ∷ []
 
 -- both texts of a refutation read back; where counting comes first, the log does unless numbers
 -- alone forbid the width

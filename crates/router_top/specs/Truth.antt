@@ -4,6 +4,8 @@ use Rattle.std.specs.Option.{ForSome}
 use Rattle.desk_io.specs.Files.{HasRisen}
 use Rattle.sat_clause.specs.declared.limits.TheConstants.{CLAUSE_LIMIT}
 use Rattle.router_words.specs.Refusal.{code_of}
+use Rattle.router_top.specs.SizeCauses.{size_code}
+use Rattle.router_top.specs.declared.size_cause.SizeCause.TheVariants.{FormulaClauses, ClausesOfTurns}
 use Rattle.router_top.specs.Check.{ChecksTo, VerifiesTo}
 use Rattle.router_top.specs.Generated.{HasRoom, IsTooLarge, IsTooMany, Makes}
 use Rattle.router_top.specs.Method.{HasNone, HasOne, clauses_by}
@@ -16,14 +18,14 @@ use Rattle.router_top.specs.Subject.{DeskState, FileMap, ShelfState, FileNames, 
 -- and this is true
 abbrev pub IsTrueOfClauses : Cnf → (says : Type 0) → Outcome → Type 0
 IsTrueOfClauses formula says outcome =
-    ((CLAUSE_LIMIT < length formula.clauses) × (outcome ≡ Limit None 901 (length formula.clauses)))
+    ((CLAUSE_LIMIT < length formula.clauses) × (outcome ≡ Limit None (size_code FormulaClauses) (length formula.clauses)))
     ⊎ (HasFew formula × says)
 
 -- the searches that take turns hold more clauses together than may be built, and the outcome has
 -- that number; or they do not, and this is true
 abbrev pub IsTrueOfTurns : (held : ℕ) → (says : Type 0) → Outcome → Type 0
 IsTrueOfTurns held says outcome =
-    ((CLAUSE_LIMIT < held) × (outcome ≡ Limit None 904 held)) ⊎ ((held ≤ CLAUSE_LIMIT) × says)
+    ((CLAUSE_LIMIT < held) × (outcome ≡ Limit None (size_code ClausesOfTurns) held)) ⊎ ((held ≤ CLAUSE_LIMIT) × says)
 
 -- the search comes to this width: each lower one that it tries has few enough clauses, and no legal
 -- routing
@@ -103,7 +105,7 @@ abbrev pub IsOpenBelow : Outcome → Outcome → Type 0
 IsOpenBelow (Undecided width learned) (Routed of) = width ≤ of
 IsOpenBelow (Undecided width learned) (Unroutable of) = width ≤ of
 IsOpenBelow (Undecided width learned) (Undecided of others) = (width ≤ of) × (learned ≡ others)
-IsOpenBelow (Undecided width learned) (Limit file code count) = code ≡ 901
+IsOpenBelow (Undecided width learned) (Limit file code count) = code ≡ size_code FormulaClauses
 IsOpenBelow outcome other = ⊥
 
 -- the answer is this outcome; or a search is left open by one of the two, for which width its

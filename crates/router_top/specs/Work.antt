@@ -20,6 +20,8 @@ use Rattle.sat_text.specs.Printed.{cnf_text}
 use Rattle.router_top.specs.Comes.{LeavesOpen, Refutes}
 use Rattle.router_top.specs.Method.{IsRoutingBy, clauses_by}
 use Rattle.router_top.specs.Report.{climbed_outcome, found_outcome, written_outcome}
+use Rattle.router_top.specs.SizeCauses.{size_code}
+use Rattle.router_top.specs.declared.size_cause.SizeCause.TheVariants.{ClausesOfTurns}
 use Rattle.router_top.specs.Search.{Search, clauses_held, route_search, sweep_search, sweep_of}
 use Rattle.router_top.specs.Written.{JobFile}
 use Rattle.router_top.specs.Subject.{Bytes, ShelfState, FailsToSay, after_say, RoutingProblem, HasFew, Cnf, EncodeAsked, RouteAsked, SweepAsked, TrialAsked, Method, Outcome, Limit, WriteFault, File, Said}
@@ -40,7 +42,7 @@ pub record LacksRoom
   pub few : HasFew (clauses_by search.method width p)
   pub many : CLAUSE_LIMIT < clauses_held search width p
   pub same : now ≡ before
-  pub is : outcome ≡ Limit None 904 (clauses_held search width p)
+  pub is : outcome ≡ Limit None (size_code ClausesOfTurns) (clauses_held search width p)
 
 -- a search of the problem, which was given, at the width of the job, which is at most 64; all that
 -- take turns hold few enough clauses together
@@ -86,7 +88,7 @@ clauses_name job = job.prefix ++ codes ".cnf"
 -- the file of the clauses of the problem
 abbrev pub clauses_file : EncodeAsked → RoutingProblem → JobFile
 clauses_file job p = record {
-  slot = File Clauses;
+  slot = File (Clauses job.width);
   name = clauses_name job;
   text = cnf_text (clauses_by job.method job.width p);
 }
@@ -99,7 +101,7 @@ WritesClauses job formula before now (Ok written) =
     HasFew formula × ReadsCnf (cnf_text formula) formula
     × (now ≡ after_writing before (clauses_name job) (cnf_text formula))
 WritesClauses job formula before now (Err (Fault slot)) =
-    (slot ≡ Clauses) × HasFew formula
+    (slot ≡ Clauses job.width) × HasFew formula
     × FailsToWrite before (clauses_name job) (cnf_text formula) now
 WritesClauses job formula before now (Err stop) = IsUnbuilt formula stop × (now ≡ before)
 

@@ -59,7 +59,7 @@ fn write_clauses<S: Shelf>(
     };
     let Ok(()) = write_file(&CnfText, shelf, name.as_str(), &formula) else {
         return Err(Stop::Fault {
-            slot: FileSlot::Clauses,
+            slot: FileSlot::Clauses { width: job.width },
         });
     };
     Ok(())

@@ -7,6 +7,7 @@ ghost use Rattle.router_top.specs.Run.{WritesGenerated};
 
 use crate::file_name::file_name;
 use crate::outcome::Outcome;
+use crate::size_cause::SizeCause;
 use crate::slot::Slot;
 use desk_io::{BlockWriter, Failed, Prints, Shelf, write_file};
 use route_gen::{FourTexts, GenStop, generate};
@@ -24,7 +25,7 @@ pub fn make_texts(alloc: Global, recipe: Recipe) -> Result<FourTexts, Outcome>
         Ok(texts) => Ok(texts),
         Err(GenStop::Room) => Err(Outcome::Limit {
             file: None,
-            code: 903,
+            code: SizeCause::GeneratedNets.code(),
             count: u64::from(recipe.nets),
         }),
         Err(GenStop::Memory) => Err(Outcome::OutOfMemory),

@@ -17,6 +17,7 @@ mod outcome;
 mod problem_work;
 mod routing;
 mod running;
+mod size_cause;
 mod slot;
 mod stopping;
 mod suited;
@@ -28,5 +29,6 @@ mod verifying;
 
 pub use outcome::{Obstacle, Outcome, report, status};
 pub use running::run;
+pub use size_cause::SizeCause;
 pub use slot::Slot;
 pub use text_file::TextFile;

@@ -10,6 +10,7 @@ ghost use Rattle.router_top.specs.Work.{LeavesRoute};
 use crate::chosen::Chosen;
 use crate::outcome::Outcome;
 use crate::problem_work::{ProblemWork, was_given};
+use crate::size_cause::SizeCause;
 use crate::stopping::stopped;
 use crate::turning::{Turns, without_room};
 use desk_io::Shelf;
@@ -85,7 +86,7 @@ fn search_by_turns<S: Shelf>(
     match without_room(encoder, problem, search.width, members) {
         Some(count) => Outcome::Limit {
             file: None,
-            code: 904,
+            code: SizeCause::ClausesOfTurns.code(),
             count,
         },
         None => {

@@ -3,6 +3,7 @@ ghost use Rattle.std.specs.Prelude.{◌≡◌};
 ghost use Rattle.router_top.specs.Report.{stop_outcome, unread_outcome};
 
 use crate::outcome::Outcome;
+use crate::size_cause::SizeCause;
 use crate::slot::Slot;
 use crate::text_file::TextFile;
 use fpga_problem::FileFault;
@@ -19,7 +20,7 @@ pub fn stopped(stop: Stop) -> Outcome
         },
         Stop::TooManyClauses { count } => Outcome::Limit {
             file: None,
-            code: 901,
+            code: SizeCause::FormulaClauses.code(),
             count,
         },
         Stop::Memory => Outcome::OutOfMemory,
@@ -34,7 +35,7 @@ pub fn unread(file: TextFile, fault: FileFault) -> Outcome
         FileFault::Desk => Outcome::ReadFault { file },
         FileFault::TooLong => Outcome::Limit {
             file: Some(file),
-            code: 910 + file.number(),
+            code: SizeCause::FileBytes(file).code(),
             count: file.byte_limit() + 1,
         },
         FileFault::Text(TextFault::Bad { line, code }) => Outcome::InputFault { file, line, code },

@@ -1,6 +1,7 @@
 //! The files that commands read, by number and by word, and how long they may be.
 ghost use Rattle.std.specs.Prelude.{◌≡◌, ◌≤◌, length};
-ghost use Rattle.router_top.specs.Report.{byte_limit, file_number, file_word};
+ghost use Rattle.router_top.specs.Report.{byte_limit, file_word};
+ghost use Rattle.router_top.specs.SizeCauses.{file_number};
 
 use fpga_problem::{TEXT_BYTES, TextFile as ProblemFile};
 

@@ -1,10 +1,11 @@
-use Rattle.std.proofs.Common.{◌≡◌, ◌≤◌, ap, length, refl, subst}
+use Rattle.std.proofs.Common.{◌≡◌, ◌≤◌, None, ap, length, refl, subst, ℕ}
 use Rattle.std.specs.Prelude.{◌*◌, IsTrue, option_map}
 use Rattle.sat_clause.specs.declared.limits.TheConstants.{CLAUSE_LIMIT}
 use Rattle.route_count.specs.Crowded.{IsCrowded}
 use Rattle.route_sweep.specs.Asked.{asked}
 use Rattle.route_sweep.specs.Found.{FindsAt, HasFew}
 use Rattle.router_words.specs.Job.{members_said, route_said}
+use Rattle.router_top.specs.declared.outcome.Outcome.TheVariants.{Limit}
 use Rattle.router_top.proofs.PreparedLaws.{by-encoder, encoder-begins}
 use Rattle.router_top.proofs.TurnLaws.{by-turns, crowded}
 use Rattle.router_top.proofs.routing.search_by_turns.Goals as goal
@@ -20,7 +21,8 @@ returns-in-Some g c =
     (by (λ formula good. HasFew (formula width)) c.in-Some.ensures.crowded.0) c.in-Some.count
     c.in-Some.ensures.crowded.1
     (by (λ formula good. c.in-Some.count ≡ c.args.members.count * length (formula width).clauses)
-    c.in-Some.ensures.crowded.2) refl refl
+    c.in-Some.ensures.crowded.2) refl
+    (ap (λ (n : ℕ). Limit None n c.in-Some.count) c.code.ensures)
 
 pub one_width-came-requires-clause-begun : goal.one_width-came-requires-clause-begun
 one_width-came-requires-clause-begun g c = λ counts.
