@@ -2,8 +2,8 @@
 """Runs the built program on real files that fail, and prints a table of what came.
 
 Each row is a run in a folder of its own: its status, what it says, and what stands then. A row is
-wrong where one of these is otherwise than it must be, or where a file has changed that is not of
-the job. Then each call of the system that a command makes on files is refused alone, one number
+wrong where one of these is otherwise than it must be, or its words on standard error are, or where
+a file has changed that is not of the job. Then each call of the system that a command makes on files is refused alone, one number
 after the other, and all from a number on; and interrupted, after which the run must go on.
 
     bench/fail_files.py [--router PATH] [--rows WORD] [--plain]
@@ -32,7 +32,7 @@ class Row:
 
     def __init__(self, router, folder):
         self.router, self.folder = router, folder
-        self.before = {}
+        self.before, self.words = {}, b""
 
     def path(self, name):
         return os.path.join(self.folder, name)
@@ -57,17 +57,19 @@ class Row:
         return found
 
     def run(self, words, before=(), **how):
-        """The status and the bytes said, by the program on these words, behind these words."""
+        """The status and the bytes said, by the program on these words, behind these words. Its words on
+        standard error are kept."""
         self.before = self.held()
         how.setdefault("stdout", subprocess.PIPE)
         ran = subprocess.run(
             [*before, self.router, *words],
             cwd=self.folder,
             stdin=subprocess.DEVNULL,
-            stderr=subprocess.DEVNULL,
+            stderr=subprocess.PIPE,
             timeout=SECONDS,
             **how,
         )
+        self.words = ran.stderr
         return ran.returncode, ran.stdout or b""
 
     def changed(self):
@@ -139,7 +141,7 @@ class Table:
         self.left_out += 1
 
 
-def compare(row, status, said, wanted_status, wanted_said, wanted_changed):
+def compare(row, status, said, wanted_status, wanted_said, wanted_changed, wanted_words):
     faults = []
     if status != wanted_status:
         faults.append(f"status {status}, not {wanted_status}")
@@ -148,13 +150,25 @@ def compare(row, status, said, wanted_status, wanted_said, wanted_changed):
     changed = row.changed()
     if changed != sorted(wanted_changed):
         faults.append(f"changed {changed}, not {sorted(wanted_changed)}")
+    if row.words != wanted_words:
+        faults.append(f"words {row.words!r}, not {wanted_words!r}")
     return faults
+
+
+def unread(kind, name, why):
+    """The words on a file that can't be read."""
+    return f"{kind} file {name}: it can't be read: {why}\n".encode()
+
+
+def unwritten(name, why):
+    """The words on a file that can't be written."""
+    return f"{name}: it can't be written: {why}\n".encode()
 
 
 def simple_rows(table, router, fresh):
     """Names, folders and permissions: nothing changes but what is named."""
 
-    def one(name, words, status, said, changed=(), prepare=None, **how):
+    def one(name, words, status, said, told, changed=(), prepare=None, **how):
         if not table.takes(name):
             return
         row = Row(router, fresh())
@@ -164,7 +178,7 @@ def simple_rows(table, router, fresh):
         if prepare:
             prepare(row)
         came = row.run(words, **how)
-        faults = compare(row, *came, status, said, changed)
+        faults = compare(row, *came, status, said, changed, told)
         table.add(name, faults, *came, ", ".join(row.changed()) or "all as before")
 
     def mode(name, bits):
@@ -187,14 +201,42 @@ def simple_rows(table, router, fresh):
     def with_netlist(name):
         return ["route", "three.arch", name, *THREE[2:], "3", "out"]
 
-    one("an input that is not there", with_netlist("no.net"), 5, lacks)
-    one("a folder in place of an input", with_netlist("."), 5, lacks)
+    no_such, folder_there = "no such file or folder", "it is a folder"
+    one(
+        "an input that is not there",
+        with_netlist("no.net"),
+        5,
+        lacks,
+        unread("netlist", "no.net", no_such),
+    )
+    one(
+        "a folder in place of an input",
+        with_netlist("."),
+        5,
+        lacks,
+        unread("netlist", ".", folder_there),
+    )
+    one(
+        "a file in place of a folder",
+        with_netlist("three.net/x"),
+        5,
+        lacks,
+        unread("netlist", "three.net/x", "a part of its path is no folder"),
+    )
+    one(
+        "an input whose name is too long",
+        with_netlist("n" * 300),
+        5,
+        lacks,
+        unread("netlist", "n" * 300, "its name is too long"),
+    )
     nobody = {"preexec_fn": as_nobody} if is_superuser() else {}
     one(
         "an input without permission",
         route,
         5,
         lacks,
+        unread("netlist", "three.net", "no permission"),
         prepare=mode("three.net", 0o000),
         **nobody,
     )
@@ -203,6 +245,7 @@ def simple_rows(table, router, fresh):
         route,
         6,
         b"write fault: slot 1\n",
+        unwritten("out.route", "no permission"),
         prepare=mode(".", 0o555),
         **nobody,
     )
@@ -211,6 +254,7 @@ def simple_rows(table, router, fresh):
         route,
         6,
         b"write fault: slot 1\n",
+        unwritten("out.route", "no permission"),
         prepare=read_only("out.route"),
         **nobody,
     )
@@ -219,6 +263,7 @@ def simple_rows(table, router, fresh):
         route,
         6,
         b"write fault: slot 1\n",
+        unwritten("out.route", folder_there),
         prepare=folder("out.route"),
     )
     one(
@@ -226,6 +271,7 @@ def simple_rows(table, router, fresh):
         ["route", *THREE, "2", "out"],
         6,
         b"write fault: slot 3\n",
+        unwritten("out.lrat", folder_there),
         ["out.cnf"],
         prepare=folder("out.lrat"),
     )
@@ -234,6 +280,7 @@ def simple_rows(table, router, fresh):
         ["sweep", *THREE, "8", "out"],
         6,
         b"write fault: slot 2\n",
+        unwritten("out.w2.cnf", folder_there),
         ["out.w1.cnf", "out.w1.lrat"],
         prepare=folder("out.w2.cnf"),
     )
@@ -242,32 +289,48 @@ def simple_rows(table, router, fresh):
         ["route", *THREE, "3", "no/out"],
         6,
         b"write fault: slot 1\n",
+        unwritten("no/out.route", no_such),
+    )
+    one(
+        "a prefix that is too long",
+        ["gen", "1", "3", "2", "p" * 300],
+        6,
+        b"write fault: slot 4\n",
+        unwritten("p" * 300 + ".arch", "its name is too long"),
     )
     no_text = ["route", b"thr\xff.arch", *THREE[1:], "3", "out"]
-    one("an input whose name is no text", no_text, 8, b"")
-    one("a prefix that is no text", ["route", *THREE, "3", b"o\xff"], 8, b"")
-    one("an empty name", ["route", "", *THREE[1:], "3", "out"], 5, b"read fault: architecture\n")
+    one("an input whose name is no text", no_text, 8, b"", b"")
+    one("a prefix that is no text", ["route", *THREE, "3", b"o\xff"], 8, b"", b"")
+    one(
+        "an empty name",
+        ["route", "", *THREE[1:], "3", "out"],
+        5,
+        b"read fault: architecture\n",
+        unread("architecture", "", no_such),
+    )
 
 
 def output_rows(table, router, fresh):
     """Standard output that takes nothing: the files are whole, and the status says so."""
 
-    def one(name, **how):
+    def one(name, why, **how):
         if not table.takes(name):
             return
         row = Row(router, fresh())
         came = row.run(["route", *THREE, "2", "out"], **how)
-        faults = compare(row, *came, 6, b"", ["out.cnf", "out.lrat"])
+        told = unwritten("standard output", why)
+        faults = compare(row, *came, 6, b"", ["out.cnf", "out.lrat"], told)
         table.add(name, faults, *came, ", ".join(row.changed()))
 
-    one("standard output closed", stdout=None, preexec_fn=lambda: os.close(1))
+    other = "the system gave another error"
+    one("standard output closed", other, stdout=None, preexec_fn=lambda: os.close(1))
     read_end, write_end = os.pipe()
     os.close(read_end)
-    one("a broken pipe", stdout=write_end)
+    one("a broken pipe", "nobody reads it any more", stdout=write_end)
     os.close(write_end)
     if os.path.exists("/dev/full"):
         with open("/dev/full", "wb") as it:
-            one("a full device as standard output", stdout=it)
+            one("a full device as standard output", "no space is left", stdout=it)
 
 
 def is_front(part, whole):

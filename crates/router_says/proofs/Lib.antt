@@ -2,6 +2,7 @@ mod ArchitectureCodes
 mod NetlistCodes
 mod PlacementCodes
 mod RouteCodes
+mod SizeCodes
 mod FitCodes
 mod ClauseCodes
 mod NameLemmas

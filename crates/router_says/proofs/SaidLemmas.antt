@@ -1,35 +1,31 @@
 -- What was appended of an outcome is what is to be said of it.
-use Rattle.std.proofs.Common.{◌≡◌, ℕ, List, ◌++◌, Option, ap, ap₂, subst, ◌∙◌}
+use Rattle.std.proofs.Common.{◌≡◌, ℕ, List, ◌++◌, Option, refl, ap, subst, ◌∙◌, append_assoc}
 use Rattle.std.specs.Prelude.{codes}
 use Rattle.desk_io.specs.DeskState.{DeskState}
 use Rattle.router_says.specs.AtFault.{Appends}
-use Rattle.router_says.specs.Said.{IsSaidFor, Means, Names, about_said, file_about}
+use Rattle.router_says.specs.Names.{asked_in}
+use Rattle.router_says.specs.Said.{IsSaid, Says, SaysAnd}
+use Rattle.router_says.specs.declared.faults.SystemErrors.{SystemErrors}
 use Rattle.router_top.specs.declared.outcome.Outcome.{Outcome}
-use Rattle.router_top.specs.declared.text_file.TextFile.{TextFile}
 use Rattle.router_words.specs.Job.{JobAsked}
 use Rattle.router_words.specs.Word.{Word}
 
-pub said-whole : (before now : DeskState) (words : List Word) (asked : Option JobAsked)
-    (outcome : Outcome) (about : Option TextFile) (meaning text old a b c new : List ℕ) →
-    about ≡ file_about outcome → text ≡ meaning → Means words asked outcome meaning →
-    a ≡ old ++ about_said asked about → b ≡ a ++ text →
-    Appends (Names before now asked outcome) b c → new ≡ c ++ codes "\n" →
-    IsSaidFor before now words asked outcome old new
-said-whole before now words asked outcome about meaning text old a b c new is_about is_text means
-    e1 e2 named e3 = record {
-      meaning = meaning;
-      named = named.0;
-      means = means;
-      names = named.1;
-      text = e3 ∙ ap (λ (t : List ℕ). t ++ codes "\n")
-          (named.2 ∙ ap (λ (t : List ℕ). t ++ named.0)
-          (e2 ∙ ap₂ (λ (s t : List ℕ). s ++ t)
-          (e1 ∙ ap (λ (file : Option TextFile). old ++ about_said asked file) is_about) is_text));
-    }
+-- a text, and something behind it
+pub appends-behind : (IsMore : List ℕ → Type 0) (text old between new : List ℕ)
+    → between ≡ old ++ text → Appends IsMore between new → Appends (SaysAnd IsMore text) old new
+appends-behind IsMore text old between new is more = (
+  text ++ more.0,
+  (more.0, more.1, refl),
+  more.2 ∙ ap (λ (t : List ℕ). t ++ more.0) is ∙ append_assoc old text more.0,
+)
 
--- the job that was read is what the words ask for
-pub said-asked : (before now : DeskState) (words : List Word) (a b : Option JobAsked)
-    (outcome : Outcome) (old new : List ℕ) → a ≡ b →
-    IsSaidFor before now words a outcome old new → IsSaidFor before now words b outcome old new
-said-asked before now words a b outcome old new same said =
-    subst (λ (x : Option JobAsked). IsSaidFor before now words x outcome old new) same said
+-- a newline behind what is said; the job that was read is what the words ask for
+pub said-whole : (before now : DeskState) (words : List Word) (errors : SystemErrors)
+    (outcome : Outcome) (asked : Option JobAsked) (old between new : List ℕ)
+    → asked ≡ asked_in words → Appends (Says before now words asked errors outcome) old between
+    → new ≡ between ++ codes "\n" → IsSaid before now words errors outcome old new
+said-whole before now words errors outcome asked old between new is says end = (
+  says.0,
+  subst (λ (job : Option JobAsked). Says before now words job errors outcome says.0) is says.1,
+  end ∙ ap (λ (t : List ℕ). t ++ codes "\n") says.2,
+)

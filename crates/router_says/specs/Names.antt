@@ -3,6 +3,9 @@ use Rattle.std.specs.Prelude.{ℕ, ◌++◌, List, codes, Option, Some, None, Re
 use Rattle.fpga_problem.specs.Files.{FileNames}
 use Rattle.fpga_problem.specs.declared.text_file.TextFile.TheVariants.{Architecture, Netlist, Placement, Route}
 use Rattle.router_top.specs.Report.{file_word}
+use Rattle.router_says.specs.declared.names.Written.{Written}
+use Rattle.router_says.specs.declared.names.Written.TheVariants.{Each, One}
+use Rattle.router_top.specs.SlotNames.{OfEach, OfOne, Prefix, prefix_given}
 use Rattle.router_top.specs.declared.text_file.TextFile.{TextFile}
 use Rattle.router_top.specs.declared.text_file.TextFile.TheVariants.{Cnf, Lrat, Problem, Routed}
 use Rattle.router_words.specs.Command.{job_of}
@@ -78,19 +81,7 @@ reach_given _ = None
 abbrev pub reach_of : Option JobAsked → Option ℕ
 reach_of asked = option_and_then reach_given asked
 
--- what a search begins the names of its files with: one at one width, or a climb, which has files
--- for each width
-pub data Prefix : Type 0 where
-  OfOne : Word → Prefix
-  OfEach : Word → Prefix
-
-abbrev pub prefix_given : JobAsked → Option Prefix
-prefix_given (Routes ask) = Some (OfOne ask.search.prefix)
-prefix_given (Blames ask) = Some (OfOne ask.prefix)
-prefix_given (Sweeps ask) = Some (OfEach ask.search.prefix)
-prefix_given (Tries ask) = Some (OfEach ask.search.prefix)
-prefix_given _ = None
-
+-- what the job begins the names of the files with that it writes, if it writes some
 abbrev pub prefix_of : Option JobAsked → Option Prefix
 prefix_of asked = option_and_then prefix_given asked
 

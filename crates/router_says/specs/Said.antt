@@ -1,14 +1,19 @@
 -- What is said of an outcome that was not asked for.
-use Rattle.std.specs.Prelude.{◌≡◌, ℕ, ◌++◌, ◌*◌, ⊤, List, [], codes, decimal, false, is_some, min, nat_le, nat_lt, Option, Some, None, true, unwrap_or, if◌then◌else◌}
+use Rattle.std.specs.Prelude.{◌≡◌, ℕ, ◌++◌, ◌*◌, List, [], codes, decimal, false, is_some, min, nat_le, nat_lt, Option, Some, None, true, unwrap_or, if◌then◌else◌}
+use Rattle.std.specs.declared.io.ErrorKind.{ErrorKind}
 use Rattle.code_words.specs.Causes.{cause_phrase, refusal_phrase, within_reach_phrase}
+use Rattle.code_words.specs.Errors.{error_phrase}
 use Rattle.desk_io.specs.DeskState.{DeskState}
 use Rattle.fpga_types.specs.declared.limits.TheConstants.{WIDTH_LIMIT}
+use Rattle.route_sweep.specs.Names.{numbered_prefix}
 use Rattle.route_symmetry.specs.declared.full.Asymmetry.{Asymmetry}
 use Rattle.route_symmetry.specs.declared.full.Asymmetry.TheVariants.{Inputs, Outputs, Pads, Pattern}
 use Rattle.router_says.specs.AtFault.{NamesSought, sought_of}
-use Rattle.router_says.specs.Names.{OfEach, OfOne, Prefix, asked_in, file_said, name_of, prefix_of, reach_of}
+use Rattle.router_says.specs.Names.{asked_in, file_said, name_of, prefix_of, reach_of}
 use Rattle.router_says.specs.Seen.{Sees}
 use Rattle.router_says.specs.Usage.{usage_said}
+use Rattle.router_says.specs.declared.faults.SystemErrors.{SystemErrors}
+use Rattle.router_top.specs.SlotNames.{OfEach, OfOne, Prefix, slot_name}
 use Rattle.router_top.specs.declared.outcome.Obstacle.{Obstacle}
 use Rattle.router_top.specs.declared.outcome.Obstacle.TheVariants.{Order, Pins}
 use Rattle.router_top.specs.declared.outcome.Outcome.{Outcome}
@@ -21,19 +26,9 @@ use Rattle.router_words.specs.Job.{JobAsked}
 use Rattle.router_words.specs.Word.{Word}
 use Rattle.router_words.specs.declared.limits.TheConstants.{BUDGET_LIMIT}
 
--- the file that an outcome is about, if it is about one
-abbrev pub file_about : Outcome → Option TextFile
-file_about (NotAccepted step cause) = Some Lrat
-file_about (NotLegal line cause) = Some Routed
-file_about (InputFault file line code) = Some file
-file_about (Limit file code count) = file
-file_about (ReadFault file) = Some file
-file_about _ = None
-
 -- what is said first: the file that is meant, by the name that the words give
-abbrev pub about_said : Option JobAsked → Option TextFile → List ℕ
-about_said asked (Some file) = file_said file (name_of asked file)
-about_said asked None = []
+abbrev pub about_said : Option JobAsked → TextFile → List ℕ
+about_said asked file = file_said file (name_of asked file)
 
 -- a line of a file, what is wrong with it, and the code
 abbrev pub line_said : (line code : ℕ) → (why : List ℕ) → List ℕ
@@ -58,10 +53,10 @@ abbrev pub limit_said : (code count : ℕ) → (why : List ℕ) → List ℕ
 limit_said code count why =
     why ++ codes ": " ++ decimal count ++ codes " (code " ++ decimal code ++ codes ")"
 
--- what stands between a file and what passes its limit there
-abbrev pub limit_gap : Option TextFile → List ℕ
-limit_gap (Some file) = codes ": "
-limit_gap None = []
+-- the file that holds what passes its limit, if one does
+abbrev pub limit_place : Option JobAsked → Option TextFile → List ℕ
+limit_place asked (Some file) = about_said asked file ++ codes ": "
+limit_place asked None = []
 
 -- what keeps tracks from being alike enough: the switch blocks, of which this is said, or the boxes
 abbrev pub lack_said : (blocks : List ℕ) → Asymmetry → List ℕ
@@ -116,21 +111,13 @@ reach_said None = []
 abbrev pub refuted_one_said : (prefix : List ℕ) → List ℕ
 refuted_one_said prefix =
     codes ": " ++ (prefix ++ (codes ".lrat refutes the clauses of one, " ++ (prefix
-    ++ codes ".cnf.\n")))
-
-abbrev pub check_one_said : (prefix : List ℕ) → List ℕ
-check_one_said prefix =
-    codes "To check that: gafkelam check " ++ (prefix ++ (codes ".cnf " ++ (prefix
-    ++ codes ".lrat")))
+    ++ (codes ".cnf.\nTo check that: gafkelam check " ++ (prefix ++ (codes ".cnf " ++ (prefix
+    ++ codes ".lrat")))))))
 
 abbrev pub refuted_each_said : (prefix : List ℕ) → List ℕ
 refuted_each_said prefix =
     codes ": " ++ (prefix ++ (codes ".wK.lrat refutes " ++ (prefix
     ++ codes ".wK.cnf for each width K.\n")))
-
--- what the names of the files of a width begin with
-abbrev pub width_name : (prefix : List ℕ) → (width : ℕ) → List ℕ
-width_name prefix width = prefix ++ codes ".w" ++ decimal width
 
 abbrev pub check_each_said : (name : List ℕ) → List ℕ
 check_each_said name =
@@ -138,9 +125,9 @@ check_each_said name =
     ++ codes ".lrat")))
 
 abbrev pub refuted_said : Option Prefix → (width : ℕ) → List ℕ
-refuted_said (Some (OfOne prefix)) width = refuted_one_said prefix ++ check_one_said prefix
+refuted_said (Some (OfOne prefix)) width = refuted_one_said prefix
 refuted_said (Some (OfEach prefix)) width =
-    refuted_each_said prefix ++ check_each_said (width_name prefix width)
+    refuted_each_said prefix ++ check_each_said (numbered_prefix prefix width)
 refuted_said None width = codes "."
 
 -- a climb has refuted the lower widths too
@@ -186,7 +173,7 @@ hand_each_said name width =
 abbrev pub next_said : Option Prefix → (width learned : ℕ) → List ℕ
 next_said (Some (OfOne prefix)) width learned = budget_said learned ++ hand_one_said prefix
 next_said (Some (OfEach prefix)) width learned =
-    budget_said learned ++ hand_each_said (width_name prefix width) width
+    budget_said learned ++ hand_each_said (numbered_prefix prefix width) width
 next_said None width learned = []
 
 abbrev pub open_said : (learned : ℕ) → List ℕ
@@ -210,51 +197,76 @@ memory_said (Some (OfEach prefix)) =
     ++ codes ".wK.lrat are refuted, and nothing else was found."
 memory_said _ = codes "Memory ran out, so that nothing was found."
 
--- standard output, or a file
-abbrev pub unwritten_said : SlotOf → List ℕ
-unwritten_said SaidSlot = codes "Standard output takes no more of what this run says."
-unwritten_said slot =
-    codes "The system refused to write what this run leaves: is there a folder of this name, "
-    ++ codes "with room and the right to write?"
+-- why the system refused it, where it told
+abbrev pub error_said : Option ErrorKind → List ℕ
+error_said (Some kind) = codes ": " ++ error_phrase kind
+error_said None = []
+
+-- a file can't be read
+abbrev pub unread_said : Option ErrorKind → List ℕ
+unread_said error = codes ": it can't be read" ++ error_said error
+
+-- what is written, by its name; a job that writes no files says its lines alone
+abbrev pub slot_said : Option Prefix → SlotOf → List ℕ
+slot_said (Some prefix) slot = slot_name prefix slot
+slot_said None slot = codes "standard output"
+
+-- the last error of the system on what is written
+abbrev pub error_on : SlotOf → SystemErrors → Option ErrorKind
+error_on SaidSlot errors = errors.saying
+error_on slot errors = errors.writing
+
+-- what is written can't be
+abbrev pub refused_said : Option Prefix → SlotOf → Option ErrorKind → List ℕ
+refused_said prefix slot error =
+    slot_said prefix slot ++ (codes ": it can't be written" ++ error_said error)
+
+abbrev pub unwritten_said : Option Prefix → SlotOf → SystemErrors → List ℕ
+unwritten_said prefix slot errors = refused_said prefix slot (error_on slot errors)
 
 -- ---- the whole
 
--- a text says what is wrong, and why
-abbrev pub Means : List Word → Option JobAsked → Outcome → List ℕ → Type 0
-Means words asked (NotAccepted step cause) text = text ≡ step_said step cause (step_why cause)
-Means words asked (NotLegal line cause) text =
-    text ≡ judged_said line cause (judged_why (reach_of asked) cause)
-Means words asked (InputFault file line code) text = text ≡ line_said line code (line_why code)
-Means words asked (Limit file code count) text =
-    text ≡ limit_gap file ++ limit_said code count (limit_why code)
-Means words asked (NotSymmetric width why) text = text ≡ obstacle_said width why
-Means words asked (Unroutable width) text = text ≡ unroutable_said asked width
-Means words asked (Undecided width learned) text = text ≡ undecided_said asked width learned
-Means words asked (WriteFault slot) text = text ≡ unwritten_said slot
-Means words asked (Usage code) text = text ≡ usage_said words code
-Means words asked OutOfMemory text = text ≡ memory_said (prefix_of asked)
-Means words asked _ text = ⊤
+-- this is said, and the desk is as before
+abbrev pub JustSays : (before now : DeskState) → (text said : List ℕ) → Type 0
+JustSays before now text said = (said ≡ text) × (now ≡ before)
 
--- what is at fault in a file is named, where its code alone does not tell, and of a width what is
--- seen without a search; the files are read once more for it
-abbrev pub Names : (before now : DeskState) → Option JobAsked → Outcome → List ℕ → Type 0
-Names before now asked (InputFault file line code) named =
-    NamesSought before now (name_of asked) line (sought_of file code) named
-Names before now asked (Unroutable width) named = Sees before now asked width false named
-Names before now asked (Undecided width learned) named = Sees before now asked width true named
-Names before now asked _ named = named ≡ []
+-- this is said, and something behind it
+abbrev pub SaysAnd : (IsMore : List ℕ → Type 0) → (text said : List ℕ) → Type 0
+SaysAnd IsMore text said = (more : List ℕ) × IsMore more × (said ≡ text ++ more)
 
--- after what stood in a text comes the file that is meant, then what is wrong, what is at fault or
--- is seen, and a newline
-pub record IsSaidFor (before now : DeskState) (words : List Word) (asked : Option JobAsked)
-    (outcome : Outcome) (old new : List ℕ) : Type 0 where
-  pub meaning : List ℕ
-  pub named : List ℕ
-  pub means : Means words asked outcome meaning
-  pub names : Names before now asked outcome named
-  pub text : new ≡ old ++ about_said asked (file_about outcome) ++ meaning ++ named ++ codes "\n"
+-- what is said of each outcome, up to the newline at its end: which file is meant, what is wrong
+-- there and why, and what can be tried. What is at fault in a file is named, where its code alone
+-- does not tell, and of a width what is seen without a search; the files are read once more for it
+abbrev pub Says : (before now : DeskState) → List Word → Option JobAsked → SystemErrors → Outcome
+    → List ℕ → Type 0
+Says before now words asked errors (NotAccepted step cause) said =
+    JustSays before now (about_said asked Lrat ++ step_said step cause (step_why cause)) said
+Says before now words asked errors (NotLegal line cause) said =
+    JustSays before now
+    (about_said asked Routed ++ judged_said line cause (judged_why (reach_of asked) cause)) said
+Says before now words asked errors (InputFault file line code) said =
+    SaysAnd (NamesSought before now (name_of asked) line (sought_of file code))
+    (about_said asked file ++ line_said line code (line_why code)) said
+Says before now words asked errors (Limit file code count) said =
+    JustSays before now (limit_place asked file ++ limit_said code count (limit_why code)) said
+Says before now words asked errors (NotSymmetric width why) said =
+    JustSays before now (obstacle_said width why) said
+Says before now words asked errors (Unroutable width) said =
+    SaysAnd (Sees before now asked width false) (unroutable_said asked width) said
+Says before now words asked errors (Undecided width learned) said =
+    SaysAnd (Sees before now asked width true) (undecided_said asked width learned) said
+Says before now words asked errors (Usage code) said =
+    JustSays before now (usage_said words code) said
+Says before now words asked errors (ReadFault file) said =
+    JustSays before now (about_said asked file ++ unread_said errors.reading) said
+Says before now words asked errors (WriteFault slot) said =
+    JustSays before now (unwritten_said (prefix_of asked) slot errors) said
+Says before now words asked errors OutOfMemory said =
+    JustSays before now (memory_said (prefix_of asked)) said
+Says before now words asked errors _ said = JustSays before now [] said
 
--- it is what is to be said of a run with these words
-abbrev pub IsSaid : (before now : DeskState) → List Word → Outcome → (old new : List ℕ) → Type 0
-IsSaid before now words outcome old new =
-    IsSaidFor before now words (asked_in words) outcome old new
+-- after what stood in a text comes what is to be said of a run with these words, and a newline
+abbrev pub IsSaid : (before now : DeskState) → List Word → SystemErrors → Outcome
+    → (old new : List ℕ) → Type 0
+IsSaid before now words errors outcome old new = (said : List ℕ)
+    × Says before now words (asked_in words) errors outcome said × (new ≡ old ++ said ++ codes "\n")

@@ -2,6 +2,7 @@
 #![tactic(auto)]
 
 mod at_fault;
+mod faults;
 mod line_of;
 mod missing;
 mod name_bytes;
@@ -10,9 +11,9 @@ mod pin_use;
 mod refused;
 mod seen;
 mod symmetry;
-mod unread;
 mod unsettled;
 mod usage;
 mod words;
 
+pub use faults::SystemErrors;
 pub use words::append_words;

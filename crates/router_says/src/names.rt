@@ -90,16 +90,16 @@ fn name_of_five<'a>(job: VerifyJob<'a>, file: TextFile) -> Option<&'a str>
     }
 }
 
-/// What a search begins the names of its files with.
+/// What a job begins the names of the files with that it writes.
 #[derive(Clone, Copy, Debug)]
 pub(crate) enum Written<'a> {
-    /// A search at one width.
+    /// One set of files.
     One(&'a str),
     /// A climb, with files for each width.
     Each(&'a str),
 }
 
-/// The files of a job that searches.
+/// The files of a job that writes some.
 pub(crate) fn files_written(job: Option<Job<'_>>) -> Option<Written<'_>>
     ensures { option_map prefix_said result ≡ prefix_of (asked job.entry) }
 {
@@ -109,9 +109,11 @@ pub(crate) fn files_written(job: Option<Job<'_>>) -> Option<Written<'_>>
     match job {
         Job::Route(job) => Some(Written::One(job.search.prefix)),
         Job::Core(job) => Some(Written::One(job.prefix)),
+        Job::Encode(job) => Some(Written::One(job.prefix)),
+        Job::Gen(job) => Some(Written::One(job.prefix)),
         Job::Sweep(job) => Some(Written::Each(job.search.prefix)),
         Job::Trial(job) => Some(Written::Each(job.search.prefix)),
-        Job::Encode(_) | Job::Check(_) | Job::Verify(_) | Job::Gen(_) => None,
+        Job::Check(_) | Job::Verify(_) => None,
     }
 }
 

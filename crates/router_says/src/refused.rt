@@ -3,7 +3,7 @@ ghost use Rattle.std.specs.Prelude.{◌≡◌, ◌++◌, OnOk, string_bytes};
 ghost use Rattle.router_says.specs.Names.{asked, file_said, name_of};
 ghost use Rattle.router_says.specs.Said.{
   judged_said,
-  limit_gap,
+  limit_place,
   limit_said,
   line_said,
   step_said,
@@ -43,26 +43,30 @@ pub(crate) fn append_judged(
 /// Appends which number passes its limit.
 pub(crate) fn append_limit(
     out: &mut String,
-    file: Option<TextFile>,
     code: u32,
     count: u64,
     why: &str,
 ) -> Result<(), AllocError>
-    ensures { OnOk result (string_bytes out.new ≡ string_bytes out.old
-        ++ (limit_gap file ++ limit_said code count why.now)) }
+    ensures { OnOk result
+        (string_bytes out.new ≡ string_bytes out.old ++ limit_said code count why.now) }
 {
-    out.push_str(limit_gap(file))?;
     write!(out, "{why}: {count} (code {code})")
 }
 
-// What stands between a file and what passes its limit there.
-fn limit_gap(file: Option<TextFile>) -> &'static str
-    ensures { result.now ≡ limit_gap file }
+/// Appends the file that holds what passes its limit, if one does.
+pub(crate) fn append_limit_place(
+    out: &mut String,
+    job: Option<Job<'_>>,
+    file: Option<TextFile>,
+) -> Result<(), AllocError>
+    ensures { OnOk result
+        (string_bytes out.new ≡ string_bytes out.old ++ limit_place (asked job.entry) file) }
 {
-    match file {
-        Some(_) => ": ",
-        None => "",
-    }
+    let Some(file) = file else {
+        return Ok(());
+    };
+    append_file(out, job, file)?;
+    out.push_str(": ")
 }
 
 /// Appends which step of a log is refused, and why.

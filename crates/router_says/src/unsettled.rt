@@ -12,29 +12,26 @@ ghost use Rattle.std.specs.Prelude.{
   option_map,
   string_bytes,
 };
+ghost use Rattle.route_sweep.specs.Names.{numbered_prefix};
 ghost use Rattle.router_says.specs.Names.{asked, prefix_of, prefix_said};
 ghost use Rattle.router_says.specs.Said.{
   budget_said,
   check_each_said,
-  check_one_said,
   claim_said,
   greater_said,
   hand_each_said,
-  hand_one_said,
   memory_said,
   more_said,
   next_said,
   open_said,
   reach_said,
   refuted_each_said,
-  refuted_one_said,
   refuted_said,
   undecided_by,
   undecided_said,
   unroutable_by,
   unroutable_said,
   up_to_said,
-  width_name,
 };
 ghost use Rattle.router_words.specs.declared.limits.TheConstants.{BUDGET_LIMIT};
 
@@ -108,44 +105,19 @@ fn append_refuted(
         ≡ string_bytes out.old ++ refuted_said (option_map prefix_said written.entry) width) }
 {
     match written {
-        Some(Written::One(prefix)) => append_one(out, prefix),
+        Some(Written::One(prefix)) => write!(
+            out,
+            ": {prefix}.lrat refutes the clauses of one, {prefix}.cnf.\n\
+             To check that: gafkelam check {prefix}.cnf {prefix}.lrat"
+        ),
         Some(Written::Each(prefix)) => append_each(out, prefix, width),
         None => out.push_str("."),
     }
 }
 
-fn append_one(out: &mut String, prefix: &str) -> Result<(), AllocError>
-    ensures { OnOk result (string_bytes out.new ≡ string_bytes out.old
-        ++ (refuted_one_said prefix.now ++ check_one_said prefix.now)) }
-{
-    append_refuted_one(out, prefix)?;
-    append_check_one(out, prefix)?;
-    Ok(())
-}
-
-fn append_refuted_one(out: &mut String, prefix: &str) -> Result<(), AllocError>
-    ensures { OnOk result
-        (string_bytes out.new ≡ string_bytes out.old ++ refuted_one_said prefix.now) }
-{
-    write!(
-        out,
-        ": {prefix}.lrat refutes the clauses of one, {prefix}.cnf.\n"
-    )
-}
-
-fn append_check_one(out: &mut String, prefix: &str) -> Result<(), AllocError>
-    ensures { OnOk result
-        (string_bytes out.new ≡ string_bytes out.old ++ check_one_said prefix.now) }
-{
-    write!(
-        out,
-        "To check that: gafkelam check {prefix}.cnf {prefix}.lrat"
-    )
-}
-
 fn append_each(out: &mut String, prefix: &str, width: u32) -> Result<(), AllocError>
     ensures { OnOk result (string_bytes out.new ≡ string_bytes out.old
-        ++ (refuted_each_said prefix.now ++ check_each_said (width_name prefix.now width))) }
+        ++ (refuted_each_said prefix.now ++ check_each_said (numbered_prefix prefix.now width))) }
 {
     append_refuted_each(out, prefix)?;
     append_check_each(out, prefix, width)?;
@@ -164,7 +136,7 @@ fn append_refuted_each(out: &mut String, prefix: &str) -> Result<(), AllocError>
 
 fn append_check_each(out: &mut String, prefix: &str, width: u32) -> Result<(), AllocError>
     ensures { OnOk result (string_bytes out.new ≡ string_bytes out.old
-        ++ check_each_said (width_name prefix.now width)) }
+        ++ check_each_said (numbered_prefix prefix.now width)) }
 {
     out.push_str("To check the last: gafkelam check ")?;
     append_width_name(out, prefix, width)?;
@@ -174,10 +146,10 @@ fn append_check_each(out: &mut String, prefix: &str, width: u32) -> Result<(), A
     Ok(())
 }
 
-// What the names of the files of a width begin with.
+// Appends what the names of the files of a width begin with.
 fn append_width_name(out: &mut String, prefix: &str, width: u32) -> Result<(), AllocError>
     ensures { OnOk result
-        (string_bytes out.new ≡ string_bytes out.old ++ width_name prefix.now width) }
+        (string_bytes out.new ≡ string_bytes out.old ++ numbered_prefix prefix.now width) }
 {
     write!(out, "{prefix}.w{width}")
 }
@@ -232,29 +204,16 @@ fn append_next(
         ++ next_said (option_map prefix_said written.entry) width learned) }
 {
     match written {
-        Some(Written::One(prefix)) => append_next_of_one(out, prefix, learned),
+        Some(Written::One(prefix)) => {
+            append_budget(out, learned)?;
+            write!(
+                out,
+                "hand {prefix}.cnf to another solver, or try another width."
+            )
+        }
         Some(Written::Each(prefix)) => append_next_of_each(out, prefix, width, learned),
         None => Ok(()),
     }
-}
-
-fn append_next_of_one(out: &mut String, prefix: &str, learned: u64) -> Result<(), AllocError>
-    ensures { OnOk result (string_bytes out.new ≡ string_bytes out.old
-        ++ (budget_said learned ++ hand_one_said prefix.now)) }
-{
-    append_budget(out, learned)?;
-    append_hand_one(out, prefix)?;
-    Ok(())
-}
-
-fn append_hand_one(out: &mut String, prefix: &str) -> Result<(), AllocError>
-    ensures { OnOk result
-        (string_bytes out.new ≡ string_bytes out.old ++ hand_one_said prefix.now) }
-{
-    write!(
-        out,
-        "hand {prefix}.cnf to another solver, or try another width."
-    )
 }
 
 fn append_next_of_each(
@@ -264,7 +223,7 @@ fn append_next_of_each(
     learned: u64,
 ) -> Result<(), AllocError>
     ensures { OnOk result (string_bytes out.new ≡ string_bytes out.old
-        ++ (budget_said learned ++ hand_each_said (width_name prefix.now width) width)) }
+        ++ (budget_said learned ++ hand_each_said (numbered_prefix prefix.now width) width)) }
 {
     append_budget(out, learned)?;
     append_hand_each(out, prefix, width)?;
@@ -273,7 +232,7 @@ fn append_next_of_each(
 
 fn append_hand_each(out: &mut String, prefix: &str, width: u32) -> Result<(), AllocError>
     ensures { OnOk result (string_bytes out.new ≡ string_bytes out.old
-        ++ hand_each_said (width_name prefix.now width) width) }
+        ++ hand_each_said (numbered_prefix prefix.now width) width) }
 {
     out.push_str("hand ")?;
     append_width_name(out, prefix, width)?;

@@ -1,86 +1,75 @@
 //! The words for each outcome.
-ghost use Rattle.std.specs.Prelude.{
-  ◌≡◌,
-  ◌++◌,
-  IfOk,
-  IsOk,
-  IsTrue,
-  OnOk,
-  false,
-  string_bytes,
-  unwrap_or,
-};
+ghost use Rattle.std.specs.Prelude.{◌≡◌, ◌++◌, IsOk, IsTrue, OnOk, false, string_bytes, true, unwrap_or};
 ghost use Rattle.std.specs.Option.{option_copied};
-ghost use Rattle.router_says.specs.AtFault.{Appends};
-ghost use Rattle.router_says.specs.Names.{asked, prefix_of};
+ghost use Rattle.router_says.specs.AtFault.{Appends, NamesSought, sought_of};
+ghost use Rattle.router_says.specs.Names.{asked, name_of, reach_of};
 ghost use Rattle.router_says.specs.Quiet.{is_quiet};
 ghost use Rattle.router_says.specs.Said.{
   IsSaid,
-  Means,
-  Names,
+  Says,
+  SaysAnd,
   about_said,
-  file_about,
   judged_said,
   judged_why,
-  limit_gap,
+  limit_place,
   limit_said,
   limit_why,
   line_said,
   line_why,
-  memory_said,
-  obstacle_said,
   step_said,
   step_why,
   undecided_said,
   unroutable_said,
-  unwritten_said,
 };
-ghost use Rattle.router_says.specs.Usage.{usage_said};
+ghost use Rattle.router_says.specs.Seen.{Sees};
+ghost use Rattle.router_top.specs.declared.text_file.TextFile.TheVariants.{Lrat, Routed};
 ghost use Rattle.router_words.specs.Word.{words_of};
 
 use crate::at_fault::append_at_fault;
-use crate::names::{given_name, job_in, reach_asked};
-use crate::refused::{append_file, append_judged, append_limit, append_line, append_step};
+use crate::faults::{SystemErrors, append_unread, append_unwritten};
+use crate::names::{job_in, reach_asked};
+use crate::refused::{
+    append_file, append_judged, append_limit, append_limit_place, append_line, append_step,
+};
 use crate::seen::append_seen;
 use crate::symmetry::append_obstacle;
-use crate::unread::append_unread;
 use crate::unsettled::{append_no_memory, append_undecided, append_unroutable};
 use crate::usage::append_usage;
 use code_words::{cause, cause_within_reach, refusal};
 use desk_io::Desk;
-use router_top::{Obstacle, Outcome, Slot, TextFile};
+use router_top::{Outcome, TextFile, status};
 use router_words::Job;
 use std::alloc::{AllocError, Global};
-use std::rt::Files;
 
 /// Appends what an outcome of a run with these words means, in lines that end with a newline:
-/// which file is meant, by the name that was given; what its line has, and the name of what is at
-/// fault there; what can be tried next. It appends nothing where the run came to what was asked
-/// for, and in each other case something.
+/// which file is meant, by the name that was given or made; what its line has, and the name of what
+/// is at fault there; of a fault the reason that the system gave last; what can be tried next. It
+/// appends nothing where the run came to what was asked for, and in each other case something.
 ///
-/// After a read fault it asks the system for the file once more, to tell why it is not read; and
-/// where a code leaves one searching, or a width has no routing or is open, the desk for the files.
-pub fn append_words<R: Files + AllocGlobal, D: Desk>(
-    rt: &R,
+/// Where a code leaves one searching, or a width has no routing or is open, it reads the files of
+/// the desk once more; else none.
+///
+/// # Errors
+/// Memory ran out; then a front part may have been appended.
+pub fn append_words<D: Desk>(
+    alloc: Global,
     desk: &mut D,
     out: &mut String,
     words: &[String],
     outcome: &Outcome,
+    errors: SystemErrors,
 ) -> Result<(), AllocError>
     ensures quiet { IsTrue (is_quiet outcome.now) →
         IsOk result × (string_bytes out.new ≡ string_bytes out.old) }
     ensures said { OnOk result (is_quiet outcome.now ≡ false → IsSaid (D.state desk.old)
-        (D.state desk.new) (words_of words.now) outcome.now (string_bytes out.old)
+        (D.state desk.new) (words_of words.now) errors outcome.now (string_bytes out.old)
         (string_bytes out.new)) }
 {
     if is_quiet(outcome) {
         return Ok(());
     }
-    let job = job_in(rt.alloc(), words)?;
-    let meaning = meaning(rt, words, job, outcome)?;
-    append_about(out, job, file_about(outcome))?;
-    out.push_str(meaning.as_str())?;
-    append_named(rt.alloc(), desk, out, job, outcome)?;
+    let job = job_in(alloc, words)?;
+    append_meaning(alloc, desk, out, words, job, outcome, errors)?;
     out.push_str("\n")?;
     Ok(())
 }
@@ -89,190 +78,147 @@ pub fn append_words<R: Files + AllocGlobal, D: Desk>(
 fn is_quiet(outcome: &Outcome) -> bool
     ensures { result ≡ is_quiet outcome.now }
 {
-    match outcome {
-        Outcome::Routed { .. } | Outcome::Done | Outcome::Accepted | Outcome::LegalRoute => true,
-        Outcome::Unroutable { .. }
-        | Outcome::Undecided { .. }
-        | Outcome::NotAccepted { .. }
-        | Outcome::NotLegal { .. }
-        | Outcome::InputFault { .. }
-        | Outcome::Limit { .. }
-        | Outcome::NotSymmetric { .. }
-        | Outcome::Usage { .. }
-        | Outcome::ReadFault { .. }
-        | Outcome::WriteFault { .. }
-        | Outcome::OutOfMemory => false,
-    }
+    status(outcome) == 0
 }
 
-// The file that the outcome is about, if it is about one.
-fn file_about(outcome: &Outcome) -> Option<TextFile>
-    ensures { result ≡ file_about outcome.now }
-{
-    match *outcome {
-        Outcome::NotAccepted { .. } => Some(TextFile::Lrat),
-        Outcome::NotLegal { .. } => Some(TextFile::Routed),
-        Outcome::InputFault { file, .. } | Outcome::ReadFault { file } => Some(file),
-        Outcome::Limit { file, .. } => file,
-        Outcome::Routed { .. }
-        | Outcome::Unroutable { .. }
-        | Outcome::Undecided { .. }
-        | Outcome::Done
-        | Outcome::Accepted
-        | Outcome::LegalRoute
-        | Outcome::NotSymmetric { .. }
-        | Outcome::Usage { .. }
-        | Outcome::WriteFault { .. }
-        | Outcome::OutOfMemory => None,
-    }
-}
-
-// Appends the file that is meant, if one is.
-fn append_about(
-    out: &mut String,
-    job: Option<Job<'_>>,
-    file: Option<TextFile>,
-) -> Result<(), AllocError>
-    ensures { OnOk result
-        (string_bytes out.new ≡ string_bytes out.old ++ about_said (asked job.entry) file) }
-{
-    let Some(file) = file else {
-        return Ok(());
-    };
-    append_file(out, job, file)
-}
-
-// Appends the name of what is at fault in a file, where its code does not tell, or what is seen of
-// a width without a search.
-fn append_named<D: Desk>(
+// Appends what an outcome means, without the newline at the end.
+fn append_meaning<D: Desk>(
     alloc: Global,
     desk: &mut D,
     out: &mut String,
-    job: Option<Job<'_>>,
-    outcome: &Outcome,
-) -> Result<(), AllocError>
-    ensures { OnOk result (Appends (Names (D.state desk.old) (D.state desk.new)
-        (asked job.entry) outcome.now) (string_bytes out.old) (string_bytes out.new)) }
-{
-    match *outcome {
-        Outcome::InputFault { file, line, code } => {
-            append_at_fault(alloc, desk, out, job, file, line, code)
-        }
-        Outcome::Unroutable { width } => append_seen(alloc, desk, out, job, width, false),
-        Outcome::Undecided { width, .. } => append_seen(alloc, desk, out, job, width, true),
-        Outcome::NotAccepted { .. }
-        | Outcome::NotLegal { .. }
-        | Outcome::Limit { .. }
-        | Outcome::NotSymmetric { .. }
-        | Outcome::Usage { .. }
-        | Outcome::ReadFault { .. }
-        | Outcome::WriteFault { .. }
-        | Outcome::OutOfMemory
-        | Outcome::Routed { .. }
-        | Outcome::Done
-        | Outcome::Accepted
-        | Outcome::LegalRoute => Ok(()),
-    }
-}
-
-// What the outcome means, without the file that it is about and without the newline at the end.
-fn meaning<R: Files + AllocGlobal>(
-    rt: &R,
     words: &[String],
     job: Option<Job<'_>>,
     outcome: &Outcome,
-) -> Result<String, AllocError>
-    ensures { IfOk result (λ text. Means (words_of words.now) (asked job.entry) outcome.now
-        (string_bytes text)) }
+    errors: SystemErrors,
+) -> Result<(), AllocError>
+    ensures { OnOk result (Appends (Says (D.state desk.old) (D.state desk.new) (words_of words.now)
+        (asked job.entry) errors outcome.now) (string_bytes out.old) (string_bytes out.new)) }
 {
     match *outcome {
-        Outcome::NotAccepted { step, cause } => refused_step(rt.alloc(), step, cause),
-        Outcome::NotLegal { line, cause } => not_legal(rt.alloc(), line, cause, reach_asked(job)),
-        Outcome::InputFault { line, code, .. } => bad_line(rt.alloc(), line, code),
-        Outcome::Limit { file, code, count } => passed_limit(rt.alloc(), file, code, count),
-        Outcome::NotSymmetric { width, why } => obstacle(rt.alloc(), width, why),
-        Outcome::Unroutable { width } => unroutable(rt.alloc(), job, width),
-        Outcome::Undecided { width, learned } => undecided(rt.alloc(), job, width, learned),
-        Outcome::Usage { code } => usage(rt.alloc(), words, code),
-        Outcome::ReadFault { file } => unread(rt, given_name(job, file)),
-        Outcome::WriteFault { slot } => String::from_str(rt.alloc(), unwritten_said(slot)),
-        Outcome::OutOfMemory => no_memory(rt.alloc(), job),
-        Outcome::Routed { .. } | Outcome::Done | Outcome::Accepted | Outcome::LegalRoute => {
-            Ok(String::new(rt.alloc()))
+        Outcome::NotAccepted { step, cause } => append_refused_step(out, job, step, cause),
+        Outcome::NotLegal { line, cause } => append_not_legal(out, job, line, cause),
+        Outcome::InputFault { file, line, code } => {
+            append_bad_line(alloc, desk, out, job, file, line, code)
         }
+        Outcome::Limit { file, code, count } => append_passed_limit(out, job, file, code, count),
+        Outcome::NotSymmetric { width, why } => append_obstacle(out, width, why),
+        Outcome::Unroutable { width } => append_refuted(alloc, desk, out, job, width),
+        Outcome::Undecided { width, learned } => {
+            append_left_open(alloc, desk, out, job, width, learned)
+        }
+        Outcome::Usage { code } => append_usage(out, words, code),
+        Outcome::ReadFault { file } => append_unread(out, job, file, errors.reading),
+        Outcome::WriteFault { slot } => append_unwritten(out, job, slot, errors),
+        Outcome::OutOfMemory => append_no_memory(out, job),
+        Outcome::Routed { .. } | Outcome::Done | Outcome::Accepted | Outcome::LegalRoute => Ok(()),
     }
 }
 
-// Which line of a routed file is bad, and why.
-fn not_legal(alloc: Global, line: u64, code: u32, reach: Option<u32>) -> Result<String, AllocError>
-    ensures { IfOk result (λ text.
-        string_bytes text ≡ judged_said line code (judged_why reach code)) }
+// Which step of the log is refused, and why.
+fn append_refused_step(
+    out: &mut String,
+    job: Option<Job<'_>>,
+    step: u64,
+    code: u32,
+) -> Result<(), AllocError>
+    ensures { OnOk result (string_bytes out.new ≡ string_bytes out.old
+        ++ (about_said (asked job.entry) Lrat ++ step_said step code (step_why code))) }
+{
+    append_file(out, job, TextFile::Lrat)?;
+    append_step(out, step, code, step_why(code))
+}
+
+fn step_why(code: u32) -> &'static str
+    ensures { result.now ≡ step_why code }
+{
+    words_or(refusal(code), "it does not follow")
+}
+
+// Which line of the routed file is bad, and why.
+fn append_not_legal(
+    out: &mut String,
+    job: Option<Job<'_>>,
+    line: u64,
+    code: u32,
+) -> Result<(), AllocError>
+    ensures { OnOk result (string_bytes out.new ≡ string_bytes out.old
+        ++ (about_said (asked job.entry) Routed
+        ++ judged_said line code (judged_why (reach_of (asked job.entry)) code))) }
+{
+    append_file(out, job, TextFile::Routed)?;
+    append_judged(out, line, code, judged_why(reach_asked(job), code))
+}
+
+fn judged_why(reach: Option<u32>, code: u32) -> &'static str
+    ensures { result.now ≡ judged_why reach code }
 {
     let words = match reach {
         Some(_) => cause_within_reach(code),
         None => cause(code),
     };
-    let mut text = String::new(alloc);
-    append_judged(
-        &mut text,
-        line,
-        code,
-        words_or(words, "this line is not taken"),
-    )?;
-    Ok(text)
+    words_or(words, "this line is not taken")
 }
 
-// Which line is bad, and why.
-fn bad_line(alloc: Global, line: u64, code: u32) -> Result<String, AllocError>
-    ensures { IfOk result (λ text. string_bytes text ≡ line_said line code (line_why code)) }
-{
-    let mut text = String::new(alloc);
-    append_line(
-        &mut text,
-        line,
-        code,
-        words_or(cause(code), "this line is not taken"),
-    )?;
-    Ok(text)
-}
-
-// Which step is refused, and why.
-fn refused_step(alloc: Global, step: u64, code: u32) -> Result<String, AllocError>
-    ensures { IfOk result (λ text. string_bytes text ≡ step_said step code (step_why code)) }
-{
-    let mut text = String::new(alloc);
-    append_step(
-        &mut text,
-        step,
-        code,
-        words_or(refusal(code), "it does not follow"),
-    )?;
-    Ok(text)
-}
-
-// What passes its limit.
-fn passed_limit(
+// Which line is bad, why, and the name of what is at fault there, where the code does not tell.
+fn append_bad_line<D: Desk>(
     alloc: Global,
+    desk: &mut D,
+    out: &mut String,
+    job: Option<Job<'_>>,
+    file: TextFile,
+    line: u64,
+    code: u32,
+) -> Result<(), AllocError>
+    ensures { OnOk result (Appends (SaysAnd (NamesSought (D.state desk.old) (D.state desk.new)
+        (name_of (asked job.entry)) line (sought_of file code))
+        (about_said (asked job.entry) file ++ line_said line code (line_why code)))
+        (string_bytes out.old) (string_bytes out.new)) }
+{
+    append_line_of(out, job, file, line, code)?;
+    append_at_fault(alloc, desk, out, job, file, line, code)?;
+    Ok(())
+}
+
+// Which line of a file is bad, and why.
+fn append_line_of(
+    out: &mut String,
+    job: Option<Job<'_>>,
+    file: TextFile,
+    line: u64,
+    code: u32,
+) -> Result<(), AllocError>
+    ensures { OnOk result (string_bytes out.new ≡ string_bytes out.old
+        ++ (about_said (asked job.entry) file ++ line_said line code (line_why code))) }
+{
+    append_file(out, job, file)?;
+    append_line(out, line, code, line_why(code))
+}
+
+fn line_why(code: u32) -> &'static str
+    ensures { result.now ≡ line_why code }
+{
+    words_or(cause(code), "this line is not taken")
+}
+
+// What passes its limit, and where.
+fn append_passed_limit(
+    out: &mut String,
+    job: Option<Job<'_>>,
     file: Option<TextFile>,
     code: u32,
     count: u64,
-) -> Result<String, AllocError>
-    ensures { IfOk result (λ text. string_bytes text
-        ≡ limit_gap file ++ limit_said code count (limit_why code)) }
+) -> Result<(), AllocError>
+    ensures { OnOk result (string_bytes out.new ≡ string_bytes out.old
+        ++ (limit_place (asked job.entry) file ++ limit_said code count (limit_why code))) }
 {
-    let mut text = String::new(alloc);
-    let why = words_or(cause(code), "a number passes its limit");
-    append_limit(&mut text, file, code, count, why)?;
-    Ok(text)
+    append_limit_place(out, job, file)?;
+    append_limit(out, code, count, limit_why(code))
 }
 
-// What keeps tracks from being pinned or kept in order.
-fn obstacle(alloc: Global, width: u32, why: Obstacle) -> Result<String, AllocError>
-    ensures { IfOk result (λ text. string_bytes text ≡ obstacle_said width why) }
+fn limit_why(code: u32) -> &'static str
+    ensures { result.now ≡ limit_why code }
 {
-    let mut text = String::new(alloc);
-    append_obstacle(&mut text, width, why)?;
-    Ok(text)
+    words_or(cause(code), "a number passes its limit")
 }
 
 // The words for a cause, or these where it has none.
@@ -285,65 +231,37 @@ fn words_or(words: Option<&'static str>, others: &'static str) -> &'static str
     }
 }
 
-// That no routing of a width is legal.
-fn unroutable(alloc: Global, job: Option<Job<'_>>, width: u32) -> Result<String, AllocError>
-    ensures { IfOk result (λ text. string_bytes text ≡ unroutable_said (asked job.entry) width) }
+// That no routing of a width is legal, and what is seen of it without a search.
+fn append_refuted<D: Desk>(
+    alloc: Global,
+    desk: &mut D,
+    out: &mut String,
+    job: Option<Job<'_>>,
+    width: u32,
+) -> Result<(), AllocError>
+    ensures { OnOk result (Appends (SaysAnd (Sees (D.state desk.old) (D.state desk.new)
+        (asked job.entry) width false) (unroutable_said (asked job.entry) width))
+        (string_bytes out.old) (string_bytes out.new)) }
 {
-    let mut text = String::new(alloc);
-    append_unroutable(&mut text, job, width)?;
-    Ok(text)
+    append_unroutable(out, job, width)?;
+    append_seen(alloc, desk, out, job, width, false)?;
+    Ok(())
 }
 
-// That a width is open, and what can be tried next.
-fn undecided(
+// That a width is open, what can be tried next, and what is seen of it without a search.
+fn append_left_open<D: Desk>(
     alloc: Global,
+    desk: &mut D,
+    out: &mut String,
     job: Option<Job<'_>>,
     width: u32,
     learned: u64,
-) -> Result<String, AllocError>
-    ensures { IfOk result (λ text.
-        string_bytes text ≡ undecided_said (asked job.entry) width learned) }
+) -> Result<(), AllocError>
+    ensures { OnOk result (Appends (SaysAnd (Sees (D.state desk.old) (D.state desk.new)
+        (asked job.entry) width true) (undecided_said (asked job.entry) width learned))
+        (string_bytes out.old) (string_bytes out.new)) }
 {
-    let mut text = String::new(alloc);
-    append_undecided(&mut text, job, width, learned)?;
-    Ok(text)
-}
-
-// Which words a command takes.
-fn usage(alloc: Global, words: &[String], code: u32) -> Result<String, AllocError>
-    ensures { IfOk result (λ text. string_bytes text ≡ usage_said (words_of words.now) code) }
-{
-    let mut text = String::new(alloc);
-    append_usage(&mut text, words, code)?;
-    Ok(text)
-}
-
-// That a file is not read.
-fn unread<R: Files + AllocGlobal>(rt: &R, name: Option<&str>) -> Result<String, AllocError> {
-    let mut text = String::new(rt.alloc());
-    append_unread(rt, &mut text, name)?;
-    Ok(text)
-}
-
-// That memory ran out.
-fn no_memory(alloc: Global, job: Option<Job<'_>>) -> Result<String, AllocError>
-    ensures { IfOk result (λ text. string_bytes text ≡ memory_said (prefix_of (asked job.entry))) }
-{
-    let mut text = String::new(alloc);
-    append_no_memory(&mut text, job)?;
-    Ok(text)
-}
-
-// What the system did not take.
-fn unwritten_said(slot: Slot) -> &'static str
-    ensures { result.now ≡ unwritten_said slot }
-{
-    match slot {
-        Slot::Said => "Standard output takes no more of what this run says.",
-        Slot::File(_) | Slot::Architecture | Slot::Netlist | Slot::Placement | Slot::GlobalRoute =>
-            {
-                "The system refused to write what this run leaves: is there a folder of this name, \
-             with room and the right to write?"
-            }
-    }
+    append_undecided(out, job, width, learned)?;
+    append_seen(alloc, desk, out, job, width, true)?;
+    Ok(())
 }
