@@ -6,7 +6,7 @@ mod progress;
 
 use crate::progress::TellingShelf;
 use desk_io::{FileDesk, FileShelf};
-use router_says::append_words;
+use router_says::{SystemErrors, append_words};
 use router_top::{Outcome, run, status};
 use std::io::IsTerminal;
 use std::process::ExitCode;
@@ -40,9 +40,11 @@ fn say<R: Files + AllocGlobal + Eprint>(
     desk: &mut FileDesk<'_, R>,
     words: &[String],
     outcome: &Outcome,
+    errors: SystemErrors,
 ) {
     let mut text = String::new(rt.alloc());
-    if append_words(rt, desk, &mut text, words, outcome).is_ok() && !text.is_empty() {
+    let said = append_words(rt.alloc(), desk, &mut text, words, outcome, errors);
+    if said.is_ok() && !text.is_empty() {
         let _ = eprint!(rt; "{text}");
     }
 }
@@ -54,6 +56,11 @@ fn main(rt: HostRuntime) -> ExitCode {
     let mut desk = FileDesk::new(&rt);
     let mut shelf = TellingShelf::new(&rt, FileShelf::new(&rt), tells_progress(&rt));
     let outcome = run(rt.alloc(), &words, &mut desk, &mut shelf);
-    say(&rt, &mut desk, &words, &outcome);
+    let errors = SystemErrors {
+        reading: desk.last_error(),
+        writing: shelf.shelf().file_error(),
+        saying: shelf.shelf().say_error(),
+    };
+    say(&rt, &mut desk, &words, &outcome, errors);
     ExitCode::from(status(&outcome))
 }

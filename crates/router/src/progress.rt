@@ -169,6 +169,11 @@ impl<'a, R: AllocGlobal + Clock + Eprint, S: Shelf> TellingShelf<'a, R, S> {
         };
         TellingShelf { shelf, teller }
     }
+
+    /// The shelf in it.
+    pub fn shelf(&self) -> &S {
+        &self.shelf
+    }
 }
 
 impl<'a, R: AllocGlobal + Clock + Eprint, S: Shelf> Shelf for TellingShelf<'a, R, S> {

@@ -96,8 +96,14 @@ fn words(rt: HostRuntime) {
 fn searches(rt: HostRuntime) {
     for (slot, text) in [
         (FileSlot::Route, "the file of the routing was not written"),
-        (FileSlot::Clauses, "the file of the clauses was not written"),
-        (FileSlot::Log, "the file of the log was not written"),
+        (
+            FileSlot::Clauses { width: 3 },
+            "the file of the clauses was not written",
+        ),
+        (
+            FileSlot::Log { width: 3 },
+            "the file of the log was not written",
+        ),
     ] {
         assert!(rt; says(rt.alloc(), Stop::Fault { slot }, text));
     }

@@ -1,23 +1,40 @@
 //! What is said of an outcome of a run.
 use desk_io::FileDesk;
-use router_says::append_words;
-use router_top::{Outcome, TextFile};
+use route_sweep::FileSlot;
+use router_says::{SystemErrors, append_words};
+use router_top::{Outcome, Slot, TextFile};
+use std::io::ErrorKind;
 use std::test::Fail;
 
-// What is said of an outcome of a run with these words.
+// What is said of an outcome of a run with these words, where no file was found, none had room, and
+// nobody listened.
 fn said(rt: &HostRuntime, line: &str, outcome: Outcome) -> Result<String, Fail> {
     let mut words = Vec::new(rt.alloc());
     for word in line.split_whitespace() {
         words.push(String::from_str(rt.alloc(), word)?)?;
     }
     let mut out = String::new(rt.alloc());
-    append_words(rt, &mut FileDesk::new(rt), &mut out, &words, &outcome)?;
+    let errors = SystemErrors {
+        reading: Some(ErrorKind::NotFound),
+        writing: Some(ErrorKind::StorageFull),
+        saying: Some(ErrorKind::BrokenPipe),
+    };
+    append_words(
+        rt.alloc(),
+        &mut FileDesk::new(rt),
+        &mut out,
+        &words,
+        &outcome,
+        errors,
+    )?;
     Ok(out)
 }
 
 const ROUTE: &str = "route a.arch a.net a.place big.route 9 out";
 
 const SWEEP: &str = "sweep a.arch a.net a.place big.route 9 out";
+
+const GEN: &str = "gen 1 20 300 made";
 
 const VERIFY: &str = "verify a.arch a.net a.place big.route 9 out.route";
 
@@ -83,6 +100,53 @@ fn parts_of_what_is_said(rt: HostRuntime) -> Result<(), Fail> {
     ];
     for (line, outcome, part) in cases {
         assert!(rt; said(&rt, line, outcome)?.as_str().contains(part));
+    }
+    Ok(())
+}
+
+// What the system refused, by its name, and why.
+#[test]
+fn what_is_said_of_a_fault(rt: HostRuntime) -> Result<(), Fail> {
+    let unread = Outcome::ReadFault {
+        file: TextFile::Problem(fpga_problem::TextFile::Netlist),
+    };
+    let unwritten = |slot| Outcome::WriteFault { slot };
+    let clauses = unwritten(Slot::File(FileSlot::Clauses { width: 3 }));
+    let route = unwritten(Slot::File(FileSlot::Route));
+    let cases = [
+        (
+            ROUTE,
+            unread,
+            "netlist file a.net: it can't be read: no such file or folder\n",
+        ),
+        (
+            ROUTE,
+            clauses,
+            "out.cnf: it can't be written: no space is left\n",
+        ),
+        (
+            SWEEP,
+            clauses,
+            "out.w3.cnf: it can't be written: no space is left\n",
+        ),
+        (
+            SWEEP,
+            route,
+            "out.route: it can't be written: no space is left\n",
+        ),
+        (
+            GEN,
+            unwritten(Slot::Placement),
+            "made.place: it can't be written: no space is left\n",
+        ),
+        (
+            VERIFY,
+            unwritten(Slot::Said),
+            "standard output: it can't be written: nobody reads it any more\n",
+        ),
+    ];
+    for (line, outcome, text) in cases {
+        assert!(rt; said(&rt, line, outcome)?.as_str() == text);
     }
     Ok(())
 }
