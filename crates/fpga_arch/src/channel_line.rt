@@ -1,7 +1,8 @@
 //! What a line of channels along rows or columns says.
 ghost use Rattle.std.specs.Prelude.{◌≡◌, IfOk, IfErr};
 ghost use Rattle.fpga_text.specs.FirstFault.{IsFaultOf};
-ghost use Rattle.fpga_arch.specs.ChannelLines.{IsChannel, channel_fault, differs_from};
+ghost use Rattle.fpga_arch.specs.ChannelLines.{IsChannel, channel_fault};
+ghost use Rattle.fpga_arch.specs.ChannelLines as spec;
 
 use crate::cause::Cause;
 use fpga_text::{Coded, Line, TextFault};
@@ -21,15 +22,15 @@ pub fn read_channel(earlier: Option<u64>, line: &mut Line<'_>) -> Result<u64, Te
     let Some(width) = line.next_millionths() else {
         return Err(Cause::NoNumber.at(number));
     };
-    if differs(earlier, width) {
+    if differs_from(earlier, width) {
         return Err(Cause::OtherWidth.at(number));
     }
     Ok(width)
 }
 
 /// Whether there is an earlier width, and it is another one.
-pub fn differs(earlier: Option<u64>, width: u64) -> bool
-    ensures { result ≡ differs_from earlier width }
+pub fn differs_from(earlier: Option<u64>, width: u64) -> bool
+    ensures { result ≡ spec.differs_from earlier width }
 {
     match earlier {
         None => false,

@@ -4,8 +4,8 @@ ghost use Rattle.std.specs.List.{list_all};
 ghost use Rattle.fpga_arch.specs.Drafts.{marked};
 
 use crate::cause::Cause;
-use crate::channel_line::{differs, read_channel};
-use crate::keyword::{KEYWORDS, Keyword, keyword_named};
+use crate::channel_line::{differs_from, read_channel};
+use crate::keyword::{KEYWORDS, Keyword, keyword_of};
 use crate::pin_line::read_pin;
 use crate::segment_line::read_segment;
 use crate::words::{next_fraction, next_pattern, next_share};
@@ -110,7 +110,7 @@ impl Draft {
         let Some(word) = line.next_word() else {
             return Ok(());
         };
-        let Some(keyword) = keyword_named(word) else {
+        let Some(keyword) = keyword_of(word) else {
             return Ok(());
         };
         self.take_line(keyword, line)
@@ -166,7 +166,7 @@ impl Draft {
         let Some(width) = line.next_millionths() else {
             return Err(Cause::NoNumber.at(number));
         };
-        if differs(self.width, width) {
+        if differs_from(self.width, width) {
             return Err(Cause::OtherWidth.at(number));
         }
         if self.stands(Keyword::WidthIo) {

@@ -1,6 +1,7 @@
 //! The words that lines of an architecture are told by.
 ghost use Rattle.std.specs.Prelude.{◌≡◌, ◌<◌};
-ghost use Rattle.fpga_arch.specs.Keywords.{keyword_of, place_of};
+ghost use Rattle.fpga_arch.specs.Keywords as spec;
+ghost use Rattle.fpga_arch.specs.Keywords.{place_of};
 
 use fpga_text::Word;
 
@@ -73,8 +74,8 @@ impl Keyword {
 }
 
 /// The keyword that a word is.
-pub fn keyword_named(word: Word<'_>) -> Option<Keyword>
-    ensures { result ≡ keyword_of word.entry.text.now }
+pub fn keyword_of(word: Word<'_>) -> Option<Keyword>
+    ensures { result ≡ spec.keyword_of word.entry.text.now }
 {
     if word.is(b"io_rat") {
         return Some(Keyword::IoRat);

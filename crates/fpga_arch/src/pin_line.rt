@@ -14,7 +14,7 @@ ghost use Rattle.fpga_arch.specs.Pins.{
 };
 
 use crate::cause::Cause;
-use crate::words::side_named;
+use crate::words::side_of;
 use fpga_text::{Coded, Line, TextFault};
 use fpga_types::{CLASS_LIMIT, PIN_LIMIT, PinSpec, SideSet};
 
@@ -102,12 +102,12 @@ fn read_sides(line: &mut Line<'_>) -> Option<SideSet>
     let Some(first) = line.next_word() else {
         return None;
     };
-    let mut sides = side_named(first);
+    let mut sides = side_of(first);
     if !has_side(sides) {
         return None;
     }
     while let Some(word) = line.next_word() {
-        let side = side_named(word);
+        let side = side_of(word);
         if !has_side(side) {
             return None;
         }

@@ -5,7 +5,7 @@ ghost use Rattle.fpga_text.specs.Said.{says_decimal, says_whole};
 ghost use Rattle.fpga_arch.specs.Segments.{is_length, is_long, is_sparse, pairs};
 ghost use Rattle.fpga_arch.specs.SegmentLines.{with_pair as said_with};
 
-use fpga_text::{Line, Word, millionths, whole_number};
+use fpga_text::{Line, Word, millionths_of, whole_number_of};
 
 /// What the pairs of a segment line say.
 #[derive(Clone, Copy)]
@@ -58,7 +58,7 @@ fn is_one(word: Option<Word<'_>>) -> bool
     let Some(word) = word else {
         return false;
     };
-    whole_number(word.text) == Some(1)
+    whole_number_of(word.text) == Some(1)
 }
 
 /// Whether the word is there and says a decimal of 1.
@@ -68,5 +68,5 @@ fn is_whole_part(word: Option<Word<'_>>) -> bool
     let Some(word) = word else {
         return false;
     };
-    millionths(word.text) == Some(1_000_000)
+    millionths_of(word.text) == Some(1_000_000)
 }

@@ -2,7 +2,7 @@
 ghost use Rattle.std.specs.Prelude.{◌≡◌, ◌≤◌, Some, true, slice_get, IfSome, IfNone};
 ghost use Rattle.fpga_text.specs.Said.{decimal_said};
 ghost use Rattle.fpga_arch.specs.Codes.{fraction_of, lacks_share, pattern_of};
-ghost use Rattle.fpga_arch.specs.Pins.{side_of};
+ghost use Rattle.fpga_arch.specs.Pins as pins;
 
 use fpga_text::{Line, Word};
 use fpga_types::{Pattern, SHARE_LIMIT, SideSet};
@@ -59,8 +59,8 @@ pub fn next_share(line: &mut Line<'_>) -> Option<u64>
 }
 
 /// The side that a word names, if it names one.
-pub fn side_named(word: Word<'_>) -> SideSet
-    ensures { result ≡ side_of word.entry.text.now }
+pub fn side_of(word: Word<'_>) -> SideSet
+    ensures { result ≡ pins.side_of word.entry.text.now }
 {
     SideSet {
         left: word.is(b"left"),

@@ -21,7 +21,7 @@ use Rattle.fpga_types.specs.declared.route.Elem.{Elem}
 use Rattle.fpga_types.specs.declared.route.Label.{Label}
 use Rattle.fpga_types.specs.declared.route.Label.TheVariants.{Class, Pin, Pad, Track}
 use Rattle.fpga_types.proofs.SpotLemmas.{equal-swap}
-use Rattle.fpga_bounds.specs.Inputs.{GainsInput, HasInputs, ends_nets, ends_nets_at, said_input}
+use Rattle.fpga_bounds.specs.Inputs.{GainsInput, HasInputs, ends_nets, ends_nets_at, input_spot}
 
 -- where a test of each element is another one of it and of the same fact, so it is of some element
 any-both : {T : Type 0} (p q : T → Bool) (fact : Bool) (xs : List T)
@@ -93,7 +93,7 @@ module _ (arch : Arch) (x y number : ℕ) where
 
   -- the pin line is at an input of one of the blocks
   input-found : (label : Label) (placed : List (Block × Place))
-      → option_map_or (λ spot. list_any (ends_nets_at spot) placed) (said_input arch x y label
+      → option_map_or (λ spot. list_any (ends_nets_at spot) placed) (input_spot arch x y label
       number) false
       ≡ list_any (tested label) placed
   input-found Pin placed =
@@ -116,7 +116,7 @@ module _ (arch : Arch) (x y number : ℕ) where
 
 -- a line that says no input is at none
 pub no-input : (arch : Arch) (e : Elem) (placed : List (Block × Place))
-    → said_input arch e.x e.y e.label e.number ≡ None → false ≡ list_any (is_input_of arch e) placed
+    → input_spot arch e.x e.y e.label e.number ≡ None → false ≡ list_any (is_input_of arch e) placed
 no-input arch e placed unsaid =
     (λ i. option_map_or (λ spot. list_any (ends_nets_at spot) placed) (sym unsaid i) false)
     ∙ input-found arch e.x e.y e.number e.label placed
@@ -124,7 +124,7 @@ no-input arch e placed unsaid =
 -- a line that says one is at it where nets end there
 pub at-input : (arch : Arch) (e : Elem) (spots : BTreeSet Spot) (placed : List (Block × Place))
     (spot : Spot)
-    → HasInputs spots placed → said_input arch e.x e.y e.label e.number ≡ Some spot
+    → HasInputs spots placed → input_spot arch e.x e.y e.label e.number ≡ Some spot
     → contains spot_cmp spots spot ≡ list_any (is_input_of arch e) placed
 at-input arch e spots placed spot has said =
     has spot ∙ (λ i. option_map_or (λ at. list_any (ends_nets_at at) placed) (sym said i) false)

@@ -16,10 +16,10 @@ use Rattle.fpga_types.specs.declared.route.Label.{Label}
 use Rattle.fpga_types.specs.declared.route.Label.TheVariants.{Pin, Pad}
 
 -- the spot of the block that a pin line with this label and number says, where it may be an input
-abbrev pub said_input : Arch → (x y : ℕ) → Label → (number : ℕ) → Option Spot
-said_input arch x y Pin pin = if is_ordinary_input arch pin then Some (BlockAt x y) else None
-said_input arch x y Pad sub = Some (PadAt x y sub)
-said_input arch x y _ number = None
+abbrev pub input_spot : Arch → (x y : ℕ) → Label → (number : ℕ) → Option Spot
+input_spot arch x y Pin pin = if is_ordinary_input arch pin then Some (BlockAt x y) else None
+input_spot arch x y Pad sub = Some (PadAt x y sub)
+input_spot arch x y _ number = None
 
 -- nets may end at a block of this kind
 abbrev pub ends_nets : BlockKind → Bool

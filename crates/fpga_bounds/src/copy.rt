@@ -1,7 +1,8 @@
 //! A copy of a route with other tracks.
 ghost use Rattle.std.specs.Prelude.{◌≡◌, ◌≤◌, length, map, slice_index, IfOk};
 ghost use Rattle.fpga_bounds.specs.Copy.{net_with_tracks, nets_with_tracks};
-ghost use Rattle.fpga_types.specs.Legal.{route_of, with_track};
+ghost use Rattle.fpga_types.specs.Legal as legal;
+ghost use Rattle.fpga_types.specs.Legal.{route_of};
 ghost use Rattle.fpga_types.specs.Slots.{slots};
 
 use crate::slot_table::SlotTable;
@@ -81,18 +82,19 @@ fn copied_elems(
     tracks: &[u32],
     next: &mut u32,
 ) -> Result<Vec<Elem>, AllocError>
-    ensures { IfOk result (λ copy. copy.items ≡ map (with_track table.now tracks.now n) elems.now) }
+    ensures { IfOk result (λ copy. copy.items
+        ≡ map (legal.with_track table.now tracks.now n) elems.now) }
 {
     let mut copy = Vec::with_capacity(alloc, elems.len())?;
     for e in elems {
-        copy.push(elem_with_track(*e, n, table, tracks, next))?;
+        copy.push(with_track(*e, n, table, tracks, next))?;
     }
     Ok(copy)
 }
 
 /// The element with the track of its slot, if it is a channel.
-fn elem_with_track(e: Elem, n: u32, table: &SlotTable, tracks: &[u32], next: &mut u32) -> Elem
-    ensures { result ≡ with_track table.now tracks.now n e }
+fn with_track(e: Elem, n: u32, table: &SlotTable, tracks: &[u32], next: &mut u32) -> Elem
+    ensures { result ≡ legal.with_track table.now tracks.now n e }
 {
     let Some(number) = number_behind(table, n, e, next) else {
         return e;

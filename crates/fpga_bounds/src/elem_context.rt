@@ -4,7 +4,7 @@ ghost use Rattle.fpga_text.specs.Codes.{first_code};
 ghost use Rattle.fpga_bounds.specs.ElemContext.{context_at};
 ghost use Rattle.fpga_types.specs.Fabric.{meeting};
 ghost use Rattle.fpga_types.specs.Fit as fit;
-ghost use Rattle.fpga_types.specs.Fit.{fit_codes, leaps, comes_again, starts_loose, is_out_of_order, slots_past};
+ghost use Rattle.fpga_types.specs.Fit.{fit_codes, slots_past};
 
 use fpga_fabric::meet;
 use fpga_text::{Coded, TextFault};
@@ -34,19 +34,19 @@ pub(crate) fn elem_fault(grid: Grid, at: ElemContext) -> Option<TextFault>
     ensures { result ≡ first_code fit_codes grid at.elem.line (context_at at) }
 {
     let line = at.elem.line;
-    if is_leap(grid, at) {
+    if leaps(grid, at) {
         return Some(FitCause::CellsApart.at(line));
     }
-    if is_repeat(at) {
+    if comes_again(at) {
         return Some(FitCause::RepeatedElement.at(line));
     }
-    if is_loose_branch(at) {
+    if starts_loose(at) {
         return Some(FitCause::LooseBranch.at(line));
     }
     if at.taken {
         return Some(FitCause::SharedPin.at(line));
     }
-    if is_out_of_place(at) {
+    if is_out_of_order(at) {
         return Some(FitCause::OutOfOrder.at(line));
     }
     if is_past_limit(at) {
@@ -56,8 +56,8 @@ pub(crate) fn elem_fault(grid: Grid, at: ElemContext) -> Option<TextFault>
 }
 
 /// Whether a channel stands after a channel whose cell does not meet its own.
-fn is_leap(grid: Grid, at: ElemContext) -> bool
-    ensures { result ≡ leaps grid (context_at at) }
+fn leaps(grid: Grid, at: ElemContext) -> bool
+    ensures { result ≡ fit.leaps grid (context_at at) }
 {
     let Some(before) = at.previous else {
         return false;
@@ -95,15 +95,15 @@ pub fn is_branch(at: ElemContext) -> bool
 }
 
 /// Whether an element comes a second time where no branch starts.
-pub fn is_repeat(at: ElemContext) -> bool
-    ensures { result ≡ comes_again (context_at at) }
+pub fn comes_again(at: ElemContext) -> bool
+    ensures { result ≡ fit.comes_again (context_at at) }
 {
     !matches!(at.elem.kind, ElemKind::Sink) && !is_branch(at) && at.again
 }
 
 /// Whether a branch starts at an element that the net does not have yet.
-fn is_loose_branch(at: ElemContext) -> bool
-    ensures { result ≡ starts_loose (context_at at) }
+fn starts_loose(at: ElemContext) -> bool
+    ensures { result ≡ fit.starts_loose (context_at at) }
 {
     !matches!(at.elem.kind, ElemKind::Ipin)
         && !matches!(at.elem.kind, ElemKind::Sink)
@@ -112,8 +112,8 @@ fn is_loose_branch(at: ElemContext) -> bool
 }
 
 /// Whether an element of an ordinary net is out of order, or ends it without being a SINK.
-pub fn is_out_of_place(at: ElemContext) -> bool
-    ensures { result ≡ is_out_of_order (context_at at) }
+pub fn is_out_of_order(at: ElemContext) -> bool
+    ensures { result ≡ fit.is_out_of_order (context_at at) }
 {
     if at.global {
         return false;

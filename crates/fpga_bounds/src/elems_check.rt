@@ -7,7 +7,7 @@ ghost use Rattle.fpga_types.specs.Fit.{is_pin_of};
 ghost use Rattle.fpga_types.specs.declared.route.Elem.{Elem};
 
 use crate::elem_context::ElemContext;
-use crate::keys::{ElemKey, is_seen, is_taken, see};
+use crate::keys::{ElemKey, has_elem, has_pin, see};
 use crate::line_rules::{ElemAt, LineRules};
 use fpga_text::TextFault;
 use fpga_types::{Elem, NET_LIMIT, RouteNet};
@@ -38,7 +38,7 @@ pub(crate) fn check_elems<'a, R: LineRules<'a>>(
     let mut seen = BTreeSet::new(alloc);
     let mut previous: Option<Elem> = None;
     for (i, e) in elems.iter().enumerate() {
-        let again = is_seen(&seen, *e);
+        let again = has_elem(&seen, *e);
         let Ok(()) = see(&mut seen, *e) else {
             return Err(TextFault::Memory);
         };
@@ -46,7 +46,7 @@ pub(crate) fn check_elems<'a, R: LineRules<'a>>(
             elem: *e,
             previous,
             again,
-            taken: is_taken(pins, *e),
+            taken: has_pin(pins, *e),
             full: false,
             last: i + 1 == elems.len(),
             global: net.global,

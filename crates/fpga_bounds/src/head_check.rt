@@ -3,7 +3,7 @@ ghost use Rattle.std.specs.Prelude.{◌≡◌, ◌==◌, ◌&&◌, not, List, If
 ghost use Rattle.std.specs.List.{list_any};
 ghost use Rattle.fpga_bounds.specs.Heads.{IsKnownAs, bare_fault as said_fault, is_known_in, lacks_line};
 ghost use Rattle.fpga_bounds.specs.NetTable.{HasNetLines, number_named};
-ghost use Rattle.fpga_types.specs.Fits.{agree};
+ghost use Rattle.fpga_types.specs.Fits as fits;
 ghost use Rattle.fpga_types.specs.Terminals.{sinks_named};
 ghost use Rattle.fpga_types.specs.declared.route.RouteNet.{RouteNet};
 
@@ -23,15 +23,15 @@ pub(crate) fn known_number<'a>(names: &NetTable<'a>, net: &'a RouteNet) -> Optio
         return None;
     };
     let named = &names.as_slice()[number];
-    if !are_alike(named.global, net.global) {
+    if !agree(named.global, net.global) {
         return None;
     }
     Some(number)
 }
 
 /// Whether both are true, or neither is.
-pub fn are_alike(a: bool, b: bool) -> bool
-    ensures { result ≡ agree a b }
+pub fn agree(a: bool, b: bool) -> bool
+    ensures { result ≡ fits.agree a b }
 {
     if a { b } else { !b }
 }

@@ -1,7 +1,8 @@
 //! The blocks at which nets end, by where they stand.
 ghost use Rattle.std.specs.Prelude.{◌≡◌, length, zip, List, OnOk, IfOk};
 ghost use Rattle.std.specs.List.{list_any};
-ghost use Rattle.fpga_bounds.specs.Inputs.{GainsInput, HasInputs, ends_nets, said_input};
+ghost use Rattle.fpga_bounds.specs.Inputs.{GainsInput, HasInputs};
+ghost use Rattle.fpga_bounds.specs.Inputs as spec;
 ghost use Rattle.fpga_types.specs.Terminals.{is_input_of, is_ordinary_input as ordinary_input};
 ghost use Rattle.fpga_types.specs.declared.netlist.Block.{Block};
 ghost use Rattle.fpga_types.specs.declared.placement.Place.{Place};
@@ -30,7 +31,7 @@ pub(crate) fn input_spots(
 fn add_input(spots: &mut BTreeSet<Spot>, block: &Block, place: Place) -> Result<(), AllocError>
     ensures { OnOk result (GainsInput spots.old (block.now, place) spots.new) }
 {
-    if !may_end_nets(block.kind) {
+    if !ends_nets(block.kind) {
         return Ok(());
     }
     spots.insert(place.spot(block.kind))?;
@@ -38,8 +39,8 @@ fn add_input(spots: &mut BTreeSet<Spot>, block: &Block, place: Place) -> Result<
 }
 
 /// Whether nets may end at a block of this kind.
-fn may_end_nets(kind: BlockKind) -> bool
-    ensures { result ≡ ends_nets kind }
+fn ends_nets(kind: BlockKind) -> bool
+    ensures { result ≡ spec.ends_nets kind }
 {
     matches!(kind, BlockKind::Logic | BlockKind::Output)
 }
@@ -59,7 +60,7 @@ pub(crate) fn is_at_input(arch: &Arch, spots: &BTreeSet<Spot>, e: Elem) -> bool
 /// The spot of the block at which a pin line ends its net, if its label and its number are those of
 /// an input.
 fn input_spot(arch: &Arch, e: Elem) -> Option<Spot>
-    ensures { result ≡ said_input arch.now e.x e.y e.label e.number }
+    ensures { result ≡ spec.input_spot arch.now e.x e.y e.label e.number }
 {
     let Elem { x, y, number, .. } = e;
     match e.label {

@@ -1,6 +1,7 @@
 //! Sets of elements and of pins.
 ghost use Rattle.std.specs.Prelude.{◌≡◌, OnOk};
-ghost use Rattle.fpga_bounds.specs.Keys.{elem_key, pin_key, has_elem, has_pin, GainsElem, GainsPin, GainsPins};
+ghost use Rattle.fpga_bounds.specs.Keys as spec;
+ghost use Rattle.fpga_bounds.specs.Keys.{GainsElem, GainsPin, GainsPins};
 
 use fpga_types::{Elem, ElemKind, Label};
 use std::alloc::AllocError;
@@ -17,8 +18,8 @@ pub struct ElemKey {
 }
 
 /// The key by which equal elements are one.
-fn key_of_elem(e: Elem) -> ElemKey
-    ensures { result ≡ elem_key e }
+fn elem_key(e: Elem) -> ElemKey
+    ensures { result ≡ spec.elem_key e }
 {
     ElemKey {
         kind: e.kind,
@@ -30,8 +31,8 @@ fn key_of_elem(e: Elem) -> ElemKey
 }
 
 /// The key by which elements at one pin are one.
-fn key_of_pin(e: Elem) -> ElemKey
-    ensures { result ≡ pin_key e }
+fn pin_key(e: Elem) -> ElemKey
+    ensures { result ≡ spec.pin_key e }
 {
     ElemKey {
         kind: ElemKind::Ipin,
@@ -43,10 +44,10 @@ fn key_of_pin(e: Elem) -> ElemKey
 }
 
 /// Whether the set has an element that equals this one.
-pub fn is_seen(seen: &BTreeSet<ElemKey>, e: Elem) -> bool
-    ensures { result ≡ has_elem seen.now e }
+pub fn has_elem(seen: &BTreeSet<ElemKey>, e: Elem) -> bool
+    ensures { result ≡ spec.has_elem seen.now e }
 {
-    seen.contains(&key_of_elem(e))
+    seen.contains(&elem_key(e))
 }
 
 /// Puts an element into the set.
@@ -56,15 +57,15 @@ pub fn is_seen(seen: &BTreeSet<ElemKey>, e: Elem) -> bool
 pub fn see(seen: &mut BTreeSet<ElemKey>, e: Elem) -> Result<(), AllocError>
     ensures { OnOk result (GainsElem seen.old e seen.new) }
 {
-    seen.insert(key_of_elem(e))?;
+    seen.insert(elem_key(e))?;
     Ok(())
 }
 
 /// Whether the element is a pin that the set has, as one that drives a net or as one that ends it.
-pub(crate) fn is_taken(pins: &BTreeSet<ElemKey>, e: Elem) -> bool
-    ensures { result ≡ has_pin pins.now e }
+pub(crate) fn has_pin(pins: &BTreeSet<ElemKey>, e: Elem) -> bool
+    ensures { result ≡ spec.has_pin pins.now e }
 {
-    e.kind.is_pin() && pins.contains(&key_of_pin(e))
+    e.kind.is_pin() && pins.contains(&pin_key(e))
 }
 
 /// Puts the pins among these elements of a net into the set.
@@ -87,6 +88,6 @@ fn take_pin(pins: &mut BTreeSet<ElemKey>, e: Elem) -> Result<(), AllocError>
     if !e.kind.is_pin() {
         return Ok(());
     }
-    pins.insert(key_of_pin(e))?;
+    pins.insert(pin_key(e))?;
     Ok(())
 }

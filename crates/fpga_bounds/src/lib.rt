@@ -23,13 +23,13 @@ mod slot_table;
 mod step_list;
 
 pub use design::Design;
-pub use elem_context::{ElemContext, is_branch, is_out_of_place, is_repeat};
-pub use head_check::{are_alike, is_bare};
-pub use keys::{ElemKey, is_seen, see};
+pub use elem_context::{ElemContext, comes_again, is_branch, is_out_of_order};
+pub use head_check::{agree, is_bare};
+pub use keys::{ElemKey, has_elem, see};
 pub use line_rules::{ElemAt, LineRules};
 pub use net_ends::NetEnds;
 pub use net_table::NetTable;
 pub use nets_check::check_nets;
 pub use placed_problem::{PlacedProblem, fit};
-pub use problem_check::is_one_size;
+pub use problem_check::same_size;
 pub use problem_context::{ProblemContext, is_other_pin, is_other_sink, is_other_source};

@@ -11,7 +11,7 @@ ghost use Rattle.fpga_types.specs.Terminals.{driver_named, is_terminal, net_name
 
 use crate::design::Design;
 use crate::elem_context::{ElemContext, elem_fault};
-use crate::keys::{ElemKey, is_seen, see};
+use crate::keys::{ElemKey, has_elem, see};
 use crate::problem_context::{ProblemContext, problem_fault};
 use fpga_text::TextFault;
 use fpga_types::{Elem, ElemKind, Net, PinRef, Terminal};
@@ -81,7 +81,7 @@ impl<'a> NetEnds<'a> {
             line: 0,
             ..e
         };
-        is_seen(&self.sinks, sink)
+        has_elem(&self.sinks, sink)
     }
 
     /// Whether a sink of the net has no SINK line among these lines.
@@ -207,5 +207,5 @@ fn is_missing(terminal: Option<Terminal>, seen: &BTreeSet<ElemKey>) -> bool
     let Some(at) = terminal else {
         return false;
     };
-    !is_seen(seen, sink_line(at))
+    !has_elem(seen, sink_line(at))
 }

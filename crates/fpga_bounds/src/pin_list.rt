@@ -5,7 +5,7 @@ ghost use Rattle.fpga_bounds.specs.PinList.{net_pin_steps, pin_step_beside, pin_
 ghost use Rattle.fpga_types.specs.Slots.{elem_pin, elem_slot, pin_step_of};
 
 use crate::slot_table::SlotTable;
-use crate::step_list::number_of_elem;
+use crate::step_list::elem_number;
 use fpga_types::{Elem, NET_LIMIT, PinStep, RouteNet};
 use std::alloc::{AllocError, Global};
 
@@ -70,6 +70,6 @@ fn pin_step(table: &SlotTable, net: u32, pin: Elem, channel: Elem) -> Option<Pin
     ensures { result ≡ pin_step_of table.now (elem_pin pin) (elem_slot net channel) }
 {
     let pin = pin.pin()?;
-    let slot = number_of_elem(table, net, channel)?;
+    let slot = elem_number(table, net, channel)?;
     Some(PinStep { pin, slot })
 }

@@ -2,7 +2,8 @@
 ghost use Rattle.std.specs.Prelude.{◌≡◌, ◌<◌, ◌≤◌, ◌-◌, ◌^◌, length};
 ghost use Rattle.fpga_text.specs.FirstFault.{Answers};
 ghost use Rattle.fpga_bounds.specs.Heads.{line_faults};
-ghost use Rattle.fpga_types.specs.Fits.{problem_faults, same_size as one_size};
+ghost use Rattle.fpga_types.specs.Fits as fits;
+ghost use Rattle.fpga_types.specs.Fits.{problem_faults};
 ghost use Rattle.fpga_types.specs.Slots.{slots};
 
 use crate::design::Design;
@@ -23,15 +24,15 @@ pub(crate) fn fitting_problem<'a>(
     ensures { Answers (problem_faults design.now) (λ table. table ≡ slots design.now.route) result }
 {
     let route = design.route;
-    if !is_one_size(design.placement.grid, route.grid) {
+    if !same_size(design.placement.grid, route.grid) {
         return Err(FitCause::OtherArray.at(route.grid_line));
     }
     check_lines(alloc, design)
 }
 
 /// Whether the arrays have one size.
-pub fn is_one_size(a: Grid, b: Grid) -> bool
-    ensures { result ≡ one_size a b }
+pub fn same_size(a: Grid, b: Grid) -> bool
+    ensures { result ≡ fits.same_size a b }
 {
     a.nx == b.nx && a.ny == b.ny
 }

@@ -5,13 +5,12 @@ ghost use Rattle.fpga_text.specs.Codes.{first_code};
 ghost use Rattle.fpga_bounds.specs.ProblemContext.{problem_context_at};
 ghost use Rattle.fpga_types.specs.Fits as fits;
 ghost use Rattle.fpga_types.specs.Fits.{problem_codes};
-ghost use Rattle.fpga_types.specs.Kinds.{same_label};
+ghost use Rattle.fpga_types.specs.Kinds as kinds;
 ghost use Rattle.fpga_types.specs.Size.{Size};
 ghost use Rattle.fpga_types.specs.Terminals as spec;
-ghost use Rattle.fpga_types.specs.Touching.{touches as touched};
+ghost use Rattle.fpga_types.specs.Touching as touching;
 
 use crate::elem_context::ElemContext;
-use fpga_fabric::touches;
 use fpga_text::{Coded, TextFault};
 use fpga_types::{Arch, Cell, Elem, ElemKind, FitCause, Grid, Label, PinAt, Terminal};
 
@@ -75,12 +74,12 @@ fn is_driver(driver: Option<Terminal>, e: Elem) -> bool
 fn is_terminal(e: Elem, at: Terminal) -> bool
     ensures { result ≡ spec.is_terminal e at }
 {
-    e.x == at.x && e.y == at.y && is_label(e.label, at.label) && e.number == at.number
+    e.x == at.x && e.y == at.y && same_label(e.label, at.label) && e.number == at.number
 }
 
 /// Whether they are one label.
-fn is_label(a: Label, b: Label) -> bool
-    ensures { result ≡ same_label a b }
+fn same_label(a: Label, b: Label) -> bool
+    ensures { result ≡ kinds.same_label a b }
 {
     match (a, b) {
         (Label::Class, Label::Class) => true,
@@ -228,17 +227,17 @@ fn are_off(arch: &Arch, grid: Grid, pin: Elem, channel: Elem) -> bool
     let Some(cell) = channel.cell() else {
         return false;
     };
-    !is_touched(arch, grid, pin, cell)
+    !touches(arch, grid, pin, cell)
 }
 
 /// Whether the pin touches the cell. A pin that the architecture does not have touches none.
-fn is_touched(arch: &Arch, grid: Grid, pin: PinAt, cell: Cell) -> bool
-    ensures { result ≡ touched arch.now grid pin cell }
+fn touches(arch: &Arch, grid: Grid, pin: PinAt, cell: Cell) -> bool
+    ensures { result ≡ touching.touches arch.now grid pin cell }
 {
     if let PinAt::Pin { pin: number, .. } = pin {
         if number as usize >= arch.pins.as_slice().len() {
             return false;
         }
     }
-    touches(arch, grid, pin, cell)
+    fpga_fabric::touches(arch, grid, pin, cell)
 }

@@ -2,7 +2,8 @@
 ghost use Rattle.std.specs.Prelude.{◌≡◌, ◌<◌, ◌≤◌, [], length, false, ◌==◌, OnOk, OnErr};
 ghost use Rattle.std.specs.List.{list_any};
 ghost use Rattle.fpga_bounds.specs.SlotTable.{with_slot};
-ghost use Rattle.fpga_types.specs.Slots.{same_slot, slot_number};
+ghost use Rattle.fpga_types.specs.Slots as spec;
+ghost use Rattle.fpga_types.specs.Slots.{same_slot};
 
 use fpga_types::{SLOT_LIMIT, Slot};
 use std::alloc::{AllocError, Global};
@@ -63,8 +64,8 @@ impl SlotTable {
     }
 
     /// The number of the slot, or the number of slots where it is none of the table.
-    pub(crate) fn number_of(&self, slot: Slot) -> u32
-        ensures { result ≡ slot_number self.now slot }
+    pub(crate) fn slot_number(&self, slot: Slot) -> u32
+        ensures { result ≡ spec.slot_number self.now slot }
     {
         match self.numbers.get(&slot) {
             Some(number) => *number,
@@ -72,16 +73,16 @@ impl SlotTable {
         }
     }
 
-    /// The number of the slot, as `number_of` gives it, by one look where it is the guess.
+    /// The number of the slot, as `slot_number` gives it, by one look where it is the guess.
     pub(crate) fn number_near(&self, slot: Slot, guess: u32) -> u32
-        ensures { result ≡ slot_number self.now slot }
+        ensures { result ≡ spec.slot_number self.now slot }
     {
         if let Some(there) = self.slots.get(guess as usize) {
             if *there == slot {
                 return guess;
             }
         }
-        self.number_of(slot)
+        self.slot_number(slot)
     }
 
     /// Puts the slot at the end, unless the table has it. After an error the table is as it was.

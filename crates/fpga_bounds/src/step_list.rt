@@ -1,7 +1,8 @@
 //! The steps of a route, by slot numbers.
 ghost use Rattle.std.specs.Prelude.{◌≡◌, ◌≤◌, ◌++◌, length, IfOk, OnOk};
 ghost use Rattle.std.specs.Option.{option_to_list};
-ghost use Rattle.fpga_bounds.specs.StepList.{elem_number, step_between, net_steps, steps_in};
+ghost use Rattle.fpga_bounds.specs.StepList as spec;
+ghost use Rattle.fpga_bounds.specs.StepList.{step_between, net_steps, steps_in};
 
 use crate::slot_table::SlotTable;
 use fpga_types::{Elem, NET_LIMIT, RouteNet, RouteStep};
@@ -46,17 +47,17 @@ fn add_steps(
 }
 
 /// The number of the element's slot, if it is a channel.
-pub(crate) fn number_of_elem(table: &SlotTable, net: u32, e: Elem) -> Option<u32>
-    ensures { result ≡ elem_number table.now net e }
+pub(crate) fn elem_number(table: &SlotTable, net: u32, e: Elem) -> Option<u32>
+    ensures { result ≡ spec.elem_number table.now net e }
 {
     let slot = e.slot(net)?;
-    Some(table.number_of(slot))
+    Some(table.slot_number(slot))
 }
 
 /// The number of the element's slot, if it is a channel. The number is guessed, and the one behind
 /// it is the next guess: slots have their numbers in the order of the channels that come first.
 pub(crate) fn number_behind(table: &SlotTable, net: u32, e: Elem, next: &mut u32) -> Option<u32>
-    ensures { result ≡ elem_number table.now net e }
+    ensures { result ≡ spec.elem_number table.now net e }
 {
     let slot = e.slot(net)?;
     let number = table.number_near(slot, *next);

@@ -11,7 +11,7 @@ use crate::limits::BLOCK_LIMIT;
 use crate::listed::{ListedBlock, finish_all, misses_pins, rest_words};
 use crate::names::NameTable;
 use crate::net_table::NetTable;
-use crate::net_use::block_pins;
+use crate::net_use::pins_of;
 use fpga_text::{Coded, Line, TextFault};
 use fpga_types::{Arch, BlockKind, Items, Netlist};
 use std::alloc::{AllocError, Global};
@@ -189,7 +189,7 @@ impl<'a, 'b> Draft<'a, 'b> {
         let Some(begun) = self.begun else {
             return Err(Cause::LineForm.at(number));
         };
-        let pins = block_pins(self.arch, begun.kind).len();
+        let pins = pins_of(self.arch, begun.kind).len();
         let Ok(words) = rest_words(self.alloc, line, pins + 1) else {
             return Err(TextFault::Memory);
         };

@@ -7,7 +7,7 @@ ghost use Rattle.fpga_net.specs.Uses.{HasPins, block_uses, is_logic, is_open as 
 ghost use Rattle.fpga_net.specs.Value.{block_of, net_on as number_on};
 
 use crate::names::NameTable;
-use crate::net_use::{NetUse, block_pins, is_open, net_uses};
+use crate::net_use::{NetUse, is_open, net_uses, pins_of};
 use fpga_text::Line;
 use fpga_types::{Arch, Block, BlockKind, Items, Name};
 use std::alloc::{AllocError, Global};
@@ -64,7 +64,7 @@ impl<'a> ListedBlock<'a> {
         ensures { IfOk result
             (λ uses. map use_said uses.items ≡ block_uses arch.now number self.now) }
     {
-        net_uses(alloc, number, block_pins(arch, self.kind), &self.nets)
+        net_uses(alloc, number, pins_of(arch, self.kind), &self.nets)
     }
 
     /// The block, with the numbers that the names of nets have.

@@ -2,13 +2,13 @@
 ghost use Rattle.std.specs.Prelude.{◌≡◌, ◌<◌, ◌^◌, [], Some, length, map, IfErr, IfOk, IfSome, OnOk};
 ghost use Rattle.std.specs.List.{list_any};
 ghost use Rattle.fpga_text.specs.Said.{has_text};
+ghost use Rattle.fpga_net.specs.Entries as spec;
 ghost use Rattle.fpga_net.specs.Entries.{
   Connects,
   IsRefusedUses,
   drive_again,
   entries_having,
   entries_with,
-  is_twice_driven,
   lacks_driver as without_driver,
   lacks_sink as without_sink,
   names_in,
@@ -144,8 +144,8 @@ impl<'a> NetTable<'a> {
     }
 
     /// Whether two pins drive the net with a name.
-    fn is_driven_twice(&self, name: &'a [u8]) -> bool
-        ensures { result ≡ is_twice_driven self.now name.now }
+    fn is_twice_driven(&self, name: &'a [u8]) -> bool
+        ensures { result ≡ spec.is_twice_driven self.now name.now }
     {
         let Some(number) = self.names.number_of(name) else {
             return false;
@@ -159,7 +159,7 @@ impl<'a> NetTable<'a> {
             ≡ drive_again (has_text globals.now) self.now (map use_said uses.now) }
     {
         for used in uses {
-            if used.pin.output && self.is_driven_twice(used.net) && !globals.contains(used.net) {
+            if used.pin.output && self.is_twice_driven(used.net) && !globals.contains(used.net) {
                 return true;
             }
         }

@@ -6,7 +6,8 @@ ghost use Rattle.fpga_text.specs.Said.{has_text};
 ghost use Rattle.fpga_net.specs.Codes as spec;
 ghost use Rattle.fpga_net.specs.Codes.{has_pair, share_class};
 ghost use Rattle.fpga_net.specs.NetUses.{use_said};
-ghost use Rattle.fpga_net.specs.Uses.{is_open as means_no_net, pins_of, uses_on};
+ghost use Rattle.fpga_net.specs.Uses as pinlist;
+ghost use Rattle.fpga_net.specs.Uses.{uses_on};
 
 use crate::names::NameTable;
 use fpga_text::is_text;
@@ -46,8 +47,8 @@ static OUTPUT_PINS: [PinSpec; 1] = [PinSpec {
 }];
 
 /// The pins of a block of this kind.
-pub fn block_pins<'a>(arch: &'a Arch, kind: BlockKind) -> &'a [PinSpec]
-    ensures { result.now ≡ pins_of arch.now kind }
+pub fn pins_of<'a>(arch: &'a Arch, kind: BlockKind) -> &'a [PinSpec]
+    ensures { result.now ≡ pinlist.pins_of arch.now kind }
 {
     match kind {
         BlockKind::Input => &INPUT_PINS,
@@ -58,7 +59,7 @@ pub fn block_pins<'a>(arch: &'a Arch, kind: BlockKind) -> &'a [PinSpec]
 
 /// Whether a word of a pinlist means no net.
 pub fn is_open(word: &[u8]) -> bool
-    ensures { result ≡ means_no_net word.now }
+    ensures { result ≡ pinlist.is_open word.now }
 {
     is_text(word, b"open")
 }

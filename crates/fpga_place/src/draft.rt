@@ -4,7 +4,8 @@ ghost use Rattle.fpga_text.specs.FirstFault.{AnswersFault, IsFaultOf};
 ghost use Rattle.fpga_text.specs.declared.fault.TextFault.TheVariants.{Bad};
 ghost use Rattle.fpga_types.specs.Placements.{AreLawful, HaveOwnNames};
 ghost use Rattle.fpga_place.specs.Causes.{code_of};
-ghost use Rattle.fpga_place.specs.Drafts.{last_fault, placed, places_alone};
+ghost use Rattle.fpga_place.specs.Drafts as spec;
+ghost use Rattle.fpga_place.specs.Drafts.{last_fault, places_alone};
 ghost use Rattle.fpga_place.specs.Lines.{Block, block_form};
 ghost use Rattle.fpga_place.specs.Value.{place_of};
 
@@ -140,7 +141,8 @@ impl<'a> Draft<'a> {
     /// spots are let go first, so that the places need no room beside them.
     pub fn places(self, alloc: Global, end: u64) -> Result<Vec<Place>, TextFault>
         ensures answers { AnswersFault (last_fault self.entry end)
-            (λ places. places.items ≡ map (place_of (placed self.entry)) self.entry.setting.blocks)
+            (λ places. places.items
+            ≡ map (place_of (spec.placed self.entry)) self.entry.setting.blocks)
             result }
         ensures sound { IfOk result (λ places. HaveOwnNames self.entry.setting.blocks
             → AreLawful self.entry.grid self.entry.setting.io_rat self.entry.setting.blocks
@@ -166,7 +168,8 @@ fn all_places(
 ) -> Result<Vec<Place>, TextFault>
     requires { length places.now ≡ length blocks.now }
     ensures { AnswersFault (last_fault (places_alone blocks.now places.now) end)
-        (λ all. all.items ≡ map (place_of (placed (places_alone blocks.now places.now))) blocks.now)
+        (λ all. all.items
+        ≡ map (place_of (spec.placed (places_alone blocks.now places.now))) blocks.now)
         result }
 {
     let named = blocks.as_slice();
@@ -174,7 +177,7 @@ fn all_places(
         return Err(TextFault::Memory);
     };
     for (i, block) in named.iter().enumerate() {
-        let Some(place) = place_named(blocks, places, block.name.bytes.as_slice(), i) else {
+        let Some(place) = placed(blocks, places, block.name.bytes.as_slice(), i) else {
             return Err(Cause::MissingBlock.at(end));
         };
         let Ok(()) = all.push(place) else {
@@ -186,14 +189,14 @@ fn all_places(
 
 /// The place of the block with this name, if it had a line. It is found at once if its number is
 /// the guess.
-fn place_named(
+fn placed(
     blocks: &BlockTable<'_>,
     places: &[Option<Place>],
     name: &[u8],
     guess: usize,
 ) -> Option<Place>
     requires { length places.now ≡ length blocks.now }
-    ensures { result ≡ placed (places_alone blocks.now places.now) name.now }
+    ensures { result ≡ spec.placed (places_alone blocks.now places.now) name.now }
 {
     let Some(number) = blocks.number_of(name, guess) else {
         return None;

@@ -2,7 +2,7 @@
 ghost use Rattle.std.specs.Prelude.{◌≡◌, None, Some, IfNone, IfSome, drop, option_and_then, slice_get};
 ghost use Rattle.fpga_place.specs.Lines.{Block, block_form, form_place, place_said as said, small_number_of};
 
-use fpga_text::{Line, whole_number};
+use fpga_text::{Line, whole_number_of};
 use fpga_types::Place;
 
 /// A block line whose numbers are some.
@@ -54,7 +54,7 @@ fn small_number(line: &mut Line<'_>) -> Option<u32>
     let Some(word) = line.next_word() else {
         return None;
     };
-    let Some(n) = whole_number(word.text) else {
+    let Some(n) = whole_number_of(word.text) else {
         return None;
     };
     if n > u64::from(u32::MAX) {

@@ -4,12 +4,13 @@ ghost use Rattle.fpga_text.specs.FirstFault.{IsFaultOf, IsRefusal};
 ghost use Rattle.fpga_text.specs.declared.fault.TextFault.TheVariants.{Bad};
 ghost use Rattle.fpga_route.specs.Causes.{code_of};
 ghost use Rattle.fpga_route.specs.Codes.{lines_faults};
-ghost use Rattle.fpga_route.specs.Forms.{array_form, is_routing as routing};
+ghost use Rattle.fpga_route.specs.Forms as spec;
+ghost use Rattle.fpga_route.specs.Forms.{array_form};
 ghost use Rattle.fpga_route.specs.Heads.{IsHead, array_fault, said_grid};
 ghost use Rattle.fpga_route.specs.declared.cause.Cause.TheVariants.{HeadForm};
 
 use crate::cause::Cause;
-use crate::forms::is_routing;
+use crate::forms;
 use fpga_text::{Coded, FirstWords, Line, Lines, TextFault, size_line};
 use fpga_types::{Grid, SizeFault};
 
@@ -37,7 +38,7 @@ pub fn read_head(lines: &mut Lines<'_>) -> Result<Head, TextFault>
         return Err(missing_line(lines));
     };
     let second_number = second.number();
-    if !says_routing(&mut second) {
+    if !is_routing(&mut second) {
         return Err(Cause::HeadForm.at(second_number));
     }
     Ok(Head { grid, line })
@@ -51,11 +52,11 @@ fn missing_line(lines: &Lines<'_>) -> TextFault
 }
 
 /// Whether a line is `Routing:`.
-fn says_routing(line: &mut Line<'_>) -> bool
-    ensures { result ≡ routing line.old.words }
+fn is_routing(line: &mut Line<'_>) -> bool
+    ensures { result ≡ spec.is_routing line.old.words }
 {
     let words = FirstWords::of(line);
-    is_routing(words.as_slice())
+    forms::is_routing(words.as_slice())
 }
 
 /// The array that the first line says, or what is wrong with the line.

@@ -11,7 +11,7 @@ ghost use Rattle.fpga_route.specs.Value.{elem_of};
 
 use crate::cause::Cause;
 use crate::forms::{ElemLine, NetLine};
-use fpga_text::{Coded, TextFault, whole_number};
+use fpga_text::{Coded, TextFault, whole_number_of};
 use fpga_types::{Elem, Grid, NET_LIMIT};
 
 /// Where a line after the head stands: the array, the Net lines before it, and whether the net
@@ -29,7 +29,7 @@ pub fn net_number(at: Standing, net: &NetLine<'_>, line: u64) -> Result<u64, Tex
     ensures number { IfOk result (λ k. k ≡ number_of net.now.k.now) }
     ensures err { IfErr result (IsFaultOf (later_fault at line (Net (net_said net.now)))) }
 {
-    let Some(k) = whole_number(net.k) else {
+    let Some(k) = whole_number_of(net.k) else {
         return Err(Cause::NoNumber.at(line));
     };
     if at.nets as usize == NET_LIMIT {
@@ -75,7 +75,7 @@ fn small_number(word: &[u8]) -> Option<u32>
     ensures small { IfSome result (λ n. is_number is_32_bits word.now ≡ true) }
     ensures none { IfNone result (is_number is_32_bits word.now ≡ false) }
 {
-    let Some(n) = whole_number(word) else {
+    let Some(n) = whole_number_of(word) else {
         return None;
     };
     if n >= 4294967296 {

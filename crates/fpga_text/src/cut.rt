@@ -1,14 +1,14 @@
 //! Where lines, comments and words end.
 ghost use Rattle.std.specs.Prelude.{◌≡◌, ◌==◌, ◌+◌, ◌≤◌, IsTrue, length, take, drop};
 ghost use Rattle.std.specs.List.{position_or_len};
-ghost use Rattle.fpga_text.specs.Bytes.{is_blank};
+ghost use Rattle.fpga_text.specs.Bytes as bytes;
 ghost use Rattle.fpga_text.specs.Words.{words, begins_word};
 
 use memchr::memchr;
 
 /// Whether a byte stands between words: a space, a tab or a carriage return.
-pub fn blank(byte: u8) -> bool
-    ensures { result ≡ is_blank byte }
+pub fn is_blank(byte: u8) -> bool
+    ensures { result ≡ bytes.is_blank byte }
 {
     byte == b' ' || byte == b'\t' || byte == b'\r'
 }
@@ -27,11 +27,11 @@ pub fn first_byte(text: &[u8], byte: u8) -> usize
 /// The place of the first blank, or the length where there is none.
 #[tactic(auto, using(std::proofs::lemmas::List::Sums::position_or_len_is))]
 pub fn first_blank(text: &[u8]) -> usize
-    ensures place { result ≡ position_or_len is_blank text.now }
+    ensures place { result ≡ position_or_len bytes.is_blank text.now }
     ensures within { result ≤ length text.now }
 {
     for (i, b) in text.iter().enumerate() {
-        if blank(*b) {
+        if is_blank(*b) {
             return i;
         }
     }
@@ -67,7 +67,7 @@ fn past_blanks<'a>(text: &'a [u8]) -> &'a [u8]
     ensures begins { IsTrue (begins_word result.now) }
 {
     for (i, b) in text.iter().enumerate() {
-        if !blank(*b) {
+        if !is_blank(*b) {
             return &text[i..];
         }
     }

@@ -4,7 +4,7 @@ ghost use Rattle.fpga_text.specs.Joined.{goes_on, said_part, trimmed as trimmed_
 ghost use Rattle.fpga_text.specs.Joining.{EndsBehind};
 ghost use Rattle.fpga_text.specs.Words.{words as words_of, begins_word, words_later};
 
-use crate::cut::{blank, first_byte, from_first_word, part_at};
+use crate::cut::{first_byte, from_first_word, is_blank, part_at};
 
 /// A line of a text as a part of a joined line.
 #[derive(Clone, Copy)]
@@ -35,7 +35,7 @@ fn trimmed<'a>(text: &'a [u8]) -> &'a [u8]
 {
     let mut end = text.len();
     while end > 0 {
-        if !blank(text[end - 1]) {
+        if !is_blank(text[end - 1]) {
             return &text[..end];
         }
         end -= 1;

@@ -20,6 +20,6 @@ pub use fault::TextFault;
 pub use first_words::FirstWords;
 pub use line::{Line, Word};
 pub use lines::Lines;
-pub use number::{millionths, signed_number, whole_number};
+pub use number::{millionths_of, signed_number_of, whole_number_of};
 pub use said::is_text;
 pub use style::Style;

@@ -7,7 +7,7 @@ ghost use Rattle.fpga_text.specs.Said.{decimal_said, is_text, whole_said};
 use crate::cut::{first_blank, from_first_word, part_at};
 use crate::front::front_number;
 use crate::joined::front_part;
-use crate::number::{millionths, signed_number, whole_number};
+use crate::number::{millionths_of, signed_number_of, whole_number_of};
 use std::marker::Model;
 
 /// A word, and the number of its line.
@@ -146,7 +146,7 @@ impl<'a> Line<'a> {
         let Some(word) = self.next_word() else {
             return None;
         };
-        whole_number(word.text)
+        whole_number_of(word.text)
     }
 
     /// The decimal that the next word says, in millionths, or None where there is no such word or
@@ -158,7 +158,7 @@ impl<'a> Line<'a> {
         let Some(word) = self.next_word() else {
             return None;
         };
-        millionths(word.text)
+        millionths_of(word.text)
     }
 
     /// The number that the next word says, or None: exactly where there is no next word, or it says
@@ -192,7 +192,7 @@ impl<'a> Line<'a> {
         let Some(word) = behind.next_word() else {
             return None;
         };
-        let Some(number) = signed_number(word.text) else {
+        let Some(number) = signed_number_of(word.text) else {
             return None;
         };
         self.rest = behind.rest;

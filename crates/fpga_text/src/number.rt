@@ -11,7 +11,7 @@ const LEAST_SIZE: u64 = 1 << 63;
 
 /// The whole number that a word says, or None: exactly where it is not one or more decimal digits
 /// or its value passes 64 bits.
-pub fn whole_number(word: &[u8]) -> Option<u64>
+pub fn whole_number_of(word: &[u8]) -> Option<u64>
     ensures { result ≡ whole_number_of word.now }
 {
     if word.is_empty() {
@@ -23,7 +23,7 @@ pub fn whole_number(word: &[u8]) -> Option<u64>
 /// The decimal that a word says, in millionths, or None: exactly where it is not decimal digits
 /// with at most one point and at least one digit, or its value passes 64 bits. Digits behind the
 /// sixth after the point are cut off.
-pub fn millionths(word: &[u8]) -> Option<u64>
+pub fn millionths_of(word: &[u8]) -> Option<u64>
     ensures { result ≡ millionths_of word.now }
 {
     let (whole, part) = part_at(word, first_byte(word, b'.'));
@@ -102,13 +102,13 @@ fn followed_by(value: u64, digit: u64) -> Option<u64>
 
 /// The number that a word says, or None: exactly where it is not one or more decimal digits behind
 /// a minus sign or without one, or passes 64 bits with a sign.
-pub fn signed_number(word: &[u8]) -> Option<i64>
+pub fn signed_number_of(word: &[u8]) -> Option<i64>
     ensures { result ≡ signed_number_of word.now }
 {
     match word {
         [] => None,
-        [b'-', digits @ ..] => whole_number(digits).and_then(negated_number),
-        _ => whole_number(word).and_then(plain_number),
+        [b'-', digits @ ..] => whole_number_of(digits).and_then(negated_number),
+        _ => whole_number_of(word).and_then(plain_number),
     }
 }
 

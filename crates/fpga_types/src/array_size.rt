@@ -5,7 +5,7 @@ ghost use Rattle.fpga_types.specs.ArraySize.{IsSizeFault, SaysSize};
 
 use crate::grid::Grid;
 use crate::limits::SIDE_LIMIT;
-use fpga_text::{SizeLine, whole_number};
+use fpga_text::{SizeLine, whole_number_of};
 use thiserror::Error;
 
 /// Why an array line says no size.
@@ -29,10 +29,10 @@ impl Grid {
         ensures ok { IfOk result (SaysSize (size_said size.now)) }
         ensures err { IfErr result (IsSizeFault (size_said size.now)) }
     {
-        let Some(nx) = whole_number(size.nx) else {
+        let Some(nx) = whole_number_of(size.nx) else {
             return Err(SizeFault::NoNumber);
         };
-        let Some(ny) = whole_number(size.ny) else {
+        let Some(ny) = whole_number_of(size.ny) else {
             return Err(SizeFault::NoNumber);
         };
         if nx == 0 {

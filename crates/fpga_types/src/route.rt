@@ -78,7 +78,7 @@ impl ElemKind {
     }
 
     /// The cell of a channel at this place, or None of another kind.
-    pub fn cell_at(self, x: u32, y: u32) -> Option<Cell>
+    pub fn channel_at(self, x: u32, y: u32) -> Option<Cell>
         ensures { result ≡ channel_at self x y }
     {
         let axis = match self {
@@ -98,7 +98,7 @@ impl Grid {
     pub fn has_place(self, kind: ElemKind, x: u32, y: u32) -> bool
         ensures { result ≡ is_place self kind x y }
     {
-        match kind.cell_at(x, y) {
+        match kind.channel_at(x, y) {
             Some(cell) => self.has_cell(cell),
             None => x <= self.nx + 1 && y <= self.ny + 1,
         }
@@ -132,7 +132,7 @@ impl Elem {
     pub fn cell(self) -> Option<Cell>
         ensures { result ≡ elem_cell self }
     {
-        self.kind.cell_at(self.x, self.y)
+        self.kind.channel_at(self.x, self.y)
     }
 
     /// The pin of a pin line, or None of another line.

@@ -11,7 +11,7 @@ use route_symmetry::{Asymmetry, narrow_boxes};
 /// subset ones, where each track is a group, or universal ones, where each two tracks are that are
 /// as far from the two ends, and the connection boxes of output pins, input pins and pads open
 /// every track. Takes no memory.
-pub fn exchangeable(problem: &PlacedProblem, width: u32) -> bool
+pub fn is_exchangeable(problem: &PlacedProblem, width: u32) -> bool
     requires width { (1 ≤ width) × (width ≤ WIDTH_LIMIT) }
     ensures { result ≡ is_exchangeable width problem.now }
 {

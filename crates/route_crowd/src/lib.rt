@@ -13,7 +13,7 @@ mod starts;
 mod trees;
 
 pub use crowding::crowd;
-pub use exchange::{exchangeable, why_not_exchangeable};
+pub use exchange::{is_exchangeable, why_not_exchangeable};
 pub use laws::{
     clauses_say_order, crowds_are_slots, crowds_meet, order_changes_nothing,
     ordered_says_unroutable,

@@ -7,7 +7,7 @@ ghost use Rattle.route_crowd.specs.Precedence.{AreSlots, ordered_cnf, ordered_ro
 
 use crate::adding::add_precedence;
 use crate::crowding::crowd;
-use crate::exchange::exchangeable;
+use crate::exchange::is_exchangeable;
 use crate::limits::CROWD_LIMIT;
 use arrayvec::ArrayVec;
 use fpga_bounds::PlacedProblem;
@@ -87,7 +87,7 @@ impl Precedence {
         ensures slots { AreSlots problem.now result.items }
         ensures few { length result.items ≤ CROWD_LIMIT }
     {
-        if !exchangeable(problem, width) {
+        if !is_exchangeable(problem, width) {
             return ArrayVec::new();
         }
         slots_among(problem.slots().len() as u32, &self.row)

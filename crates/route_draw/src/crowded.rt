@@ -6,7 +6,7 @@ ghost use Rattle.route_draw.specs.Crowded.{AddsMarks, IsMarkIf, kind_of, mark_ti
 ghost use Rattle.route_draw.specs.Needs.{AreNeeds};
 ghost use Rattle.route_draw.specs.Parts.{Adds};
 
-use crate::needs::{count_of_cells, need_at};
+use crate::needs::{cell_count, need_at};
 use crate::path::append_rectangle;
 use crate::scale::{BLOCK, CHANNEL, Point, block_start, channel_start};
 use fpga_types::{Axis, Cell, Grid, cell_of};
@@ -26,7 +26,7 @@ pub(crate) fn append_crowded(
         (string_bytes out.new)) }
 {
     let mut crowded = 0u32;
-    for number in 0..count_of_cells(grid) {
+    for number in 0..cell_count(grid) {
         let cell = cell_of(grid, number);
         let want = need_at(needs, grid, cell);
         crowded += append_if_crowded(out, alloc, cell, want, width)?;

@@ -6,9 +6,7 @@ ghost use Rattle.route_draw.specs.Needs.{has_tracks};
 ghost use Rattle.route_draw.specs.Wires.{AreLanes, IsAcross, Layout, layout_of};
 ghost use Rattle.route_draw.specs.declared.scale.TheConstants.{CHANNEL};
 
-use crate::needs::{
-    count_of_cells, has_tracks, need_at, no_needs, place_of, take_nets, take_slots,
-};
+use crate::needs::{cell_count, has_tracks, need_at, no_needs, place_of, take_nets, take_slots};
 use crate::scale::track_place;
 use fpga_bounds::PlacedProblem;
 use fpga_types::{Cell, Elem, ElemKind, Grid, RouteText};
@@ -85,7 +83,7 @@ impl Lanes {
         let grid = problem.route().grid;
         let mut needs = no_needs(alloc, grid)?;
         take_slots(&mut needs, grid, problem.slots());
-        let ranks = vec![in alloc; 0u32; count_of_cells(grid) as usize]?;
+        let ranks = vec![in alloc; 0u32; cell_count(grid) as usize]?;
         Ok(Lanes {
             grid,
             on_tracks: false,

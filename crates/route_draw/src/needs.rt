@@ -13,7 +13,7 @@ use fpga_types::{Cell, Elem, Grid, RouteNet, Slot, cell_number};
 use std::alloc::{AllocError, Global};
 
 /// How many cells an array has.
-pub(crate) fn count_of_cells(grid: Grid) -> u32
+pub(crate) fn cell_count(grid: Grid) -> u32
     ensures { result ≡ cell_count grid }
 {
     let Grid { nx, ny } = grid;
@@ -58,7 +58,7 @@ fn has_track(elems: &[Elem]) -> bool
 pub(crate) fn no_needs(alloc: Global, grid: Grid) -> Result<Vec<u64>, AllocError>
     ensures { IfOk result (λ needs. AreNeeds grid (λ cell. 0) needs.items) }
 {
-    vec![in alloc; 0u64; count_of_cells(grid) as usize]
+    vec![in alloc; 0u64; cell_count(grid) as usize]
 }
 
 /// What a cell of the array wants.

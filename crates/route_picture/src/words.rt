@@ -7,7 +7,7 @@ ghost use Rattle.route_picture.specs.Words.{AnswersWords, RoutedAsked, asked, as
 use crate::given_file::GivenFile;
 use crate::stop::Stop;
 use fpga_problem::TextFile;
-use fpga_text::whole_number;
+use fpga_text::whole_number_of;
 use fpga_types::{REACH_LIMIT, WIDTH_LIMIT};
 use std::rt::Env;
 use std::{env, io};
@@ -156,7 +156,7 @@ fn number_said(word: &str, limit: u32) -> Option<u32>
     ensures number { result ≡ number_said limit word.now }
     ensures range { IfSome result (λ number. (1 ≤ number) × (number ≤ limit)) }
 {
-    let number = whole_number(word.as_bytes())?;
+    let number = whole_number_of(word.as_bytes())?;
     if number < 1 || number > limit as u64 {
         return None;
     }

@@ -13,7 +13,7 @@ ghost use Rattle.route_verify.specs.Depths.{deep_lines, depth_behind, same_track
 use crate::printed::Printed;
 use crate::printer::NetPrinter;
 use crate::tree::Lead;
-use fpga_bounds::is_seen;
+use fpga_bounds::has_elem;
 use fpga_types::{Axis, Elem, ElemKind, Label, Slot};
 use std::alloc::AllocError;
 
@@ -83,8 +83,8 @@ impl<'a> NetPrinter<'a> {
         requires given { (r : ReachedOf) × (reached_at self.now.tree.now k ≡ Some r) }
         ensures { result ≡ wire_line (wire_of (frame_of self.now) k) }
     {
-        let slot = self.problem.slots()[self.tree.slot_of(k)];
-        channel_line(slot, self.tree.track_of(k))
+        let slot = self.problem.slots()[self.tree.slot(k)];
+        channel_line(slot, self.tree.track(k))
     }
 
     /// Prints on up to an OPIN of the net.
@@ -100,7 +100,7 @@ impl<'a> NetPrinter<'a> {
         ensures last { OnOk result (last_or None printed.new.lines.items ≡ Some opin) }
         ensures marks { OnOk result (printed.new.marks ≡ printed.old.marks) }
     {
-        if is_seen(&printed.opins, opin) {
+        if has_elem(&printed.opins, opin) {
             return self.print_opin(printed, opin);
         }
         let Ok(()) = self.print_source(printed) else {

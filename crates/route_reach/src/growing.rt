@@ -188,9 +188,7 @@ impl<'a> ModelNet<'a> {
             (Grows (net_of self.now) (joins + 1) tree.old tree.new next.new.items) }
         ensures spread { OnOk result (IsSpreadFrom (net_of self.now) tree.new (joins + 1) wire) }
     {
-        let beside = self
-            .model
-            .beside(tree.slot_of(wire) as u32, tree.track_of(wire));
+        let beside = self.model.beside(tree.slot(wire) as u32, tree.track(wire));
         for place in beside.as_slice() {
             self.spread_to(tree, wire, joins, *place, next)?;
         }

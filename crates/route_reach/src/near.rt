@@ -90,7 +90,7 @@ fn add_slot(row: &mut ArrayVec<u32, MOST_NEAR>, numbers: &SlotNumbers<'_>, slot:
     ensures with { row.new.items ≡ with_found row.old.items (found_number numbers.now slot) }
     ensures few { length row.new.items ≤ length row.old.items + 1 }
 {
-    let Some(number) = numbers.number_of(slot) else {
+    let Some(number) = numbers.found_number(slot) else {
         return;
     };
     add_number(row, number);

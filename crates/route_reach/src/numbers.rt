@@ -55,7 +55,7 @@ impl<'a> SlotNumbers<'a> {
     }
 
     /// The number of a slot, if it is one of these. The time is that of the slots of its cell.
-    pub(crate) fn number_of(&self, slot: Slot) -> Option<u32>
+    pub(crate) fn found_number(&self, slot: Slot) -> Option<u32>
         ensures { result ≡ found_number self.now slot }
     {
         if !self.grid.has_cell(slot.cell) {

@@ -85,7 +85,7 @@ impl NetTree {
     }
 
     /// The number of a wire's slot among all.
-    pub(crate) fn slot_of(&self, wire: usize) -> usize
+    pub(crate) fn slot(&self, wire: usize) -> usize
         requires { wire < length self.now.wires }
         ensures { result ≡ tree_slot self.now wire }
     {
@@ -93,7 +93,7 @@ impl NetTree {
     }
 
     /// The track of a wire.
-    pub(crate) fn track_of(&self, wire: usize) -> u32
+    pub(crate) fn track(&self, wire: usize) -> u32
         ensures { result ≡ tree_track self.now wire }
     {
         (wire % self.width as usize) as u32

@@ -28,7 +28,7 @@ use Rattle.route_encode.specs.Good.{IsRoutingOf}
 use Rattle.route_encode.proofs.BitLemmas.{says-bits}
 use Rattle.route_encode.proofs.ProblemDecoded.{no-routing}
 use Rattle.route_encode.proofs.ProblemExactness.{bits-say-legal, models-say-legal}
-use Rattle.route_symmetry.specs.Full.{is_full}
+use Rattle.route_symmetry.specs.Full.{is_symmetric}
 use Rattle.route_symmetry.specs.Pinned.{ArePinned, pin_clauses, pinned_cnf, pinned_row, row_clauses}
 use Rattle.route_symmetry.specs.Pins.{has_most, pin_row, pinned_slots, pins, slots_in}
 use Rattle.route_symmetry.proofs.PinLemmas.{pinned-legal, pinned-rivals}
@@ -41,7 +41,7 @@ without-pins width p values h = record {
   each_clause = all-from_In (IsTrueClause values) (cnf_of width p).clauses (λ c i.
       In-all (IsTrueClause values) (pinned_cnf width p).clauses c h.each_clause
       (In-append_left (cnf_of width p).clauses
-      (cond (is_full width p) (pin_clauses width p) []) c i));
+      (cond (is_symmetric width p) (pin_clauses width p) []) c i));
 }
 
 -- a pin is a slot of the problem with a track
@@ -69,8 +69,8 @@ pinned-satisfied width p given fits tracks legal pinned =
     let strict = (bits-say-legal width p fits tracks legal.each).1 legal in record {
       one_each = strict.one_each;
       each_clause = All-append (IsTrueClause (bits width tracks)) (cnf_of width p).clauses
-          (cond (is_full width p) (pin_clauses width p) []) strict.each_clause
-          (go (is_full width p));
+          (cond (is_symmetric width p) (pin_clauses width p) []) strict.each_clause
+          (go (is_symmetric width p));
     }
   where
     one : (pin : ℕ × ℕ) → In (pins width p) pin
@@ -94,16 +94,16 @@ pinned-satisfied width p given fits tracks legal pinned =
 -- where the clauses with pinned tracks have no model, there is no routing
 pub no-pinned : (width : ℕ) (p : RoutingProblem) → IsGiven p → Fits p
     → IsUnsat (pinned_cnf width p) → (found : RouteText) → ¬ IsRoutingOf width p found
-no-pinned width p given fits none found good = go (is_full width p) refl
+no-pinned width p given fits none found good = go (is_symmetric width p) refl
   where
-    go : (b : Bool) → is_full width p ≡ b → ⊥
+    go : (b : Bool) → is_symmetric width p ≡ b → ⊥
     go true e =
         let r = pinned-legal width p given fits e (_, good.legal) in
         none (bits width r.0) (pinned-satisfied width p given fits r.0 r.1 r.2)
     go false e = no-routing width p fits (λ values h. none values (record {
       one_each = h.one_each;
       each_clause = All-append (IsTrueClause values) (cnf_of width p).clauses
-          (cond (is_full width p) (pin_clauses width p) []) h.each_clause
+          (cond (is_symmetric width p) (pin_clauses width p) []) h.each_clause
           (subst (λ (c : Bool). All (IsTrueClause values) (cond c (pin_clauses width p) []))
           (sym e) (All-nil (IsTrueClause values)));
     })) found good
@@ -143,7 +143,7 @@ lits-row width row = ones 0 row
 pub cnf-row : (width : ℕ) (p : RoutingProblem) → (pinned_cnf width p).clauses
     ≡ (cnf_of width p).clauses ++ row_clauses width (pinned_row width p)
 cnf-row width p =
-    ap (λ (cs : List Clause). (cnf_of width p).clauses ++ cs) (go (is_full width p))
+    ap (λ (cs : List Clause). (cnf_of width p).clauses ++ cs) (go (is_symmetric width p))
   where
     go : (b : Bool) → cond b (pin_clauses width p) []
         ≡ row_clauses width (cond b (pin_row width p) [])
@@ -159,7 +159,7 @@ count-row width p row is =
     ∙ omega (arith, length-row width (pinned_row width p), ap length is)
 
 -- without pins where not all tracks are alike
-pub cnf-plain : (width : ℕ) (p : RoutingProblem) → is_full width p ≡ false
+pub cnf-plain : (width : ℕ) (p : RoutingProblem) → is_symmetric width p ≡ false
     → pinned_cnf width p ≡ cnf_of width p
 cnf-plain width p plain =
     ap (λ (cs : List Clause). record { vars = (cnf_of width p).vars; clauses = cs })
@@ -168,7 +168,7 @@ cnf-plain width p plain =
 
 -- the slots of the first cell that the most take are the pinned ones
 pub row-is : (width : ℕ) (p : RoutingProblem) (number : ℕ) (row : List ℕ)
-    → is_full width p ≡ true
+    → is_symmetric width p ≡ true
     → find (has_most p.route.grid (slots p.route)) (below (cell_count p.route.grid)) ≡ Some number
     → row ≡ take width (slots_in p.route.grid (slots p.route) number) → row ≡ pinned_row width p
 row-is width p number row full found is =
@@ -176,14 +176,14 @@ row-is width p number row full found is =
     (option_map_or (slots_in p.route.grid (slots p.route)) o [])) (sym found)
     ∙ sym (ap (λ (b : Bool). cond b (pin_row width p) []) full)
 
-pub row-none : (width : ℕ) (p : RoutingProblem) → is_full width p ≡ false
+pub row-none : (width : ℕ) (p : RoutingProblem) → is_symmetric width p ≡ false
     → [] ≡ pinned_row width p
 row-none width p plain = sym (ap (λ (b : Bool). cond b (pin_row width p) []) plain)
 
 -- the pinned slots are slots
 pub row-there : (width : ℕ) (p : RoutingProblem) → IsGiven p
     → All (λ s. s < length (slots p.route)) (pinned_row width p)
-row-there width p given = go (is_full width p)
+row-there width p given = go (is_symmetric width p)
   where
     go : (b : Bool) → All (λ s. s < length (slots p.route)) (cond b (pin_row width p) [])
     go true = All-take (λ s. s < length (slots p.route)) width
@@ -216,7 +216,8 @@ pinned-made width p row strict made is added row_is =
 
 -- ---- the clauses with pinned tracks say whether there is a legal routing, pinned or not
 
-plain-satisfied : (width : ℕ) (p : RoutingProblem) (values : List Bool) → is_full width p ≡ false
+plain-satisfied : (width : ℕ) (p : RoutingProblem) (values : List Bool)
+    → is_symmetric width p ≡ false
     → Satisfies values (cnf_of width p) → Satisfies values (pinned_cnf width p)
 plain-satisfied width p values plain h =
     subst (λ (f : Cnf). Satisfies values f) (sym (cnf-plain width p plain)) h
@@ -224,14 +225,14 @@ plain-satisfied width p values plain h =
 pub unsat_unroutable : (width : ℕ) (p : RoutingProblem) → IsGiven p → Fits p
     → IsUnsat (pinned_cnf width p) ↔ IsUnroutableAt width p
 unsat_unroutable width p given fits = (
-  (λ none tracks legal. go none tracks legal (is_full width p) refl),
+  (λ none tracks legal. go none tracks legal (is_symmetric width p) refl),
   (λ none values h.
       let r = models-say-legal width p fits values (without-pins width p values h) in
       none r.0 r.1),
 )
   where
     go : IsUnsat (pinned_cnf width p) → (tracks : List ℕ) → IsLegalRouting width p tracks
-        → (b : Bool) → is_full width p ≡ b → ⊥
+        → (b : Bool) → is_symmetric width p ≡ b → ⊥
     go none tracks legal true e =
         let r = pinned-legal width p given fits e (tracks, legal) in
         none (bits width r.0) (pinned-satisfied width p given fits r.0 r.1 r.2)

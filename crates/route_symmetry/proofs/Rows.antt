@@ -16,7 +16,7 @@ use Rattle.fpga_types.specs.declared.route.RouteNet.{RouteNet}
 use Rattle.fpga_types.specs.declared.route.RouteText.{RouteText}
 use Rattle.sat_clause.specs.Formula.{Cnf}
 use Rattle.sat_clause.specs.Literal.{lit}
-use Rattle.route_symmetry.specs.Full.{asymmetry_of, is_full}
+use Rattle.route_symmetry.specs.Full.{asymmetry_of, is_symmetric}
 use Rattle.route_symmetry.specs.Pinned.{pinned_cnf}
 use Rattle.route_symmetry.specs.Pins.{pins}
 use Rattle.route_symmetry.specs.declared.full.Asymmetry.TheVariants.{Pads, Pattern as OfPattern}
@@ -108,7 +108,7 @@ module _ (netlist : Netlist) (placement : Placement) where
   wilton_count = refl
 
   -- pads that open half of the tracks open all at width 1, and not at width 2
-  half_narrow : is_full 1 (problem Subset 500000 branch) ≡ true
+  half_narrow : is_symmetric 1 (problem Subset 500000 branch) ≡ true
   half_narrow = refl
 
   half_wide : asymmetry_of 2 (problem Subset 500000 branch) ≡ Some Pads

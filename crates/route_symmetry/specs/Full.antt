@@ -25,8 +25,8 @@ are_full_boxes width p = is_full_box p.arch.fc width p.arch.fc.output
     && is_full_box p.arch.fc width p.arch.fc.input && is_full_box p.arch.fc width p.arch.fc.pad
 
 -- the pattern is the subset one, and the boxes are full
-abbrev pub is_full : ℕ → RoutingProblem → Bool
-is_full width p = is_subset p.arch.pattern && are_full_boxes width p
+abbrev pub is_symmetric : ℕ → RoutingProblem → Bool
+is_symmetric width p = is_subset p.arch.pattern && are_full_boxes width p
 
 -- the first of the output pins, the input pins and the pads whose boxes are not full
 abbrev pub narrow_boxes_of : ℕ → RoutingProblem → Option Asymmetry

@@ -6,7 +6,7 @@ use Rattle.sat_clause.specs.Formula.{Cnf, IsUnsat}
 use Rattle.sat_clause.specs.Literal.{Clause}
 use Rattle.route_encode.specs.Encoding.{cnf_of, has}
 use Rattle.route_encode.specs.Exact.{IsLegalRouting, IsRoutableAt, IsUnroutableAt}
-use Rattle.route_symmetry.specs.Full.{is_full}
+use Rattle.route_symmetry.specs.Full.{is_symmetric}
 use Rattle.route_symmetry.specs.Pins.{pin_row, pins}
 
 -- a clause for each pin: the slot has the track
@@ -19,13 +19,13 @@ row_clauses width row = map (λ pin. has width pin.1 pin.0 ∷ []) (enumerate_fr
 
 -- the pinned slots where all tracks are alike, as far as there are tracks, and none elsewhere
 abbrev pub pinned_row : ℕ → RoutingProblem → List ℕ
-pinned_row width p = if is_full width p then pin_row width p else []
+pinned_row width p = if is_symmetric width p then pin_row width p else []
 
 -- the clauses of a problem, followed by those of the pinned slots where all tracks are alike
 abbrev pub pinned_cnf : ℕ → RoutingProblem → Cnf
 pinned_cnf width p = record {
   vars = (cnf_of width p).vars;
-  clauses = (cnf_of width p).clauses ++ (if is_full width p then pin_clauses width p else []);
+  clauses = (cnf_of width p).clauses ++ (if is_symmetric width p then pin_clauses width p else []);
 }
 
 -- each pinned slot has its track

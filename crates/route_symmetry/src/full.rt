@@ -1,7 +1,7 @@
 //! Whether all tracks of a problem are alike, and what keeps them from it.
 ghost use Rattle.std.specs.Prelude.{◌≡◌, ◌≤◌, ◌^◌, ◌==◌, ◌↔◌, IsNone, true};
 ghost use Rattle.fpga_types.specs.Boxes.{box_count};
-ghost use Rattle.route_symmetry.specs.Full.{are_full_boxes, asymmetry_of, is_full, is_subset, narrow_boxes_of};
+ghost use Rattle.route_symmetry.specs.Full.{are_full_boxes, asymmetry_of, is_subset, is_symmetric, narrow_boxes_of};
 
 use fpga_bounds::PlacedProblem;
 use fpga_fabric::box_count;
@@ -23,9 +23,9 @@ pub enum Asymmetry {
 /// Whether all tracks of the problem are alike at this width, from 1 to 64: its switch blocks are
 /// subset ones, and the connection boxes of output pins, input pins and pads open every track. The
 /// architecture decides this, whether or not it has such pins. Takes no memory.
-pub fn symmetric(problem: &PlacedProblem, width: u32) -> bool
+pub fn is_symmetric(problem: &PlacedProblem, width: u32) -> bool
     requires width { (1 ≤ width) × (width ≤ WIDTH_LIMIT) }
-    ensures { result ≡ is_full width problem.now }
+    ensures { result ≡ is_symmetric width problem.now }
 {
     why_not_symmetric(problem, width).is_none()
 }
@@ -36,7 +36,7 @@ pub fn symmetric(problem: &PlacedProblem, width: u32) -> bool
 pub fn why_not_symmetric(problem: &PlacedProblem, width: u32) -> Option<Asymmetry>
     requires width { (1 ≤ width) × (width ≤ WIDTH_LIMIT) }
     ensures first { result ≡ asymmetry_of width problem.now }
-    ensures none { IsNone result ↔ (is_full width problem.now ≡ true) }
+    ensures none { IsNone result ↔ (is_symmetric width problem.now ≡ true) }
 {
     if !is_subset(problem.arch().pattern) {
         return Some(Asymmetry::Pattern);

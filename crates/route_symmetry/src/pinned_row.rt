@@ -8,7 +8,7 @@ ghost use Rattle.route_symmetry.specs.Crowds.{slots_before};
 ghost use Rattle.route_symmetry.specs.Pins.{slots_in};
 ghost use Rattle.route_symmetry.specs.Pinned.{pinned_row};
 
-use crate::full::symmetric;
+use crate::full::is_symmetric;
 use crate::pinned_cell::pinned_cell;
 use arrayvec::ArrayVec;
 use fpga_bounds::PlacedProblem;
@@ -25,7 +25,7 @@ pub(crate) fn pinned_row(problem: &PlacedProblem, width: u32) -> ArrayVec<u32, 6
     ensures fits { Fits problem.now }
 {
     let grid = problem.route().grid;
-    if !symmetric(problem, width) {
+    if !is_symmetric(problem, width) {
         return ArrayVec::new();
     }
     let slots = problem.slots();

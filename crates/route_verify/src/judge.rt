@@ -17,7 +17,7 @@ use crate::rules::Rules;
 use crate::traces::Traces;
 use crate::wires::{add_wires, is_on};
 use crate::wiring::Wiring;
-use fpga_bounds::{Design, ElemAt, LineRules, NetEnds, NetTable, are_alike, is_bare};
+use fpga_bounds::{Design, ElemAt, LineRules, NetEnds, NetTable, agree, is_bare};
 use fpga_text::{Coded, TextFault};
 use fpga_types::RouteNet;
 use std::alloc::{AllocError, Global};
@@ -101,13 +101,13 @@ impl<'a> Judge<'a> {
     }
 
     /// Whether the Net line has the form of the net with this number, which has its name.
-    fn has_form(&self, number: usize, net: &RouteNet) -> bool
+    fn is_known(&self, number: usize, net: &RouteNet) -> bool
         requires named { number_named self.now.problem.netlist.nets net.now.name ≡ Some number }
         requires within { number < length self.now.problem.netlist.nets }
         ensures { result ≡ is_known self.now.problem net.now.name net.now.global }
     {
         let named = &self.names().as_slice()[number];
-        are_alike(named.global, net.global)
+        agree(named.global, net.global)
     }
 }
 
@@ -145,7 +145,7 @@ impl<'a> LineRules<'a> for Judge<'a> {
         let Ok(rules) = self.rules(alloc, number, net) else {
             return Err(TextFault::Memory);
         };
-        let known = self.has_form(number, net);
+        let known = self.is_known(number, net);
         let repeated = is_marked(marks, number);
         let lacking = is_lacking(alloc, &rules, net);
         if let Some(fault) = head_cause(net.line, known, repeated, is_bare(net), lacking) {

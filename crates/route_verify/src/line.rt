@@ -10,8 +10,8 @@ ghost use Rattle.route_verify.specs.Rules.{judged_at, reached_at};
 use crate::cause::Cause;
 use crate::wiring::Wiring;
 use fpga_bounds::{
-    ElemContext, ProblemContext, is_branch, is_other_pin, is_other_sink, is_other_source,
-    is_out_of_place, is_repeat,
+    ElemContext, ProblemContext, comes_again, is_branch, is_other_pin, is_other_sink,
+    is_other_source, is_out_of_order,
 };
 use fpga_text::{Coded, TextFault};
 use fpga_types::ElemKind;
@@ -153,7 +153,7 @@ fn is_unfit(wiring: &Wiring, at: LineContext) -> bool
         || is_other_again(route)
         || branches_loose(at)
         || route.taken
-        || is_out_of_place(route)
+        || is_out_of_order(route)
 }
 
 /// Whether it is a SINK that stands earlier in its net.
@@ -167,7 +167,7 @@ fn is_sink_again(at: ElemContext) -> bool
 fn is_other_again(at: ElemContext) -> bool
     ensures { result ≡ spec.is_other_again (context_at at) }
 {
-    is_repeat(at) && !at.elem.kind.is_channel()
+    comes_again(at) && !at.elem.kind.is_channel()
 }
 
 /// Whether a branch starts at an element that the net does not have yet, a channel with its track.

@@ -12,7 +12,7 @@ ghost use Rattle.route_verify.specs.Rules.{IsLineOf, net_of};
 use crate::line::{ElemLine, LineContext, line_cause};
 use crate::traces::Traces;
 use crate::wiring::Wiring;
-use fpga_bounds::{ElemContext, ElemKey, NetEnds, ProblemContext, is_seen};
+use fpga_bounds::{ElemContext, ElemKey, NetEnds, ProblemContext, has_elem};
 use fpga_text::TextFault;
 use fpga_types::Elem;
 use std::alloc::{AllocError, Global};
@@ -124,6 +124,6 @@ impl<'a> Rules<'a> {
     fn is_stray(&self, e: Elem) -> bool
         ensures { result ≡ is_stray_in self.now.problem.route.nets self.now.name e }
     {
-        e.kind.is_channel() && !is_seen(&self.trace, e)
+        e.kind.is_channel() && !has_elem(&self.trace, e)
     }
 }

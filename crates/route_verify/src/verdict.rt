@@ -11,7 +11,7 @@ use crate::judge::Judge;
 use crate::judgement::Judgement;
 use crate::kept::Kept;
 use crate::wiring::Wiring;
-use fpga_bounds::{Design, PlacedProblem, check_nets, is_one_size};
+use fpga_bounds::{Design, PlacedProblem, check_nets, same_size};
 use fpga_text::{Coded, TextFault};
 use fpga_types::{Grid, NET_LIMIT, RouteText, WIDTH_LIMIT};
 use std::alloc::{AllocError, Global};
@@ -151,7 +151,7 @@ fn check_file<'a>(alloc: Global, judge: &Judge<'a>, found: &'a RouteText) -> Res
     ensures { Answers (causes_by judge.now.reach judge.now.width judge.now.problem found.now)
         (λ _. ⊤) result }
 {
-    if !is_one_size(judge.design().placement.grid, found.grid) {
+    if !same_size(judge.design().placement.grid, found.grid) {
         return Err(Cause::Unfit.at(found.grid_line));
     }
     check_lines(alloc, judge, found)

@@ -17,7 +17,7 @@ pub(crate) struct WireKey {
 }
 
 /// The key of a wire.
-fn key_of_wire(wire: Wire) -> WireKey
+fn wire_key(wire: Wire) -> WireKey
     ensures { result ≡ wire_key wire }
 {
     WireKey {
@@ -31,7 +31,7 @@ pub(crate) fn is_on(wires: &BTreeSet<WireKey>, line: Elem) -> bool
     ensures { result ≡ option_map_or (is_kept wires.now) (elem_wire line) false }
 {
     match wire_of(line) {
-        Some(wire) => wires.contains(&key_of_wire(wire)),
+        Some(wire) => wires.contains(&wire_key(wire)),
         None => false,
     }
 }
@@ -43,7 +43,7 @@ pub(crate) fn add_wire(wires: &mut BTreeSet<WireKey>, line: Elem) -> Result<(), 
     let Some(wire) = wire_of(line) else {
         return Ok(());
     };
-    wires.insert(key_of_wire(wire))?;
+    wires.insert(wire_key(wire))?;
     Ok(())
 }
 

@@ -56,7 +56,7 @@ use fpga_text::TextFault;
 use fpga_types::{Axis, Cell, PinAt, PinStep, RouteText, WIDTH_LIMIT};
 use route_alone::{ClosedTree, trackless};
 use route_count::{Crowding, crowded_by};
-use route_crowd::exchangeable;
+use route_crowd::is_exchangeable;
 use router_words::{Job, Method};
 use std::alloc::{AllocError, Global};
 
@@ -117,7 +117,7 @@ fn append_looked<D: Desk>(
     ensures { OnOk result (Appends (Looks (D.state desk.old) (D.state desk.new) (asked job.entry)
         width is_open) (string_bytes out.old) (string_bytes out.new)) }
 {
-    let hints = hints_for(job, is_open);
+    let hints = hints_of(job, is_open);
     let architecture = text_of(alloc, desk, problem_name(job, TextFile::Architecture))?;
     let netlist = text_of(alloc, desk, problem_name(job, TextFile::Netlist))?;
     let placement = text_of(alloc, desk, problem_name(job, TextFile::Placement))?;
@@ -136,7 +136,7 @@ fn append_looked<D: Desk>(
 }
 
 // Which options may help that were not given.
-fn hints_for(job: Option<Job<'_>>, is_open: bool) -> Hints
+fn hints_of(job: Option<Job<'_>>, is_open: bool) -> Hints
     ensures { result ≡ hints_of (asked job.entry) is_open }
 {
     Hints {
@@ -375,7 +375,7 @@ fn append_order(
     if !hints.order {
         return Ok(());
     }
-    if !exchangeable(problem, width) {
+    if !is_exchangeable(problem, width) {
         return Ok(());
     }
     out.push_str(

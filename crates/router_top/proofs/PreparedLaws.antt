@@ -8,7 +8,7 @@ use Rattle.route_crowd.specs.Groups.{is_exchangeable}
 use Rattle.route_crowd.specs.Precedence.{ordered_cnf, precedence, slots_among}
 use Rattle.route_crowd.proofs.CrowdSlots.{among-crowd}
 use Rattle.route_encode.specs.Encoding.{cnf_of}
-use Rattle.route_symmetry.specs.Full.{is_full}
+use Rattle.route_symmetry.specs.Full.{is_symmetric}
 use Rattle.route_symmetry.specs.Pinned.{pin_clauses}
 use Rattle.router_words.specs.Near.{has_one_track}
 use Rattle.router_top.specs.Method.{IsRoutingBy, clauses_by}
@@ -48,7 +48,7 @@ begins Strictly p row width one =
     record { vars = omega arith; clauses = ([], sym (append-nil (cnf_of width p).clauses)) }
 begins Pinned p row width one = record {
   vars = omega arith;
-  clauses = ((if is_full width p then pin_clauses width p else []), refl);
+  clauses = ((if is_symmetric width p then pin_clauses width p else []), refl);
 }
 begins (Within reach) p row width one = cc
 begins Ordered p row width one = record {

@@ -4,7 +4,7 @@ use Rattle.std.specs.Prelude.{◌≡◌, ◌⊎◌, ℕ, List, ◌<◌, ◌≤�
 use Rattle.route_crowd.specs.Crowd.{crowd}
 use Rattle.route_crowd.specs.Precedence.{ordered_cnf, slots_among}
 use Rattle.route_crowd.specs.Groups.{is_exchangeable, obstacle_of}
-use Rattle.route_symmetry.specs.Full.{asymmetry_of, is_full}
+use Rattle.route_symmetry.specs.Full.{asymmetry_of, is_symmetric}
 use Rattle.router_top.specs.Method.{clauses_by}
 use Rattle.router_top.specs.Work.{Encodes, LeavesRoute, Sweeps}
 use Rattle.router_top.specs.Subject.{ShelfState, RoutingProblem, Cnf, EncodeAsked, RouteAsked, SweepAsked, Method, Ordered, Pinned, Strictly, Within, Outcome, OutOfMemory, NotSymmetric}
@@ -39,7 +39,7 @@ LeavesPrepared method works p before now outcome =
 -- and where they are kept in order, their groups may change places
 abbrev pub is_suited : Method → (width : ℕ) → RoutingProblem → Bool
 is_suited Strictly width p = true
-is_suited Pinned width p = is_full width p
+is_suited Pinned width p = is_symmetric width p
 is_suited (Within reach) width p = true
 is_suited Ordered width p = is_exchangeable width p
 

@@ -11,7 +11,7 @@ ghost use Rattle.router_top.specs.Check.{ChecksTo, SaysOf, cnf_source, lrat_sour
 ghost use Rattle.router_top.specs.Report.{IsReadFault};
 
 use crate::outcome::Outcome;
-use crate::stopping::unread;
+use crate::stopping::unread_outcome;
 use crate::text_file::{PROOF_BYTES, TextFile};
 use desk_io::Desk;
 use fpga_problem::{FileFault, read_bytes};
@@ -95,11 +95,11 @@ pub fn check_files<D: Desk>(alloc: Global, job: &CheckJob<'_>, desk: &mut D) -> 
 {
     let formula = match read_formula(alloc, desk, job.cnf) {
         Ok(formula) => formula,
-        Err(fault) => return unread(TextFile::Cnf, fault),
+        Err(fault) => return unread_outcome(TextFile::Cnf, fault),
     };
     let verdict = match replay_file(alloc, desk, job.lrat, &formula) {
         Ok(verdict) => verdict,
-        Err(fault) => return unread(TextFile::Lrat, fault),
+        Err(fault) => return unread_outcome(TextFile::Lrat, fault),
     };
     match verdict {
         Verdict::Accepted => Outcome::Accepted,

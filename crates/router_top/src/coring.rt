@@ -21,9 +21,9 @@ ghost use Rattle.router_top.specs.Search.{core_search};
 
 use crate::outcome::Outcome;
 use crate::problem_work::{ProblemWork, was_given};
-use crate::routing::found;
+use crate::routing::found_outcome;
 use crate::slot::Slot;
-use crate::stopping::stopped;
+use crate::stopping::stop_outcome;
 use desk_io::Shelf;
 use fpga_bounds::PlacedProblem;
 use fpga_types::RouteText;
@@ -140,7 +140,7 @@ fn refute<S: Shelf>(
     };
     match write_proof(alloc, formula, &core.log, job.width, &ask_for(job), shelf) {
         Ok(()) => {}
-        Err(stop) => return stopped(stop),
+        Err(stop) => return stop_outcome(stop),
     }
     let Ok(()) = shelf.say(&core.lines) else {
         return Outcome::WriteFault { slot: Slot::Said };
@@ -161,7 +161,7 @@ impl<'a> ProblemWork for CoreJob<'a> {
         let encoder = Strict;
         let formula = match few_clauses(alloc, &encoder, problem, self.width) {
             Ok(formula) => formula,
-            Err(stop) => return stopped(stop),
+            Err(stop) => return stop_outcome(stop),
         };
         let ask = ask_for(self);
         let mut log = Log::new(alloc);
@@ -171,13 +171,13 @@ impl<'a> ProblemWork for CoreJob<'a> {
                     return Outcome::OutOfMemory;
                 };
                 let written = write_routing(alloc, &routing, &ask, shelf);
-                found(self.width, written.and(Ok(Found::Routed)))
+                found_outcome(self.width, written.and(Ok(Found::Routed)))
             }
             Ok(Answer::Refuted) => refute(alloc, self, problem, &formula, log, shelf),
             Ok(Answer::Spent) => {
                 let learned = ask.budget;
                 let written = write_proof(alloc, &formula, &log, self.width, &ask, shelf);
-                found(self.width, written.and(Ok(Found::Spent { learned })))
+                found_outcome(self.width, written.and(Ok(Found::Spent { learned })))
             }
             Err(_) => Outcome::OutOfMemory,
         }

@@ -11,7 +11,7 @@ use crate::chosen::Chosen;
 use crate::file_name::file_name;
 use crate::outcome::Outcome;
 use crate::problem_work::ProblemWork;
-use crate::stopping::stopped;
+use crate::stopping::stop_outcome;
 use desk_io::{Shelf, write_file};
 use fpga_bounds::PlacedProblem;
 use route_sweep::{FileSlot, Stop, few_clauses};
@@ -71,7 +71,7 @@ fn written_outcome(came: Result<(), Stop>) -> Outcome
 {
     match came {
         Ok(()) => Outcome::Done,
-        Err(stop) => stopped(stop),
+        Err(stop) => stop_outcome(stop),
     }
 }
 

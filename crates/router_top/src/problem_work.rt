@@ -6,7 +6,7 @@ ghost use Rattle.router_top.specs.Report.{IsReadFault};
 ghost use Rattle.router_top.specs.Run.{LeavesWork, scene};
 
 use crate::outcome::Outcome;
-use crate::stopping::unread;
+use crate::stopping::unread_outcome;
 use crate::text_file::TextFile;
 use desk_io::{Desk, Shelf};
 use fpga_bounds::PlacedProblem;
@@ -51,7 +51,7 @@ pub fn work_on<D: Desk, S: Shelf, W: ProblemWork>(
 {
     let problem = match read_files(alloc, desk, names) {
         Ok(problem) => problem,
-        Err(stop) => return unread(TextFile::Problem(stop.file), stop.fault),
+        Err(stop) => return unread_outcome(TextFile::Problem(stop.file), stop.fault),
     };
     work.work(alloc, &problem, shelf)
 }

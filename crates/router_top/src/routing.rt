@@ -11,7 +11,7 @@ use crate::chosen::Chosen;
 use crate::outcome::Outcome;
 use crate::problem_work::{ProblemWork, was_given};
 use crate::size_cause::SizeCause;
-use crate::stopping::stopped;
+use crate::stopping::stop_outcome;
 use crate::turning::{Turns, without_room};
 use desk_io::Shelf;
 use fpga_bounds::PlacedProblem;
@@ -20,14 +20,14 @@ use router_words::{Members, RouteJob, SearchJob};
 use std::alloc::Global;
 
 /// What the run comes to by what was found at a width.
-pub fn found(width: u32, came: Result<Found, Stop>) -> Outcome
+pub fn found_outcome(width: u32, came: Result<Found, Stop>) -> Outcome
     ensures { result ≡ found_outcome width came }
 {
     match came {
         Ok(Found::Routed) => Outcome::Routed { width },
         Ok(Found::Refuted) => Outcome::Unroutable { width },
         Ok(Found::Spent { learned }) => Outcome::Undecided { width, learned },
-        Err(stop) => stopped(stop),
+        Err(stop) => stop_outcome(stop),
     }
 }
 
@@ -63,7 +63,7 @@ fn search_alone<S: Shelf>(
     let search = job.search;
     let ask = ask_for(&search, search.keep);
     let came = one_width(alloc, &Alone, encoder, problem, search.width, &ask, shelf);
-    found(search.width, came)
+    found_outcome(search.width, came)
 }
 
 // The same by several searches that take turns and keep all clauses. Each holds all of them, and
@@ -93,7 +93,7 @@ fn search_by_turns<S: Shelf>(
             let ask = ask_for(&search, true);
             let turns = Turns(members);
             let came = one_width(alloc, &turns, encoder, problem, search.width, &ask, shelf);
-            found(search.width, came)
+            found_outcome(search.width, came)
         }
     }
 }

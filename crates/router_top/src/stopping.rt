@@ -11,7 +11,7 @@ use fpga_text::TextFault;
 use route_sweep::Stop;
 
 /// What the run comes to by where its work on the clauses of a problem stopped.
-pub fn stopped(stop: Stop) -> Outcome
+pub fn stop_outcome(stop: Stop) -> Outcome
     ensures { result ≡ stop_outcome stop }
 {
     match stop {
@@ -28,7 +28,7 @@ pub fn stopped(stop: Stop) -> Outcome
 }
 
 /// What the run comes to by why a file gives no value.
-pub fn unread(file: TextFile, fault: FileFault) -> Outcome
+pub fn unread_outcome(file: TextFile, fault: FileFault) -> Outcome
     ensures { result ≡ unread_outcome file fault }
 {
     match fault {

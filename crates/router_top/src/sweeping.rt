@@ -9,7 +9,7 @@ ghost use Rattle.router_top.specs.Work.{Climbs};
 use crate::chosen::Chosen;
 use crate::outcome::Outcome;
 use crate::problem_work::{ProblemWork, was_given};
-use crate::stopping::stopped;
+use crate::stopping::stop_outcome;
 use desk_io::Shelf;
 use fpga_bounds::PlacedProblem;
 use route_sweep::{Ask, Climbed, Stop, climb};
@@ -24,7 +24,7 @@ fn climbed_outcome(came: Result<Climbed, Stop>) -> Outcome
         Ok(Climbed::Routed { width }) => Outcome::Routed { width },
         Ok(Climbed::Unroutable { width }) => Outcome::Unroutable { width },
         Ok(Climbed::Undecided { width, learned }) => Outcome::Undecided { width, learned },
-        Err(stop) => stopped(stop),
+        Err(stop) => stop_outcome(stop),
     }
 }
 

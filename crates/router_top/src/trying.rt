@@ -11,7 +11,7 @@ use crate::chosen::Chosen;
 use crate::generating::make_texts;
 use crate::outcome::{LINE_ROOM, Outcome, push_count};
 use crate::slot::Slot;
-use crate::stopping::unread;
+use crate::stopping::unread_outcome;
 use crate::sweeping::search_widths;
 use crate::text_file::TextFile;
 use arrayvec::ArrayString;
@@ -57,7 +57,7 @@ fn make_problem(alloc: Global, recipe: Recipe) -> Result<PlacedProblem, Outcome>
     };
     match read_problem(alloc, &lent(&texts)) {
         Ok(problem) => Ok(problem),
-        Err(refusal) => Err(unread(
+        Err(refusal) => Err(unread_outcome(
             TextFile::Problem(refusal.file),
             FileFault::Text(refusal.fault),
         )),

@@ -9,7 +9,7 @@ ghost use Rattle.router_top.specs.Check.{VerifiesTo, judged_outcome};
 ghost use Rattle.router_top.specs.declared.outcome.Outcome.TheVariants.{OutOfMemory};
 
 use crate::outcome::Outcome;
-use crate::stopping::unread;
+use crate::stopping::unread_outcome;
 use crate::text_file::TextFile;
 use desk_io::Desk;
 use fpga_bounds::PlacedProblem;
@@ -58,11 +58,11 @@ pub fn verify_file<D: Desk>(alloc: Global, job: &VerifyJob<'_>, desk: &mut D) ->
 {
     let problem = match read_files(alloc, desk, &job.files) {
         Ok(problem) => problem,
-        Err(stop) => return unread(TextFile::Problem(stop.file), stop.fault),
+        Err(stop) => return unread_outcome(TextFile::Problem(stop.file), stop.fault),
     };
     let found = match read_route_file(alloc, desk, job.routed) {
         Ok(found) => found,
-        Err(fault) => return unread(TextFile::Routed, fault),
+        Err(fault) => return unread_outcome(TextFile::Routed, fault),
     };
     judge(alloc, job, &problem, &found)
 }

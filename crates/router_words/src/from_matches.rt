@@ -19,7 +19,7 @@ use crate::job::{
 use crate::limits::{
     BUDGET_DEFAULT, BUDGET_LIMIT, GENERATED_NETS_LIMIT, MEMBER_LIMIT, SEED_DEFAULT, SEED_LIMIT,
 };
-use crate::matched::{first_word, is_given, number_within, required_word};
+use crate::matched::{first_word, has_flag, number_within, required_word};
 use crate::method::Method;
 use clap::ArgMatches;
 use fpga_problem::FourNames;
@@ -100,10 +100,10 @@ fn method(matches: &ArgMatches, reach: Option<u32>) -> Method
     ensures method { result ≡ method_asked reach (rows_of (found_of matches.now)) }
     ensures near { IsNear result }
 {
-    if is_given(matches, "pin") {
+    if has_flag(matches, "pin") {
         return Method::Pinned;
     }
-    if is_given(matches, "symmetry") {
+    if has_flag(matches, "symmetry") {
         return Method::Ordered;
     }
     method_within(reach)
@@ -133,8 +133,8 @@ fn search<'a>(matches: &ArgMatches<'a>, method: Method) -> Result<SearchJob<'a>,
         width,
         prefix: required_word(matches, "prefix"),
         conflicts,
-        keep: is_given(matches, "keep"),
-        count: is_given(matches, "count") && has_one_track(method),
+        keep: has_flag(matches, "keep"),
+        count: has_flag(matches, "count") && has_one_track(method),
         method,
     })
 }
@@ -191,8 +191,8 @@ fn reach(matches: &ArgMatches) -> Result<Option<u32>, Refusal>
 fn has_two_methods(matches: &ArgMatches) -> bool
     ensures { result ≡ has_two_methods (rows_of (found_of matches.now)) }
 {
-    let pins = is_given(matches, "pin");
-    let orders = is_given(matches, "symmetry");
+    let pins = has_flag(matches, "pin");
+    let orders = has_flag(matches, "symmetry");
     (pins && orders) || ((pins || orders) && first_word(matches, "reach").is_some())
 }
 
@@ -200,7 +200,7 @@ fn has_two_methods(matches: &ArgMatches) -> bool
 fn has_clash(matches: &ArgMatches) -> bool
     ensures { result ≡ has_clash (rows_of (found_of matches.now)) }
 {
-    let counts = is_given(matches, "count");
+    let counts = has_flag(matches, "count");
     has_two_methods(matches) || (counts && first_word(matches, "reach").is_some())
 }
 

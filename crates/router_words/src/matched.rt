@@ -9,7 +9,7 @@ ghost use Rattle.router_words.specs.Word.{words_of};
 use crate::fault::{Refusal, WordsFault};
 use clap::error::ErrorKind;
 use clap::{ArgMatches, Command};
-use fpga_text::whole_number;
+use fpga_text::whole_number_of;
 
 /// What the form finds in the words that it takes. `Refused` has the cause `Form`, and comes
 /// exactly where it does not take them; `Memory` comes where memory is short.
@@ -48,7 +48,7 @@ pub fn required_word<'a>(matches: &ArgMatches<'a>, name: &str) -> &'a str
 
 /// Whether the option with this name, which has no value, was given. `clap` notes `true` for it,
 /// and `false` where it was not.
-pub fn is_given(matches: &ArgMatches, name: &str) -> bool
+pub fn has_flag(matches: &ArgMatches, name: &str) -> bool
     ensures { result ≡ has_flag name.now (rows_of (found_of matches.now)) }
 {
     let Some(text) = first_word(matches, name) else {
@@ -63,7 +63,7 @@ pub fn number_within(word: &str, least: u64, greatest: u64) -> Result<u64, Refus
     ensures number { result ≡ number_within least greatest word.now }
     ensures within { IfOk result (λ number. (least ≤ number) × (number ≤ greatest)) }
 {
-    let number = whole_number(word.as_bytes()).ok_or(Refusal::Number)?;
+    let number = whole_number_of(word.as_bytes()).ok_or(Refusal::Number)?;
     if number < least || greatest < number {
         return Err(Refusal::Number);
     }

@@ -6,7 +6,7 @@ ghost use Rattle.sat_arena.specs.Block.{slid, word_at};
 ghost use Rattle.sat_arena.specs.Layout.{lower as lower_of, upper as upper_of, written_new};
 ghost use Rattle.sat_arena.specs.Places.{Begins};
 
-use crate::layout::{NO_LINK, head, lower, upper, word};
+use crate::layout::{NO_LINK, head_of, lower, upper, word_of};
 use crate::places::{Claim, Places, Start, allocate, deallocate};
 use sat_clause::{LITERAL_LIMIT, Lit};
 use std::alloc::{AllocError, Global};
@@ -190,8 +190,8 @@ impl Block {
         ensures spare { self.new.spare ≡ self.old.spare - (length lits.now + 6) }
     {
         self.extend(&[
-            head(lits.len() as u32, false),
-            word(id),
+            head_of(lits.len() as u32, false),
+            word_of(id),
             lower(NO_LINK),
             upper(NO_LINK),
             lower(NO_LINK),

@@ -15,7 +15,7 @@ use std::alloc::{AllocError, Global};
 use std::marker::Model;
 
 /// Whether the step adds the empty clause.
-fn adds_empty_clause(step: StepView) -> bool
+fn is_empty_clause(step: StepView) -> bool
     ensures { result ≡ is_empty_clause (step_of step.entry) }
 {
     !step.erase && step.lits.is_empty()
@@ -93,7 +93,7 @@ impl<'a, R: StepRule<'a>> Replay<R> {
             });
             return Ok(());
         }
-        if adds_empty_clause(step) {
+        if is_empty_clause(step) {
             self.verdict = Some(Verdict::Accepted);
             return Ok(());
         }

@@ -4,7 +4,7 @@ ghost use Rattle.std.specs.Prelude.{◌≡◌, ◌<◌, ◌≤◌, length, Some,
 ghost use Rattle.sat_clause.specs.Parts.{start_of, parts_from, RiseTo};
 
 /// Where the part at a position begins: where the one before it ends, and the first at 0.
-fn begin_of(ends: &[u32], i: usize) -> usize
+fn start_of(ends: &[u32], i: usize) -> usize
     requires { i < length ends.now }
     ensures { result ≡ start_of 0 ends.now i }
 {
@@ -23,7 +23,7 @@ fn span(ends: &[u32], i: usize, total: usize) -> (usize, usize)
     ensures order { result.0 ≤ result.1 }
     ensures inside { result.1 ≤ total }
 {
-    (begin_of(ends, i), ends[i] as usize)
+    (start_of(ends, i), ends[i] as usize)
 }
 
 /// The part at a position.

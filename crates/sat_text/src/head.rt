@@ -5,7 +5,7 @@ ghost use Rattle.sat_text.specs.Bodies.{head_fault};
 ghost use Rattle.sat_text.specs.CnfText.{head_words, head_of};
 
 use crate::cause::Cause;
-use crate::number::natural;
+use crate::number::natural_of;
 use fpga_text::{Coded, Line, TextFault};
 use sat_clause::{CLAUSE_LIMIT, VARIABLE_LIMIT};
 
@@ -58,7 +58,7 @@ pub fn read_head(line: &mut Line<'_>) -> Result<Head, TextFault>
     let Some(words) = head_line(line) else {
         return Err(Cause::HeadForm.at(number));
     };
-    let (Some(vars), Some(clauses)) = (natural(words.vars), natural(words.clauses)) else {
+    let (Some(vars), Some(clauses)) = (natural_of(words.vars), natural_of(words.clauses)) else {
         return Err(Cause::CnfNumber.at(number));
     };
     if vars > MOST_VARIABLES {

@@ -148,7 +148,7 @@ fn has_not_positive(numbers: &[i64]) -> bool
 }
 
 /// Of an added clause the first size that is past its limit: the id, a literal, a hint.
-fn addition_limit(id: i64, lits: &[i64], hints: &[i64]) -> Option<u64>
+fn added_limit(id: i64, lits: &[i64], hints: &[i64]) -> Option<u64>
     ensures { result ≡ added_limit (nat_abs id) (map lit lits.now) hints.now }
 {
     if id.unsigned_abs() > MOST_ID {
@@ -161,7 +161,7 @@ fn addition_limit(id: i64, lits: &[i64], hints: &[i64]) -> Option<u64>
 }
 
 /// Of a deletion the first id that is past its limit.
-fn deletion_limit(id: i64, ids: &[i64]) -> Option<u64>
+fn erased_limit(id: i64, ids: &[i64]) -> Option<u64>
     ensures { result ≡ erased_limit (nat_abs id) ids.now }
 {
     if id.unsigned_abs() > MOST_ID {
@@ -205,7 +205,7 @@ pub fn deletion_said<'a>(numbers: &'a [i64], line: u64) -> Result<Deletion<'a>, 
     if !closed {
         return Err(Cause::StepForm.at(line));
     }
-    if let Some(count) = deletion_limit(*id, ids) {
+    if let Some(count) = erased_limit(*id, ids) {
         return Err(Cause::NumberLimit.past(count));
     }
     Ok(Deletion {
@@ -263,7 +263,7 @@ pub fn addition_said<'a>(
     if has_barred_hint(rule, lits, hints) {
         return Err(Cause::HintSign.at(line));
     }
-    if let Some(count) = addition_limit(*id, lits, hints) {
+    if let Some(count) = added_limit(*id, lits, hints) {
         return Err(Cause::NumberLimit.past(count));
     }
     Ok(Addition {

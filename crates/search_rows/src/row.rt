@@ -2,7 +2,7 @@
 use crate::found::{How, found};
 use crate::printed::print_found;
 use desk_io::{Desk, read_file};
-use fpga_text::{Line, whole_number};
+use fpga_text::{Line, whole_number_of};
 use sat_clause::{Formula, Log};
 use sat_core::Answer;
 use sat_text::read_cnf;
@@ -12,7 +12,7 @@ use std::{io, str};
 // The number that the next word says, and 0 where it says none.
 fn number(line: &mut Line<'_>) -> u64 {
     match line.next_word() {
-        Some(word) => whole_number(word.text).unwrap_or(0),
+        Some(word) => whole_number_of(word.text).unwrap_or(0),
         None => 0,
     }
 }

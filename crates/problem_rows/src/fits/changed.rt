@@ -1,5 +1,5 @@
 //! A route with one of its lines changed.
-use fpga_text::whole_number;
+use fpga_text::whole_number_of;
 use rows_problem::RowsError;
 use std::alloc::Global;
 
@@ -7,7 +7,7 @@ use std::alloc::Global;
 /// place. At `end` the route ends before that line.
 pub(crate) fn changed_route(alloc: Global, route: &str, row: &str) -> Result<String, RowsError> {
     let (word, text) = row.split_once(' ').unwrap_or((row, ""));
-    let number = whole_number(word.as_bytes()).unwrap_or(0);
+    let number = whole_number_of(word.as_bytes()).unwrap_or(0);
     let mut changed = String::new(alloc);
     for (i, line) in route.lines().enumerate() {
         let is_here = i as u64 + 1 == number;

@@ -1,5 +1,5 @@
 //! A routing with some of its lines changed.
-use fpga_text::whole_number;
+use fpga_text::whole_number_of;
 use std::alloc::{AllocError, Global};
 
 /// Which lines are replaced, counted from 1, and what comes in their place. Where the last stands
@@ -16,8 +16,8 @@ impl<'a> Change<'a> {
     /// As the words of a row have it. A word that is no number counts as 0.
     pub(crate) fn of(first: &str, last: &str, lines: Option<&'a str>) -> Change<'a> {
         Change {
-            first: whole_number(first.as_bytes()).unwrap_or(0),
-            last: whole_number(last.as_bytes()).unwrap_or(0),
+            first: whole_number_of(first.as_bytes()).unwrap_or(0),
+            last: whole_number_of(last.as_bytes()).unwrap_or(0),
             lines,
         }
     }

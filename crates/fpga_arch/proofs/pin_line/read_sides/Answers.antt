@@ -8,7 +8,7 @@ pub loop-word-preserved : goal.loop-word-preserved
 loop-word-preserved c = rw (
   c.in-Some-next_word.ensures.after,
   c.with_sides-sides.ensures,
-  c.side_named-side.ensures,
+  c.side_of-side.ensures,
 )
     (record {
       sides = sides-more c.args.line.now.words c.loop-word.line.words
@@ -17,7 +17,7 @@ loop-word-preserved c = rw (
       lacks = lacks-more c.args.line.now.words c.loop-word.line.words
           c.in-Some-next_word.word.text.now
           c.in-Some-next_word.ensures.word
-          (ap has_side (sym c.side_named-side.ensures) ∙ sym c.if-not-has_side-2.ensures)
+          (ap has_side (sym c.side_of-side.ensures) ∙ sym c.if-not-has_side-2.ensures)
           c.loop-word.invariant.lacks;
       sided = sided-more c.loop-word.sides _ c.loop-word.invariant.sided;
     })

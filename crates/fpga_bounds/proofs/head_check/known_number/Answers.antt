@@ -14,12 +14,12 @@ returns-in_default-clause-known c =
     sym (not-known c.args.names.now c.args.net.now.name c.args.net.now.global
     (ap (number_named c.args.names.now) (sym named) ∙ sym c.in_default.ensures.number))
 
-pub returns-then-not-are_alike-clause-known : goal.returns-then-not-are_alike-clause-known
-returns-then-not-are_alike-clause-known c =
+pub returns-then-not-agree-clause-known : goal.returns-then-not-agree-clause-known
+returns-then-not-agree-clause-known c =
     let named : c.as_slice.result.now ≡ c.args.net.now.name =
     c.as_slice.ensures ∙ ap (λ (n : RouteNet). n.name) c.net.view_is in
     let net : Net = c.index-as_slice-number.result in
-    sym c.if-not-are_alike.true ∙ c.are_alike.ensures
+    sym c.if-not-agree.true ∙ c.agree.ensures
     ∙ ap (λ (n : RouteNet). agree net.global n.global) c.net.view_is
     ∙ sym (known-as c.args.names.now c.args.net.now.name c.args.net.now.global c.in-Some.number net
     (ap (number_named c.args.names.now) (sym named) ∙ sym c.in-Some.ensures.number)
@@ -32,7 +32,7 @@ returns-clause-known c =
     let named : c.as_slice.result.now ≡ c.args.net.now.name =
     c.as_slice.ensures ∙ ap (λ (n : RouteNet). n.name) c.net.view_is in
     let net : Net = c.index-as_slice-number.result in
-    sym c.if-not-are_alike.false ∙ c.are_alike.ensures
+    sym c.if-not-agree.false ∙ c.agree.ensures
     ∙ ap (λ (n : RouteNet). agree net.global n.global) c.net.view_is
     ∙ sym (known-as c.args.names.now c.args.net.now.name c.args.net.now.global c.in-Some.number net
     (ap (number_named c.args.names.now) (sym named) ∙ sym c.in-Some.ensures.number)

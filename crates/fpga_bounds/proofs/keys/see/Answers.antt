@@ -5,4 +5,4 @@ use Rattle.fpga_bounds.proofs.keys.see.Goals as goal
 
 pub returns : goal.returns
 returns c = λ q. c.in_ok-insert.ensures.updates.0 (elem_key q)
-    ∙ one_more_elem c.key_of_elem.result c.args.e q _ c.key_of_elem.ensures
+    ∙ one_more_elem c.elem_key.result c.args.e q _ c.elem_key.ensures

@@ -9,4 +9,4 @@ pub returns : goal.returns
 returns c = λ q.
     let pin : is_pin c.args.e.kind ≡ true = search rules in
     ap (λ (b : Bool). is_pin q.kind && b) (c.in_ok-insert.ensures.updates.0 (pin_key q))
-    ∙ one_more_pin c.key_of_pin.result c.args.e q _ pin c.key_of_pin.ensures
+    ∙ one_more_pin c.pin_key.result c.args.e q _ pin c.pin_key.ensures

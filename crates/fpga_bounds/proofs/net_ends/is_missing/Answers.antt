@@ -12,5 +12,5 @@ and-true false = refl
 
 pub returns : goal.returns
 returns c =
-    ap not (c.is_seen.ensures ∙ ap (has_elem c.args.seen.now) c.sink_line.ensures ∙ and-true _)
+    ap not (c.has_elem.ensures ∙ ap (has_elem c.args.seen.now) c.sink_line.ensures ∙ and-true _)
     ∙ ap (λ (o : Option Terminal). lacks_one c.args.seen.now (option_to_list o)) (sym c.in-Some.is)

@@ -9,5 +9,5 @@ pub returns : goal.returns
 returns c =
     let same : same_size c.args.design.now.placement.grid c.args.design.now.route.grid ≡ true =
     ap (λ (p : RoutingProblem). same_size p.placement.grid p.route.grid) (sym c.design.view_is)
-    ∙ sym c.is_one_size.ensures ∙ c.if-not-is_one_size.false in
+    ∙ sym c.same_size.ensures ∙ c.if-not-same_size.false in
     answers-past _ c.check_lines.result (past-array c.args.design.now same) c.check_lines.ensures

@@ -63,11 +63,11 @@ loop-i-preserved c =
       had_lines = line_next draft xs c.loop-i.i b _ at is c.loop-i.invariant.had_lines;
     }
 
-pub returns-in_default-place_named : goal.returns-in_default-place_named
-returns-in_default-place_named c =
+pub returns-in_default-placed : goal.returns-in_default-placed
+returns-in_default-placed c =
     let draft = places_alone c.args.blocks.now c.args.places.now in
     let b = c.index-named-i.result in
-    let none = c.in_default-place_named.ensures
+    let none = c.in_default-placed.ensures
     ∙ ap (placed draft) (c.as_slice.ensures ∙ ap (λ (x : Block). x.name) c.block.view_is) in
     let here : lacks draft b ≡ true = rw (← none) refl in
     one_fault _ _ _ _ (ap (list_any (lacks draft)) (sym c.as_slice-named.ensures)

@@ -53,6 +53,6 @@ returns-clause-ok c =
       total = next.total ∙ taken.total;
       clean = c.in-Ok.ensures.clean;
       grid = c.in-Ok.ensures.grid;
-      routing = rw (sym c.if-not-says_routing.ensures) refl;
+      routing = rw (sym c.if-not-is_routing.ensures) refl;
       line = c.number-line.ensures;
     }

@@ -3,11 +3,11 @@ use Rattle.fpga_text.proofs.JoinedLemmas.{trimmed-at}
 use Rattle.fpga_text.proofs.joined.trimmed.Goals as goal
 
 -- behind the last byte that is no blank stand blanks
-pub returns-then-not-blank : goal.returns-then-not-blank
-returns-then-not-blank c =
+pub returns-then-not-is_blank : goal.returns-then-not-is_blank
+returns-then-not-is_blank c =
     trimmed-at c.args.text.now c.loop-end.end c.loop-end.invariant.within
     c.loop-end.invariant.blanks
-    (λ some. sym c.if-not-blank.ensures)
+    (λ some. sym c.if-not-is_blank.ensures)
 
 -- all bytes are blanks
 pub returns : goal.returns

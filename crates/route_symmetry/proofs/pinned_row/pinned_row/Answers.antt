@@ -5,11 +5,11 @@ use Rattle.route_symmetry.proofs.EncodeLemmas.{row-is, row-none, row-there}
 use Rattle.route_symmetry.proofs.SlotCells.{all-there}
 use Rattle.route_symmetry.proofs.pinned_row.pinned_row.Goals as goal
 
-pub returns-then-not-symmetric-clause-row : goal.returns-then-not-symmetric-clause-row
-returns-then-not-symmetric-clause-row c =
+pub returns-then-not-is_symmetric-clause-row : goal.returns-then-not-is_symmetric-clause-row
+returns-then-not-is_symmetric-clause-row c =
     c.new.ensures
     ∙ row-none c.args.width c.args.problem.now
-    (sym c.symmetric.ensures ∙ c.if-not-symmetric.true)
+    (sym c.is_symmetric.ensures ∙ c.if-not-is_symmetric.true)
 
 pub pinned_cell-requires-clause-there : goal.pinned_cell-requires-clause-there
 pinned_cell-requires-clause-there c =
@@ -24,7 +24,7 @@ slots_in_cell-requires-clause-there c =
 pub returns-clause-row : goal.returns-clause-row
 returns-clause-row c =
     row-is c.args.width c.args.problem.now c.pinned_cell.result _
-    (sym c.symmetric.ensures ∙ c.if-not-symmetric.false)
+    (sym c.is_symmetric.ensures ∙ c.if-not-is_symmetric.false)
     (rw (c.slots-slots.ensures.value, c.route.ensures.value) at c.pinned_cell.ensures.first)
     (rw (c.slots-slots.ensures.value, c.route.ensures.value) at c.slots_in_cell.ensures.row)
 
@@ -32,7 +32,7 @@ pub returns-clause-slots : goal.returns-clause-slots
 returns-clause-slots c =
     let is : c.slots_in_cell.result.items ≡ pinned_row c.args.width c.args.problem.now =
     row-is c.args.width c.args.problem.now c.pinned_cell.result _
-    (sym c.symmetric.ensures ∙ c.if-not-symmetric.false)
+    (sym c.is_symmetric.ensures ∙ c.if-not-is_symmetric.false)
     (rw (c.slots-slots.ensures.value, c.route.ensures.value) at c.pinned_cell.ensures.first)
     (rw (c.slots-slots.ensures.value, c.route.ensures.value) at c.slots_in_cell.ensures.row) in
     subst (λ (row : List ℕ). All (λ s. s < length (slots c.args.problem.now.route)) row) (sym is)

@@ -10,7 +10,7 @@ returns c =
     let same : same_size c.args.judge.now.problem.placement.grid c.args.found.now.grid ≡ true =
     ap (λ (p : RoutingProblem). same_size p.placement.grid c.args.found.now.grid)
     (sym (c.behind-judge.view_is ∙ c.design.ensures))
-    ∙ sym c.is_one_size.ensures ∙ c.if-not-is_one_size.false in
+    ∙ sym c.same_size.ensures ∙ c.if-not-same_size.false in
     answers-past _ c.check_lines.result
     (past-array-line c.args.judge.now.reach c.args.judge.now.width c.args.judge.now.problem
     c.args.found.now same)

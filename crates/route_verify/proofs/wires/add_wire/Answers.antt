@@ -5,5 +5,5 @@ use Rattle.route_verify.proofs.wires.add_wire.Goals as goal
 
 pub returns : goal.returns
 returns c = λ other. c.in_ok-insert.ensures.updates.0 (wire_key other)
-    ∙ one_more_wire c.args.line c.in-Some.wire other c.key_of_wire.result _
-    (sym c.wire_of.ensures ∙ c.in-Some.is) c.key_of_wire.ensures
+    ∙ one_more_wire c.args.line c.in-Some.wire other c.wire_key.result _
+    (sym c.wire_of.ensures ∙ c.in-Some.is) c.wire_key.ensures

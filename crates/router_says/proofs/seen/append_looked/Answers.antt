@@ -9,4 +9,4 @@ returns g c = looks _ (g.D.Desk.state c.text_of.new.desk) (g.D.Desk.state c.text
     c.problem_name-4.ensures c.in_ok-architecture.ensures.files c.in_ok-netlist.ensures.files
     c.in_ok-placement.ensures.files c.in_ok-architecture.ensures.read
     c.in_ok-netlist.ensures.read c.in_ok-placement.ensures.read c.in_ok-route.ensures.read
-    c.hints_for-hints.ensures c.in_ok-append_of_files.ensures
+    c.hints_of-hints.ensures c.in_ok-append_of_files.ensures

@@ -13,13 +13,14 @@ returns-in-Err-clause-checks g c =
     Stops (record {
       fault = c.in-Err.fault;
       because = c.in-Err.ensures.answers;
-      tells = c.unread.ensures;
+      tells = c.unread_outcome.ensures;
     })
 
 pub returns-in-Err-clause-quiet : goal.returns-in-Err-clause-quiet
 returns-in-Err-clause-quiet g c told =
     c.in-Err.ensures.quiet
-    (λ fails. told (desk-fault Cnf c.in-Err.fault c.unread.result c.unread.ensures fails))
+    (λ fails. told
+    (desk-fault Cnf c.in-Err.fault c.unread_outcome.result c.unread_outcome.ensures fails))
 
 pub returns-in-Err-replay_file-clause-checks : goal.returns-in-Err-replay_file-clause-checks
 returns-in-Err-replay_file-clause-checks g c =
@@ -32,13 +33,13 @@ returns-in-Err-replay_file-clause-checks g c =
       because = stop-before between now (g.D.Desk.state c.args.desk.now)
           (lrat_source c.args.job.now.lrat.now (length cnf.clauses)) fault c.in-Ok.ensures.files
           (c.in-Ok.ensures.quiet (λ e. e)) c.in-Err-replay_file.ensures.answers;
-      tells = c.unread-in-Err-replay_file.ensures;
+      tells = c.unread_outcome-in-Err-replay_file.ensures;
     }))
 
 pub returns-in-Err-replay_file-clause-quiet : goal.returns-in-Err-replay_file-clause-quiet
 returns-in-Err-replay_file-clause-quiet g c told =
     c.in-Err-replay_file.ensures.quiet (λ fails. told (desk-fault Lrat c.in-Err-replay_file.fault
-    c.unread-in-Err-replay_file.result c.unread-in-Err-replay_file.ensures fails))
+    c.unread_outcome-in-Err-replay_file.result c.unread_outcome-in-Err-replay_file.ensures fails))
     ∙ c.in-Ok.ensures.quiet (λ e. e)
 
 pub returns-in-Accepted-clause-checks : goal.returns-in-Accepted-clause-checks

@@ -23,7 +23,7 @@ returns-in-Err g c =
     let before = g.S.Shelf.state c.args.shelf.now in
     let now = g.S.Shelf.state c.write_proof.new.shelf in
     refuted-stops (core_said c.args.job.now) c.args.problem.now c.was_given.ensures
-    c.args.job.now.in_range.1 before now c.stopped.result c.args.job.now.affordable.1
+    c.args.job.now.in_range.1 before now c.stop_outcome.result c.args.job.now.affordable.1
     c.requires.few c.requires.none_without_model c.args.log.steps c.in-Ok.core.log.steps
     c.in-Ok.ensures.just c.args.formula.now.cnf c.requires.formula c.in-Err.stop
     (record {
@@ -35,7 +35,7 @@ returns-in-Err g c =
       writes = subst (λ (a : Asked). WritesProof a c.args.job.now.width c.args.formula.now.cnf
           c.in-Ok.core.log.steps before now (Err c.in-Err.stop)) c.ask_for.ensures
           c.in-Err.ensures;
-    }) c.stopped.ensures
+    }) c.stop_outcome.ensures
 
 pub returns-in_default-say : goal.returns-in_default-say
 returns-in_default-say g c =

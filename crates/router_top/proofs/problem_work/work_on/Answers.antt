@@ -5,9 +5,9 @@ use Rattle.router_top.proofs.problem_work.work_on.Goals as goal
 
 pub returns-in-Err-clause-leaves : goal.returns-in-Err-clause-leaves
 returns-in-Err-clause-leaves g c =
-    inl ((c.in-Err.stop, c.in-Err.ensures.stop, c.unread.ensures), refl)
+    inl ((c.in-Err.stop, c.in-Err.ensures.stop, c.unread_outcome.ensures), refl)
 
 pub returns-in-Err-clause-quiet : goal.returns-in-Err-clause-quiet
 returns-in-Err-clause-quiet g c told =
     c.in-Err.ensures.quiet (λ fails. told (desk-fault (Problem c.in-Err.stop.file)
-    c.in-Err.stop.fault c.unread.result c.unread.ensures fails))
+    c.in-Err.stop.fault c.unread_outcome.result c.unread_outcome.ensures fails))

@@ -20,7 +20,7 @@ returns g c =
     let width = c.args.job.now.search.width in
     let before = g.S.Shelf.state c.args.shelf.now in
     let now = g.S.Shelf.state c.one_width-came.new.shelf in
-    by-one (route_said c.args.job.now) c.args.problem.now before now c.found.result
+    by-one (route_said c.args.job.now) c.args.problem.now before now c.found_outcome.result
     c.was_given.ensures (ap (option_map members_said) c.requires.alone)
     c.args.job.now.search.in_range.1 (asked c.ask_for-ask.result) c.ask_for-ask.ensures.asked
     c.one_width-came.result
@@ -28,4 +28,4 @@ returns g c =
     c.requires.encoder
     (λ formula good. FindsAt (asked c.ask_for-ask.result) width
     (IsCrowded width c.args.problem.now) (formula width) (good width) before now
-    c.one_width-came.result) c.one_width-came.ensures) c.found.ensures
+    c.one_width-came.result) c.one_width-came.ensures) c.found_outcome.ensures

@@ -38,7 +38,7 @@ returns-in-None g c =
     let now = g.S.Shelf.state c.one_width-came.new.shelf in
     let by = by-encoder c.args.job.now.search.method c.args.problem.now c.args.encoder.now
     c.requires.encoder in
-    by-turns (route_said c.args.job.now) c.args.problem.now before now c.found.result
+    by-turns (route_said c.args.job.now) c.args.problem.now before now c.found_outcome.result
     c.was_given.ensures (members_said c.args.members)
     (ap (option_map members_said) c.requires.members) c.args.job.now.search.in_range.1
     (by (λ formula good. HasFew (formula width)
@@ -46,4 +46,4 @@ returns-in-None g c =
     (asked c.ask_for-ask.result) c.ask_for-ask.ensures.asked c.one_width-came.result
     (by (λ formula good. FindsAt (asked c.ask_for-ask.result) width
     (IsCrowded width c.args.problem.now) (formula width) (good width) before now
-    c.one_width-came.result) c.one_width-came.ensures) c.found.ensures
+    c.one_width-came.result) c.one_width-came.ensures) c.found_outcome.ensures

@@ -19,7 +19,7 @@ pub returns-clause-none : goal.returns-clause-none
 returns-clause-none c =
     let recipe = recipe_said c.args.recipe in
     let refusal = c.in-Err-read_problem.refusal in
-    subst (PosesNone recipe) (sym c.unread.ensures)
+    subst (PosesNone recipe) (sym c.unread_outcome.ensures)
     (refused-many recipe c.args.recipe.in_range c.in-Ok.ensures.room refusal.file refusal.fault
     (subst (λ (texts : Texts). IsRefusal (faults_of texts refusal.file) refusal.fault)
     (c.lent.ensures ∙ c.in-Ok.ensures.texts) c.in-Err-read_problem.ensures.first))

@@ -10,12 +10,12 @@ use Rattle.router_top.proofs.verifying.verify_file.Goals as goal
 
 pub returns-in-Err-clause-verifies : goal.returns-in-Err-clause-verifies
 returns-in-Err-clause-verifies g c =
-    inl (c.in-Err.stop, c.in-Err.ensures.stop, c.unread.ensures)
+    inl (c.in-Err.stop, c.in-Err.ensures.stop, c.unread_outcome.ensures)
 
 pub returns-in-Err-clause-quiet : goal.returns-in-Err-clause-quiet
 returns-in-Err-clause-quiet g c told =
     c.in-Err.ensures.quiet (λ fails. told (desk-fault (Problem c.in-Err.stop.file)
-    c.in-Err.stop.fault c.unread.result c.unread.ensures fails))
+    c.in-Err.stop.fault c.unread_outcome.result c.unread_outcome.ensures fails))
 
 pub returns-in-Err-read_route_file-clause-verifies :
     goal.returns-in-Err-read_route_file-clause-verifies
@@ -30,15 +30,15 @@ returns-in-Err-read_route_file-clause-verifies g c =
             (g.D.Desk.state c.read_route_file.new.desk) (g.D.Desk.state c.args.desk.now)
             (route_source (verify_said c.args.job.now).routed) fault c.in-Ok.ensures.files
             (c.in-Ok.ensures.quiet (λ e. e)) c.in-Err-read_route_file.ensures.reads.answers;
-        tells = c.unread-in-Err-read_route_file.ensures;
+        tells = c.unread_outcome-in-Err-read_route_file.ensures;
       }),
     )
 
 pub returns-in-Err-read_route_file-clause-quiet : goal.returns-in-Err-read_route_file-clause-quiet
 returns-in-Err-read_route_file-clause-quiet g c told =
     c.in-Err-read_route_file.ensures.reads.quiet (λ fails. told (desk-fault Routed
-    c.in-Err-read_route_file.fault c.unread-in-Err-read_route_file.result
-    c.unread-in-Err-read_route_file.ensures fails)) ∙ c.in-Ok.ensures.quiet (λ e. e)
+    c.in-Err-read_route_file.fault c.unread_outcome-in-Err-read_route_file.result
+    c.unread_outcome-in-Err-read_route_file.ensures fails)) ∙ c.in-Ok.ensures.quiet (λ e. e)
 
 pub returns-clause-verifies : goal.returns-clause-verifies
 returns-clause-verifies g c =

@@ -8,6 +8,6 @@ pub returns-clause-ok : goal.returns-clause-ok
 returns-clause-ok c =
     let was = ap (option_map begun_said) c.in-Some.is in
     let test = rw c.deref.ensures.value at c.if-misses_pins.ensures in
-    rw (c.new.ensures, ← c.self.view_is) (lists-block _ c.block_pins-pins.result.now
+    rw (c.new.ensures, ← c.self.view_is) (lists-block _ c.pins_of-pins.result.now
     c.in-Ok.words.items c.args.line.now.words (begun_said c.in-Some.begun) was
-    c.block_pins-pins.ensures c.in-Ok.ensures test)
+    c.pins_of-pins.ensures c.in-Ok.ensures test)

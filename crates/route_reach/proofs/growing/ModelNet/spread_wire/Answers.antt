@@ -8,20 +8,20 @@ use Rattle.route_reach.proofs.GrowthLemmas.{all-spread_to, asked, place-in, spre
 use Rattle.route_reach.proofs.TreeLemmas.{grows-none, grows-twice, over-kept}
 use Rattle.route_reach.proofs.growing.ModelNet.spread_wire.Goals as goal
 
-pub slot_of-requires : goal.slot_of-requires
-slot_of-requires c = (asked (net_of c.args.self.now) c.args.self.now.is c.args.tree.now
+pub slot-requires : goal.slot-requires
+slot-requires c = (asked (net_of c.args.self.now) c.args.self.now.is c.args.tree.now
     c.args.next.now.items (c.args.joins + 1) c.args.joins c.args.wire c.requires.grown
     c.requires.wire).low
 
 pub beside-beside-requires-clause-slot : goal.beside-beside-requires-clause-slot
 beside-beside-requires-clause-slot c =
-    rw c.slot_of.ensures (asked (net_of c.args.self.now) c.args.self.now.is c.args.tree.now
+    rw c.slot.ensures (asked (net_of c.args.self.now) c.args.self.now.is c.args.tree.now
     c.args.next.now.items (c.args.joins + 1) c.args.joins c.args.wire c.requires.grown
     c.requires.wire).slot
 
 pub beside-beside-requires-clause-track : goal.beside-beside-requires-clause-track
 beside-beside-requires-clause-track c =
-    rw c.track_of.ensures (asked (net_of c.args.self.now) c.args.self.now.is c.args.tree.now
+    rw c.track.ensures (asked (net_of c.args.self.now) c.args.self.now.is c.args.tree.now
     c.args.next.now.items (c.args.joins + 1) c.args.joins c.args.wire c.requires.grown
     c.requires.wire).track
 
@@ -34,10 +34,10 @@ pub spread_to-requires-clause-place : goal.spread_to-requires-clause-place
 spread_to-requires-clause-place c =
     place-in (net_of c.args.self.now) c.args.self.now.is c.args.tree.now c.loop-place.tree
     c.args.next.now.items c.loop-place.next.items c.as_slice-place-items.result.now
-    c.beside-beside.result.items (c.args.joins + 1) c.slot_of.result c.track_of.result
+    c.beside-beside.result.items (c.args.joins + 1) c.slot.result c.track.result
     c.loop-place.place-index c.args.wire c.requires.grown c.loop-place.invariant.grows.grown
-    c.as_slice-place-items.ensures.value c.beside-beside.ensures.listed c.slot_of.ensures
-    c.track_of.ensures c.loop-place-test.true
+    c.as_slice-place-items.ensures.value c.beside-beside.ensures.listed c.slot.ensures
+    c.track.ensures c.loop-place-test.true
 
 pub spread_to-requires-clause-grown : goal.spread_to-requires-clause-grown
 spread_to-requires-clause-grown c = c.loop-place.invariant.grows.grown
@@ -79,6 +79,6 @@ returns-clause-spread c =
     spread-from n c.args.self.now.is (c.args.joins + 1) c.args.tree.now c.loop-place.tree
     c.args.next.now.items items (c.args.joins + 1) c.args.wire c.requires.grown
     (c.as_slice-place-items.ensures.value ∙ c.beside-beside.ensures.listed
-    ∙ (λ j. places_beside n.model (c.slot_of.ensures j) (c.track_of.ensures j)))
+    ∙ (λ j. places_beside n.model (c.slot.ensures j) (c.track.ensures j)))
     (all-whole (IsSpreadTo n c.loop-place.tree (c.args.joins + 1)) items
     c.loop-place.place-index whole c.loop-place.invariant.spread)

@@ -13,8 +13,8 @@ use Rattle.route_reach.proofs.printer.NetPrinter.come_to_opin.Goals as goal
 pub print_opin-requires-clause-quiet : goal.print_opin-requires-clause-quiet
 print_opin-requires-clause-quiet c =
     let there : list_any (same_elem c.args.opin) c.args.printed.now.lines.items ≡ true =
-    sym (c.requires.so_far.seen c.args.opin c.requires.kind) ∙ sym c.is_seen.ensures
-    ∙ c.if-is_seen.true in
+    sym (c.requires.so_far.seen c.args.opin c.requires.kind) ∙ sym c.has_elem.ensures
+    ∙ c.if-has_elem.true in
     opin-again (frame_of c.args.self.now) c.requires.is.frame c.args.printed.now c.requires.so_far
     c.args.opin (In-contains c.args.self.now.net.now.elems c.args.opin c.requires.own)
     c.requires.kind c.requires.open
@@ -29,7 +29,7 @@ print_opin-requires-2-clause-quiet c =
     (c.in-Ok.ensures.last ∙ first.1) first.2
     (sym (c.in-Ok.ensures.so_far.seen c.args.opin c.requires.kind)
     ∙ ap (λ (s : _). has_elem s c.args.opin) c.in-Ok.ensures.opins
-    ∙ sym c.is_seen.ensures ∙ c.if-is_seen.false)
+    ∙ sym c.has_elem.ensures ∙ c.if-has_elem.false)
 
 pub print_opin-requires-2-clause-begun : goal.print_opin-requires-2-clause-begun
 print_opin-requires-2-clause-begun c =

@@ -21,8 +21,8 @@ pub returns-in-Err : goal.returns-in-Err
 returns-in-Err g c =
     unbuilt-core (core_said c.args.self.now) c.args.problem.now c.was_given.ensures
     c.args.self.now.in_range.1 (g.S.Shelf.state c.args.shelf.now)
-    (g.S.Shelf.state c.args.shelf.now) c.stopped.result c.in-Err.stop c.in-Err.ensures.stop refl
-    c.stopped.ensures
+    (g.S.Shelf.state c.args.shelf.now) c.stop_outcome.result c.in-Err.stop
+    c.in-Err.ensures.stop refl c.stop_outcome.ensures
 
 pub returns-in_default : goal.returns-in_default
 returns-in_default g c =
@@ -46,7 +46,8 @@ returns-in-Ok-Model g c =
     let p = c.args.problem.now in
     let before = g.S.Shelf.state c.args.shelf.now in
     let now = g.S.Shelf.state c.write_routing-written.new.shelf in
-    found-core job p c.was_given.ensures c.args.self.now.in_range.1 before now c.found.result
+    found-core job p c.was_given.ensures c.args.self.now.in_range.1 before now
+    c.found_outcome.result
     IsRouted (λ same. cc) c.write_routing-written.result c.and.result c.and.ensures
     (finds-routing (Refutes (core_search job) p c.args.self.now.width)
     (LeavesOpen (core_search job) p c.args.self.now.width) (core_search job).ask
@@ -56,7 +57,7 @@ returns-in-Ok-Model g c =
     c.write_routing-written.result
     (subst (λ (a : Asked). WritesRoute a c.in-Ok-decode.routing before now
     c.write_routing-written.result) c.ask_for-ask.ensures c.write_routing-written.ensures)
-    c.and.result c.and.ensures) c.found.ensures
+    c.and.result c.and.ensures) c.found_outcome.ensures
 
 pub returns-in-Ok-Spent : goal.returns-in-Ok-Spent
 returns-in-Ok-Spent g c =
@@ -96,9 +97,9 @@ returns-in-Ok-Spent g c =
     c.write_proof-written.result (Refutes (core_search job) p width) cnf c.in-Ok.ensures.formula
     ended c.and-in-Ok-Spent.result c.and-in-Ok-Spent.ensures in
     found-core job p c.was_given.ensures c.args.self.now.in_range.1 before now
-    c.found-in-Ok-Spent.result (Spent ask.budget) (λ same. cc) c.write_proof-written.result
+    c.found_outcome-in-Ok-Spent.result (Spent ask.budget) (λ same. cc) c.write_proof-written.result
     c.and-in-Ok-Spent.result c.and-in-Ok-Spent.ensures
     (subst (λ (a : Asked). FindsBy (Refutes (core_search job) p width)
     (IsLeftOpenBy a forbidden formula) a width forbidden formula good before now
     c.and-in-Ok-Spent.result) c.ask_for-ask.ensures found)
-    c.found-in-Ok-Spent.ensures
+    c.found_outcome-in-Ok-Spent.ensures

@@ -27,15 +27,15 @@ returns-in-Some-clause-ok g c = λ formula steps replayed.
     (step_of c.args.step) (view_literals c.args.step c.requires) c.take_step.new.self
     c.in-Some.cause (λ live tracks. sym c.in-Some.is ∙ c.in-Ok.ensures.fault live tracks)
 
-pub returns-then-adds_empty_clause-clause-ok : goal.returns-then-adds_empty_clause-clause-ok
-returns-then-adds_empty_clause-clause-ok g c = λ formula steps replayed.
+pub returns-then-is_empty_clause-clause-ok : goal.returns-then-is_empty_clause-clause-ok
+returns-then-is_empty_clause-clause-ok g c = λ formula steps replayed.
     let p = c.self.inside in
     take_accepted g.row.R.Denot g.R.StepRule.fault g.R.StepRule.tracks formula steps
     (record { judge = p.judge; taken = p.taken; verdict = p.verdict })
     (rw (← c.self.view_is) at replayed) (sym c.is_some.ensures ∙ c.if-is_some.false)
     (step_of c.args.step) (view_literals c.args.step c.requires) c.take_step.new.self
     (λ live tracks. sym c.in_default-fault.is ∙ c.in-Ok.ensures.fault live tracks)
-    (sym c.adds_empty_clause.ensures ∙ c.if-adds_empty_clause.true)
+    (sym c.is_empty_clause.ensures ∙ c.if-is_empty_clause.true)
 
 pub returns-clause-ok : goal.returns-clause-ok
 returns-clause-ok g c = λ formula steps replayed.
@@ -45,5 +45,5 @@ returns-clause-ok g c = λ formula steps replayed.
     (rw (← c.self.view_is) at replayed) (sym c.is_some.ensures ∙ c.if-is_some.false)
     (step_of c.args.step) (view_literals c.args.step c.requires) c.take_step.new.self
     (λ live tracks. sym c.in_default-fault.is ∙ c.in-Ok.ensures.fault live tracks)
-    (sym c.adds_empty_clause.ensures ∙ c.if-adds_empty_clause.false)
+    (sym c.is_empty_clause.ensures ∙ c.if-is_empty_clause.false)
     (c.in-Ok.ensures.live c.in_default-fault.is)

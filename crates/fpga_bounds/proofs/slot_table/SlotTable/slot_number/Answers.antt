@@ -1,6 +1,6 @@
 use Rattle.std.proofs.Common.{◌≡◌, length, ◌∙◌, sym, rules}
 use Rattle.fpga_bounds.proofs.SlotTableLemmas.{number-found, number-none}
-use Rattle.fpga_bounds.proofs.slot_table.SlotTable.number_of.Goals as goal
+use Rattle.fpga_bounds.proofs.slot_table.SlotTable.slot_number.Goals as goal
 
 pub returns-in-Some : goal.returns-in-Some
 returns-in-Some c =

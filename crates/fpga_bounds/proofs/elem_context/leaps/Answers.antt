@@ -1,4 +1,4 @@
-use Rattle.fpga_bounds.proofs.elem_context.is_leap.Goals as goal
+use Rattle.fpga_bounds.proofs.elem_context.leaps.Goals as goal
 
 pub returns : goal.returns
 returns c =

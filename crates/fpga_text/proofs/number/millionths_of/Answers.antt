@@ -1,8 +1,8 @@
 use Rattle.std.proofs.Common.{◌≡◌, ◌++◌, sym, ap, false, take}
 use Rattle.fpga_text.specs.Bytes.{is_empty}
 use Rattle.fpga_text.proofs.NumberLemmas.{millionths-digits, some-back, some-front, split-at}
-use Rattle.fpga_text.proofs.number.millionths.Goals as goal
-use Rattle.fpga_text.proofs.number.millionths.Goals.{else-is_empty-via-then-is_empty+else-is_empty-2, else-is_empty-via-else-is_empty, After-with_digits-2}
+use Rattle.fpga_text.proofs.number.millionths_of.Goals as goal
+use Rattle.fpga_text.proofs.number.millionths_of.Goals.{else-is_empty-via-then-is_empty+else-is_empty-2, else-is_empty-via-else-is_empty, After-with_digits-2}
 
 -- one of the parts has a digit
 some : (c : After-with_digits-2)

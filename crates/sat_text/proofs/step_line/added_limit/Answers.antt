@@ -1,7 +1,7 @@
 use Rattle.std.proofs.Common.{◌≤◌, ap, refl, ◌∙◌, arith, nat_abs, w64}
 use Rattle.std.proofs.lemmas.Int.{to_z-of_z}
 use Rattle.sat_text.proofs.LratLemmas.{added_limit-behind}
-use Rattle.sat_text.proofs.step_line.addition_limit.Goals as goal
+use Rattle.sat_text.proofs.step_line.added_limit.Goals as goal
 
 pub returns-in-Some : goal.returns-in-Some
 returns-in-Some c =

@@ -2,7 +2,7 @@
 use Rattle.std.proofs.Common.{length, ◌-◌}
 use Rattle.std.specs.Option.{option_map_or}
 use Rattle.route_reach.proofs.FirstLemmas.{IsSought}
-use Rattle.route_reach.proofs.numbers.SlotNumbers.number_of.Given as goal
+use Rattle.route_reach.proofs.numbers.SlotNumbers.found_number.Given as goal
 
 abbrev pub invariant-loop-next : goal.invariant-loop-next
 invariant-loop-next l = IsSought l.self l.slot l.next

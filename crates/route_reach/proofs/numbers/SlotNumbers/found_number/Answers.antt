@@ -4,7 +4,7 @@ use Rattle.fpga_types.specs.declared.problem.Slot.{Slot}
 use Rattle.route_encode.specs.Rivals.{next_rival}
 use Rattle.route_encode.proofs.RivalLemmas.{fewer-left}
 use Rattle.route_reach.proofs.FirstLemmas.{IsSought, off-grid, sought-found, sought-next, sought-none, sought-on}
-use Rattle.route_reach.proofs.numbers.SlotNumbers.number_of.Goals as goal
+use Rattle.route_reach.proofs.numbers.SlotNumbers.found_number.Goals as goal
 
 pub returns-then-not-has_cell : goal.returns-then-not-has_cell
 returns-then-not-has_cell c =
