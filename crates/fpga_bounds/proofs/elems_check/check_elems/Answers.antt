@@ -25,7 +25,8 @@ check_elem-requires g c κs =
             line = line-of c.args.earlier.now c.args.net.now elems c.loop-i.i c.loop-i.previous
                 c.has_elem-again.result c.has_pin.result c.see.new.seen c.loop-i.invariant.elems
                 within c.loop-i.invariant.previous
-                (c.has_elem-again.ensures ∙ c.loop-i.invariant.seen e) (c.has_pin.ensures ∙ c.requires.pins e)
+                (c.has_elem-again.ensures ∙ c.loop-i.invariant.seen e)
+                (c.has_pin.ensures ∙ c.requires.pins e)
                 (λ q. c.in-Ok.ensures q ∙ ap (λ (b : Bool). b || same_elem q e)
                 (c.loop-i.invariant.seen q)
                 ∙ sym (list_any_more (same_elem q) elems c.loop-i.i NO_ELEM within));
