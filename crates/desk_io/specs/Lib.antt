@@ -1,3 +1,4 @@
+pub mod Changes
 pub mod DeskState
 pub mod Files
 pub mod Memory

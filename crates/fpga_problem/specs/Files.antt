@@ -1,5 +1,5 @@
 -- The four files of a problem, in the order in which they are read.
-use Rattle.std.specs.Prelude.{◌++◌, Option}
+use Rattle.std.specs.Prelude.{◌++◌, Option, codes}
 use Rattle.desk_io.specs.Files.{Bytes, FileMap}
 use Rattle.fpga_arch.specs.Codes.{arch_faults}
 use Rattle.fpga_arch.specs.Value.{arch_value}
@@ -35,6 +35,15 @@ names_said names = record {
   netlist = names.netlist.now;
   placement = names.placement.now;
   route = names.route.now;
+}
+
+-- those behind a prefix
+abbrev pub names_behind : (prefix : Bytes) → FileNames
+names_behind prefix = record {
+  architecture = prefix ++ codes ".arch";
+  netlist = prefix ++ codes ".net";
+  placement = prefix ++ codes ".place";
+  route = prefix ++ codes ".route";
 }
 
 -- the architecture

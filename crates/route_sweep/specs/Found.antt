@@ -97,6 +97,17 @@ abbrev pub LogReadsBackIf : (counts : Bool) → (forbidden : Type 0) → Cnf →
 LogReadsBackIf false forbidden formula log = LogReadsBack formula log
 LogReadsBackIf true forbidden formula log = forbidden ⊎ LogReadsBack formula log
 
+-- both texts of a refutation read back; where counting comes first, the log does unless numbers
+-- alone forbid the width
+pub record ReadBackIf (counts : Bool) (forbidden : Type 0) (cnf : Cnf) (log : List Step)
+    : Type 0 where
+  pub clauses : ReadsCnf (cnf_text cnf) cnf
+  pub steps : LogReadsBackIf counts forbidden cnf log
+
+-- both texts of a search read back
+abbrev pub ReadBack : Cnf → List Step → Type 0
+ReadBack cnf log = ReadBackIf false ⊥ cnf log
+
 -- the log has as many learned clauses as the budget allows, none of them empty; with a larger one
 -- than that no search is left open; where counting comes first, numbers alone do not forbid the
 -- width
