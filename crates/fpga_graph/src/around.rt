@@ -1,10 +1,10 @@
 //! The cells round a cell.
-ghost use Rattle.std.specs.Prelude.{◌≡◌, ◌≤◌, IsTrue};
+ghost use Rattle.std.specs.Prelude.{◌≡◌, IsTrue};
 ghost use Rattle.fpga_graph.specs.Around.{cells_around};
 ghost use Rattle.fpga_graph.specs.Cells.{column_cell, row_cell};
 ghost use Rattle.fpga_types.specs.Fabric.{is_cell};
 
-use fpga_types::{Axis, Cell, Grid, SIDE_LIMIT};
+use fpga_types::{Axis, Cell, Grid};
 
 /// The cells across the lower end of a cell of the array, and then those across the upper one, each
 /// in the order left, right, bottom, top. Beside the border some are none of the array.
@@ -14,14 +14,6 @@ pub(crate) fn cells_around(grid: Grid, cell: Cell) -> [Cell; 6]
 {
     // The limits of the array keep all coordinates in range.
     let Grid { nx: _, ny: _ } = grid;
-    cells_across_ends(cell)
-}
-
-/// The same of any cell within the limits.
-fn cells_across_ends(cell: Cell) -> [Cell; 6]
-    requires { (cell.x ≤ SIDE_LIMIT) × (cell.y ≤ SIDE_LIMIT) }
-    ensures { result ≡ cells_around cell }
-{
     let Cell { axis, x, y } = cell;
     match axis {
         Axis::X => {
