@@ -2,7 +2,7 @@
 ghost use Rattle.std.specs.Prelude.{◌≡◌, All, IfOk, IsErr, IsTrue, OnOk};
 ghost use Rattle.router_rows.specs.Wanted.{AreMet, IsMetBy, said_of};
 
-use crate::parts::places;
+use crate::parts::places_of;
 use crate::stop::RowStop;
 use desk_io::MemShelf;
 use itoa::Buffer;
@@ -113,8 +113,8 @@ fn is_met(file: &WantedFile, shelf: &MemShelf) -> bool
     match file.how {
         Wanted::Whole => came == text,
         Wanted::Begins => came.starts_with(text),
-        Wanted::Holds => places(came, text) > 0,
-        Wanted::Counts(count) => places(came, text) == count,
+        Wanted::Holds => places_of(came, text) > 0,
+        Wanted::Counts(count) => places_of(came, text) == count,
         Wanted::Lacks => false,
     }
 }

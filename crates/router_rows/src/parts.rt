@@ -3,7 +3,7 @@ ghost use Rattle.std.specs.Prelude.{◌≡◌};
 ghost use Rattle.router_rows.specs.Parts.{places_of};
 
 /// At how many places of a text this part of it begins.
-pub fn places(text: &[u8], part: &[u8]) -> u64
+pub fn places_of(text: &[u8], part: &[u8]) -> u64
     ensures { result ≡ places_of part.now text.now }
 {
     let mut count = 0u64;

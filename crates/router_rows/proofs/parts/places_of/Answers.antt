@@ -3,8 +3,8 @@ use Rattle.std.specs.Prelude.{nat_eq}
 use Rattle.std.specs.List.{starts_with}
 use Rattle.std.proofs.lemmas.List.{take_rest}
 use Rattle.router_rows.proofs.PartLemmas.{counted, passed}
-use Rattle.router_rows.proofs.parts.places.Goals as goal
-use Rattle.router_rows.proofs.parts.places.Goals.{then-starts_with, else-starts_with}
+use Rattle.router_rows.proofs.parts.places_of.Goals as goal
+use Rattle.router_rows.proofs.parts.places_of.Goals.{then-starts_with, else-starts_with}
 
 pub loop-at-preserved : goal.loop-at-preserved
 loop-at-preserved c =

@@ -1,6 +1,6 @@
 use Rattle.std.proofs.Common.{◌≡◌, ◌+◌, ◌≤◌, drop}
 use Rattle.router_rows.specs.Parts.{places_of}
-use Rattle.router_rows.proofs.parts.places.Given as goal
+use Rattle.router_rows.proofs.parts.places_of.Given as goal
 
 -- the places so far and those in what is left are all, and no more than were looked at
 abbrev pub invariant-loop-at : goal.invariant-loop-at
