@@ -132,7 +132,7 @@ module _ (n : ℕ) (ks : List Stored) (heads : List (Option ClauseRef)) (h : IsC
             (ap (λ (k : Stored). k.lits) led.same ∙ marked_lits true refs ks came.from);
       }
 
-  pub unlinked_without : (fronts : List (Option ClauseRef)) → fronts ≡ replicate (n * 2) None →
+  pub unlinked_without : (fronts : List (Option ClauseRef)) → fronts ≡ replicate (n * 2 + 1) None →
       AreUnlinked n (stored_without refs ks) fronts
   unlinked_without fronts empty = record {
     few = h.few;

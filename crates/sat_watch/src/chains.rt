@@ -7,7 +7,7 @@ ghost use Rattle.sat_clause.specs.Literal.{IsWithin};
 ghost use Rattle.sat_arena.specs.declared.clause_ref.ClauseRef.{ClauseRef};
 ghost use Rattle.sat_arena.specs.Compact.{AreRising, moves_of};
 ghost use Rattle.sat_arena.specs.Store.{behind_of, first_ref, is_held, link_of, stored_at};
-ghost use Rattle.sat_watch.specs.Chains.{AreChained, GoesOn, HasCursor, IsAdded, IsCursor, IsPlaceOf, IsRewatched, MayBePlaceOf, clause_of, head_at, head_in, holders, literals, next_on};
+ghost use Rattle.sat_watch.specs.Chains.{AreChained, GoesOn, HasCursor, IsAdded, IsCursor, IsPlaceOf, IsRewatched, MayBePlaceOf, clause_of, head_at, head_of, holders, literals, next_on};
 ghost use Rattle.sat_watch.specs.Choice.{IsAhead, after_first as after_first_of};
 ghost use Rattle.sat_watch.specs.Relinking.{marked, stored_without};
 ghost use Rattle.sat_watch.specs.Tails.{IsTail, refs};
@@ -15,7 +15,7 @@ ghost use Rattle.sat_watch.specs.TrailStore.{place_of};
 ghost use Rattle.sat_watch.specs.Watches.{attached};
 
 use crate::link::Link;
-use crate::links::{index, link_all, link_first, mark_all, push_ordered, put_first, unlink};
+use crate::links::{link_all, link_first, mark_all, push_ordered, put_first, unlink};
 use crate::place::Place;
 use crate::tails::{Tails, literal_at};
 use crate::trail::place;
@@ -69,7 +69,7 @@ impl Chains {
         ensures clauses { IfOk result (λ c. c.clauses ≡ []) }
         ensures chained { IfOk result AreChained }
     {
-        let heads = vec![in alloc; Link::none(); vars as usize * 2]?;
+        let heads = vec![in alloc; Link::none(); vars as usize * 2 + 1]?;
         let tails = Tails::new(alloc);
         Ok(Chains {
             vars,
@@ -103,7 +103,7 @@ impl Chains {
     {
         self.arena.reserve(lits.len() as u64 + 6)?;
         let c = push_ordered(&mut self.arena, lits, id, i, j);
-        link_first(&mut self.arena, &mut self.heads, c);
+        link_first(&mut self.arena, &mut self.heads, self.vars, c);
         Ok(c)
     }
 
@@ -151,9 +151,9 @@ impl Chains {
     /// The first clause of a literal's chain.
     pub(crate) fn head(&self, l: Lit) -> Option<ClauseRef>
         requires within { IsWithin self.now.vars l }
-        ensures { result ≡ head_in self.now.heads l }
+        ensures { result ≡ head_of self.now l }
     {
-        self.heads[index(l)].clause()
+        self.heads[place(self.vars, l)].clause()
     }
 
     /// The literals of a clause.
@@ -252,7 +252,7 @@ impl Chains {
             return Err(AllocError);
         };
         self.heads.fill(Link::none());
-        link_all(&mut self.arena, &mut self.heads, &moves, self.vars);
+        link_all(&mut self.arena, &mut self.heads, self.vars, &moves);
         Ok(moves)
     }
 
@@ -393,7 +393,7 @@ impl Chains {
         requires before { MayBePlaceOf self.old.clauses f before }
         requires low { 2 ≤ k }
         requires high { k < length (literals self.old.clauses at.clause) }
-        requires cursor { HasCursor (next_on self.old.clauses f) (head_in self.old.heads f)
+        requires cursor { HasCursor (next_on self.old.clauses f) (head_of self.old f)
             (clause_of before) (Some at.clause) }
         requires after { link_of (stored_at self.old.clauses at.clause) at.which ≡ after }
         requires near { IfSome after (λ c. c.word < 2 ^ 63) }
@@ -401,15 +401,22 @@ impl Chains {
         ensures spare { self.new.spare ≡ self.old.spare }
         ensures chained { AreChained self.new }
         ensures clauses { IsRewatched self.old.clauses self.new.clauses before at k after
-            (head_at self.old.clauses self.old.heads at.clause k) }
+            (head_at self.old.vars self.old.clauses self.old.heads at.clause k) }
         ensures holders { (l : Lit) → holders l self.new.clauses ≡ holders l self.old.clauses }
         ensures cursor { (kept rest : List ClauseRef)
-            → IsCursor (next_on self.old.clauses f) (head_in self.old.heads f) kept
+            → IsCursor (next_on self.old.clauses f) (head_of self.old f) kept
             (at.clause ∷ rest) (clause_of before) (Some at.clause)
-            → IsCursor (next_on self.new.clauses f) (head_in self.new.heads f) kept rest
+            → IsCursor (next_on self.new.clauses f) (head_of self.new f) kept rest
             (clause_of before) after }
     {
-        unlink(&mut self.arena, &mut self.heads, f, before, after);
-        put_first(&mut self.arena, &mut self.heads, at, k);
+        unlink(
+            &mut self.arena,
+            &mut self.heads,
+            self.vars,
+            f,
+            before,
+            after,
+        );
+        put_first(&mut self.arena, &mut self.heads, self.vars, at, k);
     }
 }

@@ -36,7 +36,8 @@ impl Model for Trail {
     ghost invariant = { λ t. IsTrailStore t.vars t.entries t.truths t.places };
 }
 
-/// The place of a literal in the table of truths, whose middle belongs to no literal.
+/// The place of a literal in a table of all literals, whose middle belongs to none. Neighbours of
+/// one sign stand side by side: propagation comes to many of them at a time.
 pub(crate) fn place(vars: u32, l: Lit) -> usize
     requires few { vars ≤ VARIABLE_LIMIT }
     requires within { IsWithin vars l }

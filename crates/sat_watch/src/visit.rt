@@ -4,7 +4,7 @@ ghost use Rattle.std.specs.Prelude.{◌≡◌, ◌+◌, ◌^◌, ◌<◌, ◌≤
 ghost use Rattle.sat_clause.specs.Literal.{IsWithin, negation};
 ghost use Rattle.sat_arena.specs.declared.clause_ref.ClauseRef.{ClauseRef};
 ghost use Rattle.sat_arena.specs.Store.{is_held, link_of, ref, stored_at};
-ghost use Rattle.sat_watch.specs.Chains.{holders, HasCursor, IsPlaceOf, head_in, lit_at, next_on, literals, watchers};
+ghost use Rattle.sat_watch.specs.Chains.{holders, HasCursor, IsPlaceOf, head_of, lit_at, next_on, literals, watchers};
 ghost use Rattle.sat_watch.specs.Tails.{IsPairOf, IsTail, refs};
 ghost use Rattle.sat_watch.specs.Watched.{AreWhole, GoesTo, HasCounted, IsVisited, OtherIsTrue, is_false, AreFalse};
 
@@ -33,7 +33,7 @@ fn visit_clause(
     requires within { IsWithin chains.old.vars f }
     requires is_false { is_false trail.old.entries f ≡ true }
     requires at { IsPlaceOf chains.old.clauses f at }
-    requires cursor { HasCursor (next_on chains.old.clauses f) (head_in chains.old.heads f) before
+    requires cursor { HasCursor (next_on chains.old.clauses f) (head_of chains.old f) before
         (Some at.clause) }
     requires after { link_of (stored_at chains.old.clauses at.clause) at.which ≡ after }
     requires near { IfSome after (λ c. c.word < 2 ^ 63) }

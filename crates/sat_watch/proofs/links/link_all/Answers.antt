@@ -22,6 +22,8 @@ relink-requires c =
     pair_leads c.args.moves.now no_move l.invariant c.requires.references few in
     let head = relink_head c.requires.unlinked.simple l.invariant lt at in
     record {
+      few = c.requires.unlinked.few;
+      wide = l.invariant.chained.many;
       held = relink_held c.requires.unlinked.simple l.invariant lt at;
       first = head 0 (omega arith);
       second = head 1 (omega arith);

@@ -1,9 +1,9 @@
 use Rattle.std.proofs.Common.{◌≡◌, ◌<◌, length, Some, true, false, refl, sym, ap, ◌∙◌, subst}
 use Rattle.sat_clause.specs.Literal.{negation}
 use Rattle.sat_arena.specs.Store.{stored_at}
-use Rattle.sat_watch.specs.Chains.{HasCursor, next_on, watch_of}
+use Rattle.sat_watch.specs.Chains.{HasCursor, next_on, watch_of, head_of}
 use Rattle.sat_watch.specs.declared.entry.TrailEntry.{TrailEntry}
-use Rattle.sat_watch.specs.Chains.{head_in, lit_at}
+use Rattle.sat_watch.specs.Chains.{head_of, lit_at}
 use Rattle.sat_watch.specs.Trail.{falses}
 use Rattle.sat_watch.specs.Watched.{IsImplied, IsReason, IsVisited, is_false, other_of}
 use Rattle.sat_watch.proofs.PathLemmas.{before_goes_on}
@@ -30,14 +30,14 @@ place_before-place-requires c =
     let old = c.args.chains.now in let a = c.args in
     record {
       goes =
-          before_goes_on (next_on old.clauses a.f) (head_in old.heads a.f) a.before
+          before_goes_on (next_on old.clauses a.f) (head_of old a.f) a.before
           (Some a.at.clause) c.requires.cursor;
     }
 
 pub rewatch-requires-clause-cursor : goal.rewatch-requires-clause-cursor
 rewatch-requires-clause-cursor c =
     let old = c.args.chains.now in let a = c.args in
-    subst (λ b. HasCursor (next_on old.clauses a.f) (head_in old.heads a.f) b (Some a.at.clause))
+    subst (λ b. HasCursor (next_on old.clauses a.f) (head_of old a.f) b (Some a.at.clause))
     (sym c.place_before-place.ensures.clause) c.requires.cursor
 
 pub returns-in-Open-clause-goes : goal.returns-in-Open-clause-goes
@@ -52,7 +52,7 @@ returns-in-Open-clause-goes c =
     goes_moved old.vars old a.f a.at a.after chained c.requires.at c.requires.after
     a.trail.now.entries c.place_before-place.result c.place_before-place.ensures.place
     c.rewatch.new.self c.in-Open.k
-    (head_in old.heads (lit_at (stored_at old.clauses a.at.clause).lits c.in-Open.k)) says.0 high
+    (head_of old (lit_at (stored_at old.clauses a.at.clause).lits c.in-Open.k)) says.0 high
     c.rewatch.ensures.clauses a.level c.rewatch.ensures.holders free
 
 pub returns-in-Open-clause-visited : goal.returns-in-Open-clause-visited
@@ -66,7 +66,7 @@ returns-in-Open-clause-visited c =
     (visited_moved old.vars old a.f a.at a.after chained c.requires.at c.requires.after
     a.trail.now.entries c.place_before-place.result c.place_before-place.ensures.place
     c.rewatch.new.self c.in-Open.k
-    (head_in old.heads (lit_at (stored_at old.clauses a.at.clause).lits c.in-Open.k)) says.0 high
+    (head_of old (lit_at (stored_at old.clauses a.at.clause).lits c.in-Open.k)) says.0 high
     c.rewatch.ensures.clauses a.trail.now.entries c.rewatch.ensures.cursor)
 
 pub push-requires-clause-within : goal.push-requires-clause-within
