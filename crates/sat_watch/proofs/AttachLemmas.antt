@@ -3,11 +3,12 @@ use Rattle.std.proofs.Common.{◌≡◌, ◌≢◌, ℕ, ◌+◌, ◌*◌, ◌<�
 use Rattle.std.specs.List.{swap}
 use Rattle.sat_clause.specs.declared.literal.Lit.{Lit}
 use Rattle.sat_clause.specs.Learned.{IsSimple}
-use Rattle.sat_clause.specs.Literal.{Clause, IsWithin, lit, variable}
+use Rattle.sat_clause.specs.Literal.{Clause, IsWithin, lit}
 use Rattle.sat_arena.specs.declared.clause_ref.ClauseRef.{ClauseRef}
 use Rattle.sat_arena.specs.Store.{ArePlaced, Stored, changed, is_held, new_clause, ref, size_all, size_of, stored_at, with_link}
-use Rattle.sat_watch.specs.Chains.{HasChain, HasHead, IsAdded, IsChained, IsLast, head_at, head_in, index_of, lit_at, next_by, next_in, next_on, with_head, with_order}
-use Rattle.sat_watch.proofs.ChainLemmas.{head_held, head_set_other, head_set_same, index_within}
+use Rattle.sat_watch.specs.Chains.{HasChain, HasHead, IsAdded, IsChained, IsLast, head_at, head_in, lit_at, next_by, next_in, next_on, with_head, with_order}
+use Rattle.sat_watch.specs.TrailStore.{place_of}
+use Rattle.sat_watch.proofs.ChainLemmas.{head_held, head_set_other, head_set_same}
 use Rattle.sat_arena.proofs.StoreLaws.{held_push, push_held, same_or_other}
 use Rattle.sat_watch.proofs.PathLemmas.{PutsFirst, put_first, same_chain}
 use Rattle.sat_arena.proofs.StoreLaws.{not_held}
@@ -98,7 +99,7 @@ module _ (n : ℕ) (ks : List Stored) (heads : List (Option ClauseRef)) (k : Sto
     unmarked = unmarked_append ks (k ∷ []) h.unmarked (unmarked, tt);
     simple = now_simple;
     chains =
-        λ l within. same_chain (next_on ks l) (next_on (ks ++ k ∷ []) l) (head_in heads l)
+        λ l within. same_chain (next_on ks l) (next_on (ks ++ k ∷ []) l) (head_in n heads l)
         (λ d. elim (same_or_other d k.place) [
           | inl same ↦ subst (λ r. next_on (ks ++ k ∷ []) l r ≡ next_on ks l r) (sym same.1)
               (ap (λ (x : Stored). next_in x l)
@@ -114,10 +115,10 @@ module _ (n : ℕ) (ks : List Stored) (heads : List (Option ClauseRef)) (k : Sto
       none_of (a ∷ b ∷ ls) lt l = absurd (omega arith)
 
   -- a longer one comes first in the chains of its first two literals
-  pub long_attached : (a b : Lit) (ls : Clause) → k.lits ≡ a ∷ b ∷ ls → k.link0 ≡ head_in heads a →
-      k.link1 ≡ head_in heads b →
+  pub long_attached : (a b : Lit) (ls : Clause) → k.lits ≡ a ∷ b ∷ ls →
+      k.link0 ≡ head_in n heads a → k.link1 ≡ head_in n heads b →
       IsChained n (ks ++ k ∷ [])
-      (set (set heads (index_of a) (Some k.place)) (index_of b) (Some k.place))
+      (set (set heads (place_of n a) (Some k.place)) (place_of n b) (Some k.place))
   long_attached a b ls is to_a to_b =
       let simple' : IsSimple n (a ∷ b ∷ ls) = subst (IsSimple n) is simple in
       let ab = apart_first n a b ls simple' in
@@ -125,36 +126,38 @@ module _ (n : ℕ) (ks : List Stored) (heads : List (Option ClauseRef)) (k : Sto
       let wb : IsWithin n b = simple'.within 1 a (omega arith) in
       let own_a = own_next n (a ∷ b ∷ ls) 0 a k.link0 k.link1 simple' (omega arith) refl in
       let own_b = own_next n (a ∷ b ∷ ls) 1 b k.link0 k.link1 simple' (omega arith) refl in
-      let many_a : length (set heads (index_of a) (Some k.place)) ≡ n * 2 =
-      length-set heads (index_of a) (Some k.place) ∙ h.many in
+      let many_a : length (set heads (place_of n a) (Some k.place)) ≡ n * 2 + 1 =
+      length-set heads (place_of n a) (Some k.place) ∙ h.many in
       record {
         few = h.few;
         many =
-            length-set (set heads (index_of a) (Some k.place)) (index_of b) (Some k.place) ∙ many_a;
+            length-set (set heads (place_of n a) (Some k.place)) (place_of n b) (Some k.place) ∙
+            many_a;
         placed = now_placed;
         unmarked = unmarked_append ks (k ∷ []) h.unmarked (unmarked, tt);
         simple = now_simple;
         chains = λ l within. elim (lit_tells l b) [
           | inl same ↦ subst (λ x. HasChain (next_on (ks ++ k ∷ []) x)
-              (head_in (set (set heads (index_of a) (Some k.place)) (index_of b) (Some k.place)) x))
+              (head_in n (set (set heads (place_of n a) (Some k.place)) (place_of n b)
+              (Some k.place)) x))
               (sym same.1)
-              (rw (head_set_same n (set heads (index_of a) (Some k.place)) b (Some k.place) many_a
+              (rw (head_set_same n (set heads (place_of n a) (Some k.place)) b (Some k.place) many_a
               wb)
-              (put_first (next_on ks b) (next_on (ks ++ k ∷ []) b) (head_in heads b) k.place
-              (h.chains b wb) (puts b (head_in heads b) (by_lits b ∙ (own_b ∙ ap Some to_b)))))
+              (put_first (next_on ks b) (next_on (ks ++ k ∷ []) b) (head_in n heads b) k.place
+              (h.chains b wb) (puts b (head_in n heads b) (by_lits b ∙ (own_b ∙ ap Some to_b)))))
           | inr lb ↦ elim (lit_tells l a) [
             | inl same ↦ subst (λ x. HasChain (next_on (ks ++ k ∷ []) x)
-                (head_in (set (set heads (index_of a) (Some k.place)) (index_of b) (Some k.place))
-                x))
+                (head_in n (set (set heads (place_of n a) (Some k.place)) (place_of n b)
+                (Some k.place)) x))
                 (sym same.1)
-                (rw (head_set_other n (set heads (index_of a) (Some k.place)) a b (Some k.place) wa
-                wb ab ∙ head_set_same n heads a (Some k.place) h.many wa)
-                (put_first (next_on ks a) (next_on (ks ++ k ∷ []) a) (head_in heads a) k.place
-                (h.chains a wa) (puts a (head_in heads a) (by_lits a ∙ (own_a ∙ ap Some to_a)))))
-            | inr la ↦ rw (head_set_other n (set heads (index_of a) (Some k.place)) l b
+                (rw (head_set_other n (set heads (place_of n a) (Some k.place)) a b (Some k.place)
+                wa wb ab ∙ head_set_same n heads a (Some k.place) h.many wa)
+                (put_first (next_on ks a) (next_on (ks ++ k ∷ []) a) (head_in n heads a) k.place
+                (h.chains a wa) (puts a (head_in n heads a) (by_lits a ∙ (own_a ∙ ap Some to_a)))))
+            | inr la ↦ rw (head_set_other n (set heads (place_of n a) (Some k.place)) l b
                 (Some k.place) within wb lb.1 ∙ head_set_other n heads l a (Some k.place) within wa
                 la.1)
-                (same_chain (next_on ks l) (next_on (ks ++ k ∷ []) l) (head_in heads l)
+                (same_chain (next_on ks l) (next_on (ks ++ k ∷ []) l) (head_in n heads l)
                 (others l (λ e. la.1 (sym e)) (λ e. lb.1 (sym e))) (h.chains l within))
           ]
         ];
@@ -237,22 +240,22 @@ module _ (n : ℕ) (ks all new : List Stored) (heads now : List (Option ClauseRe
     (c : ClauseRef) (h : IsChained n ks heads) (simple : IsSimple n k.lits)
     (unmarked : k.mark ≡ false)
     (two : 2 ≤ length k.lits) (last : IsLast ks all k c) (place : c ≡ ref (size_all ks))
-    (links : new ≡ changed (with_link 1 (head_in heads (lit_at k.lits 1))) c
-    (changed (with_link 0 (head_in heads (lit_at k.lits 0))) c all))
-    (fronts : now ≡ set (set heads (index_of (lit_at k.lits 0)) (Some c))
-    (index_of (lit_at k.lits 1)) (Some c)) where
+    (links : new ≡ changed (with_link 1 (head_in n heads (lit_at k.lits 1))) c
+    (changed (with_link 0 (head_in n heads (lit_at k.lits 0))) c all))
+    (fronts : now ≡ set (set heads (place_of n (lit_at k.lits 0)) (Some c))
+    (place_of n (lit_at k.lits 1)) (Some c)) where
   abbrev pub linked_clause : Stored
   linked_clause =
-      with_link 1 (head_in heads (lit_at k.lits 1))
-      (with_link 0 (head_in heads (lit_at k.lits 0)) k)
+      with_link 1 (head_in n heads (lit_at k.lits 1))
+      (with_link 0 (head_in n heads (lit_at k.lits 0)) k)
 
   pub last_linked : IsLast ks new linked_clause c
   last_linked =
-      last_changed (with_link 1 (head_in heads (lit_at k.lits 1))) ks
-      (changed (with_link 0 (head_in heads (lit_at k.lits 0))) c all) new
-      (with_link 0 (head_in heads (lit_at k.lits 0)) k) c (λ x. refl)
-      (last_changed (with_link 0 (head_in heads (lit_at k.lits 0))) ks all
-      (changed (with_link 0 (head_in heads (lit_at k.lits 0))) c all) k c (λ x. refl) last refl)
+      last_changed (with_link 1 (head_in n heads (lit_at k.lits 1))) ks
+      (changed (with_link 0 (head_in n heads (lit_at k.lits 0))) c all) new
+      (with_link 0 (head_in n heads (lit_at k.lits 0)) k) c (λ x. refl)
+      (last_changed (with_link 0 (head_in n heads (lit_at k.lits 0))) ks all
+      (changed (with_link 0 (head_in n heads (lit_at k.lits 0))) c all) k c (λ x. refl) last refl)
       links
 
   pub linked_chained : IsChained n new now
@@ -265,11 +268,11 @@ module _ (n : ℕ) (ks all new : List Stored) (heads now : List (Option ClauseRe
         let second : lit_at k.lits 1 ≡ b = ap (λ l. lit_at l 1) e in
         let at : linked_clause.place ≡ ref (size_all ks) = last_linked.place ∙ place in
         let whole = long_attached n ks heads linked_clause h simple unmarked at a b ls e
-        (ap (head_in heads) first) (ap (head_in heads) second) in
-        let heads_are : now ≡ set (set heads (index_of a) (Some linked_clause.place)) (index_of b)
-        (Some linked_clause.place) =
-        fronts ∙ (λ x. set (set heads (index_of (first x)) (Some (sym last_linked.place x)))
-        (index_of (second x)) (Some (sym last_linked.place x))) in
+        (ap (head_in n heads) first) (ap (head_in n heads) second) in
+        let heads_are : now ≡ set (set heads (place_of n a) (Some linked_clause.place))
+        (place_of n b) (Some linked_clause.place) =
+        fronts ∙ (λ x. set (set heads (place_of n (first x)) (Some (sym last_linked.place x)))
+        (place_of n (second x)) (Some (sym last_linked.place x))) in
         subst (λ (p : List Stored × List (Option ClauseRef)). IsChained n p.0 p.1)
         (λ x. (sym last_linked.is x, sym heads_are x)) whole
 
@@ -311,38 +314,33 @@ module _ {n : ℕ} {ks all : List Stored} {heads : List (Option ClauseRef)} {lit
   pub ordered_two : 2 ≤ length (stored_at all c).lits
   ordered_two = rw stored long
 
-  pub ordered_head : (k : ℕ) → k < 2 → HasHead all heads c k
+  pub ordered_head : (k : ℕ) → k < 2 → HasHead n all heads c k
   ordered_head k lt =
       let within : IsWithin n (lit_at ordered.lits k) =
       simple_ordered.within k (lit (pos 0)) (omega (arith, long)) in
-      let below = index_within n (lit_at ordered.lits k) within in
-      let many = put.chained.many in
       record {
-        some = subst (λ (x : Stored). 1 ≤ variable (lit_at x.lits k)) (sym stored) within.0;
-        within =
-            subst (λ (x : Stored). index_of (lit_at x.lits k) < length heads) (sym stored)
-            (omega arith);
+        within = subst (λ (x : Stored). IsWithin n (lit_at x.lits k)) (sym stored) within;
         held = λ d e. subst (λ l. is_held l d ≡ true) (sym put.last.is)
             (held_push ks ordered d
             (head_held n ks heads (lit_at ordered.lits k) d put.chained within
-            (ap (λ (x : Stored). head_in heads (lit_at x.lits k)) (sym stored) ∙ e)));
+            (ap (λ (x : Stored). head_in n heads (lit_at x.lits k)) (sym stored) ∙ e)));
       }
 
   module _ (new : List Stored) (now : List (Option ClauseRef))
-      (links : new ≡ changed (with_link 1 (head_at all heads c 1)) c
-      (changed (with_link 0 (head_at all heads c 0)) c all))
-      (fronts : now ≡ with_head all (with_head all heads c 0) c 1) where
-    links_are : new ≡ changed (with_link 1 (head_in heads (lit_at ordered.lits 1))) c
-        (changed (with_link 0 (head_in heads (lit_at ordered.lits 0))) c all)
+      (links : new ≡ changed (with_link 1 (head_at n all heads c 1)) c
+      (changed (with_link 0 (head_at n all heads c 0)) c all))
+      (fronts : now ≡ with_head n all (with_head n all heads c 0) c 1) where
+    links_are : new ≡ changed (with_link 1 (head_in n heads (lit_at ordered.lits 1))) c
+        (changed (with_link 0 (head_in n heads (lit_at ordered.lits 0))) c all)
     links_are =
-        links ∙ (λ x. changed (with_link 1 (head_in heads (lit_at (stored x).lits 1))) c
-        (changed (with_link 0 (head_in heads (lit_at (stored x).lits 0))) c all))
+        links ∙ (λ x. changed (with_link 1 (head_in n heads (lit_at (stored x).lits 1))) c
+        (changed (with_link 0 (head_in n heads (lit_at (stored x).lits 0))) c all))
 
-    fronts_are : now ≡ set (set heads (index_of (lit_at ordered.lits 0)) (Some c))
-        (index_of (lit_at ordered.lits 1)) (Some c)
+    fronts_are : now ≡ set (set heads (place_of n (lit_at ordered.lits 0)) (Some c))
+        (place_of n (lit_at ordered.lits 1)) (Some c)
     fronts_are =
-        fronts ∙ (λ x. set (set heads (index_of (lit_at (stored x).lits 0)) (Some c))
-        (index_of (lit_at (stored x).lits 1)) (Some c))
+        fronts ∙ (λ x. set (set heads (place_of n (lit_at (stored x).lits 0)) (Some c))
+        (place_of n (lit_at (stored x).lits 1)) (Some c))
 
     pub ordered_chained : IsChained n new now
     ordered_chained =

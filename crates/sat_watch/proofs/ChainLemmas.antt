@@ -1,54 +1,34 @@
 -- The chains stay whole where a watch moves.
-use Rattle.std.proofs.Common.{◌≡◌, ◌≢◌, ℕ, zero, suc, ◌*◌, ◌<◌, ◌≤◌, ℤ, pos, negsuc, nat_abs, true, false, ◌⊎◌, inl, inr, List, [], ◌∷◌, ◌++◌, length, set, replicate, get_or, Option, None, Some, refl, sym, ap, ◌∙◌, subst, arith, length-set}
+use Rattle.std.proofs.Common.{◌≡◌, ◌≢◌, ℕ, zero, suc, ◌+◌, ◌*◌, ◌<◌, ◌≤◌, pos, true, false, ◌⊎◌, inl, inr, List, [], ◌∷◌, ◌++◌, length, set, replicate, get_or, Option, None, Some, refl, sym, ap, ◌∙◌, subst, arith, length-set}
 use Rattle.std.proofs.lemmas.List.{length-replicate, get_or-set_same, get_or-set_other}
 use Rattle.std.specs.List.{swap}
 use Rattle.sat_clause.specs.declared.literal.Lit.{Lit}
 use Rattle.sat_clause.specs.Learned.{IsSimple}
-use Rattle.sat_clause.specs.Literal.{IsWithin, is_among, lit, variable}
+use Rattle.sat_clause.specs.Literal.{IsWithin, is_among, lit}
 use Rattle.sat_arena.specs.declared.clause_ref.ClauseRef.{ClauseRef}
 use Rattle.sat_arena.specs.Store.{ArePlaced, Stored, changed, is_held, link_of, stored_at, with_link, with_swap}
 use Rattle.sat_watch.specs.declared.place.Place.{Place}
-use Rattle.sat_watch.specs.Chains.{holders, AreUnmarked, ChainsState, AreOnce, HasCursor, HasHead, IsPath, is_in, HasChain, IsChained, IsCursor, IsPlaceOf, IsRewatched, MayBePlaceOf, clause_of, head_in, index_by, index_of, lit_at, next_in, next_on, unlinked, unlinked_heads, with_watch}
+use Rattle.sat_watch.specs.Chains.{holders, AreUnmarked, ChainsState, AreOnce, HasCursor, HasHead, IsPath, is_in, HasChain, IsChained, IsCursor, IsPlaceOf, IsRewatched, MayBePlaceOf, clause_of, head_in, head_of, lit_at, next_in, next_on, unlinked, unlinked_heads, with_watch}
 use Rattle.sat_arena.proofs.StoreLaws.{same_or_other}
 use Rattle.sat_watch.proofs.PathLemmas.{at_first, last_in_all, once_before, PutsFirst, TakesOut, head_behind, put_first, same_chain, take_out, whole_chain}
 use Rattle.sat_arena.proofs.StoreLaws.{changed_other, changed_same, held_changed}
 use Rattle.sat_watch.proofs.StoredLemmas.{counted_changed, link_id, link_lits, link_mark, link_place, placed_changed, unmarked_changed, ids_changed, length_changed, next_is_held}
 use Rattle.sat_watch.proofs.WatchLemmas.{among_swap, length_swap, Moves, link_other, link_own, lit_tells, moves, simple_swap, goes_on}
+use Rattle.sat_watch.proofs.TableLemmas.{place_within, places_apart}
 use Rattle.sat_watch.proofs.TrailLemmas.{never}
-
--- a literal's place in a table tells the literal
-index_tells : (x y : ℤ) → 1 ≤ nat_abs x → 1 ≤ nat_abs y → index_by x ≡ index_by y → x ≡ y
-index_tells (pos zero) y px py e = absurd (omega arith)
-index_tells (pos (suc a)) (pos zero) px py e = absurd (omega arith)
-index_tells (pos (suc a)) (pos (suc b)) px py e =
-    let same : a ≡ b = omega (arith, e) in ap (λ n. pos (suc n)) same
-index_tells (pos (suc a)) (negsuc b) px py e = absurd (omega (arith, e))
-index_tells (negsuc a) (pos zero) px py e = absurd (omega arith)
-index_tells (negsuc a) (pos (suc b)) px py e = absurd (omega (arith, e))
-index_tells (negsuc a) (negsuc b) px py e = let same : a ≡ b = omega (arith, e) in ap negsuc same
-
-pub index_apart : (n : ℕ) (l m : Lit) → IsWithin n l → IsWithin n m → l ≢ m →
-    index_of l ≢ index_of m
-index_apart n l m wl wm ne e = ne (ap lit (index_tells l.code m.code wl.0 wm.0 e))
-
-pub index_within : (n : ℕ) (l : Lit) → IsWithin n l → index_of l < n * 2
-index_within n l within = of_code l.code within.0 within.1 where
-  of_code : (z : ℤ) → 1 ≤ nat_abs z → nat_abs z ≤ n → index_by z < n * 2
-  of_code (pos zero) p q = absurd (omega arith)
-  of_code (pos (suc a)) p q = omega arith
-  of_code (negsuc a) p q = omega arith
+use Rattle.sat_watch.specs.TrailStore.{place_of}
 
 pub head_set_same : (n : ℕ) (heads : List (Option ClauseRef)) (l : Lit) (o : Option ClauseRef) →
-    length heads ≡ n * 2 → IsWithin n l →
-    head_in (set heads (index_of l) o) l ≡ o
+    length heads ≡ n * 2 + 1 → IsWithin n l →
+    head_in n (set heads (place_of n l) o) l ≡ o
 head_set_same n heads l o many within =
-    let at = index_within n l within in get_or-set_same heads (index_of l) o None (omega arith)
+    let at = place_within n l within in get_or-set_same heads (place_of n l) o None (omega arith)
 
 pub head_set_other : (n : ℕ) (heads : List (Option ClauseRef)) (l m : Lit) (o : Option ClauseRef) →
     IsWithin n l → IsWithin n m → l ≢ m →
-    head_in (set heads (index_of m) o) l ≡ head_in heads l
+    head_in n (set heads (place_of n m) o) l ≡ head_in n heads l
 head_set_other n heads l m o wl wm ne =
-    get_or-set_other heads (index_of m) (index_of l) o None (index_apart n l m wl wm ne)
+    get_or-set_other heads (place_of n m) (place_of n l) o None (places_apart n l m wl wm ne)
 
 -- what the code does is to move the watch
 pub rewatched_is : (ks : List Stored) (before : Option Place) (at : Place) (i : ℕ)
@@ -247,41 +227,41 @@ module _ (n : ℕ) (ks new : List Stored) (f : Lit) (before : Option Place) (at 
     | inr other ↦ rw (lits_stay c other.1) (simple c (sym (is.held c) ∙ held))
   ]
 
-  module _ (heads : List (Option ClauseRef)) (many : length heads ≡ n * 2) (wf : IsWithin n f)
-      (head_is : head ≡ head_in heads m) where
+  module _ (heads : List (Option ClauseRef)) (many : length heads ≡ n * 2 + 1) (wf : IsWithin n f)
+      (head_is : head ≡ head_in n heads m) where
     abbrev pub heads_now : List (Option ClauseRef)
-    heads_now = set (unlinked_heads f before after heads) (index_of m) (Some at.clause)
+    heads_now = set (unlinked_heads n f before after heads) (place_of n m) (Some at.clause)
 
     wm : IsWithin n m
     wm = (simple at.clause place.held).within i (lit (pos 0)) high
 
-    pub many_unlinked : length (unlinked_heads f before after heads) ≡ n * 2
+    pub many_unlinked : length (unlinked_heads n f before after heads) ≡ n * 2 + 1
     many_unlinked = of_option before where
-      of_option : (o : Option Place) → length (unlinked_heads f o after heads) ≡ n * 2
-      of_option None = length-set heads (index_of f) after ∙ many
+      of_option : (o : Option Place) → length (unlinked_heads n f o after heads) ≡ n * 2 + 1
+      of_option None = length-set heads (place_of n f) after ∙ many
       of_option (Some p) = many
 
-    pub head_of_f : head_in heads_now f ≡ head_behind (clause_of before) (head_in heads f) after
+    pub head_of_f : head_in n heads_now f ≡ head_behind (clause_of before) (head_in n heads f) after
     head_of_f =
-        head_set_other n (unlinked_heads f before after heads) f m (Some at.clause) wf wm
+        head_set_other n (unlinked_heads n f before after heads) f m (Some at.clause) wf wm
         other_literal ∙ of_option before where
           of_option : (o : Option Place) →
-              head_in (unlinked_heads f o after heads) f ≡ head_behind (clause_of o) (head_in heads
-              f)
-              after
+              head_in n (unlinked_heads n f o after heads) f
+              ≡ head_behind (clause_of o) (head_in n heads f) after
           of_option None = head_set_same n heads f after many wf
           of_option (Some p) = refl
 
     pub head_of_other : (l : Lit) → IsWithin n l → l ≢ f →
-        head_in (unlinked_heads f before after heads) l ≡ head_in heads l
+        head_in n (unlinked_heads n f before after heads) l ≡ head_in n heads l
     head_of_other l wl lf = of_option before where
-      of_option : (o : Option Place) → head_in (unlinked_heads f o after heads) l ≡ head_in heads l
+      of_option : (o : Option Place) →
+          head_in n (unlinked_heads n f o after heads) l ≡ head_in n heads l
       of_option None = head_set_other n heads l f after wl wf lf
       of_option (Some p) = refl
 
     pub chained_again : (kept rest : List ClauseRef) → ArePlaced 0 new → AreUnmarked new →
         IsChained n ks heads →
-        IsCursor (next_on ks f) (head_in heads f) kept (at.clause ∷ rest) (clause_of before)
+        IsCursor (next_on ks f) (head_in n heads f) kept (at.clause ∷ rest) (clause_of before)
         (Some at.clause) →
         link_of (stored_at ks at.clause) at.which ≡ after → IsChained n new heads_now
     chained_again kept rest placed unmarked h cursor goes = record {
@@ -289,25 +269,26 @@ module _ (n : ℕ) (ks new : List Stored) (f : Lit) (before : Option Place) (at 
       placed = placed;
       unmarked = unmarked;
       many =
-          length-set (unlinked_heads f before after heads) (index_of m)
+          length-set (unlinked_heads n f before after heads) (place_of n m)
           (Some at.clause) ∙ many_unlinked;
       simple = still_simple;
       chains = λ l wl. elim (lit_tells l f) [
-        | inl same ↦ subst (λ x. HasChain (next_on new x) (head_in heads_now x)) (sym same.1)
+        | inl same ↦ subst (λ x. HasChain (next_on new x) (head_in n heads_now x)) (sym same.1)
             (rw head_of_f (whole_chain (next_on new f)
-            (head_behind (clause_of before) (head_in heads f) after) kept rest (clause_of before)
+            (head_behind (clause_of before) (head_in n heads f) after) kept rest (clause_of before)
             after
-            (take_out (next_on ks f) (next_on new f) (head_in heads f) kept rest at.clause
+            (take_out (next_on ks f) (next_on new f) (head_in n heads f) kept rest at.clause
             (clause_of before) after cursor (goes_after ∙ ap Some goes) takes_out)))
         | inr lf ↦ elim (lit_tells l m) [
-          | inl same ↦ subst (λ x. HasChain (next_on new x) (head_in heads_now x)) (sym same.1)
-              (rw (head_set_same n (unlinked_heads f before after heads) m (Some at.clause)
+          | inl same ↦ subst (λ x. HasChain (next_on new x) (head_in n heads_now x)) (sym same.1)
+              (rw (head_set_same n (unlinked_heads n f before after heads) m (Some at.clause)
               many_unlinked wm)
               (put_first (next_on ks m) (next_on new m) head at.clause
               (subst (HasChain (next_on ks m)) (sym head_is) (h.chains m wm)) puts_first))
-          | inr lm ↦ rw (head_set_other n (unlinked_heads f before after heads) l m (Some at.clause)
-              wl wm lm.1 ∙ head_of_other l wl lf.1)
-              (same_chain (next_on ks l) (next_on new l) (head_in heads l) (stays_same l lf.1 lm.1)
+          | inr lm ↦ rw (head_set_other n (unlinked_heads n f before after heads) l m
+              (Some at.clause) wl wm lm.1 ∙ head_of_other l wl lf.1)
+              (same_chain (next_on ks l) (next_on new l) (head_in n heads l) (stays_same l lf.1
+              lm.1)
               (h.chains l wl))
         ]
       ];
@@ -315,12 +296,13 @@ module _ (n : ℕ) (ks new : List Stored) (f : Lit) (before : Option Place) (at 
 
     -- the place in the chain stays where it is, with the clause behind it gone
     pub cursor_again : (kept rest : List ClauseRef) →
-        IsCursor (next_on ks f) (head_in heads f) kept (at.clause ∷ rest) (clause_of before)
+        IsCursor (next_on ks f) (head_in n heads f) kept (at.clause ∷ rest) (clause_of before)
         (Some at.clause) →
         link_of (stored_at ks at.clause) at.which ≡ after →
-        IsCursor (next_on new f) (head_in heads_now f) kept rest (clause_of before) after
+        IsCursor (next_on new f) (head_in n heads_now f) kept rest (clause_of before) after
     cursor_again kept rest cursor goes =
-        rw head_of_f (take_out (next_on ks f) (next_on new f) (head_in heads f) kept rest at.clause
+        rw head_of_f (take_out (next_on ks f) (next_on new f) (head_in n heads f) kept rest
+        at.clause
         (clause_of before) after cursor (goes_after ∙ ap Some goes) takes_out)
 
 -- the clause at a place that is not the end is held, and so is the head of a chain
@@ -332,9 +314,9 @@ path_held ks l from (c ∷ cs) d path e =
 
 pub head_held : (n : ℕ) (ks : List Stored) (heads : List (Option ClauseRef)) (l : Lit)
     (d : ClauseRef) → IsChained n ks heads → IsWithin n l →
-    head_in heads l ≡ Some d → is_held ks d ≡ true
+    head_in n heads l ≡ Some d → is_held ks d ≡ true
 head_held n ks heads l d h within e =
-    let chain = h.chains l within in path_held ks l (head_in heads l) chain.refs d chain.is.back e
+    let chain = h.chains l within in path_held ks l (head_in n heads l) chain.refs d chain.is.back e
 
 pub after_held : (n : ℕ) (ks : List Stored) (f : Lit) (head before after : Option ClauseRef)
     (at : Place) →
@@ -393,7 +375,7 @@ pub record CanRewatch (n : ℕ) (ks : List Stored) (heads : List (Option ClauseR
   pub places : MayBePlaceOf ks f before
   pub low : 2 ≤ i
   pub high : i < length (stored_at ks at.clause).lits
-  pub cursor : HasCursor (next_on ks f) (head_in heads f) (clause_of before) (Some at.clause)
+  pub cursor : HasCursor (next_on ks f) (head_in n heads f) (clause_of before) (Some at.clause)
   pub goes : link_of (stored_at ks at.clause) at.which ≡ after
 
 module _ {n : ℕ} {ks : List Stored} {heads : List (Option ClauseRef)} {f : Lit}
@@ -403,7 +385,7 @@ module _ {n : ℕ} {ks : List Stored} {heads : List (Option ClauseRef)} {f : Lit
   target = lit_at (stored_at ks at.clause).lits i
 
   apart : (p : Place) → before ≡ Some p → p.clause ≢ at.clause
-  apart = before_apart ks f (head_in heads f) before at.clause can.cursor
+  apart = before_apart ks f (head_in n heads f) before at.clause can.cursor
 
   pub target_within : IsWithin n target
   target_within = (can.chained.simple at.clause can.place.held).within i (lit (pos 0)) can.high
@@ -420,36 +402,37 @@ module _ {n : ℕ} {ks : List Stored} {heads : List (Option ClauseRef)} {f : Lit
   -- the clauses and heads that the code makes
   abbrev pub clauses_after : List Stored
   clauses_after =
-      changed (with_link at.which (head_in heads target)) at.clause
+      changed (with_link at.which (head_in n heads target)) at.clause
       (changed (with_swap at.which i) at.clause (unlinked before after ks))
 
   abbrev pub heads_after : List (Option ClauseRef)
-  heads_after = set (unlinked_heads f before after heads) (index_of target) (Some at.clause)
+  heads_after = set (unlinked_heads n f before after heads) (place_of n target) (Some at.clause)
 
-  pub rewatched : IsRewatched ks clauses_after before at i after (head_in heads target)
+  pub rewatched : IsRewatched ks clauses_after before at i after (head_in n heads target)
   rewatched =
-      rewatched_is ks before at i after (head_in heads target) can.place.held
+      rewatched_is ks before at i after (head_in n heads target) can.place.held
       (λ p e. (places_held before can.places p e, apart p e))
 
   moved : Moves (stored_at ks at.clause)
-      (with_watch at.which i (head_in heads target) (stored_at ks at.clause)) f target
-      (head_in heads target)
+      (with_watch at.which i (head_in n heads target) (stored_at ks at.clause)) f target
+      (head_in n heads target)
   moved =
-      moves n (stored_at ks at.clause) at.which i (head_in heads target) f
+      moves n (stored_at ks at.clause) at.which i (head_in n heads target) f
       (can.chained.simple at.clause can.place.held) can.place.which can.low can.high can.place.watch
 
-  pub target_head : head_in (unlinked_heads f before after heads) target ≡ head_in heads target
+  pub target_head :
+      head_in n (unlinked_heads n f before after heads) target ≡ head_in n heads target
   target_head = of_option before where
     of_option : (o : Option Place) →
-        head_in (unlinked_heads f o after heads) target ≡ head_in heads target
+        head_in n (unlinked_heads n f o after heads) target ≡ head_in n heads target
     of_option None =
         head_set_other n heads target f after target_within can.within (λ e. moved.other (sym e))
     of_option (Some p) = refl
 
-  pub unlinked_many : length (unlinked_heads f before after heads) ≡ n * 2
+  pub unlinked_many : length (unlinked_heads n f before after heads) ≡ n * 2 + 1
   unlinked_many = of_option before where
-    of_option : (o : Option Place) → length (unlinked_heads f o after heads) ≡ n * 2
-    of_option None = length-set heads (index_of f) after ∙ can.chained.many
+    of_option : (o : Option Place) → length (unlinked_heads n f o after heads) ≡ n * 2 + 1
+    of_option None = length-set heads (place_of n f) after ∙ can.chained.many
     of_option (Some p) = can.chained.many
 
   placed_unlinked : (b : Option Place) → ArePlaced 0 (unlinked b after ks)
@@ -465,10 +448,10 @@ module _ {n : ℕ} {ks : List Stored} {heads : List (Option ClauseRef)} {f : Lit
 
   pub now_placed : ArePlaced 0 clauses_after
   now_placed =
-      placed_changed (with_link at.which (head_in heads target)) at.clause 0
+      placed_changed (with_link at.which (head_in n heads target)) at.clause 0
       (changed (with_swap at.which i) at.clause (unlinked before after ks))
-      (link_place at.which (head_in heads target))
-      (λ k. ap length (link_lits at.which (head_in heads target) k)) placed_swapped
+      (link_place at.which (head_in n heads target))
+      (λ k. ap length (link_lits at.which (head_in n heads target) k)) placed_swapped
 
   held_unlinked : is_held (unlinked before after ks) at.clause ≡ true
   held_unlinked = unlinked_held ks before after at.clause ∙ can.place.held
@@ -477,12 +460,12 @@ module _ {n : ℕ} {ks : List Stored} {heads : List (Option ClauseRef)} {f : Lit
   pub now_holders : (l : Lit) → holders l clauses_after ≡ holders l ks
   now_holders l =
       counted_changed (λ (k : Stored). is_among k.lits l)
-      (with_link at.which (head_in heads target)) at.clause 0
+      (with_link at.which (head_in n heads target)) at.clause 0
       (changed (with_swap at.which i) at.clause (unlinked before after ks)) placed_swapped
       (held_changed (with_swap at.which i) at.clause at.clause (unlinked before after ks)
       (λ k. refl) ∙ held_unlinked)
       (ap (λ x. is_among x l)
-      (link_lits at.which (head_in heads target)
+      (link_lits at.which (head_in n heads target)
       (stored_at (changed (with_swap at.which i) at.clause (unlinked before after ks)) at.clause)))
       ∙ (counted_changed (λ (k : Stored). is_among k.lits l) (with_swap at.which i) at.clause 0
       (unlinked before after ks) (placed_unlinked before) held_unlinked
@@ -500,9 +483,9 @@ module _ {n : ℕ} {ks : List Stored} {heads : List (Option ClauseRef)} {f : Lit
 
   now_unmarked : AreUnmarked clauses_after
   now_unmarked =
-      unmarked_changed (with_link at.which (head_in heads target)) at.clause
+      unmarked_changed (with_link at.which (head_in n heads target)) at.clause
       (changed (with_swap at.which i) at.clause (unlinked before after ks))
-      (link_mark at.which (head_in heads target))
+      (link_mark at.which (head_in n heads target))
       (unmarked_changed (with_swap at.which i) at.clause (unlinked before after ks) (λ k. refl)
       (of_before before)) where
         of_before : (b : Option Place) → AreUnmarked (unlinked b after ks)
@@ -513,26 +496,30 @@ module _ {n : ℕ} {ks : List Stored} {heads : List (Option ClauseRef)} {f : Lit
 
   pub now_chained : IsChained n clauses_after heads_after
   now_chained =
-      let first = at_first (next_on ks f) (head_in heads f) can.cursor.kept can.cursor.rest
+      let first = at_first (next_on ks f) (head_in n heads f) can.cursor.kept can.cursor.rest
       (clause_of before) at.clause can.cursor.is in
-      chained_again n ks clauses_after f before at i after (head_in heads target) can.chained.simple
+      chained_again n ks clauses_after f before at i after (head_in n heads target)
+      can.chained.simple
       can.place can.places can.low can.high rewatched
-      heads can.chained.many can.within (refl {a = head_in heads target}) can.cursor.kept first.0
+      heads can.chained.many can.within (refl {a = head_in n heads target}) can.cursor.kept first.0
       now_placed now_unmarked can.chained
-      (subst (λ l. IsCursor (next_on ks f) (head_in heads f) can.cursor.kept l (clause_of before)
+      (subst (λ l. IsCursor (next_on ks f) (head_in n heads f) can.cursor.kept l (clause_of before)
       (Some at.clause)) first.1 can.cursor.is) can.goes
 
   pub now_cursor : (kept rest : List ClauseRef) →
-      IsCursor (next_on ks f) (head_in heads f) kept (at.clause ∷ rest) (clause_of before)
+      IsCursor (next_on ks f) (head_in n heads f) kept (at.clause ∷ rest) (clause_of before)
       (Some at.clause) →
-      IsCursor (next_on clauses_after f) (head_in heads_after f) kept rest (clause_of before) after
+      IsCursor (next_on clauses_after f) (head_in n heads_after f) kept rest (clause_of before)
+      after
   now_cursor kept rest cursor =
-      cursor_again n ks clauses_after f before at i after (head_in heads target) can.chained.simple
+      cursor_again n ks clauses_after f before at i after (head_in n heads target)
+      can.chained.simple
       can.place can.places can.low can.high rewatched
-      heads can.chained.many can.within (refl {a = head_in heads target}) kept rest cursor can.goes
+      heads can.chained.many can.within (refl {a = head_in n heads target}) kept rest cursor
+      can.goes
 
   module _ (k1 : List Stored) (h1 : List (Option ClauseRef)) (ek : k1 ≡ unlinked before after ks)
-      (eh : h1 ≡ unlinked_heads f before after heads) where
+      (eh : h1 ≡ unlinked_heads n f before after heads) where
     pub same_stored : stored_at k1 at.clause ≡ stored_at ks at.clause
     same_stored = ap (λ l. stored_at l at.clause) ek ∙ same_clause
 
@@ -547,41 +534,41 @@ module _ {n : ℕ} {ks : List Stored} {heads : List (Option ClauseRef)} {f : Lit
     pub still_high : i < length (stored_at k1 at.clause).lits
     still_high = rw same_stored can.high
 
-    pub still_head : HasHead k1 h1 at.clause i
+    pub still_wide : length h1 ≡ n * 2 + 1
+    still_wide = ap length eh ∙ unlinked_many
+
+    pub still_head : HasHead n k1 h1 at.clause i
     still_head =
-        let long : length h1 ≡ n * 2 = ap length eh ∙ unlinked_many in
-        let below = index_within n target target_within in
         record {
-          some = subst (λ (l : Lit). 1 ≤ variable l) (sym same_target) target_within.0;
-          within = subst (λ (l : Lit). index_of l < length h1) (sym same_target) (omega arith);
+          within = subst (IsWithin n) (sym same_target) target_within;
           held = λ d e.
-              let there : head_in heads target ≡ Some d =
-              sym target_head ∙ ((λ j. head_in (sym eh j) (sym same_target j)) ∙ e) in
+              let there : head_in n heads target ≡ Some d =
+              sym target_head ∙ ((λ j. head_in n (sym eh j) (sym same_target j)) ∙ e) in
               ap (λ l. is_held l d)
               ek ∙ (unlinked_held ks before after d ∙ head_held n ks heads target d can.chained
               target_within there);
         }
 
     pub code_clauses : (new : List Stored) →
-        new ≡ changed (with_link at.which (head_in h1 (lit_at (stored_at k1 at.clause).lits i)))
+        new ≡ changed (with_link at.which (head_in n h1 (lit_at (stored_at k1 at.clause).lits i)))
         at.clause (changed (with_swap at.which i) at.clause k1) →
         new ≡ clauses_after
     code_clauses new e =
-        e ∙ ((λ j. changed (with_link at.which (head_in (eh j) (same_target j))) at.clause
+        e ∙ ((λ j. changed (with_link at.which (head_in n (eh j) (same_target j))) at.clause
         (changed (with_swap at.which i) at.clause (ek j)))
         ∙ ap (λ o. changed (with_link at.which o) at.clause
         (changed (with_swap at.which i) at.clause (unlinked before after ks))) target_head)
 
     pub code_heads : (new : List (Option ClauseRef)) →
-        new ≡ set h1 (index_of (lit_at (stored_at k1 at.clause).lits i)) (Some at.clause) →
+        new ≡ set h1 (place_of n (lit_at (stored_at k1 at.clause).lits i)) (Some at.clause) →
         new ≡ heads_after
-    code_heads new e = e ∙ (λ j. set (eh j) (index_of (same_target j)) (Some at.clause))
+    code_heads new e = e ∙ (λ j. set (eh j) (place_of n (same_target j)) (Some at.clause))
 
 pub can_rewatch : (s t : ChainsState) (f : Lit) (before : Option Place) (at : Place) (i : ℕ)
     (after : Option ClauseRef) → s ≡ t → IsChained s.vars s.clauses s.heads →
     IsWithin t.vars f → IsPlaceOf t.clauses f at → MayBePlaceOf t.clauses f before → 2 ≤ i →
     i < length (stored_at t.clauses at.clause).lits →
-    HasCursor (next_on t.clauses f) (head_in t.heads f) (clause_of before) (Some at.clause) →
+    HasCursor (next_on t.clauses f) (head_of t f) (clause_of before) (Some at.clause) →
     link_of (stored_at t.clauses at.clause) at.which ≡ after →
     CanRewatch s.vars s.clauses s.heads f before at i after
 can_rewatch s t f before at i after e h within place places low high cursor goes =
@@ -604,18 +591,18 @@ get_none (suc n) (suc i) = get_none n i
 
 -- without clauses all chains are empty
 pub empty_chained : (n : ℕ) (ks : List Stored) (heads : List (Option ClauseRef)) → n ≤ 100000000 →
-    ks ≡ [] → heads ≡ replicate (n * 2) None → IsChained n ks heads
+    ks ≡ [] → heads ≡ replicate (n * 2 + 1) None → IsChained n ks heads
 empty_chained n ks heads few none is = rw (none, is) (record {
   few = few;
   placed = tt;
   unmarked = tt;
-  many = length-replicate {A = Option ClauseRef} (n * 2) None;
+  many = length-replicate {A = Option ClauseRef} (n * 2 + 1) None;
   simple = λ c held. let clash : false ≡ true = held in cc;
   chains = λ l within. record {
     refs = [];
     is = record {
       front = refl;
-      back = get_none (n * 2) (index_of l);
+      back = get_none (n * 2 + 1) (place_of n l);
       last = refl;
       once = tt;
       whole = λ c a goes. let clash : None ≡ Some a = goes in cc;

@@ -15,6 +15,7 @@ pub mod RelinkLemmas
 pub mod SettledLemmas
 pub mod StoreLemmas
 pub mod StoredLemmas
+pub mod TableLemmas
 pub mod TailLemmas
 pub mod TrailLemmas
 pub mod WalkLemmas

@@ -4,16 +4,17 @@ use Rattle.std.specs.Prelude.{if◌then◌else◌}
 use Rattle.std.proofs.lemmas.List.{get_or-map, length-map, length-take-le}
 use Rattle.std.proofs.Math.Seq.{split_at, take-append_seam, take-length}
 use Rattle.sat_clause.specs.Learned.{IsSimple}
-use Rattle.sat_clause.specs.Literal.{Clause, IsWithin, lit, variable}
+use Rattle.sat_clause.specs.Literal.{Clause, IsWithin, lit}
 use Rattle.sat_arena.specs.declared.clause_ref.ClauseRef.{ClauseRef}
 use Rattle.sat_arena.specs.declared.moves.Move.{Move}
 use Rattle.sat_arena.specs.Store.{ArePlaced, Stored, changed, is_held, ref, size_all, size_of, stored_at, with_link, with_mark}
 use Rattle.sat_arena.proofs.StoreLaws.{same_or_other}
-use Rattle.sat_watch.specs.Chains.{AreUnmarked, HasHead, IsChained, head_in, index_of, is_in, lit_at, literals}
+use Rattle.sat_watch.specs.Chains.{AreUnmarked, HasHead, IsChained, head_in, is_in, lit_at, literals}
 use Rattle.sat_watch.specs.Relinking.{AreRefsOf, AreUnlinked, IsRelinking, heads_with, linked, marked}
+use Rattle.sat_watch.specs.TrailStore.{place_of}
 use Rattle.sat_watch.specs.Watches.{Attached, attached, is_attached, lits_at}
 use Rattle.sat_watch.proofs.AttachLemmas.{absent, changed_behind, found_behind, long_attached, short_attached}
-use Rattle.sat_watch.proofs.ChainLemmas.{empty_chained, head_held, index_within}
+use Rattle.sat_watch.proofs.ChainLemmas.{empty_chained, head_held}
 use Rattle.sat_watch.proofs.PathLemmas.{in_back, in_here}
 use Rattle.sat_watch.proofs.StoredLemmas.{placed_changed, unmarked_changed}
 use Rattle.sat_watch.proofs.WatchesLemmas.{attached_held, attached_lits}
@@ -84,42 +85,45 @@ changed_nothing c (k ∷ ks) = elim (same_or_other k.place c) [
 ]
 
 -- a clause of two or more literals is linked, and a shorter one left
-pub linked_long : (lits : Clause) (heads : List (Option ClauseRef)) (c : ClauseRef)
+pub linked_long : (n : ℕ) (lits : Clause) (heads : List (Option ClauseRef)) (c : ClauseRef)
     (ks : List Stored) → 2 ≤ length lits →
-    changed (with_link 1 (head_in heads (lit_at lits 1))) c
-    (changed (with_link 0 (head_in heads (lit_at lits 0))) c ks) ≡ changed (linked lits heads) c ks
-linked_long [] heads c ks two = absurd (omega arith)
-linked_long (a ∷ []) heads c ks two = absurd (omega arith)
-linked_long (a ∷ b ∷ ls) heads c ks two =
-    changed_twice (with_link 1 (head_in heads b)) (with_link 0 (head_in heads a)) c ks (λ k. refl)
+    changed (with_link 1 (head_in n heads (lit_at lits 1))) c
+    (changed (with_link 0 (head_in n heads (lit_at lits 0))) c ks)
+    ≡ changed (linked n lits heads) c ks
+linked_long n [] heads c ks two = absurd (omega arith)
+linked_long n (a ∷ []) heads c ks two = absurd (omega arith)
+linked_long n (a ∷ b ∷ ls) heads c ks two =
+    changed_twice (with_link 1 (head_in n heads b)) (with_link 0 (head_in n heads a)) c ks
+    (λ k. refl)
 
-pub heads_long : (lits : Clause) (c : ClauseRef) (heads : List (Option ClauseRef)) →
+pub heads_long : (n : ℕ) (lits : Clause) (c : ClauseRef) (heads : List (Option ClauseRef)) →
     2 ≤ length lits →
-    set (set heads (index_of (lit_at lits 0)) (Some c)) (index_of (lit_at lits 1)) (Some c)
-    ≡ heads_with lits c heads
-heads_long [] c heads two = absurd (omega arith)
-heads_long (a ∷ []) c heads two = absurd (omega arith)
-heads_long (a ∷ b ∷ ls) c heads two = refl
+    set (set heads (place_of n (lit_at lits 0)) (Some c)) (place_of n (lit_at lits 1)) (Some c)
+    ≡ heads_with n lits c heads
+heads_long n [] c heads two = absurd (omega arith)
+heads_long n (a ∷ []) c heads two = absurd (omega arith)
+heads_long n (a ∷ b ∷ ls) c heads two = refl
 
-pub linked_short : (lits : Clause) (heads : List (Option ClauseRef)) (c : ClauseRef)
-    (ks : List Stored) → length lits < 2 → changed (linked lits heads) c ks ≡ ks
-linked_short [] heads c ks short = changed_nothing c ks
-linked_short (a ∷ []) heads c ks short = changed_nothing c ks
-linked_short (a ∷ b ∷ ls) heads c ks short = absurd (omega arith)
+pub linked_short : (n : ℕ) (lits : Clause) (heads : List (Option ClauseRef)) (c : ClauseRef)
+    (ks : List Stored) → length lits < 2 → changed (linked n lits heads) c ks ≡ ks
+linked_short n [] heads c ks short = changed_nothing c ks
+linked_short n (a ∷ []) heads c ks short = changed_nothing c ks
+linked_short n (a ∷ b ∷ ls) heads c ks short = absurd (omega arith)
 
-pub heads_short : (lits : Clause) (c : ClauseRef) (heads : List (Option ClauseRef)) →
-    length lits < 2 → heads_with lits c heads ≡ heads
-heads_short [] c heads short = refl
-heads_short (a ∷ []) c heads short = refl
-heads_short (a ∷ b ∷ ls) c heads short = absurd (omega arith)
+pub heads_short : (n : ℕ) (lits : Clause) (c : ClauseRef) (heads : List (Option ClauseRef)) →
+    length lits < 2 → heads_with n lits c heads ≡ heads
+heads_short n [] c heads short = refl
+heads_short n (a ∷ []) c heads short = refl
+heads_short n (a ∷ b ∷ ls) c heads short = absurd (omega arith)
 
 -- linking changes the links alone
-linked_same : {A : Type 0} (lits : Clause) (heads : List (Option ClauseRef)) (f : Stored → A) →
+linked_same : {A : Type 0} (n : ℕ) (lits : Clause) (heads : List (Option ClauseRef))
+    (f : Stored → A) →
     ((k : Stored) (x y : Option ClauseRef) → f (with_link 1 x (with_link 0 y k)) ≡ f k) →
-    (k : Stored) → f (linked lits heads k) ≡ f k
-linked_same [] heads f stays k = refl
-linked_same (a ∷ []) heads f stays k = refl
-linked_same (a ∷ b ∷ ls) heads f stays k = stays k (head_in heads b) (head_in heads a)
+    (k : Stored) → f (linked n lits heads k) ≡ f k
+linked_same n [] heads f stays k = refl
+linked_same n (a ∷ []) heads f stays k = refl
+linked_same n (a ∷ b ∷ ls) heads f stays k = stays k (head_in n heads b) (head_in n heads a)
 
 attached_changed : (f : Stored → Stored) (c : ClauseRef) (ks : List Stored) →
     ((k : Stored) → attached (f k) ≡ attached k) →
@@ -198,32 +202,28 @@ module _ {n : ℕ} {done : List Stored} {heads : List (Option ClauseRef)} (k : S
 
   -- the clauses before have their chains
   pub middle_head : (x : ℕ) → x < 2 → 2 ≤ length k.lits →
-      HasHead (done ++ k ∷ todo) heads k.place x
+      HasHead n (done ++ k ∷ todo) heads k.place x
   middle_head x lt two =
       let within : IsWithin n (lit_at k.lits x) = simple.within x (lit (pos 0)) (omega arith) in
-      let below = index_within n (lit_at k.lits x) within in let many = h.many in
       record {
-        some = subst (λ (s : Stored). 1 ≤ variable (lit_at s.lits x)) (sym middle_stored) within.0;
-        within =
-            subst (λ (s : Stored). index_of (lit_at s.lits x) < length heads) (sym middle_stored)
-            (omega arith);
+        within = subst (λ (s : Stored). IsWithin n (lit_at s.lits x)) (sym middle_stored) within;
         held = λ d e. append_held done (k ∷ todo) d
             (head_held n done heads (lit_at k.lits x) d h within
-            (ap (λ (s : Stored). head_in heads (lit_at s.lits x)) (sym middle_stored) ∙ e));
+            (ap (λ (s : Stored). head_in n heads (lit_at s.lits x)) (sym middle_stored) ∙ e));
       }
 
   -- and so has this one once it is linked
-  pub middle_chained : IsChained n (done ++ linked k.lits heads k ∷ [])
-      (heads_with k.lits k.place heads)
+  pub middle_chained : IsChained n (done ++ linked n k.lits heads k ∷ [])
+      (heads_with n k.lits k.place heads)
   middle_chained = by_lits k.lits refl where
     by_lits : (lits : Clause) → k.lits ≡ lits →
-        IsChained n (done ++ linked lits heads k ∷ []) (heads_with lits k.place heads)
+        IsChained n (done ++ linked n lits heads k ∷ []) (heads_with n lits k.place heads)
     by_lits [] e =
         short_attached n done heads k h simple unmarked place (omega (arith, ap length e))
     by_lits (a ∷ []) e =
         short_attached n done heads k h simple unmarked place (omega (arith, ap length e))
     by_lits (a ∷ b ∷ ls) e =
-        long_attached n done heads (linked (a ∷ b ∷ ls) heads k) h simple unmarked place a b ls e
+        long_attached n done heads (linked n (a ∷ b ∷ ls) heads k) h simple unmarked place a b ls e
         refl refl
 
 abbrev pub no_clause : Stored
@@ -302,41 +302,41 @@ module _ {n : ℕ} {base : List Stored} {p : ℕ} {now : List Stored}
       lits_are : literals now c ≡ next.lits
       lits_are = ap (λ d. literals now d) at ∙ ap (λ (k : Stored). k.lits) next_is
 
-      pub relink_head : (x : ℕ) → x < 2 → 2 ≤ length (literals now c) → HasHead now heads c x
+      pub relink_head : (x : ℕ) → x < 2 → 2 ≤ length (literals now c) → HasHead n now heads c x
       relink_head x lx two =
-          subst (λ (y : List Stored × ClauseRef). HasHead y.0 heads y.1 x)
+          subst (λ (y : List Stored × ClauseRef). HasHead n y.0 heads y.1 x)
           (λ i. (sym cut i, sym at i))
           (middle_head next todo r.chained placed_now next_simple next_unmarked x lx
           (subst (λ (l : Clause). 2 ≤ length l) lits_are two))
 
       -- one more is linked
       pub relinks_on : (new : List Stored) (fronts : List (Option ClauseRef)) →
-          new ≡ changed (linked (literals now c) heads) c now →
-          fronts ≡ heads_with (literals now c) c heads → IsRelinking n base (suc p) new fronts
+          new ≡ changed (linked n (literals now c) heads) c now →
+          fronts ≡ heads_with n (literals now c) c heads → IsRelinking n base (suc p) new fronts
       relinks_on new fronts is front_is =
-          let f = linked (literals now c) heads in
-          let moved : new ≡ done ++ linked next.lits heads next ∷ todo =
-          is ∙ ((λ i. changed (linked (lits_are i) heads) (at i) (cut i)) ∙
+          let f = linked n (literals now c) heads in
+          let moved : new ≡ done ++ linked n next.lits heads next ∷ todo =
+          is ∙ ((λ i. changed (linked n (lits_are i) heads) (at i) (cut i)) ∙
           middle_changed next todo r.chained placed_now next_simple next_unmarked
-          (linked next.lits heads)) in
-          let taken : take (suc p) new ≡ done ++ linked next.lits heads next ∷ [] =
+          (linked n next.lits heads)) in
+          let taken : take (suc p) new ≡ done ++ linked n next.lits heads next ∷ [] =
           ap (take (suc p)) moved ∙ taken_is in
-          let fronts_are : fronts ≡ heads_with next.lits next.place heads =
-          front_is ∙ (λ i. heads_with (lits_are i) (at i) heads) in
+          let fronts_are : fronts ≡ heads_with n next.lits next.place heads =
+          front_is ∙ (λ i. heads_with n (lits_are i) (at i) heads) in
           record {
             same =
                 ap (map attached) is ∙ (attached_changed f c now
-                (linked_same (literals now c) heads attached (λ k x y. refl)) ∙ r.same);
+                (linked_same n (literals now c) heads attached (λ k x y. refl)) ∙ r.same);
             placed =
                 subst (ArePlaced 0) (sym is)
                 (placed_changed f c 0 now
-                (linked_same (literals now c) heads (λ k. k.place) (λ k x y. refl))
-                (linked_same (literals now c) heads (λ k. length k.lits) (λ k x y. refl))
+                (linked_same n (literals now c) heads (λ k. k.place) (λ k x y. refl))
+                (linked_same n (literals now c) heads (λ k. length k.lits) (λ k x y. refl))
                 r.placed);
             unmarked =
                 subst AreUnmarked (sym is)
                 (unmarked_changed f c now
-                (linked_same (literals now c) heads (λ k. k.mark) (λ k x y. refl)) r.unmarked);
+                (linked_same n (literals now c) heads (λ k. k.mark) (λ k x y. refl)) r.unmarked);
             chained =
                 subst (λ (y : List Stored × List (Option ClauseRef)). IsChained n y.0 y.1)
                 (λ i. (sym taken i, sym fronts_are i))
@@ -347,12 +347,12 @@ module _ {n : ℕ} {base : List Stored} {p : ℕ} {now : List Stored}
           long = length-take-le p now (omega arith)
 
           k' : Stored
-          k' = linked next.lits heads next
+          k' = linked n next.lits heads next
 
-          taken_is : take (suc p) (done ++ linked next.lits heads next ∷ todo)
-              ≡ done ++ linked next.lits heads next ∷ []
+          taken_is : take (suc p) (done ++ linked n next.lits heads next ∷ todo)
+              ≡ done ++ linked n next.lits heads next ∷ []
           taken_is =
-              let x = linked next.lits heads next in
+              let x = linked n next.lits heads next in
               let size : length (done ++ x ∷ []) ≡ suc p =
               length-append done (x ∷ []) ∙ omega (arith, long) in
               (λ i. take (sym size i) (sym (append_assoc done (x ∷ []) todo) i)) ∙

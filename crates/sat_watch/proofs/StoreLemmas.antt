@@ -1,5 +1,5 @@
 -- How a trail lies, with one more entry and with one less.
-use Rattle.std.proofs.Common.{◌≡◌, ◌≢◌, ◌<◌, ◌≤◌, ◌+◌, ◌-◌, ◌*◌, ◌==◌, inl, inr, Bool, ℕ, suc, ℤ, pos, negsuc, nat_abs, set, length-set, replicate, true, false, List, [], ◌∷◌, ◌++◌, length, slice_index_or, reverse, Some, Vec, refl, sym, ap, ◌∙◌, subst, arith}
+use Rattle.std.proofs.Common.{◌≡◌, ◌≢◌, ◌<◌, ◌≤◌, ◌+◌, ◌-◌, ◌*◌, ◌==◌, inl, inr, Bool, ℕ, suc, set, length-set, replicate, true, false, List, [], ◌∷◌, ◌++◌, length, slice_index_or, reverse, Some, Vec, refl, sym, ap, ◌∙◌, subst, arith}
 use Rattle.std.specs.Prelude.{vec_len, vec_capacity}
 use Rattle.std.specs.Global.{Global}
 use Rattle.std.specs.Vec.{with_item, with_items}
@@ -9,34 +9,20 @@ use Rattle.std.proofs.lemmas.List.{get_or-replicate, get_or-set_same, get_or-set
 use Rattle.std.proofs.lemmas.List.{length-reverse, reverse-append, with_items_is}
 use Rattle.std.proofs.lemmas.List.Elements.{All-pop, All-push, All-tail}
 use Rattle.sat_clause.specs.declared.literal.Lit.{Lit}
-use Rattle.sat_clause.specs.Literal.{IsWithin, is_among, lit, negation, variable}
+use Rattle.sat_clause.specs.Literal.{IsWithin, is_among, negation, variable}
 use Rattle.sat_watch.specs.declared.entry.TrailEntry.{TrailEntry}
 use Rattle.sat_watch.specs.Trail.{AreWithin, IsOnce, IsOpen, IsTrail, falses, place_in}
-use Rattle.sat_watch.specs.TrailStore.{ArePlacesOf, AreTold, IsTrailStore, place_by, place_of, trail_state, truth_by, truth_in}
+use Rattle.sat_watch.specs.TrailStore.{ArePlacesOf, AreTold, IsTrailStore, place_of, trail_state, truth_by, truth_in}
 use Rattle.sat_watch.proofs.LevelLemmas.{not_both, not_own_negation}
 use Rattle.sat_watch.proofs.WatchLemmas.{lit_tells}
 use Rattle.sat_watch.proofs.FewLemmas.{longer_trail}
 use Rattle.sat_watch.proofs.PlaceLemmas.{none_placed}
+use Rattle.sat_watch.proofs.TableLemmas.{place_within, places_apart}
 use Rattle.sat_clause.proofs.LiteralLaws.{among_here, among_other, negation-negation, variable_negation}
 use Rattle.sat_watch.proofs.TrailLemmas.{open_negation, open_not_false, open_not_true}
 
 reverse-push : {X : Type 0} (xs : List X) (x : X) → reverse (xs ++ x ∷ []) ≡ x ∷ reverse xs
 reverse-push xs x = reverse-append xs (x ∷ [])
-
--- different literals have different places
-place_one : (vars : ℕ) (x y : ℤ) → 1 ≤ nat_abs x → nat_abs x ≤ vars → 1 ≤ nat_abs y →
-    nat_abs y ≤ vars → place_by vars x ≡ place_by vars y → x ≡ y
-place_one vars (pos m) (pos n) a b c d e = ap pos (omega (arith, e))
-place_one vars (pos m) (negsuc n) a b c d e = absurd (omega (arith, e))
-place_one vars (negsuc m) (pos n) a b c d e = absurd (omega (arith, e))
-place_one vars (negsuc m) (negsuc n) a b c d e = ap negsuc (omega (arith, e))
-
-place_below : (vars : ℕ) (x : ℤ) → nat_abs x ≤ vars → place_by vars x < suc (vars * 2)
-place_below vars (pos m) b = omega arith
-place_below vars (negsuc m) b = omega arith
-
-pub place_within : (vars : ℕ) (l : Lit) → IsWithin vars l → place_of vars l < suc (vars * 2)
-place_within vars l within = place_below vars l.code within.1
 
 module _ (vars : ℕ) (truths : List ℕ) (wide : length truths ≡ suc (vars * 2)) where
   set_same : (a : Lit) (x : ℕ) → IsWithin vars a →
@@ -50,7 +36,7 @@ module _ (vars : ℕ) (truths : List ℕ) (wide : length truths ≡ suc (vars * 
       (place_of vars l) 0
   set_other a l x within l_within ne =
       get_or-set_other truths (place_of vars a) (place_of vars l) x 0
-      (λ e. ne (ap lit (place_one vars l.code a.code l_within.0 l_within.1 within.0 within.1 e)))
+      (places_apart vars l a l_within within ne)
 
 -- the truth of a literal is 1 where it is true
 pub truth_one : (entries : List TrailEntry) (l : Lit) (truth : ℕ) → 1 ≤ variable l →

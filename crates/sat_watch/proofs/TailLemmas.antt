@@ -9,7 +9,7 @@ use Rattle.sat_clause.specs.Literal.{Clause, IsWithin, lit, negation}
 use Rattle.sat_arena.specs.declared.clause_ref.ClauseRef.{ClauseRef}
 use Rattle.sat_arena.specs.Store.{Stored, is_held, link_of, ref, stored_at}
 use Rattle.sat_watch.specs.declared.place.Place.{Place}
-use Rattle.sat_watch.specs.Chains.{AreChained, ChainsState, GoesOn, HasCursor, IsChained, IsCursor, IsLast, IsPath, IsPlaceOf, clause_of, head_in, is_in, lit_at, next_in, next_on, watch_of}
+use Rattle.sat_watch.specs.Chains.{AreChained, ChainsState, GoesOn, HasCursor, IsChained, IsCursor, IsLast, IsPath, IsPlaceOf, clause_of, head_in, head_of, is_in, lit_at, next_in, next_on, watch_of}
 use Rattle.sat_watch.proofs.AttachLemmas.{held_push_other, push_other}
 use Rattle.sat_watch.proofs.ChainLemmas.{CanRewatch, clauses_after, lits_stay, puts_first, rewatched, stays_same, takes_out, target}
 use Rattle.sat_watch.proofs.PathLemmas.{PutsFirst, TakesOut, advance, at_first, before_leads, in_cases}
@@ -82,24 +82,24 @@ tail_taken n ks heads l at after from os ws chained place goes two is =
 -- a walk along a chain goes on behind the clause at its place, and less is left of the chain
 pub record GoesBehind (s : ChainsState) (l : Lit) (next after : Option ClauseRef) : Type 0 where
   pub before : Option ClauseRef
-  pub cursor : HasCursor (next_on s.clauses l) (head_in s.heads l) before after
+  pub cursor : HasCursor (next_on s.clauses l) (head_of s l) before after
   pub shorter : chain_length (length s.clauses) (next_on s.clauses l) after
       < chain_length (length s.clauses) (next_on s.clauses l) next
 
 module _ (s : ChainsState) (l : Lit) (before next : Option ClauseRef) (c : ClauseRef)
-    (cursor : HasCursor (next_on s.clauses l) (head_in s.heads l) before next)
+    (cursor : HasCursor (next_on s.clauses l) (head_of s l) before next)
     (is : next ≡ Some c) where
-  here : HasCursor (next_on s.clauses l) (head_in s.heads l) before (Some c)
-  here = subst (HasCursor (next_on s.clauses l) (head_in s.heads l) before) is cursor
+  here : HasCursor (next_on s.clauses l) (head_of s l) before (Some c)
+  here = subst (HasCursor (next_on s.clauses l) (head_of s l) before) is cursor
 
   first : (others : List ClauseRef) × (here.rest ≡ c ∷ others)
   first =
-      at_first (next_on s.clauses l) (head_in s.heads l) here.kept here.rest before c here.is
+      at_first (next_on s.clauses l) (head_of s l) here.kept here.rest before c here.is
 
-  cursor_first : IsCursor (next_on s.clauses l) (head_in s.heads l) here.kept (c ∷ first.0) before
+  cursor_first : IsCursor (next_on s.clauses l) (head_of s l) here.kept (c ∷ first.0) before
       (Some c)
   cursor_first =
-      subst (λ r. IsCursor (next_on s.clauses l) (head_in s.heads l) here.kept r before (Some c))
+      subst (λ r. IsCursor (next_on s.clauses l) (head_of s l) here.kept r before (Some c))
       first.1 here.is
 
   pub place_goes_on : GoesOn (next_on s.clauses l c)
@@ -114,11 +114,11 @@ module _ (s : ChainsState) (l : Lit) (before next : Option ClauseRef) (c : Claus
       (goes_on s.vars after (stored_at s.clauses at.clause) l
       (chained.simple at.clause place.held) at.which place.which place.watch
       ∙ ap Some (sym link)) in
-      let on = advance (next_on s.clauses l) (head_in s.heads l) here.kept first.0 c before after
+      let on = advance (next_on s.clauses l) (head_of s l) here.kept first.0 c before after
       cursor_first own in
-      let was = rest_length s.clauses l (head_in s.heads l) here.kept (c ∷ first.0) before (Some c)
+      let was = rest_length s.clauses l (head_of s l) here.kept (c ∷ first.0) before (Some c)
       cursor_first in
-      let now = rest_length s.clauses l (head_in s.heads l) (here.kept ++ c ∷ []) first.0 (Some c)
+      let now = rest_length s.clauses l (head_of s l) (here.kept ++ c ∷ []) first.0 (Some c)
       after on in
       record {
         before = Some c;
@@ -375,7 +375,8 @@ module _ {n : ℕ} {ks : List Stored} {heads : List (Option ClauseRef)} {f : Lit
       IsPairOf (clauses_after can) l o d
   stays_pair l o d pair =
       let is = rewatched can in
-      let same = lits_stay n ks (clauses_after can) f before at i after (head_in heads (target can))
+      let same = lits_stay n ks (clauses_after can) f before at i after
+      (head_in n heads (target can))
       can.chained.simple can.place can.places can.low can.high is d (pair_apart l o d pair) in
       record {
         held = is.held d ∙ pair.held;
@@ -388,13 +389,13 @@ module _ {n : ℕ} {ks : List Stored} {heads : List (Option ClauseRef)} {f : Lit
 
   takes : TakesOut (next_on ks f) (next_on (clauses_after can) f) at.clause (clause_of before) after
   takes =
-      takes_out n ks (clauses_after can) f before at i after (head_in heads (target can))
+      takes_out n ks (clauses_after can) f before at i after (head_in n heads (target can))
       can.chained.simple can.place can.places can.low can.high (rewatched can)
 
   puts : PutsFirst (next_on ks (target can)) (next_on (clauses_after can) (target can)) at.clause
-      (head_in heads (target can))
+      (head_in n heads (target can))
   puts =
-      puts_first n ks (clauses_after can) f before at i after (head_in heads (target can))
+      puts_first n ks (clauses_after can) f before at i after (head_in n heads (target can))
       can.chained.simple can.place can.places can.low can.high (rewatched can)
 
   -- no tail leads to that clause
@@ -415,7 +416,7 @@ module _ {n : ℕ} {ks : List Stored} {heads : List (Option ClauseRef)} {f : Lit
   own_tail from (o ∷ os) [] is = is
   own_tail from (o ∷ os) (c ∷ cs) is =
       let leads = λ (e : clause_of before ≡ Some c).
-      before_leads (next_on ks f) (head_in heads f) can.cursor.kept can.cursor.rest
+      before_leads (next_on ks f) (head_in n heads f) can.cursor.kept can.cursor.rest
       (clause_of before) (Some at.clause) c can.cursor.is e in
       let apart : clause_of before ≢ Some c =
       λ e. no_tail_there is.2.0 os cs
@@ -439,7 +440,7 @@ module _ {n : ℕ} {ks : List Stored} {heads : List (Option ClauseRef)} {f : Lit
               | inl same ↦ subst (λ x. next_on (clauses_after can) x c ≡ next_on ks x c)
                   (sym same.1) (puts.same c (pair_apart l o c pair))
               | inr lm ↦ stays_same n ks (clauses_after can) f before at i after
-                  (head_in heads (target can)) can.chained.simple can.place can.places can.low
+                  (head_in n heads (target can)) can.chained.simple can.place can.places can.low
                   can.high (rewatched can) l lf.1 lm.1 c
             ])
             from os cs None is

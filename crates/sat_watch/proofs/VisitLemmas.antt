@@ -10,7 +10,7 @@ use Rattle.sat_arena.specs.declared.clause_ref.ClauseRef.{ClauseRef}
 use Rattle.sat_arena.specs.Store.{Stored, is_held, link_of, stored_at}
 use Rattle.sat_watch.specs.declared.entry.TrailEntry.{TrailEntry}
 use Rattle.sat_watch.specs.declared.place.Place.{Place}
-use Rattle.sat_watch.specs.Chains.{holders, ChainsState, GoesOn, IsChained, IsCursor, IsPlaceOf, IsRewatched, MayBePlaceOf, clause_of, head_in, lit_at, next_by, next_on, watch_of}
+use Rattle.sat_watch.specs.Chains.{holders, ChainsState, GoesOn, IsChained, IsCursor, IsPlaceOf, IsRewatched, MayBePlaceOf, clause_of, head_of, lit_at, next_by, next_on, watch_of}
 use Rattle.sat_watch.specs.Watched.{Goes, Grows, IsImplied, IsVisited, LitsGo, OtherIsTrue, is_false, other_of}
 use Rattle.sat_watch.proofs.ChainLemmas.{lits_moved, lits_stay}
 use Rattle.sat_arena.proofs.StoreLaws.{same_or_other}
@@ -170,7 +170,7 @@ module _ (n : ℕ) (old : ChainsState) (f : Lit) (at : Place) (after : Option Cl
     cursor = λ kept rest cursor. record {
       kept_now = kept ++ at.clause ∷ [];
       is =
-          advance (next_on old.clauses f) (head_in old.heads f) kept rest at.clause before after
+          advance (next_on old.clauses f) (head_of old f) kept rest at.clause before after
           cursor own;
       were = λ d is. elim (in_both d kept (at.clause ∷ []) is) [
         | inl front ↦ inl front
@@ -198,9 +198,9 @@ module _ (n : ℕ) (old : ChainsState) (f : Lit) (at : Place) (after : Option Cl
     -- the clause moves to another chain
     pub visited_moved : (now : List TrailEntry) →
         ((kept rest : List ClauseRef) →
-        IsCursor (next_on old.clauses f) (head_in old.heads f) kept (at.clause ∷ rest)
+        IsCursor (next_on old.clauses f) (head_of old f) kept (at.clause ∷ rest)
         (clause_of before) (Some at.clause) →
-        IsCursor (next_on new.clauses f) (head_in new.heads f) kept rest (clause_of before) after) →
+        IsCursor (next_on new.clauses f) (head_of new f) kept rest (clause_of before) after) →
         IsVisited f (clause_of before) at after old new now (clause_of before)
     visited_moved now moves_cursor = record {
       others = stay;

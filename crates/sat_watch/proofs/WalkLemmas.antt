@@ -7,7 +7,7 @@ use Rattle.sat_arena.specs.declared.clause_ref.ClauseRef.{ClauseRef}
 use Rattle.sat_arena.specs.Store.{Stored, is_held, stored_at}
 use Rattle.sat_watch.specs.declared.entry.TrailEntry.{TrailEntry}
 use Rattle.sat_watch.specs.declared.place.Place.{Place}
-use Rattle.sat_watch.specs.Chains.{ChainsState, GoesOn, HasCursor, IsChained, IsCursor, head_in, holders, is_in, is_watched, next_by, next_on, watch_of, watchers}
+use Rattle.sat_watch.specs.Chains.{ChainsState, GoesOn, HasCursor, IsChained, IsCursor, head_of, holders, is_in, is_watched, next_by, next_on, watch_of, watchers}
 use Rattle.sat_watch.specs.Tails.{IsTail}
 use Rattle.sat_watch.specs.Watched.{Goes, IsVisited, IsWalking, OtherIsTrue, chain_length, is_false}
 use Rattle.sat_watch.proofs.GoesLemmas.{counted_most, few_passing, few_refs, goes_trans, grows_true, rest_length}
@@ -62,12 +62,12 @@ watched_held ks c v f at = by_test (is_held ks c) refl where
 
 pub walk_begins : (entries : List TrailEntry) (level : ℕ) (f : Lit) (s : ChainsState) (looks : ℕ)
     (next : Option ClauseRef) →
-    IsChained s.vars s.clauses s.heads → IsWithin s.vars f → next ≡ head_in s.heads f →
+    IsChained s.vars s.clauses s.heads → IsWithin s.vars f → next ≡ head_of s f →
     IsWalking entries level f s.clauses looks s entries None next looks
 walk_begins entries level f s looks next chained within is =
     let chain = chained.chains f within in
     let few = few_refs (λ k. is_among k.lits f) s.clauses chain.refs chain.is.once (λ d there.
-    let goes = path_goes_on (next_on s.clauses f) (head_in s.heads f) None chain.refs d
+    let goes = path_goes_on (next_on s.clauses f) (head_of s f) None chain.refs d
     chain.is.back there in
     let k = stored_at s.clauses d in
     (next_is_held s.clauses f d goes.0 goes.1, next_among k.lits f k.link0 k.link1 goes.0 goes.1))
@@ -76,7 +76,7 @@ walk_begins entries level f s looks next chained within is =
       kept = [];
       rest = chain.refs;
       cursor =
-          subst (λ o. IsCursor (next_on s.clauses f) (head_in s.heads f) [] chain.refs None o)
+          subst (λ o. IsCursor (next_on s.clauses f) (head_of s f) [] chain.refs None o)
           (sym is) chain.is;
       kept_true = λ d there. let clash : false ≡ true = there in cc;
       goes =
@@ -89,21 +89,21 @@ module _ {base : List TrailEntry} {level : ℕ} {f : Lit} {old : List Stored} {s
     {s : ChainsState} {entries : List TrailEntry} {before next : Option ClauseRef} {looks : ℕ}
     (w : IsWalking base level f old start s entries before next looks) where
   module _ {c : ClauseRef} (is : next ≡ Some c) where
-    cursor_here : IsCursor (next_on s.clauses f) (head_in s.heads f) w.kept w.rest
+    cursor_here : IsCursor (next_on s.clauses f) (head_of s f) w.kept w.rest
         before (Some c)
     cursor_here =
-        subst (λ o. IsCursor (next_on s.clauses f) (head_in s.heads f) w.kept w.rest
+        subst (λ o. IsCursor (next_on s.clauses f) (head_of s f) w.kept w.rest
         before o) is w.cursor
 
     first : (others : List ClauseRef) × (w.rest ≡ c ∷ others)
     first =
-        at_first (next_on s.clauses f) (head_in s.heads f) w.kept w.rest before c
+        at_first (next_on s.clauses f) (head_of s f) w.kept w.rest before c
         cursor_here
 
-    cursor_first : IsCursor (next_on s.clauses f) (head_in s.heads f) w.kept (c ∷ first.0)
+    cursor_first : IsCursor (next_on s.clauses f) (head_of s f) w.kept (c ∷ first.0)
         before (Some c)
     cursor_first =
-        subst (λ l. IsCursor (next_on s.clauses f) (head_in s.heads f) w.kept l before
+        subst (λ l. IsCursor (next_on s.clauses f) (head_of s f) w.kept l before
         (Some c)) first.1 cursor_here
 
     -- with the look at this clause they are still few
@@ -122,12 +122,12 @@ module _ {base : List TrailEntry} {level : ℕ} {f : Lit} {old : List Stored} {s
     goes_here = let back = cursor_first.back in subst GoesOn (sym back.1.1) tt
 
     pub has_cursor : (at : Place) → at.clause ≡ c →
-        HasCursor (next_on s.clauses f) (head_in s.heads f) before (Some at.clause)
+        HasCursor (next_on s.clauses f) (head_of s f) before (Some at.clause)
     has_cursor at same = record {
       kept = w.kept;
       rest = c ∷ first.0;
       is =
-          subst (λ r. IsCursor (next_on s.clauses f) (head_in s.heads f) w.kept (c ∷ first.0)
+          subst (λ r. IsCursor (next_on s.clauses f) (head_of s f) w.kept (c ∷ first.0)
           before (Some r)) (sym same) cursor_first;
     }
 
@@ -135,10 +135,10 @@ module _ {base : List TrailEntry} {level : ℕ} {f : Lit} {old : List Stored} {s
         {now : List TrailEntry} (same : at.clause ≡ c)
         (visited : IsVisited f before at after s new now last)
         (goes : Goes entries level f s.clauses new.clauses entries now) where
-      here : IsCursor (next_on s.clauses f) (head_in s.heads f) w.kept (at.clause ∷ first.0)
+      here : IsCursor (next_on s.clauses f) (head_of s f) w.kept (at.clause ∷ first.0)
           before (Some at.clause)
       here =
-          subst (λ r. IsCursor (next_on s.clauses f) (head_in s.heads f) w.kept (r ∷ first.0)
+          subst (λ r. IsCursor (next_on s.clauses f) (head_of s f) w.kept (r ∷ first.0)
           before (Some r)) (sym same) cursor_first
 
       pub walks_on : IsWalking base level f old start new now last after (looks + 1)
@@ -171,9 +171,9 @@ module _ {base : List TrailEntry} {level : ℕ} {f : Lit} {old : List Stored} {s
       walk_shorter =
           let moved = visited.cursor w.kept first.0 here in
           let long : length w.rest ≡ suc (length first.0) = ap length first.1 in
-          let was = rest_length s.clauses f (head_in s.heads f) w.kept w.rest before
+          let was = rest_length s.clauses f (head_of s f) w.kept w.rest before
           next w.cursor in
-          let now_is = rest_length new.clauses f (head_in new.heads f) moved.kept_now first.0
+          let now_is = rest_length new.clauses f (head_of new f) moved.kept_now first.0
           last after moved.is in
           rw (was, now_is, long) (omega arith)
 
@@ -227,8 +227,8 @@ module _ {base : List TrailEntry} {level : ℕ} {f : Lit} {old : List Stored} {s
   all_kept : next ≡ None → (c : ClauseRef) (a : Option ClauseRef) →
       next_on s.clauses f c ≡ Some a → is_in w.kept c ≡ true
   all_kept is c a goes =
-      let none = at_end (next_on s.clauses f) (head_in s.heads f) w.kept w.rest before
-      (subst (λ x. IsCursor (next_on s.clauses f) (head_in s.heads f) w.kept w.rest
+      let none = at_end (next_on s.clauses f) (head_of s f) w.kept w.rest before
+      (subst (λ x. IsCursor (next_on s.clauses f) (head_of s f) w.kept w.rest
       before x) is w.cursor) in
       subst (λ l. is_in l c ≡ true) (ap (λ l. w.kept ++ l) none ∙ append-nil w.kept)
       (w.cursor.whole c a goes)

@@ -1,13 +1,14 @@
 -- The chains of clauses: each clause of two or more literals stands in those of its first two.
-use Rattle.std.specs.Prelude.{◌≡◌, ◌≢◌, ℕ, zero, suc, ◌*◌, ◌<◌, ◌≤◌, ◌==◌, ℤ, pos, negsuc, Bool, true, false, if◌then◌else◌, ⊤, List, [], ◌∷◌, ◌++◌, length, slice_set, slice_index_or, Option, None, Some}
+use Rattle.std.specs.Prelude.{◌≡◌, ◌≢◌, ℕ, zero, suc, ◌+◌, ◌*◌, ◌<◌, ◌≤◌, ◌==◌, pos, Bool, true, false, if◌then◌else◌, ⊤, List, [], ◌∷◌, ◌++◌, length, slice_set, slice_index_or, Option, None, Some}
 use Rattle.std.specs.Ordering.{int_eq}
 use Rattle.sat_clause.specs.declared.limits.TheConstants.{VARIABLE_LIMIT}
 use Rattle.sat_clause.specs.declared.literal.Lit.{Lit}
 use Rattle.sat_clause.specs.Learned.{IsSimple}
-use Rattle.sat_clause.specs.Literal.{Clause, IsWithin, is_among, variable}
+use Rattle.sat_clause.specs.Literal.{Clause, IsWithin, is_among}
 use Rattle.sat_arena.specs.declared.clause_ref.ClauseRef.{ClauseRef}
 use Rattle.sat_arena.specs.Store.{ArePlaced, IsLinkTo, ref, size_all, Stored, changed, is_held, stored_at, with_link, with_swap}
 use Rattle.sat_watch.specs.declared.place.Place.{Place}
+use Rattle.sat_watch.specs.TrailStore.{place_of}
 
 -- where a chain goes on from each clause in it
 abbrev pub Next : Type 0
@@ -79,19 +80,9 @@ next_in k l = next_by k.lits l k.link0 k.link1
 abbrev pub next_on : List Stored → Lit → Next
 next_on ks l c = next_in (stored_at ks c) l
 
--- the place of a literal in a table: those of variable 1 come first, the plain one before its
--- negation
-abbrev pub index_by : ℤ → ℕ
-index_by (pos zero) = 0
-index_by (pos (suc n)) = n * 2
-index_by (negsuc n) = suc (n * 2)
-
-abbrev pub index_of : Lit → ℕ
-index_of l = index_by l.code
-
 -- the first clause of a literal's chain
-abbrev pub head_in : List (Option ClauseRef) → Lit → Option ClauseRef
-head_in heads l = slice_index_or heads (index_of l) None
+abbrev pub head_in : (vars : ℕ) → List (Option ClauseRef) → Lit → Option ClauseRef
+head_in vars heads l = slice_index_or heads (place_of vars l) None
 
 -- the clauses with their links, how many more words there is room for, and each chain's first
 -- clause
@@ -100,6 +91,10 @@ pub record ChainsState : Type 0 where
   pub clauses : List Stored
   pub spare : ℕ
   pub heads : List (Option ClauseRef)
+
+-- the first clause of a literal's chain in this state
+abbrev pub head_of : ChainsState → Lit → Option ClauseRef
+head_of state l = head_in state.vars state.heads l
 
 -- no clause is marked
 abbrev pub AreUnmarked : List Stored → Type 0
@@ -110,12 +105,12 @@ AreUnmarked (k ∷ ks) = (k.mark ≡ false) × AreUnmarked ks
 pub record IsChained (vars : ℕ) (clauses : List Stored) (heads : List (Option ClauseRef)) : Type 0
   where
     pub few : vars ≤ VARIABLE_LIMIT
-    pub many : length heads ≡ vars * 2
+    pub many : length heads ≡ vars * 2 + 1
     pub placed : ArePlaced 0 clauses
     pub unmarked : AreUnmarked clauses
     pub simple : (c : ClauseRef) → is_held clauses c ≡ true →
         IsSimple vars (stored_at clauses c).lits
-    pub chains : (l : Lit) → IsWithin vars l → HasChain (next_on clauses l) (head_in heads l)
+    pub chains : (l : Lit) → IsWithin vars l → HasChain (next_on clauses l) (head_in vars heads l)
 
 -- they are whole in this state
 abbrev pub AreChained : ChainsState → Type 0
@@ -126,10 +121,10 @@ abbrev pub unlinked : Option Place → Option ClauseRef → List Stored → List
 unlinked None after clauses = clauses
 unlinked (Some p) after clauses = changed (with_link p.which after) p.clause clauses
 
-abbrev pub unlinked_heads : Lit → Option Place → Option ClauseRef → List (Option ClauseRef) →
-    List (Option ClauseRef)
-unlinked_heads f None after heads = slice_set heads (index_of f) after
-unlinked_heads f (Some p) after heads = heads
+abbrev pub unlinked_heads : (vars : ℕ) → Lit → Option Place → Option ClauseRef →
+    List (Option ClauseRef) → List (Option ClauseRef)
+unlinked_heads vars f None after heads = slice_set heads (place_of vars f) after
+unlinked_heads vars f (Some p) after heads = heads
 
 -- the clause of a place
 abbrev pub clause_of : Option Place → Option ClauseRef
@@ -154,21 +149,21 @@ abbrev pub lit_in : List Stored → ClauseRef → ℕ → Lit
 lit_in clauses c k = lit_at (literals clauses c) k
 
 -- the first clause in the chain of a clause's literal at a position
-abbrev pub head_at : List Stored → List (Option ClauseRef) → ClauseRef → ℕ → Option ClauseRef
-head_at clauses heads c k = head_in heads (lit_in clauses c k)
+abbrev pub head_at : (vars : ℕ) → List Stored → List (Option ClauseRef) → ClauseRef → ℕ →
+    Option ClauseRef
+head_at vars clauses heads c k = head_in vars heads (lit_in clauses c k)
 
 -- the clause itself is put first there
-abbrev pub with_head : List Stored → List (Option ClauseRef) → ClauseRef → ℕ →
+abbrev pub with_head : (vars : ℕ) → List Stored → List (Option ClauseRef) → ClauseRef → ℕ →
     List (Option ClauseRef)
-with_head clauses heads c k = slice_set heads (index_of (lit_in clauses c k)) (Some c)
+with_head vars clauses heads c k = slice_set heads (place_of vars (lit_in clauses c k)) (Some c)
 
 -- the table has a chain of that literal, and its first clause is held
 pub record HasHead
-    (clauses : List Stored) (heads : List (Option ClauseRef)) (c : ClauseRef) (k : ℕ)
+    (vars : ℕ) (clauses : List Stored) (heads : List (Option ClauseRef)) (c : ClauseRef) (k : ℕ)
     : Type 0 where
-  pub some : 1 ≤ variable (lit_in clauses c k)
-  pub within : index_of (lit_in clauses c k) < length heads
-  pub held : IsLinkTo clauses (head_at clauses heads c k)
+  pub within : IsWithin vars (lit_in clauses c k)
+  pub held : IsLinkTo clauses (head_at vars clauses heads c k)
 
 -- a clause with the literal at position i first, and then the one at position j second
 abbrev pub with_order : (i j : ℕ) → Stored → Stored

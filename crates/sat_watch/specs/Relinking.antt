@@ -1,5 +1,5 @@
 -- Clauses that are marked and taken out of an arena, and chains that are made anew.
-use Rattle.std.specs.Prelude.{◌≡◌, ℕ, ◌*◌, ◌≤◌, Bool, true, if◌then◌else◌, List, [], ◌∷◌, map, replicate, slice_set, take, Option, None, Some}
+use Rattle.std.specs.Prelude.{◌≡◌, ℕ, ◌+◌, ◌*◌, ◌≤◌, Bool, true, if◌then◌else◌, List, [], ◌∷◌, map, replicate, slice_set, take, Option, None, Some}
 use Rattle.sat_clause.specs.declared.limits.TheConstants.{VARIABLE_LIMIT}
 use Rattle.sat_clause.specs.Learned.{IsSimple}
 use Rattle.sat_clause.specs.Literal.{Clause}
@@ -7,7 +7,8 @@ use Rattle.sat_arena.specs.declared.clause_ref.ClauseRef.{ClauseRef}
 use Rattle.sat_arena.specs.declared.moves.Move.{Move}
 use Rattle.sat_arena.specs.Compact.{compacted}
 use Rattle.sat_arena.specs.Store.{ArePlaced, Stored, is_held, stored_at, with_link, with_mark}
-use Rattle.sat_watch.specs.Chains.{AreUnmarked, IsChained, head_in, index_of, is_in}
+use Rattle.sat_watch.specs.Chains.{AreUnmarked, IsChained, head_in, is_in}
+use Rattle.sat_watch.specs.TrailStore.{place_of}
 use Rattle.sat_watch.specs.Watches.{attached}
 
 -- the clauses, of which those with these references are marked, or have their mark taken away
@@ -21,23 +22,25 @@ abbrev pub stored_without : List ClauseRef → List Stored → List Stored
 stored_without refs ks = compacted (marked true refs ks)
 
 -- a clause with these literals, linked to the first clauses of the chains of its first two
-abbrev pub linked : Clause → List (Option ClauseRef) → Stored → Stored
-linked [] heads k = k
-linked (a ∷ []) heads k = k
-linked (a ∷ b ∷ ls) heads k = with_link 1 (head_in heads b) (with_link 0 (head_in heads a) k)
+abbrev pub linked : (vars : ℕ) → Clause → List (Option ClauseRef) → Stored → Stored
+linked vars [] heads k = k
+linked vars (a ∷ []) heads k = k
+linked vars (a ∷ b ∷ ls) heads k =
+    with_link 1 (head_in vars heads b) (with_link 0 (head_in vars heads a) k)
 
 -- and put first in these chains
-abbrev pub heads_with : Clause → ClauseRef → List (Option ClauseRef) → List (Option ClauseRef)
-heads_with [] c heads = heads
-heads_with (a ∷ []) c heads = heads
-heads_with (a ∷ b ∷ ls) c heads =
-    slice_set (slice_set heads (index_of a) (Some c)) (index_of b) (Some c)
+abbrev pub heads_with : (vars : ℕ) → Clause → ClauseRef → List (Option ClauseRef) →
+    List (Option ClauseRef)
+heads_with vars [] c heads = heads
+heads_with vars (a ∷ []) c heads = heads
+heads_with vars (a ∷ b ∷ ls) c heads =
+    slice_set (slice_set heads (place_of vars a) (Some c)) (place_of vars b) (Some c)
 
 -- clauses whose chains are still empty, whatever they link to
 pub record AreUnlinked (vars : ℕ) (clauses : List Stored) (heads : List (Option ClauseRef)) : Type 0
   where
     pub few : vars ≤ VARIABLE_LIMIT
-    pub empty : heads ≡ replicate (vars * 2) None
+    pub empty : heads ≡ replicate (vars * 2 + 1) None
     pub placed : ArePlaced 0 clauses
     pub unmarked : AreUnmarked clauses
     pub simple : (c : ClauseRef) → is_held clauses c ≡ true →

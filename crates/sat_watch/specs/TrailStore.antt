@@ -11,8 +11,8 @@ use Rattle.sat_watch.specs.Trail.{AreWithin, IsTrail, TrailState, falses, place_
 abbrev pub trail_state : ℕ → Vec TrailEntry Global → TrailState
 trail_state vars entries = record { vars = vars; entries = reverse entries.items }
 
--- the place of a literal in the table of truths: those of the variables stand behind its middle,
--- and those of their negations before it
+-- the place of a literal in a table of all literals, as that of truths: those of the variables
+-- stand behind its middle, and those of their negations before it
 abbrev pub place_by : ℕ → ℤ → ℕ
 place_by vars (pos n) = vars + n
 place_by vars (negsuc n) = vars - suc n

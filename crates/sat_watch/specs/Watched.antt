@@ -10,7 +10,7 @@ use Rattle.sat_watch.specs.declared.sight.Sight.{Sight}
 use Rattle.sat_watch.specs.declared.sight.Sight.TheVariants.{IsTrueAlready, Open, Unit, IsFalseNow}
 use Rattle.sat_watch.specs.Trail.{IsOpen, IsTrail, TrailState, falses}
 use Rattle.sat_watch.specs.declared.place.Place.{Place}
-use Rattle.sat_watch.specs.Chains.{holders, AreChained, ChainsState, IsCursor, head_in, is_in, lit_at, next_on, watch_of}
+use Rattle.sat_watch.specs.Chains.{holders, AreChained, ChainsState, IsCursor, head_of, is_in, lit_at, next_on, watch_of}
 
 -- the chains are whole, and the trail is one of the same variables
 pub record AreWhole (c : ChainsState) (t : TrailState) : Type 0 where
@@ -120,7 +120,7 @@ pub record NextCursor
     (before after : Option ClauseRef)
     : Type 0 where
   pub kept_now : List ClauseRef
-  pub is : IsCursor (next_on new.clauses f) (head_in new.heads f) kept_now rest before after
+  pub is : IsCursor (next_on new.clauses f) (head_of new f) kept_now rest before after
   pub were : (d : ClauseRef) → is_in kept_now d ≡ true →
       (is_in kept d ≡ true) ⊎ OtherIsTrue now (stored_at new.clauses d).lits f
   pub more : length kept_now ≤ suc (length kept)
@@ -133,7 +133,7 @@ pub record IsVisited
   pub others : (d : ClauseRef) → d ≢ at.clause →
       (stored_at new.clauses d).lits ≡ (stored_at old.clauses d).lits
   pub cursor : (kept rest : List ClauseRef) →
-      IsCursor (next_on old.clauses f) (head_in old.heads f) kept (at.clause ∷ rest) before
+      IsCursor (next_on old.clauses f) (head_of old f) kept (at.clause ∷ rest) before
       (Some at.clause) →
       NextCursor f new now kept rest last after
 
@@ -145,7 +145,7 @@ pub record IsWalking
     : Type 0 where
   pub kept : List ClauseRef
   pub rest : List ClauseRef
-  pub cursor : IsCursor (next_on now.clauses f) (head_in now.heads f) kept rest before next
+  pub cursor : IsCursor (next_on now.clauses f) (head_of now f) kept rest before next
   pub kept_true : (d : ClauseRef) → is_in kept d ≡ true →
       OtherIsTrue entries (stored_at now.clauses d).lits f
   pub goes : Goes base level f old now.clauses base entries

@@ -7,15 +7,15 @@ ghost use Rattle.sat_clause.specs.Literal.{IsWithin};
 ghost use Rattle.sat_arena.specs.declared.clause_ref.ClauseRef.{ClauseRef};
 ghost use Rattle.sat_arena.specs.Compact.{AreRising, moves_of};
 ghost use Rattle.sat_arena.specs.Store.{behind_of, first_ref, is_held, link_of, stored_at};
-ghost use Rattle.sat_watch.specs.Chains.{AreChained, GoesOn, HasCursor, IsAdded, IsCursor, IsPlaceOf, IsRewatched, MayBePlaceOf, clause_of, head_at, head_in, holders, literals, next_on};
+ghost use Rattle.sat_watch.specs.Chains.{AreChained, GoesOn, HasCursor, IsAdded, IsCursor, IsPlaceOf, IsRewatched, MayBePlaceOf, clause_of, head_at, head_of, holders, literals, next_on};
 ghost use Rattle.sat_watch.specs.Choice.{IsAhead, after_first as after_first_of};
 ghost use Rattle.sat_watch.specs.Relinking.{marked, stored_without};
 ghost use Rattle.sat_watch.specs.Tails.{IsTail, refs};
 ghost use Rattle.sat_watch.specs.TrailStore.{place_of};
 ghost use Rattle.sat_watch.specs.Watches.{attached};
 
-use crate::link::Link;
-use crate::links::{index, link_all, link_first, mark_all, push_ordered, put_first, unlink};
+use crate::links::{link_all, link_first, mark_all, push_ordered, put_first, unlink};
+use crate::maybe_clause::MaybeClause;
 use crate::place::Place;
 use crate::tails::{Tails, literal_at};
 use crate::trail::place;
@@ -29,7 +29,7 @@ use std::marker::Model;
 pub(crate) struct Chains {
     vars: u32,
     arena: Arena,
-    heads: Vec<Link>,
+    heads: Vec<MaybeClause>,
     tails: Tails,
 }
 
@@ -69,7 +69,7 @@ impl Chains {
         ensures clauses { IfOk result (λ c. c.clauses ≡ []) }
         ensures chained { IfOk result AreChained }
     {
-        let heads = vec![in alloc; Link::none(); vars as usize * 2]?;
+        let heads = vec![in alloc; MaybeClause::none(); vars as usize * 2 + 1]?;
         let tails = Tails::new(alloc);
         Ok(Chains {
             vars,
@@ -103,7 +103,7 @@ impl Chains {
     {
         self.arena.reserve(lits.len() as u64 + 6)?;
         let c = push_ordered(&mut self.arena, lits, id, i, j);
-        link_first(&mut self.arena, &mut self.heads, c);
+        link_first(&mut self.arena, &mut self.heads, self.vars, c);
         Ok(c)
     }
 
@@ -151,9 +151,9 @@ impl Chains {
     /// The first clause of a literal's chain.
     pub(crate) fn head(&self, l: Lit) -> Option<ClauseRef>
         requires within { IsWithin self.now.vars l }
-        ensures { result ≡ head_in self.now.heads l }
+        ensures { result ≡ head_of self.now l }
     {
-        self.heads[index(l)].clause()
+        self.heads[place(self.vars, l)].clause()
     }
 
     /// The literals of a clause.
@@ -165,6 +165,15 @@ impl Chains {
         ensures near { c.word < 2 ^ 63 }
     {
         self.arena.unmarked_lits(c)
+    }
+
+    /// A clause as the reason of an entry.
+    pub(crate) fn as_reason(&self, c: ClauseRef) -> MaybeClause
+        requires held { is_held self.now.clauses c ≡ true }
+        ensures { result ≡ Some c }
+    {
+        let _literals = self.arena.lits(c);
+        MaybeClause::to(c)
     }
 
     /// The id of a clause.
@@ -214,7 +223,7 @@ impl Chains {
     }
 
     /// The place in a literal's chain of the clause that a walk stands behind, if there is one.
-    pub(crate) fn place_before(&self, before: Link, f: Lit) -> Option<Place>
+    pub(crate) fn place_before(&self, before: MaybeClause, f: Lit) -> Option<Place>
         requires goes { (c : ClauseRef) → before ≡ Some c
             → GoesOn (next_on self.now.clauses f c) }
         ensures clause { clause_of result ≡ before }
@@ -242,6 +251,7 @@ impl Chains {
         ensures moves { IfOk result
             (λ m. m ≡ moves_of (marked true clauses.now self.old.clauses)) }
         ensures rising { IfOk result (AreRising 0) }
+        ensures near { IfOk result (All (λ m. m.after.word < 2 ^ 63)) }
         ensures chained { AreChained self.new }
         ensures err { OnErr result (self.new ≡ self.old) }
     {
@@ -251,8 +261,8 @@ impl Chains {
             mark_all(&mut self.arena, clauses, false);
             return Err(AllocError);
         };
-        self.heads.fill(Link::none());
-        link_all(&mut self.arena, &mut self.heads, &moves, self.vars);
+        self.heads.fill(MaybeClause::none());
+        link_all(&mut self.arena, &mut self.heads, self.vars, &moves);
         Ok(moves)
     }
 
@@ -393,7 +403,7 @@ impl Chains {
         requires before { MayBePlaceOf self.old.clauses f before }
         requires low { 2 ≤ k }
         requires high { k < length (literals self.old.clauses at.clause) }
-        requires cursor { HasCursor (next_on self.old.clauses f) (head_in self.old.heads f)
+        requires cursor { HasCursor (next_on self.old.clauses f) (head_of self.old f)
             (clause_of before) (Some at.clause) }
         requires after { link_of (stored_at self.old.clauses at.clause) at.which ≡ after }
         requires near { IfSome after (λ c. c.word < 2 ^ 63) }
@@ -401,15 +411,22 @@ impl Chains {
         ensures spare { self.new.spare ≡ self.old.spare }
         ensures chained { AreChained self.new }
         ensures clauses { IsRewatched self.old.clauses self.new.clauses before at k after
-            (head_at self.old.clauses self.old.heads at.clause k) }
+            (head_at self.old.vars self.old.clauses self.old.heads at.clause k) }
         ensures holders { (l : Lit) → holders l self.new.clauses ≡ holders l self.old.clauses }
         ensures cursor { (kept rest : List ClauseRef)
-            → IsCursor (next_on self.old.clauses f) (head_in self.old.heads f) kept
+            → IsCursor (next_on self.old.clauses f) (head_of self.old f) kept
             (at.clause ∷ rest) (clause_of before) (Some at.clause)
-            → IsCursor (next_on self.new.clauses f) (head_in self.new.heads f) kept rest
+            → IsCursor (next_on self.new.clauses f) (head_of self.new f) kept rest
             (clause_of before) after }
     {
-        unlink(&mut self.arena, &mut self.heads, f, before, after);
-        put_first(&mut self.arena, &mut self.heads, at, k);
+        unlink(
+            &mut self.arena,
+            &mut self.heads,
+            self.vars,
+            f,
+            before,
+            after,
+        );
+        put_first(&mut self.arena, &mut self.heads, self.vars, at, k);
     }
 }

@@ -1,6 +1,6 @@
 //! The literals that a search has made true, in order.
 
-ghost use Rattle.std.specs.Prelude.{◌≡◌, ◌≢◌, ◌+◌, ◌*◌, ◌≤◌, ◌∷◌, [], ℕ, length, drop, map, reverse, slice_index_or, slice_set, true, false, ◌<◌, IfNone, IfOk, IfSome, None, Some};
+ghost use Rattle.std.specs.Prelude.{◌≡◌, ◌≢◌, ◌+◌, ◌*◌, ◌^◌, ◌≤◌, ◌∷◌, [], All, ℕ, length, drop, map, reverse, slice_index_or, slice_set, true, false, ◌<◌, IfNone, IfOk, IfSome, None, Some};
 ghost use Rattle.sat_clause.specs.Literal.{IsLiteral, IsWithin, is_among, negation};
 ghost use Rattle.sat_arena.specs.Compact.{AreRising, moved_by};
 ghost use Rattle.sat_watch.specs.Forget.{entry_moved};
@@ -9,6 +9,7 @@ ghost use Rattle.sat_watch.specs.TrailStore.{place_of};
 ghost use Rattle.sat_watch.specs.Watched.{true_at};
 
 use crate::entry::TrailEntry;
+use crate::maybe_clause::MaybeClause;
 use sat_arena::Moves;
 use sat_clause::{Lit, VARIABLE_LIMIT};
 use std::alloc::{AllocError, Global};
@@ -36,7 +37,8 @@ impl Model for Trail {
     ghost invariant = { λ t. IsTrailStore t.vars t.entries t.truths t.places };
 }
 
-/// The place of a literal in the table of truths, whose middle belongs to no literal.
+/// The place of a literal in a table of all literals, whose middle belongs to none. Neighbours of
+/// one sign stand side by side: propagation comes to many of them at a time.
 pub(crate) fn place(vars: u32, l: Lit) -> usize
     requires few { vars ≤ VARIABLE_LIMIT }
     requires within { IsWithin vars l }
@@ -59,21 +61,23 @@ fn tell(truths: &mut [u8], vars: u32, l: Lit, truth: u8, opposite: u8)
 
 /// The entry with its reason at the reference that the moves give for it.
 fn moved(entry: TrailEntry, moves: &Moves) -> TrailEntry
-    requires { AreRising 0 moves.now }
+    requires rising { AreRising 0 moves.now }
+    requires near { All (λ m. m.after.word < 2 ^ 63) moves.now }
     ensures { result ≡ entry_moved (moved_by moves.now) entry }
 {
-    let Some(reason) = entry.reason else {
+    let Some(reason) = entry.reason.clause() else {
         return entry;
     };
     TrailEntry {
-        reason: moves.after(reason),
+        reason: MaybeClause::of(moves.after(reason)),
         ..entry
     }
 }
 
 /// Moves the reasons of all these entries.
 fn move_all(entries: &mut [TrailEntry], moves: &Moves)
-    requires { AreRising 0 moves.now }
+    requires rising { AreRising 0 moves.now }
+    requires near { All (λ m. m.after.word < 2 ^ 63) moves.now }
     ensures { entries.new ≡ map (entry_moved (moved_by moves.now)) entries.old }
 {
     for entry in entries.iter_mut() {
@@ -213,7 +217,8 @@ impl Trail {
 
     /// Moves each reason to the reference that the moves give for it.
     pub(crate) fn move_reasons(&mut self, moves: &Moves)
-        requires { AreRising 0 moves.now }
+        requires rising { AreRising 0 moves.now }
+        requires near { All (λ m. m.after.word < 2 ^ 63) moves.now }
         ensures vars { self.new.vars ≡ self.old.vars }
         ensures entries { self.new.entries
             ≡ map (entry_moved (moved_by moves.now)) self.old.entries }

@@ -10,9 +10,10 @@ returns-then-lits-ge2 c =
     let two : 2 ≤ length lits = subst (λ (l : Clause). 2 ≤ length l) c.lits.ensures.value
     c.if-lits-ge2.true in
     record {
-      clauses = c.link_first.ensures.clauses ∙ linked_long lits a.heads.now.items a.c ks two;
+      clauses = c.link_first.ensures.clauses ∙ linked_long a.vars lits a.heads.now.items a.c ks two;
       spare = c.link_first.ensures.spare;
-      heads = c.link_first.ensures.heads ∙ heads_long lits a.c a.heads.now.items two;
+      heads = c.link_first.ensures.heads ∙ heads_long a.vars lits a.c a.heads.now.items two;
+      near = c.lits.ensures.near;
     }
 
 pub returns-else-lits-ge2 : goal.returns-else-lits-ge2
@@ -21,7 +22,8 @@ returns-else-lits-ge2 c =
     let short : length lits < 2 = subst (λ (l : Clause). length l < 2) c.lits.ensures.value
     c.if-lits-ge2.false in
     record {
-      clauses = sym (linked_short lits a.heads.now.items a.c ks short);
+      clauses = sym (linked_short a.vars lits a.heads.now.items a.c ks short);
       spare = refl;
-      heads = sym (heads_short lits a.c a.heads.now.items short);
+      heads = sym (heads_short a.vars lits a.c a.heads.now.items short);
+      near = c.lits.ensures.near;
     }

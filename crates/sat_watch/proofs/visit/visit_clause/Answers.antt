@@ -1,15 +1,17 @@
-use Rattle.std.proofs.Common.{◌≡◌, ◌<◌, length, Some, true, false, refl, sym, ap, ◌∙◌, subst}
+use Rattle.std.proofs.Common.{◌≡◌, ◌<◌, ◌∷◌, length, Option, Some, true, false, refl, sym, ap, ◌∙◌, subst}
 use Rattle.sat_clause.specs.Literal.{negation}
+use Rattle.sat_arena.specs.declared.clause_ref.ClauseRef.{ClauseRef}
 use Rattle.sat_arena.specs.Store.{stored_at}
-use Rattle.sat_watch.specs.Chains.{HasCursor, next_on, watch_of}
+use Rattle.sat_watch.specs.Chains.{HasCursor, next_on, watch_of, head_of}
 use Rattle.sat_watch.specs.declared.entry.TrailEntry.{TrailEntry}
-use Rattle.sat_watch.specs.Chains.{head_in, lit_at}
+use Rattle.sat_watch.specs.Chains.{head_of, lit_at}
 use Rattle.sat_watch.specs.Trail.{falses}
 use Rattle.sat_watch.specs.Watched.{IsImplied, IsReason, IsVisited, is_false, other_of}
 use Rattle.sat_watch.proofs.PathLemmas.{before_goes_on}
 use Rattle.sat_watch.proofs.VisitLemmas.{goes_implied, goes_moved, other_true, visited_kept, visited_moved, watch_contains, watch_within}
 use Rattle.sat_watch.proofs.WatchesLemmas.{longer_whole}
 use Rattle.sat_watch.proofs.visit.visit_clause.Goals as goal
+use Rattle.sat_watch.proofs.visit.visit_clause.Goals.{After-push}
 use Rattle.sat_clause.proofs.LiteralLaws.{among_here}
 
 pub returns-in-IsTrueAlready-clause-visited : goal.returns-in-IsTrueAlready-clause-visited
@@ -30,14 +32,14 @@ place_before-place-requires c =
     let old = c.args.chains.now in let a = c.args in
     record {
       goes =
-          before_goes_on (next_on old.clauses a.f) (head_in old.heads a.f) a.before
+          before_goes_on (next_on old.clauses a.f) (head_of old a.f) a.before
           (Some a.at.clause) c.requires.cursor;
     }
 
 pub rewatch-requires-clause-cursor : goal.rewatch-requires-clause-cursor
 rewatch-requires-clause-cursor c =
     let old = c.args.chains.now in let a = c.args in
-    subst (λ b. HasCursor (next_on old.clauses a.f) (head_in old.heads a.f) b (Some a.at.clause))
+    subst (λ b. HasCursor (next_on old.clauses a.f) (head_of old a.f) b (Some a.at.clause))
     (sym c.place_before-place.ensures.clause) c.requires.cursor
 
 pub returns-in-Open-clause-goes : goal.returns-in-Open-clause-goes
@@ -52,7 +54,7 @@ returns-in-Open-clause-goes c =
     goes_moved old.vars old a.f a.at a.after chained c.requires.at c.requires.after
     a.trail.now.entries c.place_before-place.result c.place_before-place.ensures.place
     c.rewatch.new.self c.in-Open.k
-    (head_in old.heads (lit_at (stored_at old.clauses a.at.clause).lits c.in-Open.k)) says.0 high
+    (head_of old (lit_at (stored_at old.clauses a.at.clause).lits c.in-Open.k)) says.0 high
     c.rewatch.ensures.clauses a.level c.rewatch.ensures.holders free
 
 pub returns-in-Open-clause-visited : goal.returns-in-Open-clause-visited
@@ -66,7 +68,7 @@ returns-in-Open-clause-visited c =
     (visited_moved old.vars old a.f a.at a.after chained c.requires.at c.requires.after
     a.trail.now.entries c.place_before-place.result c.place_before-place.ensures.place
     c.rewatch.new.self c.in-Open.k
-    (head_in old.heads (lit_at (stored_at old.clauses a.at.clause).lits c.in-Open.k)) says.0 high
+    (head_of old (lit_at (stored_at old.clauses a.at.clause).lits c.in-Open.k)) says.0 high
     c.rewatch.ensures.clauses a.trail.now.entries c.rewatch.ensures.cursor)
 
 pub push-requires-clause-within : goal.push-requires-clause-within
@@ -75,6 +77,15 @@ push-requires-clause-within c =
     let within = watch_within old.vars c.lits.result.now (other_of a.at.which) c.in-Unit.lit
     c.lits.ensures.simple c.in-Unit.ensures.0 in
     rw c.requires.whole.vars within
+
+-- the clause is the reason of the newest entry
+entries_are : (c : After-push) → c.push.new.self.entries
+    ≡ record { lit = c.in-Unit.lit; level = c.args.level; reason = Some c.args.at.clause }
+    ∷ c.args.trail.now.entries
+entries_are c =
+    c.push.ensures.entries ∙ ap (λ (r : Option ClauseRef).
+    record { lit = c.in-Unit.lit; level = c.args.level; reason = r } ∷ c.args.trail.now.entries)
+    c.to-in-Unit.ensures
 
 pub returns-in-Unit-clause-goes : goal.returns-in-Unit-clause-goes
 returns-in-Unit-clause-goes c =
@@ -94,7 +105,8 @@ returns-in-Unit-clause-goes c =
       why = subst (λ l. IsReason a.trail.now.entries l c.in-Unit.lit) c.lits.ensures.value why;
     } in
     goes_implied a.trail.now.entries a.level a.f old.clauses a.trail.now.entries
-    c.push.new.self.entries e c.push.ensures.entries implied
+    c.push.new.self.entries e (entries_are (goal.at.returns-in-Unit-clause-goes c).After-push)
+    implied
 
 pub returns-in-Unit-clause-visited : goal.returns-in-Unit-clause-visited
 returns-in-Unit-clause-visited c =
@@ -102,7 +114,7 @@ returns-in-Unit-clause-visited c =
     let k = stored_at old.clauses a.at.clause in
     let simple = chained.simple a.at.clause c.requires.at.held in
     subst (IsVisited a.f a.before a.at a.after old old c.push.new.self.entries)
-    (sym c.to-in-Unit.ensures)
+    (sym c.to-in-Unit-2.ensures)
     (visited_kept old.vars old a.f a.at a.after chained c.requires.at c.requires.after a.before
     c.push.new.self.entries
     (other_true old.vars c.push.new.self.entries k.lits a.at.which a.f simple c.requires.at.which
@@ -130,6 +142,6 @@ returns-in-Unit-clause-whole c =
     let old = c.args.chains.now in let a = c.args in
     longer_whole old a.trail.now c.push.new.self
     (record { lit = c.in-Unit.lit; level = a.level; reason = Some a.at.clause }) c.requires.whole
-    c.push.ensures.vars c.push.ensures.entries
+    c.push.ensures.vars (entries_are (goal.at.returns-in-Unit-clause-whole c).After-push)
     (watch_within old.vars c.lits.result.now (other_of a.at.which) c.in-Unit.lit
     c.lits.ensures.simple c.in-Unit.ensures.0) c.in-Unit.ensures.1

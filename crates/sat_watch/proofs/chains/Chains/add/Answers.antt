@@ -27,6 +27,8 @@ pub link_first-requires : goal.link_first-requires
 link_first-requires c =
     let put = put (goal.at.link_first-requires c).After-push_ordered-c in
     record {
+      few = put.chained.few;
+      wide = put.chained.many;
       held = ordered_held put;
       two = ordered_two put;
       first = ordered_head put 0 (omega arith);

@@ -1,5 +1,5 @@
 use Rattle.std.proofs.Common.{[], None, Some, refl, sym, ap, ◌∙◌, subst}
-use Rattle.sat_watch.specs.Chains.{HasCursor, head_in, next_on}
+use Rattle.sat_watch.specs.Chains.{HasCursor, head_of, next_on}
 use Rattle.sat_watch.specs.Tails.{IsTail, refs}
 use Rattle.sat_watch.proofs.TailLemmas.{GoesBehind, goes_behind, place_goes_on}
 use Rattle.sat_watch.proofs.chains.Chains.find_tail.Goals as goal
@@ -12,7 +12,7 @@ loop-next-init c =
     record {
       cursor = (
         None,
-        subst (HasCursor (next_on s.clauses c.args.l) (head_in s.heads c.args.l) None)
+        subst (HasCursor (next_on s.clauses c.args.l) (head_of s c.args.l) None)
             (sym c.head-next.ensures) (record { kept = []; rest = chain.refs; is = chain.is }),
       );
       tail = (c.head-next.result, rw (c.requires.others, c.requires.words) refl);

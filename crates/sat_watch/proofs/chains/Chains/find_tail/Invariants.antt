@@ -1,6 +1,6 @@
 use Rattle.std.proofs.Common.{length, Option}
 use Rattle.sat_arena.specs.declared.clause_ref.ClauseRef.{ClauseRef}
-use Rattle.sat_watch.specs.Chains.{HasCursor, head_in, next_on}
+use Rattle.sat_watch.specs.Chains.{HasCursor, head_of, next_on}
 use Rattle.sat_watch.specs.Tails.{IsTail, refs}
 use Rattle.sat_watch.specs.Watched.{chain_length}
 use Rattle.sat_watch.proofs.chains.Chains.find_tail.Given as goal
@@ -9,7 +9,7 @@ use Rattle.sat_watch.proofs.chains.Chains.find_tail.Given as goal
 abbrev pub invariant-loop-next : goal.invariant-loop-next
 invariant-loop-next l = record {
   cursor : (before : Option ClauseRef)
-      × HasCursor (next_on l.self.clauses l.l) (head_in l.self.heads l.l) before l.next;
+      × HasCursor (next_on l.self.clauses l.l) (head_of l.self l.l) before l.next;
   tail : (from : Option ClauseRef)
       × IsTail l.self.clauses l.l from l.others.items (refs l.words.items) l.next;
 }

@@ -1,4 +1,4 @@
-use Rattle.std.proofs.Common.{◌≡◌, ◌*◌, rules, List, None, true, false, vec_len, replicate, sym, ap, ◌∙◌, subst, arith}
+use Rattle.std.proofs.Common.{◌≡◌, ◌+◌, ◌*◌, rules, List, None, true, false, vec_len, replicate, sym, ap, ◌∙◌, subst, arith}
 use Rattle.sat_arena.specs.declared.moves.Move.{Move}
 use Rattle.sat_arena.specs.Compact.{compacted, moves_of}
 use Rattle.sat_arena.specs.Store.{Store, Stored}
@@ -62,8 +62,8 @@ link_all-requires c =
     c.in-Ok.ensures.clauses ∙ ap compacted c.mark_all.ensures.clauses in
     let moves : c.in-Ok.moves ≡ moves_of (marked true refs ks) =
     c.in-Ok.ensures.pairs ∙ ap moves_of c.mark_all.ensures.clauses in
-    let long : vec_len i.heads ≡ i.vars * 2 = omega (arith, i.heads.ok.0, h.many) in
-    let empty : c.fill.new.self.items ≡ replicate (i.vars * 2) None =
+    let long : vec_len i.heads ≡ i.vars * 2 + 1 = omega (arith, i.heads.ok.0, h.many) in
+    let empty : c.fill.new.self.items ≡ replicate (i.vars * 2 + 1) None =
     c.fill.ensures.items (search rules) ∙
     (ap (replicate (vec_len i.heads)) c.none.ensures ∙ ap (λ n. replicate n None) long) in
     record {

@@ -1,8 +1,8 @@
 use Rattle.std.proofs.Common.{◌≡◌, List, ◌∷◌, Option, Some, sym, ap, ◌∙◌, subst}
 use Rattle.sat_arena.specs.declared.clause_ref.ClauseRef.{ClauseRef}
 use Rattle.sat_arena.specs.Store.{Stored}
-use Rattle.sat_watch.specs.Chains.{holders, ChainsState, IsCursor, IsChained, IsRewatched, clause_of, head_at, head_in, next_on}
-use Rattle.sat_watch.proofs.ChainLemmas.{CanRewatch, after_held, can_rewatch, clauses_after, code_clauses, code_heads, heads_after, now_chained, now_cursor, now_holders, rewatched, still_head, still_held, still_high}
+use Rattle.sat_watch.specs.Chains.{holders, ChainsState, IsCursor, IsChained, IsRewatched, clause_of, head_at, head_in, head_of, next_on}
+use Rattle.sat_watch.proofs.ChainLemmas.{CanRewatch, after_held, can_rewatch, clauses_after, code_clauses, code_heads, heads_after, now_chained, now_cursor, now_holders, rewatched, still_head, still_held, still_high, still_wide}
 use Rattle.sat_watch.specs.Tails.{HasTails}
 use Rattle.sat_watch.proofs.TailLemmas.{tails_rewatched}
 use Rattle.sat_watch.proofs.chains.Chains.rewatch.Goals as goal
@@ -41,7 +41,8 @@ pub unlink-requires-clause-after : goal.unlink-requires-clause-after
 unlink-requires-clause-after c =
     let i = c.self.inside in let a = c.args in
     let can = can (goal.at.unlink-requires-clause-after c).After-self in
-    after_held i.vars i.arena.clauses a.f (head_in i.heads.items a.f) (clause_of a.before) a.after
+    after_held i.vars i.arena.clauses a.f (head_in i.vars i.heads.items a.f) (clause_of a.before)
+    a.after
     a.at can.chained.simple can.place can.cursor can.goes
 
 pub put_first-requires : goal.put_first-requires
@@ -51,6 +52,8 @@ put_first-requires c =
     let to = c.unlink.ensures in
     record {
       held = still_held can ks heads to.clauses to.heads;
+      few = can.chained.few;
+      wide = still_wide can ks heads to.clauses to.heads;
       which = c.requires.at.which;
       low = c.requires.low;
       high = still_high can ks heads to.clauses to.heads;
@@ -74,16 +77,17 @@ pub returns-clause-clauses : goal.returns-clause-clauses
 returns-clause-clauses c =
     let a = c.args in
     subst (λ (s : ChainsState). IsRewatched s.clauses c.put_first.new.arena.clauses a.before a.at
-    a.k a.after (head_at s.clauses s.heads a.at.clause a.k)) c.self.view_is
+    a.k a.after (head_at s.vars s.clauses s.heads a.at.clause a.k)) c.self.view_is
     (rw (clauses_are c) (rewatched (moves c)))
 
 pub returns-clause-cursor : goal.returns-clause-cursor
 returns-clause-cursor c =
     let a = c.args in
     subst (λ (s : ChainsState). (kept rest : List ClauseRef)
-    → IsCursor (next_on s.clauses a.f) (head_in s.heads a.f) kept (a.at.clause ∷ rest)
+    → IsCursor (next_on s.clauses a.f) (head_of s a.f) kept (a.at.clause ∷ rest)
     (clause_of a.before) (Some a.at.clause)
-    → IsCursor (next_on c.put_first.new.arena.clauses a.f) (head_in c.put_first.new.heads.items a.f)
+    → IsCursor (next_on c.put_first.new.arena.clauses a.f) (head_in c.self.inside.vars
+    c.put_first.new.heads.items a.f)
     kept rest (clause_of a.before) a.after) c.self.view_is
     (rw (clauses_are c, heads_are c) (now_cursor (moves c)))
 

@@ -3,7 +3,8 @@ use Rattle.sat_clause.specs.Literal.{is_among, negation}
 use Rattle.sat_watch.specs.Trail.{TrailState, falses}
 use Rattle.sat_watch.specs.TrailStore.{place_of}
 use Rattle.sat_watch.proofs.StoredLemmas.{default_free}
-use Rattle.sat_watch.proofs.StoreLemmas.{place_within, truth_one}
+use Rattle.sat_watch.proofs.StoreLemmas.{truth_one}
+use Rattle.sat_watch.proofs.TableLemmas.{place_within}
 use Rattle.sat_watch.proofs.trail.Trail.is_true.Goals as goal
 
 pub returns : goal.returns
