@@ -10,7 +10,7 @@ use Rattle.fpga_types.specs.declared.route.Elem.{Elem}
 use Rattle.fpga_types.specs.declared.route.RouteNet.{RouteNet}
 use Rattle.route_draw.specs.Blamed.{Blame, mark_of}
 use Rattle.route_draw.specs.Caption.{AreCounts, IsKey, blamed_counted, counted, global_count, line_opening}
-use Rattle.route_draw.specs.Crowded.{AddsMarks, AreMarks}
+use Rattle.route_draw.specs.Crowded.{AddsMarks, AreCrowded, AreMarks}
 use Rattle.route_draw.specs.Needs.{AreNeeds}
 use Rattle.route_draw.specs.Parts.{Adds, AreParts}
 use Rattle.route_draw.specs.Picture.{IsBlock, IsBody, IsGlobal, IsGlobalIf, IsPictureOf, IsRouted, IsRoutedUnless, block_class, group}
@@ -119,15 +119,13 @@ body-added problem layout blame blocks globals nets old a b new all_blocks all_g
           ∙ append_assoc old (first.part ++ next.part) last.part;
     }
 
-pub picture-made : (problem : RoutingProblem) (layout : Layout) (crowded : ℕ) (blame : Blame)
-    (head m0 marks key : List ℕ) (s0 s1 s2 s3 s4 s5 s6 s7 s8 : List ℕ) → m0 ≡ [] →
-    AddsMarks layout.grid layout.wants layout.width (cell_count layout.grid) crowded m0 marks →
-    IsKey crowded key → s0 ≡ [] → s1 ≡ s0 ++ codes "<svg " → s2 ≡ s1 ++ head →
-    Adds (IsBody problem layout blame) s2 s3 → s4 ≡ s3 ++ marks → s5 ≡ s4 ++ codes "</g>\n" →
-    Adds (AreCounts problem layout.width blame) s5 s6 → s7 ≡ s6 ++ key →
-    s8 ≡ s7 ++ codes "</svg>\n" → IsPictureOf problem layout blame s8
-picture-made problem layout crowded blame head m0 marks key
-    s0 s1 s2 s3 s4 s5 s6 s7 s8 none marked keyed e0 e1 e2 body e4 e5 line e7 e8 =
+pub picture-made : (problem : RoutingProblem) (layout : Layout) (blame : Blame)
+    (head marks key : List ℕ) (s0 s1 s2 s3 s4 s5 s6 : List ℕ) → AreCrowded layout marks key →
+    s0 ≡ codes "<svg " ++ head → Adds (IsBody problem layout blame) s0 s1 → s2 ≡ s1 ++ marks →
+    s3 ≡ s2 ++ codes "</g>\n" → Adds (AreCounts problem layout.width blame) s3 s4 →
+    s5 ≡ s4 ++ key → s6 ≡ s5 ++ codes "</svg>\n" → IsPictureOf problem layout blame s6
+picture-made problem layout blame head marks key s0 s1 s2 s3 s4 s5 s6 crowded e0 body e2 e3 line e5
+    e6 =
     record {
       head = head;
       body = body.part;
@@ -135,36 +133,35 @@ picture-made problem layout crowded blame head m0 marks key
       line = line.part;
       key = key;
       is_body = body.is_part;
-      are_crowded = record {
-        crowded = crowded;
-        are_marks = subst
-            (AreMarks layout.grid layout.wants layout.width (cell_count layout.grid) crowded)
-            (sym (marked.added ∙ ap (λ (t : List ℕ). t ++ marked.part) none)) marked.is_part;
-        is_key = keyed;
-      };
+      are_crowded = crowded;
       are_counts = line.is_part;
-      text_is = e8 ∙ ap (λ (t : List ℕ). t ++ codes "</svg>\n")
-          (e7 ∙ ap (λ (t : List ℕ). t ++ key)
+      text_is = e6 ∙ ap (λ (t : List ℕ). t ++ codes "</svg>\n")
+          (e5 ∙ ap (λ (t : List ℕ). t ++ key)
           (line.added ∙ ap (λ (t : List ℕ). t ++ line.part)
-          (e5 ∙ ap (λ (t : List ℕ). t ++ codes "</g>\n")
-          (e4 ∙ ap (λ (t : List ℕ). t ++ marks)
-          (body.added ∙ ap (λ (t : List ℕ). t ++ body.part)
-          (e2 ∙ ap (λ (t : List ℕ). t ++ head)
-          (e1 ∙ ap (λ (t : List ℕ). t ++ codes "<svg ") e0)))))));
+          (e3 ∙ ap (λ (t : List ℕ). t ++ codes "</g>\n")
+          (e2 ∙ ap (λ (t : List ℕ). t ++ marks)
+          (body.added ∙ ap (λ (t : List ℕ). t ++ body.part) e0)))));
     }
 
--- the marks on the cells of a route, by a table of what they want
+-- the marks on the cells of a route, by a table of what they want, and the key to them
 pub marks-said : (layout : Layout) (width crowded : ℕ) (needs : List ℕ) (lanes : LanesOf)
-    (old new text : List ℕ) → needs ≡ lanes.needs → width ≡ layout.width → text ≡ new
+    (none text key : List ℕ) → needs ≡ lanes.needs → width ≡ layout.width → none ≡ []
     → AreLanes layout lanes
     → ((wants : Cell → ℕ) → AreNeeds layout.grid wants needs
-    → AddsMarks layout.grid wants width (cell_count layout.grid) crowded old new)
-    → AddsMarks layout.grid layout.wants layout.width (cell_count layout.grid) crowded old text
-marks-said layout width crowded needs lanes old new text are_needs is_width is_text are adds =
-    subst (λ (t : List ℕ).
-    AddsMarks layout.grid layout.wants layout.width (cell_count layout.grid) crowded old t)
-    (sym is_text)
-    (subst (λ (w : ℕ).
-    AddsMarks layout.grid layout.wants w (cell_count layout.grid) crowded old new)
-    is_width (adds layout.wants (subst (λ (ns : List ℕ). AreNeeds layout.grid layout.wants ns)
-    (sym are_needs) are.needs)))
+    → AddsMarks layout.grid wants width (cell_count layout.grid) crowded none text)
+    → IsKey crowded key → AreCrowded layout text key
+marks-said layout width crowded needs lanes none text key are_needs is_width is_none are adds keyed
+    =
+    let marked : AddsMarks layout.grid layout.wants layout.width (cell_count layout.grid) crowded
+    none text =
+    subst (λ (w : ℕ).
+    AddsMarks layout.grid layout.wants w (cell_count layout.grid) crowded none text) is_width
+    (adds layout.wants (subst (λ (ns : List ℕ). AreNeeds layout.grid layout.wants ns)
+    (sym are_needs) are.needs)) in
+    record {
+      crowded = crowded;
+      are_marks = subst
+          (AreMarks layout.grid layout.wants layout.width (cell_count layout.grid) crowded)
+          (sym (marked.added ∙ ap (λ (t : List ℕ). t ++ marked.part) is_none)) marked.is_part;
+      is_key = keyed;
+    }

@@ -1,6 +1,7 @@
 //! A whole picture.
-ghost use Rattle.std.specs.Prelude.{Bool, IfOk, OnOk, string_bytes};
+ghost use Rattle.std.specs.Prelude.{◌≡◌, ◌++◌, ℕ, Bool, IfOk, List, OnOk, codes, string_bytes};
 ghost use Rattle.route_draw.specs.Blamed.{blame_of};
+ghost use Rattle.route_draw.specs.Crowded.{AreCrowded};
 ghost use Rattle.route_draw.specs.Parts.{Adds};
 ghost use Rattle.route_draw.specs.Picture.{IsBody, IsPicture, IsPictureOf, IsRoutedPicture};
 ghost use Rattle.route_draw.specs.Wires.{AreLanes, Layout, layout_of};
@@ -39,10 +40,8 @@ pub fn draw<'a>(
     ensures { IfOk result (λ text.
         IsPicture problem.now width (blame_of emphasis.now) (string_bytes text)) }
 {
-    let lanes = Lanes::of(alloc, problem, width)?;
-    let route = problem.route();
-    let picture = draw_route(alloc, problem, route, width, lanes, emphasis)?;
-    Ok(picture)
+    let mut lanes = Lanes::of(alloc, problem, width)?;
+    draw_route(alloc, problem, problem.route(), width, &mut lanes, emphasis)
 }
 
 /// The picture of a routing of a problem, in which a net may have several wires of a cell: like
@@ -56,9 +55,8 @@ pub fn draw_routed(
     ensures { IfOk result (λ text.
         IsRoutedPicture problem.now found.now width (string_bytes text)) }
 {
-    let lanes = Lanes::on_tracks(alloc, found, width)?;
-    let picture = draw_route(alloc, problem, found, width, lanes, &Emphasis::Alike)?;
-    Ok(picture)
+    let mut lanes = Lanes::on_tracks(alloc, found, width)?;
+    draw_route(alloc, problem, found, width, &mut lanes, &Emphasis::Alike)
 }
 
 // The picture of a route of a problem whose wires stand so.
@@ -67,29 +65,66 @@ fn draw_route<'a>(
     problem: &'a PlacedProblem,
     route: &'a RouteText,
     width: u32,
-    mut lanes: Lanes,
+    lanes: &mut Lanes,
     emphasis: &Emphasis<'a>,
 ) -> Result<String, AllocError>
     ensures { IfOk result (λ text. (on_tracks : Bool) →
-        AreLanes (layout_of on_tracks route.now width) lanes →
+        AreLanes (layout_of on_tracks route.now width) lanes.old →
         IsPictureOf (record problem.now { route = route.now }) (layout_of on_tracks route.now width)
         (blame_of emphasis.now) (string_bytes text)) }
 {
-    let grid = route.grid;
-    let head = head(alloc, grid, width)?;
-    let mut marks = String::new(alloc);
-    let crowded = append_crowded(&mut marks, alloc, grid, lanes.needs(), width)?;
-    let key = key(alloc, grid, crowded)?;
-    let mut out = String::new(alloc);
-    out.push_str("<svg ")?;
-    out.push_str(head.as_str())?;
-    append_body(&mut out, alloc, problem, route, &mut lanes, emphasis)?;
-    out.push_str(marks.as_str())?;
+    let marks = crowded_marks(alloc, route, lanes, width)?;
+    let mut out = front(alloc, route.grid, width)?;
+    append_body(&mut out, alloc, problem, route, lanes, emphasis)?;
+    out.push_str(marks.text.as_str())?;
     out.push_str("</g>\n")?;
     append_counts(&mut out, problem, width, emphasis)?;
-    out.push_str(key.as_str())?;
+    out.push_str(marks.key.as_str())?;
     out.push_str("</svg>\n")?;
     Ok(out)
+}
+
+// The marks on crowded cells, and the key, which says how many these are.
+#[derive(Drop)]
+struct Marks {
+    text: String,
+    key: String,
+}
+
+fn crowded_marks(
+    alloc: Global,
+    route: &RouteText,
+    lanes: &Lanes,
+    width: u32,
+) -> Result<Marks, AllocError>
+    ensures { IfOk result (λ marks. (on_tracks : Bool) →
+        AreLanes (layout_of on_tracks route.now width) lanes.now →
+        AreCrowded (layout_of on_tracks route.now width) (string_bytes marks.text)
+        (string_bytes marks.key)) }
+{
+    let grid = route.grid;
+    let mut text = String::new(alloc);
+    let crowded = append_crowded(&mut text, alloc, grid, lanes.needs(), width)?;
+    let key = key(alloc, grid, crowded)?;
+    Ok(Marks { text, key })
+}
+
+// What stands before the blocks.
+fn front(alloc: Global, grid: Grid, width: u32) -> Result<String, AllocError>
+    ensures { IfOk result (λ text. (head : List ℕ) × (string_bytes text ≡ codes "<svg " ++ head)) }
+{
+    let head = head(alloc, grid, width)?;
+    let mut out = String::new(alloc);
+    append_front(&mut out, head.as_str())?;
+    Ok(out)
+}
+
+fn append_front(out: &mut String, head: &str) -> Result<(), AllocError>
+    ensures { OnOk result
+        (string_bytes out.new ≡ string_bytes out.old ++ codes "<svg " ++ head.now) }
+{
+    out.push_str("<svg ")?;
+    out.push_str(head)
 }
 
 // The head behind its first word, and the array.

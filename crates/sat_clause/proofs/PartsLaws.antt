@@ -93,13 +93,3 @@ parts-all P start items (end ∷ ends) all zero part is =
     subst (λ (xs : List _). All P xs) same
     (All-take P (end - start) (drop start items) (All-drop P start items all))
 parts-all P start items (end ∷ ends) all (suc i) part is = parts-all P end items ends all i part is
-
--- one more part without elements
-pub parts_push_none : {X : Type 0} (start : ℕ) (items : List X) (ends : List ℕ) (end : ℕ) →
-    RiseTo (length items) start ends → end ≡ length items →
-    parts_from start items (ends ++ end ∷ []) ≡ parts_from start items ends ++ [] ∷ []
-parts_push_none start items [] end rise is =
-    let none : end - start ≡ 0 = omega arith in
-    rw none refl
-parts_push_none start items (e ∷ ends) end rise is =
-    ap (λ parts. slice_range items start e ∷ parts) (parts_push_none e items ends end rise.1 is)

@@ -2,6 +2,7 @@
 
 ghost use Rattle.std.specs.Prelude.{◌≡◌, ◌+◌, ◌-◌, ◌<◌, ◌≤◌, [], ◌∷◌, ◌++◌, length, max, All, OnOk, OnErr, Some, slice_get, IsTrue, if◌then◌else◌};
 ghost use Rattle.sat_clause.specs.Literal.{IsLiteral};
+ghost use Rattle.sat_clause.specs.LogStore.{step_of};
 ghost use Rattle.sat_clause.specs.Step.{Added, Erased};
 
 use crate::Lit;
@@ -116,17 +117,7 @@ impl Log {
         ensures number_room { self.new.number_room
             ≡ self.old.number_room - (length lits.now + length hints.now) }
     {
-        self.heads.push_reserved(Head { id, erase: false });
-        let Ok(()) = self.lits.extend_from_slice(lits) else {
-            unreachable!();
-        };
-        self.lit_ends.push_reserved(self.lits.len() as u32);
-        let Ok(()) = self.numbers.extend_from_slice(hints) else {
-            unreachable!();
-        };
-        self.number_ends.push_reserved(self.numbers.len() as u32);
-        self.step_room -= 1;
-        self.number_room -= (lits.len() + hints.len()) as u64;
+        self.push_step(Head { id, erase: false }, lits, hints);
     }
 
     /// Adds a step at the end that deletes the clauses with these ids, in order, behind a number
@@ -138,14 +129,31 @@ impl Log {
         ensures step_room { self.new.step_room ≡ self.old.step_room - 1 }
         ensures number_room { self.new.number_room ≡ self.old.number_room - length ids.now }
     {
-        self.heads.push_reserved(Head { id, erase: true });
+        self.push_step(Head { id, erase: true }, &[], ids);
+    }
+
+    /// Adds a step at the end. There is room for it.
+    fn push_step(&mut self, head: Head, lits: &[Lit], numbers: &[i64])
+        requires literals { All IsLiteral lits.now }
+        requires step_room { 1 ≤ self.old.step_room }
+        requires number_room { length lits.now + length numbers.now ≤ self.old.number_room }
+        ensures steps { self.new.steps
+            ≡ self.old.steps ++ step_of head lits.now numbers.now ∷ [] }
+        ensures step_room { self.new.step_room ≡ self.old.step_room - 1 }
+        ensures number_room { self.new.number_room
+            ≡ self.old.number_room - (length lits.now + length numbers.now) }
+    {
+        self.heads.push_reserved(head);
+        let Ok(()) = self.lits.extend_from_slice(lits) else {
+            unreachable!();
+        };
         self.lit_ends.push_reserved(self.lits.len() as u32);
-        let Ok(()) = self.numbers.extend_from_slice(ids) else {
+        let Ok(()) = self.numbers.extend_from_slice(numbers) else {
             unreachable!();
         };
         self.number_ends.push_reserved(self.numbers.len() as u32);
         self.step_room -= 1;
-        self.number_room -= ids.len() as u64;
+        self.number_room -= (lits.len() + numbers.len()) as u64;
     }
 
     /// The number of steps.

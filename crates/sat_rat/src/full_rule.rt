@@ -109,13 +109,13 @@ impl<'a> StepRule<'a> for FullRule<'a> {
     ghost tracks = { Tracks };
 
     fn inputs(alloc: Global, formula: &'a Formula) -> Result<FullRule<'a>, AllocError> {
-        let Ok(live) = CountedClauses::inputs(alloc, formula) else {
-            return Err(AllocError);
-        };
         let Ok(first) = FalseSet::new(alloc, formula.vars()) else {
             return Err(AllocError);
         };
         let Ok(second) = FalseSet::new(alloc, formula.vars()) else {
+            return Err(AllocError);
+        };
+        let Ok(live) = CountedClauses::inputs(alloc, formula) else {
             return Err(AllocError);
         };
         Ok(FullRule {

@@ -159,14 +159,14 @@ fn take_groups(
     upper: &mut FalseSet,
     l: Lit,
     count: u64,
-    mut had: Ids,
+    had: &mut Ids,
     hints: &[i64],
 ) -> Result<Option<Cause>, AllocError>
     requires size { lower.now.size ≡ live.now.vars }
     requires small { lower.now.size ≤ LITERAL_LIMIT }
     requires in_upper { lower.now.size ≤ upper.old.size }
     requires empty { upper.old.set ≡ [] }
-    requires none { had ≡ [] }
+    requires none { had.old ≡ [] }
     ensures size { upper.new.size ≡ upper.old.size }
     ensures empty { upper.new.set ≡ [] }
     ensures ok { IfOk result (λ r. (clauses : Live) → Finds (live_at live.now) clauses
@@ -176,7 +176,7 @@ fn take_groups(
     let mut left = count;
     let mut rest = hints;
     while let Some(group) = next_group(rest) {
-        let Ok(said) = take_group(live, lower, upper, l, &had, group) else {
+        let Ok(said) = take_group(live, lower, upper, l, had, group) else {
             return Err(AllocError);
         };
         let count = match said {
@@ -240,15 +240,8 @@ fn check_in(
     let Ok(count) = live.count(other) else {
         return Err(AllocError);
     };
-    take_groups(
-        live.clauses(),
-        first,
-        second,
-        other,
-        count,
-        Ids::new(alloc),
-        hints,
-    )
+    let mut had = Ids::new(alloc);
+    take_groups(live.clauses(), first, second, other, count, &mut had, hints)
 }
 
 /// Why the hints do not justify the clause; none where they do. Both sets are empty before and

@@ -1,4 +1,5 @@
-use Rattle.std.proofs.Common.{rules, ◌≡◌, ◌∙◌, ◌+◌, ◌≤◌, ap, sym, arith, length, take, drop, option_map, vec_len}
+use Rattle.std.proofs.Common.{rules, ◌≡◌, ◌∙◌, ◌+◌, ◌≤◌, Some, ap, sym, arith, inr, length, take, drop, option_map, vec_len}
+use Rattle.std.proofs.lemmas.List.{length-drop}
 use Rattle.desk_io.specs.DeskState.{DeskState, after_read}
 use Rattle.desk_io.proofs.ReadLemmas.{after_read-after_read, front_grows, length-front, left_of, whole_is_read}
 use Rattle.desk_io.proofs.read.read_file.Goals as goal
@@ -43,3 +44,33 @@ returns-in_default-extend_from_slice-clause-memory g c = λ _ fs told file there
       ∙ after_read-after_read _ _ _)
       ∙ left_of (g.D.Desk.state c.args.desk.now) c.args.name.now _ fs file told there,
 )
+
+pub returns-in_default-read-clause-fault_on : goal.returns-in_default-read-clause-fault_on
+returns-in_default-read-clause-fault_on g c = λ _ fs told.
+    inr (c.in_default-read.ensures.err.fault_name
+    ∙ ap (λ (s : DeskState). s.started) c.loop-count.invariant.state
+    ∙ ap (option_map (λ _. c.args.name.now)) told)
+
+pub returns-in_default-read-clause-fault_early : goal.returns-in_default-read-clause-fault_early
+returns-in_default-read-clause-fault_early g c = λ _ started fs told file there. (
+  vec_len c.loop-count.bytes,
+  c.loop-count.invariant.short,
+  c.in_default-read.ensures.err.left
+      ∙ ap (λ (s : DeskState). s.left) c.loop-count.invariant.state
+      ∙ left_of (g.D.Desk.state c.args.desk.now) c.args.name.now _ fs file told there,
+)
+
+pub returns-then-len-count-clause-too_long : goal.returns-then-len-count-clause-too_long
+returns-then-len-count-clause-too_long g c = λ _ fs told file there.
+    let read = c.in-Ok-read.ensures in
+    let before = vec_len c.loop-count.bytes in
+    let left = ap (λ (s : DeskState). s.left) c.loop-count.invariant.state
+    ∙ left_of (g.D.Desk.state c.args.desk.now) c.args.name.now before fs file told there in
+    let all : before + c.in-Ok-read.count ≡ c.args.limit + 1 = search rules in (
+      omega (arith, all, (read.bytes _ left).0, length-drop before file),
+      ap (λ (s : DeskState). s.left) (read.ok
+          ∙ ap (λ (s : DeskState). after_read s c.in-Ok-read.count) c.loop-count.invariant.state
+          ∙ after_read-after_read _ _ _)
+          ∙ left_of (g.D.Desk.state c.args.desk.now) c.args.name.now _ fs file told there
+          ∙ ap (λ n. Some (drop n file)) all,
+    )

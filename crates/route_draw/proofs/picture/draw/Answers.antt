@@ -1,8 +1,10 @@
+use Rattle.std.proofs.lemmas.Result.{IfOk-weaker}
 use Rattle.route_draw.specs.Blamed.{blame_of}
 use Rattle.route_draw.proofs.LaneLemmas.{own-picture}
 use Rattle.route_draw.proofs.picture.draw.Goals as goal
 
 pub returns : goal.returns
 returns c =
+    IfOk-weaker c.draw_route.result _ _ (λ text shows.
     own-picture c.args.problem.now _ c.args.width (blame_of c.args.emphasis.now) _ _
-    c.route-route.ensures.value c.in_ok-lanes.ensures c.in_ok-picture.ensures
+    c.route.ensures.value c.in_ok-lanes.ensures shows) c.draw_route.ensures

@@ -3,7 +3,7 @@ use Rattle.std.proofs.lemmas.List.Elements.{All-append}
 use Rattle.sat_clause.specs.Literal.{IsLiteral}
 use Rattle.sat_clause.proofs.PartsLaws.{parts_push, rise_push}
 use Rattle.sat_clause.proofs.LogLaws.{steps_push, lit_parts-many, number_parts-many}
-use Rattle.sat_clause.proofs.log.Log.add.Goals as goal
+use Rattle.sat_clause.proofs.log.Log.push_step.Goals as goal
 
 pub invariant_of-self : goal.invariant_of-self
 invariant_of-self c =
@@ -44,12 +44,12 @@ returns-clause-steps c =
     let lits_rise = rw inside.lits.ok.0 at old.lits_rise in
     let numbers_rise = rw inside.numbers.ok.0 at old.numbers_rise in
     let lit_end : c.len.result ≡ length inside.lits.items + length c.args.lits.now = omega arith in
-    let number_end : c.len-2.result ≡ length inside.numbers.items + length c.args.hints.now =
+    let number_end : c.len-2.result ≡ length inside.numbers.items + length c.args.numbers.now =
     omega arith in
     let lits = parts_push 0 inside.lits.items c.args.lits.now inside.lit_ends.items _ lits_rise
     lit_end in
     let numbers =
-    parts_push 0 inside.numbers.items c.args.hints.now inside.number_ends.items _ numbers_rise
+    parts_push 0 inside.numbers.items c.args.numbers.now inside.number_ends.items _ numbers_rise
     number_end in
     rw (
       ← c.self.view_is,
@@ -61,7 +61,7 @@ returns-clause-steps c =
       lits,
       numbers,
     )
-    (steps_push inside.heads.items _ _ _ c.args.lits.now c.args.hints.now
+    (steps_push inside.heads.items _ _ _ c.args.lits.now c.args.numbers.now
     (lit_parts-many inside.heads inside.lits inside.lit_ends inside.numbers inside.number_ends
     inside.step_room inside.number_room old)
     (number_parts-many inside.heads inside.lits inside.lit_ends inside.numbers inside.number_ends
