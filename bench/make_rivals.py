@@ -2,11 +2,12 @@
 """Prints clauses, as DIMACS CNF, of nets that want the tracks of one cell: those of `search_rows`.
 
     make_rivals.py crowd NETS TRACKS
-    make_rivals.py traps COUNT
+    make_rivals.py traps COUNT [CHAIN]
 
 A crowd has a variable for each track of each net: each net has a track and no two, and no track has two nets. A trap
 is a crowd of eight nets that want seven tracks, unless a literal is true that is false where the first variable of the
-trap is true. Nothing but this literal leads out of it early, and no conflict meets the first variable.
+trap is true. Nothing but this literal leads out of it early, and no conflict meets the first variable. Behind the traps
+stands a chain of so many variables, which the first of each trap makes true, one by the other.
 """
 import sys
 
@@ -21,13 +22,15 @@ def crowd(nets, tracks, behind, guard):
     return [guard + clause for clause in clauses]
 
 
-def traps(count):
-    """The clauses of so many traps."""
-    clauses = []
+def traps(count, chain=0):
+    """The clauses of so many traps, and of a chain behind them."""
+    end = count * 59 + 1
+    clauses = [[-v, v + 1] for v in range(end, end + chain - 1)]
     for trap in range(count):
         first = trap * 59 + 1
         second, way_out = first + 1, first + 2
         clauses += [[-first, second], [-second, -way_out]] + crowd(8, 7, first + 2, [way_out])
+        clauses += [[-first, end]] if chain > 0 else []
     return clauses
 
 

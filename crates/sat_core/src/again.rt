@@ -44,6 +44,14 @@ fn open_literal(watches: &Watches, v: u32) -> Option<Lit>
     Some(l)
 }
 
+/// So many literals a decision are many.
+const MANY: u64 = 100;
+
+/// Whether the decisions have brought many literals each. Then few were made, and they decide most.
+fn brings_many(watches: &Watches) -> bool {
+    watches.trail().len() as u64 >= u64::from(watches.level()) * MANY
+}
+
 impl Again {
     /// Room for so many variables, of which none is decided again.
     pub(crate) fn new(alloc: Global, vars: u32) -> Result<Again, AllocError> {
@@ -69,10 +77,11 @@ impl Again {
         }
     }
 
-    /// Decides again what is decided, but behind a restart that begins anew nothing.
+    /// Decides again what is decided. Behind a restart that begins anew, and where each decision has
+    /// brought many literals, it decides nothing again.
     pub(crate) fn keep(&mut self, restarts: &Restarts, watches: &Watches) {
         self.clear();
-        if restarts.begins_anew() {
+        if restarts.begins_anew() || brings_many(watches) {
             return;
         }
         for entry in watches.trail() {

@@ -97,7 +97,8 @@ fn search_for_values(
 /// Of the open variables the one that conflicts met most and latest is decided, as true; after 64
 /// times the next term of Luby's sequence more conflicts the search goes back to level 0. Behind
 /// three such restarts of four what was decided is decided again before others, as far as it is
-/// open and until the next clause is learned. Where a clause is false, the clause of the first
+/// open and until the next clause is learned, unless the trail had 100 literals a decision or more.
+/// Where a clause is false, the clause of the first
 /// unique implication point is learned: the search goes back to the highest level of its other
 /// literals, and it makes the last one true there.
 /// The analysis costs what it meets: the entries of the trail from the newest down to that point,
