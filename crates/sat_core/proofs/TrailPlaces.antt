@@ -4,7 +4,7 @@ use Rattle.std.proofs.lemmas.Bool.{eq-eqb, ne_eqb}
 use Rattle.std.proofs.lemmas.Bool.Decides.{eqb_tells}
 use Rattle.std.proofs.lemmas.List.{length-reverse, reverse-append, reverse-reverse}
 use Rattle.std.proofs.lemmas.List.Elements.{All-contains}
-use Rattle.std.proofs.lemmas.Option.{slice_get-get_or, slice_get_within}
+use Rattle.std.proofs.lemmas.Option.{slice_get_read, slice_get_within}
 use Rattle.list_laws.proofs.Places.{get-cases, get-front, get-last, some_is}
 use Rattle.sat_clause.specs.declared.literal.Lit.{Lit}
 use Rattle.sat_clause.specs.Literal.{IsWithin, lit, negation, variable}
@@ -79,13 +79,13 @@ at_contains (x ∷ older) p e at = elim (at_cases x older p e at) [
 abbrev pub no_entry : TrailEntry
 no_entry = record { lit = lit (pos 0); level = 0; reason = None }
 
-pub read_at : (items trail : List TrailEntry) (p : ℕ) → reverse items ≡ trail →
-    p < length trail → IsAt trail p (get_or items p no_entry)
-read_at items trail p is lt =
+pub read_at : (items trail : List TrailEntry) (p : ℕ) (e : TrailEntry) → reverse items ≡ trail →
+    p < length trail → e ≡ get_or items p e → IsAt trail p e
+read_at items trail p e is lt read =
     let same : reverse trail ≡ items = ap reverse (sym is) ∙ reverse-reverse items in
     ap (λ (xs : List TrailEntry). slice_get xs p) same
-    ∙ slice_get-get_or items p no_entry
-    (omega (arith, lt, length-reverse items, ap length is))
+    ∙ slice_get_read items (length items) p e refl
+    (omega (arith, lt, length-reverse items, ap length is)) read
 
 -- it has a reason where the entry at the place has one
 pub has_some : (trail : List TrailEntry) (p : ℕ) (e : TrailEntry) → IsAt trail p e →

@@ -61,7 +61,7 @@ impl Again {
 
     /// Takes the variable of an entry that was decided behind the others, if there is room.
     fn keep_entry(&mut self, entry: TrailEntry) {
-        if entry.reason.is_some() {
+        if entry.reason.clause().is_some() {
             return;
         }
         if self.variables.len() < self.variables.capacity() {

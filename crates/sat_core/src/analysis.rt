@@ -101,7 +101,7 @@ fn pass(marks: &mut Marks, watches: &Watches, place: u32, least: u32) -> u32
     if !marks.is_met(place) {
         return least;
     }
-    let Some(reason) = entry.reason else {
+    let Some(reason) = entry.reason.clause() else {
         unreachable!();
     };
     use_entry(marks, watches, place, reason, least)
@@ -172,7 +172,7 @@ fn use_at(marks: &mut Marks, implied: &Implied, watches: &Watches, i: u32)
     if !is_left_out(implied, entry.level, place) {
         return;
     }
-    let Some(reason) = entry.reason else {
+    let Some(reason) = entry.reason.clause() else {
         unreachable!();
     };
     use_entry(marks, watches, place, reason, 0);

@@ -105,7 +105,7 @@ impl Analysis<'_> {
         if !self.is_learned(implied, place) {
             return;
         }
-        let Some(reason) = entry_at(self.watches, place).reason else {
+        let Some(reason) = entry_at(self.watches, place).reason.clause() else {
             return;
         };
         self.bump_reason(ranking, self.watches.lits(reason));

@@ -56,7 +56,8 @@ fn is_reason_for(watches: &Watches, trail: &[TrailEntry], l: Lit, c: ClauseRef) 
         return false;
     };
     let place = watches.place(l);
-    let Some(reason) = trail[place as usize].reason else {
+    let entry = trail[place as usize];
+    let Some(reason) = entry.reason.clause() else {
         return false;
     };
     reason.word == c.word

@@ -91,7 +91,7 @@ impl Analysis<'_> {
         if !self.marks.is_used(place) {
             return None;
         }
-        let Some(reason) = entry_at(self.watches, place).reason else {
+        let Some(reason) = entry_at(self.watches, place).reason.clause() else {
             return None;
         };
         Some(self.watches.id(reason))

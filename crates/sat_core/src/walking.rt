@@ -86,7 +86,7 @@ impl Analysis<'_> {
         if entry.level == self.level {
             return;
         }
-        let Some(reason) = entry.reason else {
+        let Some(reason) = entry.reason.clause() else {
             return;
         };
         if !self.are_covered(implied, self.watches.lits(reason)) {
@@ -112,7 +112,7 @@ impl Analysis<'_> {
         if level_set(entry.level) & levels == 0 {
             return false;
         }
-        entry.reason.is_some()
+        entry.reason.clause().is_some()
     }
 
     /// Goes on with a visit: to the next literal of its reason that is not covered, or to its end.
@@ -124,7 +124,7 @@ impl Analysis<'_> {
         ensures walking { IsWalking self.now.watches.now self.now.marks.now implied.new }
         ensures left { steps_left implied.new ≤ steps_left implied.old }
     {
-        let Some(reason) = entry_at(self.watches, visit.place).reason else {
+        let Some(reason) = entry_at(self.watches, visit.place).reason.clause() else {
             implied.end();
             return;
         };

@@ -1,16 +1,18 @@
 -- What is left once clauses are taken out of an arena, and what contracts see of it.
-use Rattle.std.proofs.Common.{◌≡◌, ℕ, ◌+◌, ◌*◌, Bool, true, false, inl, inr, List, [], ◌∷◌, map, get_or, Option, None, Some, All, refl, sym, ap, ◌∙◌, subst}
+use Rattle.std.proofs.Common.{◌≡◌, ◌<◌, ◌^◌, ◌==◌, ℕ, ◌+◌, ◌*◌, Bool, IfSome, true, false, inl, inr, List, [], ◌∷◌, map, get_or, Option, None, Some, All, refl, sym, ap, ◌∙◌, subst}
 use Rattle.std.specs.Prelude.{if◌then◌else◌, replicate}
 use Rattle.std.proofs.lemmas.Bool.{both_ways}
+use Rattle.std.proofs.lemmas.List.Elements.{All-head, All-tail}
 use Rattle.sat_clause.specs.Learned.{IsSimple}
 use Rattle.sat_arena.specs.declared.clause_ref.ClauseRef.{ClauseRef}
+use Rattle.sat_arena.specs.declared.moves.Move.{Move}
 use Rattle.sat_arena.specs.Compact.{Leads, moved_by, moves_from, moves_of, placed_from, unmarked, with_place}
 use Rattle.sat_arena.specs.Store.{ArePlaced, Stored, is_held, ref, size_of, stored_at, with_mark}
 use Rattle.sat_arena.proofs.CompactLemmas.{comes, leads, true_or_false, unmarked_marked, unmarked_other}
 use Rattle.sat_arena.proofs.StoreLaws.{same_or_other}
 use Rattle.sat_watch.specs.Chains.{AreChained, AreUnmarked, ChainsState, IsChained, is_in}
 use Rattle.sat_watch.specs.Forget.{HasMoved, IsNoReason, OthersMove, OthersStay, entry_moved, forgotten, moved_to, placed_anew, without}
-use Rattle.sat_watch.specs.Relinking.{AreRefsOf, AreUnlinked, marked, stored_without}
+use Rattle.sat_watch.specs.Relinking.{AreNear, AreRefsOf, AreUnlinked, marked, stored_without}
 use Rattle.sat_watch.specs.Levels.{IsWatchStore}
 use Rattle.sat_watch.specs.Trail.{TrailState}
 use Rattle.sat_watch.specs.Watches.{IsWatches, attached, id_at, is_attached, lits_at, watch_state}
@@ -305,3 +307,16 @@ module _ (c c' : ChainsState) (t t' : TrailState) (refs : List ClauseRef)
           (λ x. map
           (entry_moved (λ r. (same r ∙ moved_without refs c.clauses r chained.unmarked) x))
           t.entries)
+
+-- where clauses are moved near, each of them is
+pub near_moved : (ms : List Move) (c : ClauseRef) → AreNear ms →
+    IfSome (moved_by ms c) (λ d. d.word < 2 ^ 63)
+near_moved [] c all = tt
+near_moved (m ∷ ms) c all =
+    by (m.before.word == c.word)
+    (near_moved ms c (All-tail (λ (x : Move). x.after.word < 2 ^ 63) m ms all))
+  where
+    by : (b : Bool) → IfSome (moved_by ms c) (λ d. d.word < 2 ^ 63) →
+        IfSome (if b then Some m.after else moved_by ms c) (λ d. d.word < 2 ^ 63)
+    by true rest = All-head (λ (x : Move). x.after.word < 2 ^ 63) m ms all
+    by false rest = rest

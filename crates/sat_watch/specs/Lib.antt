@@ -2,7 +2,7 @@ pub mod Chains
 pub mod Choice
 pub mod Forget
 pub mod Levels
-pub mod Link
+pub mod MaybeClause
 pub mod Relinking
 pub mod Tails
 pub mod Trail

@@ -9,13 +9,13 @@ ghost use Rattle.sat_arena.specs.Compact.{AreRising, moves_of};
 ghost use Rattle.sat_arena.specs.Store.{behind_of, first_ref, is_held, link_of, stored_at};
 ghost use Rattle.sat_watch.specs.Chains.{AreChained, GoesOn, HasCursor, IsAdded, IsCursor, IsPlaceOf, IsRewatched, MayBePlaceOf, clause_of, head_at, head_of, holders, literals, next_on};
 ghost use Rattle.sat_watch.specs.Choice.{IsAhead, after_first as after_first_of};
-ghost use Rattle.sat_watch.specs.Relinking.{marked, stored_without};
+ghost use Rattle.sat_watch.specs.Relinking.{AreNear, marked, stored_without};
 ghost use Rattle.sat_watch.specs.Tails.{IsTail, refs};
 ghost use Rattle.sat_watch.specs.TrailStore.{place_of};
 ghost use Rattle.sat_watch.specs.Watches.{attached};
 
-use crate::link::Link;
 use crate::links::{link_all, link_first, mark_all, push_ordered, put_first, unlink};
+use crate::maybe_clause::MaybeClause;
 use crate::place::Place;
 use crate::tails::{Tails, literal_at};
 use crate::trail::place;
@@ -29,7 +29,7 @@ use std::marker::Model;
 pub(crate) struct Chains {
     vars: u32,
     arena: Arena,
-    heads: Vec<Link>,
+    heads: Vec<MaybeClause>,
     tails: Tails,
 }
 
@@ -69,7 +69,7 @@ impl Chains {
         ensures clauses { IfOk result (λ c. c.clauses ≡ []) }
         ensures chained { IfOk result AreChained }
     {
-        let heads = vec![in alloc; Link::none(); vars as usize * 2 + 1]?;
+        let heads = vec![in alloc; MaybeClause::none(); vars as usize * 2 + 1]?;
         let tails = Tails::new(alloc);
         Ok(Chains {
             vars,
@@ -167,6 +167,16 @@ impl Chains {
         self.arena.unmarked_lits(c)
     }
 
+    /// A clause as the reason of an entry. The arena says of a clause whose literals it lends that
+    /// it stands near.
+    pub(crate) fn as_reason(&self, c: ClauseRef) -> MaybeClause
+        requires held { is_held self.now.clauses c ≡ true }
+        ensures { result ≡ Some c }
+    {
+        let _literals = self.arena.lits(c);
+        MaybeClause::to(c)
+    }
+
     /// The id of a clause.
     pub(crate) fn id(&self, c: ClauseRef) -> u32
         requires held { is_held self.now.clauses c ≡ true }
@@ -214,7 +224,7 @@ impl Chains {
     }
 
     /// The place in a literal's chain of the clause that a walk stands behind, if there is one.
-    pub(crate) fn place_before(&self, before: Link, f: Lit) -> Option<Place>
+    pub(crate) fn place_before(&self, before: MaybeClause, f: Lit) -> Option<Place>
         requires goes { (c : ClauseRef) → before ≡ Some c
             → GoesOn (next_on self.now.clauses f c) }
         ensures clause { clause_of result ≡ before }
@@ -242,6 +252,7 @@ impl Chains {
         ensures moves { IfOk result
             (λ m. m ≡ moves_of (marked true clauses.now self.old.clauses)) }
         ensures rising { IfOk result (AreRising 0) }
+        ensures near { IfOk result AreNear }
         ensures chained { AreChained self.new }
         ensures err { OnErr result (self.new ≡ self.old) }
     {
@@ -251,7 +262,7 @@ impl Chains {
             mark_all(&mut self.arena, clauses, false);
             return Err(AllocError);
         };
-        self.heads.fill(Link::none());
+        self.heads.fill(MaybeClause::none());
         link_all(&mut self.arena, &mut self.heads, self.vars, &moves);
         Ok(moves)
     }

@@ -21,8 +21,8 @@
 mod chains;
 mod choice;
 mod entry;
-mod link;
 mod links;
+mod maybe_clause;
 mod place;
 mod sight;
 mod tails;
@@ -31,4 +31,5 @@ mod visit;
 mod watches;
 
 pub use entry::TrailEntry;
+pub use maybe_clause::MaybeClause;
 pub use watches::Watches;

@@ -5,10 +5,10 @@ ghost use Rattle.sat_clause.specs.Literal.{IsWithin};
 ghost use Rattle.sat_arena.specs.declared.clause_ref.ClauseRef.{ClauseRef};
 ghost use Rattle.sat_arena.specs.Store.{ArePlaced, IsLinkTo, changed, is_held, new_clause, ref, size_all, with_link, with_swap};
 ghost use Rattle.sat_watch.specs.Chains.{HasHead, IsChained, IsLast, MayBePlaceOf, head_at, literals, unlinked, unlinked_heads, with_head, with_order};
-ghost use Rattle.sat_watch.specs.Relinking.{AreRefsOf, AreUnlinked, heads_with, linked, marked};
+ghost use Rattle.sat_watch.specs.Relinking.{AreNear, AreRefsOf, AreUnlinked, heads_with, linked, marked};
 ghost use Rattle.sat_watch.specs.Watches.{attached};
 
-use crate::link::Link;
+use crate::maybe_clause::MaybeClause;
 use crate::place::Place;
 use crate::trail::place;
 use sat_arena::{Arena, ClauseRef, Moves};
@@ -17,7 +17,7 @@ use sat_clause::{LITERAL_LIMIT, Lit, VARIABLE_LIMIT};
 /// Links what stands before a clause in a literal's chain to what stands after it.
 pub(crate) fn unlink(
     arena: &mut Arena,
-    heads: &mut Vec<Link>,
+    heads: &mut Vec<MaybeClause>,
     vars: u32,
     f: Lit,
     before: Option<Place>,
@@ -34,7 +34,7 @@ pub(crate) fn unlink(
     ensures heads { heads.new.items ≡ unlinked_heads vars f before after heads.old.items }
 {
     let Some(p) = before else {
-        heads[place(vars, f)] = Link::of(after);
+        heads[place(vars, f)] = MaybeClause::of(after);
         return;
     };
     arena.set_link(p.clause, p.which, after);
@@ -42,7 +42,13 @@ pub(crate) fn unlink(
 
 /// Swaps the literal at a position of a clause to the place, and puts the clause in front of that
 /// literal's chain.
-pub(crate) fn put_first(arena: &mut Arena, heads: &mut Vec<Link>, vars: u32, at: Place, k: u32)
+pub(crate) fn put_first(
+    arena: &mut Arena,
+    heads: &mut Vec<MaybeClause>,
+    vars: u32,
+    at: Place,
+    k: u32,
+)
     requires few { vars ≤ VARIABLE_LIMIT }
     requires wide { length heads.old.items ≡ vars * 2 + 1 }
     requires held { is_held arena.old.clauses at.clause ≡ true }
@@ -56,13 +62,13 @@ pub(crate) fn put_first(arena: &mut Arena, heads: &mut Vec<Link>, vars: u32, at:
     ensures spare { arena.new.spare ≡ arena.old.spare }
     ensures heads { heads.new.items ≡ with_head vars arena.old.clauses heads.old.items at.clause k }
 {
-    let heads: &mut [Link] = heads;
+    let heads: &mut [MaybeClause] = heads;
     let lits = arena.lits(at.clause);
     let first = place(vars, lits[k as usize]);
     let next = heads[first].clause();
     arena.swap(at.clause, at.which, k);
     arena.set_link(at.clause, at.which, next);
-    heads[first] = Link::of(Some(at.clause));
+    heads[first] = MaybeClause::of(Some(at.clause));
 }
 
 /// Puts a clause behind the others, with the literal at position `i` first, and then the one that
@@ -85,7 +91,7 @@ pub(crate) fn push_ordered(arena: &mut Arena, lits: &[Lit], id: u32, i: u32, j: 
 }
 
 /// Puts a clause in front of the chains of its first two literals.
-pub(crate) fn link_first(arena: &mut Arena, heads: &mut Vec<Link>, vars: u32, c: ClauseRef)
+pub(crate) fn link_first(arena: &mut Arena, heads: &mut Vec<MaybeClause>, vars: u32, c: ClauseRef)
     requires few { vars ≤ VARIABLE_LIMIT }
     requires wide { length heads.old.items ≡ vars * 2 + 1 }
     requires held { is_held arena.old.clauses c ≡ true }
@@ -107,8 +113,8 @@ pub(crate) fn link_first(arena: &mut Arena, heads: &mut Vec<Link>, vars: u32, c:
     let (to_first, to_second) = (heads[first].clause(), heads[second].clause());
     arena.set_link(c, 0, to_first);
     arena.set_link(c, 1, to_second);
-    heads[first] = Link::of(Some(c));
-    heads[second] = Link::of(Some(c));
+    heads[first] = MaybeClause::of(Some(c));
+    heads[second] = MaybeClause::of(Some(c));
 }
 
 /// Marks these clauses, or takes their marks away.
@@ -123,7 +129,7 @@ pub(crate) fn mark_all(arena: &mut Arena, clauses: &[ClauseRef], on: bool)
 }
 
 /// Puts a clause in front of the chains of its first two literals, if it has two.
-fn relink(arena: &mut Arena, heads: &mut Vec<Link>, vars: u32, c: ClauseRef)
+fn relink(arena: &mut Arena, heads: &mut Vec<MaybeClause>, vars: u32, c: ClauseRef)
     requires few { vars ≤ VARIABLE_LIMIT }
     requires wide { length heads.old.items ≡ vars * 2 + 1 }
     requires held { is_held arena.old.clauses c ≡ true }
@@ -136,6 +142,7 @@ fn relink(arena: &mut Arena, heads: &mut Vec<Link>, vars: u32, c: ClauseRef)
     ensures spare { arena.new.spare ≡ arena.old.spare }
     ensures heads { heads.new.items
         ≡ heads_with vars (literals arena.old.clauses c) c heads.old.items }
+    ensures near { c.word < 2 ^ 63 }
 {
     if arena.lits(c).len() >= 2 {
         link_first(arena, heads, vars, c);
@@ -143,11 +150,12 @@ fn relink(arena: &mut Arena, heads: &mut Vec<Link>, vars: u32, c: ClauseRef)
 }
 
 /// Links all clauses, whose chains are still empty. The moves tell their references.
-pub(crate) fn link_all(arena: &mut Arena, heads: &mut Vec<Link>, vars: u32, moves: &Moves)
+pub(crate) fn link_all(arena: &mut Arena, heads: &mut Vec<MaybeClause>, vars: u32, moves: &Moves)
     requires unlinked { AreUnlinked vars arena.old.clauses heads.old.items }
     requires references { AreRefsOf arena.old.clauses moves.now }
     ensures clauses { map attached arena.new.clauses ≡ map attached arena.old.clauses }
     ensures chained { IsChained vars arena.new.clauses heads.new.items }
+    ensures near { AreNear moves.now }
 {
     for pair in &moves.pairs {
         relink(arena, heads, vars, pair.after);

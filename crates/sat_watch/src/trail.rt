@@ -4,11 +4,13 @@ ghost use Rattle.std.specs.Prelude.{◌≡◌, ◌≢◌, ◌+◌, ◌*◌, ◌�
 ghost use Rattle.sat_clause.specs.Literal.{IsLiteral, IsWithin, is_among, negation};
 ghost use Rattle.sat_arena.specs.Compact.{AreRising, moved_by};
 ghost use Rattle.sat_watch.specs.Forget.{entry_moved};
+ghost use Rattle.sat_watch.specs.Relinking.{AreNear};
 ghost use Rattle.sat_watch.specs.Trail.{IsOpen, fallen, falses, place_in, value_in};
 ghost use Rattle.sat_watch.specs.TrailStore.{place_of};
 ghost use Rattle.sat_watch.specs.Watched.{true_at};
 
 use crate::entry::TrailEntry;
+use crate::maybe_clause::MaybeClause;
 use sat_arena::Moves;
 use sat_clause::{Lit, VARIABLE_LIMIT};
 use std::alloc::{AllocError, Global};
@@ -60,21 +62,23 @@ fn tell(truths: &mut [u8], vars: u32, l: Lit, truth: u8, opposite: u8)
 
 /// The entry with its reason at the reference that the moves give for it.
 fn moved(entry: TrailEntry, moves: &Moves) -> TrailEntry
-    requires { AreRising 0 moves.now }
+    requires rising { AreRising 0 moves.now }
+    requires near { AreNear moves.now }
     ensures { result ≡ entry_moved (moved_by moves.now) entry }
 {
-    let Some(reason) = entry.reason else {
+    let Some(reason) = entry.reason.clause() else {
         return entry;
     };
     TrailEntry {
-        reason: moves.after(reason),
+        reason: MaybeClause::of(moves.after(reason)),
         ..entry
     }
 }
 
 /// Moves the reasons of all these entries.
 fn move_all(entries: &mut [TrailEntry], moves: &Moves)
-    requires { AreRising 0 moves.now }
+    requires rising { AreRising 0 moves.now }
+    requires near { AreNear moves.now }
     ensures { entries.new ≡ map (entry_moved (moved_by moves.now)) entries.old }
 {
     for entry in entries.iter_mut() {
@@ -214,7 +218,8 @@ impl Trail {
 
     /// Moves each reason to the reference that the moves give for it.
     pub(crate) fn move_reasons(&mut self, moves: &Moves)
-        requires { AreRising 0 moves.now }
+        requires rising { AreRising 0 moves.now }
+        requires near { AreNear moves.now }
         ensures vars { self.new.vars ≡ self.old.vars }
         ensures entries { self.new.entries
             ≡ map (entry_moved (moved_by moves.now)) self.old.entries }

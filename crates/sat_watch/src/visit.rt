@@ -10,7 +10,7 @@ ghost use Rattle.sat_watch.specs.Watched.{AreWhole, GoesTo, HasCounted, IsVisite
 
 use crate::chains::Chains;
 use crate::entry::TrailEntry;
-use crate::link::Link;
+use crate::maybe_clause::MaybeClause;
 use crate::place::Place;
 use crate::sight::{Sight, look};
 use crate::trail::Trail;
@@ -25,10 +25,10 @@ fn visit_clause(
     trail: &mut Trail,
     f: Lit,
     level: u32,
-    before: Link,
+    before: MaybeClause,
     at: Place,
     after: Option<ClauseRef>,
-) -> Option<Link>
+) -> Option<MaybeClause>
     requires whole { AreWhole chains.old trail.old }
     requires within { IsWithin chains.old.vars f }
     requires is_false { is_false trail.old.entries f ≡ true }
@@ -47,7 +47,7 @@ fn visit_clause(
 {
     match look(trail, chains.lits(at.clause), at.which) {
         Sight::IsTrueAlready => {
-            return Some(Link::to(at.clause));
+            return Some(MaybeClause::to(at.clause));
         }
         Sight::Open(k) => {
             let place = chains.place_before(before, f);
@@ -58,9 +58,9 @@ fn visit_clause(
             trail.push(TrailEntry {
                 lit,
                 level,
-                reason: Some(at.clause),
+                reason: MaybeClause::to(at.clause),
             });
-            return Some(Link::to(at.clause));
+            return Some(MaybeClause::to(at.clause));
         }
         Sight::IsFalseNow => {
             return None;
@@ -71,7 +71,8 @@ fn visit_clause(
 /// The clause at a position of a tail.
 fn clause_in(words: &[u32], i: usize) -> ClauseRef
     requires { i < length words.now }
-    ensures { result ≡ ref (slice_index words.now i) }
+    ensures value { result ≡ ref (slice_index words.now i) }
+    ensures near { result.word < 2 ^ 63 }
 {
     ClauseRef {
         word: u64::from(words[i]),
@@ -112,7 +113,7 @@ fn visit_pair(
     trail.push(TrailEntry {
         lit: other,
         level,
-        reason: Some(clause_in(words, i)),
+        reason: MaybeClause::to(clause_in(words, i)),
     });
     true
 }
@@ -180,7 +181,7 @@ pub(crate) fn walk(
         (HasCounted looks.old (watchers f chains.new.clauses) looks.new) }
 {
     let mut walked: u64 = 0;
-    let mut before = Link::none();
+    let mut before = MaybeClause::none();
     let mut next = chains.head(f);
     while let Some(clause) = next {
         if let Some((others, words)) = chains.tail_from(f, clause) {

@@ -15,6 +15,7 @@ ghost use Rattle.sat_watch.specs.Watches.{AreInPlace, Attaches, HasLevels, HasLo
 use crate::chains::Chains;
 use crate::choice::{free_position, highest_position};
 use crate::entry::TrailEntry;
+use crate::maybe_clause::MaybeClause;
 use crate::trail::Trail;
 use crate::visit::walk;
 use sat_arena::{Arena, ClauseRef};
@@ -269,7 +270,7 @@ impl Watches {
         self.trail.push(TrailEntry {
             lit: l,
             level: self.level + 1,
-            reason: None,
+            reason: MaybeClause::none(),
         });
         self.queued = 1;
         self.level += 1;
@@ -287,7 +288,7 @@ impl Watches {
         self.trail.push(TrailEntry {
             lit: l,
             level: self.level,
-            reason: Some(reason),
+            reason: self.chains.as_reason(reason),
         });
         self.queued += 1;
         self.due = due_without(reason, self.due);

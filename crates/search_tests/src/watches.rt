@@ -9,7 +9,7 @@ ghost use Rattle.sat_watch.specs.Watches.{is_attached};
 
 use sat_arena::{Arena, ClauseRef};
 use sat_clause::Lit;
-use sat_watch::{TrailEntry, Watches};
+use sat_watch::Watches;
 use std::alloc::{AllocError, Global};
 use std::process::Abort;
 use std::test::Fail;
@@ -154,7 +154,7 @@ fn follow_third(rt: &impl Abort, watches: &mut Watches)
     assert!(rt; has_values(watches, false));
     let trail = watches.trail();
     assert!(rt; trail.len() == 3);
-    assert!(rt; trail[2].reason == Some(ClauseRef { word: 8 }));
+    assert!(rt; trail[2].reason.clause() == Some(ClauseRef { word: 8 }));
 }
 
 #[test]
@@ -181,12 +181,9 @@ fn follow_due(rt: &impl Abort, watches: &mut Watches) -> Result<(), AllocError>
     watches.imply(Lit { code: 2 }, c);
     let trail = watches.trail();
     assert!(rt; trail.len() == 2);
-    let entry = TrailEntry {
-        lit: Lit { code: 2 },
-        level: 1,
-        reason: Some(c),
-    };
-    assert!(rt; trail[1] == entry);
+    let entry = trail[1];
+    assert!(rt; entry.lit == Lit { code: 2 } && entry.level == 1);
+    assert!(rt; entry.reason.clause() == Some(c));
     let mut looks = 0;
     assert!(rt; watches.propagate(&mut looks).is_none());
     Ok(())

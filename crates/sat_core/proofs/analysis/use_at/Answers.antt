@@ -47,11 +47,11 @@ unreachable-requires c =
     (left_out_reason c.requires.walked p
     (entry_left_out c.args.watches.now.trail c.args.implied.now.marks.used p
     c.entry_at-entry.result c.entry_at-entry.ensures.at
-    (c.is_left_out.ensures.yes c.if-not-is_left_out.false))) c.in_default.is
+    (c.is_left_out.ensures.yes c.if-not-is_left_out.false))) (sym c.clause.ensures ∙ c.in_default.is)
 
 pub use_entry-requires-clause-reason : goal.use_entry-requires-clause-reason
 use_entry-requires-clause-reason c =
-    (c.entry_at-entry.result, c.entry_at-entry.ensures.at, c.in-Some.is)
+    (c.entry_at-entry.result, c.entry_at-entry.ensures.at, sym c.clause.ensures ∙ c.in-Some.is)
 
 pub returns-then-not-is_left_out-clause-used : goal.returns-then-not-is_left_out-clause-used
 returns-then-not-is_left_out-clause-used c =

@@ -1,9 +1,9 @@
-use Rattle.std.proofs.Common.{◌-◌, ◌<◌, inl, inr, get_or, length, ap, arith}
+use Rattle.std.proofs.Common.{◌-◌, ◌<◌, inl, inr, length, ap, arith}
 use Rattle.std.proofs.lemmas.List.{length-reverse}
 use Rattle.std.proofs.lemmas.List.Elements.{All-contains}
 use Rattle.sat_clause.specs.Literal.{IsWithin}
 use Rattle.sat_watch.specs.declared.entry.TrailEntry.{TrailEntry}
-use Rattle.sat_core.proofs.TrailPlaces.{at_contains, no_entry, read_at}
+use Rattle.sat_core.proofs.TrailPlaces.{at_contains, read_at}
 use Rattle.sat_core.proofs.WayBackLaws.{put_back_all, put_back_none, put_back_one}
 use Rattle.sat_core.proofs.way_back.put_back_above.Goals as goal
 
@@ -30,10 +30,11 @@ returns-then-entry-level c =
       c.loop-left.invariant.within,
       c.loop-left-test.true,
     ) in
-    let at = read_at items w.trail p told.value lt in
+    let e = c.index-trail-left.result in
+    let at = read_at items w.trail p e told.value lt c.index-trail-left.is in
     put_back_all w c.args.level c.loop-left.left c.loop-left.ranking told.levels (inr (
       p,
-      get_or items p no_entry,
+      e,
       at,
       omega (arith, c.loop-left-test.true),
       c.if-entry-level.true,
@@ -52,9 +53,9 @@ put_back-requires c =
       c.loop-left.invariant.within,
       c.loop-left-test.true,
     ) in
-    let e = get_or items p no_entry in
+    let e = c.index-trail-left.result in
     let within = All-contains (λ (x : TrailEntry). IsWithin w.vars x.lit) w.trail e told.within
-    (at_contains w.trail p e (read_at items w.trail p told.value lt)) in
+    (at_contains w.trail p e (read_at items w.trail p e told.value lt c.index-trail-left.is)) in
     rw c.variable.ensures (record {
       first = within.0;
       last = omega (arith, within.1, c.loop-left.invariant.back.vars);
@@ -73,8 +74,8 @@ loop-left-preserved c =
       c.loop-left.invariant.within,
       c.loop-left-test.true,
     ) in
-    let e = get_or items p no_entry in
-    let at = read_at items w.trail p told.value lt in
+    let e = c.index-trail-left.result in
+    let at = read_at items w.trail p e told.value lt c.index-trail-left.is in
     let within = All-contains (λ (x : TrailEntry). IsWithin w.vars x.lit) w.trail e told.within
     (at_contains w.trail p e at) in
     record {

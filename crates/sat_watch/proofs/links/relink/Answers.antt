@@ -13,6 +13,7 @@ returns-then-lits-ge2 c =
       clauses = c.link_first.ensures.clauses ∙ linked_long a.vars lits a.heads.now.items a.c ks two;
       spare = c.link_first.ensures.spare;
       heads = c.link_first.ensures.heads ∙ heads_long a.vars lits a.c a.heads.now.items two;
+      near = c.lits.ensures.near;
     }
 
 pub returns-else-lits-ge2 : goal.returns-else-lits-ge2
@@ -24,4 +25,5 @@ returns-else-lits-ge2 c =
       clauses = sym (linked_short a.vars lits a.heads.now.items a.c ks short);
       spare = refl;
       heads = sym (heads_short a.vars lits a.c a.heads.now.items short);
+      near = c.lits.ensures.near;
     }

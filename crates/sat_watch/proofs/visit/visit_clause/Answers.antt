@@ -1,5 +1,6 @@
-use Rattle.std.proofs.Common.{◌≡◌, ◌<◌, length, Some, true, false, refl, sym, ap, ◌∙◌, subst}
+use Rattle.std.proofs.Common.{◌≡◌, ◌<◌, ◌∷◌, length, Option, Some, true, false, refl, sym, ap, ◌∙◌, subst}
 use Rattle.sat_clause.specs.Literal.{negation}
+use Rattle.sat_arena.specs.declared.clause_ref.ClauseRef.{ClauseRef}
 use Rattle.sat_arena.specs.Store.{stored_at}
 use Rattle.sat_watch.specs.Chains.{HasCursor, next_on, watch_of, head_of}
 use Rattle.sat_watch.specs.declared.entry.TrailEntry.{TrailEntry}
@@ -10,6 +11,7 @@ use Rattle.sat_watch.proofs.PathLemmas.{before_goes_on}
 use Rattle.sat_watch.proofs.VisitLemmas.{goes_implied, goes_moved, other_true, visited_kept, visited_moved, watch_contains, watch_within}
 use Rattle.sat_watch.proofs.WatchesLemmas.{longer_whole}
 use Rattle.sat_watch.proofs.visit.visit_clause.Goals as goal
+use Rattle.sat_watch.proofs.visit.visit_clause.Goals.{After-push}
 use Rattle.sat_clause.proofs.LiteralLaws.{among_here}
 
 pub returns-in-IsTrueAlready-clause-visited : goal.returns-in-IsTrueAlready-clause-visited
@@ -76,6 +78,15 @@ push-requires-clause-within c =
     c.lits.ensures.simple c.in-Unit.ensures.0 in
     rw c.requires.whole.vars within
 
+-- the clause is the reason of the newest entry
+entries_are : (c : After-push) → c.push.new.self.entries
+    ≡ record { lit = c.in-Unit.lit; level = c.args.level; reason = Some c.args.at.clause }
+    ∷ c.args.trail.now.entries
+entries_are c =
+    c.push.ensures.entries ∙ ap (λ (r : Option ClauseRef).
+    record { lit = c.in-Unit.lit; level = c.args.level; reason = r } ∷ c.args.trail.now.entries)
+    c.to-in-Unit.ensures
+
 pub returns-in-Unit-clause-goes : goal.returns-in-Unit-clause-goes
 returns-in-Unit-clause-goes c =
     let old = c.args.chains.now in let a = c.args in
@@ -94,7 +105,8 @@ returns-in-Unit-clause-goes c =
       why = subst (λ l. IsReason a.trail.now.entries l c.in-Unit.lit) c.lits.ensures.value why;
     } in
     goes_implied a.trail.now.entries a.level a.f old.clauses a.trail.now.entries
-    c.push.new.self.entries e c.push.ensures.entries implied
+    c.push.new.self.entries e (entries_are (goal.at.returns-in-Unit-clause-goes c).After-push)
+    implied
 
 pub returns-in-Unit-clause-visited : goal.returns-in-Unit-clause-visited
 returns-in-Unit-clause-visited c =
@@ -102,7 +114,7 @@ returns-in-Unit-clause-visited c =
     let k = stored_at old.clauses a.at.clause in
     let simple = chained.simple a.at.clause c.requires.at.held in
     subst (IsVisited a.f a.before a.at a.after old old c.push.new.self.entries)
-    (sym c.to-in-Unit.ensures)
+    (sym c.to-in-Unit-2.ensures)
     (visited_kept old.vars old a.f a.at a.after chained c.requires.at c.requires.after a.before
     c.push.new.self.entries
     (other_true old.vars c.push.new.self.entries k.lits a.at.which a.f simple c.requires.at.which
@@ -130,6 +142,6 @@ returns-in-Unit-clause-whole c =
     let old = c.args.chains.now in let a = c.args in
     longer_whole old a.trail.now c.push.new.self
     (record { lit = c.in-Unit.lit; level = a.level; reason = Some a.at.clause }) c.requires.whole
-    c.push.ensures.vars c.push.ensures.entries
+    c.push.ensures.vars (entries_are (goal.at.returns-in-Unit-clause-whole c).After-push)
     (watch_within old.vars c.lits.result.now (other_of a.at.which) c.in-Unit.lit
     c.lits.ensures.simple c.in-Unit.ensures.0) c.in-Unit.ensures.1

@@ -1,4 +1,5 @@
-use Rattle.std.proofs.Common.{Some, refl, sym, ◌∙◌}
+use Rattle.std.proofs.Common.{◌≡◌, ◌∷◌, Option, Some, refl, sym, ap, ◌∙◌}
+use Rattle.sat_arena.specs.declared.clause_ref.ClauseRef.{ClauseRef}
 use Rattle.sat_watch.specs.Chains.{lit_at}
 use Rattle.sat_watch.specs.declared.entry.TrailEntry.{TrailEntry}
 use Rattle.sat_watch.proofs.TailLemmas.{pair_reason, pair_within}
@@ -21,12 +22,17 @@ entry c = record {
   reason = Some c.clause_in.result;
 }
 
+entries_are : (c : After-push) → c.push.new.self.entries ≡ entry c ∷ c.args.trail.now.entries
+entries_are c =
+    c.push.ensures.entries ∙ ap (λ (r : Option ClauseRef).
+    record (entry c) { reason = r } ∷ c.args.trail.now.entries) c.to.ensures
+
 pub returns-clause-whole : goal.returns-clause-whole
 returns-clause-whole c =
     let at = (goal.at.returns-clause-whole c).After-push in
     let a = c.args in
     longer_whole a.chains.now a.trail.now c.push.new.self (entry at) c.requires.whole
-    c.push.ensures.vars c.push.ensures.entries
+    c.push.ensures.vars (entries_are at)
     (pair_within a.chains.now.vars a.chains.now a.f (lit_at a.others.now a.i) _
     c.requires.whole.chained c.requires.pair)
     (is_open a.trail.now.entries (lit_at a.others.now a.i)
@@ -37,14 +43,14 @@ returns-clause-goes c =
     let at = (goal.at.returns-clause-goes c).After-push in
     let a = c.args in
     goes_implied a.trail.now.entries a.level a.f a.chains.now.clauses a.trail.now.entries
-    c.push.new.self.entries (entry at) c.push.ensures.entries
+    c.push.new.self.entries (entry at) (entries_are at)
     (record {
       at_level = refl;
       reason = c.clause_in.result;
       is = refl;
-      held = rw c.clause_in.ensures c.requires.pair.held;
+      held = rw c.clause_in.ensures.value c.requires.pair.held;
       why =
-          rw c.clause_in.ensures
+          rw c.clause_in.ensures.value
           (pair_reason a.chains.now.clauses a.f (lit_at a.others.now a.i) _ a.trail.now.entries
           c.requires.pair c.requires.is_false);
     })

@@ -65,7 +65,7 @@ returns-then-not-visit_pair-clause-held c =
     let tail = c.requires.tail in
     let pair = tail_pair c.args.chains.now.clauses c.args.f tail.0 c.args.others.now
     c.args.words.now None c.loop-i.i tail.1 c.loop-i-test.true in
-    rw c.clause_in.ensures pair.held
+    rw c.clause_in.ensures.value pair.held
 
 pub returns-clause-none : goal.returns-clause-none
 returns-clause-none c =

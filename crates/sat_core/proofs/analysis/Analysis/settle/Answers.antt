@@ -27,7 +27,7 @@ returns-clause-walking c =
             c.entry_at-entry.result,
             c.entry_at-entry.ensures.at,
             λ same. c.if-entry-self.false (same ∙ sym c.args.self.now.current),
-            (c.in-Some.reason, c.in-Some.is, covered),
+            (c.in-Some.reason, sym c.clause.ensures ∙ c.in-Some.is, covered),
           ));
       on = rw c.mark.ensures.visits c.requires.walking.on;
       size = c.mark.ensures.size ∙ c.requires.walking.size;

@@ -35,6 +35,10 @@ invariant_of-self c =
     p.1) (λ x. (empty x, none x)) c.self.invariant.store in
     let next : suc i.level ≡ i.level + 1 = omega arith in
     let e : TrailEntry = record { lit = c.args.l; level = i.level + 1; reason = None } in
+    let entries : c.push.new.self.entries ≡ e ∷ i.trail.entries =
+    c.push.ensures.entries ∙ ap (λ (r : Option ClauseRef).
+    record { lit = c.args.l; level = i.level + 1; reason = r } ∷ i.trail.entries)
+    c.none.ensures in
     let after : IsWatchStore i.chains.clauses (e ∷ i.trail.entries) 1 (i.level + 1) None =
     subst (λ n. IsWatchStore i.chains.clauses
     (record { lit = c.args.l; level = n; reason = None } ∷ i.trail.entries) 1 n None) next
@@ -43,9 +47,9 @@ invariant_of-self c =
     record {
       whole = longer_whole i.chains i.trail c.push.new.self e c.self.invariant.whole
           c.push.ensures.vars
-          c.push.ensures.entries (subst (λ (s : WatchState). IsWithin s.vars c.args.l)
+          entries (subst (λ (s : WatchState). IsWithin s.vars c.args.l)
           (sym c.self.view_is) c.requires.within) free;
       store =
           subst (λ (p : List TrailEntry × Option ClauseRef). IsWatchStore i.chains.clauses p.0 1
-          (i.level + 1) p.1) (λ x. (sym c.push.ensures.entries x, sym none x)) after;
+          (i.level + 1) p.1) (λ x. (sym entries x, sym none x)) after;
     }

@@ -1,0 +1,7 @@
+use Rattle.sat_watch.proofs.ForgetLemmas.{near_moved}
+use Rattle.sat_watch.proofs.trail.moved.Goals as goal
+
+pub of-requires : goal.of-requires
+of-requires c = record {
+  near = rw c.after.ensures (near_moved c.args.moves.now _ c.requires.near);
+}
