@@ -12,7 +12,7 @@ use Rattle.sat_arena.proofs.CompactLemmas.{comes, leads, true_or_false, unmarked
 use Rattle.sat_arena.proofs.StoreLaws.{same_or_other}
 use Rattle.sat_watch.specs.Chains.{AreChained, AreUnmarked, ChainsState, IsChained, is_in}
 use Rattle.sat_watch.specs.Forget.{HasMoved, IsNoReason, OthersMove, OthersStay, entry_moved, forgotten, moved_to, placed_anew, without}
-use Rattle.sat_watch.specs.Relinking.{AreRefsOf, AreUnlinked, marked, stored_without}
+use Rattle.sat_watch.specs.Relinking.{AreNear, AreRefsOf, AreUnlinked, marked, stored_without}
 use Rattle.sat_watch.specs.Levels.{IsWatchStore}
 use Rattle.sat_watch.specs.Trail.{TrailState}
 use Rattle.sat_watch.specs.Watches.{IsWatches, attached, id_at, is_attached, lits_at, watch_state}
@@ -309,7 +309,7 @@ module _ (c c' : ChainsState) (t t' : TrailState) (refs : List ClauseRef)
           t.entries)
 
 -- where clauses are moved near, each of them is
-pub near_moved : (ms : List Move) (c : ClauseRef) → All (λ m. m.after.word < 2 ^ 63) ms →
+pub near_moved : (ms : List Move) (c : ClauseRef) → AreNear ms →
     IfSome (moved_by ms c) (λ d. d.word < 2 ^ 63)
 near_moved [] c all = tt
 near_moved (m ∷ ms) c all =

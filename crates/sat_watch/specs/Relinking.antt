@@ -1,5 +1,5 @@
 -- Clauses that are marked and taken out of an arena, and chains that are made anew.
-use Rattle.std.specs.Prelude.{◌≡◌, ℕ, ◌+◌, ◌*◌, ◌≤◌, Bool, true, if◌then◌else◌, List, [], ◌∷◌, map, replicate, slice_set, take, Option, None, Some}
+use Rattle.std.specs.Prelude.{◌≡◌, ℕ, ◌+◌, ◌*◌, ◌^◌, ◌<◌, ◌≤◌, Bool, true, if◌then◌else◌, List, [], ◌∷◌, map, replicate, slice_set, take, Option, None, Some, All}
 use Rattle.sat_clause.specs.declared.limits.TheConstants.{VARIABLE_LIMIT}
 use Rattle.sat_clause.specs.Learned.{IsSimple}
 use Rattle.sat_clause.specs.Literal.{Clause}
@@ -55,6 +55,10 @@ pub record IsRelinking
   pub placed : ArePlaced 0 now
   pub unmarked : AreUnmarked now
   pub chained : IsChained vars (take count now) heads
+
+-- clauses are moved to words whose numbers have 63 bits at most
+abbrev pub AreNear : List Move → Type 0
+AreNear moves = All (λ m. m.after.word < 2 ^ 63) moves
 
 -- the pairs lead to the clauses' references, in their order
 abbrev pub AreRefsOf : List Stored → List Move → Type 0

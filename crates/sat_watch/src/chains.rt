@@ -9,7 +9,7 @@ ghost use Rattle.sat_arena.specs.Compact.{AreRising, moves_of};
 ghost use Rattle.sat_arena.specs.Store.{behind_of, first_ref, is_held, link_of, stored_at};
 ghost use Rattle.sat_watch.specs.Chains.{AreChained, GoesOn, HasCursor, IsAdded, IsCursor, IsPlaceOf, IsRewatched, MayBePlaceOf, clause_of, head_at, head_of, holders, literals, next_on};
 ghost use Rattle.sat_watch.specs.Choice.{IsAhead, after_first as after_first_of};
-ghost use Rattle.sat_watch.specs.Relinking.{marked, stored_without};
+ghost use Rattle.sat_watch.specs.Relinking.{AreNear, marked, stored_without};
 ghost use Rattle.sat_watch.specs.Tails.{IsTail, refs};
 ghost use Rattle.sat_watch.specs.TrailStore.{place_of};
 ghost use Rattle.sat_watch.specs.Watches.{attached};
@@ -167,7 +167,8 @@ impl Chains {
         self.arena.unmarked_lits(c)
     }
 
-    /// A clause as the reason of an entry.
+    /// A clause as the reason of an entry. The arena says of a clause whose literals it lends that
+    /// it stands near.
     pub(crate) fn as_reason(&self, c: ClauseRef) -> MaybeClause
         requires held { is_held self.now.clauses c ≡ true }
         ensures { result ≡ Some c }
@@ -251,7 +252,7 @@ impl Chains {
         ensures moves { IfOk result
             (λ m. m ≡ moves_of (marked true clauses.now self.old.clauses)) }
         ensures rising { IfOk result (AreRising 0) }
-        ensures near { IfOk result (All (λ m. m.after.word < 2 ^ 63)) }
+        ensures near { IfOk result AreNear }
         ensures chained { AreChained self.new }
         ensures err { OnErr result (self.new ≡ self.old) }
     {

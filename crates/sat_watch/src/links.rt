@@ -5,7 +5,7 @@ ghost use Rattle.sat_clause.specs.Literal.{IsWithin};
 ghost use Rattle.sat_arena.specs.declared.clause_ref.ClauseRef.{ClauseRef};
 ghost use Rattle.sat_arena.specs.Store.{ArePlaced, IsLinkTo, changed, is_held, new_clause, ref, size_all, with_link, with_swap};
 ghost use Rattle.sat_watch.specs.Chains.{HasHead, IsChained, IsLast, MayBePlaceOf, head_at, literals, unlinked, unlinked_heads, with_head, with_order};
-ghost use Rattle.sat_watch.specs.Relinking.{AreRefsOf, AreUnlinked, heads_with, linked, marked};
+ghost use Rattle.sat_watch.specs.Relinking.{AreNear, AreRefsOf, AreUnlinked, heads_with, linked, marked};
 ghost use Rattle.sat_watch.specs.Watches.{attached};
 
 use crate::maybe_clause::MaybeClause;
@@ -155,7 +155,7 @@ pub(crate) fn link_all(arena: &mut Arena, heads: &mut Vec<MaybeClause>, vars: u3
     requires references { AreRefsOf arena.old.clauses moves.now }
     ensures clauses { map attached arena.new.clauses ≡ map attached arena.old.clauses }
     ensures chained { IsChained vars arena.new.clauses heads.new.items }
-    ensures near { All (λ m. m.after.word < 2 ^ 63) moves.now }
+    ensures near { AreNear moves.now }
 {
     for pair in &moves.pairs {
         relink(arena, heads, vars, pair.after);

@@ -1,9 +1,10 @@
 //! The literals that a search has made true, in order.
 
-ghost use Rattle.std.specs.Prelude.{◌≡◌, ◌≢◌, ◌+◌, ◌*◌, ◌^◌, ◌≤◌, ◌∷◌, [], All, ℕ, length, drop, map, reverse, slice_index_or, slice_set, true, false, ◌<◌, IfNone, IfOk, IfSome, None, Some};
+ghost use Rattle.std.specs.Prelude.{◌≡◌, ◌≢◌, ◌+◌, ◌*◌, ◌≤◌, ◌∷◌, [], ℕ, length, drop, map, reverse, slice_index_or, slice_set, true, false, ◌<◌, IfNone, IfOk, IfSome, None, Some};
 ghost use Rattle.sat_clause.specs.Literal.{IsLiteral, IsWithin, is_among, negation};
 ghost use Rattle.sat_arena.specs.Compact.{AreRising, moved_by};
 ghost use Rattle.sat_watch.specs.Forget.{entry_moved};
+ghost use Rattle.sat_watch.specs.Relinking.{AreNear};
 ghost use Rattle.sat_watch.specs.Trail.{IsOpen, fallen, falses, place_in, value_in};
 ghost use Rattle.sat_watch.specs.TrailStore.{place_of};
 ghost use Rattle.sat_watch.specs.Watched.{true_at};
@@ -62,7 +63,7 @@ fn tell(truths: &mut [u8], vars: u32, l: Lit, truth: u8, opposite: u8)
 /// The entry with its reason at the reference that the moves give for it.
 fn moved(entry: TrailEntry, moves: &Moves) -> TrailEntry
     requires rising { AreRising 0 moves.now }
-    requires near { All (λ m. m.after.word < 2 ^ 63) moves.now }
+    requires near { AreNear moves.now }
     ensures { result ≡ entry_moved (moved_by moves.now) entry }
 {
     let Some(reason) = entry.reason.clause() else {
@@ -77,7 +78,7 @@ fn moved(entry: TrailEntry, moves: &Moves) -> TrailEntry
 /// Moves the reasons of all these entries.
 fn move_all(entries: &mut [TrailEntry], moves: &Moves)
     requires rising { AreRising 0 moves.now }
-    requires near { All (λ m. m.after.word < 2 ^ 63) moves.now }
+    requires near { AreNear moves.now }
     ensures { entries.new ≡ map (entry_moved (moved_by moves.now)) entries.old }
 {
     for entry in entries.iter_mut() {
@@ -218,7 +219,7 @@ impl Trail {
     /// Moves each reason to the reference that the moves give for it.
     pub(crate) fn move_reasons(&mut self, moves: &Moves)
         requires rising { AreRising 0 moves.now }
-        requires near { All (λ m. m.after.word < 2 ^ 63) moves.now }
+        requires near { AreNear moves.now }
         ensures vars { self.new.vars ≡ self.old.vars }
         ensures entries { self.new.entries
             ≡ map (entry_moved (moved_by moves.now)) self.old.entries }

@@ -1,9 +1,9 @@
-use Rattle.std.proofs.Common.{◌≡◌, ◌<◌, ◌^◌, All, List, length, get_or, take, ap, ◌∙◌, subst, arith}
+use Rattle.std.proofs.Common.{◌≡◌, ◌<◌, ◌^◌, List, length, get_or, take, ap, ◌∙◌, subst, arith}
 use Rattle.std.proofs.lemmas.List.Elements.{All-more, All-nil}
 use Rattle.std.proofs.Math.Seq.{take-length}
 use Rattle.sat_arena.specs.declared.moves.Move.{Move}
 use Rattle.sat_arena.specs.Store.{ref}
-use Rattle.sat_watch.specs.Relinking.{IsRelinking}
+use Rattle.sat_watch.specs.Relinking.{AreNear, IsRelinking}
 use Rattle.sat_watch.proofs.RelinkLemmas.{count_of_moves, count_same, pair_few, pair_leads, relink_head, relink_held, relinking_begins, relinking_ends, relinks_on}
 use Rattle.sat_watch.proofs.links.link_all.Goals as goal
 use Rattle.sat_watch.proofs.links.link_all.Goals.{After-deref-pair-items}
@@ -81,6 +81,6 @@ returns c =
       clauses = l.invariant.relinking.same;
       chained = relinking_ends l.invariant.relinking end;
       near =
-          subst (All IsNear) (ap (λ n. take n c.args.moves.now) all ∙ take-length c.args.moves.now)
+          subst AreNear (ap (λ n. take n c.args.moves.now) all ∙ take-length c.args.moves.now)
           l.invariant.near;
     }
