@@ -31,6 +31,7 @@ loop-line-preserved c =
     (given c.next_line.new.self.ahead) c.in-Ok.ensures
     (subst (λ (rest : List Given).
     TakesFront c.args.nets.now (given c.new-lines.result.ahead) rest c.loop-line.names)
-    (line-next c.loop-line.lines.ahead c.loop-line.lines.total c.in-Some.line c.next_line.new.self.ahead
-    (sym c.in-Some.ensures.line) (ap (λ (l : LinesAhead). l.ahead) c.in-Some.ensures.after))
+    (line-next c.loop-line.lines.ahead c.loop-line.lines.total c.in-Some.line
+    c.next_line.new.self.ahead (sym c.in-Some.ensures.line)
+    (ap (λ (l : LinesAhead). l.ahead) c.in-Some.ensures.after))
     c.loop-line.invariant)
