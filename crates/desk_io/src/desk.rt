@@ -6,7 +6,7 @@ ghost use Rattle.desk_io.specs.Files.{IsThere};
 use thiserror::Error;
 
 /// The answer of a call that failed: the system refused it, or there was no memory for it.
-#[derive(Clone, Copy, Debug, PartialEq, Eq, Error)]
+#[derive(Clone, Copy, Debug, Error)]
 #[error("a file was refused")]
 pub struct Failed;
 

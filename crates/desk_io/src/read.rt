@@ -8,7 +8,7 @@ use std::alloc::Global;
 use thiserror::Error;
 
 /// Why a file was not read.
-#[derive(Clone, Copy, Debug, PartialEq, Eq, Error)]
+#[derive(Clone, Copy, Debug, Error)]
 pub enum ReadStop {
     /// The desk failed: the file is not there, or a read of it was refused.
     #[error("the file is not there, or a read of it was refused")]

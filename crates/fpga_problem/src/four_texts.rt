@@ -2,7 +2,7 @@
 use std::marker::Model;
 
 /// The texts of an architecture, a netlist, its placement and a global route of it.
-#[derive(Debug, Drop)]
+#[derive(Drop)]
 pub struct FourTexts<'a> {
     pub architecture: &'a [u8],
     pub netlist: &'a [u8],

@@ -1,7 +1,7 @@
 //! The names of the four files of a problem.
 
 /// The names of the files of a problem.
-#[derive(Clone, Copy, Debug)]
+#[derive(Clone, Copy)]
 pub struct FourNames<'a> {
     /// The name of the architecture file.
     pub architecture: &'a str,

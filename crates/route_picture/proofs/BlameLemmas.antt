@@ -1,10 +1,11 @@
 -- The names that lines give, taken one after another.
-use Rattle.std.proofs.Common.{◌≡◌, ◌≢◌, ◌⊎◌, ℕ, Bool, true, false, List, [], ◌∷◌, ◌++◌, Some, None, refl, inl, inr, sym, ap, subst, ◌∙◌}
+use Rattle.std.proofs.Common.{◌≡◌, ◌≢◌, ◌⊎◌, ℕ, Bool, true, false, List, [], ◌∷◌, ◌++◌, Some, None, refl, inl, inr, sym, ap, ap₂, subst, ◌∙◌}
 use Rattle.std.specs.Prelude.{◌||◌, slice_get}
 use Rattle.std.specs.List.{list_any}
 use Rattle.std.proofs.Math.Bool.{or-false}
 use Rattle.std.proofs.lemmas.Bool.{false≢true}
 use Rattle.fpga_text.specs.Bytes.{Bytes}
+use Rattle.fpga_text.specs.Reading.{past_first}
 use Rattle.fpga_text.specs.Words.{TextLine, Words}
 use Rattle.fpga_types.specs.declared.netlist.Net.{Net}
 use Rattle.fpga_types.proofs.NameLaws.{name_itself}
@@ -64,6 +65,15 @@ line-first [] line at = absurd cc
 line-first (x ∷ xs) line at =
     let same : x ≡ line = cc in
     (given xs, ap (λ (l : TextLine). given_by l.number (name_in l.words) ++ given xs) same)
+
+pub line-next : (ahead : List TextLine) (total : ℕ) (line : TextLine) (behind : List TextLine)
+    → slice_get ahead 0 ≡ Some line → behind ≡ (past_first ahead total).ahead
+    → given ahead ≡ given_by line.number (name_in line.words) ++ given behind
+line-next [] total line behind at is = absurd cc
+line-next (x ∷ xs) total line behind at is =
+    let same : x ≡ line = cc in
+    ap₂ (λ (l : TextLine) (rest : List TextLine).
+    given_by l.number (name_in l.words) ++ given rest) same (sym is)
 
 -- there is no line any more
 pub lines-end : (ahead : List TextLine) → slice_get ahead 0 ≡ None → given ahead ≡ []

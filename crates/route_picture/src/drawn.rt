@@ -1,9 +1,12 @@
 //! From words to a picture on standard output.
-ghost use Rattle.std.specs.Prelude.{◌≡◌, ◌≤◌, IfErr, IfOk, MatchResult, OnOk, map, option_map, string_bytes};
+ghost use Rattle.std.specs.Prelude.{◌≡◌, ◌≤◌, IfErr, IfOk, MatchResult, OnOk, Option as OptionOf, map, option_map, string_bytes};
 ghost use Rattle.std.specs.Option.{option_copied};
+ghost use Rattle.desk_io.specs.DeskState.{DeskState};
+ghost use Rattle.desk_io.specs.Files.{FileMap};
+ghost use Rattle.fpga_problem.specs.Texts.{AreFaultless, problem_said};
 ghost use Rattle.fpga_problem.specs.declared.source.TheConstants.{TEXT_BYTES};
 ghost use Rattle.fpga_types.specs.declared.limits.TheConstants.{WIDTH_LIMIT};
-ghost use Rattle.route_picture.specs.Files.{AreRead, IsText, IsTextIf, IsUnread, StopsAt, StopsAtIf};
+ghost use Rattle.route_picture.specs.Files.{AreRead, AreTexts, IsText, IsTextIf, IsUnread, StopsAt, StopsAtIf};
 ghost use Rattle.route_picture.specs.Printed.{IsDrawn, IsPrinted, IsStopped, IsUndrawn};
 ghost use Rattle.route_picture.specs.Words.{words_said};
 
@@ -14,6 +17,7 @@ use crate::shown::shown;
 use crate::stop::Stop;
 use crate::words::{FourNames, Words, read_words};
 use desk_io::{Desk, ReadStop, Shelf, read_file};
+use fpga_bounds::PlacedProblem;
 use fpga_problem::{TEXT_BYTES, TextFile, read_problem};
 use std::alloc::Global;
 
@@ -58,19 +62,51 @@ fn picture<D: Desk>(alloc: Global, desk: &mut D, words: Words<'_>) -> Result<Str
         Ok(texts) => texts,
         Err(stop) => return Err(stop),
     };
+    picture_of_texts(alloc, words, &texts)
+}
+
+// The picture of what the texts say.
+fn picture_of_texts(alloc: Global, words: Words<'_>, texts: &FileTexts) -> Result<String, Stop>
+    requires { (1 ≤ words.width) × (words.width ≤ WIDTH_LIMIT) }
+    ensures { MatchResult result
+        (λ picture. (files : OptionOf FileMap)
+        → AreTexts (words_said words.entry) TEXT_BYTES files texts.now
+        → IsDrawn (words_said words.entry) TEXT_BYTES files (string_bytes picture))
+        (λ stop. (before now : DeskState)
+        → AreTexts (words_said words.entry) TEXT_BYTES before.files texts.now
+        → IsUndrawn (words_said words.entry) TEXT_BYTES before now stop) }
+{
     let problem = match read_problem(alloc, &texts.four()) {
         Ok(problem) => problem,
         Err(refusal) => return Err(Stop::Faulty(refusal)),
     };
+    picture_of_problem(alloc, words, texts, &problem)
+}
+
+// The picture of the problem that the texts say.
+fn picture_of_problem<'a>(
+    alloc: Global,
+    words: Words<'_>,
+    texts: &'a FileTexts,
+    problem: &'a PlacedProblem,
+) -> Result<String, Stop>
+    requires { (1 ≤ words.width) × (words.width ≤ WIDTH_LIMIT) }
+    ensures { MatchResult result
+        (λ picture. (files : OptionOf FileMap)
+        → AreTexts (words_said words.entry) TEXT_BYTES files texts.now
+        → AreFaultless (texts.now).four → problem.now ≡ problem_said (texts.now).four
+        → IsDrawn (words_said words.entry) TEXT_BYTES files (string_bytes picture))
+        (λ stop. (before now : DeskState)
+        → AreTexts (words_said words.entry) TEXT_BYTES before.files texts.now
+        → AreFaultless (texts.now).four → problem.now ≡ problem_said (texts.now).four
+        → IsUndrawn (words_said words.entry) TEXT_BYTES before now stop) }
+{
     let nets = problem.netlist().nets.as_slice();
     let emphasis = match emphasis(alloc, nets, texts.names()) {
         Ok(emphasis) => emphasis,
         Err(stop) => return Err(stop),
     };
-    match shown(alloc, &problem, words, texts.routed(), &emphasis) {
-        Ok(picture) => Ok(picture),
-        Err(stop) => Err(stop),
-    }
+    shown(alloc, problem, words, texts.routed(), &emphasis)
 }
 
 // The bytes of the files that the words name.

@@ -2,7 +2,7 @@
 use fpga_problem::TextFile;
 
 /// A file that the words name.
-#[derive(Clone, Copy, Debug)]
+#[derive(Clone, Copy)]
 pub(crate) enum GivenFile {
     /// A file that the problem is read from.
     Text(TextFile),

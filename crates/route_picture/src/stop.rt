@@ -7,7 +7,7 @@ use fpga_problem::Refusal;
 use fpga_text::TextFault;
 
 /// Why no picture is printed.
-#[derive(Clone, Copy, Debug)]
+#[derive(Clone, Copy)]
 pub(crate) enum Stop {
     /// The words are not taken.
     Usage,

@@ -13,7 +13,7 @@ use std::rt::Env;
 use std::{env, io};
 
 /// The names of the four files.
-#[derive(Clone, Copy, Debug)]
+#[derive(Clone, Copy)]
 pub(crate) struct FourNames<'a> {
     pub(crate) arch: &'a str,
     pub(crate) net: &'a str,
@@ -22,7 +22,7 @@ pub(crate) struct FourNames<'a> {
 }
 
 /// A file with a routing, and the reach within which it is to be legal.
-#[derive(Clone, Copy, Debug)]
+#[derive(Clone, Copy)]
 pub(crate) struct RoutedFile<'a> {
     pub(crate) file: &'a str,
     pub(crate) reach: u32,
@@ -30,7 +30,7 @@ pub(crate) struct RoutedFile<'a> {
 
 /// The names of the four files, the width, the name of a file of names and what is said of a
 /// routing, each if there is one.
-#[derive(Clone, Copy, Debug)]
+#[derive(Clone, Copy)]
 pub(crate) struct Words<'a> {
     pub(crate) files: FourNames<'a>,
     pub(crate) width: u32,

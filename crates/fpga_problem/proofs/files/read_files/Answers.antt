@@ -1,6 +1,6 @@
-use Rattle.std.proofs.Common.{◌∙◌}
+use Rattle.std.proofs.Common.{◌∙◌, subst, sym}
 use Rattle.fpga_net.proofs.GivenLemmas.{readers-give}
-use Rattle.fpga_problem.specs.Files.{net_source, place_source}
+use Rattle.fpga_problem.specs.Files.{Poses, names_said, net_source, place_source}
 use Rattle.fpga_problem.specs.Sources.{Reads, Stops, route_source}
 use Rattle.fpga_problem.specs.declared.unread.FileFault.TheVariants.{Text}
 use Rattle.fpga_problem.proofs.FileLemmas.{fit-stops, route-stops}
@@ -87,3 +87,17 @@ returns-in-Err-fit-clause-stop g c =
           c.in-Err-fit.fault c.in-Err-fit.ensures;
       tells = c.unread-in-Err-fit.ensures;
     })))
+
+pub returns-in-Ok-fit-clause-poses : goal.returns-in-Ok-fit-clause-poses
+returns-in-Ok-fit-clause-poses g c =
+    let net = c.in-Ok-netlist.ensures.reads in
+    let place = c.in-Ok-placement.ensures.reads in
+    let files_net = net.files ∙ c.in-Ok.ensures.files in
+    subst (Poses (g.D.Desk.state c.args.desk.now).files (names_said c.args.names.now))
+    (sym c.in-Ok-fit.ensures.1) (record {
+      arch = c.in-Ok.ensures.answers;
+      netlist = says-before c.in-Ok.ensures.files net.answers;
+      placement = says-before files_net place.answers;
+      route = says-before (place.files ∙ files_net) c.in-Ok-read_route_file.ensures.reads.answers;
+      fits = c.in-Ok-fit.ensures.0;
+    })

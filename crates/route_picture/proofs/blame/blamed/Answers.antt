@@ -1,8 +1,8 @@
-use Rattle.std.proofs.Common.{ap, inl, ◌∙◌, sym}
+use Rattle.std.proofs.Common.{List, ap, inl, subst, ◌∙◌, sym}
 use Rattle.std.proofs.lemmas.Bool.{false≢true}
 use Rattle.fpga_text.specs.Reading.{LinesAhead}
-use Rattle.route_picture.specs.Blame.{given}
-use Rattle.route_picture.proofs.BlameLemmas.{names-taken, none-said, stops-strange}
+use Rattle.route_picture.specs.Blame.{Given, TakesFront, given}
+use Rattle.route_picture.proofs.BlameLemmas.{line-next, names-taken, none-said, stops-strange}
 use Rattle.route_picture.proofs.blame.blamed.Goals as goal
 
 pub returns-in-Err-clause-stop : goal.returns-in-Err-clause-stop
@@ -24,3 +24,14 @@ returns-clause-names c =
     (ap (λ (l : LinesAhead). given l.ahead) c.new-lines.ensures)
     (sym c.in_default-next_line.ensures.line) c.loop-line.invariant
     (λ none. false≢true (sym c.if-is_empty.false ∙ c.is_empty.ensures.1 none))
+
+pub loop-line-preserved : goal.loop-line-preserved
+loop-line-preserved c =
+    c.in-Ok-take_line.ensures.taken c.args.nets.now (given c.new-lines.result.ahead)
+    (given c.next_line.new.self.ahead) c.in-Ok.ensures
+    (subst (λ (rest : List Given).
+    TakesFront c.args.nets.now (given c.new-lines.result.ahead) rest c.loop-line.names)
+    (line-next c.loop-line.lines.ahead c.loop-line.lines.total c.in-Some.line
+    c.next_line.new.self.ahead (sym c.in-Some.ensures.line)
+    (ap (λ (l : LinesAhead). l.ahead) c.in-Some.ensures.after))
+    c.loop-line.invariant)
