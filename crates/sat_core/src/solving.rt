@@ -98,9 +98,8 @@ fn search_for_values(
 /// times the next term of Luby's sequence more conflicts the search goes back to level 0. Behind
 /// three such restarts of four what was decided is decided again before others, as far as it is
 /// open and until the next clause is learned, unless the trail had 100 literals a decision or more.
-/// Where a clause is false, the clause of the first
-/// unique implication point is learned: the search goes back to the highest level of its other
-/// literals, and it makes the last one true there.
+/// Where a clause is false, the clause of the first unique implication point is learned: the search
+/// goes back to the highest level of its other literals, and it makes the last one true there.
 /// The analysis costs what it meets: the entries of the trail from the newest down to that point,
 /// the literals of the reasons that it uses, whose places are sorted, and those of the reasons that
 /// it looks into for literals that the others imply. A clause is kept twice, for the search and in
