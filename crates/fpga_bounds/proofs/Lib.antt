@@ -3,6 +3,7 @@ pub mod CopyLemmas
 pub mod KeyLemmas
 pub mod LineLemmas
 pub mod PairLemmas
+pub mod SlotCountLemmas
 pub mod SlotTableLemmas
 pub mod SlotLines
 pub mod SlotsOfLemmas

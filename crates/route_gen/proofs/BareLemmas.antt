@@ -19,9 +19,9 @@ use Rattle.fpga_types.specs.declared.route.ElemKind.TheVariants.{Source, Opin, C
 use Rattle.fpga_types.specs.declared.route.RouteNet.{RouteNet}
 use Rattle.fpga_types.specs.declared.route.RouteText.{RouteText}
 use Rattle.fpga_route.specs.ReadBack.{elem_without_line, net_without_lines, without_lines}
+use Rattle.fpga_types.proofs.FitLemmas.{Place, with_first}
 use Rattle.list_laws.proofs.Members.{In, In-flat_map, In-map, from_In-flat_map, from_In-map}
 use Rattle.route_gen.specs.Fitting.{IsForSlots}
-use Rattle.route_gen.proofs.WalkLemmas.{Place, with_first}
 
 -- no code of a line holds but the last
 pub record IsClean (device : Device) (at : ProblemContext) : Type 0 where

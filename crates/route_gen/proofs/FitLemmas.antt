@@ -6,6 +6,7 @@ use Rattle.std.specs.Option.{option_map_or}
 use Rattle.std.proofs.lemmas.Bool.{cases_eq, eq-eqb, ne_eqb}
 use Rattle.std.proofs.lemmas.List.Folds.{list_any-append, list_any_none}
 use Rattle.std.proofs.lemmas.Option.{slice_get_within, get_or_from_slice_get}
+use Rattle.fpga_types.proofs.FitLemmas.{place-in}
 use Rattle.fpga_types.specs.Fit.{is_pin_of, same_elem, same_pin, same_place, splits}
 use Rattle.fpga_types.specs.Fits.{has_net, has_sink, lacks_sink, problem_context}
 use Rattle.fpga_types.specs.Kinds.{is_ipin, is_opin, is_pin, is_sink, is_source, same_label}
@@ -35,7 +36,7 @@ use Rattle.route_gen.proofs.DrawLemmas.{IsInput}
 use Rattle.route_gen.proofs.NameLemmas.{net-other, place-other}
 use Rattle.route_gen.proofs.TerminalLemmas.{class_there, driver, ends, input-is, known, problem}
 use Rattle.route_gen.proofs.TraceLemmas.{IsPlace, all_joined, block-place}
-use Rattle.route_gen.proofs.WalkLemmas.{apart-place, at-place, in-all, last-place, linked-place, place-in}
+use Rattle.route_gen.proofs.WalkLemmas.{apart-place, at-place, in-all, last-place, linked-place}
 use Rattle.route_gen.proofs.WayLemmas.{IsNext, cells-all, device, trace-apart, trace-linked}
 
 -- a net that stands before another

@@ -2,27 +2,11 @@
 use Rattle.std.proofs.Common.{◌≡◌, ◌⊎◌, ℕ, zero, suc, ◌+◌, ◌<◌, ◌≤◌, Bool, false, Option, Some, List, [], ◌∷◌, ◌++◌, length, refl, sym, ap, subst, ◌∙◌, inl, inr, arith}
 use Rattle.std.specs.Prelude.{⊤, map, slice_get, ◌||◌}
 use Rattle.std.specs.List.{AllByRecursion, last_or, list_any, range_with_len}
+use Rattle.fpga_types.proofs.FitLemmas.{Place, with_first, place-in}
 use Rattle.fpga_types.specs.Fit.{splits}
 use Rattle.list_laws.proofs.Members.{In, from_In-map}
 
--- what stands before an element, it, and what stands behind it
-abbrev pub Place : Type 0 → Type 0
-Place T = List T × T × List T
-
 module _ {T : Type 0} where
-  -- the places of a longer list
-  abbrev pub with_first : T → Place T → Place T
-  with_first x s = (x ∷ s.0, s.1, s.2)
-
-  pub place-in : (xs : List T) (s : Place T) → In (splits xs) s → In xs s.1
-  place-in [] s i = absurd i
-  place-in (x ∷ xs) s i = elim i [
-    | inl first ↦ inl (ap (λ (t : Place T). t.1) first)
-    | inr later ↦
-        let r = from_In-map (with_first x) (splits xs) s later in
-        inr (subst (λ (y : T). In xs y) (ap (λ (t : Place T). t.1) r.2) (place-in xs r.0 r.1))
-  ]
-
   -- each element may stand behind what stands before it
   abbrev pub Linked : (Option T → T → Type 0) → Option T → List T → Type 0
   Linked R o [] = ⊤

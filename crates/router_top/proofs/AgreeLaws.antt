@@ -16,17 +16,19 @@ use Rattle.sat_text.specs.LratText.{lrat_said}
 use Rattle.router_words.specs.Refusal.{code_of}
 use Rattle.router_words.specs.declared.fault.Refusal.{Refusal}
 use Rattle.router_top.specs.Check.{ChecksTo, cnf_source, judgement_outcome, lrat_source, JudgesTo, VerifiesTo, judged_outcome}
-use Rattle.router_top.specs.Generated.{IsTooLarge, Makes}
+use Rattle.router_top.specs.Generated.{IsTooLarge, Makes, HasRoom, IsTooMany}
 use Rattle.router_top.specs.Method.{HasNone, clauses_by}
 use Rattle.router_top.specs.Search.{Search, clauses_held, core_search, route_search, sweep_of, sweep_search}
 use Rattle.router_top.specs.Suited.{IsLeastUnsuited, IsTrueOfSuited, IsUnsuited, Suits, is_suited, obstacle_to}
 use Rattle.router_top.specs.Report.{unread_outcome}
-use Rattle.router_top.specs.Truth.{Agrees, IsOpenBelow, IsReached, IsTrueAt, IsTrueOf, IsTrueOfClauses, IsTrueOfEncoding, IsTrueOfJob, IsTrueOfRecipe, IsTrueOfSearch, IsTrueOfSuitedSearch, IsTrueOfTurns, IsTrueOfWork}
-use Rattle.router_top.specs.Subject.{FileMap, FileNames, IsHalted, ReadsThen, route_source, RoutingProblem, HasFew, Cnf, job_of, Blames, CheckAsked, Checks, Encodes, Generates, JobAsked, RecipeAsked, Routes, Sweeps, TrialAsked, Tries, Verifies, VerifyAsked, Word, Method, Outcome, Done, NotSymmetric, Undecided, Usage}
+use Rattle.router_top.specs.Truth.{Agrees, IsOpenBelow, IsReached, IsTrueAt, IsTrueOf, IsTrueOfEncoding, IsTrueOfJob, IsTrueOfSearch, IsTrueOfSuitedSearch, IsTrueOfWork, IsTrueOfCount}
+use Rattle.router_top.specs.Subject.{FileMap, FileNames, IsHalted, ReadsThen, route_source, RoutingProblem, HasFew, job_of, Blames, CheckAsked, Checks, Encodes, Generates, JobAsked, RecipeAsked, Routes, Sweeps, TrialAsked, Tries, Verifies, VerifyAsked, Word, Method, Outcome, Done, NotSymmetric, Undecided, Usage}
 use Rattle.router_top.specs.declared.outcome.Obstacle.{Obstacle}
 use Rattle.router_top.specs.declared.text_file.TextFile.TheVariants.{Cnf as CnfFile, Lrat, Routed}
 use Rattle.router_top.proofs.GeneratedLaws.{one-made}
 use Rattle.router_top.proofs.StopLaws.{lack-poses, one-lack}
+use Rattle.router_top.specs.declared.size_cause.SizeCause.{SizeCause}
+use Rattle.router_top.specs.declared.size_cause.SizeCause.TheVariants.{ClausesOfTurns, FormulaClauses}
 
 -- two true outcomes of the work on a problem are one, or both are true of one problem
 work-agrees : (files : FileMap) (names : FileNames) (says : RoutingProblem → Outcome → Type 0)
@@ -43,14 +45,14 @@ work-agrees files names says a b (inr h) (inr g) agree =
     agree h.0 h.2 (subst (λ (p : RoutingProblem). says p b)
     (one-problem files names g.0 h.0 g.1 h.1) g.2)
 
--- so of what is true of a formula
-clauses-agree : (formula : Cnf) (says : Outcome → Type 0) (a b : Outcome)
-    → IsTrueOfClauses formula (says a) a → IsTrueOfClauses formula (says b) b
+-- so of what is true of so many clauses
+counts-agree : (cause : SizeCause) (count : ℕ) (says : Outcome → Type 0) (a b : Outcome)
+    → IsTrueOfCount cause count (says a) a → IsTrueOfCount cause count (says b) b
     → (says a → says b → Agrees a b) → Agrees a b
-clauses-agree formula says a b (inl h) (inl g) agree = inl (h.1 ∙ sym g.1)
-clauses-agree formula says a b (inl h) (inr g) agree = absurd (omega (arith, h.0, g.0))
-clauses-agree formula says a b (inr h) (inl g) agree = absurd (omega (arith, g.0, h.0))
-clauses-agree formula says a b (inr h) (inr g) agree = agree h.1 g.1
+counts-agree cause count says a b (inl h) (inl g) agree = inl (h.1 ∙ sym g.1)
+counts-agree cause count says a b (inl h) (inr g) agree = absurd (omega (arith, h.0, g.0))
+counts-agree cause count says a b (inr h) (inl g) agree = absurd (omega (arith, g.0, h.0))
+counts-agree cause count says a b (inr h) (inr g) agree = agree h.1 g.1
 
 -- ---- a search
 
@@ -73,9 +75,10 @@ past-limit n more few = omega (arith, more, few)
 module _ (search : Search) (p : RoutingProblem) where
   -- what is true of the clauses at a width
   abbrev IsTrueThere : (width : ℕ) → Outcome → Type 0
-  IsTrueThere width outcome = IsTrueOfClauses (clauses_by search.method width p)
-      (IsTrueOfTurns (clauses_held search width p) (IsTrueAt search p width outcome) outcome)
-      outcome
+  IsTrueThere width outcome =
+      IsTrueOfCount FormulaClauses (length (clauses_by search.method width p).clauses)
+      (IsTrueOfCount ClausesOfTurns (clauses_held search width p)
+      (IsTrueAt search p width outcome) outcome) outcome
 
   -- where the clauses are few enough, so are those that all searches hold together
   abbrev HasRoomAt : (width : ℕ) → Type 0
@@ -229,7 +232,8 @@ not-both : (nets blocks : ℕ) → blocks < nets → nets ≤ blocks → ⊥
 not-both nets blocks more few = omega (arith, more, few)
 
 recipe-agrees : (recipe : RecipeAsked) (says : Outcome → Type 0) (a b : Outcome)
-    → IsTrueOfRecipe recipe (says a) a → IsTrueOfRecipe recipe (says b) b
+    → IsTooMany recipe a ⊎ (HasRoom recipe × says a)
+    → IsTooMany recipe b ⊎ (HasRoom recipe × says b)
     → (says a → says b → Agrees a b) → Agrees a b
 recipe-agrees recipe says a b (inl h) (inl g) agree = inl (h.1 ∙ sym g.1)
 recipe-agrees recipe says a b (inl h) (inr g) agree =
@@ -285,9 +289,10 @@ job-agrees (Sweeps job) files a b h g =
 job-agrees (Encodes job) files a b h g =
     work-agrees files job.files (IsTrueOfEncoding job) a b h g
     (λ p u v. suited-agrees job.method job.width job.width p
-    (λ said. IsTrueOfClauses (clauses_by job.method job.width p) (said ≡ Done) said) a b u v
-    (λ s t. clauses-agree (clauses_by job.method job.width p) (λ said. said ≡ Done) a b s t
-    (λ e f. inl (e ∙ sym f))))
+    (λ said. IsTrueOfCount FormulaClauses (length (clauses_by job.method job.width p).clauses)
+    (said ≡ Done) said) a b u v
+    (λ s t. counts-agree FormulaClauses (length (clauses_by job.method job.width p).clauses)
+    (λ said. said ≡ Done) a b s t (λ e f. inl (e ∙ sym f))))
 job-agrees (Blames job) files a b h g =
     work-agrees files job.files (IsTrueOfSearch (core_search job)) a b h g
     (λ p u v. search-agrees (core_search job) p (inl refl) a b u v)

@@ -1,6 +1,6 @@
 -- Where no fault has risen, what a run leaves is true, or memory ran out.
 use Rattle.std.specs.Prelude.{None, Some}
-use Rattle.std.proofs.Common.{◌≡◌, ◌∙◌, ◌⊎◌, ℕ, ◌<◌, ◌≤◌, List, [], ◌∷◌, Option, Ok, Err, Result, refl, sym, ap, subst, inl, inr, arith}
+use Rattle.std.proofs.Common.{◌≡◌, ◌∙◌, ◌⊎◌, ℕ, ◌<◌, ◌≤◌, List, [], ◌∷◌, Option, Ok, Err, Result, refl, sym, ap, subst, inl, inr, arith, length}
 use Rattle.desk_io.specs.Files.{HasRisen}
 use Rattle.desk_io.specs.WholeFile.{FailsToWrite, after_writing}
 use Rattle.desk_io.proofs.FileLemmas.{has_risen}
@@ -14,14 +14,14 @@ use Rattle.route_sweep.specs.declared.found.Stop.{Stop}
 use Rattle.route_sweep.specs.declared.found.Stop.TheVariants.{Fault, TooManyClauses, Memory}
 use Rattle.sat_clause.specs.declared.limits.TheConstants.{CLAUSE_LIMIT}
 use Rattle.router_top.specs.SizeCauses.{size_code}
-use Rattle.router_top.specs.declared.size_cause.SizeCause.TheVariants.{FormulaClauses}
+use Rattle.router_top.specs.declared.size_cause.SizeCause.TheVariants.{FormulaClauses, ClausesOfTurns}
 use Rattle.router_top.specs.Written.{FailsAmong, WritesFiles, JobFile}
 use Rattle.router_top.specs.Comes.{LeavesOpen, Refutes}
 use Rattle.router_top.specs.Method.{IsRoutingBy, clauses_by}
 use Rattle.router_top.specs.Report.{found_outcome, line_of}
 use Rattle.router_top.specs.Run.{Runs, Scene, scene}
 use Rattle.router_top.specs.Search.{Search, clauses_held}
-use Rattle.router_top.specs.Truth.{Agrees, IsComplete, IsReached, IsTrueAt, IsTrueOf, IsTrueOfClauses, IsTrueOfTurns}
+use Rattle.router_top.specs.Truth.{Agrees, IsComplete, IsReached, IsTrueAt, IsTrueOf, IsTrueOfCount}
 use Rattle.router_top.specs.Work.{Finds}
 use Rattle.router_top.specs.Subject.{DeskState, Bytes, FileMap, ShelfState, after_say, RouteText, Cnf, Step, Word, Outcome, Routed, Unroutable, Undecided, Limit, OutOfMemory, Slot}
 use Rattle.router_top.proofs.AgreeLaws.{outcomes-agree}
@@ -103,8 +103,9 @@ module _ (words : List Word) (at : Scene) (calm : ¬ HasRisen at.desk.faults at.
 
       -- an outcome that is true of the width
       true-there : (says : Outcome)
-          → IsTrueOfClauses (clauses_by search.method h.width h.comes.p)
-          (IsTrueOfTurns (clauses_held search h.width h.comes.p)
+          → IsTrueOfCount FormulaClauses
+          (length (clauses_by search.method h.width h.comes.p).clauses)
+          (IsTrueOfCount ClausesOfTurns (clauses_held search h.width h.comes.p)
           (IsTrueAt search h.comes.p h.width says) says) says
           → wrote.faults ≡ h.between.faults → SettlesHere says
       true-there says there same = by-word at.shelf at.shelf_now Says says

@@ -6,8 +6,10 @@ use Rattle.std.proofs.Common.{◌≡◌, ◌≢◌, ◌∙◌, ◌+◌, ◌<◌,
 use Rattle.std.proofs.lemmas.Bool.{eq-eqb, false≢true}
 use Rattle.std.proofs.lemmas.List.{append_cancel_left}
 use Rattle.desk_io.specs.WholeFile.{after_writing}
+use Rattle.fpga_bounds.proofs.SlotCountLemmas.{many-slots}
 use Rattle.fpga_net.specs.Value.{net_value}
 use Rattle.fpga_place.specs.Value.{place_value}
+use Rattle.fpga_problem.specs.Files.{names_behind}
 use Rattle.fpga_problem.specs.Texts.{faults_of, problem_said}
 use Rattle.fpga_problem.specs.declared.text_file.TextFile.{TextFile as ProblemFile}
 use Rattle.fpga_problem.specs.declared.text_file.TextFile.TheVariants.{Architecture, Netlist as NetlistFile, Placement, Route}
@@ -31,11 +33,10 @@ use Rattle.route_gen.specs.Fitting.{AreRead, IsForSlots}
 use Rattle.route_gen.proofs.FittingLemmas.{first-fits, texts-read}
 use Rattle.route_gen.proofs.LengthLemmas.{texts-short}
 use Rattle.router_top.specs.Written.{after_files, JobFile, with_files}
-use Rattle.router_top.specs.Generated.{HasRoom, IsMade, Makes, PosesNone, generated_desk, generated_files, generated_names, problem_files, texts_of}
+use Rattle.router_top.specs.Generated.{HasRoom, IsMade, Makes, PosesNone, generated_files, problem_files, texts_of}
 use Rattle.router_top.specs.Report.{unread_outcome}
 use Rattle.router_top.specs.Subject.{Bytes, ShelfState, Poses, RoutingProblem, RecipeAsked, Word}
 use Rattle.router_top.specs.declared.text_file.TextFile.TheVariants.{Problem}
-use Rattle.router_top.proofs.SlotCountLaws.{many-slots}
 use Rattle.router_top.proofs.TrackLaws.{texts-tracks}
 use Rattle.router_top.proofs.WrittenLaws.{AreApart, written-stand}
 
@@ -69,7 +70,7 @@ module _ (prefix : Bytes) where
   place-route = endings-differ prefix (codes ".place") (codes ".route") refl
 
   module _ (texts : Texts) where
-    pub problem-apart : AreApart (problem_files (generated_names prefix) texts)
+    pub problem-apart : AreApart (problem_files (names_behind prefix) texts)
     problem-apart = (
       (arch-net, (arch-place, (arch-route, tt))),
       ((net-place, (net-route, tt)), ((place-route, tt), (tt, tt))),
@@ -113,7 +114,7 @@ made-fits recipe p makes =
 
 -- where its files stand alone on a desk, a problem that is not too large is posed by them
 pub made-poses : (recipe : RecipeAsked) (prefix : Word) (p : RoutingProblem) → Makes recipe p →
-    Poses (generated_desk recipe prefix).files (generated_names prefix) p
+    Poses (with_files (generated_files recipe prefix) (Some empty)) (names_behind prefix) p
 made-poses recipe prefix p makes =
     let texts : Texts = texts_of recipe in
     let made = makes.made in

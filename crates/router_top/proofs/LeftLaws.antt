@@ -5,6 +5,7 @@ use Rattle.std.specs.FinMap.{get, insert}
 use Rattle.std.proofs.Common.{◌≡◌, ◌≢◌, ◌∙◌, ◌⊎◌, ℕ, List, [], ◌∷◌, ◌++◌, take, Option, Some, None, Ok, Err, Result, refl, sym, ap, subst, inl, inr, append_assoc}
 use Rattle.std.proofs.lemmas.List.{append-nil, map-append}
 use Rattle.std.proofs.lemmas.List.Elements.{All-cons, All-nil}
+use Rattle.desk_io.specs.Changes.{OnlyChanges, held}
 use Rattle.desk_io.specs.Reading.{IsWhole}
 use Rattle.desk_io.specs.WholeFile.{FailsToWrite, after_writing}
 use Rattle.list_laws.proofs.Places.{some_is}
@@ -20,7 +21,7 @@ use Rattle.route_sweep.specs.declared.found.Stop.TheVariants.{Fault, TooManyClau
 use Rattle.sat_text.specs.Printed.{cnf_text, log_text}
 use Rattle.router_top.specs.Comes.{lower_files, EndsSearch}
 use Rattle.router_top.specs.Written.{FailsAmong, WritesFiles, JobFile, with_file, with_files}
-use Rattle.router_top.specs.JobFiles.{AreFilesOf, AreFound, IsBegun, LeavesFiles, LeavesPart, LeavesWhole, OnlyChanges, held}
+use Rattle.router_top.specs.JobFiles.{AreFilesOf, AreFound, IsBegun, LeavesFiles, LeavesPart, LeavesWhole}
 use Rattle.router_top.specs.Method.{clauses_by}
 use Rattle.router_top.specs.Report.{found_outcome, unsaid}
 use Rattle.router_top.specs.Run.{Runs, Scene, scene}

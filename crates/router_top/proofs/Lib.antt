@@ -14,7 +14,6 @@ mod MethodLaws
 mod NameLaws
 mod PreparedLaws
 mod SaidLaws
-mod SlotCountLaws
 mod SlotNameLaws
 mod StopLaws
 mod TrackLaws

@@ -7,7 +7,7 @@ use Rattle.route_sweep.specs.Names.{cnf_name, lrat_name, route_name}
 use Rattle.route_sweep.specs.declared.found.FileSlot.TheVariants.{Route, Clauses, Log}
 use Rattle.sat_clause.specs.Step.{Step}
 use Rattle.router_words.specs.Command.{job_of}
-use Rattle.fpga_problem.specs.Files.{FileNames}
+use Rattle.fpga_problem.specs.Files.{FileNames, names_behind}
 use Rattle.router_words.specs.Job.{JobAsked, Routes, Sweeps, Encodes, Blames, Checks, Verifies, Generates, Tries}
 use Rattle.router_words.specs.Word.{Word}
 use Rattle.router_top.specs.Comes.{lower_files}
@@ -15,7 +15,6 @@ use Rattle.router_top.specs.JobFiles.{AreFilesOf, AreFound, AreSearched, IsNamed
 use Rattle.router_top.specs.Written.{JobFile}
 use Rattle.router_top.specs.Search.{Search, lower_widths, proof_files, search_asked}
 use Rattle.router_top.specs.SlotNames.{name_written}
-use Rattle.router_top.specs.Generated.{generated_names}
 use Rattle.router_top.specs.Work.{clauses_name}
 use Rattle.router_top.specs.declared.slot.Slot.{Slot}
 use Rattle.router_top.specs.declared.slot.Slot.TheVariants.{File, Architecture, Netlist, Placement, GlobalRoute}
@@ -106,7 +105,7 @@ module _ (words : List Word) where
   files-named desk files (inr (inl h)) = subst AreNamed (sym h.order)
       (by-job (Encodes h.job) h.asked (File (Clauses h.job.width)) (clauses_name h.job) refl, tt)
   files-named desk files (inr (inr (inl h))) =
-      let names : FileNames = generated_names h.job.prefix in
+      let names : FileNames = names_behind h.job.prefix in
       let named = by-job (Generates h.job) h.asked in
       subst AreNamed (sym h.order) (
         named Architecture names.architecture refl,

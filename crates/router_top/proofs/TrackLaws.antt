@@ -2,6 +2,7 @@
 use Rattle.std.specs.List.{AllByRecursion, enumerate_from}
 use Rattle.std.proofs.Common.{◌≡◌, ◌∙◌, ℕ, ◌*◌, ◌≤◌, List, [], ◌∷◌, refl, sym, ap, subst, true}
 use Rattle.std.proofs.lemmas.Bool.{false≢true}
+use Rattle.fpga_bounds.proofs.SlotCountLemmas.{AreTracks}
 use Rattle.fpga_route.specs.ReadBack.{SameButLines, elem_without_line, net_without_lines}
 use Rattle.fpga_types.specs.Kinds.{is_channel}
 use Rattle.fpga_types.specs.declared.limits.TheConstants.{SIDE_LIMIT}
@@ -23,7 +24,6 @@ use Rattle.route_gen.proofs.TraceLemmas.{all_joined}
 use Rattle.route_gen.proofs.WalkLemmas.{in-all}
 use Rattle.route_gen.proofs.WayLemmas.{cells-all}
 use Rattle.router_top.specs.Subject.{RoutingProblem, RouteText}
-use Rattle.router_top.proofs.SlotCountLaws.{AreTracks}
 
 -- each channel line of a route has a track
 abbrev pub HasTracks : RouteText → Type 0

@@ -5,9 +5,9 @@ use Rattle.route_core.specs.Blamed.{blamed}
 use Rattle.route_core.specs.Core.{AreUnroutable}
 use Rattle.route_core.specs.Trimmed.{IsTrimmed}
 use Rattle.route_count.specs.Crowded.{IsCrowded}
-use Rattle.route_sweep.specs.Found.{IsLeftOpenBy, IsRefutedAs}
+use Rattle.route_sweep.specs.Found.{IsLeftOpenBy, IsRefutedAs, ReadBackIf}
 use Rattle.router_top.specs.Method.{IsRoutingBy, clauses_by, CoversStrict, HasNone}
-use Rattle.router_top.specs.Search.{Search, files_of, lower_widths, search_asked, ReadBackIf, proof_files}
+use Rattle.router_top.specs.Search.{Search, files_of, lower_widths, search_asked, proof_files}
 use Rattle.router_top.specs.Written.{JobFile}
 use Rattle.router_top.specs.Subject.{FileMap, Poses, RoutingProblem, RouteText, HasFew, Step, job_of, JobAsked, Word}
 

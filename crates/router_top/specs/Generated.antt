@@ -1,6 +1,6 @@
--- Problems that are made from a number: their files, and the desk on which these stand alone.
-use Rattle.std.specs.Prelude.{◌≡◌, ◌⊎◌, ◌*◌, ◌<◌, ◌≤◌, ◌++◌, ◌+◌, false, List, [], ◌∷◌, length, codes, Some, None}
-use Rattle.std.specs.FinMap.{empty}
+-- Problems that are made from a number, and their files.
+use Rattle.std.specs.Prelude.{◌≡◌, ◌⊎◌, ◌*◌, ◌<◌, ◌≤◌, ◌+◌, List, [], ◌∷◌, length, Some, None}
+use Rattle.fpga_problem.specs.Files.{names_behind}
 use Rattle.fpga_problem.specs.declared.text_file.TextFile.TheVariants.{Route}
 use Rattle.fpga_types.specs.FitCauses.{code_of}
 use Rattle.fpga_types.specs.Slots.{slots}
@@ -11,8 +11,8 @@ use Rattle.route_gen.specs.Fitting.{AreRead}
 use Rattle.route_gen.specs.Generated.{generated}
 use Rattle.router_top.specs.SizeCauses.{size_code}
 use Rattle.router_top.specs.declared.size_cause.SizeCause.TheVariants.{GeneratedNets}
-use Rattle.router_top.specs.Written.{JobFile, with_files}
-use Rattle.router_top.specs.Subject.{DeskState, FileNames, RoutingProblem, RecipeAsked, Word, Outcome, Limit, OutOfMemory}
+use Rattle.router_top.specs.Written.{JobFile, job_file}
+use Rattle.router_top.specs.Subject.{FileNames, RoutingProblem, RecipeAsked, Word, Outcome, Limit, OutOfMemory}
 use Rattle.router_top.specs.declared.slot.Slot.TheVariants.{Architecture, Netlist, Placement, GlobalRoute}
 use Rattle.router_top.specs.declared.text_file.TextFile.TheVariants.{Problem}
 
@@ -23,7 +23,8 @@ HasRoom recipe = recipe.nets ≤ recipe.side * recipe.side
 -- there are more nets than blocks, and the outcome has their number
 abbrev pub IsTooMany : RecipeAsked → Outcome → Type 0
 IsTooMany recipe outcome =
-    (recipe.side * recipe.side < recipe.nets) × (outcome ≡ Limit None (size_code GeneratedNets) recipe.nets)
+    (recipe.side * recipe.side < recipe.nets)
+    × (outcome ≡ Limit None (size_code GeneratedNets) recipe.nets)
 
 -- no problem was made, and the outcome says why
 abbrev pub MakesNone : RecipeAsked → Outcome → Type 0
@@ -33,22 +34,13 @@ MakesNone recipe outcome = IsTooMany recipe outcome ⊎ (outcome ≡ OutOfMemory
 abbrev pub texts_of : RecipeAsked → Texts
 texts_of recipe = generated recipe.seed recipe.side recipe.nets
 
--- the names of its files
-abbrev pub generated_names : (prefix : Word) → FileNames
-generated_names prefix = record {
-  architecture = prefix ++ codes ".arch";
-  netlist = prefix ++ codes ".net";
-  placement = prefix ++ codes ".place";
-  route = prefix ++ codes ".route";
-}
-
 -- four texts under these names, in the order in which they are written
 abbrev pub problem_files : FileNames → Texts → List JobFile
 problem_files names texts =
-    record { slot = Architecture; name = names.architecture; text = texts.architecture }
-    ∷ record { slot = Netlist; name = names.netlist; text = texts.netlist }
-    ∷ record { slot = Placement; name = names.placement; text = texts.placement }
-    ∷ record { slot = GlobalRoute; name = names.route; text = texts.route } ∷ []
+    job_file Architecture names.architecture texts.architecture
+    ∷ job_file Netlist names.netlist texts.netlist
+    ∷ job_file Placement names.placement texts.placement
+    ∷ job_file GlobalRoute names.route texts.route ∷ []
 
 -- an array may have this side, there is a block to drive each net, and the texts read as the four
 -- values of this problem
@@ -74,19 +66,4 @@ PosesNone recipe outcome = MakesNone recipe outcome ⊎ IsTooLarge recipe outcom
 
 -- the files of the problem
 abbrev pub generated_files : RecipeAsked → (prefix : Word) → List JobFile
-generated_files recipe prefix = problem_files (generated_names prefix) (texts_of recipe)
-
--- a desk with these files alone, which has not failed
-abbrev pub desk_with : List JobFile → DeskState
-desk_with files = record {
-  files = with_files files (Some empty);
-  is_started = false;
-  started = None;
-  left = None;
-  faults = 0;
-  fault_name = None;
-}
-
--- the desk on which the files of the problem stand alone
-abbrev pub generated_desk : RecipeAsked → (prefix : Word) → DeskState
-generated_desk recipe prefix = desk_with (generated_files recipe prefix)
+generated_files recipe prefix = problem_files (names_behind prefix) (texts_of recipe)

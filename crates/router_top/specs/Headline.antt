@@ -7,9 +7,10 @@
 -- the most: which routings a job asks for its method says.
 use Rattle.std.specs.Prelude.{◌≡◌, ℕ, List, [], ◌∷◌, ◌++◌, Option}
 use Rattle.fpga_route.specs.ReadBack.{ReadsBack}
+use Rattle.route_sweep.specs.Found.{ReadBack}
 use Rattle.router_top.specs.Comes.{ComesTo, IsRefutedAt, lower_files, LeavesOpen}
 use Rattle.router_top.specs.Method.{IsRoutingBy, clauses_by}
-use Rattle.router_top.specs.Search.{ReadBack, proof_files, route_file}
+use Rattle.router_top.specs.Search.{proof_files, route_file}
 use Rattle.router_top.specs.Written.{AreWritten}
 use Rattle.router_top.specs.Subject.{FileMap, RouteText, HasFew, Step, Word}
 

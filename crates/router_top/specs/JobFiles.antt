@@ -1,11 +1,9 @@
 -- The files of a job in the order in which they are written, and what a run leaves of them,
 -- whatever fails.
-use Rattle.std.specs.Prelude.{◌≡◌, ◌⊎◌, ℕ, ◌≤◌, ◌++◌, List, [], ◌∷◌, length, take, Ok, Option, None, Some, option_and_then}
+use Rattle.std.specs.Prelude.{◌≡◌, ◌⊎◌, ℕ, ◌≤◌, ◌++◌, List, [], ◌∷◌, length, take, Ok, Option, Some}
 use Rattle.std.specs.List.{All}
-use Rattle.std.specs.Option.{ForSome}
-use Rattle.std.specs.FinMap.{get}
+use Rattle.desk_io.specs.Changes.{OnlyChanges, held}
 use Rattle.desk_io.specs.Reading.{IsWhole}
-use Rattle.desk_io.specs.ShelfState.{OthersStay}
 use Rattle.router_top.specs.Comes.{ComesTo, lower_files, EndsSearch}
 use Rattle.router_top.specs.Generated.{HasRoom, generated_files}
 use Rattle.router_top.specs.Method.{IsRoutingBy, clauses_by}
@@ -70,11 +68,6 @@ AreFilesOf words desk files =
 
 -- ---- what is left of them
 
--- no file but the one of this name has changed, and files are told as they were
-pub record OnlyChanges (name : Bytes) (before now : Option FileMap) : Type 0 where
-  pub others : ForSome before (λ old. OthersStay old name now)
-  pub untold : before ≡ None → now ≡ None
-
 -- a file was being written: it could not be created, and then no other one has changed; or it holds
 -- so many bytes at the front of its text, and that is all that has changed
 abbrev pub IsBegun : JobFile → (before now : Option FileMap) → Type 0
@@ -82,10 +75,6 @@ IsBegun file before now =
     OnlyChanges file.name before now
     ⊎ ((count : ℕ) × (count ≤ length file.text)
     × (now ≡ with_file (record file { text = take count file.text }) before))
-
--- what the file of this name holds, where the files are told and it is there
-abbrev pub held : Option FileMap → Bytes → Option Bytes
-held files name = option_and_then (λ fs. get fs name) files
 
 -- the files of the job, as far as it has come, were written and no others, and each stands whole
 pub record LeavesWhole (words : List Word) (desk before now : Option FileMap) : Type 0 where

@@ -8,7 +8,7 @@ use Rattle.router_top.specs.Generated.{HasRoom, Makes, MakesNone, PosesNone, gen
 use Rattle.router_top.specs.Report.{GivesNone, IsReadFault, line_of, unsaid}
 use Rattle.router_top.specs.Suited.{EncodeLeaves, RouteLeaves, SweepLeaves}
 use Rattle.router_top.specs.Work.{Tries}
-use Rattle.router_top.specs.Subject.{DeskState, FailsToSay, ShelfState, after_say, FileNames, Poses, IsStopped, RoutingProblem, job_of, Blames, Checks, Encodes as EncodesJob, GenAsked, Generates, JobAsked, RecipeAsked, Routes, Sweeps as SweepsJob, TrialAsked, Tries as TriesJob, Verifies, Word, Outcome, Usage, OutOfMemory}
+use Rattle.router_top.specs.Subject.{DeskState, FailsToSay, ShelfState, after_say, FileNames, Poses, IsStopped, RoutingProblem, job_of, Blames, Checks, Encodes as EncodesJob, GenAsked, Generates, JobAsked, Routes, Sweeps as SweepsJob, TrialAsked, Tries as TriesJob, Verifies, Word, Outcome, Usage, OutOfMemory}
 
 -- the desk and the shelf before the work and after it
 pub record Scene : Type 0 where
@@ -31,16 +31,12 @@ LeavesWork names works at outcome =
     ⊎ ((p : RoutingProblem) × Poses at.desk.files names p
     × works p at.shelf at.shelf_now outcome)
 
--- nothing was written, since no problem was made; or one was, and this is left
-abbrev pub LeavesMade : RecipeAsked → (left : Type 0) → (before now : ShelfState) → Outcome → Type 0
-LeavesMade recipe left before now outcome =
-    (MakesNone recipe outcome × (now ≡ before)) ⊎ (HasRoom recipe × left)
-
--- the making of a problem, and the writing of its files
+-- nothing was written, since no problem was made; or one was, and its files were written
 abbrev pub WritesGenerated : GenAsked → (before now : ShelfState) → Outcome → Type 0
-WritesGenerated job before now outcome = LeavesMade job.recipe
-    (WritesFiles (generated_files job.recipe job.prefix) before now outcome)
-    before now outcome
+WritesGenerated job before now outcome =
+    (MakesNone job.recipe outcome × (now ≡ before))
+    ⊎ (HasRoom job.recipe
+    × WritesFiles (generated_files job.recipe job.prefix) before now outcome)
 
 -- nothing was written, since no problem was made, or one that is too large; or a problem was made
 -- that is not, and this is what the trial of it leaves

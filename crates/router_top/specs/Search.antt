@@ -3,17 +3,17 @@
 use Rattle.std.specs.Prelude.{ℕ, ◌*◌, ◌-◌, ◌||◌, Bool, true, false, List, length, Option, None, Some, is_some, [], ◌∷◌}
 use Rattle.std.specs.List.{range_with_len}
 use Rattle.std.specs.Option.{option_map_or}
+use Rattle.std.specs.FinMap.{empty}
+use Rattle.fpga_problem.specs.Files.{names_behind}
 use Rattle.fpga_route.specs.Printed.{printed}
 use Rattle.route_sweep.specs.Asked.{Asked}
-use Rattle.route_sweep.specs.Found.{LogReadsBackIf}
 use Rattle.route_sweep.specs.Names.{cnf_name, lrat_name, route_name}
 use Rattle.route_sweep.specs.declared.found.FileSlot.TheVariants.{Route, Clauses, Log}
-use Rattle.sat_text.specs.CnfText.{ReadsCnf}
 use Rattle.sat_text.specs.Printed.{cnf_text, log_text}
-use Rattle.router_top.specs.Generated.{generated_desk, generated_names}
+use Rattle.router_top.specs.Generated.{generated_files}
 use Rattle.router_top.specs.Method.{clauses_by}
-use Rattle.router_top.specs.Written.{JobFile}
-use Rattle.router_top.specs.Subject.{FileMap, FileNames, RoutingProblem, RouteText, Cnf, Step, Blames, CoreAsked, JobAsked, RouteAsked, Routes, SearchAsked, SweepAsked, Sweeps, TrialAsked, Tries, Method, Strictly, File}
+use Rattle.router_top.specs.Written.{JobFile, with_files, job_file}
+use Rattle.router_top.specs.Subject.{FileMap, FileNames, RoutingProblem, RouteText, Step, Blames, CoreAsked, JobAsked, RouteAsked, Routes, SearchAsked, SweepAsked, Sweeps, TrialAsked, Tries, Method, Strictly, File}
 
 -- a search of the problem of these files at the widths from the first on, one after the other,
 -- until one is not refuted or the last one was; how routings are said by clauses, what is asked of
@@ -43,18 +43,15 @@ ask_of numbered search = record {
 abbrev pub asks_to_keep : (keep : Bool) → SearchAsked → Asked
 asks_to_keep keep search = record (ask_of false search) { keep = keep }
 
--- searches that take turns keep all clauses, and one alone does where the words say so
-abbrev pub route_ask : RouteAsked → Asked
-route_ask job = asks_to_keep (is_some job.members || job.search.keep) job.search
-
--- `route` searches at its width alone, by one search or by as many as the words say
+-- `route` searches at its width alone, by one search, which keeps all clauses where the words say
+-- so, or by as many as they say, which do
 abbrev pub route_search : RouteAsked → Search
 route_search job = record {
   files = job.files;
   first = job.search.width;
   last = job.search.width;
   method = job.search.method;
-  ask = route_ask job;
+  ask = asks_to_keep (is_some job.members || job.search.keep) job.search;
   members = option_map_or (λ members. members.count) job.members 1;
   trims = false;
 }
@@ -73,7 +70,7 @@ sweep_search job = record {
 
 -- `trial` searches as `sweep` does, over the files that the generated problem would be written to
 abbrev pub sweep_of : TrialAsked → SweepAsked
-sweep_of job = record { files = generated_names job.search.prefix; search = job.search }
+sweep_of job = record { files = names_behind job.search.prefix; search = job.search }
 
 -- `core` searches at its width alone and keeps all clauses
 abbrev pub core_search : CoreAsked → Search
@@ -103,7 +100,8 @@ search_asked job = None
 
 -- the files that a job reads its problem from: those of the desk, or else those that it makes
 abbrev pub files_of : JobAsked → (desk : Option FileMap) → Option FileMap
-files_of (Tries job) desk = (generated_desk job.recipe job.search.prefix).files
+files_of (Tries job) desk =
+    with_files (generated_files job.recipe job.search.prefix) (Some empty)
 files_of job desk = desk
 
 -- how many clauses the searches that take turns at this width hold together, each all of them
@@ -116,31 +114,11 @@ lower_widths search width = range_with_len search.first (width - search.first)
 
 -- the global route with the tracks that were found
 abbrev pub route_file : Search → RouteText → JobFile
-route_file search found =
-    record { slot = File Route; name = route_name search.ask; text = printed found }
+route_file search found = job_file (File Route) (route_name search.ask) (printed found)
 
 -- the clauses at a width, and then a log
 abbrev pub proof_files : Search → RoutingProblem → (width : ℕ) → List Step → List JobFile
 proof_files search p width log =
-    record {
-      slot = File (Clauses width);
-      name = cnf_name search.ask width;
-      text = cnf_text (clauses_by search.method width p);
-    }
-    ∷ record {
-      slot = File (Log width);
-      name = lrat_name search.ask width;
-      text = log_text log;
-    }
-    ∷ []
-
--- both texts of a refutation read back; where counting comes first, the log does unless numbers
--- alone forbid the width
-pub record ReadBackIf (counts : Bool) (forbidden : Type 0) (cnf : Cnf) (log : List Step)
-    : Type 0 where
-  pub clauses : ReadsCnf (cnf_text cnf) cnf
-  pub steps : LogReadsBackIf counts forbidden cnf log
-
--- both texts of a search read back
-abbrev pub ReadBack : Cnf → List Step → Type 0
-ReadBack cnf log = ReadBackIf false ⊥ cnf log
+    job_file (File (Clauses width)) (cnf_name search.ask width)
+    (cnf_text (clauses_by search.method width p))
+    ∷ job_file (File (Log width)) (lrat_name search.ask width) (log_text log) ∷ []

@@ -24,16 +24,13 @@ pub record IsEncoderOf (method : Method) (p : RoutingProblem) (chosen : Chosen) 
   pub is : chosen.method ≡ method
   pub row : method ≡ Ordered → chosen.order.row.items ≡ crowd p
 
--- memory was short for the crowd, where tracks are to be kept in its order
-abbrev pub IsUnprepared : Method → Outcome → Type 0
-IsUnprepared method outcome = (method ≡ Ordered) × (outcome ≡ OutOfMemory)
-
--- nothing was written, since memory was short before the work began; or this is what it leaves
+-- nothing was written, since memory was short for the crowd in whose order tracks are to be kept;
+-- or this is what the work leaves
 abbrev pub LeavesPrepared : Method
     → (RoutingProblem → (before now : ShelfState) → Outcome → Type 0)
     → RoutingProblem → (before now : ShelfState) → Outcome → Type 0
 LeavesPrepared method works p before now outcome =
-    (IsUnprepared method outcome × (now ≡ before)) ⊎ works p before now outcome
+    (((method ≡ Ordered) × (outcome ≡ OutOfMemory)) × (now ≡ before)) ⊎ works p before now outcome
 
 -- the method suits the problem at a width: where tracks are pinned, all of them are alike there,
 -- and where they are kept in order, their groups may change places

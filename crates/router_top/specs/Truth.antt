@@ -12,20 +12,15 @@ use Rattle.router_top.specs.Method.{HasNone, HasOne, clauses_by}
 use Rattle.router_top.specs.Report.{GivesNone}
 use Rattle.router_top.specs.Search.{Search, clauses_held, core_search, route_search, sweep_of, sweep_search}
 use Rattle.router_top.specs.Suited.{IsTrueOfSuited}
-use Rattle.router_top.specs.Subject.{DeskState, FileMap, ShelfState, FileNames, Poses, IsHalted, RoutingProblem, HasFew, Cnf, job_of, Blames, Checks, EncodeAsked, Encodes, Generates, JobAsked, RecipeAsked, Routes, Sweeps, Tries, Verifies, Word, Outcome, Routed, Unroutable, Undecided, Done, Limit, Usage, OutOfMemory}
+use Rattle.router_top.specs.Subject.{DeskState, FileMap, ShelfState, FileNames, Poses, IsHalted, RoutingProblem, HasFew, job_of, Blames, Checks, EncodeAsked, Encodes, Generates, JobAsked, Routes, Sweeps, Tries, Verifies, Word, Outcome, Routed, Unroutable, Undecided, Done, Limit, Usage, OutOfMemory}
+use Rattle.router_top.specs.declared.size_cause.SizeCause.{SizeCause}
 
--- the formula has more clauses than may be built, and the outcome has their number; or it has not,
--- and this is true
-abbrev pub IsTrueOfClauses : Cnf → (says : Type 0) → Outcome → Type 0
-IsTrueOfClauses formula says outcome =
-    ((CLAUSE_LIMIT < length formula.clauses) × (outcome ≡ Limit None (size_code FormulaClauses) (length formula.clauses)))
-    ⊎ (HasFew formula × says)
-
--- the searches that take turns hold more clauses together than may be built, and the outcome has
--- that number; or they do not, and this is true
-abbrev pub IsTrueOfTurns : (held : ℕ) → (says : Type 0) → Outcome → Type 0
-IsTrueOfTurns held says outcome =
-    ((CLAUSE_LIMIT < held) × (outcome ≡ Limit None (size_code ClausesOfTurns) held)) ⊎ ((held ≤ CLAUSE_LIMIT) × says)
+-- so many clauses are more than may be built, as this cause says, and the outcome has their number;
+-- or they are not, and this is true
+abbrev pub IsTrueOfCount : SizeCause → (count : ℕ) → (says : Type 0) → Outcome → Type 0
+IsTrueOfCount cause count says outcome =
+    ((CLAUSE_LIMIT < count) × (outcome ≡ Limit None (size_code cause) count))
+    ⊎ ((count ≤ CLAUSE_LIMIT) × says)
 
 -- the search comes to this width: each lower one that it tries has few enough clauses, and no legal
 -- routing
@@ -47,8 +42,9 @@ IsTrueAt search p width outcome =
 abbrev pub IsTrueOfSearch : Search → RoutingProblem → Outcome → Type 0
 IsTrueOfSearch search p outcome =
     (width : ℕ) × IsReached search p width
-    × IsTrueOfClauses (clauses_by search.method width p)
-    (IsTrueOfTurns (clauses_held search width p) (IsTrueAt search p width outcome) outcome) outcome
+    × IsTrueOfCount FormulaClauses (length (clauses_by search.method width p).clauses)
+    (IsTrueOfCount ClausesOfTurns (clauses_held search width p) (IsTrueAt search p width outcome)
+    outcome) outcome
 
 -- the method does not suit the problem at each width of the search, and the outcome says so; or it
 -- does, and the outcome is true of the search
@@ -62,7 +58,8 @@ IsTrueOfSuitedSearch search p outcome =
 abbrev pub IsTrueOfEncoding : EncodeAsked → RoutingProblem → Outcome → Type 0
 IsTrueOfEncoding job p outcome =
     IsTrueOfSuited job.method job.width job.width p
-    (IsTrueOfClauses (clauses_by job.method job.width p) (outcome ≡ Done) outcome) outcome
+    (IsTrueOfCount FormulaClauses (length (clauses_by job.method job.width p).clauses)
+    (outcome ≡ Done) outcome) outcome
 
 -- the four files give no problem, and the outcome says why; or they pose one, of which it is true
 abbrev pub IsTrueOfWork : FileNames → (RoutingProblem → Outcome → Type 0) → Option FileMap
@@ -70,11 +67,6 @@ abbrev pub IsTrueOfWork : FileNames → (RoutingProblem → Outcome → Type 0) 
 IsTrueOfWork names says files outcome =
     GivesNone (IsHalted files) files names outcome
     ⊎ ((p : RoutingProblem) × Poses files names p × says p outcome)
-
--- there are more nets than blocks to drive them, and the outcome has their number; or there are
--- not, and this is true
-abbrev pub IsTrueOfRecipe : RecipeAsked → (says : Type 0) → Outcome → Type 0
-IsTrueOfRecipe recipe says outcome = IsTooMany recipe outcome ⊎ (HasRoom recipe × says)
 
 -- what an outcome says of the files of each job
 abbrev pub IsTrueOfJob : JobAsked → Option FileMap → Outcome → Type 0
@@ -88,7 +80,8 @@ IsTrueOfJob (Blames job) files outcome =
     IsTrueOfWork job.files (IsTrueOfSearch (core_search job)) files outcome
 IsTrueOfJob (Checks job) files outcome = ChecksTo (IsHalted files) files job outcome
 IsTrueOfJob (Verifies job) files outcome = VerifiesTo (IsHalted files) files job outcome
-IsTrueOfJob (Generates job) files outcome = IsTrueOfRecipe job.recipe (outcome ≡ Done) outcome
+IsTrueOfJob (Generates job) files outcome =
+    IsTooMany job.recipe outcome ⊎ (HasRoom job.recipe × (outcome ≡ Done))
 IsTrueOfJob (Tries job) files outcome =
     IsTooMany job.recipe outcome ⊎ IsTooLarge job.recipe outcome
     ⊎ ((p : RoutingProblem) × Makes job.recipe p

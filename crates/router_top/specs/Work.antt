@@ -23,7 +23,7 @@ use Rattle.router_top.specs.Report.{climbed_outcome, found_outcome, written_outc
 use Rattle.router_top.specs.SizeCauses.{size_code}
 use Rattle.router_top.specs.declared.size_cause.SizeCause.TheVariants.{ClausesOfTurns}
 use Rattle.router_top.specs.Search.{Search, clauses_held, route_search, sweep_search, sweep_of}
-use Rattle.router_top.specs.Written.{JobFile}
+use Rattle.router_top.specs.Written.{JobFile, job_file}
 use Rattle.router_top.specs.Subject.{Bytes, ShelfState, FailsToSay, after_say, RoutingProblem, HasFew, Cnf, EncodeAsked, RouteAsked, SweepAsked, TrialAsked, Method, Outcome, Limit, WriteFault, File, Said}
 
 -- what a search finds at a width of its problem, and what is written of it
@@ -87,11 +87,8 @@ clauses_name job = job.prefix ++ codes ".cnf"
 
 -- the file of the clauses of the problem
 abbrev pub clauses_file : EncodeAsked → RoutingProblem → JobFile
-clauses_file job p = record {
-  slot = File (Clauses job.width);
-  name = clauses_name job;
-  text = cnf_text (clauses_by job.method job.width p);
-}
+clauses_file job p = job_file (File (Clauses job.width)) (clauses_name job)
+    (cnf_text (clauses_by job.method job.width p))
 
 -- the clauses were written, and read back; or they were not written whole; or nothing was written,
 -- since there are too many or memory is short

@@ -13,6 +13,10 @@ pub record JobFile : Type 0 where
   pub name : Bytes
   pub text : Bytes
 
+-- one by its slot, its name and its text
+abbrev pub job_file : Slot → (name text : Bytes) → JobFile
+job_file slot name text = record { slot = slot; name = name; text = text }
+
 -- these files with one more
 abbrev pub with_file : JobFile → Option FileMap → Option FileMap
 with_file file files = option_map (λ fs. insert fs file.name file.text) files

@@ -1,8 +1,9 @@
 //! The command `gen`: the four files of a generated problem.
 ghost use Rattle.std.specs.Prelude.{◌≡◌, IfErr, IfOk, OnOk};
+ghost use Rattle.fpga_problem.specs.Files.{names_behind};
 ghost use Rattle.router_words.specs.Job.{gen_said, recipe_said};
 ghost use Rattle.router_top.specs.Written.{WritesFiles};
-ghost use Rattle.router_top.specs.Generated.{HasRoom, MakesNone, generated_names, problem_files, texts_of};
+ghost use Rattle.router_top.specs.Generated.{HasRoom, MakesNone, problem_files, texts_of};
 ghost use Rattle.router_top.specs.Run.{WritesGenerated};
 
 use crate::file_name::file_name;
@@ -58,7 +59,7 @@ impl Model for ProblemNames {
 impl ProblemNames {
     // The names behind a prefix.
     fn behind(alloc: Global, prefix: &str) -> Result<ProblemNames, AllocError>
-        ensures { IfOk result (λ names. names ≡ generated_names prefix.now) }
+        ensures { IfOk result (λ names. names ≡ names_behind prefix.now) }
     {
         Ok(ProblemNames {
             architecture: file_name(alloc, prefix, ".arch")?,

@@ -14,10 +14,12 @@ use Rattle.fpga_bounds.proofs.SlotsOfLemmas.{any-first_seen, channel_slots, chan
 use Rattle.fpga_text.specs.FirstFault.{Faults, IsFirst}
 use Rattle.fpga_text.specs.declared.fault.TextFault.{TextFault}
 use Rattle.fpga_text.specs.declared.fault.TextFault.TheVariants.{Bad, Limit}
+use Rattle.fpga_types.proofs.FitLemmas.{Place, place-in, splits-whole}
 use Rattle.fpga_types.specs.Fabric.{same_cell}
 use Rattle.fpga_types.specs.Fit.{RouteLine, comes_again, context_of, is_out_of_order, leaps, line_number, net_lines, route_lines, same_elem, same_place, slots_past, splits, starts_loose}
 use Rattle.fpga_types.specs.Fits.{device_of, end_fault, is_other_pin, is_other_sink, is_other_source, is_pin_apart, is_repeated, is_sink_not_once, is_unknown, lacks_net, net_line_fault, problem_context, problem_faults, same_size}
 use Rattle.fpga_types.specs.Kinds.{is_channel, same_kind, same_label}
+use Rattle.fpga_types.specs.Problem.{RoutingProblem}
 use Rattle.fpga_types.specs.Slots.{channel_at, elem_cell, elem_slot, first_seen, same_slot, slots, slots_of}
 use Rattle.fpga_types.specs.declared.grid.Axis.{Axis}
 use Rattle.fpga_types.specs.declared.grid.Axis.TheVariants.{X, Y}
@@ -29,10 +31,9 @@ use Rattle.fpga_types.specs.declared.route.ElemKind.{ElemKind}
 use Rattle.fpga_types.specs.declared.route.ElemKind.TheVariants.{Source, Opin, ChanX, ChanY, Ipin, Sink}
 use Rattle.fpga_types.specs.declared.route.Label.TheVariants.{Track}
 use Rattle.fpga_types.specs.declared.route.RouteNet.{RouteNet}
+use Rattle.fpga_types.specs.declared.route.RouteText.{RouteText}
 use Rattle.list_laws.proofs.Members.{In, In-append_cases, In-append_left, from_In-flat_map, from_In-map}
 use Rattle.list_laws.proofs.Places.{some_is}
-use Rattle.route_gen.proofs.WalkLemmas.{Place, place-in}
-use Rattle.router_top.specs.Subject.{RoutingProblem, RouteText}
 
 -- each channel line has a track
 abbrev pub AreTracks : List Elem → Type 0
@@ -288,17 +289,6 @@ module _ (earlier : List RouteNet) (net : RouteNet) (later : List RouteNet)
       cell-of Sink h = absurd (false≢true h)
 
 -- ---- the line that is refused
-
-splits-whole : {T : Type 0} (xs : List T) (s : Place T) → In (splits xs) s →
-    s.0 ++ s.1 ∷ s.2 ≡ xs
-splits-whole [] s i = absurd i
-splits-whole {T} (x ∷ xs) s i = elim i [
-  | inl first ↦ subst (λ (t : Place T). t.0 ++ t.1 ∷ t.2 ≡ x ∷ xs) first refl
-  | inr later ↦
-      let r = from_In-map (λ (t : Place T). (x ∷ t.0, t.1, t.2)) (splits xs) s later in
-      subst (λ (t : Place T). t.0 ++ t.1 ∷ t.2 ≡ x ∷ xs) r.2
-      (ap (λ (l : List T). x ∷ l) (splits-whole xs r.0 r.1))
-]
 
 first-in : (faults : Faults) (fault : TextFault) → IsFirst faults fault → In faults (Some fault)
 first-in [] fault h = absurd (let clash : None ≡ Some fault = h in cc)
