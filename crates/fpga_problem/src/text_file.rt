@@ -7,7 +7,7 @@ use fpga_text::TextFault;
 use std::fmt;
 
 /// A file that a problem is read from.
-#[derive(Clone, Copy, Debug, PartialEq, Eq)]
+#[derive(Clone, Copy, Debug)]
 pub enum TextFile {
     Architecture,
     Netlist,

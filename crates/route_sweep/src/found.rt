@@ -6,7 +6,7 @@ use std::fmt;
 use thiserror::Error;
 
 /// A file that a search writes.
-#[derive(Clone, Copy, Debug, PartialEq, Eq)]
+#[derive(Clone, Copy, Debug)]
 pub enum FileSlot {
     /// The routing.
     Route,

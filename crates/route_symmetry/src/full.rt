@@ -8,7 +8,7 @@ use fpga_fabric::box_count;
 use fpga_types::{Pattern, WIDTH_LIMIT};
 
 /// What keeps the tracks of a problem from being alike.
-#[derive(Clone, Copy, Debug, PartialEq, Eq)]
+#[derive(Clone, Copy)]
 pub enum Asymmetry {
     /// The switch blocks are not subset ones.
     Pattern,

@@ -22,7 +22,7 @@ use std::alloc::{AllocError, Global};
 pub(crate) const LIMIT: u64 = 1 << 26;
 
 /// What is to be named.
-#[derive(Clone, Copy, Debug)]
+#[derive(Clone, Copy)]
 pub(crate) enum Sought {
     /// The keywords that have no line.
     Keywords,

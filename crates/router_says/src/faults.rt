@@ -22,7 +22,7 @@ use std::alloc::AllocError;
 use std::io::ErrorKind;
 
 /// What kind of error the system gave last, where it gave one.
-#[derive(Clone, Copy, Debug)]
+#[derive(Clone, Copy)]
 pub struct SystemErrors {
     /// On a file that was read.
     pub reading: Option<ErrorKind>,

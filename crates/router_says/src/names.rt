@@ -91,7 +91,7 @@ fn name_of_five<'a>(job: VerifyJob<'a>, file: TextFile) -> Option<&'a str>
 }
 
 /// What a job begins the names of the files with that it writes.
-#[derive(Clone, Copy, Debug)]
+#[derive(Clone, Copy)]
 pub(crate) enum Written<'a> {
     /// One set of files.
     One(&'a str),

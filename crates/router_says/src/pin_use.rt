@@ -11,7 +11,7 @@ use fpga_types::PinSpec;
 use std::alloc::{AllocError, Global};
 
 /// A net on a pin: the pin by number, what it is, and the net by name.
-#[derive(Clone, Copy, Debug)]
+#[derive(Clone, Copy)]
 pub(crate) struct PinUse<'a> {
     number: usize,
     pin: PinSpec,

@@ -64,7 +64,7 @@ use std::alloc::{AllocError, Global};
 pub(crate) const NAME_LIMIT: usize = 10;
 
 /// Which options may help that were not given.
-#[derive(Clone, Copy, Debug)]
+#[derive(Clone, Copy)]
 pub(crate) struct Hints {
     /// Counting.
     pub(crate) count: bool,

@@ -14,7 +14,7 @@ ghost use Rattle.router_words.specs.Word.{words_of};
 use std::alloc::AllocError;
 
 /// A command, by its first word.
-#[derive(Clone, Copy, Debug)]
+#[derive(Clone, Copy)]
 pub(crate) enum Command {
     Route,
     Sweep,

@@ -10,7 +10,7 @@ use itoa::Buffer;
 use route_symmetry::Asymmetry;
 
 /// What keeps a method from saying the routings of a problem at a width.
-#[derive(Clone, Copy, Debug, PartialEq, Eq)]
+#[derive(Clone, Copy)]
 pub enum Obstacle {
     /// Tracks were to be pinned, and this keeps them from being all alike.
     Pins(Asymmetry),
@@ -19,7 +19,7 @@ pub enum Obstacle {
 }
 
 /// What a run comes to.
-#[derive(Clone, Copy, Debug, PartialEq, Eq)]
+#[derive(Clone, Copy)]
 pub enum Outcome {
     /// A legal routing of this width was written.
     Routed {

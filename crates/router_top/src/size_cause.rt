@@ -5,7 +5,7 @@ ghost use Rattle.router_top.specs.SizeCauses.{size_code};
 use crate::text_file::TextFile;
 
 /// What passes its limit, where no line of a text does.
-#[derive(Clone, Copy, Debug, PartialEq, Eq)]
+#[derive(Clone, Copy)]
 pub enum SizeCause {
     /// The clauses of a problem.
     FormulaClauses,

@@ -5,7 +5,7 @@ ghost use Rattle.router_top.specs.Report.{number_of};
 use route_sweep::FileSlot;
 
 /// What a run writes.
-#[derive(Clone, Copy, Debug, PartialEq, Eq)]
+#[derive(Clone, Copy)]
 pub enum Slot {
     /// The bytes said.
     Said,

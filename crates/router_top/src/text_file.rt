@@ -9,7 +9,7 @@ use fpga_problem::{TEXT_BYTES, TextFile as ProblemFile};
 pub const PROOF_BYTES: u64 = 2_147_483_648;
 
 /// A file that a command reads.
-#[derive(Clone, Copy, Debug, PartialEq, Eq)]
+#[derive(Clone, Copy)]
 pub enum TextFile {
     /// A file that a problem is read from.
     Problem(ProblemFile),
