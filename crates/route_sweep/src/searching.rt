@@ -16,7 +16,8 @@ use fpga_bounds::PlacedProblem;
 use fpga_types::WIDTH_LIMIT;
 use route_encode::Encoder;
 use sat_clause::{Formula, Log};
-use sat_core::{Answer, solve};
+use sat_core::Answer;
+use sat_merge::solve_merged;
 use std::alloc::{AllocError, Global};
 
 /// Who searches through the clauses of a problem: one search, or several.
@@ -48,7 +49,7 @@ impl Searcher for Alone {
         ask: &Ask<'_>,
         log: &mut Log,
     ) -> Result<Answer, AllocError> {
-        let Ok(answer) = solve(alloc, formula, ask.budget, ask.keep, log) else {
+        let Ok(answer) = solve_merged(alloc, formula, ask.budget, ask.keep, log) else {
             return Err(AllocError);
         };
         Ok(answer)

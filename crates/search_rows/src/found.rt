@@ -4,6 +4,7 @@ ghost use Rattle.sat_turns.specs.Schedule.{IsSchedule};
 
 use sat_clause::{Formula, Log};
 use sat_core::{Answer, solve};
+use sat_merge::solve_merged;
 use sat_turns::{Schedule, TurnsEnd, run_turns};
 use std::alloc::{AllocError, Global};
 
@@ -14,6 +15,8 @@ pub(crate) enum How {
     Forgetting,
     /// By one search, which keeps all.
     Keeping,
+    /// By one search, over the leaders where most variables follow.
+    Merging,
     /// By so many searches, of which this seed says who has the next turn.
     Drawn { members: u64, seed: u64 },
     /// By two searches that take turns, the second first.
@@ -32,6 +35,16 @@ fn alone(
 {
     let mut log = Log::new(alloc);
     let answer = solve(alloc, formula, budget, keep, &mut log)?;
+    Ok((answer, log))
+}
+
+// What one search finds that may go over leaders.
+fn merging(alloc: Global, formula: &Formula, budget: u64) -> Result<(Answer, Log), AllocError>
+    requires some { 1 ≤ budget }
+    requires few { length formula.now.cnf.clauses + budget ≤ 100000 }
+{
+    let mut log = Log::new(alloc);
+    let answer = solve_merged(alloc, formula, budget, false, &mut log)?;
     Ok((answer, log))
 }
 
@@ -74,6 +87,7 @@ pub(crate) fn found(
     match how {
         How::Forgetting => alone(alloc, formula, budget, false).ok(),
         How::Keeping => alone(alloc, formula, budget, true).ok(),
+        How::Merging => merging(alloc, formula, budget).ok(),
         How::Drawn { members, seed } => {
             if members < 1 || members > 8 || seed >= 1 << 31 {
                 return None;

@@ -1,0 +1,5 @@
+pub mod LeaderLaws
+pub mod MergedLaws
+pub mod NeededLaws
+pub mod RewrittenLaws
+pub mod SearchedLaws

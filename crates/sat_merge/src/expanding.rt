@@ -1,0 +1,204 @@
+//! The hints of a step over the leaders, made to hints over the formula.
+
+ghost use Rattle.std.specs.Prelude.{◌≡◌, ◌≤◌, All, IfSome};
+ghost use Rattle.sat_clause.specs.Literal.{IsWithin};
+
+use crate::leaders::Leaders;
+use sat_check::{FalseSet, LiveClauses};
+use sat_clause::{FalseLiterals, LITERAL_LIMIT, Lit};
+use std::alloc::{AllocError, Global};
+
+/// Whether the variable has this value: the literal that says the opposite is false.
+fn has_value(falses: &FalseSet, variable: u32, value: bool) -> bool
+    requires { falses.now.size ≤ LITERAL_LIMIT }
+{
+    if variable == 0 || variable > falses.size() {
+        return false;
+    }
+    let l = Lit::positive(variable);
+    falses.is_false(if value { l.negation() } else { l })
+}
+
+/// Gives the variable this value.
+fn set_value(falses: &mut FalseSet, variable: u32, value: bool) -> Result<(), AllocError>
+    requires { falses.old.size ≤ LITERAL_LIMIT }
+    ensures { falses.new.size ≡ falses.old.size }
+{
+    if variable == 0 || variable > falses.size() {
+        return Ok(());
+    }
+    let l = Lit::positive(variable);
+    falses.put(if value { l.negation() } else { l })
+}
+
+/// The hints that make a follower true whose leader is true, from the leader on.
+fn go_down(
+    leaders: &Leaders,
+    variable: u32,
+    falses: &mut FalseSet,
+    path: &mut Vec<u32>,
+    hints: &mut Vec<i64>,
+) -> Result<(), AllocError>
+    requires { falses.old.size ≤ LITERAL_LIMIT }
+    ensures { falses.new.size ≡ falses.old.size }
+{
+    path.clear();
+    let mut at = variable;
+    let steps = match leaders.get(variable) {
+        Some(follower) => follower.steps,
+        None => 0,
+    };
+    for _ in 0..steps {
+        if has_value(falses, at, true) {
+            break;
+        }
+        let Some(follower) = leaders.get(at) else {
+            break;
+        };
+        path.push(at)?;
+        at = follower.before;
+    }
+    while let Some(next) = path.pop() {
+        let Some(follower) = leaders.get(next) else {
+            break;
+        };
+        hints.push(follower.by as i64)?;
+        set_value(falses, next, true)?;
+    }
+    Ok(())
+}
+
+/// The hints that make what a false follower follows from false, up to its leader.
+fn go_up(
+    leaders: &Leaders,
+    variable: u32,
+    falses: &mut FalseSet,
+    hints: &mut Vec<i64>,
+) -> Result<(), AllocError>
+    requires { falses.old.size ≤ LITERAL_LIMIT }
+    ensures { falses.new.size ≡ falses.old.size }
+{
+    let mut at = variable;
+    let steps = match leaders.get(variable) {
+        Some(follower) => follower.steps,
+        None => 0,
+    };
+    for _ in 0..steps {
+        let Some(follower) = leaders.get(at) else {
+            break;
+        };
+        at = follower.before;
+        if has_value(falses, at, false) {
+            break;
+        }
+        hints.push(follower.by as i64)?;
+        set_value(falses, at, false)?;
+    }
+    Ok(())
+}
+
+/// Makes the negation of a follower false where its leader is true.
+fn reach(
+    leaders: &Leaders,
+    l: Lit,
+    falses: &mut FalseSet,
+    path: &mut Vec<u32>,
+    hints: &mut Vec<i64>,
+) -> Result<(), AllocError>
+    requires { falses.old.size ≤ LITERAL_LIMIT }
+    ensures { falses.new.size ≡ falses.old.size }
+{
+    let variable = l.variable();
+    if l.is_positive() || leaders.leads(variable) || has_value(falses, variable, true) {
+        return Ok(());
+    }
+    let Some(leader) = leaders.leader(variable) else {
+        return Ok(());
+    };
+    if has_value(falses, leader, true) {
+        return go_down(leaders, variable, falses, path, hints);
+    }
+    Ok(())
+}
+
+/// The first literal of a clause that is not false.
+fn open_literal(falses: &FalseSet, clause: &[Lit]) -> Option<Lit>
+    requires { All (IsWithin falses.now.size) clause.now }
+    ensures { IfSome result (IsWithin falses.now.size) }
+{
+    for l in clause {
+        if !falses.is_false(*l) {
+            return Some(*l);
+        }
+    }
+    None
+}
+
+/// Makes the first literal of a clause that is not false true, and what follows from that.
+fn make_open_true(
+    leaders: &Leaders,
+    clause: &[Lit],
+    falses: &mut FalseSet,
+    hints: &mut Vec<i64>,
+) -> Result<(), AllocError>
+    requires small { falses.old.size ≤ LITERAL_LIMIT }
+    requires within { All (IsWithin falses.old.size) clause.now }
+    ensures { falses.new.size ≡ falses.old.size }
+{
+    let Some(l) = open_literal(falses, clause) else {
+        return Ok(());
+    };
+    falses.put(l.negation())?;
+    if l.is_positive() {
+        return Ok(());
+    }
+    go_up(leaders, l.variable(), falses, hints)
+}
+
+/// One hint more, behind those that make the negations of followers in its clause false.
+fn expand_hint(
+    leaders: &Leaders,
+    clause: &[Lit],
+    hint: i64,
+    falses: &mut FalseSet,
+    path: &mut Vec<u32>,
+    hints: &mut Vec<i64>,
+) -> Result<(), AllocError>
+    requires small { falses.old.size ≤ LITERAL_LIMIT }
+    requires within { All (IsWithin falses.old.size) clause.now }
+    ensures { falses.new.size ≡ falses.old.size }
+{
+    for l in clause {
+        reach(leaders, *l, falses, path, hints)?;
+    }
+    hints.push(hint)?;
+    make_open_true(leaders, clause, falses, hints)
+}
+
+/// The hints over the formula that lead where these lead over the leaders, from the literals of a
+/// clause as the false ones. Nothing is promised of them: they are judged behind.
+pub(crate) fn expand(
+    leaders: &Leaders,
+    live: &LiveClauses<'_>,
+    clause: &[Lit],
+    old: &[i64],
+    falses: &mut FalseSet,
+    path: &mut Vec<u32>,
+    hints: &mut Vec<i64>,
+) -> Result<(), AllocError>
+    requires small { falses.old.size ≤ LITERAL_LIMIT }
+    requires size { falses.old.size ≡ live.now.vars }
+    requires within { All (IsWithin falses.old.size) clause.now }
+    ensures { falses.new.size ≡ falses.old.size }
+{
+    falses.clear();
+    falses.put_all(clause)?;
+    hints.clear();
+    for hint in old {
+        let Some(named) = live.named(*hint) else {
+            continue;
+        };
+        expand_hint(leaders, named, *hint, falses, path, hints)?;
+    }
+    Ok(())
+}

@@ -1,0 +1,151 @@
+//! The log of a search over leaders, made to one over the formula.
+
+ghost use Rattle.std.specs.Prelude.{◌≡◌, ◌+◌, ◌∷◌, ◌++◌, [], Bool, IfOk, IsTrue, All, List, length};
+ghost use Rattle.sat_check.specs.Verdict.{step_of};
+ghost use Rattle.sat_clause.specs.Formula.{Cnf};
+ghost use Rattle.sat_clause.specs.Literal.{IsLiteral};
+ghost use Rattle.sat_clause.specs.Step.{Step, Added, Erased};
+ghost use Rattle.sat_core.specs.Stands.{IsAbove};
+ghost use Rattle.sat_merge.specs.Leaders.{keeps};
+ghost use Rattle.sat_merge.specs.Rewriting.{IsRewriting};
+ghost use Rattle.sat_merge.specs.Rewritten.{IsRewritten};
+
+use crate::hints::HintWriter;
+use crate::leaders::Leaders;
+use sat_check::LiveClauses;
+use sat_clause::{Formula, Lit, Log, StepView};
+use std::alloc::{AllocError, Global};
+
+/// Whether the number is an id above this one.
+fn is_above(id: i64, number: u32) -> bool
+    ensures { IsTrue result → IsAbove number id }
+{
+    id > number as i64
+}
+
+/// Whether all numbers are ids above this one.
+fn are_above(ids: &[i64], number: u32) -> bool
+    ensures { IsTrue result → All (IsAbove number) ids.now }
+{
+    for id in ids {
+        if !is_above(*id, number) {
+            return false;
+        }
+    }
+    true
+}
+
+/// Adds a clause to the log and to what is live, with hints over the formula, if they justify it.
+fn add(
+    leaders: &Leaders,
+    live: &mut LiveClauses<'_>,
+    writer: &mut HintWriter,
+    log: &mut Log,
+    id: u32,
+    clause: &[Lit],
+    hints: &[i64],
+) -> Result<bool, AllocError>
+    requires literals { All IsLiteral clause.now }
+    requires leaders { length leaders.now ≡ live.old.vars + 1 }
+    requires vars { writer.old.vars ≡ live.old.vars }
+    ensures live { live.new.vars ≡ live.old.vars }
+    ensures vars { writer.new.vars ≡ writer.old.vars }
+    ensures added { IfOk result (λ is. IsTrue is → (formula : Cnf) → (steps : List Step)
+        → IsRewriting (keeps leaders.now) formula steps live.old log.old.steps
+        → IsRewriting (keeps leaders.now) formula
+        (steps ++ Added id clause.now hints.now ∷ []) live.new log.new.steps) }
+{
+    if !leaders.are_kept(clause) {
+        return Ok(false);
+    }
+    if !writer.write(leaders, live, clause, hints)? {
+        return Ok(false);
+    }
+    let written = writer.hints();
+    log.reserve(1, (clause.len() + written.len()) as u64)?;
+    live.put(id, clause)?;
+    log.add(id, clause, written);
+    Ok(true)
+}
+
+/// Deletes clauses in the log and of what is live, if they are live and none is an input.
+fn erase(
+    live: &mut LiveClauses<'_>,
+    log: &mut Log,
+    inputs: u32,
+    id: u32,
+    ids: &[i64],
+) -> Result<bool, AllocError>
+    ensures live { live.new.vars ≡ live.old.vars }
+    ensures erased { IfOk result (λ is. IsTrue is → (formula : Cnf) → (steps : List Step)
+        → (keeps : Lit → Bool) → length formula.clauses ≡ inputs
+        → IsRewriting keeps formula steps live.old log.old.steps
+        → IsRewriting keeps formula (steps ++ Erased id ids.now ∷ []) live.new log.new.steps) }
+{
+    if !are_above(ids, inputs) {
+        return Ok(false);
+    }
+    log.reserve(1, ids.len() as u64)?;
+    if live.erase(ids).is_some() {
+        return Ok(false);
+    }
+    log.erase(id, ids);
+    Ok(true)
+}
+
+/// Takes one more step of the log of the search over leaders.
+fn take(
+    leaders: &Leaders,
+    live: &mut LiveClauses<'_>,
+    writer: &mut HintWriter,
+    log: &mut Log,
+    inputs: u32,
+    step: StepView<'_>,
+) -> Result<bool, AllocError>
+    requires literals { All IsLiteral step.lits.now }
+    requires leaders { length leaders.now ≡ live.old.vars + 1 }
+    requires vars { writer.old.vars ≡ live.old.vars }
+    ensures live { live.new.vars ≡ live.old.vars }
+    ensures vars { writer.new.vars ≡ writer.old.vars }
+    ensures taken { IfOk result (λ is. IsTrue is → (formula : Cnf) → (steps : List Step)
+        → length formula.clauses ≡ inputs
+        → IsRewriting (keeps leaders.now) formula steps live.old log.old.steps
+        → IsRewriting (keeps leaders.now) formula (steps ++ step_of step.entry ∷ []) live.new
+        log.new.steps) }
+{
+    if step.erase {
+        return erase(live, log, inputs, step.id, step.hints);
+    }
+    add(leaders, live, writer, log, step.id, step.lits, step.hints)
+}
+
+/// Makes the log of a search over leaders one over the formula: the same steps with other hints,
+/// each of which is judged. The log has no step before.
+pub(crate) fn rewrite(
+    alloc: Global,
+    formula: &Formula,
+    leaders: &Leaders,
+    steps: &Log,
+    log: &mut Log,
+) -> Result<bool, AllocError>
+    requires fresh { log.old.steps ≡ [] }
+    requires leaders { length leaders.now ≡ formula.now.cnf.vars + 1 }
+    ensures { IfOk result (λ is. IsTrue is
+        → IsRewritten (keeps leaders.now) formula.now.cnf steps.now.steps log.new.steps) }
+{
+    let mut live = LiveClauses::inputs(alloc, formula)?;
+    let mut writer = HintWriter::new(alloc, formula.vars())?;
+    for at in 0..steps.len() {
+        if !take(
+            leaders,
+            &mut live,
+            &mut writer,
+            log,
+            formula.len(),
+            steps.step(at),
+        )? {
+            return Ok(false);
+        }
+    }
+    Ok(true)
+}

@@ -1,0 +1,191 @@
+//! The search as a whole.
+
+ghost use Rattle.std.specs.Prelude.{◌≡◌, ◌+◌, ◌≤◌, ℕ, Bool, [], length, IfOk, IfSome, IsNone, IsTrue, Ok, OnErr, Vec};
+ghost use Rattle.std.specs.Global.{Global};
+ghost use Rattle.sat_clause.specs.Formula.{Cnf};
+ghost use Rattle.sat_clause.specs.Learned.{added_count, deletions};
+ghost use Rattle.sat_core.specs.declared.answer.Answer.TheVariants.{Model};
+ghost use Rattle.sat_core.specs.Answer.{IsAnswer, IsDecided, most_added};
+ghost use Rattle.sat_core.specs.SearchLog.{IsSearchLog};
+ghost use Rattle.sat_core.specs.Underway.{HasSearched};
+ghost use Rattle.sat_merge.specs.Leaders.{keeps};
+ghost use Rattle.sat_merge.specs.Rewritten.{IsMerged};
+
+use crate::leaders::Leaders;
+use crate::merged::merged;
+use crate::rewriting::rewrite;
+use sat_clause::{Formula, ID_LIMIT, Log, holds};
+use sat_core::{Answer, solve};
+use std::alloc::{AllocError, Global};
+
+/// The values of all variables: those of their leaders.
+fn spread(
+    alloc: Global,
+    formula: &Formula,
+    leaders: &Leaders,
+    values: &[bool],
+) -> Result<Vec<bool>, AllocError>
+    requires leaders { length leaders.now ≡ formula.now.cnf.vars + 1 }
+    requires values { length values.now ≡ formula.now.cnf.vars }
+    ensures { IfOk result (λ all. length all.items ≡ formula.now.cnf.vars) }
+{
+    let mut all = Vec::new(alloc);
+    for at in 0..formula.vars() {
+        let value = match leaders.leader(at + 1) {
+            Some(leader) => values[leader as usize - 1],
+            None => false,
+        };
+        all.push(value)?;
+    }
+    Ok(all)
+}
+
+/// The answer that values of the leaders are. `None` says that they do not serve for the formula.
+fn try_values(
+    alloc: Global,
+    formula: &Formula,
+    leaders: &Leaders,
+    values: &[bool],
+) -> Result<Option<Answer>, AllocError>
+    requires leaders { length leaders.now ≡ formula.now.cnf.vars + 1 }
+    requires values { length values.now ≡ formula.now.cnf.vars }
+    ensures searched { IfOk result (λ found. IfSome found (λ answer. (budget : ℕ) → (keep : Bool)
+        → HasSearched formula.now.cnf budget keep [] (Ok answer))) }
+    ensures decided { IfOk result (λ found. IfSome found IsDecided) }
+{
+    let all = spread(alloc, formula, leaders, values)?;
+    if !holds(&all, formula) {
+        return Ok(None);
+    }
+    Ok(Some(Answer::Model(all)))
+}
+
+/// The answer for the formula where one for the leaders is this. `None` says that its values do not
+/// serve for the formula, or its log has no form over it.
+fn take_answer(
+    alloc: Global,
+    formula: &Formula,
+    leaders: &Leaders,
+    steps: &Log,
+    answer: Answer,
+    log: &mut Log,
+) -> Result<Option<Answer>, AllocError>
+    requires leaders { length leaders.now ≡ formula.now.cnf.vars + 1 }
+    requires values { (values : Vec Bool Global) → answer ≡ Model values
+        → length values.items ≡ formula.now.cnf.vars }
+    requires fresh { log.old.steps ≡ [] }
+    ensures searched { IfOk result (λ found. IfSome found (λ now. (merged : Cnf) → (budget : ℕ)
+        → (keep : Bool) → IsMerged (keeps leaders.now) formula.now.cnf merged
+        → HasSearched merged budget keep steps.now.steps (Ok answer)
+        → HasSearched formula.now.cnf budget keep log.new.steps (Ok now))) }
+    ensures decided { IfOk result (λ found. IfSome found (λ now.
+        IsDecided answer → IsDecided now)) }
+{
+    if let Answer::Model(values) = &answer {
+        return try_values(alloc, formula, leaders, values);
+    }
+    if !rewrite(alloc, formula, leaders, steps, log)? {
+        return Ok(None);
+    }
+    Ok(Some(answer))
+}
+
+/// What a search over the leaders comes to, with a log over the formula. `None` says that it does
+/// not serve for that.
+fn search_leaders(
+    alloc: Global,
+    formula: &Formula,
+    leaders: &Leaders,
+    merged: &Formula,
+    budget: u64,
+    keep: bool,
+    log: &mut Log,
+) -> Result<Option<Answer>, AllocError>
+    requires leaders { length leaders.now ≡ formula.now.cnf.vars + 1 }
+    requires merged { IsMerged (keeps leaders.now) formula.now.cnf merged.now.cnf }
+    requires budget { 1 ≤ budget }
+    requires ids { length formula.now.cnf.clauses + budget ≤ ID_LIMIT }
+    requires fresh { log.old.steps ≡ [] }
+    ensures searched { IfOk result (λ found. IfSome found (λ answer.
+        HasSearched formula.now.cnf budget keep log.new.steps (Ok answer))) }
+    ensures decided { IfOk result (λ found. IfSome found (λ answer.
+        most_added keep formula.now.cnf.vars ≤ budget → IsDecided answer)) }
+{
+    let mut steps = Log::new(alloc);
+    let Ok(answer) = solve(alloc, merged, budget, keep, &mut steps) else {
+        return Err(AllocError);
+    };
+    take_answer(alloc, formula, leaders, &steps, answer, log)
+}
+
+/// The same search, where most variables follow from others. `None` says that they do not, or some
+/// clause has no form over the leaders, or the answer does not serve; the log has no step then.
+fn search_most(
+    alloc: Global,
+    formula: &Formula,
+    budget: u64,
+    keep: bool,
+    log: &mut Log,
+) -> Result<Option<Answer>, AllocError>
+    requires budget { 1 ≤ budget }
+    requires ids { length formula.now.cnf.clauses + budget ≤ ID_LIMIT }
+    requires fresh { log.old.steps ≡ [] }
+    ensures searched { IfOk result (λ found. IfSome found (λ answer.
+        HasSearched formula.now.cnf budget keep log.new.steps (Ok answer))) }
+    ensures decided { IfOk result (λ found. IfSome found (λ answer.
+        most_added keep formula.now.cnf.vars ≤ budget → IsDecided answer)) }
+    ensures none { IfOk result (λ found. IsNone found → log.new.steps ≡ []) }
+    ensures err { OnErr result (log.new.steps ≡ []) }
+{
+    let leaders = Leaders::of(alloc, formula)?;
+    if !leaders.are_most() {
+        return Ok(None);
+    }
+    let Some(merged) = merged(alloc, formula, &leaders)? else {
+        return Ok(None);
+    };
+    let mut tried = Log::new(alloc);
+    let Some(answer) = search_leaders(alloc, formula, &leaders, &merged, budget, keep, &mut tried)?
+    else {
+        return Ok(None);
+    };
+    *log = tried;
+    Ok(Some(answer))
+}
+
+/// Searches for values that satisfy a formula as [`solve`](sat_core::solve) does, and promises the
+/// same.
+///
+/// Where most variables follow from others by clauses of two literals, as those of a tree of wires
+/// follow from the ones of its first wire, it searches over those others alone, with the clauses of
+/// the rest made to clauses of theirs. The log is then made one over the formula: the same steps,
+/// whose hints lead through the clauses of two literals, each judged before it is added; and the
+/// values are tried on the formula. Where that fails, or some clause has no form over the others,
+/// the search is one through the formula itself.
+///
+/// # Errors
+/// Where memory is short. What the log has by then still follows.
+pub fn solve_merged(
+    alloc: Global,
+    formula: &Formula,
+    budget: u64,
+    keep: bool,
+    log: &mut Log,
+) -> Result<Answer, AllocError>
+    requires budget { 1 ≤ budget }
+    requires ids { length formula.now.cnf.clauses + budget ≤ ID_LIMIT }
+    requires fresh { log.old.steps ≡ [] }
+    ensures answer { IfOk result (IsAnswer formula.now.cnf budget log.new.steps) }
+    ensures logged { IsSearchLog formula.now.cnf log.new.steps }
+    ensures within { added_count log.new.steps ≤ budget }
+    ensures kept { IsTrue keep → deletions log.new.steps ≡ 0 }
+    ensures decided { most_added keep formula.now.cnf.vars ≤ budget → IfOk result IsDecided }
+{
+    let Ok(found) = search_most(alloc, formula, budget, keep, log) else {
+        return Err(AllocError);
+    };
+    if let Some(answer) = found {
+        return Ok(answer);
+    }
+    solve(alloc, formula, budget, keep, log)
+}
