@@ -35,7 +35,7 @@ def follow(clauses, true):
 
 
 def drawn_clause():
-    """The literals of a clause, the watched ones first."""
+    """The literals of a clause."""
     a = draw(VARS - 12) + 1
     b = a + draw(3) + 1
     c = b + draw(3) + 1
@@ -59,7 +59,7 @@ def call(clauses, levels):
             del levels[draw(len(levels) - 1) + 1:]
     elif kind <= 3:
         clause = drawn_clause()
-        if -clause[0] not in levels[-1] and -clause[1] not in levels[-1]:
+        if -clause[0] not in levels[-1] and -clause[-1] not in levels[-1]:
             clauses.append(clause)
             return True
     else:

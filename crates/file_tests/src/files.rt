@@ -102,9 +102,18 @@ fn is_refused<R: Files + Print>(alloc: Global, rt: &R, name: &str, reason: Error
         && write_error(rt, name, b"") == Some(reason)
 }
 
+// Whether the error that is told is that of the file which was read last.
+fn tells_the_last_error<R: Files>(alloc: Global, rt: &R) -> bool {
+    let mut desk = FileDesk::new(rt);
+    let _ = read_file(alloc, &mut desk, "no_folder/file", 100);
+    let _ = read_file(alloc, &mut desk, ".", 100);
+    desk.last_error() == Some(ErrorKind::IsADirectory)
+}
+
 // A folder is no file, and a file needs its folder.
 #[test]
 fn folders_are_refused(rt: HostRuntime) {
+    assert!(rt; tells_the_last_error(rt.alloc(), &rt));
     assert!(rt; is_refused(rt.alloc(), &rt, ".", ErrorKind::IsADirectory));
     assert!(rt; is_refused(rt.alloc(), &rt, "no_folder/file", ErrorKind::NotFound));
 }

@@ -73,11 +73,19 @@ fn an_id_that_comes_again(rt: HostRuntime) {
     assert!(rt; judged_with_an_id_twice(rt.alloc()) == Some(Verdict::Accepted));
 }
 
-/// A third variable is made up.
+/// A third variable is made up, and a clause behind it resolves with the one that does so.
+const MADE_UP: &[u8] = b"4 3 1 0 0\n5 -3 -1 0 -4 0\n5 d 4 0\n6 0 1 2 3 0";
+
+/// No plain log has a negative hint.
+#[test]
+fn groups_are_for_full_logs(rt: HostRuntime) {
+    assert!(rt; judged(rt.alloc(), MADE_UP).is_none());
+}
+
 #[test]
 fn logs_with_groups(rt: HostRuntime) {
     let cases: [(&[u8], Option<(u64, Cause)>); 2] = [
-        (b"4 3 1 0 0\n5 -3 -1 0 -4 0\n5 d 4 0\n6 0 1 2 3 0", None),
+        (MADE_UP, None),
         (
             b"4 3 1 0 0\n5 -3 2 0 -4 0",
             Some((2, Cause::NoConflictInGroup)),
