@@ -14,8 +14,8 @@ line_here at = line_at at.earlier.now at.net.now (
   drop (suc at.position) at.net.now.elems,
 )
 
--- the element stands at the position in its net, and the rest is of its line, but for how many slots
--- there are
+-- the element stands at the position in its net, and the rest is of its line, but for how many
+-- slots there are
 pub record IsElemAt (at : ElemAt) : Type 0 where
   pub nets : length at.earlier.now < NET_LIMIT
   pub position : at.position < 2 ^ 64 - 1

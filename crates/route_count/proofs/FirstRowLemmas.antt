@@ -44,7 +44,8 @@ module _ (row : List ℕ) (width : ℕ) where
   pub firsts-many : length firsts ≡ length row
   firsts-many = length-map row (λ s. s * width)
 
-  pub first-at : (place : ℕ) → place < length row → get_or firsts place 0 ≡ get_or row place 0 * width
+  pub first-at : (place : ℕ) → place < length row
+      → get_or firsts place 0 ≡ get_or row place 0 * width
   first-at place low = get_or-map (λ s. s * width) row place 0 0 low
 
   pub firsts-below : (r : RefutationState) (count : ℕ) → All (λ s. s < count) row
@@ -76,7 +77,8 @@ module _ (row : List ℕ) (width : ℕ) where
       let inside : higher < length row = omega (arith, low, size) in
       let one = first-at lower (omega (arith, order, inside)) in
       let two = first-at higher inside in
-      apart-either (get_or row lower 0) (get_or row higher 0) t u (differ lower higher 0 order inside)
+      apart-either (get_or row lower 0) (get_or row higher 0) t u
+      (differ lower higher 0 order inside)
       t_few u_few (sym (ap (λ (n : ℕ). n + t) one) ∙ e ∙ ap (λ (n : ℕ). n + u) two)
 
 -- one slot more

@@ -90,7 +90,8 @@ behind-other set y None z other h = h
 behind-other set y (Some hint) z other h = past-no set y z other h
 
 module _ (live : Live) (r q a b : ℕ) (lower higher : Option ℕ) (last : ℕ) (c : Clause)
-    (of_a : Leads live r a lower) (of_b : Leads live q b higher) (there : named live (pos last) ≡ Some c)
+    (of_a : Leads live r a lower) (of_b : Leads live q b higher)
+    (there : named live (pos last) ≡ Some c)
     (both : (set : List Lit) → is_among set (no a) ≡ true → is_among set (no b) ≡ true
     → AllFalse set c)
     (ra : (hint : ℕ) → lower ≡ Some hint → r ≢ a) (qa : q ≢ a) (rb : r ≢ b)

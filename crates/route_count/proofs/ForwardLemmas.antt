@@ -93,7 +93,8 @@ module _ (q : Slot → Bool) where
 
 -- ---- the slots so far are a front of all slots
 
-channels-more : (later nets : List RouteNet) → IsFront (channel_slots nets) (channel_slots (nets ++ later))
+channels-more : (later nets : List RouteNet)
+    → IsFront (channel_slots nets) (channel_slots (nets ++ later))
 channels-more [] nets = (
   [],
   ap channel_slots (append-nil nets) ∙ sym (append-nil (channel_slots nets)),
@@ -298,7 +299,8 @@ module _ (route : RouteText) (sound : IsSound route) (fit : IsFit route) (n : �
   sound-elem : (e : Elem) → In net.elems e → takes e.kind e.label ≡ true
   sound-elem e i =
       (In-all (IsSoundElem route.grid) net.elems e
-      (In-all (IsSoundNet route.grid) route.nets net sound.nets (get-In route.nets n net here)).elems
+      (In-all (IsSoundNet route.grid) route.nets net sound.nets
+      (get-In route.nets n net here)).elems
       i).label
 
   seen-again : (s : Slot) → In (channel_slots (earlier ++ first_lines net (suc i) ∷ [])) s

@@ -21,8 +21,8 @@ use Rattle.route_count.specs.declared.trees.Lead.{Lead}
 
 -- ---- the first step that leads to a slot
 
-pub none-lead : (steps : List RouteStep) (leads : List (Option Lead)) → All (λ lead. lead ≡ None) leads
-    → AreLeads steps (length steps) leads
+pub none-lead : (steps : List RouteStep) (leads : List (Option Lead))
+    → All (λ lead. lead ≡ None) leads → AreLeads steps (length steps) leads
 none-lead steps leads none s inside =
     subst (λ (o : Option Lead). IsLead steps (length steps) s o) (sym (none s None inside))
     (ap (find (leads_to s)) (all-dropped steps))

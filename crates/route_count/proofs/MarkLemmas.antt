@@ -62,7 +62,8 @@ module _ (found : List (Option Meeting)) (higher lower : ℕ) (m : Meeting) (pas
       → AreMarkedAt higher (lower + 1) found twice
   marked-more are k other few is = elim (cases_lt k lower) [
     | inl before ↦
-        (let was = are k other before is in (both-kept other.lower was.0, both-kept other.higher was.1))
+        (let was = are k other before is in
+        (both-kept other.lower was.0, both-kept other.higher was.1))
     | inr not_before ↦
         (let same : k ≡ lower = omega (arith, few, not_before) in
         let one : m ≡ other =

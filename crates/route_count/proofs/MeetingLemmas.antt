@@ -59,7 +59,8 @@ cell-meets p given number i j d before low =
     let at_b : get_or row j d ≡ b = get_or_default row j d 0 low in
     let in_a = rivals.within i first in
     let in_b = rivals.within j low in
-    let numbers : number_of_cell grid (slot_at all a).cell ≡ number_of_cell grid (slot_at all b).cell =
+    let numbers :
+    number_of_cell grid (slot_at all a).cell ≡ number_of_cell grid (slot_at all b).cell =
     ap (number_of_cell grid) (rivals.cells i j before low) in
     let nets : not ((slot_at all b).net == (slot_at all a).net) ≡ true =
     rw (differs (slot_at all b).net (slot_at all a).net
@@ -121,8 +122,8 @@ module _ (row : List ℕ) (places : List (Option ℕ)) (at : ℕ) (differ : AllP
           ∙ before.there k earlier
       | inr not_earlier ↦
           (let same : at ≡ k = omega (arith, few, not_earlier) in
-          subst (λ (m : ℕ). get_or (slice_set places (get_or row at 0) (Some at)) (get_or row m 0) None
-          ≡ Some m) same
+          subst (λ (m : ℕ). get_or (slice_set places (get_or row at 0) (Some at)) (get_or row m 0)
+          None ≡ Some m) same
           (get_or-set_same places (get_or row at 0) (Some at) None low))
     ];
     alone = λ s k room is. elim (cases-eq s (get_or row at 0)) [
@@ -235,7 +236,8 @@ module _ (grid : Size) (all : List Slot) (t : TreesState) (taken : List (Option 
     pub noted-free : get_or taken (number_at grid all s) None ≡ None
         → AreNoted grid all t taken row at (s + 1) found
     noted-free free lower low =
-        noted-skip (get_or row lower 0) s (meeting_at found lower at) (λ own. free) (noted lower low)
+        noted-skip (get_or row lower 0) s (meeting_at found lower at) (λ own. free)
+        (noted lower low)
 
     -- it is
     module _ (place higher : ℕ) (room : at * COUNTED_LIMIT + place < length found)
@@ -340,7 +342,8 @@ module _ (grid : Size) (all : List Slot) (t : TreesState)
       → AreTaken grid all t (get_or row at 0) (length all) taken → KeepsOthers at old new
       → AreNoted grid all t taken row at (length all) new → AreFound all t row at old
       → AreFound all t row (at + 1) new
-  found-more row at old new taken meets low few size is others noted found lower higher order before =
+  found-more row at old new taken meets low few size is others noted found lower higher
+      order before =
       elim (cases_lt higher at) [
         | inl earlier ↦
             (let was = found lower higher order earlier in

@@ -268,5 +268,6 @@ fn plain(alloc: Global, stop: Stop) -> Result<String, AllocError> {
 }
 
 const USAGE: &str = "The command does not take these words.\n\
-    Usage: gafkelam picture ARCH NET PLACE ROUTE WIDTH [NAMES | ROUTED --reach L], WIDTH and L from 1 to 64\n\
+    Usage: gafkelam picture ARCH NET PLACE ROUTE WIDTH [NAMES | ROUTED --reach L], \
+    WIDTH and L from 1 to 64\n\
     As in: gafkelam picture design.arch design.net design.place out.route 9 > out.svg";

@@ -25,7 +25,8 @@ module _ (ask : Asked) (forbidden : ℕ → Type 0) (formula : ℕ → Cnf)
 
   module _ (before now new : ShelfState) (width : ℕ) (result : Result Found Stop)
       (h : HasClimbed before now width)
-      (found : FindsAt ask width (forbidden width) (formula width) (good width) now new result) where
+      (found : FindsAt ask width (forbidden width) (formula width) (good width) now new
+      result) where
     -- one more width is refuted
     pub climb-goes-on : result ≡ Ok Refuted → HasClimbed before new (width + 1)
     climb-goes-on is = record {
@@ -34,8 +35,11 @@ module _ (ask : Asked) (forbidden : ℕ → Type 0) (formula : ℕ → Cnf)
       refuted = (
         now,
         h.refuted,
-        subst (λ (n : ℕ). FindsAt ask n (forbidden n) (formula n) (good n) now new (Ok Refuted)) h.next
-            (subst (FindsAt ask width (forbidden width) (formula width) (good width) now new) is found),
+        subst
+            (λ (n : ℕ). FindsAt ask n (forbidden n) (formula n) (good n) now new (Ok Refuted))
+            h.next
+            (subst
+            (FindsAt ask width (forbidden width) (formula width) (good width) now new) is found),
       );
     }
 
@@ -49,7 +53,8 @@ module _ (ask : Asked) (forbidden : ℕ → Type 0) (formula : ℕ → Cnf)
       within = omega (arith, low, h.next);
       between = now;
       refuted = h.refuted;
-      then = subst (FindsAt ask width (forbidden width) (formula width) (good width) now new) is found;
+      then = subst
+          (FindsAt ask width (forbidden width) (formula width) (good width) now new) is found;
       last = last;
     }
 

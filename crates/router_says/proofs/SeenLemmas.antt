@@ -98,10 +98,11 @@ of-four width hints a n p r texts old new is_a is_n is_p is_r added =
 pub looks : (before first second third now : DeskState) (asked : Option JobAsked) (width : ℕ)
     (is_open : Bool) (a n p r : Option Bytes) (arch net place route : Option Bytes)
     (hints : Hints) (old new : List ℕ) →
-    a ≡ name_of asked (Problem Architecture) → n ≡ name_of asked (Problem Netlist) → p ≡ name_of asked (Problem Placement) →
-    r ≡ name_of asked (Problem Route) → first.files ≡ before.files → second.files ≡ first.files →
-    third.files ≡ second.files → IsRead before first a arch → IsRead first second n net →
-    IsRead second third p place → IsRead third now r route → hints ≡ hints_of asked is_open →
+    a ≡ name_of asked (Problem Architecture) → n ≡ name_of asked (Problem Netlist) →
+    p ≡ name_of asked (Problem Placement) → r ≡ name_of asked (Problem Route) →
+    first.files ≡ before.files → second.files ≡ first.files → third.files ≡ second.files →
+    IsRead before first a arch → IsRead first second n net → IsRead second third p place →
+    IsRead third now r route → hints ≡ hints_of asked is_open →
     Appends (SaysSeen width hints (texts_by arch net place route)) old new →
     Appends (Looks before now asked width is_open) old new
 looks before first second third now asked width is_open a n p r arch net place route hints old new

@@ -72,10 +72,10 @@ pub(crate) struct Hints {
     pub(crate) order: bool,
 }
 
-/// Appends what is seen of a width without a search, where no reach was given: which nets want more
-/// tracks than there are, and which option helps; else a net that no track serves alone; else, where
-/// the width is open, which option may help. The files are read once more for it; a job that reads
-/// none is told nothing.
+/// Appends what is seen of a width without a search, where no reach was given: which nets want
+/// more tracks than there are, and which option helps; else a net that no track serves alone; else,
+/// where the width is open, which option may help. The files are read once more for it; a job that
+/// reads none is told nothing.
 pub(crate) fn append_seen<D: Desk>(
     alloc: Global,
     desk: &mut D,

@@ -151,8 +151,12 @@ module _ (words : List Word) (at : Scene) (calm : ¬ HasRisen at.desk.faults at.
           (IsRoutingBy search.method h.width h.comes.p)
           (λ log. Refutes search h.comes.p h.width log ⊎ LeavesOpen search h.comes.p h.width log)
           h.between wrote slot f.1)))
-      found-settles (Err (TooManyClauses count)) f last = true-there (Limit None (size_code FormulaClauses) count)
-          (inl (subst (λ (n : ℕ). CLAUSE_LIMIT < n) f.0.0 f.0.1, ap (Limit None (size_code FormulaClauses)) f.0.0))
+      found-settles (Err (TooManyClauses count)) f last = true-there
+          (Limit None (size_code FormulaClauses) count)
+          (inl (
+            subst (λ (n : ℕ). CLAUSE_LIMIT < n) f.0.0 f.0.1,
+            ap (Limit None (size_code FormulaClauses)) f.0.0,
+          ))
           (ap (λ (s : ShelfState). s.faults) f.1)
       found-settles (Err Memory) f last = record {
         kept = omega (arith, faults, ap (λ (s : ShelfState). s.faults) f.1, h.calm);

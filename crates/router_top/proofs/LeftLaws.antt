@@ -412,8 +412,8 @@ module _ (words : List Word) (at : Scene) where
       (ap (λ (s : ShelfState). s.files) done.1 ∙ files-after h.files at.shelf))
   files-left o h (inr (slot, fails, is)) =
       let off = breaks-off h.files at.shelf at.shelf_now slot fails in
-      let part = part-left words at.desk.files at.shelf.files h.files h.of h.apart off.whole off.part off.later off.order off.between
-      at.shelf_now off.behind off.fails in
+      let part = part-left words at.desk.files at.shelf.files h.files h.of h.apart off.whole
+      off.part off.later off.order off.between at.shelf_now off.behind off.fails in
       subst LeftHere (sym is) (part-leaves slot
       (among-heard h.files at.shelf at.shelf_now slot h.heard fails)
       (subst (LeavesPart words at.desk.files at.shelf.files at.shelf_now.files) off.named part))

@@ -94,8 +94,11 @@ module _ (words : List Word) where
           (λ k. pair k (h.comes.logs k)) (lower_widths h.comes.search h.width)
 
       here : AreFound h.comes.search h.comes.p h.width h.here ⊎ (h.here ≡ []) → AreNamed h.here
-      here (inl (few, inl (found, routing, is))) = subst AreNamed (sym is)
-          (by-job h.comes.job h.comes.asked (File Route) (route_name h.comes.search.ask) names.route, tt)
+      here (inl (few, inl (found, routing, is))) = subst AreNamed (sym is) (
+        by-job h.comes.job h.comes.asked (File Route)
+            (route_name h.comes.search.ask) names.route,
+        tt,
+      )
       here (inl (few, inr (log, ends, is))) = subst AreNamed (sym is) (pair h.width log)
       here (inr none) = subst AreNamed (sym none) tt
 

@@ -77,8 +77,8 @@ impl Again {
         }
     }
 
-    /// Decides again what is decided. Behind a restart that begins anew, and where each decision has
-    /// brought many literals, it decides nothing again.
+    /// Decides again what is decided. Behind a restart that begins anew, and where each decision
+    /// has brought many literals, it decides nothing again.
     pub(crate) fn keep(&mut self, restarts: &Restarts, watches: &Watches) {
         self.clear();
         if restarts.begins_anew() || brings_many(watches) {

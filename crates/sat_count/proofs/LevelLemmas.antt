@@ -245,7 +245,8 @@ ends r behind firsts level =
     let second : HasOneOpen set (yes b) (yes b ∷ []) = record {
       has = (0, omega arith, refl);
       free = over-no [] a b refl;
-      rest = All-cons (IsFalseOr set (yes b)) (yes b) [] (inr refl) (All-nil (IsFalseOr set (yes b)));
+      rest = All-cons (IsFalseOr set (yes b)) (yes b) [] (inr refl)
+          (All-nil (IsFalseOr set (yes b)));
     } in
     let a_zero : a + 0 ≡ a = omega arith in
     let b_zero : b + 0 ≡ b = omega arith in
@@ -269,8 +270,8 @@ ends r behind firsts level =
 
 -- ---- the way down
 
-pub live-erased : (old new : RefutationState) (last : ℕ) → Erases old new last → (id : ℕ) → last < id
-    → IsSome (named (live_of old) (pos id)) → IsSome (named (live_of new) (pos id))
+pub live-erased : (old new : RefutationState) (last : ℕ) → Erases old new last → (id : ℕ)
+    → last < id → IsSome (named (live_of old) (pos id)) → IsSome (named (live_of new) (pos id))
 live-erased old new last erases id past some = go (named (live_of old) (pos id)) refl some
   where
     go : (o : Option Clause) → named (live_of old) (pos id) ≡ o → IsSome o

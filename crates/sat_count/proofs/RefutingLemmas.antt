@@ -35,7 +35,8 @@ unfolding live_of
 live-widened r last_id last_variable = refl
 
 named-put : (live : Live) (n id : ℕ) (clause : Clause)
-    → named (put live (suc n) clause) (pos id) ≡ cond (id == suc n) (Some clause) (named live (pos id))
+    → named (put live (suc n) clause) (pos id) ≡
+    cond (id == suc n) (Some clause) (named live (pos id))
 named-put live n zero clause =
     rw (ne_eqb zero (suc n) (omega arith)) refl
 named-put live n (suc id) clause = refl
@@ -199,7 +200,8 @@ pub begun-refutes : (cnf : Cnf) → All (All (IsWithin cnf.vars)) cnf.clauses
 begun-refutes cnf within few = record {
   ahead = λ more. ap (λ (live : Live). full_judge_from 1 live more) (sym (live-begun cnf));
   literals = tt;
-  within = subst (λ (live : Live). All (λ (entry : ℕ × Clause). All (IsWithin cnf.vars) entry.1) live)
+  within = subst
+      (λ (live : Live). All (λ (entry : ℕ × Clause). All (IsWithin cnf.vars) entry.1) live)
       (sym (live-begun cnf)) (numbered-within 1 cnf.vars cnf.clauses within);
   low = λ id c h. low-begun cnf id c
       (ap (λ (live : Live). named live (pos id)) (sym (live-begun cnf)) ∙ h.there);

@@ -202,8 +202,8 @@ module _ (live : Live) (first second third fourth fifth sixth v w x y b p q : �
     apart-follows =
         let more : List Lit → Option Cause = resolution_fault live s0 (groups_of (pos first
         ∷ pos second ∷ pos third ∷ pos fourth ∷ pos fifth ∷ pos sixth ∷ [])) in
-        lead-unit live s0 first (pos second ∷ pos third ∷ pos fourth ∷ pos fifth ∷ pos sixth ∷ []) more
-        (no v ∷ no w ∷ no x ∷ []) (no x) helped one-0 other-0
+        lead-unit live s0 first (pos second ∷ pos third ∷ pos fourth ∷ pos fifth ∷ pos sixth ∷ [])
+        more (no v ∷ no w ∷ no x ∷ []) (no x) helped one-0 other-0
         ∙ lead-unit live s1 second (pos third ∷ pos fourth ∷ pos fifth ∷ pos sixth ∷ []) more
         (no v ∷ yes x ∷ yes p ∷ []) (yes p) or_p one-1 other-1
         ∙ lead-unit live s2 third (pos fourth ∷ pos fifth ∷ pos sixth ∷ []) more

@@ -44,11 +44,7 @@ fn go_down(
 {
     path.clear();
     let mut at = variable;
-    let steps = match leaders.get(variable) {
-        Some(follower) => follower.steps,
-        None => 0,
-    };
-    for _ in 0..steps {
+    for _ in 0..leaders.steps(variable) {
         if has_value(falses, at, true) {
             break;
         }
@@ -79,11 +75,7 @@ fn go_up(
     ensures { falses.new.size ≡ falses.old.size }
 {
     let mut at = variable;
-    let steps = match leaders.get(variable) {
-        Some(follower) => follower.steps,
-        None => 0,
-    };
-    for _ in 0..steps {
+    for _ in 0..leaders.steps(variable) {
         let Some(follower) = leaders.get(at) else {
             break;
         };

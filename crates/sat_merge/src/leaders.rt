@@ -9,8 +9,8 @@ use sat_clause::{Formula, Lit};
 use std::alloc::{AllocError, Global};
 use std::marker::Model;
 
-/// A formula of so many variables or fewer is searched as it is: its clauses lie close together
-/// anyway, and on rings more were learned over leaders.
+/// A formula of fewer variables is searched as it is: its clauses lie close together anyway, and on
+/// rings more were learned over leaders.
 const FEW_VARIABLES: usize = 1000;
 
 /// What a variable follows from.
@@ -89,6 +89,14 @@ impl Leaders {
             return Some(self.followers[at]);
         }
         None
+    }
+
+    /// How many clauses lead to a variable from its leader.
+    pub(crate) fn steps(&self, variable: u32) -> u32 {
+        match self.get(variable) {
+            Some(follower) => follower.steps,
+            None => 0,
+        }
     }
 
     /// Whether the variable leads, if only itself.
@@ -180,7 +188,8 @@ impl Leaders {
         Ok(leaders)
     }
 
-    /// Whether there are enough variables, and most of them follow from another one.
+    /// Whether there are enough variables, and most of them follow from another one. The list has
+    /// one for variable 0 too, which no formula has.
     pub(crate) fn are_most(&self) -> bool {
         let count = self.followers.len();
         count > FEW_VARIABLES && self.many as usize >= count / 2

@@ -1,11 +1,11 @@
 -- The tails of chains: what they are made of, and that they stay where the chains go on.
-use Rattle.std.proofs.Common.{◌≡◌, ◌≢◌, ℕ, zero, suc, ◌+◌, ◌-◌, ◌<◌, ◌≤◌, pos, true, false, inl, inr, List, [], ◌∷◌, ◌++◌, length, take, drop, slice_index, slice_index_or, slice_range, Option, None, Some, All, Contains, refl, sym, ap, ◌∙◌, subst, arith, length-append}
+use Rattle.std.proofs.Common.{◌≡◌, ◌≢◌, ℕ, zero, suc, ◌+◌, ◌-◌, ◌<◌, ◌≤◌, true, false, inl, inr, List, [], ◌∷◌, ◌++◌, length, take, drop, slice_index, slice_index_or, slice_range, Option, None, Some, All, Contains, refl, sym, ap, ◌∙◌, subst, arith, length-append}
 use Rattle.std.proofs.lemmas.List.{drop-append-le, get_or_append_left, length-drop, length-map, map-append, take-append-le}
 use Rattle.std.proofs.lemmas.List.Elements.{All-cons, All-nil, All-append, All-weaker}
 use Rattle.std.proofs.Math.Seq.{drop-append_seam, get_or-append_seam, take-length}
 use Rattle.sat_clause.specs.declared.literal.Lit.{Lit}
 use Rattle.sat_clause.specs.Learned.{IsSimple}
-use Rattle.sat_clause.specs.Literal.{Clause, IsWithin, lit, negation}
+use Rattle.sat_clause.specs.Literal.{Clause, IsWithin, negation}
 use Rattle.sat_arena.specs.declared.clause_ref.ClauseRef.{ClauseRef}
 use Rattle.sat_arena.specs.Store.{Stored, is_held, link_of, ref, stored_at}
 use Rattle.sat_watch.specs.declared.place.Place.{Place}
@@ -15,11 +15,11 @@ use Rattle.sat_watch.proofs.ChainLemmas.{CanRewatch, clauses_after, lits_stay, p
 use Rattle.sat_watch.proofs.PathLemmas.{PutsFirst, TakesOut, advance, at_first, before_leads, in_cases}
 use Rattle.sat_watch.proofs.GoesLemmas.{rest_length}
 use Rattle.sat_watch.proofs.TrailLemmas.{never}
-use Rattle.sat_watch.proofs.VisitLemmas.{all_false, other_at, other_true, watch_contains, watch_within}
+use Rattle.sat_watch.proofs.VisitLemmas.{other_at, other_true, watch_contains, watch_within}
 use Rattle.sat_watch.proofs.WatchLemmas.{goes_on, lit_tells}
 use Rattle.sat_watch.specs.Tails.{HasTail, HasTails, IsPairOf, IsPart, IsTail, TailTable, part_of, refs, tail_end, with_tail}
 use Rattle.sat_watch.specs.TrailStore.{place_of}
-use Rattle.sat_watch.specs.Watched.{AreFalse, IsReason, OtherIsTrue, chain_length, is_false, other_of}
+use Rattle.sat_watch.specs.Watched.{IsReason, OtherIsTrue, chain_length, is_false, other_of}
 use Rattle.sat_watch.specs.declared.entry.TrailEntry.{TrailEntry}
 use Rattle.sat_watch.specs.declared.tails.TailEnd.{TailEnd}
 
@@ -153,8 +153,8 @@ tail_pair ks l from (p ∷ os) (w ∷ ws) to (suc i) is lt =
 
 -- the chain leads over a tail to its end
 pub tail_rest : (ks : List Stored) (l : Lit) (from : Option ClauseRef) (os : List Lit)
-    (cs rest : List ClauseRef) → IsTail ks l from os cs None → IsPath (next_on ks l) from rest None →
-    rest ≡ cs
+    (cs rest : List ClauseRef) → IsTail ks l from os cs None
+    → IsPath (next_on ks l) from rest None → rest ≡ cs
 tail_rest ks l from [] [] [] is path = refl
 tail_rest ks l from [] [] (r ∷ rest) is path = let clash : None ≡ Some r = sym is ∙ path.0 in cc
 tail_rest ks l from [] (d ∷ cs) rest is path = absurd is
@@ -186,7 +186,8 @@ tail_same ks new l pairs goes from (p ∷ os) (d ∷ cs) to is = (
 )
 
 -- there are no tails in an empty table
-pub no_tails : (n : ℕ) (ks : List Stored) → HasTails n ks (record { ends = []; others = []; words = [] })
+pub no_tails : (n : ℕ) (ks : List Stored) → HasTails n ks
+    (record { ends = []; others = []; words = [] })
 no_tails n ks = record {
   many = refl;
   low = All-nil (λ (e : TailEnd). e.end ≤ 0);
@@ -482,21 +483,6 @@ pub pair_within : (n : ℕ) (s : ChainsState) (l o : Lit) (c : ClauseRef) →
 pair_within n s l o c chained pair =
     watch_within n (stored_at s.clauses c).lits (other_of pair.which) o
     (chained.simple c pair.held) pair.is_other
-
--- the pair is false where both are
-pub pair_false : (ks : List Stored) (l o : Lit) (c : ClauseRef) (entries : List TrailEntry) →
-    IsPairOf ks l o c → is_false entries l ≡ true → is_false entries o ≡ true →
-    AreFalse entries (stored_at ks c).lits
-pair_false ks l o c entries pair false_l false_o =
-    all_false entries (stored_at ks c).lits pair.which l pair.low (omega (arith, pair.two))
-    (λ m at. let same : l ≡ m = (let e : Some l ≡ Some m = sym pair.own ∙ at in cc) in
-    subst (λ x. is_false entries x ≡ true) same false_l)
-    (let there = other_at (stored_at ks c).lits pair.which pair.low (omega (arith, pair.two)) in
-    let same : o ≡ slice_index_or (stored_at ks c).lits (1 - pair.which) (lit (pos 0)) =
-    (let e : Some o ≡ Some (slice_index_or (stored_at ks c).lits (1 - pair.which) (lit (pos 0))) =
-    sym pair.is_other ∙ there in cc) in
-    subst (λ x. is_false entries x ≡ true) same false_o)
-    (λ k low lt. absurd (omega (arith, pair.two)))
 
 -- where its other literal is true, it can be left alone
 pub pair_true : (n : ℕ) (ks : List Stored) (l o : Lit) (c : ClauseRef)

@@ -118,8 +118,8 @@ fn visit_pair(
     true
 }
 
-/// Goes over the tail of the chain of `f`, which is false: clauses of two literals, whose other ones
-/// are true then or are made true. Gives a clause that is false, or none.
+/// Goes over the tail of the chain of `f`, which is false: clauses of two literals, whose other
+/// ones are true then or are made true. Gives a clause that is false, or none.
 fn walk_tail(
     chains: &Chains,
     trail: &mut Trail,

@@ -19,8 +19,8 @@ loop-at-preserved c =
       found = found-more c.args.grid c.args.slots.now c.args.trees.now c.requires.there
           c.args.row.now c.loop-at.at c.loop-at.found c.note_meetings.new.found
           c.deref.result.now c.requires.meet low c.requires.short
-          (subst (λ (xs : List (Option ℕ)). length xs ≡ cell_count c.args.grid) (sym c.deref.ensures.value)
-          c.in-Ok.ensures.each)
+          (subst (λ (xs : List (Option ℕ)). length xs ≡ cell_count c.args.grid)
+          (sym c.deref.ensures.value) c.in-Ok.ensures.each)
           (subst (λ (xs : List (Option ℕ)). AreTaken c.args.grid c.args.slots.now
           c.args.trees.now (get_or c.args.row.now c.loop-at.at 0) (length c.args.slots.now) xs)
           (sym c.deref.ensures.value) c.in-Ok.ensures.taken)

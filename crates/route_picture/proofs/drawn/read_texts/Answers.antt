@@ -82,7 +82,8 @@ returns-in-Err-bytes_if-2 g c =
       ),
       (
         c.in-Ok-bytes-3.bytes.items,
-        text-before _ _ c.args.words.files.route.now TEXT_BYTES _ three c.in-Ok-bytes-3.ensures.bytes,
+        text-before _ _ c.args.words.files.route.now TEXT_BYTES _ three
+            c.in-Ok-bytes-3.ensures.bytes,
       ),
       (
         option_map (λ bytes. bytes.items) c.in-Ok-bytes_if.names,

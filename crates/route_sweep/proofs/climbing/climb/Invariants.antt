@@ -8,7 +8,13 @@ abbrev pub invariant-loop-width : goal.invariant-loop-width
 invariant-loop-width g l =
     (1 ≤ l.width) × (l.width ≤ l.most + 1)
     × HasClimbed
-    (record { budget = l.budget; keep = l.keep; prefix = l.prefix; numbered = true; count = l.count })
+    (record {
+      budget = l.budget;
+      keep = l.keep;
+      prefix = l.prefix;
+      numbered = true;
+      count = l.count;
+    })
     (λ width. IsCrowded width l.problem)
     (g.E.Encoder.formula_of l.encoder l.problem) (g.E.Encoder.is_good l.encoder l.problem)
     (g.S.Shelf.state l.initial.shelf) (g.S.Shelf.state l.shelf) l.width

@@ -17,7 +17,8 @@ module _ (c : After-check_nets) where
       nets_faults (line_cause_by judge.reach judge.width judge.problem) c.as_slice.result.now 0
       ≡ nets_faults (line_cause_by judge.reach judge.width judge.problem) c.args.found.now.nets 0
   causes = let judge = c.args.judge.now in
-      λ i. nets_faults (line_cause_by judge.reach judge.width judge.problem) (c.as_slice.ensures i) 0
+      λ i. nets_faults (line_cause_by judge.reach judge.width judge.problem)
+      (c.as_slice.ensures i) 0
 
   lacks : list_any (lacks_line c.as_slice.result.now) c.args.judge.now.problem.netlist.nets
       ≡ lacks_net (record c.args.judge.now.problem { route = c.args.found.now })

@@ -2,4 +2,5 @@ use Rattle.router_says.proofs.SaidLemmas.{appends-behind}
 use Rattle.router_says.proofs.words.append_bad_line.Goals as goal
 
 pub returns : goal.returns
-returns g c = appends-behind _ _ _ _ _ c.in_ok-append_line_of.ensures c.in_ok-append_at_fault.ensures
+returns g c = appends-behind _ _ _ _ _ c.in_ok-append_line_of.ensures
+    c.in_ok-append_at_fault.ensures

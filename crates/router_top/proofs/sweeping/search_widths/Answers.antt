@@ -20,7 +20,8 @@ returns g c = record {
   climbs = by-encoder c.args.search.now.method c.args.problem.now c.args.encoder.now
       c.requires
       (λ formula good. ClimbsTo (ask_of true (search_said c.args.search.now))
-      c.args.search.now.width (λ width. IsCrowded width c.args.problem.now) formula good (g.S.Shelf.state c.args.shelf.now)
+      c.args.search.now.width (λ width. IsCrowded width c.args.problem.now) formula good
+      (g.S.Shelf.state c.args.shelf.now)
       (g.S.Shelf.state c.climb.new.shelf) c.climb.result) c.climb.ensures;
   is = c.climbed_outcome.ensures;
 }

@@ -11,7 +11,8 @@ is_met-requires c =
 pub unreachable-requires : goal.unreachable-requires
 unreachable-requires c =
     has_some c.args.watches.now.trail c.args.place c.entry_at-entry.result
-    c.entry_at-entry.ensures.at (pass_reason c.requires.walk c.requires.below) (sym c.clause.ensures ∙ c.in_default.is)
+    c.entry_at-entry.ensures.at (pass_reason c.requires.walk c.requires.below)
+    (sym c.clause.ensures ∙ c.in_default.is)
 
 pub use_entry-requires-clause-reason : goal.use_entry-requires-clause-reason
 use_entry-requires-clause-reason c =

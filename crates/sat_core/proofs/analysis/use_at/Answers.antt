@@ -47,7 +47,8 @@ unreachable-requires c =
     (left_out_reason c.requires.walked p
     (entry_left_out c.args.watches.now.trail c.args.implied.now.marks.used p
     c.entry_at-entry.result c.entry_at-entry.ensures.at
-    (c.is_left_out.ensures.yes c.if-not-is_left_out.false))) (sym c.clause.ensures ∙ c.in_default.is)
+    (c.is_left_out.ensures.yes c.if-not-is_left_out.false)))
+    (sym c.clause.ensures ∙ c.in_default.is)
 
 pub use_entry-requires-clause-reason : goal.use_entry-requires-clause-reason
 use_entry-requires-clause-reason c =

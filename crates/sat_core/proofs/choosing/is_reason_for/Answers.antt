@@ -29,7 +29,8 @@ returns-in_default-clause c =
     let lt = at_within w.trail p stands.0 stands.1 in
     let e = c.index-trail-place.result in
     rw (reason_at w.trail c.args.l p e c.place-place.ensures.place
-    (read_at items w.trail p e c.requires.trail lt c.index-trail-place.is) ∙ (sym c.clause.ensures ∙ c.in_default-clause.is)) refl
+    (read_at items w.trail p e c.requires.trail lt c.index-trail-place.is)
+    ∙ (sym c.clause.ensures ∙ c.in_default-clause.is)) refl
 
 pub returns : goal.returns
 returns c =
@@ -39,4 +40,5 @@ returns c =
     let lt = at_within w.trail p stands.0 stands.1 in
     let e = c.index-trail-place.result in
     rw (reason_at w.trail c.args.l p e c.place-place.ensures.place
-    (read_at items w.trail p e c.requires.trail lt c.index-trail-place.is) ∙ (sym c.clause.ensures ∙ c.in-Some-clause.is)) refl
+    (read_at items w.trail p e c.requires.trail lt c.index-trail-place.is)
+    ∙ (sym c.clause.ensures ∙ c.in-Some-clause.is)) refl

@@ -24,7 +24,8 @@ of-requires c =
     ∙ named-at nets c.args.net.now.name c.in-Some.number named.named
     net (slice_get_read nets (length nets) c.in-Some.number net refl named.within
     (c.index-as_slice-number.is
-    ∙ ap (λ (ns : List Net). get_or ns c.in-Some.number net) (c.as_slice-2.ensures ∙ c.names-2.ensures)))
+    ∙ ap (λ (ns : List Net). get_or ns c.in-Some.number net)
+    (c.as_slice-2.ensures ∙ c.names-2.ensures)))
 
 pub returns-clause-marked : goal.returns-clause-marked
 returns-clause-marked c = λ earlier has.

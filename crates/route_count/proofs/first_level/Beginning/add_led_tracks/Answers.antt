@@ -17,4 +17,5 @@ returns-clause-ready c =
     ))
     c.in_ok-passed.ensures.marked
     (subst (λ (n : ℕ). AreLed c.loop-slot.refutation c.args.self.now.trees.now
-    c.args.self.now.variables.width n c.in_ok-passed.passed.items c.loop-slot.led) all c.loop-slot.invariant.led)
+    c.args.self.now.variables.width n c.in_ok-passed.passed.items c.loop-slot.led)
+    all c.loop-slot.invariant.led)

@@ -13,7 +13,9 @@ entry_at-requires c = c.args.self.now.on c.args.place c.requires
 
 pub id-requires : goal.id-requires
 id-requires c =
-    record { attached = c.entry_at.ensures.attached c.in-Some.reason (sym c.clause.ensures ∙ c.in-Some.is) }
+    record {
+      attached = c.entry_at.ensures.attached c.in-Some.reason (sym c.clause.ensures ∙ c.in-Some.is);
+    }
 
 pub returns : goal.returns
 returns c =
@@ -21,4 +23,5 @@ returns c =
     let read : entry_at w.trail c.args.place ≡ c.entry_at.result =
     get_or_from_slice_get (reverse w.trail) c.args.place c.entry_at.result no_entry
     c.entry_at.ensures.at in
-    rw (c.id.ensures.value, ← c.if-not-is_used.ensures, read, sym c.clause.ensures ∙ c.in-Some.is) refl
+    rw (c.id.ensures.value, ← c.if-not-is_used.ensures, read, sym c.clause.ensures ∙ c.in-Some.is)
+    refl

@@ -14,8 +14,8 @@ last : (c : After-push) →
     IsLast c.self.inside.arena.clauses c.push.new.self.clauses (given c) c.push.result
 last c =
     let ks = c.self.inside.arena.clauses in
-    last_pushed ks c.push.new.self.clauses (given c) c.push.result c.self.invariant.chained.placed refl
-    (c.push.ensures.result ∙ ap (λ l. ref (size_all l)) c.reserve.ensures.clauses)
+    last_pushed ks c.push.new.self.clauses (given c) c.push.result c.self.invariant.chained.placed
+    refl (c.push.ensures.result ∙ ap (λ l. ref (size_all l)) c.reserve.ensures.clauses)
     (c.push.ensures.clauses
     ∙ ap (λ l. l ++ new_clause (ref (size_all l)) c.args.id c.args.lits.now ∷ [])
     c.reserve.ensures.clauses)
@@ -30,8 +30,8 @@ invariant_of-self-2 c =
           (short_attached i.vars i.arena.clauses i.heads.items (given at) c.self.invariant.chained
           given_simple refl refl (omega (arith, c.requires.one)));
       tails =
-          tails_added i.vars i.arena.clauses c.push.new.self.clauses (given at) c.push.result i.tails
-          (last at) c.self.invariant.tails;
+          tails_added i.vars i.arena.clauses c.push.new.self.clauses (given at) c.push.result
+          i.tails (last at) c.self.invariant.tails;
     }
 
 pub returns-clause-chained : goal.returns-clause-chained

@@ -18,7 +18,7 @@ returns c =
     (λ tail. IsTail s.clauses c.args.f (Some c.args.clause) tail.0.now (refs tail.1.now) None))
     c.self.view_is
     (some_more c.from.result
-    (λ tail part. tail_at i.vars i.arena.clauses i.tails c.args.f c.args.clause tail.0.now tail.1.now
-    c.self.invariant.tails within
+    (λ tail part. tail_at i.vars i.arena.clauses i.tails c.args.f c.args.clause tail.0.now
+    tail.1.now c.self.invariant.tails within
     (subst (λ p. IsPart i.tails p c.args.clause.word tail.0.now tail.1.now) c.place.ensures part))
     c.from.ensures)
