@@ -11,7 +11,7 @@ change of the crate's contracts, over a copy of the repository in a folder of it
 Edits of different functions are tried together, as each function is proved for itself: after one `rt check` of them all
 each must have left a function of its own without a proof, and not only since that calls another which has none. An edit
 of which a check with others tells nothing is tried alone, and then the crate must not be proved. Ends with 1 where one
-is let through, or where its text no longer stands in its file.
+is let through, is not judged, or has a text that no longer stands in its file.
 """
 import collections
 import os
@@ -135,8 +135,8 @@ def are_refused(top, crate):
     folder, apart = os.path.join(top, "crates", crate), os.path.join(EDITS, crate)
     names = sorted(os.listdir(apart))
     read = {name: read_edit(folder, os.path.join(apart, name)) for name in names}
-    lost = [name for name in names if read[name] is None]
-    left, alone, through = [read[name] for name in names if read[name]], [], []
+    faults = {name: "its text no longer stands once in its file" for name in names if read[name] is None}
+    left, alone = [read[name] for name in names if read[name]], []
     while left:
         batch = together(left)
         left = [edit for edit in left if edit not in batch]
@@ -144,15 +144,15 @@ def are_refused(top, crate):
         alone += [edit for edit in batch if not is_left_unproved(edit, said)]
     for edit in alone:
         said, is_proved = check_of(folder, [edit])
-        if is_proved or not said:
-            through.append(edit.name)
-    of_those = f", {len(alone)} of them alone" if alone else ""
-    print(f"{crate}: {len(names) - len(lost) - len(through)} of {len(names)} edits refused{of_those}", flush=True)
-    for name in lost:
-        print(f"    {name}: its text no longer stands once in its file")
-    for name in through:
-        print(f"    {name}: let through")
-    return not lost and not through
+        if is_proved:
+            faults[edit.name] = "let through"
+        elif all(told == "proved" for _, told in said):
+            faults[edit.name] = "not judged, as where it does not compile"
+    of_those = f", {len(alone)} tried alone" if alone else ""
+    print(f"{crate}: {len(names) - len(faults)} of {len(names)} edits refused{of_those}", flush=True)
+    for name, fault in faults.items():
+        print(f"    {name}: {fault}", flush=True)
+    return not faults
 
 
 def main(crates):
