@@ -12,6 +12,7 @@ pub mod Kinds
 pub mod Legal
 pub mod Names
 pub mod Pins
+pub mod Placed
 pub mod Placements
 pub mod Places
 pub mod Problem

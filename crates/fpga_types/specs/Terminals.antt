@@ -4,7 +4,7 @@ use Rattle.std.specs.List.{list_any}
 use Rattle.std.specs.Option.{option_map_or}
 use Rattle.fpga_text.specs.Bytes.{Bytes}
 use Rattle.fpga_types.specs.Kinds.{same_label}
-use Rattle.fpga_types.specs.Problem.{RoutingProblem}
+use Rattle.fpga_types.specs.Problem.{PlacedNetlist, RoutingProblem, placed_netlist_of}
 use Rattle.fpga_types.specs.declared.arch.Arch.{Arch}
 use Rattle.fpga_types.specs.declared.arch.PinSpec.{PinSpec}
 use Rattle.fpga_types.specs.declared.netlist.Block.{Block}
@@ -45,11 +45,29 @@ terminal_at arch Logic pin at = option_map (class_at at) (slice_get arch.pins pi
 terminal_at arch Input pin at = Some (pad_at at)
 terminal_at arch Output pin at = Some (pad_at at)
 
--- the terminal of a pin
-abbrev pub terminal_of : RoutingProblem → PinRef → Option Terminal
-terminal_of p pin = option_and_then
+-- the terminal of a pin of the netlist
+abbrev pub terminal_in : PlacedNetlist → PinRef → Option Terminal
+terminal_in p pin = option_and_then
     (λ (block : Block). option_and_then (terminal_at p.arch block.kind pin.pin)
     (slice_get p.placement.places pin.block)) (slice_get p.netlist.blocks pin.block)
+
+-- the terminal that drives a net
+abbrev pub driver_in : PlacedNetlist → Net → Option Terminal
+driver_in p net = option_and_then (terminal_in p) net.driver
+
+-- the terminals that a net ends at
+abbrev pub sinks_in : PlacedNetlist → Net → List Terminal
+sinks_in p net = filter_map (terminal_in p) net.sinks
+
+-- the same, of a problem
+abbrev pub terminal_of : RoutingProblem → PinRef → Option Terminal
+terminal_of p = terminal_in (placed_netlist_of p)
+
+abbrev pub driver_of : RoutingProblem → Net → Option Terminal
+driver_of p = driver_in (placed_netlist_of p)
+
+abbrev pub sinks_of : RoutingProblem → Net → List Terminal
+sinks_of p = sinks_in (placed_netlist_of p)
 
 -- the net has this name
 abbrev pub is_net_named : Bytes → Net → Bool
@@ -58,14 +76,6 @@ is_net_named name net = bytes_eq net.name name
 -- the net with this name; of two, the first
 abbrev pub net_named : RoutingProblem → Bytes → Option Net
 net_named p name = find (is_net_named name) p.netlist.nets
-
--- the terminal that drives a net
-abbrev pub driver_of : RoutingProblem → Net → Option Terminal
-driver_of p net = option_and_then (terminal_of p) net.driver
-
--- the terminals that a net ends at
-abbrev pub sinks_of : RoutingProblem → Net → List Terminal
-sinks_of p net = filter_map (terminal_of p) net.sinks
 
 -- the terminal that drives the net with this name
 abbrev pub driver_named : RoutingProblem → Bytes → Option Terminal
