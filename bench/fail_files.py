@@ -6,12 +6,13 @@ wrong where one of these is otherwise than it must be, or its words on standard 
 a file has changed that is not of the job. Then each call of the system that a command makes on files is refused alone, one number
 after the other, and all from a number on; and interrupted, after which the run must go on.
 
-    bench/fail_files.py [--router PATH] [--rows WORD] [--plain]
+    bench/fail_files.py [--router PATH] [--rows WORD] [--plain] [--count N]
 
 It needs Linux, strace, gdb, and the right to mount a file system of fixed size; a row that cannot
 be run here is named. With --plain only the rows that need none of these are run, as in
 `.ci/program`, and only those that are wrong are printed. The superuser, whom no permission stops,
-runs as another user the rows on permissions. The last line counts the rows.
+runs as another user the rows on permissions. The last line counts the rows; with --count another
+number of right ones than this is a failure.
 """
 import argparse
 import os
@@ -513,6 +514,7 @@ def main():
     words.add_argument("--router", default=os.path.join(TOP, "crates/router/out/router"))
     words.add_argument("--rows", help="only rows with this in their name")
     words.add_argument("--plain", action="store_true", help="only rows that need no tool")
+    words.add_argument("--count", type=int, help="how many rows there must be")
     asked = words.parse_args()
     router = os.path.abspath(asked.router)
     if not os.access(router, os.X_OK):
@@ -548,7 +550,10 @@ def main():
         for kind in kinds:
             kind(table, router, fresh)
     print(f"{table.right} rows as they must be, {table.wrong} not, {table.left_out} not run")
-    sys.exit(1 if table.wrong else 0)
+    if asked.count not in (None, table.right):
+        print(f"{asked.count} rows are wanted")
+        sys.exit(1)
+    sys.exit(1 if table.wrong or not table.right else 0)
 
 
 if __name__ == "__main__":

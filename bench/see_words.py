@@ -1,14 +1,15 @@
 #!/usr/bin/env python3
 """Shows the words on standard error for each kind of report, by the built program on files.
 
-    see_words.py PROGRAM [--quiet]
+    see_words.py PROGRAM [--quiet] [--runs N]
 
 Runs the cases of crates/router_rows/data on files of a folder of its own, those left out in which calls fail or two
 files have one name, and prints each kind of report that came (its numbers but the code left out) with the words that
 went with it, once. Says last how many runs came out as their case asks: status, standard output, and the bytes of the
 files, where no file that was read has changed; and the words on a width without a routing, or on an open one, as
 seen_words.py reckons them from the files. That is a test of what no contract speaks of: `main` and the files of the
-system. With --quiet only what came out otherwise is printed, and the last line.
+system. With --quiet only what came out otherwise is printed, and the last line. With --runs another number of runs
+than this counts as one that came out otherwise, so that a row which is not run is seen.
 """
 import argparse
 import collections
@@ -216,6 +217,7 @@ def main():
     parser = argparse.ArgumentParser(description=__doc__.splitlines()[0])
     parser.add_argument("program", metavar="PROGRAM")
     parser.add_argument("--quiet", action="store_true", help="says only what came out otherwise")
+    parser.add_argument("--runs", metavar="N", type=int, help="how many runs there must be")
     given = parser.parse_args()
     program = os.path.abspath(given.program)
     texts, seen, tally = Texts(), {}, collections.Counter()
@@ -249,7 +251,10 @@ def main():
         for line in words.split("\n"):
             print(f"    {line}")
     print(f"{tally['as asked']} runs as their cases ask, {tally['other']} others")
-    sys.exit(1 if tally["other"] else 0)
+    if given.runs not in (None, sum(tally.values())):
+        print(f"{given.runs} runs are wanted")
+        sys.exit(1)
+    sys.exit(1 if tally["other"] or not tally else 0)
 
 
 if __name__ == "__main__":
