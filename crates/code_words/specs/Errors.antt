@@ -1,21 +1,22 @@
 -- Why the system refuses a file, by the kind of its error.
-use Rattle.std.specs.Prelude.{ℕ, List, codes}
+use Rattle.std.specs.Prelude.{ℕ, List}
 use Rattle.std.specs.declared.io.ErrorKind.{ErrorKind}
 use Rattle.std.specs.declared.io.ErrorKind.TheVariants.{NotFound, PermissionDenied, IsADirectory, NotADirectory, InvalidFilename, FilesystemLoop, ReadOnlyFilesystem, StorageFull, QuotaExceeded, FileTooLarge, Interrupted, BrokenPipe, OutOfMemory}
+use Rattle.code_words.specs.declared.phrases.TheConstants.{ERROR_BROKEN_PIPE, ERROR_FILESYSTEM_LOOP, ERROR_FILE_TOO_LARGE, ERROR_INTERRUPTED, ERROR_INVALID_FILENAME, ERROR_IS_A_DIRECTORY, ERROR_NOT_A_DIRECTORY, ERROR_NOT_FOUND, ERROR_OTHER, ERROR_OUT_OF_MEMORY, ERROR_PERMISSION_DENIED, ERROR_QUOTA_EXCEEDED, ERROR_READ_ONLY_FILESYSTEM, ERROR_STORAGE_FULL}
 
 -- what the kind of an error says of the file that is told with it
 abbrev pub error_phrase : ErrorKind → List ℕ
-error_phrase NotFound = codes "no such file or folder"
-error_phrase PermissionDenied = codes "no permission"
-error_phrase IsADirectory = codes "it is a folder"
-error_phrase NotADirectory = codes "a part of its path is no folder"
-error_phrase InvalidFilename = codes "its name is too long"
-error_phrase FilesystemLoop = codes "its links lead in a circle"
-error_phrase ReadOnlyFilesystem = codes "its file system is read only"
-error_phrase StorageFull = codes "no space is left"
-error_phrase QuotaExceeded = codes "no space is left to this user"
-error_phrase FileTooLarge = codes "it would be larger than a file may be"
-error_phrase Interrupted = codes "the call was interrupted"
-error_phrase BrokenPipe = codes "nobody reads it any more"
-error_phrase OutOfMemory = codes "the system has no memory for it"
-error_phrase _ = codes "the system gave another error"
+error_phrase NotFound = ERROR_NOT_FOUND.now
+error_phrase PermissionDenied = ERROR_PERMISSION_DENIED.now
+error_phrase IsADirectory = ERROR_IS_A_DIRECTORY.now
+error_phrase NotADirectory = ERROR_NOT_A_DIRECTORY.now
+error_phrase InvalidFilename = ERROR_INVALID_FILENAME.now
+error_phrase FilesystemLoop = ERROR_FILESYSTEM_LOOP.now
+error_phrase ReadOnlyFilesystem = ERROR_READ_ONLY_FILESYSTEM.now
+error_phrase StorageFull = ERROR_STORAGE_FULL.now
+error_phrase QuotaExceeded = ERROR_QUOTA_EXCEEDED.now
+error_phrase FileTooLarge = ERROR_FILE_TOO_LARGE.now
+error_phrase Interrupted = ERROR_INTERRUPTED.now
+error_phrase BrokenPipe = ERROR_BROKEN_PIPE.now
+error_phrase OutOfMemory = ERROR_OUT_OF_MEMORY.now
+error_phrase _ = ERROR_OTHER.now

@@ -28,6 +28,8 @@ ghost use Rattle.code_words.specs.Codes.{
 };
 ghost use Rattle.code_words.specs.Phrases.{is_phrase};
 
+use crate::phrases::*;
+
 /// What a code says of the line that is told with it, or of the number that passes a limit. It is a
 /// phrase of printable ASCII on one line, with no stop at its end, and None of any other number.
 pub fn cause(code: u32) -> Option<&'static str>
@@ -54,22 +56,17 @@ fn architecture_cause(code: u32) -> Option<&'static str>
     ensures phrase { IfSome result (λ words. IsTrue (is_phrase words.now)) }
 {
     match code {
-        101 => Some("the file ends, and one of the twelve keywords has no line"),
-        102 => Some(
-            "a number, or behind Fc_type the word fractional or absolute, is due here, and there \
-             is none or it is out of its range",
-        ),
-        103 => Some(
-            "a pin line has another form: inpin or outpin, class: N, then one or more sides",
-        ),
-        104 => Some("a segment has no length: word, or a length that is not 1"),
-        105 => Some("a channel width is not uniform"),
-        106 => Some("this channel width differs from an earlier one"),
-        107 => Some("the switch blocks are neither subset, nor wilton, nor universal"),
-        108 => Some("a class has pins of both directions"),
-        109 => Some("more pads at a place, more pins, or a higher class than are taken"),
-        110 => Some("this keyword stands on an earlier line"),
-        111 => Some("a segment with Frac_cb or Frac_sb that is not 1"),
+        101 => Some(ARCHITECTURE_MISSING_LINE),
+        102 => Some(ARCHITECTURE_NO_NUMBER),
+        103 => Some(ARCHITECTURE_PIN_FORM),
+        104 => Some(ARCHITECTURE_SEGMENT_LENGTH),
+        105 => Some(ARCHITECTURE_NOT_UNIFORM),
+        106 => Some(ARCHITECTURE_OTHER_WIDTH),
+        107 => Some(ARCHITECTURE_NO_PATTERN),
+        108 => Some(ARCHITECTURE_MIXED_CLASS),
+        109 => Some(ARCHITECTURE_PAST_LIMIT),
+        110 => Some(ARCHITECTURE_REPEATED),
+        111 => Some(ARCHITECTURE_SPARSE_SEGMENT),
         _ => None,
     }
 }
@@ -80,17 +77,15 @@ fn netlist_cause(code: u32) -> Option<&'static str>
     ensures phrase { IfSome result (λ words. IsTrue (is_phrase words.now)) }
 {
     match code {
-        201 => Some("a line of no form, or one that may not stand here"),
-        202 => Some("a pinlist without exactly one word for each pin, or a pad on open"),
-        203 => Some("an earlier block has this name"),
-        204 => Some(
-            "this pinlist gives a net a second driver, or the file ends and a net has none",
-        ),
-        205 => Some("the file ends, and a net has no sink"),
-        206 => Some("an ordinary net on a pin that takes global nets alone"),
-        207 => Some("one net on two pins of a class"),
-        208 => Some("a block without its pinlist"),
-        209 => Some("more blocks or more nets than are taken"),
+        201 => Some(NETLIST_LINE_FORM),
+        202 => Some(NETLIST_PIN_COUNT),
+        203 => Some(NETLIST_SAME_NAME),
+        204 => Some(NETLIST_DRIVERS),
+        205 => Some(NETLIST_NO_SINK),
+        206 => Some(NETLIST_GLOBAL_PIN),
+        207 => Some(NETLIST_SHARED_CLASS),
+        208 => Some(NETLIST_NO_PINLIST),
+        209 => Some(NETLIST_PAST_LIMIT),
         _ => None,
     }
 }
@@ -101,16 +96,14 @@ fn placement_cause(code: u32) -> Option<&'static str>
     ensures phrase { IfSome result (λ words. IsTrue (is_phrase words.now)) }
 {
     match code {
-        301 => Some("a head line of another form, or none"),
-        302 => Some("a number is due here, and there is none or it is out of its range"),
-        303 => Some("the netlist has no block of this name"),
-        304 => Some("the block of this name was placed on an earlier line"),
-        305 => Some("the file ends, and a block of the netlist has no place"),
-        306 => Some(
-            "no place for this block: logic blocks go inside, pads on the edge and below io_rat",
-        ),
-        307 => Some("an earlier block stands here"),
-        308 => Some("an array that is larger than is taken"),
+        301 => Some(PLACEMENT_HEAD_FORM),
+        302 => Some(PLACEMENT_NO_NUMBER),
+        303 => Some(PLACEMENT_UNKNOWN_BLOCK),
+        304 => Some(PLACEMENT_REPEATED_BLOCK),
+        305 => Some(PLACEMENT_MISSING_BLOCK),
+        306 => Some(PLACEMENT_UNLAWFUL_PLACE),
+        307 => Some(PLACEMENT_SHARED_SPOT),
+        308 => Some(PLACEMENT_PAST_LIMIT),
         _ => None,
     }
 }
@@ -121,13 +114,13 @@ fn route_cause(code: u32) -> Option<&'static str>
     ensures phrase { IfSome result (λ words. IsTrue (is_phrase words.now)) }
 {
     match code {
-        401 => Some("a head line of another form, or none"),
-        402 => Some("a line of no form, or a Block line outside of a global net"),
-        403 => Some("a number is due here, and there is none or it is out of its range"),
-        404 => Some("a wire of several cells: each cell is to have a line of its own"),
-        405 => Some("an element outside of a net that has elements"),
-        406 => Some("a place outside of the array"),
-        407 => Some("an array that is larger, or more nets, than are taken"),
+        401 => Some(ROUTE_HEAD_FORM),
+        402 => Some(ROUTE_LINE_FORM),
+        403 => Some(ROUTE_NO_NUMBER),
+        404 => Some(ROUTE_SPANNED_CHANNEL),
+        405 => Some(ROUTE_STRAY_ELEMENT),
+        406 => Some(ROUTE_NO_PLACE),
+        407 => Some(ROUTE_PAST_LIMIT),
         _ => None,
     }
 }
@@ -138,29 +131,21 @@ fn fit_cause(code: u32) -> Option<&'static str>
     ensures phrase { IfSome result (λ words. IsTrue (is_phrase words.now)) }
 {
     match code {
-        501 => Some("the array has another size than in the placement"),
-        502 => Some("the route ends, and an ordinary net of the netlist has no Net line"),
-        503 => Some(
-            "the netlist has no such net, or it is global in one file and ordinary in the other",
-        ),
-        504 => Some("this net stands earlier in the route"),
-        505 => Some("this is not where the net's driver is"),
-        506 => Some("this is not where a sink of the net is"),
-        507 => Some(
-            "this sink was reached before, or the net ends before it has reached each sink",
-        ),
-        508 => Some(
-            "no OPIN of the driver, no input for ordinary nets, or a SINK that is not its IPIN's",
-        ),
-        509 => Some("the pin does not touch the channel cell that stands next to it"),
-        510 => Some("the cells of this channel and the one before it do not meet"),
-        511 => Some("the net has been here before"),
-        512 => Some("a branch begins where the net has not been"),
-        513 => Some("an earlier net has this pin"),
-        514 => Some(
-            "this line may not stand behind the one before it, or the net does not end at a sink",
-        ),
-        515 => Some("the nets take more channel cells together than are taken"),
+        501 => Some(FIT_OTHER_ARRAY),
+        502 => Some(FIT_MISSING_NET),
+        503 => Some(FIT_UNKNOWN_NET),
+        504 => Some(FIT_REPEATED_NET),
+        505 => Some(FIT_OTHER_SOURCE),
+        506 => Some(FIT_OTHER_SINK),
+        507 => Some(FIT_SINK_NOT_ONCE),
+        508 => Some(FIT_OTHER_PIN),
+        509 => Some(FIT_PIN_APART),
+        510 => Some(FIT_CELLS_APART),
+        511 => Some(FIT_REPEATED_ELEMENT),
+        512 => Some(FIT_LOOSE_BRANCH),
+        513 => Some(FIT_SHARED_PIN),
+        514 => Some(FIT_OUT_OF_ORDER),
+        515 => Some(FIT_PAST_LIMIT),
         _ => None,
     }
 }
@@ -171,13 +156,11 @@ fn clause_cause(code: u32) -> Option<&'static str>
     ensures phrase { IfSome result (λ words. IsTrue (is_phrase words.now)) }
 {
     match code {
-        601 => Some("the line p cnf VARIABLES CLAUSES is missing, or stands here again"),
-        602 => Some(
-            "a number of 64 bits, in the head line not below 0, is due here, and there is none",
-        ),
-        603 => Some("a variable above the number that the head line tells"),
-        604 => Some("the clauses are not as many as the head line tells, or the last one has no 0"),
-        605 => Some("more variables or clauses than are taken"),
+        601 => Some(CLAUSE_HEAD_FORM),
+        602 => Some(CLAUSE_CNF_NUMBER),
+        603 => Some(CLAUSE_VARIABLE),
+        604 => Some(CLAUSE_CLAUSE_COUNT),
+        605 => Some(CLAUSE_SIZE_LIMIT),
         _ => None,
     }
 }
@@ -188,11 +171,11 @@ fn log_cause(code: u32) -> Option<&'static str>
     ensures phrase { IfSome result (λ words. IsTrue (is_phrase words.now)) }
 {
     match code {
-        701 => Some("a word that is no number, or a clause without a number above 0"),
-        702 => Some("a line that neither adds nor deletes a clause"),
-        703 => Some("the number of an added clause is not above those before it"),
-        704 => Some("a negative hint, and the clause has no literal to resolve on"),
-        705 => Some("a higher number of a clause or a variable than is taken"),
+        701 => Some(LOG_STEP_NUMBER),
+        702 => Some(LOG_STEP_FORM),
+        703 => Some(LOG_ID_ORDER),
+        704 => Some(LOG_HINT_SIGN),
+        705 => Some(LOG_NUMBER_LIMIT),
         _ => None,
     }
 }
@@ -203,17 +186,14 @@ fn judge_cause(code: u32) -> Option<&'static str>
     ensures phrase { IfSome result (λ words. IsTrue (is_phrase words.now)) }
 {
     match code {
-        801 => Some("no switch joins this wire, or pin, to the one before it"),
-        802 => Some("the track is not below the width"),
-        803 => Some("an earlier net has this wire"),
-        804 => Some("the global route does not take the net through this cell"),
-        805 => Some("the net has been in this cell, and no branch begins here on its wire"),
-        806 => Some("the net, or the file, ends before each sink is reached"),
-        807 => Some(
-            "the netlist and its placement give no such array or net, or the net no such line or \
-             order of lines",
-        ),
-        808 => Some("more switches lead to the wire before this sink than the reach"),
+        801 => Some(JUDGE_NOT_CONNECTED),
+        802 => Some(JUDGE_PAST_WIDTH),
+        803 => Some(JUDGE_SHARED_WIRE),
+        804 => Some(JUDGE_OFF_TRACE),
+        805 => Some(JUDGE_REPEATED_CELL),
+        806 => Some(JUDGE_MISSING_SINK),
+        807 => Some(JUDGE_UNFIT),
+        808 => Some(JUDGE_PAST_REACH),
         _ => None,
     }
 }
@@ -226,7 +206,7 @@ pub fn cause_within_reach(code: u32) -> Option<&'static str>
     ensures phrase { IfSome result (λ words. IsTrue (is_phrase words.now)) }
 {
     match code {
-        805 => Some("the net has had this wire before, and no branch begins here"),
+        805 => Some(JUDGE_REPEATED_WIRE),
         _ => cause(code),
     }
 }
@@ -237,10 +217,10 @@ fn size_cause(code: u32) -> Option<&'static str>
     ensures phrase { IfSome result (λ words. IsTrue (is_phrase words.now)) }
 {
     match code {
-        901 => Some("the problem has more clauses than are written"),
-        903 => Some("there are more nets than blocks to drive them"),
-        904 => Some("the searches that take turns have more clauses together than are held"),
-        911..=917 => Some("the file has more bytes than are read"),
+        901 => Some(SIZE_FORMULA_CLAUSES),
+        903 => Some(SIZE_GENERATED_NETS),
+        904 => Some(SIZE_CLAUSES_OF_TURNS),
+        911..=917 => Some(FILE_SIZE),
         _ => None,
     }
 }

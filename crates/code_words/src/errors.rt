@@ -3,6 +3,7 @@ ghost use Rattle.std.specs.Prelude.{◌≡◌, IsTrue};
 ghost use Rattle.code_words.specs.Errors.{error_phrase};
 ghost use Rattle.code_words.specs.Phrases.{is_phrase};
 
+use crate::phrases::*;
 use std::io::ErrorKind;
 
 /// Why the system refuses to read or to write a file, by the kind of its error: a phrase of
@@ -12,19 +13,19 @@ pub fn system_error(kind: ErrorKind) -> &'static str
     ensures phrase { IsTrue (is_phrase result.now) }
 {
     match kind {
-        ErrorKind::NotFound => "no such file or folder",
-        ErrorKind::PermissionDenied => "no permission",
-        ErrorKind::IsADirectory => "it is a folder",
-        ErrorKind::NotADirectory => "a part of its path is no folder",
-        ErrorKind::InvalidFilename => "its name is too long",
-        ErrorKind::FilesystemLoop => "its links lead in a circle",
-        ErrorKind::ReadOnlyFilesystem => "its file system is read only",
-        ErrorKind::StorageFull => "no space is left",
-        ErrorKind::QuotaExceeded => "no space is left to this user",
-        ErrorKind::FileTooLarge => "it would be larger than a file may be",
-        ErrorKind::Interrupted => "the call was interrupted",
-        ErrorKind::BrokenPipe => "nobody reads it any more",
-        ErrorKind::OutOfMemory => "the system has no memory for it",
-        _ => "the system gave another error",
+        ErrorKind::NotFound => ERROR_NOT_FOUND,
+        ErrorKind::PermissionDenied => ERROR_PERMISSION_DENIED,
+        ErrorKind::IsADirectory => ERROR_IS_A_DIRECTORY,
+        ErrorKind::NotADirectory => ERROR_NOT_A_DIRECTORY,
+        ErrorKind::InvalidFilename => ERROR_INVALID_FILENAME,
+        ErrorKind::FilesystemLoop => ERROR_FILESYSTEM_LOOP,
+        ErrorKind::ReadOnlyFilesystem => ERROR_READ_ONLY_FILESYSTEM,
+        ErrorKind::StorageFull => ERROR_STORAGE_FULL,
+        ErrorKind::QuotaExceeded => ERROR_QUOTA_EXCEEDED,
+        ErrorKind::FileTooLarge => ERROR_FILE_TOO_LARGE,
+        ErrorKind::Interrupted => ERROR_INTERRUPTED,
+        ErrorKind::BrokenPipe => ERROR_BROKEN_PIPE,
+        ErrorKind::OutOfMemory => ERROR_OUT_OF_MEMORY,
+        _ => ERROR_OTHER,
     }
 }

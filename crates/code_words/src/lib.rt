@@ -4,6 +4,7 @@
 
 mod causes;
 mod errors;
+mod phrases;
 mod refusals;
 
 pub use causes::{cause, cause_within_reach};

@@ -5,6 +5,8 @@ ghost use Rattle.code_words.specs.Causes.{refusal_phrase};
 ghost use Rattle.code_words.specs.Codes.{is_refusal_cause};
 ghost use Rattle.code_words.specs.Phrases.{is_phrase};
 
+use crate::phrases::*;
+
 /// Why a step is refused, by the cause from 1 to 10 that a report tells: a phrase of printable
 /// ASCII on one line, with no stop at its end. None of another number.
 pub fn refusal(cause: u32) -> Option<&'static str>
@@ -13,16 +15,16 @@ pub fn refusal(cause: u32) -> Option<&'static str>
     ensures phrase { IfSome result (λ words. IsTrue (is_phrase words.now)) }
 {
     match cause {
-        1 => Some("a hint names a clause that is not there"),
-        2 => Some("the clause of a hint has two or more open literals"),
-        3 => Some("the clause of a hint is already true"),
-        4 => Some("the hints end, and no clause was false"),
-        5 => Some("a hint stands behind the clause that was false"),
-        6 => Some("a deletion names a clause that is not there"),
-        7 => Some("the log ends before it comes to the empty clause"),
-        8 => Some("a clause with the negation of the first literal has no group of hints"),
-        9 => Some("a group of hints where none is due, or for a clause that had one"),
-        10 => Some("a group of hints ends, and no clause was false"),
+        1 => Some(STEP_UNKNOWN_HINT),
+        2 => Some(STEP_OPEN_HINT),
+        3 => Some(STEP_TRUE_HINT),
+        4 => Some(STEP_TOO_FEW_HINTS),
+        5 => Some(STEP_HINT_BEHIND_THE_LAST),
+        6 => Some(STEP_UNKNOWN_DELETION),
+        7 => Some(STEP_NO_EMPTY_CLAUSE),
+        8 => Some(STEP_NO_GROUP),
+        9 => Some(STEP_STRAY_GROUP),
+        10 => Some(STEP_TOO_SHORT_GROUP),
         _ => None,
     }
 }
