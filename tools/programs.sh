@@ -13,13 +13,14 @@ say() {
 # Whether a program is there, and newer than all that its code is made from. Definitions and proofs are not looked
 # at: they change none of its bytes, and are many.
 is_current() {
-    [ -x "$1" ] && [ -z "$(find "$top"/crates/*/src "$top/crates.txt" "$top/HANDLES" -newer "$1" -print -quit)" ]
+    [ -x "$1" ] && [ -z "$(find "$top"/crates/*/src/* "$top/crates.txt" "$top/HANDLES" -newer "$1" -print -quit)" ]
 }
 
 # The folder where a program is kept: that of its crate, or one of the caller's where the repository can't be
 # written in.
 set_folder() {
     folder=$top/crates/$1/out
+    [ -w "$folder" ] && return
     mkdir -p "$folder" 2>/dev/null && [ -w "$folder" ] && return
     [ -x "$folder/$1" ] && is_current "$folder/$1" && return
     folder=${XDG_CACHE_HOME:-${HOME:-/tmp}/.cache}/gafkelam/$(echo "$top" | sha256sum | cut -c 1-16)
