@@ -14,6 +14,9 @@ import shutil
 import subprocess
 import sys
 import tempfile
+from asked import answer_help
+
+answer_help(__name__, __doc__)
 
 HERE = os.path.dirname(os.path.abspath(__file__))
 BUILT = os.path.join(HERE, "..", "crates", "router", "out", "router")

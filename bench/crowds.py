@@ -10,6 +10,9 @@ seconds by chance finds. It shares nothing with the program: sets of trees in pl
 import random
 import sys
 import time
+from asked import answer_help
+
+answer_help(__name__, __doc__)
 
 LIMIT, STARTS, SECONDS = 128, 512, 4
 

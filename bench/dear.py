@@ -11,6 +11,9 @@ import collections
 import os
 import re
 import sys
+from asked import answer_help
+
+answer_help(__name__, __doc__)
 
 ROOT = os.path.dirname(os.path.dirname(os.path.abspath(__file__)))
 # The modules of a function have its name and then one of these words.

@@ -12,6 +12,9 @@ import os
 import subprocess
 import sys
 import time
+from asked import answer_help
+
+answer_help(__name__, __doc__)
 
 HZ = os.sysconf("SC_CLK_TCK")
 

@@ -6,6 +6,9 @@
 says what `verify` is to say, within a reach where one is given. It shares nothing with the program, and is slow.
 """
 import sys
+from asked import answer_help
+
+answer_help(__name__, __doc__)
 
 CHANNELS = ("CHANX", "CHANY")
 PINS = ("OPIN", "IPIN")

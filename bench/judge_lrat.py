@@ -8,6 +8,9 @@
 It shares nothing with the program, and is slow.
 """
 import sys
+from asked import answer_help
+
+answer_help(__name__, __doc__)
 
 NO_CLAUSE, OPEN, TRUE, NO_CONFLICT, BEHIND, NOT_THERE, NO_END, NO_GROUP, WRONG_GROUP, NO_GROUP_CONFLICT = range(1, 11)
 

@@ -8,6 +8,9 @@ down the columns of one to four quarters of the array, with a sink at each cell,
 away: 1,735 cells a quarter.
 """
 import sys
+from asked import answer_help
+
+answer_help(__name__, __doc__)
 
 ARCHITECTURE = """io_rat 2
 chan_width_io 1

@@ -13,6 +13,9 @@ then each slot has one of the fewer tracks, and no two slots have one. With two 
 clause follows. What served one level alone is deleted behind it.
 """
 import sys
+from asked import answer_help
+
+answer_help(__name__, __doc__)
 
 
 class Log:

@@ -7,6 +7,9 @@ writes PREFIX.arch, PREFIX.net, PREFIX.place and PREFIX.route. COUNT is at most 
 input of one logic block, along the cell below it.
 """
 import sys
+from asked import answer_help
+
+answer_help(__name__, __doc__)
 
 
 def architecture(count):

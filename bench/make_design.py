@@ -12,6 +12,9 @@ global. A net is routed sink by sink along cells that few other nets take, from 
 import heapq
 import random
 import sys
+from asked import answer_help
+
+answer_help(__name__, __doc__)
 
 PINS = 4  # the equivalent inputs of a logic block: bottom, left, top, right
 PADS = 2  # the pads of a place on the border

@@ -19,6 +19,9 @@ import sys
 import tempfile
 
 from judge import Elem, Problem, Route, cells_at, judged, mapped, sides_of
+from asked import answer_help
+
+answer_help(__name__, __doc__)
 
 HERE = os.path.dirname(os.path.abspath(__file__))
 BUILT = os.path.join(HERE, "..", "crates", "router", "out", "router")

@@ -8,6 +8,9 @@ array from pad to pad, and from there down between columns 2k and 2k + 1 to a pa
 each lower row. No cell has more than two nets, but all of them need tracks of their own under subset switches.
 """
 import sys
+from asked import answer_help
+
+answer_help(__name__, __doc__)
 
 ARCHITECTURE = """io_rat 1
 chan_width_io 1

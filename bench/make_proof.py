@@ -7,6 +7,9 @@
 The files are PREFIX.cnf and PREFIX.lrat.
 """
 import sys
+from asked import answer_help
+
+answer_help(__name__, __doc__)
 
 
 def signs(variables, pattern):

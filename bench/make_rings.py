@@ -11,6 +11,9 @@ less is refuted only by a search. SEED shuffles the nets; 0 leaves them in order
 """
 import random
 import sys
+from asked import answer_help
+
+answer_help(__name__, __doc__)
 
 ARCHITECTURE = """io_rat 16
 chan_width_io 1

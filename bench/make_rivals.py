@@ -10,6 +10,9 @@ trap is true. Nothing but this literal leads out of it early, and no conflict me
 stands a chain of so many variables, which the first of each trap makes true, one by the other.
 """
 import sys
+from asked import answer_help
+
+answer_help(__name__, __doc__)
 
 
 def crowd(nets, tracks, behind, guard):

@@ -8,6 +8,9 @@ from an output pin to the right: net k of a row from column k + 1 on, through co
 end at pads below it, with more each behind 75 columns at an input pin, so that NETS is at most 26 there.
 """
 import sys
+from asked import answer_help
+
+answer_help(__name__, __doc__)
 
 ARCHITECTURE = """io_rat 2
 chan_width_io 1

@@ -22,6 +22,9 @@ import resource
 import subprocess
 import sys
 import tempfile
+from asked import answer_help
+
+answer_help(__name__, __doc__)
 
 HERE = os.path.dirname(os.path.abspath(__file__))
 FOUR = [f"p.{ending}" for ending in ("arch", "net", "place", "route")]

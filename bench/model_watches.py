@@ -2,6 +2,10 @@
 """Draws the calls of `search_tests/src/random_watches.rt`, and prints how many clauses they attach, and a sum over which
 literals are true behind each call, which it works out by the clauses alone: a literal is true where it was decided, or
 where all others of a clause are false."""
+from asked import answer_help
+
+answer_help(__name__, __doc__)
+
 VARS, PRIME, WORD = 40, 0x100000001B3, (1 << 64) - 1
 state = 1
 

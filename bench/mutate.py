@@ -15,6 +15,9 @@ import random
 import re
 import shutil
 import sys
+from asked import answer_help
+
+answer_help(__name__, __doc__)
 
 ROOT = os.path.dirname(os.path.dirname(os.path.abspath(__file__)))
 MOST = 60

@@ -7,6 +7,9 @@ router, and is what the cases of crates/router_rows/data/symmetry.rows were work
 import sys
 
 from crowds import Crowds
+from asked import answer_help
+
+answer_help(__name__, __doc__)
 
 
 def groups(width, pattern):

@@ -5,6 +5,9 @@ Reads a global route alone and takes switch blocks to be subset ones and connect
 track. Prints the head of the CNF file and the clauses behind those without pins. It shares no code with
 the router, and is what the cases of crates/router_rows/data/pinned.rows were worked out with."""
 import sys
+from asked import answer_help
+
+answer_help(__name__, __doc__)
 
 
 def slots_and_steps(lines):

@@ -9,6 +9,9 @@ judge.py does, shares nothing with the router, and is slow.
 import sys
 
 from judge import Elem, Problem, are_joined, opened, touched
+from asked import answer_help
+
+answer_help(__name__, __doc__)
 
 
 def slots_of(problem):

@@ -7,6 +7,9 @@ else a net whose pins open no track in common; which option helps.
 import re
 from collections import Counter
 from decimal import ROUND_HALF_UP, Decimal
+from asked import answer_help
+
+answer_help(__name__, __doc__)
 
 VALUED = ("--conflicts", "--reach", "--members", "--seed")
 FLAGS = ("--keep", "--count", "--pin", "--symmetry")

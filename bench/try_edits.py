@@ -20,6 +20,9 @@ import shutil
 import subprocess
 import sys
 import tempfile
+from asked import answer_help
+
+answer_help(__name__, __doc__)
 
 ROOT = os.path.dirname(os.path.dirname(os.path.abspath(__file__)))
 EDITS = os.path.join(ROOT, "bench", "edits")

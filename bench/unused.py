@@ -11,6 +11,9 @@ import collections
 import os
 import re
 import subprocess
+from asked import answer_help
+
+answer_help(__name__, __doc__)
 
 ROOT = os.path.dirname(os.path.dirname(os.path.abspath(__file__)))
 WORD = re.compile(r"[\w◌]+(?:[-'][\w◌]+)*")

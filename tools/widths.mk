@@ -1,15 +1,27 @@
-# All widths of all designs of a folder, with make -j: a width whose report is there is not run again.
+# All widths of all designs of a folder, with make -j, in the folder at hand:
 #
-#     make -j4 -k -f tools/widths.mk DESIGNS=folder RUNS=runs WIDTHS="8 9 10"
+#     make -s -j4 -k -f tools/widths.mk DESIGNS=folder RUNS=runs WIDTHS="8 9 10"
 #
-# GAFKELAM names the program, and OPTIONS what stands behind its words, as --conflicts 100000.
-TOOLS := $(dir $(lastword $(MAKEFILE_LIST)))
-NAMES := $(basename $(notdir $(wildcard $(DESIGNS)/*.route)))
+# A width whose report in RUNS is of the same files and options is not run again (tools/one_width). GAFKELAM names
+# another program than the one beside these tools, and OPTIONS what stands behind its words, as --conflicts 100000.
+USAGE := usage: make -s -j4 -k -f tools/widths.mk DESIGNS=folder RUNS=runs WIDTHS="8 9 10"
+TOOLS := $(shell dirname "$(strip $(MAKEFILE_LIST))")
+RUNS ?= runs
+# Blanks in names stand as ␣ while make has them, whose words blanks would end.
+NAMES := $(shell cd "$(or $(DESIGNS),/dev/null)" 2>/dev/null && ls | sed -n 's/ /␣/g; s/\.route$$//p')
+ifeq ($(and $(DESIGNS),$(WIDTHS)),)
+$(error $(USAGE))
+endif
+ifeq ($(NAMES),)
+$(error no file of $(DESIGNS) ends in .route; $(USAGE))
+endif
+ALL := $(foreach name,$(NAMES),$(foreach width,$(WIDTHS),width/$(name).$(width)))
 
-.PHONY: all
-all: $(foreach name,$(NAMES),$(foreach width,$(WIDTHS),$(RUNS)/$(name).$(width).report))
-	@$(TOOLS)width_table $(RUNS)
+export OPTIONS GAFKELAM
+.PHONY: all $(ALL)
+all: $(ALL)
+	@"$(TOOLS)/width_table" "$(RUNS)"
 
-# The design and the width of a report are its name without the folder.
-$(RUNS)/%.report:
-	@$(TOOLS)one_width $(DESIGNS)/$(basename $*) $(subst .,,$(suffix $*)) $(RUNS)
+# The design and the width are the name without the folder.
+$(ALL): width/%:
+	@"$(TOOLS)/one_width" "$(DESIGNS)/$(subst ␣, ,$(basename $*))" "$(subst .,,$(suffix $*))" "$(RUNS)"
