@@ -5,9 +5,10 @@
 
 The samples are one small design as VTR 7, 8 and 9 write it, made by hand from what is documented: no VTR was run.
 Each must read as the design of VPR 4.30, and the reverse. A file with a changed line must be refused with that line
-and the words. Each route and placement of examples must read the same behind a way there and back. With ROUTER, the
-built program, what came back must also be routed and legal. Prints what is wrong, and last how many checks there were;
-ends with 1 where one is wrong.
+and the words, and the files of bench/vtr/other, in XML, packed or in another coding, with their first line. Each
+route and placement of examples must read the same behind a way there and back. With ROUTER, the built program, what
+came back must also be routed and legal. Prints what is wrong, and last how many checks there were; ends with 1 where
+one is wrong.
 """
 import glob
 import hashlib
@@ -187,6 +188,10 @@ def try_refused(checks):
             came = run(*way, "bad", *PADS, *of)
             wanted = (3, "", f"vtr: bad, line {number}: {why}\n")
             checks.see(came == wanted, f"{' '.join(way)} {sample}, line {number}, with {new}: {came}")
+    for name in sorted(glob.glob(os.path.join(SAMPLES, "other", "*"))):
+        came = run("from", name)
+        wanted = (3, "", f"vtr: {name}, line 1: the head of a route or a placement of VTR 7 to 9 is due\n")
+        checks.see(came == wanted, f"{name}: {came}")
     for text, line in (("", 1), ("# nothing\n", 2), ("Array size: 2 x 2 logic blocks.\n", 2)):
         with open("bad", "w") as file:
             file.write(text)
@@ -229,7 +234,7 @@ def there_and_back(name, out):
 
 def try_examples(checks, router):
     examples = os.path.join(TOP, "examples")
-    names = sorted(name for end in ("place", "route") for name in glob.glob(os.path.join(examples, f"*.{end}")))
+    names = [name for end in ("place", "route") for name in sorted(glob.glob(os.path.join(examples, f"*.{end}")))]
     checks.see(len(names) == 2 * len(WIDTHS), "other examples stand there")
     for name in names:
         wrong = there_and_back(name, os.path.basename(name))
