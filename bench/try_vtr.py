@@ -10,13 +10,16 @@ route and placement of examples must read the same behind a way there and back. 
 came back must also be routed and legal. Prints what is wrong, and last how many checks there were; ends with 1 where
 one is wrong.
 """
+import contextlib
 import glob
 import hashlib
+import io
 import os
 import re
 import subprocess
 import sys
 import tempfile
+import types
 
 from judge import Route, words_of
 
@@ -98,10 +101,27 @@ def text_of(name):
         return file.read()
 
 
+def loaded():
+    """The tool as a module, so that hundreds of calls take no process each."""
+    module = types.ModuleType("vtr")
+    with open(TOOL) as file:
+        exec(compile(file.read(), TOOL, "exec"), module.__dict__)
+    return module
+
+
+VTR = loaded()
+
+
 def run(*words):
-    """The status, what is printed and what is said."""
-    came = subprocess.run([sys.executable, "-B", TOOL, *words], capture_output=True)
-    return came.returncode, came.stdout.decode(), came.stderr.decode()
+    """The status, what is printed and what is said by the tool, in this process."""
+    printed, said, status = io.TextIOWrapper(io.BytesIO()), io.StringIO(), 0
+    sys.argv = [TOOL, *words]
+    try:
+        with contextlib.redirect_stdout(printed), contextlib.redirect_stderr(said):
+            VTR.main()
+    except SystemExit as end:
+        status = end.code
+    return status, printed.buffer.getvalue().decode(), said.getvalue()
 
 
 def turned(name, *words):
@@ -157,7 +177,8 @@ def try_samples(checks):
             checks.see(same, f"sample.{kind} is not written as vtr{version}.{kind}")
     first = turned("first", "from", os.path.join(SAMPLES, "vtr9_layer_first.route"), *PADS, "--layer-first")
     checks.see(reading(first) == reading(text_of(os.path.join(SAMPLES, "sample.route"))), "layers that stand first")
-    digest = hashlib.sha256(open(os.path.join(SAMPLES, "sample.net"), "rb").read()).hexdigest()
+    with open(os.path.join(SAMPLES, "sample.net"), "rb") as file:
+        digest = hashlib.sha256(file.read()).hexdigest()
     for kind, of in (("place", "Netlist"), ("route", "Placement")):
         head = to(8, os.path.join(SAMPLES, f"sample.{kind}"), "back").split("\n")[0]
         wanted = f"{of}_File: sample.net {of}_ID: SHA256:{digest}"
@@ -209,11 +230,14 @@ def try_words(checks):
         status, printed, said = run(*words)
         holds = (status, printed) == (4, "") and "\nusage: tools/vtr from FILE" in said
         checks.see(holds, f"words {words}: {status}, {said}")
+    came = subprocess.run([TOOL, "from", place], capture_output=True, text=True)
+    same = (came.returncode, came.stdout, came.stderr) == (0, text_of(place), "")
+    checks.see(same, f"a process of its own: {came}")
     came = run("from", "missing")
     checks.see(came == (5, "", "vtr: missing: it can't be read: No such file or directory\n"), f"a missing file: {came}")
     if os.path.exists("/dev/full"):
         with open("/dev/full", "w") as full:
-            came = subprocess.run([sys.executable, "-B", TOOL, "from", place], stdout=full, stderr=subprocess.PIPE)
+            came = subprocess.run([TOOL, "from", place], stdout=full, stderr=subprocess.PIPE)
         said = b"vtr: standard output: it can't be written: No space left on device\n"
         checks.see((came.returncode, came.stderr) == (6, said), f"a full device: {came}")
 
@@ -221,14 +245,13 @@ def try_words(checks):
 def there_and_back(name, out):
     """What differs of a file that went to a version of VTR and back; each way back is left in `out`."""
     wrong, text = [], text_of(name)
-    for version in (7, 8, 9):
-        for options in ([], PADS, ["--layer-first"]):
-            theirs = to(version, name, "theirs", *options)
-            ours = turned(out, "from", "theirs", *options)
-            again = turned(out, "from", "again", *options) if to(version, out, "again", *options) else ""
-            is_one_form = version == 7 and name.endswith(".place")
-            if theirs == text and not is_one_form or reading(ours) != reading(text) or again != ours:
-                wrong.append(f"{os.path.basename(name)} to {version} {' '.join(options)} and back reads otherwise")
+    for version, *options in ((7,), (8, *PADS), (9, *PADS, "--layer-first")):
+        theirs = to(version, name, "theirs", *options)
+        ours = turned(out, "from", "theirs", *options)
+        again = turned(out, "from", "again", *options) if to(version, out, "again", *options) else ""
+        is_one_form = version == 7 and name.endswith(".place")
+        if theirs == text and not is_one_form or reading(ours) != reading(text) or again != ours:
+            wrong.append(f"{os.path.basename(name)} to {version} {' '.join(options)} and back reads otherwise")
     return wrong
 
 
