@@ -57,6 +57,7 @@ REFUSED = (
     ("vtr7.route", 3, "Routing:", "Routes:", "`Routing:` is due"),
     ("vtr7.route", 5, "(a)", "(a b)", "`Net k (name)` is due, and a name without blanks and `#`"),
     ("vtr7.route", 5, "(a)", "(a#b)", "`Net k (name)` is due, and a name without blanks and `#`"),
+    ("vtr7.route", 5, "(a)", "(a):", "`Net k (name)` is due, and a name without blanks and `#`"),
     ("vtr7.route", 5, "0", "a", "a number is due, and not a"),
     ("vtr8.route", 2, "4 x 4", "4 x 2", "an array of one block or more is due, with pads round it"),
     ("vtr8.route", 1, "Placement_ID", "Placement", "the head of a route or a placement of VTR 7 to 9 is due"),
@@ -153,7 +154,7 @@ def reading(text):
 def nodes(text):
     """The lines of a route of VTR without what is made by each writer, and the node numbers."""
     lines = [line for line in re.sub(r"# .*", "", text).split("\n") if line.strip()]
-    bare = [re.sub(r"^Node:\t[0-9]+|to \S+|\w+\.\w\[\d\]|Switch: ?-?[0-9]+|ID: .*", "", line) for line in lines]
+    bare = [re.sub(r"^Node:\t[0-9]+|to \S+|\w+\.\w\[\d\]|(?<=Switch:) ?[0-9]+|ID: .*", "", line) for line in lines]
     return [" ".join(line.split()) for line in bare], [line.split()[1] for line in lines if line.startswith("Node:")]
 
 
@@ -177,6 +178,13 @@ def try_samples(checks):
             checks.see(same, f"sample.{kind} is not written as vtr{version}.{kind}")
     first = turned("first", "from", os.path.join(SAMPLES, "vtr9_layer_first.route"), *PADS, "--layer-first")
     checks.see(reading(first) == reading(text_of(os.path.join(SAMPLES, "sample.route"))), "layers that stand first")
+    with open("bad", "w") as file:
+        file.write(changed("vtr8.place", 1, "Netlist_ID: SHA256:", "Architecture_File: "))
+    for name, head in ((os.path.join(SAMPLES, "vtr8.place"), "sample.arch"), ("bad", "ce5217d2")):
+        came = run("from", name)[1]
+        checks.see(came.startswith(f"Netlist file: sample.net   Architecture file: {head}"), f"a head: {came[:99]}")
+    comment = "SINK (1,1)  Class: 0  # the first of two sinks\n"
+    checks.see(comment in run("from", os.path.join(SAMPLES, "vtr8.route"), *PADS)[1], "a comment is lost")
     with open(os.path.join(SAMPLES, "sample.net"), "rb") as file:
         digest = hashlib.sha256(file.read()).hexdigest()
     for kind, of in (("place", "Netlist"), ("route", "Placement")):
@@ -234,7 +242,8 @@ def try_words(checks):
     same = (came.returncode, came.stdout, came.stderr) == (0, text_of(place), "")
     checks.see(same, f"a process of its own: {came}")
     came = run("from", "missing")
-    checks.see(came == (5, "", "vtr: missing: it can't be read: No such file or directory\n"), f"a missing file: {came}")
+    wanted = (5, "", "vtr: missing: it can't be read: No such file or directory\n")
+    checks.see(came == wanted, f"a missing file: {came}")
     if os.path.exists("/dev/full"):
         with open("/dev/full", "w") as full:
             came = subprocess.run([TOOL, "from", place], stdout=full, stderr=subprocess.PIPE)
