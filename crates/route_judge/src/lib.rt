@@ -1,0 +1,10 @@
+//! A judge of routed files with no global route: whether one is a routing of a placement.
+#![tactic(auto)]
+
+mod kept;
+mod line;
+mod placed_judge;
+mod rules;
+mod verdict;
+
+pub use verdict::{judge, judge_strict};
