@@ -1,11 +1,12 @@
 -- The lines of one net of a routed file, where they are those of a tree: switches lead from the
 -- driver to the wire of each channel line, and to each sink.
-use Rattle.std.proofs.Common.{◌≡◌, ℕ, zero, suc, ◌<◌, Bool, true, false, Option, Some, None, List, [], ◌∷◌, ◌++◌, take, refl, sym, ap, subst, inl, inr, ◌∙◌, arith}
-use Rattle.std.specs.Prelude.{◌&&◌, ◌||◌, ◌==◌, filter_map, nat_lt, not, slice_get}
+use Rattle.std.proofs.Common.{◌≡◌, ℕ, zero, suc, ◌≢◌, ◌<◌, Bool, true, false, length, Option, Some, None, List, [], ◌∷◌, ◌++◌, take, refl, sym, ap, subst, inl, inr, ◌∙◌, arith}
+use Rattle.std.specs.Prelude.{◌&&◌, ◌||◌, ◌==◌, AllPairs, filter_map, map, nat_lt, not, slice_get, zip}
 use Rattle.std.specs.List.{last_or, list_any}
 use Rattle.std.specs.Option.{option_map_or}
 use Rattle.std.proofs.lemmas.Bool.{eqb-true, false≢true, not-false, or_parts}
-use Rattle.list_laws.proofs.Members.{In, In-append_cases, In-filter_map, In-list_any}
+use Rattle.std.proofs.lemmas.List.Kept.{AllPairs-cons}
+use Rattle.list_laws.proofs.Members.{In, In-append_cases, In-filter_map, In-list_any, all-from_In, contains-In, from_In-map}
 use Rattle.list_laws.proofs.Places.{In-place, get-In, get-before, get-take, last-push, take-get}
 use Rattle.fpga_graph.specs.GraphOf.{GraphOf}
 use Rattle.fpga_types.specs.Boxes.{opens}
@@ -22,7 +23,7 @@ use Rattle.fpga_types.specs.declared.problem.Terminal.{Terminal}
 use Rattle.fpga_types.specs.declared.route.Elem.{Elem}
 use Rattle.fpga_types.proofs.BoxLemmas.{opens-is, touches-is}
 use Rattle.fpga_types.proofs.MeetingLemmas.{across-joined, both_true}
-use Rattle.route_judge.proofs.KindLemmas.{before-channel, before-ipin, before-sink, channel-wire, ipin-no-source, ipin-pin, no-source, on-wire, opin-pin, sink-no-source, terminal-is, wire-channel}
+use Rattle.route_judge.proofs.KindLemmas.{before-channel, before-ipin, before-sink, channel-wire, ipin-no-source, ipin-pin, no-source, on-wire, one-terminal, opin-pin, sink-no-source, terminal-is, wire-channel}
 use Rattle.route_verify.specs.Lines.{has_wire, is_on_wire}
 use Rattle.route_verify.specs.Wiring.{are_joined, are_parted, are_unconnected, elem_wire, is_past_width, misses, pin_on, reaches, wire_on}
 
@@ -317,3 +318,55 @@ module _ (g : GraphOf) (driver : Option Terminal) (inputs : Elem → Bool)
       let parts = both_true (is_sink line.0.kind) (is_terminal line.0 sink) line.2 in
       let place = In-place elems line.0 line.1 in
       subst Served (terminal-is line.0 sink parts.1) (at-sink place.0 line.0 place.1 parts.0)
+
+  -- ways to these sinks, one for each, in turn
+  pub record AreServed (sinks : List Terminal) : Type 0 where
+    pub ways : List Way
+    pub count : length ways ≡ length sinks
+    pub each : (at : Terminal × Way) → In (zip sinks ways) at
+        → (s : Served at.0) × (s.way ≡ at.1)
+    pub of : (way : Way) → In ways way
+        → (sink : Terminal) × In sinks sink × ((s : Served sink) × (s.way ≡ way))
+    pub apart : AllPairs (λ (s t : Terminal). s ≢ t) sinks
+        → AllPairs (λ (p q : PinAt). p ≢ q) (map (λ (way : Way). way.enters) ways)
+
+  pub all-served : (sinks : List Terminal)
+      → ((sink : Terminal) → In sinks sink → has_sink elems sink ≡ true) → AreServed sinks
+  all-served [] has = record {
+    ways = [];
+    count = refl;
+    each = λ at i. absurd i;
+    of = λ way i. absurd i;
+    apart = λ different i j d before inside. absurd (omega (arith, inside));
+  }
+  all-served (t ∷ ts) has =
+      let s : Served t = served t (has t (inl refl)) in
+      let r : AreServed ts = all-served ts (λ u i. has u (inr i)) in
+      record {
+        ways = s.way ∷ r.ways;
+        count = ap suc r.count;
+        each = λ at i. elim i [
+          | inl same ↦ subst (λ (at : Terminal × Way). (s : Served at.0) × (s.way ≡ at.1)) same
+              (s, refl)
+          | inr later ↦ r.each at later
+        ];
+        of = λ way i. elim i [
+          | inl same ↦ (t, inl refl, (s, same))
+          | inr later ↦ let o = r.of way later in (o.0, inr o.1, o.2)
+        ];
+        apart = λ different. AllPairs-cons (λ (p q : PinAt). p ≢ q) s.way.enters
+            (map (λ (way : Way). way.enters) r.ways)
+            (all-from_In (λ (q : PinAt). s.way.enters ≢ q)
+            (map (λ (way : Way). way.enters) r.ways) (λ q i same.
+            let made = from_In-map (λ (way : Way). way.enters) r.ways q i in
+            let o = r.of made.0 made.1 in
+            let place = contains-In ts o.0 o.1 in
+            let pin : o.2.0.way.enters ≡ s.way.enters =
+            ap (λ (way : Way). way.enters) o.2.1 ∙ made.2 ∙ sym same in
+            let one : t ≡ o.0 = one-terminal g.arch t o.0 s.way.enters s.enters
+            (subst (λ (p : PinAt). is_terminal_pin g.arch o.0 p ≡ true) pin o.2.0.enters) in
+            different 0 (suc place.0) o.0 (omega arith) (omega (arith, place.1))
+            (one ∙ sym place.2)))
+            (r.apart (λ i j d before inside.
+            different (suc i) (suc j) d (omega (arith, before)) (omega (arith, inside))));
+      }

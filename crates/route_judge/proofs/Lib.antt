@@ -1,5 +1,8 @@
 pub mod CauseLemmas
+pub mod CleanLines
 pub mod KindLemmas
 pub mod LeadLemmas
+pub mod NetRoutings
 mod RuleLemmas
+pub mod SaysLemmas
 mod VerdictLemmas

@@ -1,3 +1,4 @@
 pub mod Judge
 pub mod Judged
 pub mod Rules
+pub mod Says

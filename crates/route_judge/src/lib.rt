@@ -2,9 +2,11 @@
 #![tactic(auto)]
 
 mod kept;
+mod laws;
 mod line;
 mod placed_judge;
 mod rules;
 mod verdict;
 
+pub use laws::legal_file_says_a_routing;
 pub use verdict::{judge, judge_strict};
