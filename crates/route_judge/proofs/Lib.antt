@@ -1,8 +1,10 @@
 pub mod CauseLemmas
 pub mod CleanLines
+pub mod FittingFiles
 pub mod KindLemmas
 pub mod LeadLemmas
 pub mod NetRoutings
 mod RuleLemmas
 pub mod SaysLemmas
 mod VerdictLemmas
+pub mod VerifiedFiles

@@ -8,5 +8,8 @@ mod placed_judge;
 mod rules;
 mod verdict;
 
-pub use laws::legal_file_says_a_routing;
+pub use laws::{
+    file_within_reach_is_judged_legal, legal_file_says_a_routing, strict_file_is_a_global_route,
+    verified_file_is_judged_legal,
+};
 pub use verdict::{judge, judge_strict};
