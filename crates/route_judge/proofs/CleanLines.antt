@@ -80,7 +80,7 @@ fine-line g at none =
     }
 
 -- what follows from a test of several parts that does not pass
-and-second : (a b : Bool) → (a && b) ≡ false → a ≡ true → b ≡ false
+pub and-second : (a b : Bool) → (a && b) ≡ false → a ≡ true → b ≡ false
 and-second true b none is = none
 and-second false b none is = absurd (false≢true is)
 
@@ -180,7 +180,7 @@ module _ (strict : Bool) (width : ℕ) (p : RoutingProblem)
       at-elem : AllByRecursion (IsSilent g (judged_line p line)) (placed_causes strict)
       at-elem = silent line (elem-among nets n net i e here at)
 
-      fine : IsFine g (judged_line p line)
+      pub fine : IsFine g (judged_line p line)
       fine = fine-line g (judged_line p line) at-elem.1.1.1.1.1.0
 
       abbrev before : List Elem

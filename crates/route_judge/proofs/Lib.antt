@@ -6,5 +6,6 @@ pub mod LeadLemmas
 pub mod NetRoutings
 mod RuleLemmas
 pub mod SaysLemmas
+pub mod TreeLemmas
 mod VerdictLemmas
 pub mod VerifiedFiles

@@ -85,6 +85,8 @@ pub record IsNetSaid (placed : PlacedNetlist) (width : ℕ) (found : RouteText) 
   pub traced : RouteNet
   pub here : slice_get found.nets at ≡ Some traced
   pub name : traced.name ≡ net.name
+  pub plain : traced.global ≡ false
+  pub sinks : sinks_named (problem_with placed found) traced.name ≡ sinks_in placed net
   pub routed : IsNetRouted placed width net has
   pub wires : has.wires ≡ filter_map elem_wire traced.elems
   pub pins : (pin : PinAt) → In (net_pins has) pin
@@ -280,6 +282,8 @@ module _ (strict : Bool) (width : ℕ) (placed : PlacedNetlist) (found : RouteTe
           traced = traced;
           here = at;
           name = name;
+          plain = plain;
+          sinks = sinks;
           routed = routed;
           wires = refl;
           pins = on-pins;

@@ -16,10 +16,12 @@ use Rattle.fpga_types.specs.Placed.{IsPlacedRouting, NetWires, is_ordinary_net, 
 use Rattle.fpga_types.specs.Problem.{PlacedNetlist, RoutingProblem}
 use Rattle.fpga_types.specs.Slots.{elem_pin, labelled_pin, pin_at}
 use Rattle.fpga_types.specs.Sound.{IsSound}
+use Rattle.fpga_types.specs.Terminals.{sinks_in}
 use Rattle.fpga_types.specs.declared.grid.PinAt.{PinAt}
 use Rattle.fpga_types.specs.declared.grid.PinAt.TheVariants.{Pad as PadAt, Pin as PinOf}
 use Rattle.fpga_types.specs.declared.grid.Wire.{Wire}
 use Rattle.fpga_types.specs.declared.netlist.Net.{Net}
+use Rattle.fpga_types.specs.declared.problem.Terminal.{Terminal}
 use Rattle.fpga_types.specs.declared.route.Elem.{Elem}
 use Rattle.fpga_types.specs.declared.route.ElemKind.{ElemKind}
 use Rattle.fpga_types.specs.declared.route.ElemKind.TheVariants.{Source, Opin, ChanX, ChanY, Ipin, Sink}
@@ -30,10 +32,11 @@ use Rattle.fpga_types.specs.declared.route.RouteText.{RouteText}
 use Rattle.fpga_types.proofs.MeetingLemmas.{same_cell-itself}
 use Rattle.fpga_types.proofs.NameLaws.{name_itself}
 use Rattle.route_judge.specs.Judged.{placed_judged, placed_route_causes, problem_with}
-use Rattle.route_judge.specs.Says.{AreNetsOf, HasOwnEnds, IsOnLines, SaysRouting}
+use Rattle.route_judge.specs.Says.{AreNetsOf, HasOwnEnds, IsOnLines, IsTreeTo, SaysRouting}
 use Rattle.route_judge.proofs.CauseLemmas.{first-is-cause}
 use Rattle.route_judge.proofs.CleanLines.{known, lone-pin, lone-wire, new}
 use Rattle.route_judge.proofs.NetRoutings.{IsNetSaid, net-said, same-net}
+use Rattle.route_judge.proofs.TreeLemmas.{tree}
 use Rattle.route_verify.specs.Lines.{has_wire, is_on_wire, is_trace_named, is_wire_of, trace_named}
 use Rattle.route_verify.specs.Wiring.{elem_wire, same_wire}
 use Rattle.route_verify.specs.declared.judgement.Judgement.TheVariants.{Legal}
@@ -255,24 +258,34 @@ module _ (strict : Bool) (width : ℕ) (placed : PlacedNetlist) (found : RouteTe
         (ap (λ (name : Bytes). bytes_eq name late.name) same ∙ name_itself late.name));
   }
 
-  on-lines : (net : Net) (w : NetWires) → IsNetSaid placed width found net w
-      → IsOnLines (trace_named found.nets net.name) w
-  on-lines net w s =
+  -- the net of the file with the name is found
+  trace : (net : Net) (w : NetWires) (s : IsNetSaid placed width found net w)
+      → s.traced.elems ≡ trace_named found.nets net.name
+  trace net w s =
       let name : Bytes = s.traced.name in
-      let trace : trace_named found.nets name ≡ s.traced.elems =
+      let found_there : trace_named found.nets name ≡ s.traced.elems =
       ap (λ (o : Option RouteNet). option_map_or (λ (r : RouteNet). r.elems) o [])
       (find-first (is_trace_named name) found.nets s.at s.traced s.here
       (new strict width p clean s.at s.traced s.here) (name_itself name)) in
-      subst (λ (es : List Elem). IsOnLines es w)
-      (sym trace ∙ ap (trace_named found.nets) s.name) (record {
-        wires = s.wires;
-        pins = all-from_In
-            (λ (pin : PinAt). Any (λ (e : Elem). elem_pin e ≡ Some pin) s.traced.elems)
-            (net_pins w) (λ pin among.
-            let line = s.pins pin among in
-            any-from_In (λ (e : Elem). elem_pin e ≡ Some pin) s.traced.elems line.0 line.1
-            line.2);
-      })
+      sym found_there ∙ ap (trace_named found.nets) s.name
+
+  on-lines : (net : Net) (w : NetWires) → IsNetSaid placed width found net w
+      → IsOnLines (trace_named found.nets net.name) w
+  on-lines net w s = subst (λ (es : List Elem). IsOnLines es w) (trace net w s) (record {
+    wires = s.wires;
+    pins = all-from_In
+        (λ (pin : PinAt). Any (λ (e : Elem). elem_pin e ≡ Some pin) s.traced.elems)
+        (net_pins w) (λ pin among.
+        let line = s.pins pin among in
+        any-from_In (λ (e : Elem). elem_pin e ≡ Some pin) s.traced.elems line.0 line.1
+        line.2);
+  })
+
+  in-tree : (net : Net) (w : NetWires) → IsNetSaid placed width found net w
+      → IsTreeTo (sinks_in placed net) (trace_named found.nets net.name)
+  in-tree net w s = subst (IsTreeTo (sinks_in placed net)) (trace net w s)
+      (subst (λ (sinks : List Terminal). IsTreeTo sinks s.traced.elems) s.sinks
+      (tree strict width p sound clean s.at s.traced s.here s.plain))
 
   pub says : (has : ℕ → NetWires) × SaysRouting placed width found has
   says = (
@@ -280,6 +293,8 @@ module _ (strict : Bool) (width : ℕ) (placed : PlacedNetlist) (found : RouteTe
     record {
       routing = routing;
       nets = nets;
+      trees = λ number net here ordinary.
+          in-tree net (has number) ((each number).1 net here ordinary);
       lines = λ number net here ordinary.
           on-lines net (has number) ((each number).1 net here ordinary);
     },
