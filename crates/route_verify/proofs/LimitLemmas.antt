@@ -25,17 +25,17 @@ IsCause (Some (Bad line cause)) = ⊤
 IsCause (Some (Limit cause count)) = ⊥
 IsCause (Some Memory) = ⊥
 
-this-or-rest : (holds : Bool) (line cause : ℕ) (rest : Option TextFault) → IsCause rest
+pub this-or-rest : (holds : Bool) (line cause : ℕ) (rest : Option TextFault) → IsCause rest
     → IsCause (if holds then Some (Bad line cause) else rest)
 this-or-rest true line cause rest is = tt
 this-or-rest false line cause rest is = is
 
-none-or-this : (fine : Bool) (line cause : ℕ)
+pub none-or-this : (fine : Bool) (line cause : ℕ)
     → IsCause (if fine then None else Some (Bad line cause))
 none-or-this true line cause = tt
 none-or-this false line cause = tt
 
-first-or-later : (first later : Option TextFault) → IsCause first → IsCause later
+pub first-or-later : (first later : Option TextFault) → IsCause first → IsCause later
     → IsCause (option_or first later)
 first-or-later None later is after = after
 first-or-later (Some (Bad line cause)) later is after = tt

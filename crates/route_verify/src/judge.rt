@@ -204,7 +204,7 @@ fn is_lacking(alloc: Global, rules: &Rules, net: &RouteNet) -> bool
 }
 
 /// The least cause against a Net line.
-fn head_cause(
+pub fn head_cause(
     line: u64,
     known: bool,
     repeated: bool,

@@ -16,6 +16,10 @@ mod wiring;
 
 pub use cause::Cause;
 pub use depths::LineDepths;
+pub use judge::head_cause;
 pub use judgement::Judgement;
 pub use laws::{legal_tracks_are_judged_legal, legal_without_causes};
+pub use line::{LineContext, is_unconnected, is_unfit, repeats_cell, repeats_wire};
 pub use verdict::{verify, verify_reach};
+pub use wires::{WireKey, add_wire, add_wires, is_on};
+pub use wiring::Wiring;

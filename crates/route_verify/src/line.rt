@@ -31,7 +31,7 @@ pub(crate) struct ElemLine {
 
 /// What the causes against an element line look at.
 #[derive(Clone, Copy)]
-pub(crate) struct LineContext {
+pub struct LineContext {
     /// What the codes of the fit look at. How many slots there are is not asked.
     pub fit: ProblemContext,
     /// Whether it is a channel on a wire of an earlier line of its net.
@@ -79,7 +79,7 @@ pub(crate) fn line_cause(wiring: &Wiring, reach: Option<u32>, at: LineContext) -
 }
 
 /// Whether the line before and this one are not connected by the fabric.
-fn is_unconnected(wiring: &Wiring, at: LineContext) -> bool
+pub fn is_unconnected(wiring: &Wiring, at: LineContext) -> bool
     ensures { result ≡ spec.is_unconnected wiring.now (judged_at at) }
 {
     let route = at.fit.route;
@@ -102,7 +102,7 @@ fn repeats(reach: Option<u32>, at: LineContext) -> bool
 
 /// Whether a channel is in a cell of an earlier line of its net, unless it is in branch position
 /// and names a wire of its net again.
-fn repeats_cell(at: LineContext) -> bool
+pub fn repeats_cell(at: LineContext) -> bool
     ensures { result ≡ spec.repeats_cell (judged_at at) }
 {
     let route = at.fit.route;
@@ -110,7 +110,7 @@ fn repeats_cell(at: LineContext) -> bool
 }
 
 /// Whether a channel equals an earlier line of its net where no branch starts.
-fn repeats_wire(at: LineContext) -> bool
+pub fn repeats_wire(at: LineContext) -> bool
     ensures { result ≡ reach_spec.repeats_wire (judged_at at) }
 {
     let route = at.fit.route;
@@ -142,7 +142,7 @@ fn is_sink_behind_pin(at: LineContext) -> bool
 }
 
 /// Whether a code of the fit would hold at the line, one that no other cause stands for.
-fn is_unfit(wiring: &Wiring, at: LineContext) -> bool
+pub fn is_unfit(wiring: &Wiring, at: LineContext) -> bool
     ensures { result ≡ spec.is_unfit wiring.now (judged_at at) }
 {
     let route = at.fit.route;

@@ -11,7 +11,7 @@ use std::collections::BTreeSet;
 
 /// A wire, as a set keeps it.
 #[derive(Clone, Copy, PartialEq, Eq, PartialOrd, Ord)]
-pub(crate) struct WireKey {
+pub struct WireKey {
     pub cell: Cell,
     pub track: u32,
 }
@@ -27,7 +27,7 @@ fn wire_key(wire: Wire) -> WireKey
 }
 
 /// Whether the line is a channel line on a wire of the set.
-pub(crate) fn is_on(wires: &BTreeSet<WireKey>, line: Elem) -> bool
+pub fn is_on(wires: &BTreeSet<WireKey>, line: Elem) -> bool
     ensures { result ≡ option_map_or (is_kept wires.now) (elem_wire line) false }
 {
     match wire_of(line) {
@@ -37,7 +37,7 @@ pub(crate) fn is_on(wires: &BTreeSet<WireKey>, line: Elem) -> bool
 }
 
 /// Puts the line's wire into the set, if it is a channel line.
-pub(crate) fn add_wire(wires: &mut BTreeSet<WireKey>, line: Elem) -> Result<(), AllocError>
+pub fn add_wire(wires: &mut BTreeSet<WireKey>, line: Elem) -> Result<(), AllocError>
     ensures { OnOk result (GainsWire wires.old line wires.new) }
 {
     let Some(wire) = wire_of(line) else {
@@ -48,7 +48,7 @@ pub(crate) fn add_wire(wires: &mut BTreeSet<WireKey>, line: Elem) -> Result<(), 
 }
 
 /// Puts the wires of a net into the set.
-pub(crate) fn add_wires(wires: &mut BTreeSet<WireKey>, lines: &[Elem]) -> Result<(), AllocError>
+pub fn add_wires(wires: &mut BTreeSet<WireKey>, lines: &[Elem]) -> Result<(), AllocError>
     ensures { OnOk result (GainsWires wires.old lines.now wires.new) }
 {
     for line in lines {

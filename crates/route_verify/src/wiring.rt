@@ -10,7 +10,7 @@ use std::marker::Model;
 /// The switch blocks and connection boxes of an architecture in an array, with so many tracks a
 /// channel.
 #[derive(Drop)]
-pub(crate) struct Wiring<'a> {
+pub struct Wiring<'a> {
     arch: &'a Arch,
     grid: Grid,
     width: u32,
@@ -28,7 +28,7 @@ impl<'a> Model for Wiring<'a> {
 
 impl<'a> Wiring<'a> {
     /// With the blocks and boxes of this architecture in this array, at this width.
-    pub(crate) fn new(arch: &'a Arch, grid: Grid, width: u32) -> Wiring<'a>
+    pub fn new(arch: &'a Arch, grid: Grid, width: u32) -> Wiring<'a>
         requires { (1 ≤ width) × (width ≤ WIDTH_LIMIT) }
         ensures { result ≡ record { arch = arch.now; grid = grid; width = width } }
     {
@@ -36,7 +36,7 @@ impl<'a> Wiring<'a> {
     }
 
     /// The architecture.
-    pub(crate) fn arch(&self) -> &'a Arch
+    pub fn arch(&self) -> &'a Arch
         ensures { result.now ≡ self.now.arch }
     {
         self.arch
@@ -44,7 +44,7 @@ impl<'a> Wiring<'a> {
 
     /// Whether of two lines next to each other in one net two channel lines are not joined, or a
     /// pin line and a channel line, in either order, are not.
-    pub(crate) fn are_unconnected(&self, first: Elem, second: Elem) -> bool
+    pub fn are_unconnected(&self, first: Elem, second: Elem) -> bool
         ensures { result ≡ spec.are_unconnected self.now (Some first) (Some second) }
     {
         let from = wire_of(first);
@@ -53,7 +53,7 @@ impl<'a> Wiring<'a> {
     }
 
     /// Whether the line is a channel line of a track that is not below the width.
-    pub(crate) fn is_past_width(&self, line: Elem) -> bool
+    pub fn is_past_width(&self, line: Elem) -> bool
         ensures { result ≡ spec.is_past_width self.now (Some line) }
     {
         match wire_of(line) {

@@ -1,0 +1,11 @@
+pub mod CauseLemmas
+pub mod CleanLines
+pub mod FittingFiles
+pub mod KindLemmas
+pub mod LeadLemmas
+pub mod NetRoutings
+mod RuleLemmas
+pub mod SaysLemmas
+pub mod TreeLemmas
+mod VerdictLemmas
+pub mod VerifiedFiles

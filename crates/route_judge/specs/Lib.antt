@@ -1,0 +1,4 @@
+pub mod Judge
+pub mod Judged
+pub mod Rules
+pub mod Says
