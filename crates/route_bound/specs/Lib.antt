@@ -1,0 +1,4 @@
+pub mod Corners
+pub mod Crossing
+pub mod Lying
+pub mod Walks
