@@ -3,11 +3,14 @@
 
     make_rivals.py crowd NETS TRACKS
     make_rivals.py traps COUNT [CHAIN]
+    make_rivals.py rows NETS TRACKS LENGTH VARIABLES
 
 A crowd has a variable for each track of each net: each net has a track and no two, and no track has two nets. A trap
 is a crowd of eight nets that want seven tracks, unless a literal is true that is false where the first variable of the
 trap is true. Nothing but this literal leads out of it early, and no conflict meets the first variable. Behind the traps
-stands a chain of so many variables, which the first of each trap makes true, one by the other.
+stands a chain of so many variables, which the first of each trap makes true, one by the other. In rows the variable of
+each track of each net is followed by so many others, one by the other, and two nets on a track are rivals by some of
+these, or by the first ones, and on the first track once more by others; there are so many variables in all.
 """
 import sys
 from asked import answer_help
@@ -37,10 +40,32 @@ def traps(count, chain=0):
     return clauses
 
 
+def rows(nets, tracks, length, variables):
+    """The clauses of rivals by the variables that follow those of a crowd, and one that holds the last variable."""
+    leaders = nets * tracks
+
+    def at(net, track, place):
+        leader = net * tracks + track + 1
+        return leader if place % (length + 1) == 0 else leaders + (leader - 1) * length + place % (length + 1)
+
+    clauses = [[at(net, track, 0) for track in range(tracks)] for net in range(nets)]
+    for net in range(nets):
+        for track in range(tracks):
+            clauses += [[-at(net, track, place), at(net, track, place + 1)] for place in range(length)]
+    for track in range(tracks):
+        for b in range(nets):
+            for a in range(b):
+                clauses.append([-at(a, track, a + b + track), -at(b, track, 2 * a + b)])
+                if track == 0:
+                    clauses.append([-at(a, track, a), -at(b, track, 3 * b)])
+    return clauses + [[variables - 1, variables]]
+
+
 def main():
     kind, *numbers = sys.argv[1:]
     numbers = [int(number) for number in numbers]
-    clauses = crowd(*numbers, 0, []) if kind == "crowd" else traps(*numbers)
+    makers = {"crowd": lambda *of: crowd(*of, 0, []), "traps": traps, "rows": rows}
+    clauses = makers[kind](*numbers)
     variables = max(abs(literal) for clause in clauses for literal in clause)
     print(f"p cnf {variables} {len(clauses)}")
     for clause in clauses:
