@@ -6,6 +6,10 @@ import os
 import re
 import sys
 
+from asked import answer_help
+
+answer_help(__name__, __doc__)
+
 TOP = os.path.dirname(os.path.dirname(os.path.abspath(__file__)))
 PAGE = "docs/THEOREMS.md"
 
@@ -82,7 +86,4 @@ def main():
 
 
 if __name__ == "__main__":
-    if sys.argv[1:]:
-        print(__doc__)
-        sys.exit(0 if sys.argv[1:] == ["--help"] else 4)
     sys.exit(main())

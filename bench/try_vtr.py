@@ -20,6 +20,9 @@ import subprocess
 import sys
 import tempfile
 import types
+from asked import answer_help
+
+answer_help(__name__, __doc__)
 
 from judge import Route, words_of
 
@@ -267,7 +270,8 @@ def there_and_back(name, out):
 def try_examples(checks, router):
     examples = os.path.join(TOP, "examples")
     names = [name for end in ("place", "route") for name in sorted(glob.glob(os.path.join(examples, f"*.{end}")))]
-    checks.see(len(names) == 2 * len(WIDTHS), "other examples stand there")
+    wanted = {f"{design}.{end}" for design in WIDTHS for end in ("place", "route")}
+    checks.see(wanted <= set(map(os.path.basename, names)), "an example is missing")
     for name in names:
         wrong = there_and_back(name, os.path.basename(name))
         checks.see(not wrong, "; ".join(wrong))
