@@ -1,5 +1,5 @@
 -- What there is against a line of a routed file is a cause, and no limit.
-use Rattle.std.proofs.Common.{◌≡◌, ℕ, ◌+◌, Bool, List, [], ◌∷◌, Option, None, sym, subst}
+use Rattle.std.proofs.Common.{ℕ, ◌+◌, Bool, List, [], ◌∷◌, Option, None, sym, subst}
 use Rattle.std.specs.Prelude.{map}
 use Rattle.std.specs.Option.{option_or}
 use Rattle.fpga_graph.specs.GraphOf.{GraphOf}

@@ -1,6 +1,6 @@
 -- A routed file that is judged legal strictly fits as a global route, and `verify` takes it within
 -- its own cells.
-use Rattle.std.proofs.Common.{◌≡◌, ℕ, ◌+◌, ◌<◌, ◌≤◌, zero, suc, Bool, true, false, Option, Some, None, List, [], ◌∷◌, ◌++◌, length, drop, take, refl, sym, ap, subst, inl, inr, ◌∙◌, arith}
+use Rattle.std.proofs.Common.{◌≡◌, ℕ, ◌+◌, ◌≤◌, zero, suc, Bool, true, false, Option, Some, None, List, [], ◌∷◌, length, take, refl, sym, ap, subst, inl, inr, ◌∙◌, arith}
 use Rattle.std.specs.Prelude.{◌&&◌, ◌||◌, ◌==◌, ⊤, is_none, map, nat_lt, not, option_and_then, option_map, slice_get, if◌then◌else◌}
 use Rattle.std.specs.List.{last_or, list_any}
 use Rattle.std.specs.Option.{option_map_or, option_or}
@@ -12,66 +12,52 @@ use Rattle.fpga_bounds.specs.NetFit.{head_line}
 use Rattle.fpga_bounds.proofs.LineLemmas.{elem_line}
 use Rattle.fpga_bounds.proofs.SlotCountLemmas.{AreTracks, many-slots}
 use Rattle.fpga_graph.specs.GraphOf.{GraphOf}
-use Rattle.fpga_text.specs.Codes.{first_code}
 use Rattle.fpga_text.specs.FirstFault.{Faults, IsFaultless, first_fault}
 use Rattle.fpga_text.specs.declared.fault.TextFault.{TextFault}
 use Rattle.fpga_text.specs.declared.fault.TextFault.TheVariants.{Bad, Limit, Memory}
 use Rattle.fpga_types.specs.Boxes.{opens}
 use Rattle.fpga_types.specs.Fabric.{Meeting, meeting}
-use Rattle.fpga_types.specs.Fit.{LineContext, RouteLine, are_apart, comes_again, context_of, fit_codes, is_branch, is_out_of_order, leaps, line_number, on_elem, route_lines, same_elem, slots_past, starts_loose}
-use Rattle.fpga_types.specs.Fits.{Device, Fits, ProblemContext, array_fault, device_of, end_fault, is_off, is_other_pin, is_other_sink, is_other_source, is_pin_apart, is_repeated, is_sink_not_once, is_unknown, lacks_net, net_line_fault, problem_codes, problem_context, problem_faults, same_size}
-use Rattle.fpga_types.specs.Kinds.{is_channel, is_ipin, is_opin, is_sink, same_kind, same_label, takes}
+use Rattle.fpga_types.specs.Fit.{RouteLine, are_apart, comes_again, context_of, is_out_of_order, leaps, line_number, route_lines, same_elem, slots_past, starts_loose}
+use Rattle.fpga_types.specs.Fits.{Device, Fits, ProblemContext, device_of, end_fault, is_off, is_other_pin, is_other_sink, is_other_source, is_pin_apart, is_repeated, is_sink_not_once, is_unknown, net_line_fault, problem_context, problem_faults}
+use Rattle.fpga_types.specs.Kinds.{is_channel, is_ipin, is_opin, is_sink, takes}
 use Rattle.fpga_types.specs.Problem.{PlacedNetlist, RoutingProblem}
 use Rattle.fpga_types.specs.Slots.{elem_cell, elem_pin, slots}
 use Rattle.fpga_types.specs.Sound.{IsSound, IsSoundElem, IsSoundNet}
 use Rattle.fpga_types.specs.Touching.{touches}
-use Rattle.fpga_types.specs.Tracks.{mapped_track, track_across}
+use Rattle.fpga_types.specs.Tracks.{mapped_track}
 use Rattle.fpga_types.specs.declared.grid.Cell.{Cell}
 use Rattle.fpga_types.specs.declared.grid.PinAt.{PinAt}
 use Rattle.fpga_types.specs.declared.grid.Wire.{Wire}
 use Rattle.fpga_types.specs.declared.limits.TheConstants.{SLOT_LIMIT}
 use Rattle.fpga_types.specs.declared.route.Elem.{Elem}
 use Rattle.fpga_types.specs.declared.route.ElemKind.{ElemKind}
-use Rattle.fpga_types.specs.declared.route.ElemKind.TheVariants.{Source, Opin, ChanX, ChanY, Ipin, Sink}
+use Rattle.fpga_types.specs.declared.route.ElemKind.TheVariants.{ChanX, ChanY}
 use Rattle.fpga_types.specs.declared.route.Label.{Label}
-use Rattle.fpga_types.specs.declared.route.Label.TheVariants.{Class, Pin, Pad, Track}
+use Rattle.fpga_types.specs.declared.route.Label.TheVariants.{Track}
 use Rattle.fpga_types.specs.declared.route.RouteNet.{RouteNet}
 use Rattle.fpga_types.specs.declared.route.RouteText.{RouteText}
 use Rattle.fpga_types.proofs.MeetingLemmas.{both_true}
 use Rattle.fpga_types.proofs.NameLaws.{name_itself}
-use Rattle.route_judge.specs.Judged.{placed_causes, placed_judged, placed_line_cause, placed_route_causes, problem_with}
+use Rattle.route_judge.specs.Judged.{placed_judged, placed_line_cause, placed_route_causes, problem_with}
 use Rattle.route_judge.proofs.CauseLemmas.{first-is-cause}
-use Rattle.route_judge.proofs.CleanLines.{IsFine, all-there, fine-line, new, one-size}
-use Rattle.route_judge.proofs.VerifiedFiles.{HasNoCause, from-parts, parts-of}
-use Rattle.route_verify.specs.Judged.{array_cause, causes, end_cause, graph_of, judged, judgement_by, line_cause, line_causes}
-use Rattle.route_verify.specs.Lines.{JudgedLine, is_stray_in, is_trace_named, judged_line, trace_named}
-use Rattle.route_verify.specs.Wiring.{are_joined, are_parted, are_unconnected, elem_wire, is_past_width, misses, pin_on, reaches, wire_on}
+use Rattle.route_judge.proofs.CleanLines.{all-there, new, one-size, quiet}
+use Rattle.route_judge.proofs.LineCauses.{HasNoCause, fine-line, from-parts, parts-of}
+use Rattle.route_verify.specs.Judged.{array_cause, end_cause, graph_of, judged, judgement_by, line_cause}
+use Rattle.route_verify.specs.Lines.{is_stray_in, is_trace_named, judged_line, trace_named}
+use Rattle.route_verify.specs.Wiring.{are_joined, are_parted, are_unconnected, elem_wire, is_past_width, misses, reaches}
 use Rattle.route_verify.specs.declared.judgement.Judgement.TheVariants.{Legal}
-use Rattle.route_verify.proofs.CodeLemmas.{faultless-each, faultless-lines, silent-codes}
+use Rattle.route_verify.proofs.CodeLemmas.{faultless-lines}
+use Rattle.route_verify.proofs.LegalLines.{same_kind-itself, same_label-itself}
 use Rattle.route_verify.proofs.LimitLemmas.{legal-exactly}
 use Rattle.route_verify.proofs.TrackedLines.{elem-among, head-among, lines-each}
 
 -- a line equals itself
-kind-itself : (kind : ElemKind) → same_kind kind kind ≡ true
-kind-itself Source = refl
-kind-itself Opin = refl
-kind-itself ChanX = refl
-kind-itself ChanY = refl
-kind-itself Ipin = refl
-kind-itself Sink = refl
-
-label-itself : (label : Label) → same_label label label ≡ true
-label-itself Class = refl
-label-itself Pin = refl
-label-itself Pad = refl
-label-itself Track = refl
-
 elem-itself : (e : Elem) → same_elem e e ≡ true
 elem-itself e = rw (
-  kind-itself e.kind,
+  same_kind-itself e.kind,
   eq-eqb e.x e.x refl,
   eq-eqb e.y e.y refl,
-  label-itself e.label,
+  same_label-itself e.label,
   eq-eqb e.number e.number refl,
 ) (or-true (is_channel e.kind))
 
@@ -236,22 +222,6 @@ module _ (width : ℕ) (p : RoutingProblem)
   abbrev nets : List RouteNet
   nets = p.route.nets
 
-  none-at : (line : RouteLine) → In (route_lines p.route) line
-      → HasNoCause true g (judged_line p line)
-  none-at line among =
-      let parts = parts-of (array_cause p p.route) (end_cause p p.route)
-      (map (placed_line_cause true width p) (route_lines p.route)) clean in
-      let silent = silent-codes g (judged_line p line) (placed_causes true) (line_number line)
-      (faultless-each (placed_line_cause true width p) (route_lines p.route) parts.1 line among) in
-      record {
-        connected = silent.0;
-        low = silent.1.0;
-        alone = silent.1.1.0;
-        new = silent.1.1.1.0;
-        whole = silent.1.1.1.1.0;
-        fine = silent.1.1.1.1.1.0;
-      }
-
   -- in its own cells no line strays
   uncaused-here : (line : RouteLine) → HasNoCause true g (judged_line p line)
       → (judged_line p line).stray ≡ false → line_cause width p line ≡ None
@@ -264,7 +234,7 @@ module _ (width : ℕ) (p : RoutingProblem)
 
   module _ (n : ℕ) (net : RouteNet) (here : slice_get nets n ≡ Some net) where
     none-at-head : HasNoCause true g (judged_line p (head_line (take n nets) net))
-    none-at-head = none-at (head_line (take n nets) net) (head-among nets n net here)
+    none-at-head = quiet true width p clean (head_line (take n nets) net) (head-among nets n net here)
 
     head-verified : line_cause width p (head_line (take n nets) net) ≡ None
     head-verified = uncaused-here (head_line (take n nets) net) none-at-head refl
@@ -291,7 +261,7 @@ module _ (width : ℕ) (p : RoutingProblem)
     none-at-elem : (i : ℕ) (e : Elem) → slice_get net.elems i ≡ Some e
         → HasNoCause true g (judged_line p (elem_line (take n nets) net i e))
     none-at-elem i e at =
-        none-at (elem_line (take n nets) net i e) (elem-among nets n net i e here at)
+        quiet true width p clean (elem_line (take n nets) net i e) (elem-among nets n net i e here at)
 
     -- the line before is on a track below the width, if it is a channel line
     before-low : (i : ℕ) (e : Elem) → slice_get net.elems i ≡ Some e

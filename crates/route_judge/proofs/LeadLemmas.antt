@@ -2,7 +2,7 @@
 -- driver to the wire of each channel line, and to each sink.
 use Rattle.std.proofs.Common.{◌≡◌, ℕ, zero, suc, ◌≢◌, ◌<◌, Bool, true, false, length, Option, Some, None, List, [], ◌∷◌, ◌++◌, take, refl, sym, ap, subst, inl, inr, ◌∙◌, arith}
 use Rattle.std.specs.Prelude.{◌&&◌, ◌||◌, ◌==◌, AllPairs, filter_map, map, nat_lt, not, slice_get, zip}
-use Rattle.std.specs.List.{last_or, list_any}
+use Rattle.std.specs.List.{last_or}
 use Rattle.std.specs.Option.{option_map_or}
 use Rattle.std.proofs.lemmas.Bool.{eqb-true, false≢true, not-false, or_parts}
 use Rattle.std.proofs.lemmas.List.Kept.{AllPairs-cons}
@@ -11,7 +11,7 @@ use Rattle.list_laws.proofs.Places.{In-place, get-In, get-before, get-take, last
 use Rattle.fpga_graph.specs.GraphOf.{GraphOf}
 use Rattle.fpga_types.specs.Boxes.{opens}
 use Rattle.fpga_types.specs.Fits.{has_sink}
-use Rattle.fpga_types.specs.Kinds.{is_channel, is_ipin, is_opin, is_sink, is_source, may_follow}
+use Rattle.fpga_types.specs.Kinds.{is_ipin, is_opin, is_sink, is_source, may_follow}
 use Rattle.fpga_types.specs.Placed.{AreInTurn, OpensWire, Way, is_terminal_pin, last_wire}
 use Rattle.fpga_types.specs.Slots.{elem_pin}
 use Rattle.fpga_types.specs.Terminals.{is_ordinary, is_ordinary_pin_at, is_pin_at, is_terminal, named_terminal}
@@ -25,7 +25,7 @@ use Rattle.fpga_types.proofs.BoxLemmas.{opens-is, touches-is}
 use Rattle.fpga_types.proofs.MeetingLemmas.{across-joined, both_true}
 use Rattle.route_judge.proofs.KindLemmas.{before-channel, before-ipin, before-sink, channel-wire, ipin-no-source, ipin-pin, no-source, on-wire, one-terminal, opin-pin, sink-no-source, terminal-is, wire-channel}
 use Rattle.route_verify.specs.Lines.{has_wire, is_on_wire}
-use Rattle.route_verify.specs.Wiring.{are_joined, are_parted, are_unconnected, elem_wire, is_past_width, misses, pin_on, reaches, wire_on}
+use Rattle.route_verify.specs.Wiring.{are_joined, are_parted, are_unconnected, elem_wire, is_past_width, misses, reaches}
 
 -- one more wire in turn
 last-more : (u v : Wire) (rest : List Wire) → last_wire u (rest ++ v ∷ []) ≡ v

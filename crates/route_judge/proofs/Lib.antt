@@ -3,6 +3,7 @@ pub mod CleanLines
 pub mod FittingFiles
 pub mod KindLemmas
 pub mod LeadLemmas
+pub mod LineCauses
 pub mod NetRoutings
 mod RuleLemmas
 pub mod SaysLemmas

@@ -1,6 +1,6 @@
 -- What each ordinary net has in a routed file that nothing is against: it is routed, with the wires
 -- and pins on its lines.
-use Rattle.std.proofs.Common.{◌≡◌, ◌≢◌, ℕ, ◌+◌, ◌<◌, ◌⊎◌, Bool, true, false, Option, Some, None, List, [], ◌++◌, length, take, get_or, refl, sym, ap, subst, inl, inr, ◌∙◌, arith}
+use Rattle.std.proofs.Common.{◌≡◌, ℕ, ◌+◌, ◌<◌, Bool, true, false, Option, Some, None, List, [], take, refl, sym, ap, subst, inl, inr, ◌∙◌, arith}
 use Rattle.std.specs.Prelude.{◌&&◌, ◌==◌, All, Contains, bytes_eq, filter_map, map, nat_le, nat_lt, not, option_and_then, option_map, slice_get, zip}
 use Rattle.std.specs.List.{list_all}
 use Rattle.std.specs.Option.{option_map_or}
@@ -13,13 +13,13 @@ use Rattle.fpga_graph.specs.GraphOf.{GraphOf}
 use Rattle.fpga_text.specs.Bytes.{Bytes}
 use Rattle.fpga_text.specs.FirstFault.{IsFaultless}
 use Rattle.fpga_types.specs.Fabric.{is_cell}
-use Rattle.fpga_types.specs.Fits.{agree, has_net, has_sink, is_known, same_size}
+use Rattle.fpga_types.specs.Fits.{agree, has_net, has_sink, same_size}
 use Rattle.fpga_types.specs.Placed.{IsNetRouted, IsWay, IsWire, NetWires, Way, net_pins, way_wires}
 use Rattle.fpga_types.specs.Problem.{PlacedNetlist, RoutingProblem}
 use Rattle.fpga_types.specs.Size.{Size}
-use Rattle.fpga_types.specs.Slots.{channel_at, elem_cell, elem_pin}
+use Rattle.fpga_types.specs.Slots.{channel_at, elem_pin}
 use Rattle.fpga_types.specs.Sound.{IsSound, IsSoundElem, IsSoundNet}
-use Rattle.fpga_types.specs.Terminals.{driver_in, driver_named, driver_of, is_input, is_input_of, is_net_named, is_ordinary, is_ordinary_input, net_named, placed_blocks, sinks_in, sinks_named, sinks_of, takes_in}
+use Rattle.fpga_types.specs.Terminals.{driver_in, driver_named, driver_of, is_input, is_input_of, is_net_named, is_ordinary, net_named, placed_blocks, sinks_in, sinks_named, sinks_of, takes_in}
 use Rattle.fpga_types.specs.declared.arch.Arch.{Arch}
 use Rattle.fpga_types.specs.declared.arch.PinSpec.{PinSpec}
 use Rattle.fpga_types.specs.declared.grid.Cell.{Cell}

@@ -1,18 +1,18 @@
 -- A routed file that nothing is against says a routing of its placement.
-use Rattle.std.proofs.Common.{◌≡◌, ◌≢◌, ℕ, ◌+◌, ◌<◌, ◌⊎◌, Bool, true, false, Option, Some, None, List, [], ◌++◌, length, take, get_or, refl, sym, ap, subst, inl, inr, ◌∙◌, arith}
-use Rattle.std.specs.Prelude.{◌&&◌, ◌==◌, AllPairs, Any, Contains, IsTrue, bytes_eq, filter_map, map, not, slice_get}
+use Rattle.std.proofs.Common.{◌≡◌, ◌≢◌, ℕ, ◌<◌, Bool, true, false, Option, Some, None, List, [], take, get_or, refl, sym, ap, subst, inl, inr, ◌∙◌, arith}
+use Rattle.std.specs.Prelude.{◌&&◌, ◌==◌, Any, bytes_eq, not, slice_get}
 use Rattle.std.specs.List.{list_any}
 use Rattle.std.specs.Option.{option_map_or}
-use Rattle.std.proofs.lemmas.Bool.{and_from, cases_lt, eq-eqb, false≢true}
+use Rattle.std.proofs.lemmas.Bool.{cases_lt, eq-eqb, false≢true}
 use Rattle.std.proofs.lemmas.Option.{slice_get-get_or}
 use Rattle.list_laws.proofs.Members.{In, In-contains, all-from_In, any-from_In, from_In-filter_map, list_any-from_In}
 use Rattle.list_laws.proofs.Places.{In-place, find-first, get-In, get-taken}
 use Rattle.fpga_text.specs.Bytes.{Bytes}
 use Rattle.fpga_text.specs.FirstFault.{IsFaultless, first_fault}
-use Rattle.fpga_types.specs.Fit.{is_pin_of, same_pin}
-use Rattle.fpga_types.specs.Fits.{has_net, is_known}
+use Rattle.fpga_types.specs.Fit.{same_pin}
+use Rattle.fpga_types.specs.Fits.{is_known}
 use Rattle.fpga_types.specs.Kinds.{is_pin, same_label}
-use Rattle.fpga_types.specs.Placed.{IsPlacedRouting, NetWires, is_ordinary_net, net_pins}
+use Rattle.fpga_types.specs.Placed.{IsPlacedRouting, NetWires, net_pins}
 use Rattle.fpga_types.specs.Problem.{PlacedNetlist, RoutingProblem}
 use Rattle.fpga_types.specs.Slots.{elem_pin, labelled_pin, pin_at}
 use Rattle.fpga_types.specs.Sound.{IsSound}
@@ -29,7 +29,6 @@ use Rattle.fpga_types.specs.declared.route.Label.{Label}
 use Rattle.fpga_types.specs.declared.route.Label.TheVariants.{Class, Pin, Pad, Track}
 use Rattle.fpga_types.specs.declared.route.RouteNet.{RouteNet}
 use Rattle.fpga_types.specs.declared.route.RouteText.{RouteText}
-use Rattle.fpga_types.proofs.MeetingLemmas.{same_cell-itself}
 use Rattle.fpga_types.proofs.NameLaws.{name_itself}
 use Rattle.route_judge.specs.Judged.{placed_judged, placed_route_causes, problem_with}
 use Rattle.route_judge.specs.Says.{AreNetsOf, HasOwnEnds, IsOnLines, IsTreeTo, SaysRouting}
@@ -37,7 +36,7 @@ use Rattle.route_judge.proofs.CauseLemmas.{first-is-cause}
 use Rattle.route_judge.proofs.CleanLines.{known, lone-pin, lone-wire, new}
 use Rattle.route_judge.proofs.NetRoutings.{IsNetSaid, net-said, same-net}
 use Rattle.route_judge.proofs.TreeLemmas.{tree}
-use Rattle.route_verify.specs.Lines.{has_wire, is_on_wire, is_trace_named, is_wire_of, trace_named}
+use Rattle.route_verify.specs.Lines.{has_wire, is_on_wire, is_trace_named, trace_named}
 use Rattle.route_verify.specs.Wiring.{elem_wire, same_wire}
 use Rattle.route_verify.specs.declared.judgement.Judgement.TheVariants.{Legal}
 use Rattle.route_verify.proofs.LimitLemmas.{legal-exactly}

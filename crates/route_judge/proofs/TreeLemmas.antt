@@ -1,5 +1,5 @@
 -- The lines of a net of a routed file that nothing is against are those of a tree to its sinks.
-use Rattle.std.proofs.Common.{◌≡◌, ◌≢◌, ℕ, ◌<◌, suc, Bool, true, false, Option, Some, None, List, [], ◌∷◌, ◌++◌, drop, get_or, length, take, refl, sym, ap, subst, ◌∙◌, arith}
+use Rattle.std.proofs.Common.{◌≡◌, ◌≢◌, ℕ, Bool, true, false, Option, Some, None, List, get_or, take, refl, sym, ap, subst, ◌∙◌, arith}
 use Rattle.std.specs.Prelude.{◌&&◌, ◌||◌, ◌==◌, Contains, not, option_map, slice_get}
 use Rattle.std.specs.List.{last_or, list_any}
 use Rattle.std.specs.Option.{option_map_or}
@@ -26,15 +26,16 @@ use Rattle.fpga_types.specs.declared.route.Elem.{Elem}
 use Rattle.fpga_types.specs.declared.route.ElemKind.{ElemKind}
 use Rattle.fpga_types.specs.declared.route.ElemKind.TheVariants.{Source, Opin, ChanX, ChanY, Ipin, Sink}
 use Rattle.fpga_types.specs.declared.route.Label.{Label}
-use Rattle.fpga_types.specs.declared.route.Label.TheVariants.{Class, Pin, Pad, Track}
+use Rattle.fpga_types.specs.declared.route.Label.TheVariants.{Track}
 use Rattle.fpga_types.specs.declared.route.RouteNet.{RouteNet}
 use Rattle.route_judge.specs.Judged.{placed_route_causes}
 use Rattle.route_judge.specs.Says.{IsTreeTo, StandsInTree}
-use Rattle.route_judge.proofs.CleanLines.{and-second, fine, sinks-there, tree-line}
+use Rattle.route_judge.proofs.CleanLines.{and-second, fine, sinks-there, stood, tree-line}
 use Rattle.route_judge.proofs.KindLemmas.{channel-wire, on-wire, terminal-is, wire-channel}
 use Rattle.route_verify.specs.Depths.{same_tracked}
 use Rattle.route_verify.specs.Lines.{has_wire, is_on_wire}
 use Rattle.route_verify.specs.Wiring.{elem_wire}
+use Rattle.route_verify.proofs.LegalLines.{same_label-itself}
 
 -- the channels of an axis
 abbrev along : Axis → ElemKind
@@ -108,7 +109,7 @@ same-sinks a b first second same =
       kinds a.kind b.kind first second,
       eq-eqb a.x b.x (ap (λ (t : Terminal). t.x) same),
       eq-eqb a.y b.y (ap (λ (t : Terminal). t.y) same),
-      (λ i. same_label ((same i).label) b.label) ∙ label-itself b.label,
+      (λ i. same_label ((same i).label) b.label) ∙ same_label-itself b.label,
       eq-eqb a.number b.number (ap (λ (t : Terminal). t.number) same),
       or-true (is_channel a.kind),
     ) refl
@@ -116,12 +117,6 @@ same-sinks a b first second same =
     kinds : (k m : ElemKind) → is_sink k ≡ true → is_sink m ≡ true → same_kind k m ≡ true
     kinds Sink m h g = g
     kinds k m h g = absurd (false≢true h)
-
-    label-itself : (label : Label) → same_label label label ≡ true
-    label-itself Class = refl
-    label-itself Pin = refl
-    label-itself Pad = refl
-    label-itself Track = refl
 
 -- what follows a SINK is neither an IPIN nor a SINK
 behind-sink : (k m : ElemKind) → may_follow k m ≡ true → is_sink k ≡ true
@@ -133,17 +128,6 @@ behind-sink Sink ChanY follows is = (refl, refl)
 behind-sink Sink Ipin follows is = absurd (false≢true follows)
 behind-sink Sink Sink follows is = absurd (false≢true follows)
 behind-sink k m follows is = absurd (false≢true is)
-
--- a branch that is not loose is one of a line that stood before
-stood : (ipin sink branch again wire : Bool)
-    → (not ipin && not sink && branch && not (again && wire)) ≡ false → ipin ≡ false
-    → sink ≡ false → branch ≡ true → (again ≡ true) × (wire ≡ true)
-stood false false true true true none i s b = (refl, refl)
-stood false false true true false none i s b = absurd (false≢true (sym none))
-stood false false true false wire none i s b = absurd (false≢true (sym none))
-stood true sink branch again wire none i s b = absurd (false≢true (sym i))
-stood ipin true branch again wire none i s b = absurd (false≢true (sym s))
-stood ipin sink false again wire none i s b = absurd (false≢true b)
 
 module _ (strict : Bool) (width : ℕ) (p : RoutingProblem) (sound : IsSound p.route)
     (clean : IsFaultless (placed_route_causes strict width p)) (n : ℕ) (net : RouteNet)

@@ -64,7 +64,7 @@ nothing-before g (Some e) = λ k. parted (elem_wire e) k || missed (elem_wire e)
     missed_pin (Some pin) = refl
 
 -- a line equals itself, whatever its number was if it is a channel
-same_kind-itself : (kind : ElemKind) → same_kind kind kind ≡ true
+pub same_kind-itself : (kind : ElemKind) → same_kind kind kind ≡ true
 same_kind-itself Source = refl
 same_kind-itself Opin = refl
 same_kind-itself ChanX = refl
@@ -72,7 +72,7 @@ same_kind-itself ChanY = refl
 same_kind-itself Ipin = refl
 same_kind-itself Sink = refl
 
-same_label-itself : (label : Label) → same_label label label ≡ true
+pub same_label-itself : (label : Label) → same_label label label ≡ true
 same_label-itself Class = refl
 same_label-itself Pin = refl
 same_label-itself Pad = refl
