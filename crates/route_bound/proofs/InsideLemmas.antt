@@ -131,7 +131,7 @@ module _ (arch : Arch) (at : Terminal) where
 
 -- ---- how many tracks are wanted
 
-least-wanted : (nets cells width : ℕ) → 1 ≤ width → nets ≤ width * cells
+pub least-wanted : (nets cells width : ℕ) → 1 ≤ width → nets ≤ width * cells
     → tracks_wanted nets cells ≤ width
 least-wanted nets cells width some enough = elim (cases_lt 0 cells) [
   | inl any ↦ elim (cases_lt ((nets - 1) / cells) width) [

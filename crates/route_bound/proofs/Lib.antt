@@ -1,6 +1,10 @@
+pub mod AcrossLemmas
 pub mod CornerLemmas
 pub mod CrossLemmas
+pub mod CutLemmas
 pub mod PigeonLemmas
+pub mod ReachLemmas
+pub mod SizeLemmas
 pub mod InsideLemmas
 pub mod PartLemmas
 pub mod WalkLemmas

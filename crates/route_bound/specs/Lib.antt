@@ -1,4 +1,10 @@
 pub mod Corners
 pub mod Crossing
+pub mod Cuts
+pub mod Lines
 pub mod Lying
+pub mod Placed
+pub mod Ranges
+pub mod Reaches
+pub mod Standings
 pub mod Walks
