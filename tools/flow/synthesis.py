@@ -102,6 +102,11 @@ class Run:
                 return int(number[0])
         return None
 
+    def at(self, thing):
+        """Its line in words, where that is known."""
+        line = self.line(thing)
+        return "" if line is None else f"line {line}: "
+
     def top_module(self, asked):
         """The module that is asked for, or the one that no other uses."""
         self.look(self.yosys(LIST))
@@ -121,42 +126,50 @@ class Run:
 
     def refuse_read(self, top, told):
         """Refuses what no design has; notes what is left out or changed."""
-        for name, module in self.modules("read").items():
-            is_top = name == top
-            if is_top and "output" not in (said["direction"] for said in module["ports"].values()):
-                self.refuse(self.line(module), f"module {name} has no output; one is due")
-            for port, said in module["ports"].items():
-                if is_top and said["direction"] == "inout":
-                    self.refuse(self.line(module["netnames"].get(port, {})),
-                                f"port {port} is an inout; inputs and outputs are due")
-            for net, said in module["netnames"].items():
-                if "z" in said["bits"]:
-                    self.refuse(self.line(said), f"net {net} is a tri-state, as it may be z; 0 and 1 are due")
-            for cell in module["cells"].values():
-                if any("z" in bits for bits in cell["connections"].values()):
-                    self.refuse(self.line(cell), "a tri-state, as z stands in it; 0 and 1 are due")
-                if cell["type"] in CHECKS:
-                    told.append(f"line {self.line(cell)}: {cell['type'][1:]} is no part of a circuit, and left out")
-            written = {cell["parameters"]["MEMID"].removeprefix("\\") for cell in module["cells"].values()
-                       if cell["type"].startswith("$memwr")}
-            for memory, said in module.get("memories", {}).items():
-                if memory in written:
-                    told.append(f"line {self.line(said)}: the memory {memory} becomes {said['size']} words of "
-                                f"{said['width']} flip-flops")
+        modules = self.modules("read")
+        if top in modules:
+            self.refuse_ports(top, modules[top])
+        for module in modules.values():
+            self.refuse_tri_states(module)
+            told += [f"{self.at(cell)}{cell['type'][1:]} is no part of a circuit, and left out"
+                     for cell in module["cells"].values() if cell["type"] in CHECKS]
+            told += self.memories(module)
+
+    def refuse_ports(self, top, module):
+        directions = {port: said["direction"] for port, said in module["ports"].items()}
+        for port, direction in directions.items():
+            if direction == "inout":
+                self.refuse(self.line(module["netnames"].get(port, {})),
+                            f"port {port} is an inout; inputs and outputs are due")
+        if "output" not in directions.values():
+            self.refuse(self.line(module), f"module {top} has no output; one is due")
+
+    def refuse_tri_states(self, module):
+        for net, said in module["netnames"].items():
+            if "z" in said["bits"]:
+                self.refuse(self.line(said), f"net {net} is a tri-state, as it may be z; 0 and 1 are due")
+        for cell in module["cells"].values():
+            if any("z" in bits for bits in cell["connections"].values()):
+                self.refuse(self.line(cell), "a tri-state, as z stands in it; 0 and 1 are due")
+
+    def memories(self, module):
+        """What is told of memories that are written; the others become tables."""
+        written = {cell["parameters"]["MEMID"].removeprefix("\\") for cell in module["cells"].values()
+                   if cell["type"].startswith("$memwr")}
+        return [f"{self.at(said)}the memory {memory} becomes {said['size']} words of {said['width']} flip-flops"
+                for memory, said in module.get("memories", {}).items() if memory in written]
 
     def refuse_made(self, made):
         """Refuses latches, notes asynchronous resets, and keeps the lines of nets."""
         for module in self.modules("made").values():
-            for net, said in module["netnames"].items():
-                made.lines[net] = self.line(said)
-            resets = set()
+            made.lines.update((net, self.line(said)) for net, said in module["netnames"].items())
+            resets = {}
             for cell in module["cells"].values():
                 if LATCH.match(cell["type"]):
                     self.refuse(self.line(cell), "a latch; flip-flops alone are due, at an edge of a clock")
                 if ASYNCHRONOUS.match(cell["type"]):
-                    resets.add(self.line(cell))
-            made.told += [f"line {line}: a set or reset that waits for no clock becomes one that does"
-                          for line in sorted(resets, key=lambda line: line or 0)]
+                    resets[self.at(cell)] = None
+            made.told += [f"{place}a set or reset that waits for no clock becomes one that does" for place in resets]
 
     def warnings(self, done):
         """What yosys warns of, each once."""
