@@ -66,18 +66,29 @@ class FlipFlop:
 
 @dataclass
 class Circuit:
-    """What drives nets, in the order of the file, and which nets go out, with their lines."""
+    """What drives nets, in the order of the file, and which nets go out, with their lines.
+
+    Where the text was made of Verilog, `declared` has the lines of nets there, and these are told.
+    """
 
     file: str
     model: str = ""
     drivers: list = field(default_factory=list)
     outputs: dict = field(default_factory=dict)
+    declared: dict = None
 
     def of_kind(self, kind):
         return [driver for driver in self.drivers if isinstance(driver, kind)]
 
     def refuse(self, line, why):
-        raise Refusal(self.file, line, why)
+        raise Refusal(self.file, line if self.declared is None else self.declared_at(line), why)
+
+    def declared_at(self, line):
+        """The line of the Verilog for the nets of a line of the text that was made of it, if one is known."""
+        nets = [driver.output for driver in self.drivers if driver.line == line]
+        nets += [net for net, at in self.outputs.items() if at == line]
+        lines = [self.declared.get(net) or self.declared.get(net.split("[")[0]) for net in nets]
+        return next(filter(None, lines), None)
 
 
 def logical_lines(text):
@@ -171,12 +182,15 @@ def read_text(file):
         raise Refusal(file, None, f"it can't be read: {error.strerror}") from error
 
 
-def read_blif(file, text=None):
-    """The circuit that the file says, or that a text says which was made of the file."""
+def read_blif(file, text=None, declared=None):
+    """The circuit that the file says, or that a text says which was made of the file, with the lines of its nets."""
     text = read_text(file) if text is None else text
     reader = Reader(file)
+    reader.circuit.declared = declared
     for line, words in logical_lines(text):
         reader.take(line, words)
+    if not reader.circuit.model and not reader.circuit.drivers and not reader.circuit.outputs:
+        reader.circuit.refuse(None, "it is empty; a model with an output is due")
     if not reader.circuit.outputs:
         reader.circuit.refuse(text.count("\n") + 1, "the end, and no .outputs; an output is due")
     return reader.circuit

@@ -38,9 +38,12 @@ class Net:
 class Design:
     """Blocks, logic blocks last, and the nets between them in the order of their drivers."""
 
-    file: str
+    circuit: object
     blocks: list
     nets: list
+
+    def refuse(self, line, why):
+        self.circuit.refuse(line, why)
 
     def of_kind(self, kind):
         return [block for block in self.blocks if block.kind == kind]
@@ -146,4 +149,4 @@ def pack(logic, inputs, most_sinks):
     blocks = pads_of(logic) + clusters
     nets = nets_between(blocks, most_sinks)
     renamed(blocks, nets)
-    return Design(logic.circuit.file, blocks, nets)
+    return Design(logic.circuit, blocks, nets)

@@ -13,12 +13,10 @@ import shutil
 import subprocess
 from dataclasses import dataclass
 
-from refusal import Refusal
-
 LARGEST_SIDE = 100  # of the arrays that Gafkelam reads
 SHARE_WANTED = 0.44  # of moves that are taken
 HERE = os.path.dirname(os.path.abspath(__file__))
-SOURCE, PROGRAM = os.path.join(HERE, "anneal.cc"), os.path.join(HERE, "out", "anneal")
+SOURCE = os.path.join(HERE, "anneal.cc")
 COMPILERS = ("g++", "clang++", "c++")
 
 
@@ -58,8 +56,7 @@ def side_for(design, pads):
     border = [block for block in design.blocks if block.is_pad()]
     most = 4 * LARGEST_SIDE * pads
     if len(border) > most:
-        raise Refusal(design.file, border[most].line, f"pad {most + 1:,}; at most {most:,} are due, "
-                                                      "or more at a place (--pads)")
+        design.refuse(border[most].line, f"pad {most + 1:,}; at most {most:,} are due, or more at a place (--pads)")
     logic = len(design.blocks) - len(border)
     return max(1, math.isqrt(max(0, logic - 1)) + 1, -(-len(border) // (4 * pads)))
 
@@ -282,20 +279,33 @@ def annealed_by(program, problem):
 
 
 def build():
-    """The program of `anneal.cc`, which is kept beside it, or None where no compiler makes one."""
-    if os.path.exists(PROGRAM) and os.path.getmtime(PROGRAM) >= os.path.getmtime(SOURCE):
-        return PROGRAM
-    made = f"{PROGRAM}.{os.getpid()}"
-    try:
-        os.makedirs(os.path.dirname(PROGRAM), exist_ok=True)
-        for compiler in filter(shutil.which, COMPILERS):
-            words = [compiler, "-std=c++17", "-O2", "-ffp-contract=off", "-o", made, SOURCE]
-            if subprocess.run(words, capture_output=True).returncode == 0:
-                os.replace(made, PROGRAM)
-                return PROGRAM
-    except OSError:
-        pass  # a folder that may not be written in; Python does the same in more time
+    """The program of `anneal.cc`, or None where no compiler makes one: then Python does the same in more time.
+
+    It is kept beside its source, or among the caller's own files where that folder may not be written in.
+    """
+    cache = os.environ.get("XDG_CACHE_HOME") or os.path.expanduser("~/.cache")
+    for folder in (os.path.join(HERE, "out"), os.path.join(cache, "gafkelam")):
+        program = os.path.join(folder, "anneal")
+        if os.path.exists(program) and os.path.getmtime(program) >= os.path.getmtime(SOURCE):
+            return program
+        try:
+            os.makedirs(folder, exist_ok=True)
+        except OSError:
+            continue
+        if os.access(folder, os.W_OK):
+            return program if compile_to(program) else None
     return None
+
+
+def compile_to(program):
+    """Whether a compiler makes the program."""
+    made = f"{program}.{os.getpid()}"
+    for compiler in filter(shutil.which, COMPILERS):
+        words = [compiler, "-std=c++17", "-O2", "-ffp-contract=off", "-o", made, SOURCE]
+        if subprocess.run(words, capture_output=True).returncode == 0:
+            os.replace(made, program)
+            return True
+    return False
 
 
 def place(design, side, pads, seed, effort):

@@ -11,7 +11,6 @@ import heapq
 from dataclasses import dataclass
 
 from architecture import OUTPUT_SIDES
-from refusal import Refusal
 
 MOST_CELLS = 200_000  # of all nets together, which is what Gafkelam reads
 
@@ -298,15 +297,13 @@ def route(design, placement, architecture, capacity=None):
     for net in range(len(router.nets)):
         router.route_net(net)
     if not router.negotiate(len(design.nets)):
-        raise Refusal(design.file, None, "no way was found to an input pin for each net; "
-                                         "another --seed is due")
+        design.refuse(None, "no way was found to an input pin for each net; another --seed is due")
     router.lower(capacity)
     if capacity is not None and router.capacity > capacity:
-        raise Refusal(design.file, None, f"no way was found with {capacity} nets in a cell; at least "
-                                         f"{router.capacity} are due, or another --seed")
+        design.refuse(None, f"no way was found with {capacity} nets in a cell; at least {router.capacity} are due, "
+                            "or another --seed")
     router.shorten()
     routing = router.routing()
     if routing.cells > MOST_CELLS:
-        raise Refusal(design.file, None, f"its nets take {routing.cells:,} cells; "
-                                         f"at most {MOST_CELLS:,} are due")
+        design.refuse(None, f"its nets take {routing.cells:,} cells; at most {MOST_CELLS:,} are due")
     return routing
