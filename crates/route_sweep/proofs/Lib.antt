@@ -1,3 +1,2 @@
 pub mod ClimbLemmas
 pub mod FoundLemmas
-pub mod LogLemmas

@@ -1,11 +1,13 @@
--- What a climb through the widths comes to: each width below is refuted, and this came of the next.
--- What forbids a width by numbers alone is said of each.
-use Rattle.std.specs.Prelude.{◌≡◌, ℕ, zero, suc, ◌<◌, true, Result, Ok, Err}
+-- What a climb through the widths comes to, by whatever way: each width below is refuted, and this
+-- came of the next.
+use Rattle.std.specs.Prelude.{◌≡◌, ⊤, ℕ, zero, suc, ◌<◌, true, List, Result, Ok, Err}
+use Rattle.desk_io.specs.Files.{Bytes}
 use Rattle.desk_io.specs.ShelfState.{ShelfState}
 use Rattle.fpga_types.specs.declared.route.RouteText.{RouteText}
 use Rattle.sat_clause.specs.Formula.{Cnf}
+use Rattle.sat_clause.specs.Step.{Step}
 use Rattle.route_sweep.specs.Asked.{Asked}
-use Rattle.route_sweep.specs.Found.{FindsAt}
+use Rattle.route_sweep.specs.Found.{FindsBy}
 use Rattle.route_sweep.specs.declared.found.Climbed.{Climbed}
 use Rattle.route_sweep.specs.declared.found.Climbed.TheVariants.{Routed, Unroutable, Undecided}
 use Rattle.route_sweep.specs.declared.found.Found.{Found}
@@ -16,39 +18,53 @@ use Rattle.route_sweep.specs.declared.found.Stop.{Stop}
 abbrev pub numbered : Asked → Asked
 numbered ask = record ask { numbered = true }
 
--- the widths from 1 to this one were refuted one after the other, each with its files
-abbrev pub AreRefuted : Asked → (forbidden : ℕ → Type 0) → (formula : ℕ → Cnf)
-    → (good : ℕ → RouteText → Type 0) → (width : ℕ) → (before now : ShelfState) → Type 0
-AreRefuted ask forbidden formula good zero before now = now ≡ before
-AreRefuted ask forbidden formula good (suc width) before now =
-    (between : ShelfState) × AreRefuted ask forbidden formula good width before between
-    × FindsAt ask (suc width) (forbidden (suc width)) (formula (suc width)) (good (suc width))
-    between now (Ok Refuted)
+-- the answer is a refutation
+abbrev pub IsRefuted : Result Found Stop → Type 0
+IsRefuted (Ok (Refuted lead)) = ⊤
+IsRefuted came = ⊥
 
--- the climb ends at this width, one of those up to the last: those below it were refuted, and then
--- this came of it, which is a refutation at the last alone
-pub record EndsAt
-    (ask : Asked) (most : ℕ) (forbidden : ℕ → Type 0) (formula : ℕ → Cnf)
-    (good : ℕ → RouteText → Type 0) (before now : ShelfState) (width : ℕ)
-    (came : Result Found Stop) : Type 0 where
-  pub below : ℕ
-  pub next : width ≡ suc below
-  pub within : below < most
-  pub between : ShelfState
-  pub refuted : AreRefuted ask forbidden formula good below before between
-  pub then : FindsAt ask width (forbidden width) (formula width) (good width) between now came
-  pub last : came ≡ Ok Refuted → width ≡ most
+module _ (copies : ℕ) (Refutes : ℕ → List Step → Bytes → Type 0)
+    (LeavesOpen : ℕ → List Step → Type 0) (ask : Asked) where
+  -- what the way finds at a width
+  abbrev pub FindsThere : (formula : ℕ → Cnf) → (good : ℕ → RouteText → Type 0) → (width : ℕ)
+      → (before now : ShelfState) → Result Found Stop → Type 0
+  FindsThere formula good width =
+      FindsBy copies (Refutes width) (LeavesOpen width) ask width (formula width) (good width)
+
+  -- the widths from 1 to this one were refuted one after the other, each with its files
+  abbrev pub AreRefuted : (formula : ℕ → Cnf)
+      → (good : ℕ → RouteText → Type 0) → (width : ℕ) → (before now : ShelfState) → Type 0
+  AreRefuted formula good zero before now = now ≡ before
+  AreRefuted formula good (suc width) before now =
+      (between : ShelfState) × AreRefuted formula good width before between
+      × (came : Result Found Stop) × IsRefuted came
+      × FindsThere formula good (suc width) between now came
+
+  -- the climb ends at this width, one of those up to the last: those below it were refuted, and
+  -- then this came of it, which is a refutation at the last alone
+  pub record EndsAt
+      (most : ℕ) (formula : ℕ → Cnf)
+      (good : ℕ → RouteText → Type 0) (before now : ShelfState) (width : ℕ)
+      (came : Result Found Stop) : Type 0 where
+    pub below : ℕ
+    pub next : width ≡ suc below
+    pub within : below < most
+    pub between : ShelfState
+    pub refuted : AreRefuted formula good below before between
+    pub then : FindsThere formula good width between now came
+    pub last : IsRefuted came → width ≡ most
 
 -- what a climb answers that ends at a width with what is found there
 abbrev pub climbed : (width : ℕ) → Result Found Stop → Result Climbed Stop
 climbed width (Ok IsRouted) = Ok (Routed width)
-climbed width (Ok Refuted) = Ok (Unroutable width)
+climbed width (Ok (Refuted lead)) = Ok (Unroutable width)
 climbed width (Ok (Spent learned)) = Ok (Undecided width learned)
 climbed width (Err stop) = Err stop
 
 -- the climb ends at a width with something found there, and this is the answer
-abbrev pub ClimbsTo : Asked → (most : ℕ) → (forbidden : ℕ → Type 0) → (formula : ℕ → Cnf)
+abbrev pub ClimbsTo : (copies : ℕ) → (Refutes : ℕ → List Step → Bytes → Type 0)
+    → (LeavesOpen : ℕ → List Step → Type 0) → Asked → (most : ℕ) → (formula : ℕ → Cnf)
     → (good : ℕ → RouteText → Type 0) → (before now : ShelfState) → Result Climbed Stop → Type 0
-ClimbsTo ask most forbidden formula good before now answer =
+ClimbsTo copies Refutes LeavesOpen ask most formula good before now answer =
     (width : ℕ) × (found : Result Found Stop) × (answer ≡ climbed width found)
-    × EndsAt ask most forbidden formula good before now width found
+    × EndsAt copies Refutes LeavesOpen ask most formula good before now width found

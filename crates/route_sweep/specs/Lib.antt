@@ -1,5 +1,6 @@
 pub mod Asked
 pub mod Climb
+pub mod Ended
 pub mod Found
 pub mod Names
 pub mod Slots

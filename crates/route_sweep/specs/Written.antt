@@ -14,7 +14,7 @@ use Rattle.route_sweep.specs.Names.{cnf_name, lrat_name, route_name}
 use Rattle.route_sweep.specs.declared.found.FileSlot.{FileSlot}
 use Rattle.route_sweep.specs.declared.found.FileSlot.TheVariants.{Route, Clauses, Log}
 use Rattle.route_sweep.specs.declared.found.Stop.{Stop}
-use Rattle.route_sweep.specs.declared.found.Stop.TheVariants.{Fault, TooManyClauses, Memory}
+use Rattle.route_sweep.specs.declared.found.Stop.TheVariants.{Fault, TooManyClauses, TooManyHeld, Memory}
 
 -- a shelf after the clauses were written
 abbrev pub after_clauses : ShelfState → Asked → (width : ℕ) → Cnf → ShelfState
@@ -44,6 +44,7 @@ WritesProof ask width formula log before now (Ok done) =
 WritesProof ask width formula log before now (Err (Fault slot)) =
     FailsToWriteProof ask width formula log before now slot
 WritesProof ask width formula log before now (Err (TooManyClauses count)) = ⊥
+WritesProof ask width formula log before now (Err (TooManyHeld count)) = ⊥
 WritesProof ask width formula log before now (Err Memory) = now ≡ before
 
 -- what is left where a routing was to be written: it was, and reads back if it can be printed; or
@@ -56,4 +57,5 @@ WritesRoute ask found before now (Ok done) =
 WritesRoute ask found before now (Err (Fault slot)) =
     (slot ≡ Route) × FailsToWrite before (route_name ask) (printed found) now
 WritesRoute ask found before now (Err (TooManyClauses count)) = ⊥
+WritesRoute ask found before now (Err (TooManyHeld count)) = ⊥
 WritesRoute ask found before now (Err Memory) = now ≡ before

@@ -1,14 +1,12 @@
 //! The search for the least width that has a routing.
-ghost use Rattle.std.specs.Prelude.{◌≤◌, ℕ, IsTrue};
-ghost use Rattle.route_count.specs.Begun.{IsBegunBy};
-ghost use Rattle.route_count.specs.Crowded.{IsCrowded};
-ghost use Rattle.route_encode.specs.Encoding.{cnf_of};
+ghost use Rattle.std.specs.Prelude.{◌≤◌, ℕ};
 ghost use Rattle.route_sweep.specs.Asked.{asked};
 ghost use Rattle.route_sweep.specs.Climb.{ClimbsTo, numbered};
 
 use crate::asking::Ask;
 use crate::found::{Climbed, Found, Stop};
-use crate::searching::{Alone, one_width};
+use crate::searcher::Searcher;
+use crate::searching::one_width;
 use desk_io::Shelf;
 use fpga_bounds::PlacedProblem;
 use fpga_types::WIDTH_LIMIT;
@@ -21,8 +19,9 @@ use std::alloc::Global;
 ///
 /// # Errors
 /// What the search at a width answers. The files of the widths below stay.
-pub fn climb<E: Encoder, S: Shelf>(
+pub fn climb<W: Searcher, E: Encoder, S: Shelf>(
     alloc: Global,
+    way: &W,
     encoder: &E,
     problem: &PlacedProblem,
     most: u32,
@@ -30,29 +29,21 @@ pub fn climb<E: Encoder, S: Shelf>(
     shelf: &mut S,
 ) -> Result<Climbed, Stop>
     requires most { (1 ≤ most) × (most ≤ WIDTH_LIMIT) }
-    requires begun { IsTrue ask.now.count → (width : ℕ)
-        → IsBegunBy (E.formula_of encoder.now problem.now width) (cnf_of width problem.now) }
-    ensures { ClimbsTo (numbered (asked ask.now)) most (λ width. IsCrowded width problem.now)
+    requires serves { (width : ℕ) → W.serves way.now problem.now width
+        (E.formula_of encoder.now problem.now width) }
+    ensures { ClimbsTo (W.copies way.now) (λ width. W.refutes way.now problem.now width
+        (E.formula_of encoder.now problem.now width)) (λ width. W.leaves_open way.now problem.now
+        width (E.formula_of encoder.now problem.now width)) (numbered (asked ask.now)) most
         (E.formula_of encoder.now problem.now) (E.is_good encoder.now problem.now)
         (S.state shelf.old) (S.state shelf.new) result }
 {
-    let Ask {
-        budget,
-        keep,
-        prefix,
-        count,
-        ..
-    } = *ask;
+    let ask = Ask {
+        prefix: ask.prefix,
+        numbered: true,
+    };
     for width in 1..most + 1 {
-        let ask = Ask {
-            budget,
-            keep,
-            prefix,
-            numbered: true,
-            count,
-        };
-        match one_width(alloc, &Alone, encoder, problem, width, &ask, shelf) {
-            Ok(Found::Refuted) => {}
+        match one_width(alloc, way, encoder, problem, width, &ask, shelf) {
+            Ok(Found::Refuted { .. }) => {}
             Ok(Found::Routed) => return Ok(Climbed::Routed { width }),
             Ok(Found::Spent { learned }) => return Ok(Climbed::Undecided { width, learned }),
             Err(stop) => return Err(stop),

@@ -40,12 +40,13 @@ impl fmt::Display for FileSlot {
 }
 
 /// What is found at one width.
-#[derive(Clone, Copy)]
+#[derive(Drop)]
 pub enum Found {
     /// A routing, which was written.
     Routed,
-    /// A refutation, which was written behind the clauses: there is no routing.
-    Refuted,
+    /// A refutation, which was written behind the clauses: there is no routing. This is said of it
+    /// before the report.
+    Refuted { lead: Vec<u8> },
     /// Neither, within the budget. The clauses were written, and a log of so many learned clauses.
     Spent { learned: u64 },
 }
@@ -70,6 +71,10 @@ pub enum Stop {
     /// There are so many clauses, more than 40,000,000. None was built.
     #[error("{count} clauses are more than are built")]
     TooManyClauses { count: u64 },
+    /// There are not too many clauses, but the searches would hold so many together, more than
+    /// 40,000,000. None was built.
+    #[error("{count} clauses are more than searches hold together")]
+    TooManyHeld { count: u64 },
     /// Memory ran out.
     #[error("out of memory")]
     Memory,

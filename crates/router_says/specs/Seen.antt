@@ -30,7 +30,7 @@ use Rattle.router_says.specs.NameBytes.{name_said}
 use Rattle.router_says.specs.Names.{name_of, reach_of}
 use Rattle.router_says.specs.declared.seen.Hints.{Hints}
 use Rattle.router_says.specs.declared.seen.TheConstants.{NAME_LIMIT}
-use Rattle.router_top.specs.Core.{net_name}
+use Rattle.route_ways.specs.Trimming.{net_name}
 use Rattle.router_top.specs.declared.text_file.TextFile.{TextFile}
 use Rattle.router_top.specs.declared.text_file.TextFile.TheVariants.{Problem}
 use Rattle.router_words.specs.Job.{JobAsked, Routes, Sweeps}

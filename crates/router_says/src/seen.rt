@@ -44,7 +44,7 @@ ghost use Rattle.router_says.specs.Seen.{
   trackless_said,
 };
 ghost use Rattle.router_says.specs.declared.seen.TheConstants.{NAME_LIMIT};
-ghost use Rattle.router_top.specs.Core.{net_name};
+ghost use Rattle.route_ways.specs.Trimming.{net_name};
 
 use crate::at_fault::text_of;
 use crate::name_bytes::append_name;

@@ -109,6 +109,8 @@ fn searches(rt: HostRuntime) {
     }
     let many = "40000001 clauses are more than are built";
     assert!(rt; says(rt.alloc(), Stop::TooManyClauses { count: 40_000_001 }, many));
+    let held = "40000001 clauses are more than searches hold together";
+    assert!(rt; says(rt.alloc(), Stop::TooManyHeld { count: 40_000_001 }, held));
     assert!(rt; says(rt.alloc(), Stop::Memory, "out of memory"));
 }
 

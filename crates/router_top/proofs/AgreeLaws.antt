@@ -9,6 +9,7 @@ use Rattle.fpga_types.specs.Slots.{slots}
 use Rattle.fpga_types.specs.declared.limits.TheConstants.{SLOT_LIMIT}
 use Rattle.list_laws.proofs.Places.{some_is}
 use Rattle.route_verify.specs.Reach.{judged_by}
+use Rattle.route_ways.specs.Way.{budget_of, copies_by}
 use Rattle.sat_clause.specs.declared.limits.TheConstants.{CLAUSE_LIMIT}
 use Rattle.sat_rat.specs.FullJudge.{full_judge}
 use Rattle.sat_text.specs.CnfText.{cnf_said}
@@ -26,6 +27,7 @@ use Rattle.router_top.specs.Subject.{FileMap, FileNames, IsHalted, ReadsThen, ro
 use Rattle.router_top.specs.declared.outcome.Obstacle.{Obstacle}
 use Rattle.router_top.specs.declared.text_file.TextFile.TheVariants.{Cnf as CnfFile, Lrat, Routed}
 use Rattle.router_top.proofs.GeneratedLaws.{one-made}
+use Rattle.router_top.proofs.ServeLaws.{one-copy}
 use Rattle.router_top.proofs.StopLaws.{lack-poses, one-lack}
 use Rattle.router_top.specs.declared.size_cause.SizeCause.{SizeCause}
 use Rattle.router_top.specs.declared.size_cause.SizeCause.TheVariants.{ClausesOfTurns, FormulaClauses}
@@ -87,15 +89,15 @@ module _ (search : Search) (p : RoutingProblem) where
 
   -- the search was left open, and came to another outcome at the same width or at a higher one
   open-below : (width higher : ℕ) (a b : Outcome) → width ≤ higher
-      → a ≡ Undecided width search.ask.budget → HasRoomAt higher → IsTrueThere higher b
+      → a ≡ Undecided width (budget_of search.way) → HasRoomAt higher → IsTrueThere higher b
       → IsOpenBelow a b
   open-below width higher a b low is_open room there =
       subst (λ (o : Outcome). IsOpenBelow o b) (sym is_open) (go there)
     where
       left : Outcome → Type 0
-      left o = IsOpenBelow (Undecided width search.ask.budget) o
+      left o = IsOpenBelow (Undecided width (budget_of search.way)) o
 
-      go : IsTrueThere higher b → IsOpenBelow (Undecided width search.ask.budget) b
+      go : IsTrueThere higher b → IsOpenBelow (Undecided width (budget_of search.way)) b
       go (inl h) = subst left (sym h.1) refl
       go (inr (few, inl h)) =
           absurd (past-limit (clauses_held search higher p) h.0 (room few))
@@ -106,12 +108,12 @@ module _ (search : Search) (p : RoutingProblem) where
   -- a search that went on behind a width with another outcome was left open there with this one
   was-open : (width higher : ℕ) (a : Outcome) → IsReached search p width
       → IsReached search p higher → width < higher → HasRoomAt width → IsTrueThere width a
-      → a ≡ Undecided width search.ask.budget
+      → a ≡ Undecided width (budget_of search.way)
   was-open width higher a at on low room there =
       let shown = on.lower width at.from low in go shown.0 shown.1 there
     where
       go : HasFew (clauses_by search.method width p) → HasNone search.method width p
-          → IsTrueThere width a → a ≡ Undecided width search.ask.budget
+          → IsTrueThere width a → a ≡ Undecided width (budget_of search.way)
       go few none (inl h) = absurd (omega (arith, few, h.0))
       go few none (inr (so, inl h)) =
           absurd (past-limit (clauses_held search width p) h.0 (room so))
@@ -144,14 +146,14 @@ module _ (search : Search) (p : RoutingProblem) where
       inr (inr (open-below width width b a (omega arith) g (λ small. less) (inr (few, inr h))))
 
   -- a search at more than one width is one search alone
-  alone : (search.members ≡ 1) ⊎ (search.first ≡ search.last) → (width other n : ℕ)
+  alone : (copies_by search.way ≡ 1) ⊎ (search.first ≡ search.last) → (width other n : ℕ)
       → search.first ≤ width → width < other → other ≤ search.last
-      → n ≤ CLAUSE_LIMIT → search.members * n ≤ CLAUSE_LIMIT
+      → n ≤ CLAUSE_LIMIT → copies_by search.way * n ≤ CLAUSE_LIMIT
   alone (inl one) width other n from low to few =
       subst (λ (k : ℕ). k * n ≤ CLAUSE_LIMIT) (sym one) (omega (arith, few))
   alone (inr same) width other n from low to few = absurd (omega (arith, same, from, low, to))
 
-  search-agrees : (search.members ≡ 1) ⊎ (search.first ≡ search.last) → (a b : Outcome)
+  search-agrees : (copies_by search.way ≡ 1) ⊎ (search.first ≡ search.last) → (a b : Outcome)
       → IsTrueOfSearch search p a → IsTrueOfSearch search p b → Agrees a b
   search-agrees turns a b (width, at, h) (other, on, g) = go (order width other)
     where
@@ -270,7 +272,7 @@ module _ (job : TrialAsked) where
       absurd (not-both job.recipe.nets (job.recipe.side * job.recipe.side) g.0 h.1.made.room)
   trial-agrees files a b (inr (inr h)) (inr (inl g)) = absurd (not-large b a g h)
   trial-agrees files a b (inr (inr h)) (inr (inr g)) =
-      search-agrees (sweep_search (sweep_of job)) h.0 (inl refl) a b h.2
+      search-agrees (sweep_search (sweep_of job)) h.0 (inl (one-copy job.search)) a b h.2
       (subst (λ (p : RoutingProblem). IsTrueOfSearch (sweep_search (sweep_of job)) p b)
       (one-made job.recipe g.0 h.0 g.1.made h.1.made) g.2)
 
@@ -285,7 +287,7 @@ job-agrees (Sweeps job) files a b h g =
     work-agrees files job.files (IsTrueOfSuitedSearch (sweep_search job)) a b h g
     (λ p u v. suited-agrees job.search.method 1 job.search.width p
     (IsTrueOfSearch (sweep_search job) p) a b u v
-    (search-agrees (sweep_search job) p (inl refl) a b))
+    (search-agrees (sweep_search job) p (inl (one-copy job.search)) a b))
 job-agrees (Encodes job) files a b h g =
     work-agrees files job.files (IsTrueOfEncoding job) a b h g
     (λ p u v. suited-agrees job.method job.width job.width p

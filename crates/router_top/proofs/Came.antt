@@ -1,26 +1,25 @@
 -- What the work of a run has come to, whatever its words ask for. The laws on runs go by these four
 -- kinds; which of them a job comes to is said in one place.
 use Rattle.std.specs.Prelude.{◌⊎◌}
-use Rattle.std.proofs.Common.{◌≡◌, ℕ, ◌≤◌, List, [], ◌∷◌, ◌++◌, length, take, Ok, Result}
+use Rattle.std.proofs.Common.{◌≡◌, ℕ, ◌≤◌, List, [], ◌∷◌, ◌++◌, length, take, Result}
 use Rattle.desk_io.specs.Files.{HasRisen}
 use Rattle.fpga_types.specs.Given.{IsGiven}
 use Rattle.fpga_types.specs.declared.limits.TheConstants.{WIDTH_LIMIT}
+use Rattle.route_sweep.specs.Climb.{IsRefuted}
 use Rattle.route_sweep.specs.declared.found.Found.{Found}
-use Rattle.route_sweep.specs.declared.found.Found.TheVariants.{Refuted}
 use Rattle.route_sweep.specs.declared.found.Stop.{Stop}
-use Rattle.sat_clause.specs.declared.limits.TheConstants.{CLAUSE_LIMIT}
+use Rattle.route_ways.specs.Way.{copies_by}
 use Rattle.router_top.specs.Comes.{ComesTo, lower_files}
 use Rattle.router_top.specs.Written.{WritesFiles, AreWritten, JobFile, with_files}
 use Rattle.router_top.specs.JobFiles.{AreFilesOf, IsClimb, LeavesWhole}
 use Rattle.router_top.specs.Means.{Means}
-use Rattle.router_top.specs.Method.{clauses_by}
 use Rattle.router_top.specs.Report.{found_outcome}
 use Rattle.router_top.specs.Run.{Scene}
 use Rattle.router_top.specs.Saying.{HasNoLead, IsLead, Leads, more_said}
-use Rattle.router_top.specs.Search.{clauses_held, proof_files, route_file}
+use Rattle.router_top.specs.Search.{proof_files, route_file}
 use Rattle.router_top.specs.Truth.{IsTrueOf, IsTrueOfSearch}
 use Rattle.router_top.specs.Work.{Finds}
-use Rattle.router_top.specs.Subject.{Bytes, ShelfState, RouteText, HasFew, Step, Word, Outcome, Done, Unroutable, WriteFault, OutOfMemory, Said}
+use Rattle.router_top.specs.Subject.{Bytes, ShelfState, RouteText, Step, Word, Outcome, Done, Unroutable, WriteFault, OutOfMemory, Said}
 use Rattle.router_top.proofs.WrittenLaws.{AreApart}
 
 -- no fault of the shelf, and no width that is unroutable
@@ -56,19 +55,18 @@ pub record HasCome (words : List Word) (at : Scene) (o : Outcome) : Type 0 where
   pub comes : ComesTo words at.desk.files width
   pub given : IsGiven comes.p
   pub narrow : width ≤ WIDTH_LIMIT
-  pub room : HasFew (clauses_by comes.search.method width comes.p)
-      → clauses_held comes.search width comes.p ≤ CLAUSE_LIMIT
   pub between : ShelfState
   pub lower : between.files ≡ with_files (lower_files comes) at.shelf.files
   pub calm : between.faults ≡ at.shelf.faults
-  pub climbs : (between.files ≡ at.shelf.files) ⊎ IsClimb words
+  pub climbs : (between.files ≡ at.shelf.files)
+      ⊎ (IsClimb words × (copies_by comes.search.way ≡ 1))
   pub route_apart : (found : RouteText)
       → AreApart (lower_files comes ++ route_file comes.search found ∷ [])
   pub proof_apart : (log : List Step)
       → AreApart (lower_files comes ++ proof_files comes.search comes.p width log)
   pub came : Result Found Stop
   pub finds : Finds comes.search comes.p width between at.shelf_now came
-  pub last : came ≡ Ok Refuted → width ≡ comes.search.last
+  pub last : IsRefuted came → width ≡ comes.search.last
   pub is : o ≡ found_outcome width came
   pub told : (outcome : Outcome) → IsTrueOfSearch comes.search comes.p outcome
       → IsTrueOf words at.desk.files outcome

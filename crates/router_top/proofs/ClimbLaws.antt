@@ -5,12 +5,12 @@ use Rattle.std.proofs.Common.{◌≡◌, ◌∙◌, ◌⊎◌, ℕ, zero, suc, �
 use Rattle.std.proofs.lemmas.Grind.{flat_map-append}
 use Rattle.fpga_types.specs.Fits.{Fits}
 use Rattle.fpga_types.specs.Given.{IsGiven}
-use Rattle.route_count.specs.Crowded.{IsCrowded}
-use Rattle.route_sweep.specs.Climb.{AreRefuted, climbed}
-use Rattle.route_sweep.specs.Found.{IsRefutedAs, LogReadsBackIf, WritesLog}
+use Rattle.route_sweep.specs.Climb.{AreRefuted, IsRefuted, climbed}
+use Rattle.route_sweep.specs.Written.{after_proof}
 use Rattle.route_sweep.specs.declared.found.Found.{Found}
 use Rattle.route_sweep.specs.declared.found.Found.TheVariants.{Routed as IsRouted, Refuted, Spent}
 use Rattle.route_sweep.specs.declared.found.Stop.{Stop}
+use Rattle.route_ways.specs.Way.{copies_by, opens_by, refutes_by}
 use Rattle.router_top.specs.Comes.{IsRefutedAt}
 use Rattle.router_top.specs.Method.{IsRoutingBy, clauses_by}
 use Rattle.router_top.specs.Report.{climbed_outcome, found_outcome}
@@ -18,7 +18,7 @@ use Rattle.router_top.specs.Search.{Search, sweep_search, proof_files}
 use Rattle.router_top.specs.Work.{Finds}
 use Rattle.router_top.specs.Written.{JobFile, with_files}
 use Rattle.router_top.specs.Subject.{FileMap, ShelfState, RoutingProblem, Step, SweepAsked}
-use Rattle.router_top.proofs.EndLaws.{refutes-none, refutes-strictly}
+use Rattle.router_top.proofs.EndLaws.{refuted-at}
 use Rattle.router_top.proofs.WrittenLaws.{with_files-append}
 
 -- ---- numbers and lists
@@ -86,7 +86,7 @@ rows-more {T} f count =
 pub climbed-outcome : (width : ℕ) (found : Result Found Stop)
     → climbed_outcome (climbed width found) ≡ found_outcome width found
 climbed-outcome width (Ok IsRouted) = refl
-climbed-outcome width (Ok Refuted) = refl
+climbed-outcome width (Ok (Refuted lead)) = refl
 climbed-outcome width (Ok (Spent learned)) = refl
 climbed-outcome width (Err stop) = refl
 
@@ -98,43 +98,45 @@ module _ (job : SweepAsked) (p : RoutingProblem) (given : IsGiven p) (fits : Fit
 
   -- the widths up to this one were refuted
   abbrev HasClimbed : ℕ → ShelfState → ShelfState → Type 0
-  HasClimbed =
-      AreRefuted search.ask (λ width. IsCrowded width p)
+  HasClimbed = AreRefuted (copies_by search.way)
+      (λ width. refutes_by search.way p width (clauses_by search.method width p))
+      (λ width. opens_by search.way p width (clauses_by search.method width p)) search.ask
       (λ width. clauses_by search.method width p) (λ width. IsRoutingBy search.method width p)
 
-  -- a width was refuted, behind lower ones
-  module _ (below : ℕ) (between now : ShelfState)
-      (found : Finds search p (suc below) between now (Ok Refuted)) where
-    abbrev wrote : WritesLog search.ask (suc below) (clauses_by search.method (suc below) p)
-        (IsRefutedAs search.ask (IsCrowded (suc below) p) (clauses_by search.method (suc below) p)
-        (IsRoutingBy search.method (suc below) p))
-        (LogReadsBackIf search.ask.count (IsCrowded (suc below) p)
-        (clauses_by search.method (suc below) p)) between now
-    wrote = found.1
+  -- a width was refuted, and its clauses and a log were written
+  record HasRefuted (width : ℕ) (between now : ShelfState) : Type 0 where
+    log : List Step
+    at : IsRefutedAt search p width log
+    written : now ≡ after_proof between search.ask width (clauses_by search.method width p) log
 
-    refuted-at : IsRefutedAt search p (suc below) wrote.log
-    refuted-at = record {
-      few = found.0;
-      refuted = wrote.ends;
-      none_legal = refutes-none search (suc below) p wrote.log given fits wrote.ends;
-      none_strictly = refutes-strictly search (suc below) p wrote.log given fits wrote.ends;
-      reads_back = record { clauses = wrote.clauses_back; steps = wrote.log_back };
-    }
+  has-refuted : (width : ℕ) (between now : ShelfState) (came : Result Found Stop)
+      → IsRefuted came → Finds search p width between now came → HasRefuted width between now
+  has-refuted width between now (Ok (Refuted lead)) is found = record {
+    log = found.1.log;
+    at = refuted-at search width p found.1.log lead.items given fits found.1.ends found.0.few
+        found.1.clauses_back;
+    written = found.1.written;
+  }
+  has-refuted width between now (Ok IsRouted) is found = absurd is
+  has-refuted width between now (Ok (Spent learned)) is found = absurd is
+  has-refuted width between now (Err stop) is found = absurd is
 
   -- the shelf has not failed meanwhile
   pub climbed-calm : (below : ℕ) (before now : ShelfState) → HasClimbed below before now
       → now.faults ≡ before.faults
   climbed-calm zero before now h = ap (λ (s : ShelfState). s.faults) h
-  climbed-calm (suc below) before now (between, lower, found) =
-      ap (λ (s : ShelfState). s.faults) (wrote below between now found).written
+  climbed-calm (suc below) before now (between, lower, came, is, found) =
+      ap (λ (s : ShelfState). s.faults)
+      (has-refuted (suc below) between now came is found).written
       ∙ climbed-calm below before between lower
 
   -- nothing was said meanwhile
   pub climbed-said : (below : ℕ) (before now : ShelfState) → HasClimbed below before now
       → now.said ≡ before.said
   climbed-said zero before now h = ap (λ (s : ShelfState). s.said) h
-  climbed-said (suc below) before now (between, lower, found) =
-      ap (λ (s : ShelfState). s.said) (wrote below between now found).written
+  climbed-said (suc below) before now (between, lower, came, is, found) =
+      ap (λ (s : ShelfState). s.said)
+      (has-refuted (suc below) between now came is found).written
       ∙ climbed-said below before between lower
 
   -- there are the clauses and a log of each
@@ -185,8 +187,8 @@ module _ (job : SweepAsked) (p : RoutingProblem) (given : IsGiven p) (fits : Fit
     refuted = λ k low high. absurd (omega (arith, low, high));
     files = ap (λ (s : ShelfState). s.files) h;
   }
-  climbed-logs (suc below) before now (between, lower, found) =
-      one-more below before.files between.files now.files (wrote below between now found).log
-      (refuted-at below between now found)
-      (ap (λ (s : ShelfState). s.files) (wrote below between now found).written)
+  climbed-logs (suc below) before now (between, lower, came, is, found) =
+      let here = has-refuted (suc below) between now came is found in
+      one-more below before.files between.files now.files here.log here.at
+      (ap (λ (s : ShelfState). s.files) here.written)
       (climbed-logs below before between lower)

@@ -1,5 +1,6 @@
 -- What each job has come to, by what it leaves.
-use Rattle.std.specs.Prelude.{◌<◌, MatchResult, None, Some, flat_map}
+use Rattle.std.specs.Prelude.{◌<◌, MatchResult, None, Some, Vec, flat_map}
+use Rattle.std.specs.Global.{Global}
 use Rattle.std.specs.List.{range_with_len}
 use Rattle.std.proofs.Common.{◌≡◌, ◌∙◌, ◌⊎◌, ℕ, ◌+◌, ◌-◌, ◌≤◌, List, [], ◌∷◌, ◌++◌, length, Option, Ok, Err, Result, refl, sym, ap, subst, inl, inr, arith, take}
 use Rattle.desk_io.specs.Files.{HasRisen}
@@ -8,15 +9,14 @@ use Rattle.fpga_problem.proofs.SourceLemmas.{calm-reads}
 use Rattle.fpga_route.specs.Value.{route_value}
 use Rattle.fpga_types.specs.Given.{IsGiven}
 use Rattle.fpga_types.specs.declared.limits.TheConstants.{WIDTH_LIMIT}
-use Rattle.route_core.specs.Blamed.{blamed}
-use Rattle.route_count.specs.Crowded.{IsCrowded}
 use Rattle.route_sweep.specs.Climb.{EndsAt}
 use Rattle.route_sweep.specs.declared.found.FileSlot.{FileSlot}
 use Rattle.route_sweep.specs.declared.found.FileSlot.TheVariants.{Clauses}
 use Rattle.route_sweep.specs.declared.found.Found.{Found}
 use Rattle.route_sweep.specs.declared.found.Stop.{Stop}
-use Rattle.route_sweep.specs.declared.found.Stop.TheVariants.{Fault, TooManyClauses, Memory}
+use Rattle.route_sweep.specs.declared.found.Stop.TheVariants.{Fault, TooManyClauses, TooManyHeld, Memory}
 use Rattle.route_sweep.specs.declared.found.Found.TheVariants.{Routed as IsRouted, Refuted, Spent}
+use Rattle.route_ways.specs.Way.{copies_by, opens_by, refutes_by}
 use Rattle.route_verify.specs.Reach.{judged_by}
 use Rattle.route_verify.specs.declared.judgement.Judgement.{Judgement as Judged}
 use Rattle.route_verify.specs.declared.judgement.Judgement.TheVariants.{Legal as IsLegal, NotLegal as IsNotLegal}
@@ -41,11 +41,11 @@ use Rattle.router_top.specs.Report.{climbed_outcome, found_outcome, unread_outco
 use Rattle.router_top.specs.Suited.{LeavesPrepared, EncodeLeaves, IsUnsuited, LeavesSuited, RouteLeaves, Suits, SweepLeaves}
 use Rattle.router_top.specs.Run.{Leaves, LeavesJob, LeavesWork, Scene, TriesGenerated, WritesGenerated}
 use Rattle.router_top.specs.Saying.{more_said, AreNetLines, IsUnroutable, Leads}
-use Rattle.router_top.specs.Search.{files_of, route_search, search_asked, sweep_of, sweep_search, Search, clauses_held, core_search, lower_widths, proof_files, route_file}
+use Rattle.router_top.specs.Search.{files_of, route_search, search_asked, sweep_of, sweep_search, Search, core_search, lower_widths, proof_files, route_file}
 use Rattle.router_top.specs.Work.{trial_line, Encodes, LeavesRoute, Sweeps, WritesClauses, clauses_file, Finds}
 use Rattle.router_top.specs.Truth.{IsTrueOf, IsTrueOfEncoding, IsTrueOfJob, IsTrueOfSearch, IsTrueOfSuitedSearch, IsTrueOfWork}
 use Rattle.router_top.specs.Written.{JobFile, with_files, AreWritten}
-use Rattle.router_top.specs.Core.{LeavesCore, SaysBlamed, SaysNets, net_lines}
+use Rattle.router_top.specs.Core.{LeavesCore, SaysBlamed, SaysLead}
 use Rattle.router_top.specs.Headline.{IsRefuted}
 use Rattle.router_top.specs.Subject.{Bytes, FileMap, ShelfState, after_say, FileNames, Poses, IsHalted, IsStopped, ReadsThen, Says, route_source, RoutingProblem, RouteText, HasFew, Cnf, Step, job_of, CheckAsked, Checks, EncodeAsked, Encodes as EncodesJob, GenAsked, Generates, JobAsked, RouteAsked, Routes, SweepAsked, Sweeps as SweepsJob, TrialAsked, Tries as TriesJob, Verifies, VerifyAsked, Blames, CoreAsked, Word, Method, Strictly, Outcome, Done, Usage, WriteFault, OutOfMemory, Unroutable, Limit, File}
 use Rattle.router_top.specs.declared.text_file.TextFile.TheVariants.{Cnf as CnfFile, Lrat, Routed}
@@ -57,7 +57,7 @@ use Rattle.router_top.proofs.LiteralLaws.{log_literals}
 use Rattle.router_top.proofs.NameLaws.{proof-apart, proofs-then-proof, proofs-then-route, route-apart}
 use Rattle.router_top.proofs.SaidLaws.{finds-silent, more-none}
 use Rattle.router_top.proofs.StopLaws.{HoldsOfStops, IsSpent, calm-lack, lacks-hold, reads-hold, unsuited-holds}
-use Rattle.router_top.proofs.TurnLaws.{one-held}
+use Rattle.router_top.proofs.ServeLaws.{one-copy}
 use Rattle.router_top.proofs.WrittenLaws.{AreApart}
 use Rattle.router_top.proofs.MeansLaws.{refuted-there}
 
@@ -180,17 +180,14 @@ module _ (words : List Word) (at : Scene) where
     alone more = subst (λ (fs : List JobFile). AreApart (fs ++ more)) (sym none-lower)
 
     abbrev come-alone : IsGiven p → search.first ≤ WIDTH_LIMIT
-        → (HasFew (clauses_by search.method search.first p)
-        → clauses_held search search.first p ≤ CLAUSE_LIMIT)
         → (wrote : ShelfState) (came : Result Found Stop)
         → Finds search p search.first at.shelf wrote came → (o : Outcome)
         → o ≡ found_outcome search.first came → HasCome words (ended_with wrote at) o
-    come-alone given narrow room wrote came finds o is = record {
+    come-alone given narrow wrote came finds o is = record {
       width = search.first;
       comes = comes-alone;
       given = given;
       narrow = narrow;
-      room = room;
       between = at.shelf;
       lower = sym (ap (λ (fs : List JobFile). with_files fs at.shelf.files) none-lower);
       calm = refl;
@@ -210,20 +207,10 @@ module _ (words : List Word) (at : Scene) where
       (told : (o : Outcome) → IsTrueOfSearch (route_search job) p o
       → IsTrueOf words at.desk.files o) where
     route-came : (o : Outcome) → LeavesRoute job p at.shelf at.shelf_now o → Came words at o
-    route-came o (inl h) = idle o h.same (λ other is. cc) (subst Spares (sym h.is) (tt, tt))
-        (λ calm. inl (told o (
-          job.search.width,
-          record {
-            from = omega arith;
-            to = omega arith;
-            lower = λ k low high. absurd (omega (arith, low, high));
-          },
-          inr (h.few, inl (h.many, h.is)),
-        )))
-    route-came o (inr h) = Searched (record {
+    route-came o h = Searched (record {
       wrote = at.shelf_now;
       come = come-alone (Routes job) asked (route_search job) refl refl p poses told h.given
-          h.narrow h.room at.shelf_now h.came h.finds o h.is;
+          h.narrow at.shelf_now h.came h.finds o h.is;
       files = refl;
       faults = refl;
       lead = [];
@@ -243,7 +230,7 @@ module _ (words : List Word) (at : Scene) where
         → Finds (core_search job) p job.width at.shelf wrote came → (o : Outcome)
         → o ≡ found_outcome job.width came → HasCome words (ended_with wrote at) o
     come-core = come-alone (Blames job) asked (core_search job) refl refl p poses told given narrow
-        (one-held (length (clauses_by Strictly job.width p).clauses)) wrote
+        wrote
 
     -- a width that was not refuted
     quiet-core : (came : Result Found Stop)
@@ -269,19 +256,17 @@ module _ (words : List Word) (at : Scene) where
     })
 
     -- the nets that the log of a refuted width blames
-    module _ (finds : Finds (core_search job) p job.width at.shelf wrote (Ok Refuted))
+    module _ (lead : Vec ℕ Global)
+        (finds : Finds (core_search job) p job.width at.shelf wrote (Ok (Refuted lead)))
         (same : at.shelf_now.files ≡ wrote.files) where
-      abbrev lines : Bytes
-      lines = net_lines p.route (blamed job.width p finds.1.log)
-
       abbrev come-refuted : HasCome words (ended_with wrote at) (Unroutable job.width)
-      come-refuted = come-core (Ok Refuted) finds (Unroutable job.width) refl
+      come-refuted = come-core (Ok (Refuted lead)) finds (Unroutable job.width) refl
 
       abbrev refuted-here : IsRefuted words at.desk.files at.shelf.files at.shelf_now.files
           job.width
       refuted-here =
           let there = refuted-there words (ended_with wrote at) (Unroutable job.width) come-refuted
-          finds refl in
+          lead finds refl in
           record {
             comes = there.comes;
             last = there.last;
@@ -293,56 +278,56 @@ module _ (words : List Word) (at : Scene) where
           }
 
       net-lines : AreNetLines words at.desk.files at.shelf.files at.shelf_now.files
-          (Unroutable job.width) lines
+          (Unroutable job.width) lead.items
       net-lines = record {
         job = job;
         asked = asked;
         width = job.width;
         unroutable = refl;
         refuted = refuted-here;
-        is = refl;
+        is = finds.1.ends.refutes.names;
       }
 
       silent : wrote.said ≡ at.shelf.said
-      silent = finds-silent (core_search job) p job.width at.shelf wrote (Ok Refuted) finds
+      silent = finds-silent (core_search job) p job.width at.shelf wrote (Ok (Refuted lead)) finds
 
-    named-core : (finds : Finds (core_search job) p job.width at.shelf wrote (Ok Refuted))
-        (o : Outcome)
-        → SaysNets p.route (blamed job.width p finds.1.log) job.width wrote at.shelf_now o
-        → Came words at o
-    named-core finds o (inl (now, is)) =
+    named-core : (lead : Vec ℕ Global)
+        (finds : Finds (core_search job) p job.width at.shelf wrote (Ok (Refuted lead)))
+        (o : Outcome) → SaysLead lead.items job.width wrote at.shelf_now o → Came words at o
+    named-core lead finds o (inl (now, is)) =
         let same = ap (λ (s : ShelfState). s.files) now in
         Searched (record {
           wrote = wrote;
-          come = come-core (Ok Refuted) finds o is;
+          come = come-core (Ok (Refuted lead)) finds o is;
           files = same;
           faults = ap (λ (s : ShelfState). s.faults) now;
-          lead = lines finds same;
+          lead = lead.items;
           leads = subst (λ (a : Outcome). Leads words at.desk.files at.shelf.files
-              at.shelf_now.files a (lines finds same)) (sym is) (inl (inr (net-lines finds same)));
+              at.shelf_now.files a lead.items) (sym is) (inl (inr (net-lines lead finds same)));
           said = ap (λ (s : ShelfState). s.said) now
-              ∙ ap (λ (s : Option Bytes). more_said s (lines finds same)) (silent finds same);
+              ∙ ap (λ (s : Option Bytes). more_said s lead.items) (silent lead finds same);
         })
-    named-core finds o (inr (fails, is)) =
+    named-core lead finds o (inr (fails, is)) =
         let same = fails.failed.files in
         Cut (record {
           is = is;
           whole = subst (λ (fs : Option FileMap).
               LeavesWhole words at.desk.files at.shelf.files fs) (sym same)
-              (log-left words (ended_with wrote at) (Unroutable job.width) (come-refuted finds same)
-              finds.0 finds.1.log (inl finds.1.ends)
+              (log-left words (ended_with wrote at) (Unroutable job.width)
+              (come-refuted lead finds same) finds.0.few finds.1.log
+              (inl (lead.items, finds.1.ends))
               (ap (λ (s : ShelfState). s.files) finds.1.written));
           risen = subst (λ (n : ℕ). HasRisen n at.shelf_now.faults)
               (ap (λ (s : ShelfState). s.faults) finds.1.written)
               (has_risen _ _ fails.failed.risen);
           outcome = Unroutable job.width;
-          lead = lines finds same;
-          leads = inr (net-lines finds same);
+          lead = lead.items;
+          leads = inr (net-lines lead finds same);
           count = fails.count;
           within = fails.within;
           said = fails.failed.said
-              ∙ ap (λ (s : Option Bytes). more_said s (take fails.count (lines finds same)))
-              (silent finds same);
+              ∙ ap (λ (s : Option Bytes). more_said s (take fails.count lead.items))
+              (silent lead finds same);
         })
 
   module _ (job : CoreAsked) (asked : job_of words ≡ Ok (Blames job)) (p : RoutingProblem)
@@ -352,6 +337,7 @@ module _ (words : List Word) (at : Scene) where
     stops-routable : (stop : Stop) → ¬ IsUnroutable (found_outcome job.width (Err stop))
     stops-routable (Fault slot) = λ bad. bad
     stops-routable (TooManyClauses count) = λ bad. bad
+    stops-routable (TooManyHeld count) = λ bad. bad
     stops-routable Memory = λ bad. bad
 
     core-came : (o : Outcome) → LeavesCore job p at.shelf at.shelf_now o → Came words at o
@@ -359,10 +345,9 @@ module _ (words : List Word) (at : Scene) where
       where
         go : (came : Result Found Stop)
             (finds : Finds (core_search job) p job.width at.shelf did.wrote came)
-            → SaysBlamed (core_search job) p job.width at.shelf did.wrote at.shelf_now came finds o
-            → Came words at o
-        go (Ok Refuted) finds says = named-core job asked p poses told did.given did.narrow
-            did.wrote finds o says
+            → SaysBlamed job.width did.wrote at.shelf_now came o → Came words at o
+        go (Ok (Refuted lead)) finds says = named-core job asked p poses told did.given did.narrow
+            did.wrote lead finds o says
         go (Ok IsRouted) finds says = quiet-core job asked p poses told did.given did.narrow
             did.wrote (Ok IsRouted) finds o (λ bad. bad) says
         go (Ok (Spent learned)) finds says = quiet-core job asked p poses told did.given
@@ -383,8 +368,11 @@ module _ (words : List Word) (at : Scene) where
       (led : first.said ≡ more_said at.shelf.said lead) where
     climbed : IsGiven p → job.search.width ≤ WIDTH_LIMIT → (width : ℕ) (found : Result Found Stop)
         (o : Outcome) → o ≡ found_outcome width found
-        → EndsAt (sweep_search job).ask job.search.width (λ width. IsCrowded width p)
-        (λ width. clauses_by job.search.method width p)
+        → EndsAt (copies_by (sweep_search job).way)
+        (λ width. refutes_by (sweep_search job).way p width
+        (clauses_by job.search.method width p))
+        (λ width. opens_by (sweep_search job).way p width (clauses_by job.search.method width p))
+        (sweep_search job).ask job.search.width (λ width. clauses_by job.search.method width p)
         (λ width. IsRoutingBy job.search.method width p) first at.shelf_now width found
         → HasCome words at o
     climbed given narrow width found o is end =
@@ -410,13 +398,12 @@ module _ (words : List Word) (at : Scene) where
           };
           given = given;
           narrow = low;
-          room = one-held (length (clauses_by job.search.method width p).clauses);
           between = end.between;
           lower = lower.files ∙ (λ i. with_files
               (flat_map (λ k. proof_files search p k (lower.logs k)) (range_with_len 1 (count i)))
               (files i));
           calm = climbed-calm job p given poses.fits below first end.between end.refuted ∙ faults;
-          climbs = inr climb;
+          climbs = inr (climb, one-copy job.search);
           route_apart = λ found. proofs-then-route search p refl lower.logs 1 (width - 1)
               found (omega (arith, few, low));
           proof_apart = λ log. proofs-then-proof search p refl lower.logs 1 (width - 1) width log
@@ -516,6 +503,8 @@ module _ (words : List Word) (at : Scene) where
             is ∙ ap (Limit None (size_code FormulaClauses)) h.0.0,
           ),
         ))))
+    written-came (Err (TooManyHeld count)) o is h =
+        absurd (omega (arith, h.0.0, h.0.1, h.0.2))
     written-came (Err Memory) o is h = spent o h.1 (λ other is. cc) is
 
   -- ---- the check of a log

@@ -5,18 +5,20 @@ use Rattle.desk_io.specs.Files.{HasRisen}
 use Rattle.desk_io.specs.WholeFile.{FailsToWrite, after_writing}
 use Rattle.desk_io.proofs.FileLemmas.{has_risen}
 use Rattle.route_sweep.specs.Asked.{Asked}
+use Rattle.route_sweep.specs.Climb.{IsRefuted}
 use Rattle.route_sweep.specs.Found.{FailsOn}
 use Rattle.route_sweep.specs.declared.found.FileSlot.{FileSlot}
 use Rattle.route_sweep.specs.declared.found.FileSlot.TheVariants.{Route as RouteSlot, Clauses, Log}
 use Rattle.route_sweep.specs.declared.found.Found.{Found}
 use Rattle.route_sweep.specs.declared.found.Found.TheVariants.{Routed as IsRouted, Refuted, Spent}
 use Rattle.route_sweep.specs.declared.found.Stop.{Stop}
-use Rattle.route_sweep.specs.declared.found.Stop.TheVariants.{Fault, TooManyClauses, Memory}
+use Rattle.route_sweep.specs.declared.found.Stop.TheVariants.{Fault, TooManyClauses, TooManyHeld, Memory}
+use Rattle.route_ways.proofs.WayLaws.{way-spends}
 use Rattle.sat_clause.specs.declared.limits.TheConstants.{CLAUSE_LIMIT}
 use Rattle.router_top.specs.SizeCauses.{size_code}
 use Rattle.router_top.specs.declared.size_cause.SizeCause.TheVariants.{FormulaClauses, ClausesOfTurns}
 use Rattle.router_top.specs.Written.{FailsAmong, WritesFiles, JobFile}
-use Rattle.router_top.specs.Comes.{LeavesOpen, Refutes}
+use Rattle.router_top.specs.Comes.{EndsSearch}
 use Rattle.router_top.specs.Method.{IsRoutingBy, clauses_by}
 use Rattle.router_top.specs.Report.{found_outcome, line_of}
 use Rattle.router_top.specs.Run.{Runs, Scene, scene}
@@ -113,12 +115,12 @@ module _ (words : List Word) (at : Scene) (calm : ¬ HasRisen at.desk.faults at.
 
       found-settles : (came : Result Found Stop)
           → Finds search h.comes.p h.width h.between wrote came
-          → (came ≡ Ok Refuted → h.width ≡ search.last) → SettlesHere (found_outcome h.width came)
+          → (IsRefuted came → h.width ≡ search.last) → SettlesHere (found_outcome h.width came)
       found-settles (Ok IsRouted) f last = true-there (Routed h.width)
           (inr (
-            f.0,
+            f.0.few,
             inr (
-              h.room f.0,
+              f.0.all,
               inl (
                 one-legal search.method h.width h.comes.p f.1.found h.given h.comes.poses.fits
                     f.1.routing,
@@ -127,35 +129,54 @@ module _ (words : List Word) (at : Scene) (calm : ¬ HasRisen at.desk.faults at.
             ),
           ))
           (ap (λ (s : ShelfState). s.faults) f.1.written)
-      found-settles (Ok Refuted) f last = true-there (Unroutable h.width)
+      found-settles (Ok (Refuted lead)) f last = true-there (Unroutable h.width)
           (inr (
-            f.0,
+            f.0.few,
             inr (
-              h.room f.0,
+              f.0.all,
               inr (inl (
-                refutes-none search h.width h.comes.p f.1.log h.given h.comes.poses.fits f.1.ends,
-                last refl,
+                refutes-none search h.width h.comes.p f.1.log lead.items h.given
+                    h.comes.poses.fits f.1.ends,
+                last tt,
                 refl,
               )),
             ),
           ))
           (ap (λ (s : ShelfState). s.faults) f.1.written)
       found-settles (Ok (Spent learned)) f last = true-there (Undecided h.width learned)
-          (inr (f.0, inr (h.room f.0, inr (inr (ap (Undecided h.width) f.1)))))
-          (ap (λ (s : ShelfState). s.faults) f.2.written)
+          (inr (
+            f.0.few,
+            inr (
+              f.0.all,
+              inr (inr (ap (Undecided h.width) (f.1.ends.many
+                  ∙ way-spends search.way h.comes.p h.width
+                  (clauses_by search.method h.width h.comes.p) f.1.log f.1.ends.opens))),
+            ),
+          ))
+          (ap (λ (s : ShelfState). s.faults) f.1.written)
       found-settles (Err (Fault slot)) f last =
           by-fault at.shelf at.shelf_now Says (found_outcome h.width (Err (Fault slot)))
           (subst (λ (n : ℕ). HasRisen at.shelf.faults n) (sym faults)
           (subst (λ (n : ℕ). HasRisen n wrote.faults) h.calm
           (fails-risen search.ask h.width (clauses_by search.method h.width h.comes.p)
           (IsRoutingBy search.method h.width h.comes.p)
-          (λ log. Refutes search h.comes.p h.width log ⊎ LeavesOpen search h.comes.p h.width log)
+          (EndsSearch search h.comes.p h.width)
           h.between wrote slot f.1)))
       found-settles (Err (TooManyClauses count)) f last = true-there
           (Limit None (size_code FormulaClauses) count)
           (inl (
             subst (λ (n : ℕ). CLAUSE_LIMIT < n) f.0.0 f.0.1,
             ap (Limit None (size_code FormulaClauses)) f.0.0,
+          ))
+          (ap (λ (s : ShelfState). s.faults) f.1)
+      found-settles (Err (TooManyHeld count)) f last = true-there
+          (Limit None (size_code ClausesOfTurns) count)
+          (inr (
+            f.0.0,
+            inl (
+              subst (λ (n : ℕ). CLAUSE_LIMIT < n) f.0.1 f.0.2,
+              ap (Limit None (size_code ClausesOfTurns)) f.0.1,
+            ),
           ))
           (ap (λ (s : ShelfState). s.faults) f.1)
       found-settles (Err Memory) f last = record {

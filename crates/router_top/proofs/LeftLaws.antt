@@ -2,7 +2,7 @@
 use Rattle.std.specs.Prelude.{flat_map}
 use Rattle.std.specs.List.{All}
 use Rattle.std.specs.FinMap.{get, insert}
-use Rattle.std.proofs.Common.{◌≡◌, ◌≢◌, ◌∙◌, ◌⊎◌, ℕ, List, [], ◌∷◌, ◌++◌, take, Option, Some, None, Ok, Err, Result, refl, sym, ap, subst, inl, inr, append_assoc}
+use Rattle.std.proofs.Common.{◌≡◌, ◌≢◌, ◌∙◌, ◌⊎◌, ℕ, ◌*◌, ◌<◌, ◌≤◌, List, [], ◌∷◌, ◌++◌, length, take, arith, Option, Some, None, Ok, Err, Result, refl, sym, ap, subst, inl, inr, append_assoc}
 use Rattle.std.proofs.lemmas.List.{append-nil, map-append}
 use Rattle.std.proofs.lemmas.List.Elements.{All-cons, All-nil}
 use Rattle.desk_io.specs.Changes.{OnlyChanges, held}
@@ -17,7 +17,9 @@ use Rattle.route_sweep.specs.declared.found.FileSlot.TheVariants.{Route as Route
 use Rattle.route_sweep.specs.declared.found.Found.{Found}
 use Rattle.route_sweep.specs.declared.found.Found.TheVariants.{Routed as IsRouted, Refuted, Spent}
 use Rattle.route_sweep.specs.declared.found.Stop.{Stop}
-use Rattle.route_sweep.specs.declared.found.Stop.TheVariants.{Fault, TooManyClauses, Memory}
+use Rattle.route_sweep.specs.declared.found.Stop.TheVariants.{Fault, TooManyClauses, TooManyHeld, Memory}
+use Rattle.route_ways.specs.Way.{copies_by}
+use Rattle.sat_clause.specs.declared.limits.TheConstants.{CLAUSE_LIMIT}
 use Rattle.sat_text.specs.Printed.{cnf_text, log_text}
 use Rattle.router_top.specs.Comes.{lower_files, EndsSearch}
 use Rattle.router_top.specs.Written.{FailsAmong, WritesFiles, JobFile, with_file, with_files}
@@ -269,6 +271,12 @@ breaks-off (file ∷ files) before now slot (inr h) =
 
 -- ---- the work that was done
 
+-- one copy of the clauses is no more than there are
+one-held : (copies n count : ℕ) → copies ≡ 1 → n ≤ CLAUSE_LIMIT → count ≡ copies * n
+    → CLAUSE_LIMIT < count → ⊥
+one-held copies n count one few is many =
+    let same : count ≡ 1 * n = is ∙ ap (λ (k : ℕ). k * n) one in omega (arith, few, many, same)
+
 pub among-heard : (files : List JobFile) (before now : ShelfState) (slot : Slot) → AreHeard files
     → FailsAmong files before now slot → IsHeard (WriteFault slot)
 among-heard [] before now slot heard h = absurd h
@@ -367,30 +375,35 @@ module _ (words : List Word) (at : Scene) where
         → Finds h.comes.search h.comes.p h.width h.between at.shelf_now came
         → LeftHere (found_outcome h.width came)
     found-left (Ok IsRouted) f = here-left (route_file h.comes.search f.1.found ∷ [])
-        (inl (f.0, inl (f.1.found, f.1.routing, refl))) (h.route_apart f.1.found)
+        (inl (f.0.few, inl (f.1.found, f.1.routing, refl))) (h.route_apart f.1.found)
         (ap (λ (s : ShelfState). s.files) f.1.written)
-    found-left (Ok Refuted) f = log-left f.0 f.1.log (inl f.1.ends)
+    found-left (Ok (Refuted lead)) f = log-left f.0.few f.1.log (inl (lead.items, f.1.ends))
         (ap (λ (s : ShelfState). s.files) f.1.written)
-    found-left (Ok (Spent learned)) f = log-left f.0 f.2.log (inr f.2.ends)
-        (ap (λ (s : ShelfState). s.files) f.2.written)
+    found-left (Ok (Spent learned)) f = log-left f.0.few f.1.log (inr f.1.ends.opens)
+        (ap (λ (s : ShelfState). s.files) f.1.written)
     found-left (Err (Fault RouteSlot)) f = part-here (route_file h.comes.search f.1.found ∷ [])
-        (f.0, inl (f.1.found, f.1.routing, refl)) (h.route_apart f.1.found) []
+        (f.0.few, inl (f.1.found, f.1.routing, refl)) (h.route_apart f.1.found) []
         (route_file h.comes.search f.1.found) [] refl
         h.between refl f.1.fails
     found-left (Err (Fault (Clauses of))) f =
         subst (λ (k : ℕ). PartHere (Clauses k)) (sym f.1.fails.0)
         (part-here (proof_files h.comes.search h.comes.p h.width f.1.log)
-        (f.0, inr (f.1.log, f.1.ended, refl)) (h.proof_apart f.1.log) [] clauses-file
+        (f.0.few, inr (f.1.log, f.1.ended, refl)) (h.proof_apart f.1.log) [] clauses-file
         (log-file f.1.log ∷ []) refl h.between refl f.1.fails.1)
     found-left (Err (Fault (Log of))) f =
         subst (λ (k : ℕ). PartHere (Log k)) (sym f.1.fails.0)
         (part-here (proof_files h.comes.search h.comes.p h.width f.1.log)
-        (f.0, inr (f.1.log, f.1.ended, refl)) (h.proof_apart f.1.log) (clauses-file ∷ [])
+        (f.0.few, inr (f.1.log, f.1.ended, refl)) (h.proof_apart f.1.log) (clauses-file ∷ [])
         (log-file f.1.log) [] refl (after_clauses h.between h.comes.search.ask h.width formula) refl
         f.1.fails.1)
     found-left (Err (TooManyClauses count)) f = elim h.climbs [
       | inl alone ↦ inl (ap (λ (s : ShelfState). s.files) f.1 ∙ alone)
-      | inr climb ↦ inr (refl, climb, low-left f.1)
+      | inr climb ↦ inr (refl, climb.0, low-left f.1)
+    ]
+    found-left (Err (TooManyHeld count)) f = elim h.climbs [
+      | inl alone ↦ inl (ap (λ (s : ShelfState). s.files) f.1 ∙ alone)
+      | inr climb ↦ absurd (one-held (copies_by h.comes.search.way) (length formula.clauses) count
+          climb.1 f.0.0 f.0.1 f.0.2)
     ]
     found-left (Err Memory) f = low-left f.1
 

@@ -3,7 +3,6 @@ mod Came
 mod ClimbLaws
 mod ComeLaws
 mod CompleteLaws
-mod CoreLaws
 mod EndLaws
 mod GeneratedLaws
 mod LeftLaws
@@ -14,8 +13,8 @@ mod MethodLaws
 mod NameLaws
 mod PreparedLaws
 mod SaidLaws
+mod ServeLaws
 mod SlotNameLaws
 mod StopLaws
 mod TrackLaws
-mod TurnLaws
 mod WrittenLaws

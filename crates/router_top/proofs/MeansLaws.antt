@@ -1,20 +1,25 @@
 -- What the answer of a run means.
-use Rattle.std.proofs.Common.{◌≡◌, ◌∙◌, List, [], ◌∷◌, ◌++◌, Option, Ok, Err, Result, refl, sym, ap, subst, inl, inr}
+use Rattle.std.proofs.Common.{◌≡◌, ◌∙◌, ℕ, List, [], ◌∷◌, ◌++◌, Option, Ok, Err, Result, refl, sym, ap, subst, inl, inr}
+use Rattle.std.specs.Prelude.{Vec}
+use Rattle.std.specs.Global.{Global}
+use Rattle.route_sweep.specs.Climb.{IsRefuted as IsRefutation}
 use Rattle.route_sweep.specs.declared.found.Found.{Found}
 use Rattle.route_sweep.specs.declared.found.Found.TheVariants.{Routed as IsRoutedThere, Refuted, Spent}
 use Rattle.route_sweep.specs.declared.found.Stop.{Stop}
-use Rattle.route_sweep.specs.declared.found.Stop.TheVariants.{Fault, TooManyClauses, Memory}
+use Rattle.route_sweep.specs.declared.found.Stop.TheVariants.{Fault, TooManyClauses, TooManyHeld, Memory}
+use Rattle.route_ways.proofs.WayLaws.{way-spends}
 use Rattle.router_top.specs.Comes.{lower_files}
 use Rattle.router_top.specs.Written.{WritesFiles, AreWritten, JobFile, with_files}
 use Rattle.router_top.specs.Headline.{IsRefuted}
 use Rattle.router_top.specs.Means.{Means}
+use Rattle.router_top.specs.Method.{clauses_by}
 use Rattle.router_top.specs.Report.{found_outcome, unsaid}
 use Rattle.router_top.specs.Run.{Runs, Scene, scene}
 use Rattle.router_top.specs.Search.{proof_files, route_file}
 use Rattle.router_top.specs.Work.{Finds}
 use Rattle.router_top.specs.Subject.{DeskState, FileMap, ShelfState, Word, Outcome, WriteFault}
 use Rattle.router_top.proofs.Came.{Came, Cut, HasCome, HasWritten, Idle, Searched, Wrote, ended_with}
-use Rattle.router_top.proofs.EndLaws.{refutes-none, refutes-strictly}
+use Rattle.router_top.proofs.EndLaws.{refuted-at}
 use Rattle.router_top.proofs.GeneratedLaws.{files-after}
 use Rattle.router_top.proofs.MethodLaws.{routing-printable}
 use Rattle.router_top.proofs.WrittenLaws.{AreApart, are-written, with_files-append}
@@ -37,34 +42,27 @@ module _ (words : List Word) (at : Scene) where
         ∙ sym (with_files-append (lower_files h.comes) more at.shelf.files)) apart
 
     -- a refutation, and the log that was written
-    abbrev pub refuted-there :
-        Finds h.comes.search h.comes.p h.width h.between at.shelf_now (Ok Refuted)
+    abbrev pub refuted-there : (lead : Vec ℕ Global)
+        → Finds h.comes.search h.comes.p h.width h.between at.shelf_now (Ok (Refuted lead))
         → h.width ≡ h.comes.search.last
         → IsRefuted words at.desk.files at.shelf.files at.shelf_now.files h.width
-    refuted-there f last = record {
+    refuted-there lead f last = record {
       comes = h.comes;
       last = last;
       log = f.1.log;
-      refuted = record {
-        few = f.0;
-        refuted = f.1.ends;
-        none_legal = refutes-none h.comes.search h.width h.comes.p f.1.log h.given
-            h.comes.poses.fits f.1.ends;
-        none_strictly = refutes-strictly h.comes.search h.width h.comes.p f.1.log h.given
-            h.comes.poses.fits f.1.ends;
-        reads_back = record { clauses = f.1.clauses_back; steps = f.1.log_back };
-      };
+      refuted = refuted-at h.comes.search h.width h.comes.p f.1.log lead.items h.given
+          h.comes.poses.fits f.1.ends f.0.few f.1.clauses_back;
       written = behind (proof_files h.comes.search h.comes.p h.width f.1.log)
           (h.proof_apart f.1.log) _ f.1.written refl;
     }
 
     found-means : (came : Result Found Stop)
         → Finds h.comes.search h.comes.p h.width h.between at.shelf_now came
-        → (came ≡ Ok Refuted → h.width ≡ h.comes.search.last)
+        → (IsRefutation came → h.width ≡ h.comes.search.last)
         → MeansHere (found_outcome h.width came)
     found-means (Ok IsRoutedThere) f last = record {
       comes = h.comes;
-      few = f.0;
+      few = f.0.few;
       found = f.1.found;
       routing = f.1.routing;
       reads_back = f.1.reads_back (routing-printable h.comes.search.method h.width h.comes.p
@@ -73,19 +71,22 @@ module _ (words : List Word) (at : Scene) where
       written = behind (route_file h.comes.search f.1.found ∷ []) (h.route_apart f.1.found) _
           f.1.written refl;
     }
-    found-means (Ok Refuted) f last = refuted-there f (last refl)
+    found-means (Ok (Refuted lead)) f last = refuted-there lead f (last tt)
     found-means (Ok (Spent learned)) f last = record {
       comes = h.comes;
-      few = f.0;
-      budget = f.1;
-      log = f.2.log;
-      open_by = f.2.ends;
-      reads_back = record { clauses = f.2.clauses_back; steps = f.2.log_back };
-      written = behind (proof_files h.comes.search h.comes.p h.width f.2.log)
-          (h.proof_apart f.2.log) _ f.2.written refl;
+      few = f.0.few;
+      budget = f.1.ends.many
+          ∙ way-spends h.comes.search.way h.comes.p h.width
+          (clauses_by h.comes.search.method h.width h.comes.p) f.1.log f.1.ends.opens;
+      log = f.1.log;
+      open_by = f.1.ends.opens;
+      clauses_back = f.1.clauses_back;
+      written = behind (proof_files h.comes.search h.comes.p h.width f.1.log)
+          (h.proof_apart f.1.log) _ f.1.written refl;
     }
     found-means (Err (Fault slot)) f last = tt
     found-means (Err (TooManyClauses count)) f last = tt
+    found-means (Err (TooManyHeld count)) f last = tt
     found-means (Err Memory) f last = tt
 
     pub come-means : MeansHere o

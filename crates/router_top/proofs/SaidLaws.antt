@@ -8,7 +8,7 @@ use Rattle.route_sweep.specs.declared.found.FileSlot.TheVariants.{Route as Route
 use Rattle.route_sweep.specs.declared.found.Found.{Found}
 use Rattle.route_sweep.specs.declared.found.Found.TheVariants.{Routed as IsRouted, Refuted, Spent}
 use Rattle.route_sweep.specs.declared.found.Stop.{Stop}
-use Rattle.route_sweep.specs.declared.found.Stop.TheVariants.{Fault, TooManyClauses, Memory}
+use Rattle.route_sweep.specs.declared.found.Stop.TheVariants.{Fault, TooManyClauses, TooManyHeld, Memory}
 use Rattle.router_top.specs.Written.{FailsAmong, WritesFiles, after_files, JobFile}
 use Rattle.router_top.specs.Report.{found_outcome, line_of, unsaid}
 use Rattle.router_top.specs.Run.{Reports, Runs, Scene, scene}
@@ -47,14 +47,15 @@ module _ (search : Search) (p : RoutingProblem) (width : ℕ) (before now : Shel
   pub finds-silent : (came : Result Found Stop) → Finds search p width before now came
       → now.said ≡ before.said
   finds-silent (Ok IsRouted) h = ap (λ (s : ShelfState). s.said) h.1.written
-  finds-silent (Ok Refuted) h = ap (λ (s : ShelfState). s.said) h.1.written
-  finds-silent (Ok (Spent learned)) h = ap (λ (s : ShelfState). s.said) h.2.written
+  finds-silent (Ok (Refuted lead)) h = ap (λ (s : ShelfState). s.said) h.1.written
+  finds-silent (Ok (Spent learned)) h = ap (λ (s : ShelfState). s.said) h.1.written
   finds-silent (Err (Fault RouteSlot)) h = fails-silent before now _ _ h.1.fails
   finds-silent (Err (Fault (Clauses of))) h = fails-silent before now _ _ h.1.fails.1
   finds-silent (Err (Fault (Log of))) h =
       fails-silent (after_clauses before search.ask width (clauses_by search.method width p)) now
       _ _ h.1.fails.1
   finds-silent (Err (TooManyClauses count)) h = ap (λ (s : ShelfState). s.said) h.1
+  finds-silent (Err (TooManyHeld count)) h = ap (λ (s : ShelfState). s.said) h.1
   finds-silent (Err Memory) h = ap (λ (s : ShelfState). s.said) h.1
 
 after-silent : (files : List JobFile) (before : ShelfState)
@@ -75,10 +76,11 @@ among-silent (file ∷ files) before now slot (inr h) =
 
 found-heard : (width : ℕ) (came : Result Found Stop) → IsHeard (found_outcome width came)
 found-heard width (Ok IsRouted) = tt
-found-heard width (Ok Refuted) = tt
+found-heard width (Ok (Refuted lead)) = tt
 found-heard width (Ok (Spent learned)) = tt
 found-heard width (Err (Fault slot)) = tt
 found-heard width (Err (TooManyClauses count)) = tt
+found-heard width (Err (TooManyHeld count)) = tt
 found-heard width (Err Memory) = tt
 
 spared-heard : (o : Outcome) → IsSpared o → IsHeard o

@@ -1,55 +1,46 @@
 -- How a search ends that finds no routing, by its log, and what it has shown of the widths below
 -- one.
-use Rattle.std.specs.Prelude.{◌⊎◌, ℕ, Bool, true, false, List, ◌≡◌, ◌<◌, ◌≤◌, flat_map, Ok, Option, Some}
-use Rattle.route_core.specs.Blamed.{blamed}
-use Rattle.route_core.specs.Core.{AreUnroutable}
-use Rattle.route_core.specs.Trimmed.{IsTrimmed}
-use Rattle.route_count.specs.Crowded.{IsCrowded}
-use Rattle.route_sweep.specs.Found.{IsLeftOpenBy, IsRefutedAs, ReadBackIf}
+use Rattle.std.specs.Prelude.{◌⊎◌, ℕ, List, ◌≡◌, ◌<◌, ◌≤◌, flat_map, Ok, Option, Some}
+use Rattle.route_sweep.specs.Found.{IsRefutedBy}
+use Rattle.route_ways.specs.Way.{opens_by, refutes_by}
+use Rattle.sat_rat.specs.FullJudge.{FullAccepts}
+use Rattle.sat_text.specs.CnfText.{ReadsCnf}
+use Rattle.sat_text.specs.Printed.{cnf_text}
 use Rattle.router_top.specs.Method.{IsRoutingBy, clauses_by, CoversStrict, HasNone}
 use Rattle.router_top.specs.Search.{Search, files_of, lower_widths, search_asked, proof_files}
 use Rattle.router_top.specs.Written.{JobFile}
-use Rattle.router_top.specs.Subject.{FileMap, Poses, RoutingProblem, RouteText, HasFew, Step, job_of, JobAsked, Word}
+use Rattle.router_top.specs.Subject.{Bytes, FileMap, Poses, RoutingProblem, HasFew, Step, job_of, JobAsked, Word}
 
--- the log refutes the clauses at this width, without what a refutation does not need; so no route
--- is a routing, and the nets that it blames have no legal routing by themselves
-pub record IsCutDown (search : Search) (p : RoutingProblem) (width : ℕ) (log : List Step)
-    : Type 0 where
-  pub trimmed : IsTrimmed (clauses_by search.method width p) log log
-  pub none_good : (found : RouteText) → ¬ IsRoutingBy search.method width p found
-  pub just : AreUnroutable width p (blamed width p log)
+-- the log refutes the clauses at this width in the way of the search, and this is said of it before
+-- the report; no values satisfy them, and no route is a routing
+abbrev pub Refutes : Search → RoutingProblem → (width : ℕ) → (lead : Bytes) → List Step → Type 0
+Refutes search p width lead log =
+    IsRefutedBy (refutes_by search.way p width (clauses_by search.method width p))
+    (clauses_by search.method width p) (IsRoutingBy search.method width p) lead log
 
--- the log refutes the clauses, and is cut down to what that needs or stands as the search left it;
--- or as counting did, which comes before the search where the words say so
-abbrev pub RefutesBy : (trims : Bool) → Search → RoutingProblem → (width : ℕ) → List Step → Type 0
-RefutesBy true search p width log = IsCutDown search p width log
-RefutesBy false search p width log =
-    IsRefutedAs search.ask (IsCrowded width p) (clauses_by search.method width p)
-    (IsRoutingBy search.method width p) log
-
--- the log refutes the clauses at this width, as the search hands it over
-abbrev pub Refutes : Search → RoutingProblem → (width : ℕ) → List Step → Type 0
-Refutes search p width log = RefutesBy search.trims search p width log
-
--- the log leaves them open; where counting comes first, numbers alone do not forbid the width
+-- the log leaves them open in that way
 abbrev pub LeavesOpen : Search → RoutingProblem → (width : ℕ) → List Step → Type 0
 LeavesOpen search p width log =
-    IsLeftOpenBy search.ask (IsCrowded width p) (clauses_by search.method width p) log
+    opens_by search.way p width (clauses_by search.method width p) log
 
 -- the log refutes them or leaves them open
 abbrev pub EndsSearch : Search → RoutingProblem → (width : ℕ) → List Step → Type 0
-EndsSearch search p width log = Refutes search p width log ⊎ LeavesOpen search p width log
+EndsSearch search p width log =
+    ((lead : Bytes) × Refutes search p width lead log) ⊎ LeavesOpen search p width log
 
--- few enough clauses stand for the problem at this width, the log refutes them, and it has no legal
--- routing; within a reach that is long enough for its global route, none without a reach either
+-- few enough clauses stand for the problem at this width, the log refutes them and is accepted as
+-- full LRAT has it, and the problem has no legal routing; within a reach that is long enough for its
+-- global route, none without a reach either; the clauses read back
 pub record IsRefutedAt (search : Search) (p : RoutingProblem) (width : ℕ) (log : List Step)
     : Type 0 where
   pub few : HasFew (clauses_by search.method width p)
-  pub refuted : Refutes search p width log
+  pub lead : Bytes
+  pub refuted : Refutes search p width lead log
+  pub accepted : FullAccepts (clauses_by search.method width p) log
   pub none_legal : HasNone search.method width p
   pub none_strictly : CoversStrict search.method width p
-  pub reads_back : ReadBackIf search.ask.count (IsCrowded width p)
-      (clauses_by search.method width p) log
+  pub clauses_back : ReadsCnf (cnf_text (clauses_by search.method width p))
+      (clauses_by search.method width p)
 
 -- the words ask for a search; its four files, which a trial makes itself, read as the values of the
 -- problem and fit; and it comes to this width, since each lower one that it tries is refuted by a

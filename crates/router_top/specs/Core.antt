@@ -1,49 +1,30 @@
--- The nets to blame: a search at one width, which says behind its files the nets that a refutation
--- blames.
-use Rattle.std.specs.Prelude.{◌≡◌, ◌⊎◌, ◌++◌, ◌≤◌, ℕ, List, [], codes, flat_map, slice_get, Result, Ok}
-use Rattle.std.specs.Option.{option_map_or}
+-- The nets to blame: a search at one width, which says behind its files what there is to say of a
+-- refutation.
+use Rattle.std.specs.Prelude.{◌≡◌, ◌⊎◌, ◌≤◌, ℕ, Result, Ok}
 use Rattle.fpga_types.specs.Given.{IsGiven}
 use Rattle.fpga_types.specs.declared.limits.TheConstants.{WIDTH_LIMIT}
-use Rattle.fpga_types.specs.declared.route.RouteNet.{RouteNet}
-use Rattle.route_core.specs.Blamed.{blamed}
 use Rattle.route_sweep.specs.declared.found.Found.{Found}
 use Rattle.route_sweep.specs.declared.found.Found.TheVariants.{Refuted}
 use Rattle.route_sweep.specs.declared.found.Stop.{Stop}
 use Rattle.router_top.specs.Report.{found_outcome}
-use Rattle.router_top.specs.Search.{Search, core_search}
+use Rattle.router_top.specs.Search.{core_search}
 use Rattle.router_top.specs.Work.{Finds}
-use Rattle.router_top.specs.Subject.{Bytes, FailsToSay, ShelfState, after_say, RoutingProblem, RouteText, CoreAsked, Outcome, Unroutable, WriteFault, Said}
+use Rattle.router_top.specs.Subject.{Bytes, FailsToSay, ShelfState, after_say, RoutingProblem, CoreAsked, Outcome, Unroutable, WriteFault, Said}
 
--- the name of a net by its position among those of a route
-abbrev pub net_name : RouteText → (position : ℕ) → Bytes
-net_name route position =
-    option_map_or (λ (net : RouteNet). net.name) (slice_get route.nets position) []
+-- the lead was said, and the width is unroutable; or a front part of it was, and the run has failed
+-- to write
+abbrev pub SaysLead : (lead : Bytes) → (width : ℕ) → (before now : ShelfState) → Outcome → Type 0
+SaysLead lead width before now outcome =
+    ((now ≡ after_say before lead) × (outcome ≡ Unroutable width))
+    ⊎ (FailsToSay before lead now × (outcome ≡ WriteFault Said))
 
--- a line that names the net
-abbrev pub net_line : RouteText → (position : ℕ) → Bytes
-net_line route position = codes "net " ++ net_name route position ++ codes "\n"
-
--- a line for each of these nets, in their order
-abbrev pub net_lines : RouteText → (positions : List ℕ) → Bytes
-net_lines route positions = flat_map (net_line route) positions
-
--- the nets were named, and the width is unroutable; or a front part of the lines was said, and the
--- run has failed to write
-abbrev pub SaysNets : RouteText → (nets : List ℕ) → (width : ℕ) → (before now : ShelfState)
-    → Outcome → Type 0
-SaysNets route nets width before now outcome =
-    ((now ≡ after_say before (net_lines route nets)) × (outcome ≡ Unroutable width))
-    ⊎ (FailsToSay before (net_lines route nets) now × (outcome ≡ WriteFault Said))
-
--- what is said behind the files: where the width was refuted, the nets that the written log blames;
--- else nothing, and the outcome is what was found
-abbrev pub SaysBlamed : (search : Search) (p : RoutingProblem) (width : ℕ)
-    (before wrote now : ShelfState) (came : Result Found Stop)
-    → Finds search p width before wrote came → Outcome → Type 0
-SaysBlamed search p width before wrote now (Ok Refuted) finds outcome =
-    SaysNets p.route (blamed width p finds.1.log) width wrote now outcome
-SaysBlamed search p width before wrote now came finds outcome =
-    (now ≡ wrote) × (outcome ≡ found_outcome width came)
+-- what is said behind the files: where the width was refuted, the lead of the refutation, which
+-- names the nets that the written log blames; else nothing, and the outcome is what was found
+abbrev pub SaysBlamed : (width : ℕ) → (wrote now : ShelfState) → Result Found Stop → Outcome
+    → Type 0
+SaysBlamed width wrote now (Ok (Refuted lead)) outcome =
+    SaysLead lead.items width wrote now outcome
+SaysBlamed width wrote now came outcome = (now ≡ wrote) × (outcome ≡ found_outcome width came)
 
 -- what `core` leaves of its problem, which was given
 pub record LeavesCore
@@ -54,4 +35,4 @@ pub record LeavesCore
   pub came : Result Found Stop
   pub wrote : ShelfState
   pub finds : Finds (core_search job) p job.width before wrote came
-  pub says : SaysBlamed (core_search job) p job.width before wrote now came finds outcome
+  pub says : SaysBlamed job.width wrote now came outcome

@@ -7,7 +7,9 @@
 -- the most: which routings a job asks for its method says.
 use Rattle.std.specs.Prelude.{◌≡◌, ℕ, List, [], ◌∷◌, ◌++◌, Option}
 use Rattle.fpga_route.specs.ReadBack.{ReadsBack}
-use Rattle.route_sweep.specs.Found.{ReadBack}
+use Rattle.route_ways.specs.Way.{budget_of}
+use Rattle.sat_text.specs.CnfText.{ReadsCnf}
+use Rattle.sat_text.specs.Printed.{cnf_text}
 use Rattle.router_top.specs.Comes.{ComesTo, IsRefutedAt, lower_files, LeavesOpen}
 use Rattle.router_top.specs.Method.{IsRoutingBy, clauses_by}
 use Rattle.router_top.specs.Search.{proof_files, route_file}
@@ -43,9 +45,10 @@ pub record IsLeftOpen
     (words : List Word) (desk before now : Option FileMap) (width learned : ℕ) : Type 0 where
   pub comes : ComesTo words desk width
   pub few : HasFew (clauses_by comes.search.method width comes.p)
-  pub budget : learned ≡ comes.search.ask.budget
+  pub budget : learned ≡ budget_of comes.search.way
   pub log : List Step
   pub open_by : LeavesOpen comes.search comes.p width log
-  pub reads_back : ReadBack (clauses_by comes.search.method width comes.p) log
+  pub clauses_back : ReadsCnf (cnf_text (clauses_by comes.search.method width comes.p))
+      (clauses_by comes.search.method width comes.p)
   pub written : AreWritten (lower_files comes ++ proof_files comes.search comes.p width log)
       before now

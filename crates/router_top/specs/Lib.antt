@@ -15,5 +15,6 @@ pub mod SlotNames
 pub mod Subject
 pub mod Suited
 pub mod Truth
+pub mod Ways
 pub mod Work
 pub mod Written

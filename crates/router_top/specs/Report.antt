@@ -13,10 +13,10 @@ use Rattle.route_sweep.specs.declared.found.Climbed.TheVariants.{Routed as IsLea
 use Rattle.route_sweep.specs.declared.found.Found.{Found}
 use Rattle.route_sweep.specs.declared.found.Found.TheVariants.{Routed as IsRouted, Refuted, Spent}
 use Rattle.route_sweep.specs.declared.found.Stop.{Stop}
-use Rattle.route_sweep.specs.declared.found.Stop.TheVariants.{Fault, TooManyClauses, Memory}
+use Rattle.route_sweep.specs.declared.found.Stop.TheVariants.{Fault, TooManyClauses, TooManyHeld, Memory}
 use Rattle.router_top.specs.Subject.{Outcome, Routed, Unroutable, Undecided, Done, Accepted, NotAccepted, LegalRoute, NotLegal, InputFault, Limit, NotSymmetric, Usage, ReadFault, WriteFault, OutOfMemory, Slot, Said, File, FileMap, FileNames, Source, FileFault}
 use Rattle.router_top.specs.SizeCauses.{size_code}
-use Rattle.router_top.specs.declared.size_cause.SizeCause.TheVariants.{FileBytes, FormulaClauses}
+use Rattle.router_top.specs.declared.size_cause.SizeCause.TheVariants.{ClausesOfTurns, FileBytes, FormulaClauses}
 use Rattle.router_top.specs.declared.text_file.TheConstants.{PROOF_BYTES}
 use Rattle.router_top.specs.declared.text_file.TextFile.{TextFile}
 use Rattle.router_top.specs.declared.text_file.TextFile.TheVariants.{Cnf, Lrat, Problem, Routed}
@@ -124,12 +124,13 @@ GivesNone stops files names outcome =
 abbrev pub stop_outcome : Stop → Outcome
 stop_outcome (Fault slot) = WriteFault (File slot)
 stop_outcome (TooManyClauses count) = Limit None (size_code FormulaClauses) count
+stop_outcome (TooManyHeld count) = Limit None (size_code ClausesOfTurns) count
 stop_outcome Memory = OutOfMemory
 
 -- where a search at a width ended, or stopped
 abbrev pub found_outcome : (width : ℕ) → Result Found Stop → Outcome
 found_outcome width (Ok IsRouted) = Routed width
-found_outcome width (Ok Refuted) = Unroutable width
+found_outcome width (Ok (Refuted lead)) = Unroutable width
 found_outcome width (Ok (Spent learned)) = Undecided width learned
 found_outcome width (Err stop) = stop_outcome stop
 

@@ -1,7 +1,7 @@
 -- What a run says, whatever fails: the lead, and then the report line.
 use Rattle.std.specs.Prelude.{◌≡◌, ◌⊎◌, ℕ, ◌≤◌, ◌++◌, List, [], length, take, Ok, Option, option_map}
 use Rattle.route_core.specs.Blamed.{blamed}
-use Rattle.router_top.specs.Core.{net_lines}
+use Rattle.route_ways.specs.Trimming.{net_lines}
 use Rattle.router_top.specs.Generated.{Makes, PosesNone}
 use Rattle.router_top.specs.Headline.{IsRefuted}
 use Rattle.router_top.specs.Report.{line_of}

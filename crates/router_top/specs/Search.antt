@@ -1,93 +1,68 @@
 -- The searches that jobs ask for: for a routing at one width, or at the least width that has one;
 -- the files that they write, and how these read back.
-use Rattle.std.specs.Prelude.{ℕ, ◌*◌, ◌-◌, ◌||◌, Bool, true, false, List, length, Option, None, Some, is_some, [], ◌∷◌}
+use Rattle.std.specs.Prelude.{ℕ, ◌*◌, ◌-◌, true, false, List, length, Option, None, Some, [], ◌∷◌}
 use Rattle.std.specs.List.{range_with_len}
-use Rattle.std.specs.Option.{option_map_or}
 use Rattle.std.specs.FinMap.{empty}
 use Rattle.fpga_problem.specs.Files.{names_behind}
 use Rattle.fpga_route.specs.Printed.{printed}
 use Rattle.route_sweep.specs.Asked.{Asked}
 use Rattle.route_sweep.specs.Names.{cnf_name, lrat_name, route_name}
 use Rattle.route_sweep.specs.declared.found.FileSlot.TheVariants.{Route, Clauses, Log}
+use Rattle.route_ways.specs.Way.{copies_by}
+use Rattle.route_ways.specs.declared.way.Way.{Way}
 use Rattle.sat_text.specs.Printed.{cnf_text, log_text}
 use Rattle.router_top.specs.Generated.{generated_files}
 use Rattle.router_top.specs.Method.{clauses_by}
 use Rattle.router_top.specs.Written.{JobFile, with_files, job_file}
-use Rattle.router_top.specs.Subject.{FileMap, FileNames, RoutingProblem, RouteText, Step, Blames, CoreAsked, JobAsked, RouteAsked, Routes, SearchAsked, SweepAsked, Sweeps, TrialAsked, Tries, Method, Strictly, File}
+use Rattle.router_top.specs.Ways.{core_way, way_by}
+use Rattle.router_top.specs.Subject.{FileMap, FileNames, RoutingProblem, RouteText, Step, Blames, CoreAsked, JobAsked, RouteAsked, Routes, SweepAsked, Sweeps, TrialAsked, Tries, Method, Strictly, File}
 
 -- a search of the problem of these files at the widths from the first on, one after the other,
--- until one is not refuted or the last one was; how routings are said by clauses, what is asked of
--- the search at each width, how many take turns there as one, and whether a refutation is cut down
--- to what it needs
+-- until one is not refuted or the last one was; how routings are said by clauses, how the files are
+-- named that are written, and in which way the clauses of each width are searched
 pub record Search : Type 0 where
   pub files : FileNames
   pub first : ℕ
   pub last : ℕ
   pub method : Method
   pub ask : Asked
-  pub members : ℕ
-  pub trims : Bool
+  pub way : Way
 
--- what is asked of a search at each width; the names of clauses and logs have the width in them, or
--- not
-abbrev pub ask_of : (numbered : Bool) → SearchAsked → Asked
-ask_of numbered search = record {
-  budget = search.conflicts;
-  keep = search.keep;
-  prefix = search.prefix;
-  numbered = numbered;
-  count = search.count;
-}
-
--- what is asked of the search at the width of `route`, which keeps all clauses or not
-abbrev pub asks_to_keep : (keep : Bool) → SearchAsked → Asked
-asks_to_keep keep search = record (ask_of false search) { keep = keep }
-
--- `route` searches at its width alone, by one search, which keeps all clauses where the words say
--- so, or by as many as they say, which do
+-- `route` searches at its width alone
 abbrev pub route_search : RouteAsked → Search
 route_search job = record {
   files = job.files;
   first = job.search.width;
   last = job.search.width;
   method = job.search.method;
-  ask = asks_to_keep (is_some job.members || job.search.keep) job.search;
-  members = option_map_or (λ members. members.count) job.members 1;
-  trims = false;
+  ask = record { prefix = job.search.prefix; numbered = false };
+  way = way_by job.search job.members;
 }
 
--- `sweep` searches from width 1 on
+-- `sweep` searches from width 1 on, and the names of clauses and logs have the width in them
 abbrev pub sweep_search : SweepAsked → Search
 sweep_search job = record {
   files = job.files;
   first = 1;
   last = job.search.width;
   method = job.search.method;
-  ask = ask_of true job.search;
-  members = 1;
-  trims = false;
+  ask = record { prefix = job.search.prefix; numbered = true };
+  way = way_by job.search None;
 }
 
 -- `trial` searches as `sweep` does, over the files that the generated problem would be written to
 abbrev pub sweep_of : TrialAsked → SweepAsked
 sweep_of job = record { files = names_behind job.search.prefix; search = job.search }
 
--- `core` searches at its width alone and keeps all clauses
+-- `core` searches at its width alone
 abbrev pub core_search : CoreAsked → Search
 core_search job = record {
   files = job.files;
   first = job.width;
   last = job.width;
   method = Strictly;
-  ask = record {
-    budget = job.conflicts;
-    keep = true;
-    prefix = job.prefix;
-    numbered = false;
-    count = false;
-  };
-  members = 1;
-  trims = true;
+  ask = record { prefix = job.prefix; numbered = false };
+  way = core_way job;
 }
 
 -- the search that a job asks for
@@ -104,9 +79,9 @@ files_of (Tries job) desk =
     with_files (generated_files job.recipe job.search.prefix) (Some empty)
 files_of job desk = desk
 
--- how many clauses the searches that take turns at this width hold together, each all of them
+-- how many clauses are held together at this width, in all copies
 abbrev pub clauses_held : Search → (width : ℕ) → RoutingProblem → ℕ
-clauses_held search width p = search.members * length (clauses_by search.method width p).clauses
+clauses_held search width p = copies_by search.way * length (clauses_by search.method width p).clauses
 
 -- the widths of the search that are lower than this one
 abbrev pub lower_widths : Search → (width : ℕ) → List ℕ

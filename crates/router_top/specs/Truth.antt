@@ -2,6 +2,7 @@
 use Rattle.std.specs.Prelude.{◌≡◌, ◌⊎◌, ℕ, ◌<◌, ◌≤◌, List, length, MatchResult, Option, None, Some}
 use Rattle.std.specs.Option.{ForSome}
 use Rattle.desk_io.specs.Files.{HasRisen}
+use Rattle.route_ways.specs.Way.{budget_of}
 use Rattle.sat_clause.specs.declared.limits.TheConstants.{CLAUSE_LIMIT}
 use Rattle.router_words.specs.Refusal.{code_of}
 use Rattle.router_top.specs.SizeCauses.{size_code}
@@ -36,7 +37,7 @@ abbrev pub IsTrueAt : Search → RoutingProblem → (width : ℕ) → Outcome �
 IsTrueAt search p width outcome =
     (HasOne search.method width p × (outcome ≡ Routed width))
     ⊎ (HasNone search.method width p × (width ≡ search.last) × (outcome ≡ Unroutable width))
-    ⊎ (outcome ≡ Undecided width search.ask.budget)
+    ⊎ (outcome ≡ Undecided width (budget_of search.way))
 
 -- the search comes to a width, of whose clauses or routings the outcome is true
 abbrev pub IsTrueOfSearch : Search → RoutingProblem → Outcome → Type 0

@@ -1,12 +1,10 @@
 -- What the work on a problem leaves on the shelf, by its outcome; last of a trial, which is a sweep
 -- that says first how large its generated problem is.
-use Rattle.std.specs.Prelude.{◌≡◌, ◌⊎◌, ℕ, ◌++◌, ◌<◌, ◌≤◌, codes, None, Result, Ok, Err, decimal, length}
+use Rattle.std.specs.Prelude.{◌≡◌, ◌⊎◌, ℕ, ◌++◌, ◌≤◌, true, codes, None, Result, Ok, Err, decimal, length}
 use Rattle.desk_io.specs.WholeFile.{FailsToWrite, after_writing}
 use Rattle.fpga_types.specs.Given.{IsGiven}
 use Rattle.fpga_types.specs.Slots.{pairs, slots, steps}
 use Rattle.fpga_types.specs.declared.limits.TheConstants.{WIDTH_LIMIT}
-use Rattle.route_count.specs.Crowded.{IsCrowded}
-use Rattle.route_sweep.specs.Asked.{Asked}
 use Rattle.route_sweep.specs.Climb.{ClimbsTo}
 use Rattle.route_sweep.specs.Found.{FindsBy, IsUnbuilt}
 use Rattle.route_sweep.specs.declared.found.Climbed.{Climbed}
@@ -14,72 +12,56 @@ use Rattle.route_sweep.specs.declared.found.FileSlot.TheVariants.{Clauses}
 use Rattle.route_sweep.specs.declared.found.Found.{Found}
 use Rattle.route_sweep.specs.declared.found.Stop.{Stop}
 use Rattle.route_sweep.specs.declared.found.Stop.TheVariants.{Fault}
-use Rattle.sat_clause.specs.declared.limits.TheConstants.{CLAUSE_LIMIT}
+use Rattle.route_ways.specs.Way.{copies_by, opens_by, refutes_by}
 use Rattle.sat_text.specs.CnfText.{ReadsCnf}
 use Rattle.sat_text.specs.Printed.{cnf_text}
-use Rattle.router_top.specs.Comes.{LeavesOpen, Refutes}
 use Rattle.router_top.specs.Method.{IsRoutingBy, clauses_by}
 use Rattle.router_top.specs.Report.{climbed_outcome, found_outcome, written_outcome}
-use Rattle.router_top.specs.SizeCauses.{size_code}
-use Rattle.router_top.specs.declared.size_cause.SizeCause.TheVariants.{ClausesOfTurns}
-use Rattle.router_top.specs.Search.{Search, clauses_held, route_search, sweep_search, sweep_of}
+use Rattle.router_top.specs.Search.{Search, route_search, sweep_of}
+use Rattle.router_top.specs.Ways.{way_by}
 use Rattle.router_top.specs.Written.{JobFile, job_file}
-use Rattle.router_top.specs.Subject.{Bytes, ShelfState, FailsToSay, after_say, RoutingProblem, HasFew, Cnf, EncodeAsked, RouteAsked, SweepAsked, TrialAsked, Method, Outcome, Limit, WriteFault, File, Said}
+use Rattle.router_top.specs.Subject.{Bytes, ShelfState, FailsToSay, after_say, RoutingProblem, HasFew, Cnf, EncodeAsked, RouteAsked, SearchAsked, SweepAsked, TrialAsked, Outcome, WriteFault, File, Said}
 
 -- what a search finds at a width of its problem, and what is written of it
 abbrev pub Finds : Search → RoutingProblem → (width : ℕ) → (before now : ShelfState)
     → Result Found Stop → Type 0
 Finds search p width before now came =
-    FindsBy (Refutes search p width) (LeavesOpen search p width) search.ask width
-    (IsCrowded width p) (clauses_by search.method width p) (IsRoutingBy search.method width p)
-    before now came
+    FindsBy (copies_by search.way)
+    (refutes_by search.way p width (clauses_by search.method width p))
+    (opens_by search.way p width (clauses_by search.method width p)) search.ask width
+    (clauses_by search.method width p) (IsRoutingBy search.method width p) before now came
 
--- the clauses at a width are few enough for one search, but not for all that would take turns; the
--- outcome has how many these would hold, and nothing was written
-pub record LacksRoom
-    (search : Search) (p : RoutingProblem) (width : ℕ) (before now : ShelfState)
-    (outcome : Outcome) : Type 0 where
-  pub few : HasFew (clauses_by search.method width p)
-  pub many : CLAUSE_LIMIT < clauses_held search width p
-  pub same : now ≡ before
-  pub is : outcome ≡ Limit None (size_code ClausesOfTurns) (clauses_held search width p)
-
--- a search of the problem, which was given, at the width of the job, which is at most 64; all that
--- take turns hold few enough clauses together
-pub record Searches
+-- what `route` leaves: a search of the problem, which was given, at the width of the job, which is
+-- at most 64
+pub record LeavesRoute
     (job : RouteAsked) (p : RoutingProblem) (before now : ShelfState) (outcome : Outcome)
     : Type 0 where
   pub given : IsGiven p
   pub narrow : job.search.width ≤ WIDTH_LIMIT
-  pub room : HasFew (clauses_by job.search.method job.search.width p)
-      → clauses_held (route_search job) job.search.width p ≤ CLAUSE_LIMIT
   pub came : Result Found Stop
   pub finds : Finds (route_search job) p job.search.width before now came
   pub is : outcome ≡ found_outcome job.search.width came
 
--- what `route` leaves: it had no room for its searches, or it searched
-abbrev pub LeavesRoute : RouteAsked → RoutingProblem → (before now : ShelfState) → Outcome → Type 0
-LeavesRoute job p before now outcome =
-    LacksRoom (route_search job) p job.search.width before now outcome
-    ⊎ Searches job p before now outcome
-
 -- a climb through the widths of the problem, which was given, up to the greatest, which is at most
 -- 64
 pub record Climbs
-    (method : Method) (ask : Asked) (most : ℕ) (p : RoutingProblem) (before now : ShelfState)
-    (outcome : Outcome) : Type 0 where
+    (search : SearchAsked) (p : RoutingProblem) (before now : ShelfState) (outcome : Outcome)
+    : Type 0 where
   pub given : IsGiven p
-  pub some : 1 ≤ most
-  pub narrow : most ≤ WIDTH_LIMIT
+  pub some : 1 ≤ search.width
+  pub narrow : search.width ≤ WIDTH_LIMIT
   pub came : Result Climbed Stop
-  pub climbs : ClimbsTo ask most (λ width. IsCrowded width p) (λ width. clauses_by method width p)
-      (λ width. IsRoutingBy method width p) before now came
+  pub climbs : ClimbsTo (copies_by (way_by search None))
+      (λ width. refutes_by (way_by search None) p width (clauses_by search.method width p))
+      (λ width. opens_by (way_by search None) p width (clauses_by search.method width p))
+      (record { prefix = search.prefix; numbered = true }) search.width
+      (λ width. clauses_by search.method width p) (λ width. IsRoutingBy search.method width p)
+      before now came
   pub is : outcome ≡ climbed_outcome came
 
 -- the climb that a sweep asks for
 abbrev pub Sweeps : SweepAsked → RoutingProblem → (before now : ShelfState) → Outcome → Type 0
-Sweeps job p before now outcome =
-    Climbs job.search.method (sweep_search job).ask job.search.width p before now outcome
+Sweeps job p before now outcome = Climbs job.search p before now outcome
 
 -- the name of the file that clauses are written to
 abbrev pub clauses_name : EncodeAsked → Bytes
@@ -100,7 +82,7 @@ WritesClauses job formula before now (Ok written) =
 WritesClauses job formula before now (Err (Fault slot)) =
     (slot ≡ Clauses job.width) × HasFew formula
     × FailsToWrite before (clauses_name job) (cnf_text formula) now
-WritesClauses job formula before now (Err stop) = IsUnbuilt formula stop × (now ≡ before)
+WritesClauses job formula before now (Err stop) = IsUnbuilt 1 formula stop × (now ≡ before)
 
 -- the writing of the clauses of the problem at the width of the job
 pub record Encodes

@@ -1,6 +1,6 @@
 //! The command `encode`: the clauses of a problem.
 ghost use Rattle.std.specs.Prelude.{◌≡◌, IfErr, IfOk, OnOk};
-ghost use Rattle.route_sweep.specs.Found.{HasFew, IsUnbuilt};
+ghost use Rattle.route_sweep.specs.Found.{IsHeld, IsUnbuilt};
 ghost use Rattle.router_words.specs.Job.{encode_said};
 ghost use Rattle.router_top.specs.Method.{clauses_by};
 ghost use Rattle.router_top.specs.Report.{written_outcome};
@@ -30,11 +30,12 @@ fn asked_clauses(
     requires { IsEncoderOf job.now.method problem.now encoder.now }
     ensures formula { IfOk result
         (λ formula. formula.cnf ≡ clauses_by job.now.method job.now.width problem.now) }
-    ensures few { OnOk result (HasFew (clauses_by job.now.method job.now.width problem.now)) }
+    ensures held { OnOk result
+        (IsHeld 1 (clauses_by job.now.method job.now.width problem.now)) }
     ensures stop { IfErr result
-        (IsUnbuilt (clauses_by job.now.method job.now.width problem.now)) }
+        (IsUnbuilt 1 (clauses_by job.now.method job.now.width problem.now)) }
 {
-    few_clauses(alloc, encoder, problem, job.width)
+    few_clauses(alloc, 1, encoder, problem, job.width)
 }
 
 // Builds the clauses that the job asks for and writes them, where there are not too many.

@@ -24,8 +24,8 @@ mod suited;
 mod sweeping;
 mod text_file;
 mod trying;
-mod turning;
 mod verifying;
+mod ways;
 
 pub use outcome::{Obstacle, Outcome, report, status};
 pub use running::run;

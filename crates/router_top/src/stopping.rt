@@ -23,6 +23,11 @@ pub fn stop_outcome(stop: Stop) -> Outcome
             code: SizeCause::FormulaClauses.code(),
             count,
         },
+        Stop::TooManyHeld { count } => Outcome::Limit {
+            file: None,
+            code: SizeCause::ClausesOfTurns.code(),
+            count,
+        },
         Stop::Memory => Outcome::OutOfMemory,
     }
 }

@@ -1,15 +1,15 @@
 //! The command `sweep`: a search for the least width that has a legal routing.
-ghost use Rattle.std.specs.Prelude.{◌≡◌, true};
+ghost use Rattle.std.specs.Prelude.{◌≡◌};
 ghost use Rattle.router_words.specs.Job.{search_said};
 ghost use Rattle.router_top.specs.Report.{climbed_outcome};
 ghost use Rattle.router_top.specs.Suited.{IsEncoderOf};
-ghost use Rattle.router_top.specs.Search.{ask_of};
 ghost use Rattle.router_top.specs.Work.{Climbs};
 
 use crate::chosen::Chosen;
 use crate::outcome::Outcome;
 use crate::problem_work::{ProblemWork, was_given};
 use crate::stopping::stop_outcome;
+use crate::ways::way_by;
 use desk_io::Shelf;
 use fpga_bounds::PlacedProblem;
 use route_sweep::{Ask, Climbed, Stop, climb};
@@ -39,18 +39,16 @@ pub fn search_widths<S: Shelf>(
     shelf: &mut S,
 ) -> Outcome
     requires { IsEncoderOf search.now.method problem.now encoder.now }
-    ensures { Climbs search.now.method (ask_of true (search_said search.now)) search.now.width
-        problem.now (S.state shelf.old) (S.state shelf.new) result }
+    ensures { Climbs (search_said search.now) problem.now (S.state shelf.old) (S.state shelf.new)
+        result }
 {
     was_given(problem);
+    let way = way_by(search, None);
     let ask = Ask {
-        budget: search.conflicts,
-        keep: search.keep,
         prefix: search.prefix,
         numbered: true,
-        count: search.count,
     };
-    climbed_outcome(climb(alloc, encoder, problem, search.width, &ask, shelf))
+    climbed_outcome(climb(alloc, &way, encoder, problem, search.width, &ask, shelf))
 }
 
 // Searches at one width after another.

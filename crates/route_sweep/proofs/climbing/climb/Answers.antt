@@ -1,30 +1,27 @@
 use Rattle.std.proofs.Common.{refl, arith, Ok, Err, ap, ◌∙◌}
-use Rattle.route_sweep.specs.declared.found.Found.TheVariants.{Routed, Refuted, Spent}
-use Rattle.route_sweep.proofs.ClimbLemmas.{climb-ends, climb-goes-on, climb-is-over, climb-starts}
+use Rattle.route_sweep.specs.declared.found.Found.TheVariants.{Routed, Spent}
+use Rattle.route_sweep.proofs.ClimbLemmas.{climb-ends, climb-goes-on, climb-is-over, climb-starts, refuted-climbs}
 use Rattle.route_sweep.proofs.climbing.climb.Goals as goal
 
 pub loop-width-init : goal.loop-width-init
-loop-width-init g c = (omega arith, omega (arith, c.requires.most), climb-starts _ _ _ _ _)
+loop-width-init g c = (omega arith, omega (arith, c.requires.most), climb-starts _ _ _ _ _ _ _)
 
 pub loop-width-preserved : goal.loop-width-preserved
 loop-width-preserved g c = (
   omega arith,
   omega (arith, c.loop-width-test.true),
-  climb-goes-on _ _ _ _ _ _ _ _ _ c.loop-width.invariant.2 c.one_width.ensures
-      (c.in-Ok-Refuted.is ∙ ap Ok c.in-Ok-Refuted.field-0-is),
+  climb-goes-on _ _ _ _ _ _ _ _ _ _ _ c.loop-width.invariant.2 c.one_width.ensures
+      c.in-Ok-Refuted.field-0-0 (c.in-Ok-Refuted.is ∙ ap Ok c.in-Ok-Refuted.field-0-is),
 )
-
-pub one_width-requires-clause-begun : goal.one_width-requires-clause-begun
-one_width-requires-clause-begun g c = λ counts. c.requires.begun counts c.loop-width.width
 
 pub returns-in-Ok-Routed : goal.returns-in-Ok-Routed
 returns-in-Ok-Routed g c = (
   c.loop-width.width,
   Ok Routed,
   refl,
-  climb-ends _ _ _ _ _ _ _ _ _ c.loop-width.invariant.2 c.one_width.ensures _ _
+  climb-ends _ _ _ _ _ _ _ _ _ _ _ c.loop-width.invariant.2 c.one_width.ensures _ _
       (omega (arith, c.loop-width-test.true))
-      (c.in-Ok-Routed.is ∙ ap Ok c.in-Ok-Routed.field-0-is) (λ bad. cc),
+      (c.in-Ok-Routed.is ∙ ap Ok c.in-Ok-Routed.field-0-is) (λ bad. absurd bad),
 )
 
 pub returns-in-Ok-Spent : goal.returns-in-Ok-Spent
@@ -32,9 +29,9 @@ returns-in-Ok-Spent g c = (
   c.loop-width.width,
   Ok (Spent c.in-Ok-Spent.learned),
   refl,
-  climb-ends _ _ _ _ _ _ _ _ _ c.loop-width.invariant.2 c.one_width.ensures _ _
+  climb-ends _ _ _ _ _ _ _ _ _ _ _ c.loop-width.invariant.2 c.one_width.ensures _ _
       (omega (arith, c.loop-width-test.true))
-      (c.in-Ok-Spent.is ∙ ap Ok c.in-Ok-Spent.field-0-is) (λ bad. cc),
+      (c.in-Ok-Spent.is ∙ ap Ok c.in-Ok-Spent.field-0-is) (λ bad. absurd bad),
 )
 
 pub returns-in-Err : goal.returns-in-Err
@@ -42,15 +39,17 @@ returns-in-Err g c = (
   c.loop-width.width,
   Err c.in-Err.stop,
   refl,
-  climb-ends _ _ _ _ _ _ _ _ _ c.loop-width.invariant.2 c.one_width.ensures _ _
-      (omega (arith, c.loop-width-test.true)) c.in-Err.is (λ bad. cc),
+  climb-ends _ _ _ _ _ _ _ _ _ _ _ c.loop-width.invariant.2 c.one_width.ensures _ _
+      (omega (arith, c.loop-width-test.true)) c.in-Err.is (λ bad. absurd bad),
 )
 
 pub returns : goal.returns
-returns g c = (
-  c.args.most,
-  Ok Refuted,
-  refl,
-  climb-is-over _ _ _ _ c.args.most _ _ _ c.requires.most.0 c.loop-width.invariant.2
-      (omega (arith, c.loop-width.invariant.1, c.loop-width-test.false)),
-)
+returns g c =
+    let over = climb-is-over _ _ _ _ _ _ c.args.most _ _ _ c.requires.most.0
+    c.loop-width.invariant.2
+    (omega (arith, c.loop-width.invariant.1, c.loop-width-test.false)) in (
+      c.args.most,
+      over.came,
+      refuted-climbs over.came c.args.most over.refuted,
+      over.ends,
+    )

@@ -1,5 +1,4 @@
 use Rattle.std.proofs.Common.{◌≤◌, ◌+◌, true}
-use Rattle.route_count.specs.Crowded.{IsCrowded}
 use Rattle.route_sweep.proofs.ClimbLemmas.{HasClimbed}
 use Rattle.route_sweep.proofs.climbing.climb.Given as goal
 
@@ -7,14 +6,11 @@ use Rattle.route_sweep.proofs.climbing.climb.Given as goal
 abbrev pub invariant-loop-width : goal.invariant-loop-width
 invariant-loop-width g l =
     (1 ≤ l.width) × (l.width ≤ l.most + 1)
-    × HasClimbed
-    (record {
-      budget = l.budget;
-      keep = l.keep;
-      prefix = l.prefix;
-      numbered = true;
-      count = l.count;
-    })
-    (λ width. IsCrowded width l.problem)
+    × HasClimbed (g.W.Searcher.copies l.way)
+    (λ width. g.W.Searcher.refutes l.way l.problem width
+    (g.E.Encoder.formula_of l.encoder l.problem width))
+    (λ width. g.W.Searcher.leaves_open l.way l.problem width
+    (g.E.Encoder.formula_of l.encoder l.problem width))
+    (record { prefix = l.ask.prefix.now; numbered = true })
     (g.E.Encoder.formula_of l.encoder l.problem) (g.E.Encoder.is_good l.encoder l.problem)
     (g.S.Shelf.state l.initial.shelf) (g.S.Shelf.state l.shelf) l.width

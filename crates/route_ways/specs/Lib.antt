@@ -1,0 +1,4 @@
+pub mod Counting
+pub mod Plain
+pub mod Trimming
+pub mod Way

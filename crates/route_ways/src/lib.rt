@@ -1,0 +1,13 @@
+//! Ways of searching: by one search or by several that take turns, by counting in front of another
+//! way, and with refutations that are cut down behind another way.
+#![tactic(auto)]
+
+mod counting;
+mod plain;
+mod trimming;
+mod way;
+
+pub use counting::Counting;
+pub use plain::{BUDGET_LIMIT, Plain, Solver};
+pub use trimming::{Learner, Trimming};
+pub use way::Way;

@@ -1,0 +1,30 @@
+-- The ways in which jobs search.
+use Rattle.std.specs.Prelude.{Option, None, Some, true, if◌then◌else◌}
+use Rattle.router_words.specs.Job.{MembersAsked}
+use Rattle.route_ways.specs.declared.plain.Plain.{Plain}
+use Rattle.route_ways.specs.declared.plain.Solver.TheVariants.{Merging, Straight, Turns}
+use Rattle.route_ways.specs.declared.way.Way.{Way}
+use Rattle.route_ways.specs.declared.way.Way.TheVariants.{Alone, Counted, Cut}
+use Rattle.router_top.specs.Subject.{CoreAsked, SearchAsked}
+
+-- one search, which keeps all clauses where the words say so; or as many as they say, which do
+abbrev pub plain_by : SearchAsked → Option MembersAsked → Plain
+plain_by search None =
+    record { solver = Merging; budget = search.conflicts; keep = search.keep }
+plain_by search (Some members) = record {
+  solver = Turns members.count members.seed;
+  budget = search.conflicts;
+  keep = true;
+}
+
+-- behind counting, where they say so
+abbrev pub way_by : SearchAsked → Option MembersAsked → Way
+way_by search members =
+    if search.count then Counted (record { rest = plain_by search members })
+    else Alone (plain_by search members)
+
+-- `core` keeps all clauses, and its refutation is cut down
+abbrev pub core_way : CoreAsked → Way
+core_way job = Cut (record {
+  rest = record { solver = Straight; budget = job.conflicts; keep = true };
+})
