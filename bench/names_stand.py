@@ -29,7 +29,7 @@ def stems(pattern):
 
 
 CRATES = set(os.listdir(f"{TOP}/crates"))
-DEFINED = found("specs/**/*.antt", r"(?m)^(?:unfoldable |abbrev |opaque |data |record )*pub (?:record |data |abbrev )?([\w-]+)")
+DEFINED = found("specs/**/*.antt", r"(?m)^ *(?:unfoldable |abbrev |opaque |data |record )*pub (?:record |data |abbrev )?([\w-]+)")
 DEFINED |= found("specs/**/*.antt", r"(?m)^\s+pub ([\w-]+) ")
 ITEMS = found("src/**/*.rt", r"\b(?:fn|struct|enum|trait|type|const|mod|ghost) (\w+)")
 CLAUSES = found("src/**/*.rt", r"\bensures (\w+) \{")
