@@ -46,7 +46,7 @@ unpack() {
     why="the release is for Linux on x86-64"
     [ "$(uname -sm)" = "Linux x86_64" ] || return 1
     why="release/OF is not what was written"
-    [ "$(sed '$d' "$top/release/OF" | sha256sum | cut -d ' ' -f 1)" = "$(sed -n '$s/^above //p' "$top/release/OF")" ] || return 1
+    [ "$(sed '$d' "$top/release/OF" | sha256sum)" = "$(sed -n '$s/^above //p' "$top/release/OF")  -" ] || return 1
     why="the release is of other sources than these"
     grep -qx "sources $("$top/tools/sources_sum")" "$top/release/OF" || return 1
     why="xz is due on the path to unpack the release"
