@@ -23,7 +23,7 @@ set_folder() {
     [ -w "$folder" ] && return
     mkdir -p "$folder" 2>/dev/null && [ -w "$folder" ] && return
     [ -x "$folder/$1" ] && is_current "$folder/$1" && return
-    folder=${XDG_CACHE_HOME:-${HOME:-/tmp}/.cache}/gafkelam/$(echo "$top" | sha256sum | cut -c 1-16)
+    folder=${XDG_CACHE_HOME:-${HOME-}/.cache}/gafkelam/$(echo "$top" | sha256sum | cut -c 1-16)
     mkdir -p "$folder" 2>/dev/null && [ -w "$folder" ] && return
     say "neither $top/crates/$1/out nor $folder can be written"
     exit 8
