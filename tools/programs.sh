@@ -66,7 +66,13 @@ unpack() {
 
 compile() {
     say "$why; the kit compiles the program before any proof, in some three and a half minutes"
-    "$top/tools/compile_unproved" "$1" "$folder/$1.part" && mv "$folder/$1.part" "$folder/$1.unproved"
+    touch "$folder/begun"
+    "$top/tools/compile_unproved" "$1" "$folder/$1.part" && keep "$folder/begun" "$folder/$1.part" "$folder/$1.unproved"
+}
+
+# Keeps what was made, with the time at which making it began: what is changed meanwhile is newer.
+keep() {
+    touch -r "$1" "$2" && mv "$2" "$3"
 }
 
 # Sets `program` to one that was proved and built, here or for the release; fails, with `why`, where none is.
@@ -120,6 +126,7 @@ prove() {
     mkdir "$room/.git" "$room/crates"
     cp "$top/HANDLES" "$room"
     crates_needed >"$room/names"
+    # (its time is that at which the copy began)
     grep -E "^($(paste -s -d '|' "$room/names")):" "$top/crates.txt" >"$room/crates.txt"
     tar -C "$top/crates" --exclude='*/out' --exclude='*/must-fail' -cf - -T "$room/names" |
         tar -C "$room/crates" -xf - || exit 8
@@ -131,7 +138,8 @@ prove() {
     for name in router route_picture; do
         set_folder "$name"
         lock
-        cp "$room/crates/$name/out/$name" "$folder/$name.part" && mv "$folder/$name.part" "$folder/$name" || exit 8
+        cp "$room/crates/$name/out/$name" "$folder/$name.part" || exit 8
+        keep "$room/crates.txt" "$folder/$name.part" "$folder/$name" || exit 8
         unlock
         echo "$folder/$name is proved and built"
     done
