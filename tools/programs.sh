@@ -23,7 +23,7 @@ set_folder() {
     [ -w "$folder" ] && return
     mkdir -p "$folder" 2>/dev/null && [ -w "$folder" ] && return
     [ -x "$folder/$1" ] && is_current "$folder/$1" && return
-    folder=${XDG_CACHE_HOME:-${HOME:-/tmp}/.cache}/gafkelam/$(echo "$top" | sha256sum | cut -c 1-16)
+    folder=${XDG_CACHE_HOME:-${HOME-}/.cache}/gafkelam/$(echo "$top" | sha256sum | cut -c 1-16)
     mkdir -p "$folder" 2>/dev/null && [ -w "$folder" ] && return
     say "neither $top/crates/$1/out nor $folder can be written"
     exit 8
@@ -46,7 +46,7 @@ unpack() {
     why="the release is for Linux on x86-64"
     [ "$(uname -sm)" = "Linux x86_64" ] || return 1
     why="release/OF is not what was written"
-    [ "$(sed '$d' "$top/release/OF" | sha256sum | cut -d ' ' -f 1)" = "$(sed -n '$s/^above //p' "$top/release/OF")" ] || return 1
+    [ "$(sed '$d' "$top/release/OF" | sha256sum)" = "$(sed -n '$s/^above //p' "$top/release/OF")  -" ] || return 1
     why="the release is of other sources than these"
     grep -qx "sources $("$top/tools/sources_sum")" "$top/release/OF" || return 1
     why="xz is due on the path to unpack the release"
@@ -66,7 +66,13 @@ unpack() {
 
 compile() {
     say "$why; the kit compiles the program before any proof, in some three and a half minutes"
-    "$top/tools/compile_unproved" "$1" "$folder/$1.part" && mv "$folder/$1.part" "$folder/$1.unproved"
+    touch "$folder/begun"
+    "$top/tools/compile_unproved" "$1" "$folder/$1.part" && keep "$folder/begun" "$folder/$1.part" "$folder/$1.unproved"
+}
+
+# Keeps what was made, with the time at which making it began: what is changed meanwhile is newer.
+keep() {
+    touch -r "$1" "$2" && mv "$2" "$3"
 }
 
 # Sets `program` to one that was proved and built, here or for the release; fails, with `why`, where none is.
@@ -120,6 +126,7 @@ prove() {
     mkdir "$room/.git" "$room/crates"
     cp "$top/HANDLES" "$room"
     crates_needed >"$room/names"
+    # (its time is that at which the copy began)
     grep -E "^($(paste -s -d '|' "$room/names")):" "$top/crates.txt" >"$room/crates.txt"
     tar -C "$top/crates" --exclude='*/out' --exclude='*/must-fail' -cf - -T "$room/names" |
         tar -C "$room/crates" -xf - || exit 8
@@ -131,7 +138,8 @@ prove() {
     for name in router route_picture; do
         set_folder "$name"
         lock
-        cp "$room/crates/$name/out/$name" "$folder/$name.part" && mv "$folder/$name.part" "$folder/$name" || exit 8
+        cp "$room/crates/$name/out/$name" "$folder/$name.part" || exit 8
+        keep "$room/crates.txt" "$folder/$name.part" "$folder/$name" || exit 8
         unlock
         echo "$folder/$name is proved and built"
     done

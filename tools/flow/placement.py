@@ -7,6 +7,7 @@ lets some 44 in a hundred be taken.
 `anneal.cc` does the same, draw for draw, and is some thirty times as fast; it is what runs where a
 compiler is there, and both come to the same places.
 """
+import hashlib
 import math
 import os
 import shutil
@@ -281,18 +282,20 @@ def annealed_by(program, problem):
 def build():
     """The program of `anneal.cc`, or None where no compiler makes one: then Python does the same in more time.
 
-    It is kept beside its source, or among the caller's own files where that folder may not be written in.
+    It is kept beside its source, or among the caller's own files, by a sum of the source, where that folder may not
+    be written in.
     """
     cache = os.environ.get("XDG_CACHE_HOME") or os.path.expanduser("~/.cache")
-    for folder in (os.path.join(HERE, "out"), os.path.join(cache, "gafkelam")):
-        program = os.path.join(folder, "anneal")
+    with open(SOURCE, "rb") as source:
+        name = "anneal-" + hashlib.sha256(source.read()).hexdigest()[:16]
+    for program in (os.path.join(HERE, "out", "anneal"), os.path.join(cache, "gafkelam", name)):
         if os.path.exists(program) and os.path.getmtime(program) >= os.path.getmtime(SOURCE):
             return program
         try:
-            os.makedirs(folder, exist_ok=True)
+            os.makedirs(os.path.dirname(program), exist_ok=True)
         except OSError:
             continue
-        if os.access(folder, os.W_OK):
+        if os.access(os.path.dirname(program), os.W_OK):
             return program if compile_to(program) else None
     return None
 
