@@ -5,6 +5,7 @@ pub mod KindLemmas
 pub mod LeadLemmas
 pub mod LineCauses
 pub mod NetRoutings
+pub mod OwnEnds
 mod RuleLemmas
 pub mod SaysLemmas
 pub mod TreeLemmas

@@ -1,11 +1,18 @@
 //! Laws over the definitions, as functions that do nothing.
 ghost use Rattle.std.specs.Prelude.{◌≡◌, ◌≤◌, ℕ, Bool, false, true, length};
+ghost use Rattle.fpga_net.specs.Sound.{IsSoundNetlist};
+ghost use Rattle.fpga_net.specs.Value.{ReadsNet};
+ghost use Rattle.fpga_text.specs.Bytes.{Bytes};
 ghost use Rattle.fpga_types.specs.Fits.{Fits};
 ghost use Rattle.fpga_types.specs.Placed.{NetWires};
+ghost use Rattle.fpga_types.specs.Placements.{IsSoundPlacement};
 ghost use Rattle.fpga_types.specs.Problem.{PlacedNetlist, RoutingProblem, placed_netlist_of};
 ghost use Rattle.fpga_types.specs.Slots.{slots};
 ghost use Rattle.fpga_types.specs.Sound.{IsSound};
+ghost use Rattle.fpga_types.specs.declared.arch.Arch.{Arch};
 ghost use Rattle.fpga_types.specs.declared.limits.TheConstants.{SLOT_LIMIT};
+ghost use Rattle.fpga_types.specs.declared.netlist.Netlist.{Netlist};
+ghost use Rattle.fpga_types.specs.declared.placement.Placement.{Placement};
 ghost use Rattle.fpga_types.specs.declared.route.RouteText.{RouteText};
 ghost use Rattle.route_judge.specs.Judged.{placed_judged, problem_with};
 ghost use Rattle.route_judge.specs.Says.{HasOwnEnds, SaysRouting};
@@ -45,4 +52,12 @@ pub fn strict_file_is_a_global_route()
     ensures fits { (width : ℕ) (placed : PlacedNetlist) (found : RouteText)
         → IsSound found → length (slots found) ≤ SLOT_LIMIT
         → placed_judged true width placed found ≡ Legal → Fits (problem_with placed found) }
+{}
+
+/// The netlist that a text says, with a placement such as is read for it, has own ends.
+pub fn read_netlist_has_own_ends()
+    ensures { (arch : Arch) (text : Bytes) (netlist : Netlist) (placement : Placement)
+        → ReadsNet arch text netlist → IsSoundNetlist arch netlist
+        → IsSoundPlacement arch netlist placement
+        → HasOwnEnds (record { arch = arch; netlist = netlist; placement = placement }) }
 {}
