@@ -4,28 +4,21 @@ use Rattle.std.specs.Prelude.{◌*◌, MatchResult, Option}
 use Rattle.std.proofs.Common.{true, false, ◌≡◌, ◌∙◌, ◌⊎◌, ℕ, zero, suc, ◌<◌, ◌≤◌, List, length, Some, Ok, Err, Result, refl, sym, ap, subst, inl, inr, arith}
 use Rattle.fpga_problem.proofs.FileLemmas.{one-problem}
 use Rattle.fpga_problem.proofs.SourceLemmas.{reads-alike}
-use Rattle.fpga_route.specs.Value.{route_value}
 use Rattle.fpga_types.specs.Slots.{slots}
 use Rattle.fpga_types.specs.declared.limits.TheConstants.{SLOT_LIMIT}
 use Rattle.list_laws.proofs.Places.{some_is}
-use Rattle.route_verify.specs.Reach.{judged_by}
 use Rattle.route_ways.specs.Way.{budget_of, copies_by}
 use Rattle.sat_clause.specs.declared.limits.TheConstants.{CLAUSE_LIMIT}
-use Rattle.sat_rat.specs.FullJudge.{full_judge}
-use Rattle.sat_text.specs.CnfText.{cnf_said}
-use Rattle.sat_text.specs.LratText.{lrat_said}
 use Rattle.router_words.specs.Refusal.{code_of}
 use Rattle.router_words.specs.declared.fault.Refusal.{Refusal}
-use Rattle.router_top.specs.Check.{ChecksTo, cnf_source, judgement_outcome, lrat_source, JudgesTo, VerifiesTo, judged_outcome}
+use Rattle.router_top.specs.Check.{ChecksTo, JudgesTo, VerifiesTo}
 use Rattle.router_top.specs.Generated.{IsTooLarge, Makes, HasRoom, IsTooMany}
 use Rattle.router_top.specs.Method.{HasNone, clauses_by}
 use Rattle.router_top.specs.Search.{Search, clauses_held, core_search, route_search, sweep_of, sweep_search}
 use Rattle.router_top.specs.Suited.{IsLeastUnsuited, IsTrueOfSuited, IsUnsuited, Suits, is_suited, obstacle_to}
-use Rattle.router_top.specs.Report.{unread_outcome}
 use Rattle.router_top.specs.Truth.{Agrees, IsOpenBelow, IsReached, IsTrueAt, IsTrueOf, IsTrueOfEncoding, IsTrueOfJob, IsTrueOfSearch, IsTrueOfSuitedSearch, IsTrueOfWork, IsTrueOfCount}
-use Rattle.router_top.specs.Subject.{FileMap, FileNames, IsHalted, ReadsThen, route_source, RoutingProblem, HasFew, job_of, Blames, CheckAsked, Checks, Encodes, Generates, JobAsked, RecipeAsked, Routes, Sweeps, TrialAsked, Tries, Verifies, VerifyAsked, Word, Method, Outcome, Done, NotSymmetric, Undecided, Usage}
+use Rattle.router_top.specs.Subject.{FileMap, FileNames, IsHalted, RoutingProblem, HasFew, job_of, Blames, CheckAsked, Checks, Encodes, Generates, JobAsked, RecipeAsked, Routes, Sweeps, TrialAsked, Tries, Verifies, VerifyAsked, Word, Method, Outcome, Done, NotSymmetric, Undecided, Usage}
 use Rattle.router_top.specs.declared.outcome.Obstacle.{Obstacle}
-use Rattle.router_top.specs.declared.text_file.TextFile.TheVariants.{Cnf as CnfFile, Lrat, Routed}
 use Rattle.router_top.proofs.GeneratedLaws.{one-made}
 use Rattle.router_top.proofs.ServeLaws.{one-copy}
 use Rattle.router_top.proofs.StopLaws.{lack-poses, one-lack}

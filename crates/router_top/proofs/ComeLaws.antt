@@ -6,7 +6,6 @@ use Rattle.std.proofs.Common.{◌≡◌, ◌∙◌, ◌⊎◌, ℕ, ◌+◌, ◌
 use Rattle.desk_io.specs.Files.{HasRisen}
 use Rattle.desk_io.proofs.FileLemmas.{has_risen}
 use Rattle.fpga_problem.proofs.SourceLemmas.{calm-reads}
-use Rattle.fpga_route.specs.Value.{route_value}
 use Rattle.fpga_types.specs.Given.{IsGiven}
 use Rattle.fpga_types.specs.declared.limits.TheConstants.{WIDTH_LIMIT}
 use Rattle.route_sweep.specs.Climb.{EndsAt}
@@ -37,7 +36,7 @@ use Rattle.router_top.specs.Generated.{PosesNone, generated_files, texts_of}
 use Rattle.router_top.specs.JobFiles.{IsClimb, LeavesWhole}
 use Rattle.router_top.specs.Means.{IsJudged, Means}
 use Rattle.router_top.specs.Method.{IsRoutingBy, clauses_by}
-use Rattle.router_top.specs.Report.{climbed_outcome, found_outcome, unread_outcome, written_outcome}
+use Rattle.router_top.specs.Report.{climbed_outcome, found_outcome, written_outcome}
 use Rattle.router_top.specs.Suited.{LeavesPrepared, EncodeLeaves, IsUnsuited, LeavesSuited, RouteLeaves, Suits, SweepLeaves}
 use Rattle.router_top.specs.Run.{Leaves, LeavesJob, LeavesWork, Scene, TriesGenerated, WritesGenerated}
 use Rattle.router_top.specs.Saying.{more_said, AreNetLines, IsUnroutable, Leads}
@@ -47,7 +46,7 @@ use Rattle.router_top.specs.Truth.{IsTrueOf, IsTrueOfEncoding, IsTrueOfJob, IsTr
 use Rattle.router_top.specs.Written.{JobFile, with_files, AreWritten}
 use Rattle.router_top.specs.Core.{LeavesCore, SaysBlamed, SaysLead}
 use Rattle.router_top.specs.Headline.{IsRefuted}
-use Rattle.router_top.specs.Subject.{Bytes, FileMap, ShelfState, after_say, FileNames, Poses, IsHalted, IsStopped, ReadsThen, Says, route_source, RoutingProblem, RouteText, HasFew, Cnf, Step, job_of, CheckAsked, Checks, EncodeAsked, Encodes as EncodesJob, GenAsked, Generates, JobAsked, RouteAsked, Routes, SweepAsked, Sweeps as SweepsJob, TrialAsked, Tries as TriesJob, Verifies, VerifyAsked, Blames, CoreAsked, Word, Method, Strictly, Outcome, Done, Usage, WriteFault, OutOfMemory, Unroutable, Limit, File}
+use Rattle.router_top.specs.Subject.{Bytes, FileMap, ShelfState, after_say, FileNames, Poses, IsHalted, IsStopped, Says, RoutingProblem, Cnf, Step, job_of, CheckAsked, Checks, EncodeAsked, Encodes as EncodesJob, GenAsked, Generates, JobAsked, RouteAsked, Routes, SweepAsked, Sweeps as SweepsJob, TrialAsked, Tries as TriesJob, Verifies, VerifyAsked, Blames, CoreAsked, Word, Method, Outcome, Done, Usage, WriteFault, OutOfMemory, Unroutable, Limit, File}
 use Rattle.router_top.specs.declared.text_file.TextFile.TheVariants.{Cnf as CnfFile, Lrat, Routed}
 use Rattle.router_top.proofs.Came.{Came, Cut, HasCome, Idle, IsSpared, Searched, Wrote, ended_with}
 use Rattle.router_top.proofs.ClimbLaws.{climbed-calm, climbed-logs, climbed-outcome, climbed-said}

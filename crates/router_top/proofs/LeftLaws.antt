@@ -1,9 +1,8 @@
 -- What a run leaves of the files of its job, whatever fails.
-use Rattle.std.specs.Prelude.{flat_map}
 use Rattle.std.specs.List.{All}
 use Rattle.std.specs.FinMap.{get, insert}
 use Rattle.std.proofs.Common.{◌≡◌, ◌≢◌, ◌∙◌, ◌⊎◌, ℕ, ◌*◌, ◌<◌, ◌≤◌, List, [], ◌∷◌, ◌++◌, length, take, arith, Option, Some, None, Ok, Err, Result, refl, sym, ap, subst, inl, inr, append_assoc}
-use Rattle.std.proofs.lemmas.List.{append-nil, map-append}
+use Rattle.std.proofs.lemmas.List.{append-nil}
 use Rattle.std.proofs.lemmas.List.Elements.{All-cons, All-nil}
 use Rattle.desk_io.specs.Changes.{OnlyChanges, held}
 use Rattle.desk_io.specs.Reading.{IsWhole}
@@ -27,9 +26,9 @@ use Rattle.router_top.specs.JobFiles.{AreFilesOf, AreFound, IsBegun, LeavesFiles
 use Rattle.router_top.specs.Method.{clauses_by}
 use Rattle.router_top.specs.Report.{found_outcome, unsaid}
 use Rattle.router_top.specs.Run.{Runs, Scene, scene}
-use Rattle.router_top.specs.Search.{Search, lower_widths, proof_files, route_file}
+use Rattle.router_top.specs.Search.{proof_files, route_file}
 use Rattle.router_top.specs.Work.{Finds}
-use Rattle.router_top.specs.Subject.{DeskState, Bytes, FileMap, ShelfState, RoutingProblem, HasFew, Cnf, Step, Word, Outcome, InputFault, Limit, NotSymmetric, ReadFault, Unroutable, Usage, WriteFault, Slot, Said, File}
+use Rattle.router_top.specs.Subject.{DeskState, Bytes, FileMap, ShelfState, HasFew, Cnf, Step, Word, Outcome, InputFault, Limit, NotSymmetric, ReadFault, Unroutable, Usage, WriteFault, Slot, Said, File}
 use Rattle.router_top.proofs.Came.{AreHeard, Came, Cut, HasCome, HasWritten, Idle, IsHeard, IsSpared, Searched, Wrote, ended_with}
 use Rattle.router_top.proofs.GeneratedLaws.{files-after}
 use Rattle.router_top.proofs.SlotNameLaws.{part-named}

@@ -13,7 +13,7 @@ use Rattle.router_top.specs.SlotNames.{name_written}
 use Rattle.router_top.specs.declared.size_cause.SizeCause.TheVariants.{FormulaClauses}
 use Rattle.router_top.specs.Work.{clauses_file}
 use Rattle.router_top.specs.Written.{AreWritten, JobFile, with_file}
-use Rattle.router_top.specs.Subject.{Bytes, FileMap, Poses, RoutingProblem, RouteText, HasFew, Step, job_of, EncodeAsked, Encodes, GenAsked, Generates, JobAsked, SweepAsked, Sweeps, TrialAsked, Tries, Word, Outcome, InputFault, Limit, NotSymmetric, Usage, ReadFault, WriteFault, Slot, Said}
+use Rattle.router_top.specs.Subject.{FileMap, Poses, RoutingProblem, RouteText, HasFew, Step, job_of, EncodeAsked, Encodes, GenAsked, Generates, JobAsked, SweepAsked, Sweeps, TrialAsked, Tries, Word, Outcome, InputFault, Limit, NotSymmetric, Usage, ReadFault, WriteFault, Slot, Said}
 
 -- ---- the files of each job
 
