@@ -2,8 +2,10 @@ pub mod AcrossLemmas
 pub mod CornerLemmas
 pub mod CrossLemmas
 pub mod CutLemmas
+pub mod CutRows
 pub mod PigeonLemmas
 pub mod ReachLemmas
+pub mod SideLemmas
 pub mod SizeLemmas
 pub mod InsideLemmas
 pub mod PartLemmas

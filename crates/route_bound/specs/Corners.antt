@@ -9,6 +9,10 @@ use Rattle.fpga_types.specs.declared.grid.SwitchAt.{SwitchAt}
 abbrev pub Corners : Type 0
 Corners = SwitchAt → Bool
 
+-- the other corners
+abbrev pub other_side : Corners → Corners
+other_side corners at = not (corners at)
+
 -- the corner at the left or lower end of a cell of the array
 abbrev pub near_corner : Axis → (x y : ℕ) → SwitchAt
 near_corner X x y = record { i = x - 1; j = y }

@@ -10,7 +10,7 @@ use Rattle.fpga_types.specs.declared.arch.Arch.{Arch}
 use Rattle.fpga_types.specs.declared.grid.Cell.{Cell}
 use Rattle.fpga_types.specs.declared.netlist.Net.{Net}
 use Rattle.fpga_types.specs.declared.problem.Terminal.{Terminal}
-use Rattle.route_bound.specs.Corners.{Corners, has_corner_in, has_corner_out, is_cut_cell}
+use Rattle.route_bound.specs.Corners.{Corners, has_corner_in, has_corner_out, is_cut_cell, other_side}
 use Rattle.route_bound.specs.Lying.{LiesIn, cells_in, lies_in}
 use Rattle.route_bound.specs.Walks.{IsParted}
 
@@ -73,6 +73,12 @@ crossing placed corners =
 abbrev pub AreThoseThatCross : PlacedNetlist → Corners → Type 0
 AreThoseThatCross placed corners =
     (number : ℕ) → Contains (crossing placed corners) number ↔ Crosses placed corners number
+
+-- the cut round the other corners has the same cells, and the same nets cross it
+pub record HasTwoSides (placed : PlacedNetlist) (corners : Corners) : Type 0 where
+  pub nets : crossing placed (other_side corners) ≡ crossing placed corners
+  pub cells : cut_cells placed.placement.grid (other_side corners)
+      ≡ cut_cells placed.placement.grid corners
 
 -- a net that crosses the cut is parted by the cells of the cut
 abbrev pub ArePartedByCut : PlacedNetlist → Corners → Type 0

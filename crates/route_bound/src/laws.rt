@@ -4,7 +4,7 @@ ghost use Rattle.fpga_types.specs.Problem.{PlacedNetlist};
 ghost use Rattle.fpga_types.specs.Size.{Size};
 ghost use Rattle.fpga_types.specs.declared.arch.Arch.{Arch};
 ghost use Rattle.route_bound.specs.Corners.{Corners};
-ghost use Rattle.route_bound.specs.Crossing.{ArePartedByCut, AreThoseThatCross, FewNetsCross, IsBound, IsLeast, bound_of, tracks_wanted};
+ghost use Rattle.route_bound.specs.Crossing.{ArePartedByCut, AreThoseThatCross, FewNetsCross, HasTwoSides, IsBound, IsLeast, bound_of, tracks_wanted};
 ghost use Rattle.route_bound.specs.Lying.{Cells};
 ghost use Rattle.route_bound.specs.Walks.{FewNetsParted, PartsWithin};
 
@@ -35,6 +35,12 @@ pub fn few_nets_cross()
 /// The search over pins and cells finds exactly the nets that cross a cut.
 pub fn crossing_nets_cross()
     ensures { (placed : PlacedNetlist) (corners : Corners) → AreThoseThatCross placed corners }
+{}
+
+/// A cut is the same from either side: round the corners that are not in a set goes the cut round
+/// those that are.
+pub fn cuts_have_two_sides()
+    ensures { (placed : PlacedNetlist) (corners : Corners) → HasTwoSides placed corners }
 {}
 
 /// No placed routing has fewer tracks than a cut asks for.

@@ -14,7 +14,7 @@ mod search;
 pub use crossing::crossing_nets;
 pub use cut::{Cut, best_cut};
 pub use laws::{
-    bounds_are_least, crossing_nets_are_parted, crossing_nets_cross, cuts_bound, few_nets_cross,
-    few_nets_parted, held_terminals_are_parted,
+    bounds_are_least, crossing_nets_are_parted, crossing_nets_cross, cuts_bound,
+    cuts_have_two_sides, few_nets_cross, few_nets_parted, held_terminals_are_parted,
 };
 pub use range::{CornerRange, LineKind};
