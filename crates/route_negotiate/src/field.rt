@@ -1,0 +1,428 @@
+//! What a search knows of each wire, pin, cell and class.
+
+use crate::board::Board;
+use crate::costs::{PIN, WIRE, cost_of, kept_after};
+use crate::frame::Point;
+use crate::sites::{opened_tracks, pin_at};
+use crate::tree::Tree;
+use crate::wires::{cell_of, track_of};
+use std::alloc::{AllocError, Global};
+
+/// In place of the wire that a wave came from: it began here, at a wire of the tree.
+pub(crate) const ROOT: u32 = u32::MAX;
+/// In place of the wire that a wave came from: it began here, at the driver.
+pub(crate) const DRIVER: u32 = u32::MAX - 1;
+
+/// A wire: how far it is in the wave `seen` and from which wire; what it costs; in which tree it
+/// was last; how many nets take it, and what is kept of fights for it.
+#[derive(Clone, Copy)]
+pub(crate) struct Spot {
+    pub dist: u64,
+    pub seen: u32,
+    pub from: u32,
+    pub cost: u32,
+    pub tree: u32,
+    pub taken: u32,
+    pub kept: u32,
+}
+
+/// A pin: the tracks that it opens, the class that it is of; what it costs, how many nets take it,
+/// and what is kept of fights for it.
+#[derive(Clone, Copy)]
+pub(crate) struct PinSpot {
+    pub opened: u64,
+    pub class: u32,
+    pub cost: u32,
+    pub taken: u32,
+    pub kept: u32,
+}
+
+/// Which class of those that the tree has to reach is nearest, and how many steps it is away.
+#[derive(Clone, Copy)]
+pub(crate) struct Near {
+    pub tree: u32,
+    pub class: u32,
+    pub steps: u32,
+}
+
+/// A cell: where it lies, in which tree it was last, and what was found to be near.
+#[derive(Clone, Copy)]
+pub(crate) struct CellSpot {
+    pub at: Point,
+    pub tree: u32,
+    pub near: Near,
+}
+
+/// All wires, pins, cells and classes, and the numbers of the last wave and the last tree.
+#[derive(Drop)]
+pub(crate) struct Field {
+    width: u32,
+    pub spots: Vec<Spot>,
+    pub pins: Vec<PinSpot>,
+    pub cells: Vec<CellSpot>,
+    /// For each class the tree that has to reach it.
+    wanted: Vec<u32>,
+    present: u64,
+    pub wave: u32,
+    pub tree: u32,
+}
+
+impl Spot {
+    /// A wire that no net takes.
+    const FREE: Spot = Spot {
+        dist: 0,
+        seen: 0,
+        from: ROOT,
+        cost: WIRE as u32,
+        tree: 0,
+        taken: 0,
+        kept: 0,
+    };
+
+    /// The same, taken by so many nets.
+    fn taken_by(self, taken: u32, present: u64) -> Spot {
+        Spot {
+            taken,
+            cost: cost_of(WIRE, self.kept, taken, present),
+            ..self
+        }
+    }
+
+    /// The same, after a round.
+    fn after_round(self, present: u64) -> Spot {
+        let kept = kept_after(self.kept, self.taken);
+        Spot {
+            kept,
+            cost: cost_of(WIRE, kept, self.taken, present),
+            ..self
+        }
+    }
+}
+
+impl PinSpot {
+    /// The same, taken by so many nets.
+    fn taken_by(self, taken: u32, present: u64) -> PinSpot {
+        PinSpot {
+            taken,
+            cost: cost_of(PIN, self.kept, taken, present),
+            ..self
+        }
+    }
+
+    /// The same, after a round.
+    fn after_round(self, present: u64) -> PinSpot {
+        let kept = kept_after(self.kept, self.taken);
+        PinSpot {
+            kept,
+            cost: cost_of(PIN, kept, self.taken, present),
+            ..self
+        }
+    }
+}
+
+impl Field {
+    /// The field of which no net takes anything.
+    pub(crate) fn new(alloc: Global, board: &Board<'_>, present: u64) -> Result<Field, AllocError> {
+        Ok(Field {
+            width: board.fabric.width,
+            spots: vec![in alloc; Spot::FREE; board.fabric.wires()]?,
+            pins: pin_spots(alloc, board)?,
+            cells: cell_spots(alloc, &board.fabric.points)?,
+            wanted: vec![in alloc; 0; board.pins.class_numbers()]?,
+            present,
+            wave: 0,
+            tree: 0,
+        })
+    }
+
+    /// Gives back all that nets take and forgets all fights.
+    pub(crate) fn clear(&mut self, present: u64) {
+        self.present = present;
+        for spot in self.spots.iter_mut() {
+            *spot = Spot::FREE;
+        }
+        for pin in self.pins.iter_mut() {
+            pin.kept = 0;
+            *pin = pin.taken_by(0, present);
+        }
+        self.forget_trees();
+        self.wave = 0;
+    }
+
+    /// Begins another wave: no wire is seen in it.
+    pub(crate) fn next_wave(&mut self) {
+        if self.wave == u32::MAX {
+            for spot in self.spots.iter_mut() {
+                spot.seen = 0;
+            }
+            self.wave = 0;
+        }
+        self.wave = self.wave.saturating_add(1);
+    }
+
+    /// Begins another tree: no wire, cell or class is marked by it.
+    pub(crate) fn next_tree(&mut self) {
+        if self.tree == u32::MAX {
+            for spot in self.spots.iter_mut() {
+                spot.tree = 0;
+            }
+            self.forget_trees();
+        }
+        self.tree = self.tree.saturating_add(1);
+    }
+
+    /// Takes the marks of trees from cells and classes.
+    fn forget_trees(&mut self) {
+        for cell in self.cells.iter_mut() {
+            cell.tree = 0;
+            cell.near.tree = 0;
+        }
+        self.wanted.fill(0);
+        self.tree = 0;
+    }
+
+    /// Where a wire stands in the row of all.
+    pub(crate) fn place_of(&self, wire: u32) -> usize {
+        cell_of(wire)
+            .wrapping_mul(self.width)
+            .wrapping_add(track_of(wire)) as usize
+    }
+
+    /// A wire, or one that no wave goes to.
+    pub(crate) fn spot(&self, wire: u32) -> Spot {
+        let place = self.place_of(wire);
+        if place < self.spots.len() {
+            self.spots[place]
+        } else {
+            Spot {
+                cost: u32::MAX,
+                ..Spot::FREE
+            }
+        }
+    }
+
+    /// Sets how far a wire is in this wave, and from which wire.
+    pub(crate) fn see(&mut self, wire: u32, dist: u64, from: u32) {
+        let place = self.place_of(wire);
+        if place < self.spots.len() {
+            let wave = self.wave;
+            let spot = &mut self.spots[place];
+            spot.dist = dist;
+            spot.seen = wave;
+            spot.from = from;
+        }
+    }
+
+    /// A cell, or one far away.
+    pub(crate) fn cell(&self, cell: u32) -> CellSpot {
+        let place = cell as usize;
+        if place < self.cells.len() {
+            return self.cells[place];
+        }
+        far_cell(Point {
+            x: u32::MAX,
+            y: u32::MAX,
+        })
+    }
+
+    /// Sets what is near to a cell.
+    pub(crate) fn set_near(&mut self, cell: u32, near: Near) {
+        let place = cell as usize;
+        if place < self.cells.len() {
+            self.cells[place].near = near;
+        }
+    }
+
+    /// Puts a wire and its cell into the tree: whether it is new there.
+    pub(crate) fn grow(&mut self, wire: u32) -> bool {
+        let tree = self.tree;
+        let cell = cell_of(wire) as usize;
+        let place = self.place_of(wire);
+        if place >= self.spots.len() || self.spots[place].tree == tree {
+            return false;
+        }
+        self.spots[place].tree = tree;
+        if cell < self.cells.len() {
+            self.cells[cell].tree = tree;
+        }
+        true
+    }
+
+    /// Whether the tree has to reach the class.
+    pub(crate) fn is_wanted(&self, class: u32) -> bool {
+        let place = class as usize;
+        place < self.wanted.len() && self.wanted[place] == self.tree
+    }
+
+    /// Sets whether the tree has to reach the class.
+    pub(crate) fn want(&mut self, class: u32, wanted: bool) {
+        let place = class as usize;
+        let mark = if wanted { self.tree } else { 0 };
+        if place < self.wanted.len() {
+            self.wanted[place] = mark;
+        }
+    }
+
+    /// A pin, or one that opens no track.
+    pub(crate) fn pin(&self, pin: u32) -> PinSpot {
+        let place = pin as usize;
+        if place < self.pins.len() {
+            return self.pins[place];
+        }
+        PinSpot {
+            opened: 0,
+            class: u32::MAX,
+            cost: PIN as u32,
+            taken: 0,
+            kept: 0,
+        }
+    }
+
+    /// Lets a net take the wires and pins of its tree.
+    pub(crate) fn take(&mut self, tree: &Tree) {
+        for step in 0..tree.steps.len() {
+            for wire in tree.new_wires_of(step) {
+                let taken = self.spot(*wire).taken.saturating_add(1);
+                self.set_wire_taken(*wire, taken);
+            }
+            self.take_pin(tree.steps[step].pin);
+        }
+        self.take_pin(tree.leaves);
+    }
+
+    /// Takes from a net the wires and pins of its tree.
+    pub(crate) fn give(&mut self, tree: &Tree) {
+        for step in 0..tree.steps.len() {
+            for wire in tree.new_wires_of(step) {
+                let taken = self.spot(*wire).taken.saturating_sub(1);
+                self.set_wire_taken(*wire, taken);
+            }
+            self.give_pin(tree.steps[step].pin);
+        }
+        self.give_pin(tree.leaves);
+    }
+
+    fn set_wire_taken(&mut self, wire: u32, taken: u32) {
+        let place = self.place_of(wire);
+        if place < self.spots.len() {
+            self.spots[place] = self.spots[place].taken_by(taken, self.present);
+        }
+    }
+
+    fn take_pin(&mut self, pin: u32) {
+        let place = pin as usize;
+        if place < self.pins.len() {
+            let taken = self.pins[place].taken.saturating_add(1);
+            self.pins[place] = self.pins[place].taken_by(taken, self.present);
+        }
+    }
+
+    fn give_pin(&mut self, pin: u32) {
+        let place = pin as usize;
+        if place < self.pins.len() {
+            let taken = self.pins[place].taken.saturating_sub(1);
+            self.pins[place] = self.pins[place].taken_by(taken, self.present);
+        }
+    }
+
+    /// Whether a tree has a wire or a pin that another net takes too.
+    pub(crate) fn is_contested(&self, tree: &Tree) -> bool {
+        for step in 0..tree.steps.len() {
+            for wire in tree.new_wires_of(step) {
+                if self.spot(*wire).taken > 1 {
+                    return true;
+                }
+            }
+            if self.pin(tree.steps[step].pin).taken > 1 {
+                return true;
+            }
+        }
+        self.pin(tree.leaves).taken > 1
+    }
+
+    /// How many nets are too many, over all wires and pins.
+    pub(crate) fn excess(&self) -> u64 {
+        let mut excess: u64 = 0;
+        for spot in self.spots.as_slice() {
+            excess = excess.saturating_add(spot.taken.saturating_sub(1) as u64);
+        }
+        for pin in self.pins.as_slice() {
+            excess = excess.saturating_add(pin.taken.saturating_sub(1) as u64);
+        }
+        excess
+    }
+
+    /// Ends a round: what is kept of fights grows by each net too many, and the factor for each
+    /// such net changes.
+    pub(crate) fn end_round(&mut self, present: u64) {
+        self.present = present;
+        for spot in self.spots.iter_mut() {
+            *spot = spot.after_round(present);
+        }
+        for pin in self.pins.iter_mut() {
+            *pin = pin.after_round(present);
+        }
+    }
+
+    /// The factor for each net too many.
+    pub(crate) fn present(&self) -> u64 {
+        self.present
+    }
+}
+
+/// All pins, of which no net takes one.
+fn pin_spots(alloc: Global, board: &Board<'_>) -> Result<Vec<PinSpot>, AllocError> {
+    let mut spots = Vec::with_capacity(alloc, board.pins.count())?;
+    for number in 0..board.pins.count() {
+        spots.push(pin_spot(board, (number & 0xffff_ffff) as u32))?;
+    }
+    Ok(spots)
+}
+
+/// A pin that no net takes.
+fn pin_spot(board: &Board<'_>, number: u32) -> PinSpot {
+    let block = board.pins.block_of(number);
+    let pin = board.pins.pin_in_block(number);
+    let mut spot = PinSpot {
+        opened: 0,
+        class: u32::MAX,
+        cost: PIN as u32,
+        taken: 0,
+        kept: 0,
+    };
+    let width = board.fabric.width;
+    let blocks = board.netlist.blocks.as_slice();
+    let places = board.placement.places.as_slice();
+    let at = block as usize;
+    if at >= blocks.len() || at >= places.len() || width == 0 || width > 64 {
+        return spot;
+    }
+    let kind = blocks[at].kind;
+    if let Some(there) = pin_at(board.arch, kind, places[at], pin) {
+        spot.opened = opened_tracks(board.arch, board.placement.grid, width, there);
+        spot.class = board.pins.class_of(board.arch, kind, block, pin);
+    }
+    spot
+}
+
+/// A cell that was in no tree yet.
+fn far_cell(at: Point) -> CellSpot {
+    CellSpot {
+        at,
+        tree: 0,
+        near: Near {
+            tree: 0,
+            class: 0,
+            steps: 0,
+        },
+    }
+}
+
+/// All cells.
+fn cell_spots(alloc: Global, points: &[Point]) -> Result<Vec<CellSpot>, AllocError> {
+    let mut cells = Vec::with_capacity(alloc, points.len())?;
+    for at in points {
+        cells.push(far_cell(*at))?;
+    }
+    Ok(cells)
+}

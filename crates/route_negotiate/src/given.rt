@@ -1,0 +1,258 @@
+//! Trees along the cells of a route that is given.
+
+use crate::board::Board;
+use crate::field::Field;
+use crate::row::{at, put, short};
+use crate::sites::has_track;
+use crate::tree::{Step, Tree};
+use crate::wires::{cell_of, track_of, wire_of};
+use fpga_types::{Elem, ElemKind, PinAt, RouteText, cell_number, number_name};
+use std::alloc::{AllocError, Global};
+use std::collections::BTreeMap;
+
+/// What stands before an element of a net.
+#[derive(Clone, Copy)]
+enum Before {
+    /// A pin of the driver.
+    Driver,
+    /// A channel, on this wire.
+    Wire(u32),
+    /// The end of a path.
+    End,
+}
+
+/// How far a net was followed: what stands before, where its path begins and whether at the driver,
+/// the pin that the path comes to, and how often other nets take what it takes.
+#[derive(Clone, Copy)]
+struct Follower {
+    before: Before,
+    begin: u32,
+    fresh: bool,
+    pin: u32,
+    shared: u64,
+}
+
+/// Makes a tree along the elements of a net, on this track from the driver on: how often other nets
+/// take what it takes. None where the track does not lead through all pins.
+pub(crate) fn follow(
+    board: &Board<'_>,
+    field: &mut Field,
+    tree: &mut Tree,
+    net: usize,
+    elems: &[Elem],
+) -> Result<Option<u64>, AllocError> {
+    field.next_tree();
+    let mut follower = Follower {
+        before: Before::End,
+        begin: 0,
+        fresh: false,
+        pin: u32::MAX,
+        shared: 0,
+    };
+    for e in elems {
+        if !follower.go_on(board, field, tree, net, *e)? {
+            return Ok(None);
+        }
+    }
+    Ok(Some(follower.shared))
+}
+
+impl Follower {
+    /// Takes the next element: whether the net can be followed so far.
+    fn go_on(
+        &mut self,
+        board: &Board<'_>,
+        field: &mut Field,
+        tree: &mut Tree,
+        net: usize,
+        e: Elem,
+    ) -> Result<bool, AllocError> {
+        match e.kind {
+            ElemKind::Source => Ok(true),
+            ElemKind::Opin => Ok(self.leave(board, tree, net, e)),
+            ElemKind::ChanX | ElemKind::ChanY => self.pass(board, field, tree, net, e),
+            ElemKind::Ipin => Ok(self.enter(board, field, e)),
+            ElemKind::Sink => self.end(tree),
+        }
+    }
+
+    /// Begins a path at a pin of the driver.
+    fn leave(&mut self, board: &Board<'_>, tree: &mut Tree, net: usize, e: Elem) -> bool {
+        for start in board.nets.starts_of(net) {
+            if is_pin(board, start.pin, e) {
+                let stays = tree.leaves == u32::MAX || tree.leaves == start.pin;
+                tree.leaves = start.pin;
+                self.before = Before::Driver;
+                self.begin = short(tree.path.len());
+                self.fresh = true;
+                return stays;
+            }
+        }
+        false
+    }
+
+    /// Goes on to a channel.
+    fn pass(
+        &mut self,
+        board: &Board<'_>,
+        field: &mut Field,
+        tree: &mut Tree,
+        net: usize,
+        e: Elem,
+    ) -> Result<bool, AllocError> {
+        let Some(cell) = channel_number(board, e) else {
+            return Ok(false);
+        };
+        let wire = match self.before {
+            Before::Driver => first_wire(board, tree, net, cell),
+            Before::Wire(last) => next_wire(board, last, cell),
+            Before::End => return self.branch(board, field, tree, cell),
+        };
+        let Some(wire) = wire else {
+            return Ok(false);
+        };
+        if field.cell(cell).tree == field.tree {
+            return Ok(false);
+        }
+        field.grow(wire);
+        self.shared = self.shared.saturating_add(field.spot(wire).taken as u64);
+        self.before = Before::Wire(wire);
+        tree.path.push(wire)?;
+        Ok(true)
+    }
+
+    /// Begins a path at a wire of the tree.
+    fn branch(
+        &mut self,
+        board: &Board<'_>,
+        field: &Field,
+        tree: &mut Tree,
+        cell: u32,
+    ) -> Result<bool, AllocError> {
+        for track in 0..board.fabric.width {
+            let wire = wire_of(cell, track);
+            if field.spot(wire).tree == field.tree {
+                self.before = Before::Wire(wire);
+                self.begin = short(tree.path.len());
+                self.fresh = false;
+                tree.path.push(wire)?;
+                return Ok(true);
+            }
+        }
+        Ok(false)
+    }
+
+    /// Comes to a pin.
+    fn enter(&mut self, board: &Board<'_>, field: &Field, e: Elem) -> bool {
+        let Before::Wire(wire) = self.before else {
+            return false;
+        };
+        for number in board.pins.along(cell_of(wire)) {
+            let pin = field.pin(*number);
+            if is_pin(board, *number, e) && has_track(pin.opened, track_of(wire)) {
+                self.pin = *number;
+                self.shared = self.shared.saturating_add(pin.taken as u64);
+                return true;
+            }
+        }
+        false
+    }
+
+    /// Ends a path.
+    fn end(&mut self, tree: &mut Tree) -> Result<bool, AllocError> {
+        tree.steps.push(Step {
+            begin: self.begin,
+            pin: self.pin,
+            fresh: self.fresh,
+        })?;
+        self.before = Before::End;
+        Ok(true)
+    }
+}
+
+/// The number of the cell of a channel.
+fn channel_number(board: &Board<'_>, e: Elem) -> Option<u32> {
+    let grid = board.placement.grid;
+    let cell = e.cell()?;
+    if !grid.has_cell(cell) {
+        return None;
+    }
+    Some(cell_number(grid, cell))
+}
+
+/// The wire of a cell along the driver on the start track, if the pin opens it.
+fn first_wire(board: &Board<'_>, tree: &Tree, net: usize, cell: u32) -> Option<u32> {
+    for start in board.nets.starts_of(net) {
+        if start.pin == tree.leaves && start.cell == cell && has_track(start.opened, tree.start) {
+            return Some(wire_of(cell, tree.start));
+        }
+    }
+    None
+}
+
+/// The wire of a cell that a wire is joined to.
+fn next_wire(board: &Board<'_>, last: u32, cell: u32) -> Option<u32> {
+    for joint in board.fabric.joints_of(cell_of(last)) {
+        if joint.cell == cell {
+            return Some(wire_of(cell, board.fabric.across(*joint, track_of(last))));
+        }
+    }
+    None
+}
+
+/// Whether a pin line speaks of the pin with this number.
+fn is_pin(board: &Board<'_>, number: u32, e: Elem) -> bool {
+    match (board.pin_at(number), e.pin()) {
+        (
+            Some(PinAt::Pad { x, y, sub }),
+            Some(
+                PinAt::Pad {
+                    x: u,
+                    y: v,
+                    sub: other,
+                },
+            ),
+        ) => { x == u && y == v && sub == other }
+        (
+            Some(PinAt::Pin { x, y, pin }),
+            Some(
+                PinAt::Pin {
+                    x: u,
+                    y: v,
+                    pin: other,
+                },
+            ),
+        ) => { x == u && y == v && pin == other }
+        _ => false,
+    }
+}
+
+/// For each net of a route the place of its net among those to be routed.
+pub(crate) fn given_places(
+    alloc: Global,
+    board: &Board<'_>,
+    route: &RouteText,
+) -> Result<Vec<u32>, AllocError> {
+    let nets = board.netlist.nets.as_slice();
+    let mut numbers = BTreeMap::new(alloc);
+    for (number, net) in nets.iter().enumerate() {
+        number_name(&mut numbers, net.name.bytes.as_slice(), number)?;
+    }
+    let mut of_number = vec![in alloc; u32::MAX; nets.len()]?;
+    for place in 0..board.nets.count() {
+        put(
+            &mut of_number,
+            board.nets.number(place) as usize,
+            short(place),
+        );
+    }
+    let mut places = Vec::new(alloc);
+    for net in route.nets.as_slice() {
+        let place = match numbers.get(&net.name.bytes.as_slice()) {
+            Some(number) if !net.global => at(&of_number, *number),
+            _ => u32::MAX,
+        };
+        places.push(place)?;
+    }
+    Ok(places)
+}

@@ -1,0 +1,319 @@
+//! Rounds of routing, until no wire or pin is taken by two nets.
+
+ghost use Rattle.std.specs.Prelude.{◌≤◌, IfOk, IfSome};
+
+use crate::board::Board;
+use crate::costs::{FAR, PRESENT_FIRST, present_after};
+use crate::field::Field;
+use crate::front::Front;
+use crate::given::{follow, given_places};
+use crate::growth::Attempt;
+use crate::options::CellWires;
+use crate::row::{at, short};
+use crate::sites::has_track;
+use crate::start::first_start;
+use crate::tree::Tree;
+use fpga_types::{Elem, RouteText};
+use std::alloc::{AllocError, Global};
+use std::mem::swap;
+
+/// How many rounds there are in which each net is routed again.
+const WHOLE_ROUNDS: u32 = 5;
+/// So many rounds without a gain are too many, where many nets share something.
+const STALL_MOST: u32 = 12;
+/// How many blocks round its pins a net is looked for, one after the other.
+const SLACKS: [u32; 3] = [3, 8, 10_000];
+
+/// A search: the nets' trees so far, and what they take.
+#[derive(Drop)]
+pub(crate) struct Search<'a> {
+    board: &'a Board<'a>,
+    field: Field,
+    front: Front,
+    trees: Vec<Tree>,
+    best: Tree,
+    tried: Tree,
+    /// From this round on only nets that share something are routed again.
+    whole_rounds: u32,
+}
+
+/// How far a search has come: the least excess of nets so far, and for how many rounds it was not
+/// bettered.
+#[derive(Clone, Copy)]
+struct Progress {
+    least: u64,
+    stall: u32,
+}
+
+impl Progress {
+    /// The same after a round with this excess.
+    fn after(self, excess: u64) -> Progress {
+        if excess.saturating_mul(100) < self.least.saturating_mul(97) {
+            return Progress {
+                least: excess,
+                stall: 0,
+            };
+        }
+        Progress {
+            least: self.least,
+            stall: self.stall.saturating_add(1),
+        }
+    }
+}
+
+impl<'a> Search<'a> {
+    /// A search in which no net has a tree yet.
+    pub(crate) fn new(
+        alloc: Global,
+        board: &'a Board<'a>,
+        wires: CellWires,
+    ) -> Result<Search<'a>, AllocError> {
+        let mut trees = Vec::with_capacity(alloc, board.nets.count())?;
+        for _ in 0..board.nets.count() {
+            trees.push(Tree::new(alloc))?;
+        }
+        Ok(Search {
+            board,
+            field: Field::new(alloc, board, PRESENT_FIRST)?,
+            front: Front::new(alloc, wires),
+            trees,
+            best: Tree::new(alloc),
+            tried: Tree::new(alloc),
+            whole_rounds: WHOLE_ROUNDS,
+        })
+    }
+
+    /// The nets' trees.
+    pub(crate) fn trees(&self) -> &[Tree] {
+        &self.trees
+    }
+
+    /// Gives nets trees along the cells of a route, each on the start track on which it shares
+    /// least with those before it.
+    pub(crate) fn take_given(
+        &mut self,
+        alloc: Global,
+        route: &RouteText,
+    ) -> Result<(), AllocError> {
+        let places = given_places(alloc, self.board, route)?;
+        for (k, net) in route.nets.as_slice().iter().enumerate() {
+            let place = at(&places, k) as usize;
+            if place < self.trees.len() && self.trees[place].is_empty() {
+                self.take_net(place, net.elems.as_slice())?;
+            }
+        }
+        self.whole_rounds = 0;
+        Ok(())
+    }
+
+    /// Gives a net the tree along its elements that shares least with those of other nets.
+    fn take_net(&mut self, net: usize, elems: &[Elem]) -> Result<(), AllocError> {
+        let mut least = u64::MAX;
+        for start in 0..self.board.fabric.width {
+            self.tried.restart(start);
+            let shared = follow(self.board, &mut self.field, &mut self.tried, net, elems)?;
+            if let Some(shared) = shared
+                && shared < least
+            {
+                least = shared;
+                swap(&mut self.tried, &mut self.best);
+            }
+        }
+        if least < u64::MAX {
+            self.keep_best(net)?;
+            self.take_tree(net);
+        }
+        Ok(())
+    }
+
+    /// Goes on from round to round, and begins anew where that leads nowhere: the number of rounds
+    /// until no two nets shared anything, or none where there were as many as may be.
+    pub(crate) fn run(&mut self, seed: u32, most: u32) -> Result<Option<u32>, AllocError>
+        ensures { IfOk result (λ found. IfSome found (λ rounds. rounds ≤ most)) }
+    {
+        let mut left = most;
+        for turn in 0..most {
+            if left == 0 {
+                break;
+            }
+            let (rounds, routed) = self.try_seed(seed.wrapping_add(turn), left)?;
+            left = left.saturating_sub(rounds);
+            if routed {
+                return Ok(Some(most - left));
+            }
+            self.begin_anew();
+        }
+        Ok(None)
+    }
+
+    /// Forgets all trees and fights.
+    fn begin_anew(&mut self) {
+        self.field.clear(PRESENT_FIRST);
+        for tree in self.trees.iter_mut() {
+            tree.restart(0);
+        }
+        self.whole_rounds = WHOLE_ROUNDS;
+    }
+
+    /// Goes through rounds until no two nets share anything, or there is no gain any more, or there
+    /// were so many: how many there were, and whether no two nets share anything.
+    fn try_seed(&mut self, seed: u32, most: u32) -> Result<(u32, bool), AllocError> {
+        let mut progress = Progress {
+            least: FAR,
+            stall: 0,
+        };
+        for round in 0..most {
+            let excess = self.round(seed, round)?;
+            let rounds = round.saturating_add(1);
+            if excess == 0 {
+                return Ok((rounds, true));
+            }
+            progress = progress.after(excess);
+            if progress.stall > STALL_MOST && excess > self.trees.len() as u64 / 20 + 4 {
+                return Ok((rounds, false));
+            }
+            let present = present_after(round, self.field.present());
+            self.field.end_round(present);
+        }
+        Ok((most, false))
+    }
+
+    /// Routes nets in turn: how many nets are too many behind it, over all wires and pins, with
+    /// those that have no tree.
+    fn round(&mut self, seed: u32, round: u32) -> Result<u64, AllocError> {
+        let mut lacking: u64 = 0;
+        for net in 0..self.trees.len() {
+            self.again(net, seed, round)?;
+            if net < self.trees.len() && self.trees[net].is_empty() {
+                lacking = lacking.saturating_add(1);
+            }
+        }
+        Ok(self.field.excess().saturating_add(lacking))
+    }
+
+    /// Routes a net in a round, where it is one to be routed again.
+    fn again(&mut self, net: usize, seed: u32, round: u32) -> Result<(), AllocError> {
+        if net >= self.trees.len() {
+            return Ok(());
+        }
+        let tree = &self.trees[net];
+        let is_kept = round >= self.whole_rounds
+            && !tree.is_empty()
+            && !self.field.is_contested(tree);
+        if is_kept {
+            return Ok(());
+        }
+        let was = if tree.is_empty() {
+            None
+        } else {
+            Some(tree.start)
+        };
+        self.field.give(tree);
+        let first = first_start(short(net), round, seed, self.board.fabric.width);
+        if self.find(net, first, was)? {
+            self.keep_best(net)?;
+        }
+        self.take_tree(net);
+        Ok(())
+    }
+
+    /// Makes the tree of a net equal to `best`.
+    fn keep_best(&mut self, net: usize) -> Result<(), AllocError> {
+        if net < self.trees.len() {
+            self.trees[net].become_copy(&self.best)?;
+        }
+        Ok(())
+    }
+
+    /// Lets a net take what its tree has.
+    fn take_tree(&mut self, net: usize) {
+        if net < self.trees.len() {
+            self.field.take(&self.trees[net]);
+        }
+    }
+
+    /// Makes `best` the cheapest tree of a net over all start tracks, in the least rectangle in
+    /// which there is one: whether there is one.
+    fn find(&mut self, net: usize, first: u32, was: Option<u32>) -> Result<bool, AllocError> {
+        for slack in SLACKS {
+            let found = if self.front.is_strict {
+                self.cheapest(net, slack, first, was)?
+            } else {
+                self.attempt(net, 0, u64::MAX, slack, FAR)? < FAR
+            };
+            if found {
+                return Ok(true);
+            }
+        }
+        Ok(false)
+    }
+
+    /// Makes `best` the cheapest tree of a net over all start tracks: whether there is one. The
+    /// last start track is tried first, since its cost is mostly a good bound for the others.
+    fn cheapest(
+        &mut self,
+        net: usize,
+        slack: u32,
+        first: u32,
+        was: Option<u32>,
+    ) -> Result<bool, AllocError> {
+        let width = self.board.fabric.width;
+        let opened = self.opened(net);
+        let mut least = FAR;
+        if let Some(start) = was {
+            least = self.attempt(net, start, 1 << (start % 64), slack, least)?;
+        }
+        for k in 0..width {
+            let start = after(first, k, width);
+            if has_track(opened, start) && was != Some(start) {
+                least = self.attempt(net, start, 1 << (start % 64), slack, least)?;
+            }
+        }
+        Ok(least < FAR)
+    }
+
+    /// The tracks that some pin of the net's driver opens.
+    fn opened(&self, net: usize) -> u64 {
+        let mut tracks = 0;
+        for start in self.board.nets.starts_of(net) {
+            tracks |= start.opened;
+        }
+        tracks
+    }
+
+    /// Routes a net from a start track, or from these, and keeps the tree where it costs less than
+    /// the least so far.
+    fn attempt(
+        &mut self,
+        net: usize,
+        start: u32,
+        tracks: u64,
+        slack: u32,
+        least: u64,
+    ) -> Result<u64, AllocError> {
+        let attempt = Attempt {
+            net,
+            tracks,
+            slack,
+            bound: least,
+        };
+        self.tried.restart(start);
+        let cost = self
+            .front
+            .route(self.board, &mut self.field, &mut self.tried, attempt)?;
+        let Some(cost) = cost else {
+            return Ok(least);
+        };
+        swap(&mut self.tried, &mut self.best);
+        Ok(cost)
+    }
+}
+
+/// The track so many behind another, and behind the last the first.
+fn after(track: u32, k: u32, width: u32) -> u32 {
+    if width == 0 {
+        0
+    } else {
+        track.wrapping_add(k) % width
+    }
+}

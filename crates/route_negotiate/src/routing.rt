@@ -1,0 +1,155 @@
+//! What a search finds: the wires of each net, path by path.
+ghost use Rattle.std.specs.Prelude.{◌≡◌, All, IfOk, IfSome, length};
+ghost use Rattle.fpga_types.specs.Placed.{IsWire};
+ghost use Rattle.route_negotiate.specs.Routings.{AreWithin};
+
+use crate::board::Board;
+use crate::fabric::cell_count;
+use crate::row::{put, short};
+use crate::tree::Tree;
+use crate::wires::{cell_of as cell_number_of, track_of};
+use fpga_types::{Grid, PinAt, Wire, cell_of};
+use std::alloc::{AllocError, Global};
+
+/// A path of a net, from its driver or from a wire of an earlier path to a sink.
+#[derive(Clone, Copy)]
+pub struct Path {
+    /// The pin by which it leaves the driver; where there is none, its first wire stands in an
+    /// earlier path of the net.
+    pub leaves: Option<PinAt>,
+    /// How many wires it has.
+    pub length: u32,
+    /// The pin of the sink that it comes to.
+    pub enters: PinAt,
+}
+
+/// The paths of a net, and the wires of all, those of one path behind those of another.
+#[derive(Drop)]
+pub struct NetPaths {
+    pub wires: Vec<Wire>,
+    pub paths: Vec<Path>,
+}
+
+/// A wire by number, if it is one of the array with so many tracks.
+fn wire_at(grid: Grid, width: u32, wire: u32) -> Option<Wire>
+    ensures { IfSome result (IsWire grid width) }
+{
+    let number = cell_number_of(wire);
+    let track = track_of(wire);
+    if number >= cell_count(grid) || track >= width {
+        return None;
+    }
+    Some(Wire {
+        cell: cell_of(grid, number),
+        track,
+    })
+}
+
+/// Adds the wires of the array with these numbers: how many.
+fn add_wires(
+    wires: &mut Vec<Wire>,
+    grid: Grid,
+    width: u32,
+    numbers: &[u32],
+) -> Result<u32, AllocError>
+    requires { All (IsWire grid width) wires.old.items }
+    ensures { All (IsWire grid width) wires.new.items }
+{
+    let mut count: u32 = 0;
+    for number in numbers {
+        if let Some(wire) = wire_at(grid, width, *number) {
+            wires.push(wire)?;
+            count = count.saturating_add(1);
+        }
+    }
+    Ok(count)
+}
+
+/// Adds a path of a tree.
+fn add_path(
+    net: &mut NetPaths,
+    board: &Board<'_>,
+    grid: Grid,
+    width: u32,
+    tree: &Tree,
+    number: usize,
+) -> Result<(), AllocError>
+    requires { All (IsWire grid width) net.old.wires.items }
+    ensures { All (IsWire grid width) net.new.wires.items }
+{
+    if number >= tree.steps.len() {
+        return Ok(());
+    }
+    let step = tree.steps[number];
+    let leaves = if step.fresh {
+        board.pin_at(tree.leaves)
+    } else {
+        None
+    };
+    let Some(enters) = board.pin_at(step.pin) else {
+        return Ok(());
+    };
+    let length = add_wires(&mut net.wires, grid, width, tree.wires_of(number))?;
+    net.paths.push(Path {
+        leaves,
+        length,
+        enters,
+    })?;
+    Ok(())
+}
+
+/// The paths of a tree.
+fn net_paths(
+    alloc: Global,
+    board: &Board<'_>,
+    grid: Grid,
+    width: u32,
+    tree: &Tree,
+) -> Result<NetPaths, AllocError>
+    ensures { IfOk result (λ net. All (IsWire grid width) net.wires.items) }
+{
+    let mut net = NetPaths {
+        wires: Vec::new(alloc),
+        paths: Vec::new(alloc),
+    };
+    for number in 0..tree.steps.len() {
+        add_path(&mut net, board, grid, width, tree, number)?;
+    }
+    Ok(net)
+}
+
+/// For each net of the netlist, by number, the place of its tree among those of ordinary nets; or
+/// that there is none.
+fn tree_places(alloc: Global, board: &Board<'_>) -> Result<Vec<u32>, AllocError>
+    ensures { IfOk result (λ places. length places.items
+        ≡ length board.now.netlist.now.nets) }
+{
+    let count = board.netlist.nets.as_slice().len();
+    let mut places = vec![in alloc; u32::MAX; count]?;
+    for net in 0..board.nets.count() {
+        put(&mut places, board.nets.number(net) as usize, short(net));
+    }
+    Ok(places)
+}
+
+/// The paths of each net of the netlist, by number, of the trees of the ordinary ones.
+pub(crate) fn all_paths(
+    alloc: Global,
+    board: &Board<'_>,
+    grid: Grid,
+    width: u32,
+    trees: &[Tree],
+) -> Result<Vec<NetPaths>, AllocError>
+    ensures each { IfOk result (λ nets. length nets.items ≡ length board.now.netlist.now.nets) }
+    ensures within { IfOk result (λ nets. AreWithin grid width nets.items) }
+{
+    let places = tree_places(alloc, board)?;
+    let mut nets = Vec::with_capacity(alloc, places.len())?;
+    let none = Tree::new(alloc);
+    for place in &places {
+        let at = *place as usize;
+        let tree = if at < trees.len() { &trees[at] } else { &none };
+        nets.push(net_paths(alloc, board, grid, width, tree)?)?;
+    }
+    Ok(nets)
+}
