@@ -1,13 +1,11 @@
 -- A cut is the same from either side.
-use Rattle.std.proofs.Common.{◌≡◌, ℕ, Bool, true, false, List, length, refl, sym, ap, ◌∙◌}
+use Rattle.std.proofs.Common.{◌≡◌, Bool, true, false, length, refl, ap, ◌∙◌}
 use Rattle.std.specs.Prelude.{◌&&◌, ◌||◌, filter, not, slice_get}
 use Rattle.std.specs.List.{list_any, range_with_len}
 use Rattle.std.specs.Option.{option_map_or}
 use Rattle.fpga_types.specs.CellNumbers.{all_cells}
 use Rattle.fpga_types.specs.Problem.{PlacedNetlist}
-use Rattle.fpga_types.specs.Size.{Size}
 use Rattle.fpga_types.specs.Terminals.{driver_in, sinks_in}
-use Rattle.fpga_types.specs.declared.arch.Arch.{Arch}
 use Rattle.fpga_types.specs.declared.grid.Cell.{Cell}
 use Rattle.fpga_types.specs.declared.netlist.Net.{Net}
 use Rattle.fpga_types.specs.declared.problem.Terminal.{Terminal}
