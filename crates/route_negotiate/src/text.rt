@@ -1,7 +1,8 @@
 //! The route text that a search's wires make.
 ghost use Rattle.std.specs.Prelude.{◌≡◌, ◌+◌, ◌<◌, ◌≤◌, ◌^◌, IfOk, length};
-ghost use Rattle.fpga_types.specs.Sound.{IsSoundNet};
-ghost use Rattle.route_negotiate.specs.Texts.{AreElemLines, GainsElems};
+ghost use Rattle.fpga_types.specs.Sound.{IsSound, IsSoundNet};
+ghost use Rattle.fpga_types.specs.declared.limits.TheConstants.{NET_LIMIT};
+ghost use Rattle.route_negotiate.specs.Texts.{AreElemLines, AreNetLines, GainsElems};
 
 use crate::block_lines::block_lines;
 use crate::routing::{NetPaths, Path};
@@ -31,6 +32,8 @@ pub fn route_text(
     placement: &Placement,
     nets: &[NetPaths],
 ) -> Result<RouteText, AllocError>
+    requires few { length netlist.now.nets ≤ NET_LIMIT }
+    ensures sound { IfOk result IsSound }
     ensures array { IfOk result (λ route. route.grid ≡ placement.now.grid) }
     ensures each { IfOk result (λ route. length route.nets ≡ length netlist.now.nets) }
 {
@@ -65,7 +68,9 @@ fn net_texts(
     paths: &[NetPaths],
     last: &mut u64,
 ) -> Result<Vec<RouteNet>, AllocError>
-    ensures { IfOk result (λ nets. length nets.items ≡ length netlist.now.nets) }
+    ensures lines { IfOk result
+        (λ nets. AreNetLines placement.now.grid last.old last.new nets.items) }
+    ensures each { IfOk result (λ nets. length nets.items ≡ length netlist.now.nets) }
 {
     let mut nets = Vec::new(alloc);
     let none = NetPaths {
@@ -97,6 +102,8 @@ fn net_text(
 ) -> Result<RouteNet, AllocError>
     ensures sound { IfOk result (IsSoundNet placement.now.grid) }
     ensures line { IfOk result (λ net. last.old < net.line) }
+    ensures elems { IfOk result
+        (λ net. AreElemLines placement.now.grid net.line last.new net.elems) }
 {
     let line = line_behind(*last, 3)?;
     *last = line_behind(line, 1)?;
