@@ -15,6 +15,9 @@ import sys
 import tempfile
 from fractions import Fraction
 from pathlib import Path
+from asked import answer_help
+
+answer_help(__name__, __doc__)
 
 SIDES = ("left", "right", "bottom", "top")
 NODES = 20_000  # steps of a search at one width, past which the design is left out
