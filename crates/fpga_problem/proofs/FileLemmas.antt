@@ -1,13 +1,14 @@
--- Four files pose one problem, or are kept from it in one way.
+-- Four files pose one problem, or are kept from it in one way; so do three of them a placed netlist.
 use Rattle.std.proofs.Common.{◌≡◌, ◌∙◌, ◌⊎◌, ◌++◌, Option, Some, refl, sym, ap, subst}
 use Rattle.std.specs.Option.{option_or}
 use Rattle.desk_io.specs.DeskState.{DeskState}
 use Rattle.desk_io.specs.Files.{Bytes, FileMap, HasRisen}
 use Rattle.fpga_net.specs.Value.{net_value}
 use Rattle.fpga_place.specs.Value.{place_value}
-use Rattle.fpga_problem.specs.Files.{AreUnread, FileNames, Poses, fitted_source, net_source, place_source}
-use Rattle.fpga_problem.specs.Sources.{HasFault, IsHalted, IsStopped, Says, route_source}
+use Rattle.fpga_problem.specs.Files.{ArePlacedUnread, AreUnread, FileNames, PlacedNames, Poses, PosesPlaced, fitted_source, net_source, place_source, placed_names_of, unread_at}
+use Rattle.fpga_problem.specs.Sources.{HasFault, IsHalted, IsStopped, Reads, Says, Source, Stops, StopsAt, route_source}
 use Rattle.fpga_problem.specs.declared.unread.FileFault.{FileFault}
+use Rattle.fpga_problem.specs.declared.text_file.TextFile.TheVariants.{Route}
 use Rattle.fpga_problem.specs.declared.unread.FileFault.TheVariants.{Desk, TooLong, Text}
 use Rattle.fpga_problem.specs.declared.unread.Unread.{Unread}
 use Rattle.fpga_problem.proofs.SourceLemmas.{calm-reads, calm-stops, halted-says, one-value, reads-alike, reads-on, stops-alike}
@@ -18,7 +19,7 @@ use Rattle.fpga_text.specs.FirstFault.{IsFaultless, IsFirst, IsRefusal, first_fa
 use Rattle.fpga_text.specs.declared.fault.TextFault.{TextFault}
 use Rattle.fpga_text.specs.declared.fault.TextFault.TheVariants.{Bad, Limit, Memory}
 use Rattle.fpga_types.specs.Fits.{problem_faults}
-use Rattle.fpga_types.specs.Problem.{RoutingProblem, problem_of}
+use Rattle.fpga_types.specs.Problem.{PlacedNetlist, RoutingProblem, placed_netlist_of, problem_of}
 use Rattle.fpga_types.specs.declared.arch.Arch.{Arch}
 use Rattle.fpga_types.specs.declared.netlist.Netlist.{Netlist}
 use Rattle.fpga_types.specs.declared.placement.Placement.{Placement}
@@ -100,6 +101,70 @@ module _ (before now : DeskState) (name : Bytes) (arch : Arch) (netlist : Netlis
       fit-fault before.files name arch netlist placement route says (Limit code count) h
   fit-stops route says Memory h = tt
 
+-- ---- three files
+
+-- the placed netlist that three values make
+abbrev placed_of : Arch → Netlist → Placement → PlacedNetlist
+placed_of arch netlist placement =
+    record { arch = arch; netlist = netlist; placement = placement }
+
+module _ (stops : Source → FileFault → Type 0) (files : Option FileMap) (names : FileNames) where
+  -- where three files give no placed netlist, four with these give no problem
+  pub placed-unread : (a : Unread) → ArePlacedUnread stops files (placed_names_of names) a →
+      AreUnread stops files names a
+  placed-unread a (Stops h) = Stops h
+  placed-unread a (Reads arch says (Stops h)) = Reads arch says (Stops h)
+  placed-unread a (Reads arch says (Reads netlist reads h)) =
+      Reads arch says (Reads netlist reads (Stops h))
+
+  -- nor do they where the fourth stops the work behind a placed netlist
+  pub route-unread : (placed : PlacedNetlist) (a : Unread) →
+      PosesPlaced files (placed_names_of names) placed →
+      StopsAt stops (fitted_source names.route placed.arch placed.netlist placed.placement)
+      (unread_at Route) a → AreUnread stops files names a
+  route-unread placed a poses h =
+      Reads placed.arch poses.arch (Reads placed.netlist poses.netlist
+      (Reads placed.placement poses.placement h))
+
+-- the first three files of a problem pose its placed netlist
+pub placed-of-problem : (files : Option FileMap) (names : FileNames) (p : RoutingProblem) →
+    Poses files names p → PosesPlaced files (placed_names_of names) (placed_netlist_of p)
+placed-of-problem files names p poses =
+    record { arch = poses.arch; netlist = poses.netlist; placement = poses.placement }
+
+module _ (files : FileMap) (names : PlacedNames) where
+  -- three files are kept from a placed netlist in one way
+  pub one-placed-lack : (a b : Unread) →
+      ArePlacedUnread (IsHalted (Some files)) (Some files) names a →
+      ArePlacedUnread (IsHalted (Some files)) (Some files) names b → a ≡ b
+  one-placed-lack a b h g =
+      reads-alike files h g (λ arch h g.
+      reads-alike files h g (λ netlist. stops-alike files))
+
+  -- three files that pose one are not kept from it
+  pub placed-lack-poses : (placed : PlacedNetlist) (a : Unread) →
+      ArePlacedUnread (IsHalted (Some files)) (Some files) names a →
+      PosesPlaced (Some files) names placed → ⊥
+  placed-lack-poses placed a h poses =
+      let unread = reads-on files poses.netlist (reads-on files poses.arch h) in
+      halted-says files unread.fault unread.because poses.placement
+
+  -- three files pose one placed netlist
+  pub one-placed : (p q : PlacedNetlist) → PosesPlaced (Some files) names p →
+      PosesPlaced (Some files) names q → p ≡ q
+  one-placed p q h g =
+      let arch : q.arch ≡ p.arch = one-value files g.arch h.arch in
+      let moved = subst (λ (a : Arch).
+      Says (Some files) (net_source names.netlist a) (net_value a) q.netlist) arch g.netlist in
+      let netlist : q.netlist ≡ p.netlist = one-value files moved h.netlist in
+      let placed = subst (λ (n : Netlist).
+      Says (Some files) (place_source names.placement p.arch n) (place_value n) q.placement)
+      netlist (subst (λ (a : Arch). Says (Some files)
+      (place_source names.placement a q.netlist) (place_value q.netlist) q.placement) arch
+      g.placement) in
+      let placement : q.placement ≡ p.placement = one-value files placed h.placement in
+      λ i. placed_of (sym arch i) (sym netlist i) (sym placement i)
+
 -- ---- four files
 
 module _ (files : FileMap) (names : FileNames) where
@@ -124,18 +189,11 @@ module _ (files : FileMap) (names : FileNames) where
   pub one-problem : (p q : RoutingProblem) → Poses (Some files) names p →
       Poses (Some files) names q → p ≡ q
   one-problem p q h g =
-      let arch : q.arch ≡ p.arch = one-value files g.arch h.arch in
-      let moved = subst (λ (a : Arch).
-      Says (Some files) (net_source names.netlist a) (net_value a) q.netlist) arch g.netlist in
-      let netlist : q.netlist ≡ p.netlist = one-value files moved h.netlist in
-      let placed = subst (λ (n : Netlist).
-      Says (Some files) (place_source names.placement p.arch n) (place_value n) q.placement)
-      netlist (subst (λ (a : Arch). Says (Some files)
-      (place_source names.placement a q.netlist) (place_value q.netlist) q.placement) arch
-      g.placement) in
-      let placement : q.placement ≡ p.placement = one-value files placed h.placement in
-      let route : q.route ≡ p.route = one-value files g.route h.route in
-      λ i. problem_of (sym arch i) (sym netlist i) (sym placement i) (sym route i)
+      let placed = one-placed files (placed_names_of names) (placed_netlist_of p)
+      (placed_netlist_of q) (placed-of-problem (Some files) names p h)
+      (placed-of-problem (Some files) names q g) in
+      let route : p.route ≡ q.route = one-value files h.route g.route in
+      λ i. problem_of (placed i).arch (placed i).netlist (placed i).placement (route i)
 
 -- memory ran out
 abbrev pub IsSpent : Unread → Type 0
@@ -150,3 +208,12 @@ calm-lack desk now names a calm =
     calm-reads desk now IsSpent calm refl (λ arch.
     calm-reads desk now IsSpent calm refl (λ netlist.
     calm-reads desk now IsSpent calm refl (λ placement. calm-stops desk now IsSpent calm refl)))
+
+-- so of three files
+pub calm-placed-lack : (desk now : DeskState) (names : PlacedNames) (a : Unread) →
+    ¬ HasRisen desk.faults now.faults →
+    ArePlacedUnread (IsStopped desk now) desk.files names a →
+    ArePlacedUnread (IsHalted desk.files) desk.files names a ⊎ IsSpent a
+calm-placed-lack desk now names a calm =
+    calm-reads desk now IsSpent calm refl (λ arch.
+    calm-reads desk now IsSpent calm refl (λ netlist. calm-stops desk now IsSpent calm refl))

@@ -1,14 +1,17 @@
--- The four files of a problem, in the order in which they are read.
+-- The four files of a problem, in the order in which they are read; and the three of them that a
+-- placed netlist is read from.
 use Rattle.std.specs.Prelude.{◌++◌, Option, codes}
 use Rattle.desk_io.specs.Files.{Bytes, FileMap}
 use Rattle.fpga_arch.specs.Codes.{arch_faults}
 use Rattle.fpga_arch.specs.Value.{arch_value}
 use Rattle.fpga_net.specs.Codes.{net_faults}
+use Rattle.fpga_net.specs.Sound.{IsSoundNetlist}
 use Rattle.fpga_net.specs.Value.{net_value}
 use Rattle.fpga_place.specs.Codes.{place_faults}
 use Rattle.fpga_place.specs.Value.{place_value}
 use Rattle.fpga_problem.specs.Sources.{ReadsThen, Says, Source, StopsAt, route_source}
 use Rattle.fpga_problem.specs.declared.names.FourNames.{FourNames}
+use Rattle.fpga_problem.specs.declared.names.ThreeNames.{ThreeNames}
 use Rattle.fpga_problem.specs.declared.source.TheConstants.{TEXT_BYTES}
 use Rattle.fpga_problem.specs.declared.text_file.TextFile.{TextFile}
 use Rattle.fpga_problem.specs.declared.text_file.TextFile.TheVariants.{Architecture, Netlist as NetlistFile, Placement as PlacementFile, Route}
@@ -17,7 +20,8 @@ use Rattle.fpga_problem.specs.declared.unread.Unread.{Unread}
 use Rattle.fpga_route.specs.Codes.{route_faults}
 use Rattle.fpga_route.specs.Value.{route_value}
 use Rattle.fpga_types.specs.Fits.{Fits, problem_faults}
-use Rattle.fpga_types.specs.Problem.{RoutingProblem, problem_of}
+use Rattle.fpga_types.specs.Placements.{IsSoundPlacement}
+use Rattle.fpga_types.specs.Problem.{PlacedNetlist, RoutingProblem, problem_of}
 use Rattle.fpga_types.specs.declared.arch.Arch.{Arch}
 use Rattle.fpga_types.specs.declared.netlist.Netlist.{Netlist}
 use Rattle.fpga_types.specs.declared.placement.Placement.{Placement}
@@ -46,6 +50,27 @@ names_behind prefix = record {
   route = prefix ++ codes ".route";
 }
 
+-- the names of the files of a placed netlist
+pub record PlacedNames : Type 0 where
+  pub architecture : Bytes
+  pub netlist : Bytes
+  pub placement : Bytes
+
+abbrev pub placed_names_said : ThreeNames → PlacedNames
+placed_names_said names = record {
+  architecture = names.architecture.now;
+  netlist = names.netlist.now;
+  placement = names.placement.now;
+}
+
+-- those of the placed netlist of a problem
+abbrev pub placed_names_of : FileNames → PlacedNames
+placed_names_of names = record {
+  architecture = names.architecture;
+  netlist = names.netlist;
+  placement = names.placement;
+}
+
 -- the architecture
 abbrev pub arch_source : Bytes → Source
 arch_source name = record { name = name; limit = TEXT_BYTES; faults = arch_faults }
@@ -71,6 +96,31 @@ fitted_source name arch netlist placement = record {
 -- this file gives no value, for this reason
 abbrev pub unread_at : TextFile → FileFault → Unread
 unread_at file fault = record { file = file; fault = fault }
+
+-- the three files give no placed netlist: the work stops at a file, those before it read, and this
+-- says at which and why
+abbrev pub ArePlacedUnread : (Source → FileFault → Type 0) → Option FileMap → PlacedNames → Unread
+    → Type 0
+ArePlacedUnread stops files names =
+    ReadsThen stops files (arch_source names.architecture) (unread_at Architecture) arch_value
+    (λ arch. ReadsThen stops files (net_source names.netlist arch) (unread_at NetlistFile)
+    (net_value arch)
+    (λ netlist. StopsAt stops (place_source names.placement arch netlist)
+    (unread_at PlacementFile)))
+
+-- the three files read as the three values of this placed netlist
+pub record PosesPlaced (files : Option FileMap) (names : PlacedNames) (placed : PlacedNetlist)
+    : Type 0 where
+  pub arch : Says files (arch_source names.architecture) arch_value placed.arch
+  pub netlist : Says files (net_source names.netlist placed.arch) (net_value placed.arch)
+      placed.netlist
+  pub placement : Says files (place_source names.placement placed.arch placed.netlist)
+      (place_value placed.netlist) placed.placement
+
+-- its values are such as are read
+pub record IsSoundPlaced (placed : PlacedNetlist) : Type 0 where
+  pub netlist : IsSoundNetlist placed.arch placed.netlist
+  pub placement : IsSoundPlacement placed.arch placed.netlist placed.placement
 
 -- the four files give no problem: the work stops at a file, those before it read, and this says at
 -- which and why; or all four read, but do not fit, which is told of the route

@@ -1,15 +1,16 @@
-//! From the four files of a problem to the problem.
+//! From the files of a problem to the problem, and from the first three of them to what it is of.
 ghost use Rattle.std.specs.Prelude.{◌≡◌, IfErr, IfOk};
 ghost use Rattle.std.specs.Result.{IsErrAnd};
 ghost use Rattle.fpga_arch.specs.Value.{arch_value};
 ghost use Rattle.fpga_net.specs.Sound.{IsSoundNetlist};
 ghost use Rattle.fpga_net.specs.Value.{net_value};
 ghost use Rattle.fpga_place.specs.Value.{place_value};
-ghost use Rattle.fpga_problem.specs.Files.{AreUnread, Poses, arch_source, names_said, net_source, place_source};
+ghost use Rattle.fpga_problem.specs.Files.{ArePlacedUnread, AreUnread, IsSoundPlaced, Poses, PosesPlaced, arch_source, names_said, net_source, place_source, placed_names_said};
 ghost use Rattle.fpga_problem.specs.Sources.{IsDeskFault, IsStopped, ReadsTo, Says};
 ghost use Rattle.fpga_types.specs.Placements.{IsSoundPlacement};
 
-use crate::names::FourNames;
+use crate::names::{FourNames, ThreeNames};
+use crate::placed_files::PlacedFiles;
 use crate::source::{TEXT_BYTES, read_bytes, read_route_file};
 use crate::text_file::TextFile;
 use crate::unread::{FileFault, Unread};
@@ -81,6 +82,48 @@ fn placement<D: Desk>(
     }
 }
 
+/// The placed netlist that three files pose: each is read and taken apart before the next is
+/// opened. The first file that gives no value ends it. The files stay, and the desk's count of
+/// faults rises only where it failed.
+///
+/// # Errors
+/// The first file that gives no value, in the order architecture, netlist, placement, and why: the
+/// desk failed on it, it has more than 67,108,864 bytes, or its text has a fault, the first, as its
+/// reader tells it: `read_arch`, `read_net` or `read_place`.
+///
+/// The fault is `Text` of `Memory` where memory is short at that file.
+pub fn read_placed<D: Desk>(
+    alloc: Global,
+    desk: &mut D,
+    names: &ThreeNames<'_>,
+) -> Result<PlacedFiles, Unread>
+    ensures poses { IfOk result
+        (PosesPlaced (D.state desk.old).files (placed_names_said names.now)) }
+    ensures sound { IfOk result IsSoundPlaced }
+    ensures stop { IfErr result (ArePlacedUnread (IsStopped (D.state desk.old) (D.state desk.new))
+        (D.state desk.old).files (placed_names_said names.now)) }
+    ensures files { (D.state desk.new).files ≡ (D.state desk.old).files }
+    ensures quiet { ¬ IsErrAnd result (λ unread. IsDeskFault unread.fault)
+        → (D.state desk.new).faults ≡ (D.state desk.old).faults }
+{
+    let arch = match architecture(alloc, desk, names.architecture) {
+        Ok(arch) => arch,
+        Err(fault) => return Err(TextFile::Architecture.unread(fault)),
+    };
+    let netlist = match netlist(alloc, desk, names.netlist, &arch) {
+        Ok(netlist) => netlist,
+        Err(fault) => return Err(TextFile::Netlist.unread(fault)),
+    };
+    match placement(alloc, desk, names.placement, &arch, &netlist) {
+        Ok(placement) => Ok(PlacedFiles {
+            arch,
+            netlist,
+            placement,
+        }),
+        Err(fault) => Err(TextFile::Placement.unread(fault)),
+    }
+}
+
 /// The problem that four files pose: each is read and taken apart before the next is opened, and
 /// last their values are fitted. The first file that gives no value ends it. The files stay, and
 /// the desk's count of faults rises only where it failed.
@@ -104,23 +147,15 @@ pub fn read_files<D: Desk>(
     ensures quiet { ¬ IsErrAnd result (λ unread. IsDeskFault unread.fault)
         → (D.state desk.new).faults ≡ (D.state desk.old).faults }
 {
-    let arch = match architecture(alloc, desk, names.architecture) {
-        Ok(arch) => arch,
-        Err(fault) => return Err(TextFile::Architecture.unread(fault)),
-    };
-    let netlist = match netlist(alloc, desk, names.netlist, &arch) {
-        Ok(netlist) => netlist,
-        Err(fault) => return Err(TextFile::Netlist.unread(fault)),
-    };
-    let placement = match placement(alloc, desk, names.placement, &arch, &netlist) {
-        Ok(placement) => placement,
-        Err(fault) => return Err(TextFile::Placement.unread(fault)),
+    let placed = match read_placed(alloc, desk, &names.placed()) {
+        Ok(placed) => placed,
+        Err(unread) => return Err(unread),
     };
     let route = match read_route_file(alloc, desk, names.route) {
         Ok(route) => route,
         Err(fault) => return Err(TextFile::Route.unread(fault)),
     };
-    match fit(alloc, arch, netlist, placement, route) {
+    match fit(alloc, placed.arch, placed.netlist, placed.placement, route) {
         Ok(problem) => Ok(problem),
         Err(fault) => Err(TextFile::Route.unread(FileFault::Text(fault))),
     }

@@ -1,6 +1,6 @@
 -- The names of the files that a job reads, as its words give them.
-use Rattle.std.specs.Prelude.{ℕ, ◌++◌, List, codes, Option, Some, None, Result, Ok, Err, option_and_then, option_map}
-use Rattle.fpga_problem.specs.Files.{FileNames}
+use Rattle.std.specs.Prelude.{ℕ, ◌++◌, Bool, false, not, is_some, List, codes, Option, Some, None, Result, Ok, Err, option_and_then, option_map}
+use Rattle.fpga_problem.specs.Files.{FileNames, PlacedNames}
 use Rattle.fpga_problem.specs.declared.text_file.TextFile.TheVariants.{Architecture, Netlist, Placement, Route}
 use Rattle.router_top.specs.Report.{file_word}
 use Rattle.router_says.specs.declared.names.Written.{Written}
@@ -9,7 +9,7 @@ use Rattle.router_top.specs.SlotNames.{OfEach, OfOne, Prefix, prefix_given}
 use Rattle.router_top.specs.declared.text_file.TextFile.{TextFile}
 use Rattle.router_top.specs.declared.text_file.TextFile.TheVariants.{Cnf, Lrat, Problem, Routed}
 use Rattle.router_words.specs.Command.{job_of}
-use Rattle.router_words.specs.Job.{CheckAsked, JobAsked, VerifyAsked, Routes, Sweeps, Encodes, Blames, Checks, Verifies, Generates, Tries, job_said}
+use Rattle.router_words.specs.Job.{CheckAsked, GlobalAsked, JobAsked, JudgeAsked, VerifyAsked, Routes, Sweeps, Encodes, Blames, Bounds, Checks, Judges, Negotiates, Verifies, Generates, Tries, job_said}
 use Rattle.router_words.specs.Word.{Word}
 use Rattle.router_words.specs.declared.fault.Refusal.{Refusal}
 use Rattle.router_words.specs.declared.job.Job.{Job}
@@ -37,6 +37,23 @@ abbrev pub name_of_five : VerifyAsked → TextFile → Option Word
 name_of_five ask Routed = Some ask.routed
 name_of_five ask file = name_of_four ask.files file
 
+-- the name among those of a placed netlist's three files
+abbrev pub name_of_three : PlacedNames → TextFile → Option Word
+name_of_three files (Problem Architecture) = Some files.architecture
+name_of_three files (Problem Netlist) = Some files.netlist
+name_of_three files (Problem Placement) = Some files.placement
+name_of_three files _ = None
+
+-- the name of the routed file, or among those of the placed netlist
+abbrev pub name_of_judged : JudgeAsked → TextFile → Option Word
+name_of_judged ask Routed = Some ask.routed
+name_of_judged ask file = name_of_three ask.files file
+
+-- the name of the route that a search begins with, or among those of the placed netlist
+abbrev pub name_of_begun : GlobalAsked → TextFile → Option Word
+name_of_begun ask (Problem Route) = ask.from
+name_of_begun ask file = name_of_three ask.files file
+
 -- the name that is given for a file, if the job reads it
 abbrev pub name_given : JobAsked → TextFile → Option Word
 name_given (Routes ask) file = name_of_four ask.files file
@@ -45,6 +62,9 @@ name_given (Encodes ask) file = name_of_four ask.files file
 name_given (Blames ask) file = name_of_four ask.files file
 name_given (Checks ask) file = name_of_two ask file
 name_given (Verifies ask) file = name_of_five ask file
+name_given (Judges ask) file = name_of_judged ask file
+name_given (Bounds ask) file = name_of_three ask.files file
+name_given (Negotiates ask) file = name_of_begun ask file
 name_given (Generates ask) file = None
 name_given (Tries ask) file = None
 
@@ -80,6 +100,16 @@ reach_given _ = None
 
 abbrev pub reach_of : Option JobAsked → Option ℕ
 reach_of asked = option_and_then reach_given asked
+
+-- the job judges a routed file in which nets may have several wires of a cell
+abbrev pub has_several : JobAsked → Bool
+has_several (Verifies ask) = is_some ask.reach
+has_several (Judges ask) = not ask.strict
+has_several _ = false
+
+abbrev pub may_have_several : Option JobAsked → Bool
+may_have_several (Some ask) = has_several ask
+may_have_several None = false
 
 -- what the job begins the names of the files with that it writes, if it writes some
 abbrev pub prefix_of : Option JobAsked → Option Prefix

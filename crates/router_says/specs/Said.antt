@@ -1,5 +1,5 @@
 -- What is said of an outcome that was not asked for.
-use Rattle.std.specs.Prelude.{◌≡◌, ℕ, ◌++◌, ◌*◌, List, [], codes, decimal, false, is_some, min, nat_le, nat_lt, Option, Some, None, true, unwrap_or, if◌then◌else◌}
+use Rattle.std.specs.Prelude.{◌≡◌, ℕ, ◌++◌, ◌*◌, Bool, List, [], codes, decimal, false, min, nat_le, nat_lt, Option, Some, None, true, unwrap_or, if◌then◌else◌}
 use Rattle.std.specs.declared.io.ErrorKind.{ErrorKind}
 use Rattle.code_words.specs.Causes.{cause_phrase, refusal_phrase, within_reach_phrase}
 use Rattle.code_words.specs.Errors.{error_phrase}
@@ -9,7 +9,7 @@ use Rattle.route_sweep.specs.Names.{numbered_prefix}
 use Rattle.route_symmetry.specs.declared.full.Asymmetry.{Asymmetry}
 use Rattle.route_symmetry.specs.declared.full.Asymmetry.TheVariants.{Inputs, Outputs, Pads, Pattern}
 use Rattle.router_says.specs.AtFault.{NamesSought, sought_of}
-use Rattle.router_says.specs.Names.{asked_in, file_said, name_of, prefix_of, reach_of}
+use Rattle.router_says.specs.Names.{asked_in, file_said, may_have_several, name_of, prefix_of, reach_of}
 use Rattle.router_says.specs.Seen.{Sees}
 use Rattle.router_says.specs.Usage.{usage_said}
 use Rattle.router_says.specs.declared.faults.SystemErrors.{SystemErrors}
@@ -88,10 +88,10 @@ obstacle_said width why =
 abbrev pub line_why : (code : ℕ) → List ℕ
 line_why code = unwrap_or (cause_phrase code) (codes "this line is not taken")
 
--- of a line of a file that is judged within a reach, or without one
-abbrev pub judged_why : (reach : Option ℕ) → (cause : ℕ) → List ℕ
-judged_why reach cause =
-    unwrap_or (if is_some reach then within_reach_phrase cause else cause_phrase cause)
+-- of a line of a file that is judged, in which nets may have several wires of a cell or not
+abbrev pub judged_why : (several : Bool) → (cause : ℕ) → List ℕ
+judged_why several cause =
+    unwrap_or (if several then within_reach_phrase cause else cause_phrase cause)
     (codes "this line is not taken")
 
 abbrev pub step_why : (cause : ℕ) → List ℕ
@@ -243,7 +243,8 @@ Says before now words asked errors (NotAccepted step cause) said =
     JustSays before now (about_said asked Lrat ++ step_said step cause (step_why cause)) said
 Says before now words asked errors (NotLegal line cause) said =
     JustSays before now
-    (about_said asked Routed ++ judged_said line cause (judged_why (reach_of asked) cause)) said
+    (about_said asked Routed
+    ++ judged_said line cause (judged_why (may_have_several asked) cause)) said
 Says before now words asked errors (InputFault file line code) said =
     SaysAnd (NamesSought before now (name_of asked) line (sought_of file code))
     (about_said asked file ++ line_said line code (line_why code)) said

@@ -1,7 +1,7 @@
 -- What is said of words that are not taken.
 use Rattle.std.specs.Prelude.{ℕ, ◌++◌, ◌==◌, List, [], ◌∷◌, bytes_eq, codes, if◌then◌else◌}
 use Rattle.router_says.specs.declared.usage.Command.{Command}
-use Rattle.router_says.specs.declared.usage.Command.TheVariants.{Route, Sweep, Encode, Core, Check, Verify, Gen, Trial}
+use Rattle.router_says.specs.declared.usage.Command.TheVariants.{Route, Sweep, Encode, Core, Check, Verify, Judge, Bound, Global, Gen, Trial}
 use Rattle.router_words.specs.Word.{Word}
 
 -- the command that a word names; route where it names none
@@ -12,6 +12,9 @@ command_of name =
     if bytes_eq name (codes "core") then Core else
     if bytes_eq name (codes "check") then Check else
     if bytes_eq name (codes "verify") then Verify else
+    if bytes_eq name (codes "judge") then Judge else
+    if bytes_eq name (codes "bound") then Bound else
+    if bytes_eq name (codes "global") then Global else
     if bytes_eq name (codes "gen") then Gen else
     if bytes_eq name (codes "trial") then Trial else Route
 
@@ -24,8 +27,8 @@ command_in (word ∷ words) = command_of word
 abbrev pub usage_why : (code : ℕ) → (clash : List ℕ) → List ℕ
 usage_why code clash =
     if code == 1 then
-    codes "The first word is to be a command: route, sweep, encode, core, check, verify, gen or "
-    ++ codes "trial.\n" else
+    codes "The first word is to be a command: route, sweep, global, bound, encode, core, check, "
+    ++ codes "verify, judge, gen or trial.\n" else
     if code == 3 then codes "A number is missing or out of its range.\n" else
     if code == 4 then clash else
     codes "The command does not take these words.\n"
@@ -57,6 +60,11 @@ takes_said Core =
 takes_said Check = codes "check CNF LRAT"
 takes_said Verify =
     codes "verify ARCH NET PLACE ROUTE WIDTH ROUTED [--reach L], WIDTH and L from 1 to 64"
+takes_said Judge = codes "judge ARCH NET PLACE WIDTH ROUTED [--strict], WIDTH from 1 to 64"
+takes_said Bound = codes "bound ARCH NET PLACE"
+takes_said Global =
+    codes "global ARCH NET PLACE WIDTH PREFIX [--free] [--from ROUTE] [--rounds N], WIDTH from "
+    ++ codes "1 to 64, N to 100,000"
 takes_said Gen = codes "gen SEED NX NETS PREFIX, NX from 1 to 100, NETS from 1 to 10,000"
 takes_said Trial =
     codes "trial SEED NX NETS MAX PREFIX [--conflicts N] [--keep] [--count | --reach L], NX "
@@ -70,6 +78,9 @@ example_said Encode = codes "encode design.arch design.net design.place design.r
 example_said Core = codes "core design.arch design.net design.place design.route 8 out"
 example_said Check = codes "check out.cnf out.lrat"
 example_said Verify = codes "verify design.arch design.net design.place design.route 9 out.route"
+example_said Judge = codes "judge design.arch design.net design.place 9 out.route"
+example_said Bound = codes "bound design.arch design.net design.place"
+example_said Global = codes "global design.arch design.net design.place 5 out"
 example_said Gen = codes "gen 1 20 300 made"
 example_said Trial = codes "trial 1 20 300 12 out"
 

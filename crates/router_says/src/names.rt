@@ -1,13 +1,17 @@
 //! The names of the files that a job reads and writes.
 ghost use Rattle.std.specs.Prelude.{◌≡◌, IfOk, option_map};
 ghost use Rattle.std.specs.Option.{option_copied};
-ghost use Rattle.fpga_problem.specs.Files.{names_said};
+ghost use Rattle.fpga_problem.specs.Files.{names_said, placed_names_said};
 ghost use Rattle.router_says.specs.Names.{
   asked,
   asked_in,
+  may_have_several,
   name_of,
+  name_of_begun,
   name_of_five,
   name_of_four,
+  name_of_judged,
+  name_of_three,
   name_of_two,
   prefix_of,
   prefix_said,
@@ -15,12 +19,12 @@ ghost use Rattle.router_says.specs.Names.{
   reach_of as reach_of_job,
 };
 ghost use Rattle.router_top.specs.declared.text_file.TextFile.TheVariants.{Problem};
-ghost use Rattle.router_words.specs.Job.{check_said, verify_said};
+ghost use Rattle.router_words.specs.Job.{check_said, global_said, judge_said, verify_said};
 ghost use Rattle.router_words.specs.Word.{words_of};
 
-use fpga_problem::{FourNames, TextFile as ProblemFile};
+use fpga_problem::{FourNames, TextFile as ProblemFile, ThreeNames};
 use router_top::TextFile;
-use router_words::{CheckJob, Job, Method, VerifyJob, WordsFault, read_words};
+use router_words::{CheckJob, GlobalJob, Job, JudgeJob, Method, VerifyJob, WordsFault, read_words};
 use std::alloc::{AllocError, Global};
 
 /// The job that the words ask for, if they ask for one.
@@ -48,6 +52,9 @@ pub(crate) fn given_name<'a>(job: Option<Job<'a>>, file: TextFile) -> Option<&'a
         Job::Core(job) => name_of_four(job.files, file),
         Job::Check(job) => name_of_two(job, file),
         Job::Verify(job) => name_of_five(job, file),
+        Job::Judge(job) => name_of_judged(job, file),
+        Job::Bound(job) => name_of_three(job.files, file),
+        Job::Global(job) => name_of_begun(job, file),
         Job::Gen(_) | Job::Trial(_) => None,
     }
 }
@@ -90,6 +97,38 @@ fn name_of_five<'a>(job: VerifyJob<'a>, file: TextFile) -> Option<&'a str>
     }
 }
 
+fn name_of_three<'a>(files: ThreeNames<'a>, file: TextFile) -> Option<&'a str>
+    ensures { option_copied result ≡ name_of_three (placed_names_said files.entry) file }
+{
+    match file {
+        TextFile::Problem(ProblemFile::Architecture) => Some(files.architecture),
+        TextFile::Problem(ProblemFile::Netlist) => Some(files.netlist),
+        TextFile::Problem(ProblemFile::Placement) => Some(files.placement),
+        TextFile::Problem(ProblemFile::Route)
+        | TextFile::Cnf
+        | TextFile::Lrat
+        | TextFile::Routed => None,
+    }
+}
+
+fn name_of_judged<'a>(job: JudgeJob<'a>, file: TextFile) -> Option<&'a str>
+    ensures { option_copied result ≡ name_of_judged (judge_said job.entry) file }
+{
+    match file {
+        TextFile::Routed => Some(job.routed),
+        TextFile::Problem(_) | TextFile::Cnf | TextFile::Lrat => name_of_three(job.files, file),
+    }
+}
+
+fn name_of_begun<'a>(job: GlobalJob<'a>, file: TextFile) -> Option<&'a str>
+    ensures { option_copied result ≡ name_of_begun (global_said job.entry) file }
+{
+    match file {
+        TextFile::Problem(ProblemFile::Route) => job.from,
+        _ => name_of_three(job.files, file),
+    }
+}
+
 /// What a job begins the names of the files with that it writes.
 #[derive(Clone, Copy)]
 pub(crate) enum Written<'a> {
@@ -110,10 +149,11 @@ pub(crate) fn files_written(job: Option<Job<'_>>) -> Option<Written<'_>>
         Job::Route(job) => Some(Written::One(job.search.prefix)),
         Job::Core(job) => Some(Written::One(job.prefix)),
         Job::Encode(job) => Some(Written::One(job.prefix)),
+        Job::Global(job) => Some(Written::One(job.prefix)),
         Job::Gen(job) => Some(Written::One(job.prefix)),
         Job::Sweep(job) => Some(Written::Each(job.search.prefix)),
         Job::Trial(job) => Some(Written::Each(job.search.prefix)),
-        Job::Check(_) | Job::Verify(_) => None,
+        Job::Check(_) | Job::Verify(_) | Job::Judge(_) | Job::Bound(_) => None,
     }
 }
 
@@ -130,7 +170,26 @@ pub(crate) fn reach_asked(job: Option<Job<'_>>) -> Option<u32>
         Job::Encode(job) => reach_by(job.method),
         Job::Verify(job) => job.reach,
         Job::Trial(job) => reach_by(job.search.method),
-        Job::Core(_) | Job::Check(_) | Job::Gen(_) => None,
+        Job::Core(_)
+        | Job::Check(_)
+        | Job::Judge(_)
+        | Job::Bound(_)
+        | Job::Global(_)
+        | Job::Gen(_) => None,
+    }
+}
+
+/// Whether a job judges a routed file in which nets may have several wires of a cell.
+pub(crate) fn may_have_several(job: Option<Job<'_>>) -> bool
+    ensures { result ≡ may_have_several (asked job.entry) }
+{
+    let Some(job) = job else {
+        return false;
+    };
+    match job {
+        Job::Verify(job) => job.reach.is_some(),
+        Job::Judge(job) => !job.strict,
+        _ => false,
     }
 }
 

@@ -159,6 +159,9 @@ fn may_count(job: Option<Job<'_>>) -> bool
         | Job::Core(_)
         | Job::Check(_)
         | Job::Verify(_)
+        | Job::Judge(_)
+        | Job::Bound(_)
+        | Job::Global(_)
         | Job::Gen(_)
         | Job::Trial(_) => false,
     }
@@ -178,6 +181,9 @@ fn may_order(job: Option<Job<'_>>) -> bool
         | Job::Core(_)
         | Job::Check(_)
         | Job::Verify(_)
+        | Job::Judge(_)
+        | Job::Bound(_)
+        | Job::Global(_)
         | Job::Gen(_)
         | Job::Trial(_) => false,
     }

@@ -22,6 +22,9 @@ pub(crate) enum Command {
     Core,
     Check,
     Verify,
+    Judge,
+    Bound,
+    Global,
     Gen,
     Trial,
 }
@@ -63,6 +66,15 @@ fn command_of(name: &str) -> Command
     if name == "verify" {
         return Command::Verify;
     }
+    if name == "judge" {
+        return Command::Judge;
+    }
+    if name == "bound" {
+        return Command::Bound;
+    }
+    if name == "global" {
+        return Command::Global;
+    }
     if name == "gen" {
         return Command::Gen;
     }
@@ -103,8 +115,8 @@ fn usage_why(code: u32, clash: &'static str) -> &'static str
 {
     match code {
         1 => {
-            "The first word is to be a command: route, sweep, encode, core, check, verify, gen or \
-             trial.\n"
+            "The first word is to be a command: route, sweep, global, bound, encode, core, check, \
+             verify, judge, gen or trial.\n"
         }
         3 => "A number is missing or out of its range.\n",
         4 => clash,
@@ -122,7 +134,14 @@ fn clash_said(command: Command) -> &'static str
             "--pin, --symmetry and --reach exclude one another, and so do --count and --reach.\n"
         }
         Command::Trial => "--count and --reach exclude each other.\n",
-        Command::Route | Command::Core | Command::Check | Command::Verify | Command::Gen => {
+        Command::Route
+        | Command::Core
+        | Command::Check
+        | Command::Verify
+        | Command::Judge
+        | Command::Bound
+        | Command::Global
+        | Command::Gen => {
             "--pin, --symmetry and --reach exclude one another, and so do --count and --reach; \
              --seed is the seed of searches that take turns: give their number by --members.\n"
         }
@@ -154,6 +173,14 @@ fn takes_said(command: Command) -> &'static str
         Command::Verify => {
             "verify ARCH NET PLACE ROUTE WIDTH ROUTED [--reach L], WIDTH and L from 1 to 64"
         }
+        Command::Judge => {
+            "judge ARCH NET PLACE WIDTH ROUTED [--strict], WIDTH from 1 to 64"
+        }
+        Command::Bound => "bound ARCH NET PLACE",
+        Command::Global => {
+            "global ARCH NET PLACE WIDTH PREFIX [--free] [--from ROUTE] [--rounds N], WIDTH from \
+             1 to 64, N to 100,000"
+        }
         Command::Gen => "gen SEED NX NETS PREFIX, NX from 1 to 100, NETS from 1 to 10,000",
         Command::Trial => {
             "trial SEED NX NETS MAX PREFIX [--conflicts N] [--keep] [--count | --reach L], NX \
@@ -173,6 +200,9 @@ fn example_said(command: Command) -> &'static str
         Command::Core => "core design.arch design.net design.place design.route 8 out",
         Command::Check => "check out.cnf out.lrat",
         Command::Verify => { "verify design.arch design.net design.place design.route 9 out.route" }
+        Command::Judge => "judge design.arch design.net design.place 9 out.route",
+        Command::Bound => "bound design.arch design.net design.place",
+        Command::Global => "global design.arch design.net design.place 5 out",
         Command::Gen => "gen 1 20 300 made",
         Command::Trial => "trial 1 20 300 12 out",
     }

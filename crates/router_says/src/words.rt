@@ -2,7 +2,7 @@
 ghost use Rattle.std.specs.Prelude.{◌≡◌, ◌++◌, IsOk, IsTrue, OnOk, false, string_bytes, true, unwrap_or};
 ghost use Rattle.std.specs.Option.{option_copied};
 ghost use Rattle.router_says.specs.AtFault.{Appends, NamesSought, sought_of};
-ghost use Rattle.router_says.specs.Names.{asked, name_of, reach_of};
+ghost use Rattle.router_says.specs.Names.{asked, may_have_several, name_of};
 ghost use Rattle.router_says.specs.Quiet.{is_quiet};
 ghost use Rattle.router_says.specs.Said.{
   IsSaid,
@@ -27,7 +27,7 @@ ghost use Rattle.router_words.specs.Word.{words_of};
 
 use crate::at_fault::append_at_fault;
 use crate::faults::{SystemErrors, append_unread, append_unwritten};
-use crate::names::{job_in, reach_asked};
+use crate::names::{job_in, may_have_several};
 use crate::refused::{
     append_file, append_judged, append_limit, append_limit_place, append_line, append_step,
 };
@@ -143,18 +143,18 @@ fn append_not_legal(
 ) -> Result<(), AllocError>
     ensures { OnOk result (string_bytes out.new ≡ string_bytes out.old
         ++ (about_said (asked job.entry) Routed
-        ++ judged_said line code (judged_why (reach_of (asked job.entry)) code))) }
+        ++ judged_said line code (judged_why (may_have_several (asked job.entry)) code))) }
 {
     append_file(out, job, TextFile::Routed)?;
-    append_judged(out, line, code, judged_why(reach_asked(job), code))
+    append_judged(out, line, code, judged_why(may_have_several(job), code))
 }
 
-fn judged_why(reach: Option<u32>, code: u32) -> &'static str
-    ensures { result.now ≡ judged_why reach code }
+fn judged_why(several: bool, code: u32) -> &'static str
+    ensures { result.now ≡ judged_why several code }
 {
-    let words = match reach {
-        Some(_) => cause_within_reach(code),
-        None => cause(code),
+    let words = match several {
+        true => cause_within_reach(code),
+        false => cause(code),
     };
     words_or(words, "this line is not taken")
 }

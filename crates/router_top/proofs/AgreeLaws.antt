@@ -14,12 +14,14 @@ use Rattle.router_words.specs.declared.fault.Refusal.{Refusal}
 use Rattle.router_top.specs.Check.{ChecksTo, JudgesTo, VerifiesTo}
 use Rattle.router_top.specs.Generated.{IsTooLarge, Makes, HasRoom, IsTooMany}
 use Rattle.router_top.specs.Method.{HasNone, clauses_by}
+use Rattle.router_top.specs.Placed.{IsJudgement, JudgesPlaced}
 use Rattle.router_top.specs.Search.{Search, clauses_held, core_search, route_search, sweep_of, sweep_search}
 use Rattle.router_top.specs.Suited.{IsLeastUnsuited, IsTrueOfSuited, IsUnsuited, Suits, is_suited, obstacle_to}
 use Rattle.router_top.specs.Truth.{Agrees, IsOpenBelow, IsReached, IsTrueAt, IsTrueOf, IsTrueOfEncoding, IsTrueOfJob, IsTrueOfSearch, IsTrueOfSuitedSearch, IsTrueOfWork, IsTrueOfCount}
-use Rattle.router_top.specs.Subject.{FileMap, FileNames, IsHalted, RoutingProblem, HasFew, job_of, Blames, CheckAsked, Checks, Encodes, Generates, JobAsked, RecipeAsked, Routes, Sweeps, TrialAsked, Tries, Verifies, VerifyAsked, Word, Method, Outcome, Done, NotSymmetric, Undecided, Usage}
+use Rattle.router_top.specs.Subject.{FileMap, FileNames, IsHalted, RoutingProblem, HasFew, job_of, Blames, Bounds, CheckAsked, Checks, Encodes, Generates, JobAsked, JudgeAsked, Judges, Negotiates, RecipeAsked, Routes, Sweeps, TrialAsked, Tries, Verifies, VerifyAsked, Word, Method, Outcome, Done, NotSymmetric, Undecided, Usage}
 use Rattle.router_top.specs.declared.outcome.Obstacle.{Obstacle}
 use Rattle.router_top.proofs.GeneratedLaws.{one-made}
+use Rattle.router_top.proofs.PlacedLaws.{placed-agrees}
 use Rattle.router_top.proofs.ServeLaws.{one-copy}
 use Rattle.router_top.proofs.StopLaws.{lack-poses, one-lack}
 use Rattle.router_top.specs.declared.size_cause.SizeCause.{SizeCause}
@@ -221,6 +223,13 @@ verify-agrees job files a b h g =
     work-agrees files job.files (JudgesTo (IsHalted (Some files)) (Some files) job) a b h g
     (λ p h g. inl (reads-alike files h g (λ found is other. is ∙ sym other)))
 
+judge-agrees : (job : JudgeAsked) (files : FileMap) (a b : Outcome)
+    → JudgesPlaced (IsHalted (Some files)) (Some files) job (IsJudgement job) a
+    → JudgesPlaced (IsHalted (Some files)) (Some files) job (IsJudgement job) b → Agrees a b
+judge-agrees job files a b h g =
+    placed-agrees files job.files _ a b h g
+    (λ placed h g. inl (reads-alike files h g (λ found is other. is ∙ sym other)))
+
 -- ---- a generated problem
 
 not-both : (nets blocks : ℕ) → blocks < nets → nets ≤ blocks → ⊥
@@ -293,6 +302,9 @@ job-agrees (Blames job) files a b h g =
     (λ p u v. search-agrees (core_search job) p (inl refl) a b u v)
 job-agrees (Checks job) files a b h g = inl (check-agrees job files a b h g)
 job-agrees (Verifies job) files a b h g = verify-agrees job files a b h g
+job-agrees (Judges job) files a b h g = judge-agrees job files a b h g
+job-agrees (Bounds job) files a b h g = absurd h
+job-agrees (Negotiates job) files a b h g = absurd h
 job-agrees (Generates job) files a b h g =
     recipe-agrees job.recipe (λ said. said ≡ Done) a b h g (λ s t. inl (s ∙ sym t))
 job-agrees (Tries job) files a b h g = trial-agrees job (Some files) a b h g

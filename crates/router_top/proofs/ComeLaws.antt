@@ -16,6 +16,7 @@ use Rattle.route_sweep.specs.declared.found.Stop.{Stop}
 use Rattle.route_sweep.specs.declared.found.Stop.TheVariants.{Fault, TooManyClauses, TooManyHeld, Memory}
 use Rattle.route_sweep.specs.declared.found.Found.TheVariants.{Routed as IsRouted, Refuted, Spent}
 use Rattle.route_ways.specs.Way.{copies_by, opens_by, refutes_by}
+use Rattle.route_judge.specs.Judged.{placed_judged}
 use Rattle.route_verify.specs.Reach.{judged_by}
 use Rattle.route_verify.specs.declared.judgement.Judgement.{Judgement as Judged}
 use Rattle.route_verify.specs.declared.judgement.Judgement.TheVariants.{Legal as IsLegal, NotLegal as IsNotLegal}
@@ -34,8 +35,9 @@ use Rattle.router_top.specs.Check.{JudgesTo, ChecksTo, cnf_source, judgement_out
 use Rattle.router_top.specs.Comes.{ComesTo, lower_files}
 use Rattle.router_top.specs.Generated.{PosesNone, generated_files, texts_of}
 use Rattle.router_top.specs.JobFiles.{IsClimb, LeavesWhole}
-use Rattle.router_top.specs.Means.{IsJudged, Means}
+use Rattle.router_top.specs.Means.{IsJudged, IsJudgedPlaced, Means}
 use Rattle.router_top.specs.Method.{IsRoutingBy, clauses_by}
+use Rattle.router_top.specs.Placed.{IsJudgement, IsTrueJudgement, JudgesPlaced}
 use Rattle.router_top.specs.Report.{climbed_outcome, found_outcome, written_outcome}
 use Rattle.router_top.specs.Suited.{LeavesPrepared, EncodeLeaves, IsUnsuited, LeavesSuited, RouteLeaves, Suits, SweepLeaves}
 use Rattle.router_top.specs.Run.{Leaves, LeavesJob, LeavesWork, Scene, TriesGenerated, WritesGenerated}
@@ -46,7 +48,7 @@ use Rattle.router_top.specs.Truth.{IsTrueOf, IsTrueOfEncoding, IsTrueOfJob, IsTr
 use Rattle.router_top.specs.Written.{JobFile, with_files, AreWritten}
 use Rattle.router_top.specs.Core.{LeavesCore, SaysBlamed, SaysLead}
 use Rattle.router_top.specs.Headline.{IsRefuted}
-use Rattle.router_top.specs.Subject.{Bytes, FileMap, ShelfState, after_say, FileNames, Poses, IsHalted, IsStopped, Says, RoutingProblem, Cnf, Step, job_of, CheckAsked, Checks, EncodeAsked, Encodes as EncodesJob, GenAsked, Generates, JobAsked, RouteAsked, Routes, SweepAsked, Sweeps as SweepsJob, TrialAsked, Tries as TriesJob, Verifies, VerifyAsked, Blames, CoreAsked, Word, Method, Outcome, Done, Usage, WriteFault, OutOfMemory, Unroutable, Limit, File}
+use Rattle.router_top.specs.Subject.{Bytes, FileMap, ShelfState, after_say, FileNames, Poses, IsHalted, IsStopped, Says, RoutingProblem, Cnf, Step, job_of, Bounds, CheckAsked, Checks, EncodeAsked, Encodes as EncodesJob, GenAsked, Generates, JobAsked, JudgeAsked, Judges, Negotiates, RouteAsked, Routes, SweepAsked, Sweeps as SweepsJob, TrialAsked, Tries as TriesJob, Verifies, VerifyAsked, Blames, CoreAsked, Word, Method, Outcome, Done, Usage, WriteFault, OutOfMemory, Unroutable, Limit, File}
 use Rattle.router_top.specs.declared.text_file.TextFile.TheVariants.{Cnf as CnfFile, Lrat, Routed}
 use Rattle.router_top.proofs.Came.{Came, Cut, HasCome, Idle, IsSpared, Searched, Wrote, ended_with}
 use Rattle.router_top.proofs.ClimbLaws.{climbed-calm, climbed-logs, climbed-outcome, climbed-said}
@@ -54,6 +56,7 @@ use Rattle.router_top.proofs.GeneratedLaws.{made-poses, problem-apart}
 use Rattle.router_top.proofs.LeftLaws.{none-left, log-left}
 use Rattle.router_top.proofs.LiteralLaws.{log_literals}
 use Rattle.router_top.proofs.NameLaws.{proof-apart, proofs-then-proof, proofs-then-route, route-apart}
+use Rattle.router_top.proofs.PlacedLaws.{calm-placed, placed-lacks-hold}
 use Rattle.router_top.proofs.SaidLaws.{finds-silent, more-none}
 use Rattle.router_top.proofs.StopLaws.{HoldsOfStops, IsSpent, calm-lack, lacks-hold, reads-hold, unsuited-holds}
 use Rattle.router_top.proofs.ServeLaws.{one-copy}
@@ -556,8 +559,8 @@ module _ (words : List Word) (at : Scene) where
   module _ (job : VerifyAsked) (asked : job_of words ≡ Ok (Verifies job)) where
     judged-spares : (judgement : Judged) → IsJudged words at.desk.files judgement
         → Spares (judged_outcome judgement)
-    judged-spares IsLegal h = (tt, h)
-    judged-spares (IsNotLegal line cause) h = (tt, h)
+    judged-spares IsLegal h = (tt, inl h)
+    judged-spares (IsNotLegal line cause) h = (tt, inl h)
 
     verify-spares : (o : Outcome) → VerifiesTo (IsStopped at.desk at.desk_now) at.desk.files job o
         → Spares o
@@ -596,6 +599,48 @@ module _ (words : List Word) (at : Scene) where
     verify-came o h same = idle o same (λ other is. cc) (verify-spares o h)
         (λ calm. elim (calm-verify o calm h) [
           | inl told ↦ inl (true-of (Verifies job) asked o told)
+          | inr short ↦ inr short
+        ])
+
+  -- ---- the judging of a routed file as a routing of a placement
+
+  module _ (job : JudgeAsked) (asked : job_of words ≡ Ok (Judges job)) where
+    placed-spares : (judgement : Judged) → IsJudgedPlaced words at.desk.files judgement
+        → Spares (judged_outcome judgement)
+    placed-spares IsLegal h = (tt, inr h)
+    placed-spares (IsNotLegal line cause) h = (tt, inr h)
+
+    judge-spares : (o : Outcome)
+        → JudgesPlaced (IsStopped at.desk at.desk_now) at.desk.files job (IsTrueJudgement job) o
+        → Spares o
+    judge-spares o (inl h) = placed-lacks-hold Spares stops-spare (IsStopped at.desk at.desk_now)
+        at.desk.files job.files o h
+    judge-spares o (inr (placed, poses, h)) =
+        reads-hold Spares stops-spare (IsStopped at.desk at.desk_now) at.desk.files Routed h
+        (λ found reads is. subst Spares (sym is.0)
+        (placed-spares (placed_judged job.strict job.width placed found) (record {
+          job = job;
+          placed = placed;
+          found = found;
+          asked = asked;
+          poses = poses;
+          reads = reads;
+          is = refl;
+          says = is.1;
+        })))
+
+    calm-judge : (o : Outcome) → ¬ HasRisen at.desk.faults at.desk_now.faults
+        → JudgesPlaced (IsStopped at.desk at.desk_now) at.desk.files job (IsTrueJudgement job) o
+        → JudgesPlaced (IsHalted at.desk.files) at.desk.files job (IsJudgement job) o ⊎ IsSpent o
+    calm-judge o calm h = calm-placed at.desk at.desk_now job.files calm
+        (λ placed o h. calm-reads at.desk at.desk_now IsSpent calm refl (λ found is. inl is.0) h) o h
+
+    judge-came : (o : Outcome)
+        → JudgesPlaced (IsStopped at.desk at.desk_now) at.desk.files job (IsTrueJudgement job) o
+        → at.shelf_now ≡ at.shelf → Came words at o
+    judge-came o h same = idle o same (λ other is. cc) (judge-spares o h)
+        (λ calm. elim (calm-judge o calm h) [
+          | inl told ↦ inl (true-of (Judges job) asked o told)
           | inr short ↦ inr short
         ])
 
@@ -692,6 +737,9 @@ module _ (words : List Word) (at : Scene) where
       (λ says told. true-of (Blames job) asked says (inr (p, poses, told))) o) h
   job-came (Checks job) o asked h = check-came job asked o h.0 h.1
   job-came (Verifies job) o asked h = verify-came job asked o h.0 h.1
+  job-came (Judges job) o asked h = judge-came job asked o h.0 h.1
+  job-came (Bounds job) o asked h = spent o h.1 (λ other is. cc) h.0
+  job-came (Negotiates job) o asked h = spent o h.1 (λ other is. cc) h.0
   job-came (Generates job) o asked h = made-came job asked o h.0
   job-came (TriesJob job) o asked h = trial-came job asked o h.0
 

@@ -11,6 +11,7 @@ mod LiteralLaws
 mod MeansLaws
 mod MethodLaws
 mod NameLaws
+mod PlacedLaws
 mod PreparedLaws
 mod SaidLaws
 mod ServeLaws

@@ -8,7 +8,7 @@ use Rattle.route_sweep.specs.declared.found.FileSlot.TheVariants.{Route, Clauses
 use Rattle.sat_clause.specs.Step.{Step}
 use Rattle.router_words.specs.Command.{job_of}
 use Rattle.fpga_problem.specs.Files.{FileNames, names_behind}
-use Rattle.router_words.specs.Job.{JobAsked, Routes, Sweeps, Encodes, Blames, Checks, Verifies, Generates, Tries}
+use Rattle.router_words.specs.Job.{JobAsked, Routes, Sweeps, Encodes, Blames, Bounds, Checks, Judges, Negotiates, Verifies, Generates, Tries}
 use Rattle.router_words.specs.Word.{Word}
 use Rattle.router_top.specs.Comes.{lower_files}
 use Rattle.router_top.specs.JobFiles.{AreFilesOf, AreFound, AreSearched, IsNamed}
@@ -38,6 +38,9 @@ search-names (Tries ask) search is = subst (λ (s : Search). HasNames (Tries ask
 search-names (Encodes ask) search is = cc
 search-names (Checks ask) search is = cc
 search-names (Verifies ask) search is = cc
+search-names (Judges ask) search is = cc
+search-names (Bounds ask) search is = cc
+search-names (Negotiates ask) search is = cc
 search-names (Generates ask) search is = cc
 
 module _ (words : List Word) where

@@ -21,7 +21,7 @@ pub record HoldsOfStops (Q : Outcome → Type 0) : Type 0 where
   pub limit : (file : Option TextFile) (code count : ℕ) → Q (Limit file code count)
 
 module _ (Q : Outcome → Type 0) (each : HoldsOfStops Q) where
-  unread-holds : (file : TextFile) (fault : FileFault) → Q (unread_outcome file fault)
+  pub unread-holds : (file : TextFile) (fault : FileFault) → Q (unread_outcome file fault)
   unread-holds file Desk = each.read file
   unread-holds file TooLong = each.limit _ _ _
   unread-holds file (Text (Bad line code)) = each.input file line code

@@ -6,6 +6,7 @@ pub mod Headline
 pub mod JobFiles
 pub mod Means
 pub mod Method
+pub mod Placed
 pub mod Report
 pub mod Run
 pub mod Saying

@@ -1,6 +1,9 @@
 -- What each answer means.
 use Rattle.std.specs.Prelude.{◌≡◌, ◌⊎◌, List, [], ◌∷◌, ⊤, length, Ok, Option}
+use Rattle.fpga_problem.specs.Files.{PosesPlaced}
 use Rattle.fpga_route.specs.Value.{route_value}
+use Rattle.fpga_types.specs.Problem.{PlacedNetlist}
+use Rattle.route_judge.specs.Judged.{placed_judged}
 use Rattle.route_verify.specs.Reach.{judged_by}
 use Rattle.route_verify.specs.declared.judgement.Judgement.{Judgement}
 use Rattle.route_verify.specs.declared.judgement.Judgement.TheVariants.{Legal as IsLegal, NotLegal as IsNotLegal}
@@ -12,9 +15,10 @@ use Rattle.router_top.specs.Check.{cnf_source, lrat_source}
 use Rattle.router_top.specs.Generated.{HasRoom, generated_files}
 use Rattle.router_top.specs.Headline.{IsLeftOpen, IsRefuted, IsRouted}
 use Rattle.router_top.specs.Method.{clauses_by}
+use Rattle.router_top.specs.Placed.{SaysIfLegal}
 use Rattle.router_top.specs.Work.{clauses_file}
 use Rattle.router_top.specs.Written.{AreWritten}
-use Rattle.router_top.specs.Subject.{FileMap, Poses, Says, route_source, RoutingProblem, RouteText, HasFew, Cnf, Step, job_of, CheckAsked, Checks, EncodeAsked, Encodes, GenAsked, Generates, VerifyAsked, Verifies, Word, Outcome, Accepted, Done, LegalRoute, NotLegal, Routed, Undecided, Unroutable}
+use Rattle.router_top.specs.Subject.{FileMap, Poses, Says, route_source, RoutingProblem, RouteText, HasFew, Cnf, Step, job_of, CheckAsked, Checks, EncodeAsked, Encodes, GenAsked, Generates, JudgeAsked, Judges, VerifyAsked, Verifies, Word, Outcome, Accepted, Done, LegalRoute, NotLegal, Routed, Undecided, Unroutable}
 
 -- the words ask for the clauses, and one file alone was written: those of the problem
 pub record IsEncoded (words : List Word) (desk before now : Option FileMap) : Type 0 where
@@ -59,6 +63,24 @@ pub record IsJudged (words : List Word) (desk : Option FileMap) (judgement : Jud
   pub reads : Says desk (route_source job.routed) route_value found
   pub is : judged_by job.reach job.width p found ≡ judgement
 
+-- the words ask whether a routed file is a routing of a placement, the three files of that read, the
+-- routed file reads, and it is judged so, strictly or not; where that is legal, it says a routing
+pub record IsJudgedPlaced (words : List Word) (desk : Option FileMap) (judgement : Judgement)
+    : Type 0 where
+  pub job : JudgeAsked
+  pub placed : PlacedNetlist
+  pub found : RouteText
+  pub asked : job_of words ≡ Ok (Judges job)
+  pub poses : PosesPlaced desk job.files placed
+  pub reads : Says desk (route_source job.routed) route_value found
+  pub is : placed_judged job.strict job.width placed found ≡ judgement
+  pub says : SaysIfLegal job placed found
+
+-- a routed file was judged so, with a global route or without one
+abbrev pub IsJudgedSo : List Word → (desk : Option FileMap) → Judgement → Type 0
+IsJudgedSo words desk judgement =
+    IsJudged words desk judgement ⊎ IsJudgedPlaced words desk judgement
+
 -- what an answer means, by the files of the desk and those of the shelf before the run and after
 -- it; of the answers that something keeps the run from its work, *Runs* speaks
 abbrev pub Means : List Word → (desk before now : Option FileMap) → Outcome → Type 0
@@ -69,6 +91,6 @@ Means words desk before now (Undecided width learned) =
 Means words desk before now Done =
     IsEncoded words desk before now ⊎ IsGenerated words before now
 Means words desk before now Accepted = IsProved words desk
-Means words desk before now LegalRoute = IsJudged words desk IsLegal
-Means words desk before now (NotLegal line cause) = IsJudged words desk (IsNotLegal line cause)
+Means words desk before now LegalRoute = IsJudgedSo words desk IsLegal
+Means words desk before now (NotLegal line cause) = IsJudgedSo words desk (IsNotLegal line cause)
 Means words desk before now outcome = ⊤

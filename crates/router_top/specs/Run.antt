@@ -5,10 +5,11 @@ use Rattle.router_top.specs.Check.{ChecksTo, VerifiesTo}
 use Rattle.router_top.specs.Core.{LeavesCore}
 use Rattle.router_top.specs.Written.{WritesFiles}
 use Rattle.router_top.specs.Generated.{HasRoom, Makes, MakesNone, PosesNone, generated_files}
+use Rattle.router_top.specs.Placed.{IsTrueJudgement, JudgesPlaced}
 use Rattle.router_top.specs.Report.{GivesNone, IsReadFault, line_of, unsaid}
 use Rattle.router_top.specs.Suited.{EncodeLeaves, RouteLeaves, SweepLeaves}
 use Rattle.router_top.specs.Work.{Tries}
-use Rattle.router_top.specs.Subject.{DeskState, FailsToSay, ShelfState, after_say, FileNames, Poses, IsStopped, RoutingProblem, job_of, Blames, Checks, Encodes as EncodesJob, GenAsked, Generates, JobAsked, Routes, Sweeps as SweepsJob, TrialAsked, Tries as TriesJob, Verifies, Word, Outcome, Usage, OutOfMemory}
+use Rattle.router_top.specs.Subject.{DeskState, FailsToSay, ShelfState, after_say, FileNames, Poses, IsStopped, RoutingProblem, job_of, Blames, Bounds, Checks, Encodes as EncodesJob, GenAsked, Generates, JobAsked, Judges, Negotiates, Routes, Sweeps as SweepsJob, TrialAsked, Tries as TriesJob, Verifies, Word, Outcome, Usage, OutOfMemory}
 
 -- the desk and the shelf before the work and after it
 pub record Scene : Type 0 where
@@ -58,6 +59,11 @@ LeavesJob (Checks job) at outcome =
 LeavesJob (Verifies job) at outcome =
     VerifiesTo (IsStopped at.desk at.desk_now) at.desk.files job outcome
     × (at.shelf_now ≡ at.shelf)
+LeavesJob (Judges job) at outcome =
+    JudgesPlaced (IsStopped at.desk at.desk_now) at.desk.files job (IsTrueJudgement job) outcome
+    × (at.shelf_now ≡ at.shelf)
+LeavesJob (Bounds job) at outcome = (outcome ≡ OutOfMemory) × (at.shelf_now ≡ at.shelf)
+LeavesJob (Negotiates job) at outcome = (outcome ≡ OutOfMemory) × (at.shelf_now ≡ at.shelf)
 LeavesJob (Generates job) at outcome =
     WritesGenerated job at.shelf at.shelf_now outcome × (at.desk_now ≡ at.desk)
 LeavesJob (TriesJob job) at outcome =

@@ -12,7 +12,7 @@ pub use Rattle.route_sweep.specs.Found.{HasFew}
 pub use Rattle.sat_clause.specs.Formula.{Cnf}
 pub use Rattle.sat_clause.specs.Step.{Step}
 pub use Rattle.router_words.specs.Command.{job_of}
-pub use Rattle.router_words.specs.Job.{CheckAsked, CoreAsked, EncodeAsked, GenAsked, JobAsked, RecipeAsked, RouteAsked, SearchAsked, SweepAsked, TrialAsked, VerifyAsked, Blames, Checks, Encodes, Generates, Routes, Sweeps, Tries, Verifies}
+pub use Rattle.router_words.specs.Job.{BoundAsked, CheckAsked, CoreAsked, EncodeAsked, GenAsked, GlobalAsked, JobAsked, JudgeAsked, RecipeAsked, RouteAsked, SearchAsked, SweepAsked, TrialAsked, VerifyAsked, Blames, Bounds, Checks, Encodes, Generates, Judges, Negotiates, Routes, Sweeps, Tries, Verifies}
 pub use Rattle.router_words.specs.Word.{Word}
 pub use Rattle.router_words.specs.declared.method.Method.{Method}
 pub use Rattle.router_words.specs.declared.method.Method.TheVariants.{Ordered, Pinned, Strictly, Within}

@@ -10,10 +10,11 @@ use Rattle.router_top.specs.declared.size_cause.SizeCause.TheVariants.{FormulaCl
 use Rattle.router_top.specs.Check.{ChecksTo, VerifiesTo}
 use Rattle.router_top.specs.Generated.{HasRoom, IsTooLarge, IsTooMany, Makes}
 use Rattle.router_top.specs.Method.{HasNone, HasOne, clauses_by}
+use Rattle.router_top.specs.Placed.{IsJudgement, JudgesPlaced}
 use Rattle.router_top.specs.Report.{GivesNone}
 use Rattle.router_top.specs.Search.{Search, clauses_held, core_search, route_search, sweep_of, sweep_search}
 use Rattle.router_top.specs.Suited.{IsTrueOfSuited}
-use Rattle.router_top.specs.Subject.{DeskState, FileMap, ShelfState, FileNames, Poses, IsHalted, RoutingProblem, HasFew, job_of, Blames, Checks, EncodeAsked, Encodes, Generates, JobAsked, Routes, Sweeps, Tries, Verifies, Word, Outcome, Routed, Unroutable, Undecided, Done, Limit, Usage, OutOfMemory}
+use Rattle.router_top.specs.Subject.{DeskState, FileMap, ShelfState, FileNames, Poses, IsHalted, RoutingProblem, HasFew, job_of, Blames, Bounds, Checks, EncodeAsked, Encodes, Generates, JobAsked, Judges, Negotiates, Routes, Sweeps, Tries, Verifies, Word, Outcome, Routed, Unroutable, Undecided, Done, Limit, Usage, OutOfMemory}
 use Rattle.router_top.specs.declared.size_cause.SizeCause.{SizeCause}
 
 -- so many clauses are more than may be built, as this cause says, and the outcome has their number;
@@ -81,6 +82,10 @@ IsTrueOfJob (Blames job) files outcome =
     IsTrueOfWork job.files (IsTrueOfSearch (core_search job)) files outcome
 IsTrueOfJob (Checks job) files outcome = ChecksTo (IsHalted files) files job outcome
 IsTrueOfJob (Verifies job) files outcome = VerifiesTo (IsHalted files) files job outcome
+IsTrueOfJob (Judges job) files outcome =
+    JudgesPlaced (IsHalted files) files job (IsJudgement job) outcome
+IsTrueOfJob (Bounds job) files outcome = ⊥
+IsTrueOfJob (Negotiates job) files outcome = ⊥
 IsTrueOfJob (Generates job) files outcome =
     IsTooMany job.recipe outcome ⊎ (HasRoom job.recipe × (outcome ≡ Done))
 IsTrueOfJob (Tries job) files outcome =

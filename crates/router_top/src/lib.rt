@@ -2,8 +2,8 @@
 //! and its global route, searches for a track for each cell of each net, at one width or at the
 //! least that has a routing, and writes the detailed route, or a refutation; writes the clauses
 //! that say what a routing is; names the nets that a refutation blames; checks a refutation of such
-//! clauses; judges a routed file, whoever wrote it; or makes a design from a number, and writes or
-//! routes it.
+//! clauses; judges a routed file, whoever wrote it, within the cells of a global route or as a
+//! routing of the placement alone; or makes a design from a number, and writes or routes it.
 #![tactic(auto)]
 
 mod checking;
@@ -13,6 +13,7 @@ mod encoder;
 mod encoding;
 mod file_name;
 mod generating;
+mod judging;
 mod outcome;
 mod problem_work;
 mod routing;

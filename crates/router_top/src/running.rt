@@ -10,6 +10,7 @@ ghost use Rattle.router_top.specs.Truth.{IsComplete};
 
 use crate::checking::check_files;
 use crate::generating::generate_files;
+use crate::judging::judge_file;
 use crate::outcome::{Outcome, report};
 use crate::problem_work::work_on;
 use crate::slot::Slot;
@@ -59,6 +60,8 @@ fn work<D: Desk, S: Shelf>(alloc: Global, words: &[String], desk: &mut D, shelf:
         Ok(Job::Core(job)) => work_on(alloc, &job.files, &job, desk, shelf),
         Ok(Job::Check(job)) => check_files(alloc, &job, desk),
         Ok(Job::Verify(job)) => verify_file(alloc, &job, desk),
+        Ok(Job::Judge(job)) => judge_file(alloc, &job, desk),
+        Ok(Job::Bound(_)) | Ok(Job::Global(_)) => Outcome::OutOfMemory,
         Ok(Job::Gen(job)) => generate_files(alloc, &job, shelf),
         Ok(Job::Trial(job)) => trial(alloc, &job, shelf),
         Err(WordsFault::Refused(cause)) => Outcome::Usage { code: cause.code() },
@@ -93,9 +96,9 @@ fn say_report<S: Shelf>(shelf: &mut S, outcome: Outcome) -> Outcome
 ///
 /// `route` writes PREFIX.route, or else PREFIX.cnf and PREFIX.lrat. `sweep` writes PREFIX.wK.cnf
 /// and PREFIX.wK.lrat for each width K that it does not route, and PREFIX.route where it routes
-/// one. `encode` writes PREFIX.cnf alone; `check` and `verify` write nothing. Each file is read and
-/// taken apart before the next is opened, the routed file of `verify` once the four before it fit,
-/// and the first refusal ends the work.
+/// one. `encode` writes PREFIX.cnf alone; `check`, `verify` and `judge` write nothing. Each file is
+/// read and taken apart before the next is opened, the routed file of `verify` once the four before
+/// it fit, that of `judge` behind its three, and the first refusal ends the work.
 ///
 /// `core` writes what `route` does, but a refutation is cut down to what it needs. It then says a
 /// line `net NAME` for each net that the refutation blames: these have no legal routing by
@@ -112,6 +115,9 @@ fn say_report<S: Shelf>(shelf: &mut S, outcome: Outcome) -> Outcome
 /// net may take several wires of its cells and reaches each sink within so many joins; the clauses
 /// say that there is one, and PREFIX.route has a tree of wires for each net. Where it is given to
 /// `verify`, the routed file is judged as such a routing.
+///
+/// `judge` asks of a routed file whether it is a routing of the placement, with no cells given
+/// beforehand: one wire of a cell alone for each net where `--strict` is given, and else several.
 ///
 /// `gen` makes a problem from its recipe and writes PREFIX.arch, PREFIX.net, PREFIX.place and
 /// PREFIX.route. `trial` makes one too, says a line with the numbers of its slots, its steps and

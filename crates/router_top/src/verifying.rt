@@ -36,15 +36,24 @@ fn judgement(
     }
 }
 
-// What the run comes to by how the routed file is judged.
+/// What the run comes to by how a routed file is judged.
+pub fn judged_outcome(judgement: Judgement) -> Outcome
+    ensures { result ≡ judged_outcome judgement }
+{
+    match judgement {
+        Judgement::Legal => Outcome::LegalRoute,
+        Judgement::NotLegal { line, cause } => Outcome::NotLegal { line, cause },
+    }
+}
+
+// What the run comes to by how the routed file of the job is judged.
 fn judge(alloc: Global, job: &VerifyJob<'_>, problem: &PlacedProblem, found: &RouteText) -> Outcome
     requires { IsSound found.now }
     ensures { (result ≡ OutOfMemory) ⊎ (result ≡ judged_outcome
         (judged_by job.now.reach job.now.width problem.now found.now)) }
 {
     match judgement(alloc, job, problem, found) {
-        Ok(Judgement::Legal) => Outcome::LegalRoute,
-        Ok(Judgement::NotLegal { line, cause }) => Outcome::NotLegal { line, cause },
+        Ok(judgement) => judged_outcome(judgement),
         Err(_) => Outcome::OutOfMemory,
     }
 }

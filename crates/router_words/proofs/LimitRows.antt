@@ -1,6 +1,6 @@
 -- The limits of the numbers among the words, each as its number.
 use Rattle.std.proofs.Common.{◌≡◌, refl}
-use Rattle.router_words.specs.declared.limits.TheConstants.{BUDGET_DEFAULT, BUDGET_LIMIT, GENERATED_NETS_LIMIT, MEMBER_LIMIT, SEED_DEFAULT, SEED_LIMIT}
+use Rattle.router_words.specs.declared.limits.TheConstants.{BUDGET_DEFAULT, BUDGET_LIMIT, GENERATED_NETS_LIMIT, MEMBER_LIMIT, ROUND_DEFAULT, ROUND_LIMIT, SEED_DEFAULT, SEED_LIMIT}
 
 pub budget : BUDGET_LIMIT ≡ 100000000
 budget = refl
@@ -16,6 +16,12 @@ seed_unsaid = refl
 
 pub members : MEMBER_LIMIT ≡ 8
 members = refl
+
+pub rounds : ROUND_LIMIT ≡ 100000
+rounds = refl
+
+pub rounds_unsaid : ROUND_DEFAULT ≡ 200
+rounds_unsaid = refl
 
 pub generated_nets : GENERATED_NETS_LIMIT ≡ 10000
 generated_nets = refl

@@ -2,9 +2,9 @@
 use Rattle.std.proofs.Common.{◌≡◌, ℕ, Bool, true, false, List, [], ◌∷◌, codes, refl}
 use Rattle.std.specs.Prelude.{Result, Ok, Err, None, Some}
 use Rattle.clap.proofs.OnLiterals.{clap_on_literals}
-use Rattle.fpga_problem.specs.Files.{FileNames}
+use Rattle.fpga_problem.specs.Files.{FileNames, PlacedNames}
 use Rattle.router_words.specs.Command.{job_of}
-use Rattle.router_words.specs.Job.{Blames, Checks, Encodes, Generates, JobAsked, Routes, SearchAsked, Sweeps, Tries, Verifies}
+use Rattle.router_words.specs.Job.{Blames, Bounds, Checks, Encodes, Generates, JobAsked, Judges, Negotiates, Routes, SearchAsked, Sweeps, Tries, Verifies}
 use Rattle.router_words.specs.Word.{Word}
 use Rattle.router_words.specs.declared.fault.Refusal.{Refusal}
 use Rattle.router_words.specs.declared.fault.Refusal.TheVariants.{Clash, Command, Form, Number}
@@ -352,6 +352,93 @@ no_routed = refl
 pub routed_before_width : verify (codes "f" ∷ codes "5" ∷ []) ≡ Err Number
 unfolding clap_on_literals
 routed_before_width = refl
+
+-- `judge a n p` and more words
+abbrev judge : List Word → Asked
+judge more = job_of (codes "judge" ∷ codes "a" ∷ codes "n" ∷ codes "p" ∷ more)
+
+abbrev three_files : PlacedNames
+three_files = record { architecture = codes "a"; netlist = codes "n"; placement = codes "p" }
+
+-- a routed file that is judged at width 5, strictly or not
+abbrev judges : (strict : Bool) → Asked
+judges strict = Ok (Judges (record {
+  files = three_files;
+  width = 5;
+  routed = codes "f";
+  strict = strict;
+}))
+
+pub judges_freely : judge (codes "5" ∷ codes "f" ∷ []) ≡ judges false
+unfolding clap_on_literals
+judges_freely = refl
+
+pub judges_strictly : judge (codes "--strict" ∷ codes "5" ∷ codes "f" ∷ []) ≡ judges true
+unfolding clap_on_literals
+judges_strictly = refl
+
+pub judges_a_problem : judge (codes "r" ∷ codes "5" ∷ codes "f" ∷ []) ≡ Err Form
+unfolding clap_on_literals
+judges_a_problem = refl
+
+pub judges_within : judge (codes "5" ∷ codes "f" ∷ codes "--reach=2" ∷ []) ≡ Err Form
+unfolding clap_on_literals
+judges_within = refl
+
+pub judges_no_width : judge (codes "0" ∷ codes "f" ∷ []) ≡ Err Number
+unfolding clap_on_literals
+judges_no_width = refl
+
+pub bounds : job_of (codes "bound" ∷ codes "a" ∷ codes "n" ∷ codes "p" ∷ [])
+    ≡ Ok (Bounds (record { files = three_files }))
+unfolding clap_on_literals
+bounds = refl
+
+pub bounds_a_width : job_of (codes "bound" ∷ codes "a" ∷ codes "n" ∷ codes "p" ∷ codes "5" ∷ [])
+    ≡ Err Form
+unfolding clap_on_literals
+bounds_a_width = refl
+
+-- `global a n p` and more words
+abbrev global : List Word → Asked
+global more = job_of (codes "global" ∷ codes "a" ∷ codes "n" ∷ codes "p" ∷ more)
+
+pub negotiates : global (codes "5" ∷ codes "out" ∷ [])
+    ≡ Ok (Negotiates (record {
+      files = three_files;
+      width = 5;
+      prefix = codes "out";
+      free = false;
+      from = None;
+      rounds = 200;
+    }))
+unfolding clap_on_literals
+negotiates = refl
+
+pub negotiates_from : global (codes "5" ∷ codes "--from" ∷ codes "r" ∷ codes "out" ∷ codes "--free"
+    ∷ codes "--rounds=100000" ∷ [])
+    ≡ Ok (Negotiates (record {
+      files = three_files;
+      width = 5;
+      prefix = codes "out";
+      free = true;
+      from = Some (codes "r");
+      rounds = 100_000;
+    }))
+unfolding clap_on_literals
+negotiates_from = refl
+
+pub no_rounds : global (codes "5" ∷ codes "out" ∷ codes "--rounds=0" ∷ []) ≡ Err Number
+unfolding clap_on_literals
+no_rounds = refl
+
+pub too_many_rounds : global (codes "5" ∷ codes "out" ∷ codes "--rounds=100001" ∷ []) ≡ Err Number
+unfolding clap_on_literals
+too_many_rounds = refl
+
+pub no_global_prefix : global (codes "5" ∷ []) ≡ Err Form
+unfolding clap_on_literals
+no_global_prefix = refl
 
 -- `gen` and more words
 abbrev gen : List Word → Asked

@@ -5,21 +5,21 @@ use Rattle.std.specs.Str.{bytes_eq}
 use Rattle.clap.specs.Words.{App, Row, first_of, matches_of}
 use Rattle.fpga_text.specs.Numbers.{whole_number_of}
 use Rattle.fpga_types.specs.declared.limits.TheConstants.{REACH_LIMIT, SIDE_LIMIT, WIDTH_LIMIT}
-use Rattle.fpga_problem.specs.Files.{FileNames}
-use Rattle.router_words.specs.Form.{check_form, core_form, encode_form, gen_form, route_form, sweep_form, trial_form, verify_form}
+use Rattle.fpga_problem.specs.Files.{FileNames, PlacedNames}
+use Rattle.router_words.specs.Form.{bound_form, check_form, core_form, encode_form, gen_form, global_form, judge_form, route_form, sweep_form, trial_form, verify_form}
 use Rattle.router_words.specs.Near.{has_one_track}
-use Rattle.router_words.specs.Job.{Blames, Checks, Encodes, Generates, JobAsked, MembersAsked, RecipeAsked, Routes, SearchAsked, Sweeps, Tries, Verifies, job_said}
+use Rattle.router_words.specs.Job.{Blames, Bounds, Checks, Encodes, Generates, JobAsked, Judges, MembersAsked, Negotiates, RecipeAsked, Routes, SearchAsked, Sweeps, Tries, Verifies, job_said}
 use Rattle.router_words.specs.Results.{and_then, map_ok}
 use Rattle.router_words.specs.Taken.{HasRequired, is_taken}
 use Rattle.router_words.specs.Word.{Word}
 use Rattle.router_words.specs.declared.command_name.CommandName.{CommandName}
-use Rattle.router_words.specs.declared.command_name.CommandName.TheVariants.{Check, Core, Encode, Gen, Route, Sweep, Trial, Verify}
+use Rattle.router_words.specs.declared.command_name.CommandName.TheVariants.{Bound, Check, Core, Encode, Gen, Global, Judge, Route, Sweep, Trial, Verify}
 use Rattle.router_words.specs.declared.fault.Refusal.{Refusal}
 use Rattle.router_words.specs.declared.fault.Refusal.TheVariants.{Clash, Command, Form, Number}
 use Rattle.router_words.specs.declared.fault.WordsFault.{WordsFault}
 use Rattle.router_words.specs.declared.fault.WordsFault.TheVariants.{Memory, Refused}
 use Rattle.router_words.specs.declared.job.Job.{Job}
-use Rattle.router_words.specs.declared.limits.TheConstants.{BUDGET_DEFAULT, BUDGET_LIMIT, GENERATED_NETS_LIMIT, MEMBER_LIMIT, SEED_DEFAULT, SEED_LIMIT}
+use Rattle.router_words.specs.declared.limits.TheConstants.{BUDGET_DEFAULT, BUDGET_LIMIT, GENERATED_NETS_LIMIT, MEMBER_LIMIT, ROUND_DEFAULT, ROUND_LIMIT, SEED_DEFAULT, SEED_LIMIT}
 use Rattle.router_words.specs.declared.method.Method.{Method}
 use Rattle.router_words.specs.declared.method.Method.TheVariants.{Ordered, Pinned, Strictly, Within}
 
@@ -52,6 +52,14 @@ files_asked rows = record {
   route = word_in (codes "route") rows;
 }
 
+-- ARCH NET PLACE
+abbrev pub placed_asked : List Row → PlacedNames
+placed_asked rows = record {
+  architecture = word_in (codes "architecture") rows;
+  netlist = word_in (codes "netlist") rows;
+  placement = word_in (codes "placement") rows;
+}
+
 -- WIDTH, or MAX of a sweep
 abbrev pub width_asked : List Row → Result ℕ Refusal
 width_asked rows = number_within 1 WIDTH_LIMIT (word_in (codes "width") rows)
@@ -61,6 +69,11 @@ abbrev pub conflicts_asked : List Row → Result ℕ Refusal
 conflicts_asked rows =
     option_map_or (number_within 1 BUDGET_LIMIT) (first_of (codes "conflicts") rows)
     (Ok BUDGET_DEFAULT)
+
+-- N of `--rounds N`, or the default
+abbrev pub rounds_asked : List Row → Result ℕ Refusal
+rounds_asked rows =
+    option_map_or (number_within 1 ROUND_LIMIT) (first_of (codes "rounds") rows) (Ok ROUND_DEFAULT)
 
 -- the method of words without `--pin` and `--symmetry`: within a reach, where there is one
 abbrev pub method_within : (reach : Option ℕ) → Method
@@ -219,6 +232,33 @@ verify_asked rows =
       reach = reach;
     })) (reach_asked rows))
 
+-- what `judge` is asked for
+abbrev pub judge_asked : List Row → Result JobAsked Refusal
+judge_asked rows =
+    map_ok (λ width. Judges (record {
+      files = placed_asked rows;
+      width = width;
+      routed = word_in (codes "routed") rows;
+      strict = has_flag (codes "strict") rows;
+    })) (width_asked rows)
+
+-- what `bound` is asked for
+abbrev pub bound_asked : List Row → Result JobAsked Refusal
+bound_asked rows = Ok (Bounds (record { files = placed_asked rows }))
+
+-- what `global` is asked for
+abbrev pub global_asked : List Row → Result JobAsked Refusal
+global_asked rows =
+    and_then (width_asked rows) (λ width.
+    map_ok (λ rounds. Negotiates (record {
+      files = placed_asked rows;
+      width = width;
+      prefix = word_in (codes "prefix") rows;
+      free = has_flag (codes "free") rows;
+      from = first_of (codes "from") rows;
+      rounds = rounds;
+    })) (rounds_asked rows))
+
 -- what `gen` is asked for
 abbrev pub gen_asked : List Row → Result JobAsked Refusal
 gen_asked rows = map_ok
@@ -254,6 +294,15 @@ check_row = record { name = codes "check"; form = check_form; job = check_asked 
 abbrev pub verify_row : CommandRow
 verify_row = record { name = codes "verify"; form = verify_form; job = verify_asked }
 
+abbrev pub judge_row : CommandRow
+judge_row = record { name = codes "judge"; form = judge_form; job = judge_asked }
+
+abbrev pub bound_row : CommandRow
+bound_row = record { name = codes "bound"; form = bound_form; job = bound_asked }
+
+abbrev pub global_row : CommandRow
+global_row = record { name = codes "global"; form = global_form; job = global_asked }
+
 abbrev pub gen_row : CommandRow
 gen_row = record { name = codes "gen"; form = gen_form; job = gen_asked }
 
@@ -268,13 +317,16 @@ row_of Encode = encode_row
 row_of Core = core_row
 row_of Check = check_row
 row_of Verify = verify_row
+row_of Judge = judge_row
+row_of Bound = bound_row
+row_of Global = global_row
 row_of Gen = gen_row
 row_of Trial = trial_row
 
 abbrev pub commands : List CommandRow
 commands =
-    route_row ∷ sweep_row ∷ encode_row ∷ core_row ∷ check_row ∷ verify_row ∷ gen_row ∷ trial_row
-    ∷ []
+    route_row ∷ sweep_row ∷ encode_row ∷ core_row ∷ check_row ∷ verify_row ∷ judge_row
+    ∷ bound_row ∷ global_row ∷ gen_row ∷ trial_row ∷ []
 
 -- ---- the job of words
 

@@ -38,11 +38,15 @@ with_option name form = with_rule form (option_rule name)
 abbrev pub with_flag : Word → App → App
 with_flag name form = with_rule form (flag_rule name)
 
+-- ARCH NET PLACE
+abbrev pub with_placed : App → App
+with_placed form =
+    with_word (codes "placement")
+    (with_word (codes "netlist") (with_word (codes "architecture") form))
+
 -- ARCH NET PLACE ROUTE
 abbrev pub with_files : App → App
-with_files form =
-    with_word (codes "route") (with_word (codes "placement")
-    (with_word (codes "netlist") (with_word (codes "architecture") form)))
+with_files form = with_word (codes "route") (with_placed form)
 
 -- WIDTH PREFIX, or MAX PREFIX
 abbrev pub with_width_and_prefix : App → App
@@ -101,6 +105,20 @@ check_form = with_word (codes "lrat") (with_word (codes "cnf") (empty_form (code
 abbrev pub verify_form : App
 verify_form = with_option (codes "reach") (with_word (codes "routed") (with_word (codes "width")
     (with_files (empty_form (codes "verify")))))
+
+-- ARCH NET PLACE WIDTH ROUTED [--strict]
+abbrev pub judge_form : App
+judge_form = with_flag (codes "strict") (with_word (codes "routed") (with_word (codes "width")
+    (with_placed (empty_form (codes "judge")))))
+
+-- ARCH NET PLACE
+abbrev pub bound_form : App
+bound_form = with_placed (empty_form (codes "bound"))
+
+-- ARCH NET PLACE WIDTH PREFIX [--free] [--from ROUTE] [--rounds N]
+abbrev pub global_form : App
+global_form = with_option (codes "rounds") (with_option (codes "from") (with_flag (codes "free")
+    (with_width_and_prefix (with_placed (empty_form (codes "global"))))))
 
 -- SEED NX NETS PREFIX
 abbrev pub gen_form : App

@@ -1,13 +1,16 @@
 -- What the words of a command ask for.
 use Rattle.std.specs.Prelude.{ℕ, Bool, Option, option_map}
-use Rattle.fpga_problem.specs.Files.{FileNames, names_said}
+use Rattle.fpga_problem.specs.Files.{FileNames, PlacedNames, names_said, placed_names_said}
 use Rattle.router_words.specs.Word.{Word}
+use Rattle.router_words.specs.declared.job.BoundJob.{BoundJob}
 use Rattle.router_words.specs.declared.job.CheckJob.{CheckJob}
 use Rattle.router_words.specs.declared.job.CoreJob.{CoreJob}
 use Rattle.router_words.specs.declared.job.EncodeJob.{EncodeJob}
 use Rattle.router_words.specs.declared.job.GenJob.{GenJob}
+use Rattle.router_words.specs.declared.job.GlobalJob.{GlobalJob}
 use Rattle.router_words.specs.declared.job.Job.{Job}
-use Rattle.router_words.specs.declared.job.Job.TheVariants.{Check, Core, Encode, Gen, Route, Sweep, Trial, Verify}
+use Rattle.router_words.specs.declared.job.Job.TheVariants.{Bound, Check, Core, Encode, Gen, Global, Judge, Route, Sweep, Trial, Verify}
+use Rattle.router_words.specs.declared.job.JudgeJob.{JudgeJob}
 use Rattle.router_words.specs.declared.job.Members.{Members}
 use Rattle.router_words.specs.declared.job.Recipe.{Recipe}
 use Rattle.router_words.specs.declared.job.RouteJob.{RouteJob}
@@ -76,6 +79,29 @@ pub record VerifyAsked : Type 0 where
   pub routed : Word
   pub reach : Option ℕ
 
+-- to judge a routed file as a routing of a placement: the files of the placed netlist, the width, the
+-- name of the routed file, and whether each net may have one wire of a cell alone
+pub record JudgeAsked : Type 0 where
+  pub files : PlacedNames
+  pub width : ℕ
+  pub routed : Word
+  pub strict : Bool
+
+-- to say how many tracks a placement needs at least: its files
+pub record BoundAsked : Type 0 where
+  pub files : PlacedNames
+
+-- to look for a route of a placement together with its tracks: the files of the placed netlist, the
+-- width, what the name of the written file begins with, whether a net may have several wires of a
+-- cell, the file with the route to begin with, if there is one, and after how many rounds to give up
+pub record GlobalAsked : Type 0 where
+  pub files : PlacedNames
+  pub width : ℕ
+  pub prefix : Word
+  pub free : Bool
+  pub from : Option Word
+  pub rounds : ℕ
+
 -- what a generated problem is made from: a number, how many logic blocks each side of its array
 -- has, and how many nets it has
 pub record RecipeAsked : Type 0 where
@@ -102,6 +128,9 @@ pub data JobAsked : Type 0 where
   Blames : CoreAsked → JobAsked
   Checks : CheckAsked → JobAsked
   Verifies : VerifyAsked → JobAsked
+  Judges : JudgeAsked → JobAsked
+  Bounds : BoundAsked → JobAsked
+  Negotiates : GlobalAsked → JobAsked
   Generates : GenAsked → JobAsked
   Tries : TrialAsked → JobAsked
 
@@ -157,6 +186,27 @@ verify_said job = record {
   reach = job.reach;
 }
 
+abbrev pub judge_said : JudgeJob → JudgeAsked
+judge_said job = record {
+  files = placed_names_said job.files;
+  width = job.width;
+  routed = job.routed.now;
+  strict = job.strict;
+}
+
+abbrev pub bound_said : BoundJob → BoundAsked
+bound_said job = record { files = placed_names_said job.files }
+
+abbrev pub global_said : GlobalJob → GlobalAsked
+global_said job = record {
+  files = placed_names_said job.files;
+  width = job.width;
+  prefix = job.prefix.now;
+  free = job.free;
+  from = option_map (λ word. word.now) job.from;
+  rounds = job.rounds;
+}
+
 abbrev pub recipe_said : Recipe → RecipeAsked
 recipe_said recipe = record { seed = recipe.seed; side = recipe.side; nets = recipe.nets }
 
@@ -173,5 +223,8 @@ job_said (Encode job) = Encodes (encode_said job)
 job_said (Core job) = Blames (core_said job)
 job_said (Check job) = Checks (check_said job)
 job_said (Verify job) = Verifies (verify_said job)
+job_said (Judge job) = Judges (judge_said job)
+job_said (Bound job) = Bounds (bound_said job)
+job_said (Global job) = Negotiates (global_said job)
 job_said (Gen job) = Generates (gen_said job)
 job_said (Trial job) = Tries (trial_said job)

@@ -18,6 +18,12 @@ abbrev pub HasRequired : App → List Row → Type 0
 HasRequired form rows =
     (name : Word) → requires_word form name ≡ true → is_some (first_of name rows) ≡ true
 
+-- the names of the files of a placed netlist are there
+pub record HasPlaced (rows : List Row) : Type 0 where
+  pub architecture : is_some (first_of (codes "architecture") rows) ≡ true
+  pub netlist : is_some (first_of (codes "netlist") rows) ≡ true
+  pub placement : is_some (first_of (codes "placement") rows) ≡ true
+
 -- the names of the files of a problem are there
 pub record HasFiles (rows : List Row) : Type 0 where
   pub architecture : is_some (first_of (codes "architecture") rows) ≡ true

@@ -8,11 +8,12 @@ ghost use Rattle.router_words.specs.Taken.{HasRequired};
 
 use crate::fault::Refusal;
 use crate::form::{
-    check_command, core_command, encode_command, gen_command, route_command, search_command,
-    trial_command, verify_command,
+    bound_command, check_command, core_command, encode_command, gen_command, global_command,
+    judge_command, route_command, search_command, trial_command, verify_command,
 };
 use crate::from_matches::{
-    check_job, core_job, encode_job, gen_job, route_job, sweep_job, trial_job, verify_job,
+    bound_job, check_job, core_job, encode_job, gen_job, global_job, judge_job, route_job,
+    sweep_job, trial_job, verify_job,
 };
 use crate::job::Job;
 use clap::{ArgMatches, Command};
@@ -27,6 +28,9 @@ pub enum CommandName {
     Core,
     Check,
     Verify,
+    Judge,
+    Bound,
+    Global,
     Gen,
     Trial,
 }
@@ -54,6 +58,15 @@ impl CommandName {
         if word == "verify" {
             return Some(CommandName::Verify);
         }
+        if word == "judge" {
+            return Some(CommandName::Judge);
+        }
+        if word == "bound" {
+            return Some(CommandName::Bound);
+        }
+        if word == "global" {
+            return Some(CommandName::Global);
+        }
         if word == "gen" {
             return Some(CommandName::Gen);
         }
@@ -74,6 +87,9 @@ impl CommandName {
             CommandName::Core => core_command(alloc),
             CommandName::Check => check_command(alloc),
             CommandName::Verify => verify_command(alloc),
+            CommandName::Judge => judge_command(alloc),
+            CommandName::Bound => bound_command(alloc),
+            CommandName::Global => global_command(alloc),
             CommandName::Gen => gen_command(alloc),
             CommandName::Trial => trial_command(alloc),
         }
@@ -91,6 +107,9 @@ impl CommandName {
             CommandName::Core => core_job(matches),
             CommandName::Check => check_job(matches),
             CommandName::Verify => verify_job(matches),
+            CommandName::Judge => judge_job(matches),
+            CommandName::Bound => bound_job(matches),
+            CommandName::Global => global_job(matches),
             CommandName::Gen => gen_job(matches),
             CommandName::Trial => trial_job(matches),
         }

@@ -1,7 +1,7 @@
 //! The forms of the commands, as `clap` has them.
 ghost use Rattle.std.specs.Prelude.{◌≡◌, IfOk, codes};
 ghost use Rattle.clap.specs.Words.{app_of, rule_of};
-ghost use Rattle.router_words.specs.Form.{check_form, core_form, empty_form, encode_form, gen_form, route_form, search_form, trial_form, verify_form, with_effort, with_files, with_flag, with_option, with_recipe, with_search, with_symmetry, with_width_and_prefix, with_word};
+ghost use Rattle.router_words.specs.Form.{bound_form, check_form, core_form, empty_form, encode_form, gen_form, global_form, judge_form, route_form, search_form, trial_form, verify_form, with_effort, with_files, with_flag, with_option, with_placed, with_recipe, with_search, with_symmetry, with_width_and_prefix, with_word};
 
 use clap::{Arg, ArgAction, Command};
 use std::alloc::{AllocError, Global};
@@ -48,13 +48,20 @@ fn add_flag<'a>(
     command.arg(flag)
 }
 
+// With the names of the files of a placed netlist.
+fn add_placed<'a>(alloc: Global, command: Command<'a>) -> Result<Command<'a>, AllocError>
+    ensures { IfOk result (λ c. app_of c ≡ with_placed (app_of command.entry)) }
+{
+    let command = add_word(alloc, command, "architecture")?;
+    let command = add_word(alloc, command, "netlist")?;
+    add_word(alloc, command, "placement")
+}
+
 // With the names of the files of a problem.
 fn add_files<'a>(alloc: Global, command: Command<'a>) -> Result<Command<'a>, AllocError>
     ensures { IfOk result (λ c. app_of c ≡ with_files (app_of command.entry)) }
 {
-    let command = add_word(alloc, command, "architecture")?;
-    let command = add_word(alloc, command, "netlist")?;
-    let command = add_word(alloc, command, "placement")?;
+    let command = add_placed(alloc, command)?;
     add_word(alloc, command, "route")
 }
 
@@ -157,6 +164,34 @@ pub fn verify_command<'a>(alloc: Global) -> Result<Command<'a>, AllocError>
     let command = add_word(alloc, problem, "width")?;
     let command = add_word(alloc, command, "routed")?;
     add_option(alloc, command, "reach")
+}
+
+/// ARCH NET PLACE WIDTH ROUTED [--strict]
+pub fn judge_command<'a>(alloc: Global) -> Result<Command<'a>, AllocError>
+    ensures { IfOk result (λ c. app_of c ≡ judge_form) }
+{
+    let placed = add_placed(alloc, named(alloc, "judge"))?;
+    let command = add_word(alloc, placed, "width")?;
+    let command = add_word(alloc, command, "routed")?;
+    add_flag(alloc, command, "strict")
+}
+
+/// ARCH NET PLACE
+pub fn bound_command<'a>(alloc: Global) -> Result<Command<'a>, AllocError>
+    ensures { IfOk result (λ c. app_of c ≡ bound_form) }
+{
+    add_placed(alloc, named(alloc, "bound"))
+}
+
+/// ARCH NET PLACE WIDTH PREFIX [--free] [--from ROUTE] [--rounds N]
+pub fn global_command<'a>(alloc: Global) -> Result<Command<'a>, AllocError>
+    ensures { IfOk result (λ c. app_of c ≡ global_form) }
+{
+    let placed = add_placed(alloc, named(alloc, "global"))?;
+    let command = add_width_and_prefix(alloc, placed)?;
+    let command = add_flag(alloc, command, "free")?;
+    let command = add_option(alloc, command, "from")?;
+    add_option(alloc, command, "rounds")
 }
 
 /// SEED NX NETS PREFIX

@@ -1,28 +1,29 @@
 //! The job that the matches of a command's form say.
 ghost use Rattle.std.specs.Prelude.{◌≡◌, ◌≤◌, IfOk, IfSome, codes, is_some, option_map, true};
 ghost use Rattle.clap.specs.Words.{first_of, found_of, rows_of};
-ghost use Rattle.fpga_problem.specs.Files.{names_said};
+ghost use Rattle.fpga_problem.specs.Files.{names_said, placed_names_said};
 ghost use Rattle.fpga_types.specs.declared.limits.TheConstants.{REACH_LIMIT, WIDTH_LIMIT};
-ghost use Rattle.router_words.specs.Command.{check_asked, conflicts_asked, core_asked, encode_asked, files_asked, gen_asked, members_asked, members_with, method_asked, method_within, number_if_any, number_within, has_clash, has_two_methods, reach_asked, recipe_asked, route_asked, search_asked, search_by_method, sweep_asked, trial_asked, verify_asked, width_asked, word_in};
-ghost use Rattle.router_words.specs.Form.{check_form, core_form, encode_form, gen_form, route_form, sweep_form, trial_form, verify_form};
+ghost use Rattle.router_words.specs.Command.{bound_asked, check_asked, conflicts_asked, core_asked, encode_asked, files_asked, gen_asked, global_asked, judge_asked, members_asked, members_with, method_asked, method_within, number_if_any, number_within, has_clash, has_two_methods, placed_asked, reach_asked, recipe_asked, rounds_asked, route_asked, search_asked, search_by_method, sweep_asked, trial_asked, verify_asked, width_asked, word_in};
+ghost use Rattle.router_words.specs.Form.{bound_form, check_form, core_form, encode_form, gen_form, global_form, judge_form, route_form, sweep_form, trial_form, verify_form};
 ghost use Rattle.router_words.specs.Job.{job_said, members_said, recipe_said, search_said};
 ghost use Rattle.router_words.specs.Near.{IsNear, has_one_track};
 ghost use Rattle.router_words.specs.Results.{map_ok};
-ghost use Rattle.router_words.specs.Taken.{HasFiles, HasRecipe, HasRequired};
-ghost use Rattle.router_words.specs.declared.limits.TheConstants.{BUDGET_LIMIT, MEMBER_LIMIT, SEED_LIMIT};
+ghost use Rattle.router_words.specs.Taken.{HasFiles, HasPlaced, HasRecipe, HasRequired};
+ghost use Rattle.router_words.specs.declared.limits.TheConstants.{BUDGET_LIMIT, MEMBER_LIMIT, ROUND_LIMIT, SEED_LIMIT};
 
 use crate::fault::Refusal;
 use crate::job::{
-    CheckJob, CoreJob, EncodeJob, GenJob, Job, Members, Recipe, RouteJob, SearchJob, SweepJob,
-    TrialJob, VerifyJob,
+    BoundJob, CheckJob, CoreJob, EncodeJob, GenJob, GlobalJob, Job, JudgeJob, Members, Recipe,
+    RouteJob, SearchJob, SweepJob, TrialJob, VerifyJob,
 };
 use crate::limits::{
-    BUDGET_DEFAULT, BUDGET_LIMIT, GENERATED_NETS_LIMIT, MEMBER_LIMIT, SEED_DEFAULT, SEED_LIMIT,
+    BUDGET_DEFAULT, BUDGET_LIMIT, GENERATED_NETS_LIMIT, MEMBER_LIMIT, ROUND_DEFAULT, ROUND_LIMIT,
+    SEED_DEFAULT, SEED_LIMIT,
 };
 use crate::matched::{first_word, has_flag, number_within, required_word};
 use crate::method::Method;
 use clap::ArgMatches;
-use fpga_problem::FourNames;
+use fpga_problem::{FourNames, ThreeNames};
 use fpga_types::{REACH_LIMIT, SIDE_LIMIT, WIDTH_LIMIT};
 
 // The names of the files of a problem.
@@ -35,6 +36,18 @@ fn file_names<'a>(matches: &ArgMatches<'a>) -> FourNames<'a>
         netlist: required_word(matches, "netlist"),
         placement: required_word(matches, "placement"),
         route: required_word(matches, "route"),
+    }
+}
+
+// The names of the files of a placed netlist.
+fn placed_names<'a>(matches: &ArgMatches<'a>) -> ThreeNames<'a>
+    requires { HasPlaced (rows_of (found_of matches.now)) }
+    ensures { placed_names_said result ≡ placed_asked (rows_of (found_of matches.now)) }
+{
+    ThreeNames {
+        architecture: required_word(matches, "architecture"),
+        netlist: required_word(matches, "netlist"),
+        placement: required_word(matches, "placement"),
     }
 }
 
@@ -69,6 +82,18 @@ fn conflicts(matches: &ArgMatches) -> Result<u64, Refusal>
         return Ok(BUDGET_DEFAULT);
     };
     number_within(word, 1, BUDGET_LIMIT)
+}
+
+// After how many rounds a search gives up, or that the word is no number in range.
+fn rounds(matches: &ArgMatches) -> Result<u32, Refusal>
+    ensures number { result ≡ rounds_asked (rows_of (found_of matches.now)) }
+    ensures within { IfOk result (λ number. (1 ≤ number) × (number ≤ ROUND_LIMIT)) }
+{
+    let Some(word) = first_word(matches, "rounds") else {
+        return Ok(ROUND_DEFAULT);
+    };
+    let number = number_within(word, 1, u64::from(ROUND_LIMIT))?;
+    Ok(number as u32)
 }
 
 // What a generated problem is made from, or that a number is none in its range.
@@ -302,6 +327,47 @@ pub fn verify_job<'a>(matches: &ArgMatches<'a>) -> Result<Job<'a>, Refusal>
         width,
         routed: required_word(matches, "routed"),
         reach,
+    }))
+}
+
+/// What `judge` is asked for, or why its words ask for nothing.
+pub fn judge_job<'a>(matches: &ArgMatches<'a>) -> Result<Job<'a>, Refusal>
+    requires { HasRequired judge_form (rows_of (found_of matches.now)) }
+    ensures { map_ok job_said result ≡ judge_asked (rows_of (found_of matches.now)) }
+{
+    let width = width(matches)?;
+    Ok(Job::Judge(JudgeJob {
+        files: placed_names(matches),
+        width,
+        routed: required_word(matches, "routed"),
+        strict: has_flag(matches, "strict"),
+    }))
+}
+
+/// What `bound` is asked for.
+pub fn bound_job<'a>(matches: &ArgMatches<'a>) -> Result<Job<'a>, Refusal>
+    requires { HasRequired bound_form (rows_of (found_of matches.now)) }
+    ensures { map_ok job_said result ≡ bound_asked (rows_of (found_of matches.now)) }
+{
+    Ok(Job::Bound(BoundJob {
+        files: placed_names(matches),
+    }))
+}
+
+/// What `global` is asked for, or why its words ask for nothing.
+pub fn global_job<'a>(matches: &ArgMatches<'a>) -> Result<Job<'a>, Refusal>
+    requires { HasRequired global_form (rows_of (found_of matches.now)) }
+    ensures { map_ok job_said result ≡ global_asked (rows_of (found_of matches.now)) }
+{
+    let width = width(matches)?;
+    let rounds = rounds(matches)?;
+    Ok(Job::Global(GlobalJob {
+        files: placed_names(matches),
+        width,
+        prefix: required_word(matches, "prefix"),
+        free: has_flag(matches, "free"),
+        from: first_word(matches, "from"),
+        rounds,
     }))
 }
 

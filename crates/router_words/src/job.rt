@@ -3,10 +3,10 @@ ghost use Rattle.std.proofs.Props.{props};
 ghost use Rattle.std.specs.Prelude.{◌≡◌, ◌≤◌, IfSome, IsTrue, true};
 ghost use Rattle.fpga_types.specs.declared.limits.TheConstants.{REACH_LIMIT, SIDE_LIMIT, WIDTH_LIMIT};
 ghost use Rattle.router_words.specs.Near.{IsNear, has_one_track};
-ghost use Rattle.router_words.specs.declared.limits.TheConstants.{BUDGET_LIMIT, GENERATED_NETS_LIMIT, MEMBER_LIMIT, SEED_LIMIT};
+ghost use Rattle.router_words.specs.declared.limits.TheConstants.{BUDGET_LIMIT, GENERATED_NETS_LIMIT, MEMBER_LIMIT, ROUND_LIMIT, SEED_LIMIT};
 
 use crate::method::Method;
-use fpga_problem::FourNames;
+use fpga_problem::{FourNames, ThreeNames};
 
 /// What a search is told, whatever its problem.
 #[derive(Clone, Copy)]
@@ -115,6 +115,46 @@ pub struct VerifyJob<'a> {
     ghost near: { IfSome reach (λ n. (1 ≤ n) × (n ≤ REACH_LIMIT)) } by { Prim.hlevel props },
 }
 
+/// To judge a routed file as a routing of a placement, with no global route.
+#[derive(Clone, Copy)]
+pub struct JudgeJob<'a> {
+    /// The files of the placed netlist.
+    pub files: ThreeNames<'a>,
+    /// How many tracks each channel has, from 1 to 64.
+    pub width: u32,
+    /// The name of the routed file.
+    pub routed: &'a str,
+    /// Whether each net may have one wire of a cell alone.
+    pub strict: bool,
+    ghost in_range: { (1 ≤ width) × (width ≤ WIDTH_LIMIT) },
+}
+
+/// To say how many tracks a placement needs at least, whatever its route.
+#[derive(Clone, Copy)]
+pub struct BoundJob<'a> {
+    /// The files of the placed netlist.
+    pub files: ThreeNames<'a>,
+}
+
+/// To look for a route of a placement together with its tracks.
+#[derive(Clone, Copy)]
+pub struct GlobalJob<'a> {
+    /// The files of the placed netlist.
+    pub files: ThreeNames<'a>,
+    /// How many tracks each channel has, from 1 to 64.
+    pub width: u32,
+    /// What the name of the file that is written begins with.
+    pub prefix: &'a str,
+    /// Whether a net may have several wires of a cell.
+    pub free: bool,
+    /// The name of the file with the route that the search begins with, if it is to begin with one.
+    pub from: Option<&'a str>,
+    /// After how many rounds the search gives up, from 1 to 100,000.
+    pub rounds: u32,
+    ghost in_range: { (1 ≤ width) × (width ≤ WIDTH_LIMIT) },
+    ghost patient: { (1 ≤ rounds) × (rounds ≤ ROUND_LIMIT) },
+}
+
 /// What a generated problem is made from.
 #[derive(Clone, Copy)]
 pub struct Recipe {
@@ -162,6 +202,12 @@ pub enum Job<'a> {
     Check(CheckJob<'a>),
     /// Whether a routed file is a legal routing.
     Verify(VerifyJob<'a>),
+    /// Whether a routed file is a routing of a placement.
+    Judge(JudgeJob<'a>),
+    /// How many tracks a placement needs at least.
+    Bound(BoundJob<'a>),
+    /// A route of a placement together with its tracks.
+    Global(GlobalJob<'a>),
     /// The files of a generated problem.
     Gen(GenJob<'a>),
     /// The least width that has a routing of a generated problem.

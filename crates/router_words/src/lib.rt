@@ -8,20 +8,25 @@
 //! | `core` | FILES WIDTH PREFIX | `--conflicts N` |
 //! | `check` | CNF LRAT | |
 //! | `verify` | FILES WIDTH ROUTED | `--reach L` |
+//! | `judge` | PLACED WIDTH ROUTED | `--strict` |
+//! | `bound` | PLACED | |
+//! | `global` | PLACED WIDTH PREFIX | `--free`, `--from ROUTE`, `--rounds N` |
 //! | `gen` | SEED NX NETS PREFIX | |
 //! | `trial` | SEED NX NETS MAX PREFIX | `--reach L`, SEARCH |
 //!
-//! FILES are four words: ARCH NET PLACE ROUTE. METHOD is `--pin`, `--symmetry` or `--reach L`, or
-//! none. SEARCH is any of `--conflicts N`, `--keep` and `--count`, the last with no reach. WIDTH
-//! and MAX are whole numbers from 1 to 64, and N one from 1 to 100,000,000, or 1,000,000 where it
-//! is not given. SEED is one from 0 to 2,147,483,647, NX one from 1 to 100, and NETS one from 1 to
-//! 10,000. K is one from 1 to 8, and S one from 0 to 2,147,483,647, or 1 where `--members` is
-//! given alone. L is one from 1 to 64. Leading zeros are taken, signs are not.
+//! FILES are four words: ARCH NET PLACE ROUTE; PLACED are the first three of them. METHOD is
+//! `--pin`, `--symmetry` or `--reach L`, or none. SEARCH is any of `--conflicts N`, `--keep` and
+//! `--count`, the last with no reach. WIDTH and MAX are whole numbers from 1 to 64. N of
+//! `--conflicts` is one from 1 to 100,000,000, or 1,000,000 where it is not given, and N of
+//! `--rounds` one from 1 to 100,000, or 200. SEED is one from 0 to 2,147,483,647, NX one from 1 to
+//! 100, and NETS one from 1 to 10,000. K is one from 1 to 8, and S one from 0 to 2,147,483,647, or
+//! 1 where `--members` is given alone. L is one from 1 to 64. Leading zeros are taken, signs are
+//! not.
 //!
 //! What stands behind the command is taken as `clap` takes it: options may stand anywhere,
 //! `--conflicts=5` is `--conflicts 5`, behind `--` no word is an option, and a word may be empty or
-//! `-`. An option is given once at the most and written out, `--keep`, `--count`, `--pin` and
-//! `--symmetry` have no value, and no word asks for help.
+//! `-`. An option is given once at the most and written out, `--keep`, `--count`, `--pin`,
+//! `--symmetry`, `--strict` and `--free` have no value, and no word asks for help.
 //!
 //! | code | cause |
 //! |---|---|
@@ -45,11 +50,12 @@ mod read;
 
 pub use fault::{Refusal, WordsFault};
 pub use job::{
-    CheckJob, CoreJob, EncodeJob, GenJob, Job, Members, Recipe, RouteJob, SearchJob, SweepJob,
-    TrialJob, VerifyJob,
+    BoundJob, CheckJob, CoreJob, EncodeJob, GenJob, GlobalJob, Job, JudgeJob, Members, Recipe,
+    RouteJob, SearchJob, SweepJob, TrialJob, VerifyJob,
 };
 pub use limits::{
-    BUDGET_DEFAULT, BUDGET_LIMIT, GENERATED_NETS_LIMIT, MEMBER_LIMIT, SEED_DEFAULT, SEED_LIMIT,
+    BUDGET_DEFAULT, BUDGET_LIMIT, GENERATED_NETS_LIMIT, MEMBER_LIMIT, ROUND_DEFAULT, ROUND_LIMIT,
+    SEED_DEFAULT, SEED_LIMIT,
 };
 pub use method::Method;
 pub use read::read_words;

@@ -18,5 +18,12 @@ pub const SEED_DEFAULT: u32 = 1;
 // The schedule of searches has such a limit of its own (`IsSchedule` of `sat_turns`).
 pub const MEMBER_LIMIT: u32 = 8;
 
+/// After how many rounds a search for a route with its tracks may give up at the most.
+// The search has such a limit of its own (`ROUND_LIMIT` of `route_negotiate`).
+pub const ROUND_LIMIT: u32 = 100_000;
+
+/// After how many rounds it gives up where the words do not say it.
+pub const ROUND_DEFAULT: u32 = 200;
+
 /// How many nets a generated problem may have at the most.
 pub const GENERATED_NETS_LIMIT: u32 = 10_000;

@@ -21,6 +21,11 @@ returns-in-Ok-Verify-clause-leaves g c =
     let asked = rw c.in-Ok-Verify.field-0-is at c.in-Ok-Verify.ensures.answers in
     inr (rw asked (c.verify_file.ensures.verifies, refl))
 
+pub returns-in-Ok-Judge-clause-leaves : goal.returns-in-Ok-Judge-clause-leaves
+returns-in-Ok-Judge-clause-leaves g c =
+    let asked = rw c.in-Ok-Judge.field-0-is at c.in-Ok-Judge.ensures.answers in
+    inr (rw asked (c.judge_file.ensures.judges, refl))
+
 pub returns-in-Ok-Gen-clause-leaves : goal.returns-in-Ok-Gen-clause-leaves
 returns-in-Ok-Gen-clause-leaves g c =
     let asked = rw c.in-Ok-Gen.field-0-is at c.in-Ok-Gen.ensures.answers in

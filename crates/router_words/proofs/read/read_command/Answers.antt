@@ -9,7 +9,7 @@ use Rattle.router_words.specs.Job.{JobAsked}
 use Rattle.router_words.specs.Taken.{HasRequired, IsTaken, Takes}
 use Rattle.router_words.specs.Word.{Word, words_of}
 use Rattle.router_words.specs.declared.command_name.CommandName.{CommandName}
-use Rattle.router_words.specs.declared.command_name.CommandName.TheVariants.{Check, Core, Encode, Gen, Route, Sweep, Trial, Verify}
+use Rattle.router_words.specs.declared.command_name.CommandName.TheVariants.{Bound, Check, Core, Encode, Gen, Global, Judge, Route, Sweep, Trial, Verify}
 use Rattle.router_words.specs.declared.fault.Refusal.{Refusal}
 use Rattle.router_words.specs.declared.fault.Refusal.TheVariants.{Command}
 use Rattle.router_words.specs.declared.fault.WordsFault.{WordsFault}
@@ -24,6 +24,9 @@ forms Encode = refl
 forms Core = refl
 forms Check = refl
 forms Verify = refl
+forms Judge = refl
+forms Bound = refl
+forms Global = refl
 forms Gen = refl
 forms Trial = refl
 

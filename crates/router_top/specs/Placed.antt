@@ -1,0 +1,54 @@
+-- Jobs over the three files of a placed netlist, and how a routed file is judged as a routing of the
+-- placement.
+use Rattle.std.specs.Prelude.{◌≡◌, ℕ, ◌⊎◌, Option}
+use Rattle.fpga_problem.specs.Files.{ArePlacedUnread, PlacedNames, PosesPlaced}
+use Rattle.fpga_problem.specs.declared.unread.Unread.{Unread}
+use Rattle.fpga_route.specs.Value.{route_value}
+use Rattle.fpga_types.specs.Placed.{NetWires}
+use Rattle.fpga_types.specs.Problem.{PlacedNetlist}
+use Rattle.route_judge.specs.Judged.{placed_judged}
+use Rattle.route_judge.specs.Says.{SaysRouting}
+use Rattle.route_verify.specs.declared.judgement.Judgement.TheVariants.{Legal as IsLegal}
+use Rattle.router_top.specs.Check.{judged_outcome}
+use Rattle.router_top.specs.Report.{unread_outcome}
+use Rattle.router_top.specs.Subject.{FileMap, ReadsThen, Source, route_source, FileFault, JudgeAsked, Outcome, RouteText}
+use Rattle.router_top.specs.declared.text_file.TextFile.TheVariants.{Problem, Routed}
+
+-- the three files give no placed netlist, and the outcome says why: the work stops at a file, those
+-- before it read
+abbrev pub GivesNoPlaced : (Source → FileFault → Type 0) → Option FileMap → PlacedNames → Outcome
+    → Type 0
+GivesNoPlaced stops files names outcome =
+    (unread : Unread) × ArePlacedUnread stops files names unread
+    × (outcome ≡ unread_outcome (Problem unread.file) unread.fault)
+
+-- they give none, and the outcome says why; or they pose one, and the work on it comes to this
+abbrev pub WorksOnPlaced : (Source → FileFault → Type 0) → Option FileMap → PlacedNames
+    → (PlacedNetlist → Outcome → Type 0) → Outcome → Type 0
+WorksOnPlaced stops files names works outcome =
+    GivesNoPlaced stops files names outcome
+    ⊎ ((placed : PlacedNetlist) × PosesPlaced files names placed × works placed outcome)
+
+-- what the judging of a routed file comes to, by the placed netlist that the three files pose and
+-- the route that it says; or the work stops at a file, those before it read
+abbrev pub JudgesPlaced : (Source → FileFault → Type 0) → Option FileMap → JudgeAsked
+    → (PlacedNetlist → RouteText → Outcome → Type 0) → Outcome → Type 0
+JudgesPlaced stops files job works =
+    WorksOnPlaced stops files job.files (λ placed.
+    ReadsThen stops files (route_source job.routed) (unread_outcome Routed) route_value
+    (works placed))
+
+-- the outcome is how the file is judged
+abbrev pub IsJudgement : JudgeAsked → PlacedNetlist → RouteText → Outcome → Type 0
+IsJudgement job placed found outcome =
+    outcome ≡ judged_outcome (placed_judged job.strict job.width placed found)
+
+-- a file that is judged legal says a routing of the placement
+abbrev pub SaysIfLegal : JudgeAsked → PlacedNetlist → RouteText → Type 0
+SaysIfLegal job placed found = placed_judged job.strict job.width placed found ≡ IsLegal
+    → (has : ℕ → NetWires) × SaysRouting placed job.width found has
+
+-- both
+abbrev pub IsTrueJudgement : JudgeAsked → PlacedNetlist → RouteText → Outcome → Type 0
+IsTrueJudgement job placed found outcome =
+    IsJudgement job placed found outcome × SaysIfLegal job placed found
