@@ -3,8 +3,13 @@
 
     judge.py ARCH NET PLACE ROUTE WIDTH ROUTED [REACH]
 
-says what `verify` is to say, within a reach where one is given. It shares nothing with the program, and is slow.
+says what `verify` is to say, within a reach where one is given, and
+
+    judge.py --placed ARCH NET PLACE WIDTH ROUTED [--strict]
+
+what `judge` is to say. It shares nothing with the program, and is slow.
 """
+import copy
 import sys
 from asked import answer_help
 
@@ -208,6 +213,12 @@ class Problem:
         self.placement = Placement(place, self.netlist)
         self.route = Route(route)
 
+    def with_route(self, text):
+        """The same architecture, netlist and placement with another route."""
+        other = copy.copy(self)
+        other.route = Route(text)
+        return other
+
     def terminal(self, ref):
         """Where a net begins or ends by this pin of this block: place, label and number."""
         (kind, _), (x, y, sub) = self.netlist.blocks[ref[0]], self.placement.places[ref[0]]
@@ -323,8 +334,13 @@ def depth(elems, i, depths):
     return None if depths[i - 1] is None else depths[i - 1] + 1
 
 
-def causes(p, width, found, reach=None):
-    """The causes against each line, in the order of the lines, within a reach if there is one."""
+# A placed routing has any cells, and its nets as many wires of them as they like, or strictly one.
+FREE, STRICT = "free", "strict"
+
+
+def causes(p, width, found, reach=None, placed=None):
+    """The causes against each line, in the order of the lines: within a reach if there is one, or of a placed routing."""
+    is_free = reach is not None or placed == FREE
     yield found.size_line, [807] if found.size != p.placement.size else []
     for n, net in enumerate(found.nets):
         earlier = found.nets[:n]
@@ -351,11 +367,11 @@ def causes(p, width, found, reach=None):
                     here.append(802)
                 if any(equals(e, other) for old in earlier for other in old.elems):
                     here.append(803)
-                if e.at() not in cells:
+                if placed is None and e.at() not in cells:
                     here.append(804)
                 again = any(e.at() == other.at() for other in net.elems[:i])
                 wire_again = any(equals(e, other) for other in net.elems[:i])
-                if wire_again and not branch if reach is not None else again and not (branch and wire_again):
+                if wire_again and not branch if is_free else again and not (branch and wire_again):
                     here.append(805)
             if not net.is_global and i + 1 == len(net.elems) and lacks_sink(p, net.name, net.elems):
                 here.append(806)
@@ -372,14 +388,26 @@ def causes(p, width, found, reach=None):
     yield found.lines + 1, [806] if missing else []
 
 
-def judged(p, width, text, reach=None):
-    for line, here in causes(p, width, Route(text), reach):
+def judged(p, width, text, reach=None, placed=None):
+    for line, here in causes(p, width, Route(text), reach, placed):
         if here:
             return f"not legal: line {line} cause {min(here)}"
     return "legal"
 
 
+def placed_judged(p, width, text, placed):
+    """How a text is judged as a routing of the placement; the array of its cells is its own."""
+    return judged(p.with_route(text), width, text, None, placed)
+
+
+def main_placed(words):
+    arch, net, place, routed = (open(name).read() for name in words[:3] + words[4:5])
+    print(placed_judged(Problem(arch, net, place, routed), int(words[3]), routed, STRICT if words[5:] else FREE))
+
+
 def main():
+    if sys.argv[1:2] == ["--placed"]:
+        return main_placed(sys.argv[2:])
     arch, net, place, route, routed = (open(name).read() for name in sys.argv[1:5] + sys.argv[6:7])
     reach = int(sys.argv[7]) if len(sys.argv) > 7 else None
     print(judged(Problem(arch, net, place, route), int(sys.argv[5]), routed, reach))

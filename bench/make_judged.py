@@ -5,8 +5,9 @@
 
 writes into FOLDER/data the architectures and designs, a routing of each by PROGRAM, and the tables `verify.rows` and
 `reach.rows`, with a line for each change; and FOLDER/judged: how the changed routing of each row is to be judged, of
-`reach.rows` within the reach and then without it. With these lines the stored output of `problem_rows` ends. They are
-worked out by `judge.py`. Changes are drawn from a fixed seed.
+`reach.rows` within the reach and then without it; and then as a routing of the placement, with several wires of a cell
+and strictly with one. With these lines the stored output of `problem_rows` ends. They are worked out by `judge.py`.
+Changes are drawn from a fixed seed.
 
 A row is NAME ARCH DESIGN ROUTED WIDTH FROM TO|LINE|LINE ..: in the routing ROUTED of DESIGN the lines FROM to TO,
 counted from 1, are replaced by these. In `reach.rows` the reach stands behind the width.
@@ -18,7 +19,7 @@ import subprocess
 import sys
 import tempfile
 
-from judge import Elem, Problem, Route, cells_at, judged, mapped, sides_of
+from judge import FREE, STRICT, Elem, Problem, Route, cells_at, judged, mapped, placed_judged, sides_of
 from asked import answer_help
 
 answer_help(__name__, __doc__)
@@ -563,9 +564,13 @@ def problem_of(folder, arch, design):
     return Problem(*(open(os.path.join(folder, name)).read() for name in names_of(arch, design)))
 
 
-def both_judged(problem, width, reach, text):
-    """How a text is judged within the reach, and without it."""
-    return judged(problem, width, text, reach), judged(problem, width, text)
+def answers_to(problem, width, text, *reaches):
+    """How a text is judged within each reach, None for none, and then as a routing of the placement."""
+    return [
+        *(judged(problem, width, text, reach) for reach in reaches),
+        placed_judged(problem, width, text, FREE),
+        placed_judged(problem, width, text, STRICT),
+    ]
 
 
 def changed_rows(base, name, arch, design):
@@ -579,7 +584,7 @@ def changed_rows(base, name, arch, design):
             text = replaced(base.text, first, last, lines)
             if is_read(text):
                 row = f"{change.__name__} {arch} {design} {name} {base.width} {first} {last}"
-                yield row + "".join("|" + line for line in lines), judged(base.p, base.width, text)
+                yield row + "".join("|" + line for line in lines), answers_to(base.p, base.width, text, None)
 
 
 def changed_within(base, name, arch, design, reach):
@@ -593,7 +598,7 @@ def changed_within(base, name, arch, design, reach):
             text = replaced(base.text, first, last, lines)
             if is_read(text):
                 row = f"{change.__name__} {arch} {design} {name} {base.width} {reach} {first} {last}"
-                yield row + "".join("|" + line for line in lines), both_judged(base.p, base.width, reach, text)
+                yield row + "".join("|" + line for line in lines), answers_to(base.p, base.width, text, reach, None)
 
 
 def rows_within(folder, texts, chance):
@@ -611,9 +616,17 @@ def rows_within(folder, texts, chance):
         rows += changed_within(base, name, arch, design, reach)
     for name, arch, width, reach in OTHERS_WITHIN:
         design, _, text = texts[name]
-        answers = both_judged(problem_of(folder, arch, design), width, reach, text)
+        answers = answers_to(problem_of(folder, arch, design), width, text, reach, None)
         rows.append((f"elsewhere {arch} {design} {name} {width} {reach} 1 0", answers))
     return rows
+
+
+# How a row tells that its text was judged as a routing of the placement.
+PLACED = [" placed", " placed strictly"]
+
+
+def tell(out, name, ways, answers):
+    out.writelines(f"{name}{way}: {answer}\n" for way, answer in zip(ways, answers))
 
 
 def main():
@@ -634,18 +647,19 @@ def main():
     for name, arch, more in OTHERS:
         design, width, text = texts[name]
         width = max(1, width + more)
-        answer = judged(problem_of(folder, arch, design), width, text)
-        rows.append((f"elsewhere {arch} {design} {name} {width} 1 0", answer))
+        answers = answers_to(problem_of(folder, arch, design), width, text, None)
+        rows.append((f"elsewhere {arch} {design} {name} {width} 1 0", answers))
     within = rows_within(folder, texts, chance)
     with open(os.path.join(folder, "verify.rows"), "w") as out:
         out.writelines(row + "\n" for row, _ in rows)
     with open(os.path.join(folder, "reach.rows"), "w") as out:
         out.writelines(row + "\n" for row, _ in within)
     with open(os.path.join(sys.argv[1], "judged"), "w") as out:
-        out.writelines(f"{row.split()[0]}: {answer}\n" for row, answer in rows)
-        for row, (inside, outside) in within:
+        for row, answers in rows:
+            tell(out, row.split()[0], ["", *PLACED], answers)
+        for row, answers in within:
             words = row.split()
-            out.write(f"{words[0]} within {words[5]}: {inside}\n{words[0]}: {outside}\n")
+            tell(out, words[0], [f" within {words[5]}", "", *PLACED], answers)
 
 
 if __name__ == "__main__":

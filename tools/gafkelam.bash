@@ -3,7 +3,7 @@ _gafkelam() {
     local word=${COMP_WORDS[COMP_CWORD]} command=${COMP_WORDS[1]}
     COMPREPLY=()
     if [ "$COMP_CWORD" -eq 1 ]; then
-        mapfile -t COMPREPLY < <(compgen -W "route sweep core encode check verify gen trial picture help --help --version" -- "$word")
+        mapfile -t COMPREPLY < <(compgen -W "route sweep core encode check verify judge gen trial picture help --help --version" -- "$word")
         return
     fi
     local options=--help
@@ -14,6 +14,7 @@ _gafkelam() {
     trial) options="--conflicts --keep --count --reach --help" ;;
     encode) options="--pin --symmetry --reach --help" ;;
     verify | picture) options="--reach --help" ;;
+    judge) options="--strict --help" ;;
     esac
     if [ "${word:0:1}" = - ]; then
         mapfile -t COMPREPLY < <(compgen -W "$options" -- "$word")

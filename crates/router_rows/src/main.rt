@@ -19,7 +19,7 @@ use desk_io::FileDesk;
 use rows_problem::{RowsError, text};
 
 // The files of cases. The first says how they are written.
-const FILES: [&str; 14] = [
+const FILES: [&str; 15] = [
     "worked.rows",
     "pinned.rows",
     "symmetry.rows",
@@ -32,6 +32,7 @@ const FILES: [&str; 14] = [
     "proof_texts.rows",
     "resolution_logs.rows",
     "routed_texts.rows",
+    "judged_texts.rows",
     "members.rows",
     "core.rows",
 ];

@@ -3,7 +3,7 @@
 ghost use Rattle.std.specs.Prelude.{◌≤◌};
 
 use crate::judgements::Reaches;
-use crate::judgements::answer::answer;
+use crate::judgements::answer::{Manner, answer};
 use crate::judgements::changed::{Change, changed};
 use crate::say::say;
 use desk_io::Desk;
@@ -13,7 +13,8 @@ use rows_problem::{RowsError, problem_of_files, text, width_of};
 use std::alloc::Global;
 
 /// Prints how the changed routing of a row is judged, behind the row's name: where it tells a reach,
-/// within that and then without it.
+/// within that and then without it; and last as a routing of the placement, with several wires of a
+/// cell and strictly with one.
 pub(crate) fn print_row<D: Desk>(
     rt: &impl Print,
     alloc: Global,
@@ -70,7 +71,8 @@ struct Asked<'a> {
     routed: &'a [u8],
 }
 
-// Prints how the text is judged within the reach, if one is told, and then without it.
+// Prints how the text is judged within the reach, if one is told, then without it, and then as a
+// routing of the placement.
 fn print_judged<D: Desk>(
     rt: &impl Print,
     alloc: Global,
@@ -80,34 +82,34 @@ fn print_judged<D: Desk>(
     reach: Option<&str>,
 ) -> Result<(), RowsError> {
     if let Some(reach) = reach {
-        let line = judged(alloc, desk, asked, Some(reach))?;
+        let line = match width_of(reach) {
+            // A reach, like a width, is from 1 to 64.
+            Some(joins) => judged(alloc, desk, asked, Manner::Within(Some(joins)))?,
+            None => told(alloc, "no reach")?,
+        };
         println!(rt; "{name} within {reach}: {line}")?;
     }
-    let line = judged(alloc, desk, asked, None)?;
+    let line = judged(alloc, desk, asked, Manner::Within(None))?;
     println!(rt; "{name}: {line}")?;
+    let line = judged(alloc, desk, asked, Manner::Placed(false))?;
+    println!(rt; "{name} placed: {line}")?;
+    let line = judged(alloc, desk, asked, Manner::Placed(true))?;
+    println!(rt; "{name} placed strictly: {line}")?;
     Ok(())
 }
 
-// How the text is judged, within the reach that its word says or without one.
+// How the text is judged in this manner.
 fn judged<D: Desk>(
     alloc: Global,
     desk: &mut D,
     asked: Asked<'_>,
-    reach: Option<&str>,
+    manner: Manner,
 ) -> Result<String, RowsError> {
     let Some(width) = width_of(asked.width) else {
         return told(alloc, "no width");
     };
-    // A reach, like a width, is from 1 to 64.
-    let within = match reach {
-        None => None,
-        Some(word) => match width_of(word) {
-            Some(reach) => Some(reach),
-            None => return told(alloc, "no reach"),
-        },
-    };
     match problem_of_files(alloc, desk, asked.arch, asked.design)? {
-        Ok(problem) => answered(alloc, &problem, width, within, asked.routed),
+        Ok(problem) => answered(alloc, &problem, width, manner, asked.routed),
         Err(_) => told(alloc, "no problem"),
     }
 }
@@ -117,12 +119,12 @@ fn answered(
     alloc: Global,
     problem: &PlacedProblem,
     width: u32,
-    within: Option<u32>,
+    manner: Manner,
     routed: &[u8],
 ) -> Result<String, RowsError>
     requires { (1 ≤ width) × (width ≤ WIDTH_LIMIT) }
 {
-    Ok(answer(alloc, problem, width, within, routed)?)
+    Ok(answer(alloc, problem, width, manner, routed)?)
 }
 
 // The same text, owned.

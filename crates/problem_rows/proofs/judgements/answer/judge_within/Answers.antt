@@ -2,7 +2,7 @@ use Rattle.std.proofs.Common.{◌≡◌, ℕ, Option, subst, sym}
 use Rattle.std.specs.Prelude.{IfOk}
 use Rattle.route_verify.specs.Reach.{judged_by}
 use Rattle.route_verify.specs.declared.judgement.Judgement.{Judgement}
-use Rattle.problem_rows.proofs.judgements.answer.judge.Goals as goal
+use Rattle.problem_rows.proofs.judgements.answer.judge_within.Goals as goal
 
 pub returns-in-None : goal.returns-in-None
 returns-in-None c =
