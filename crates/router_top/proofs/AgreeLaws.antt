@@ -14,7 +14,7 @@ use Rattle.router_words.specs.declared.fault.Refusal.{Refusal}
 use Rattle.router_top.specs.Check.{ChecksTo, JudgesTo, VerifiesTo}
 use Rattle.router_top.specs.Generated.{IsTooLarge, Makes, HasRoom, IsTooMany}
 use Rattle.router_top.specs.Method.{HasNone, clauses_by}
-use Rattle.router_top.specs.Placed.{IsJudgement, JudgesPlaced}
+use Rattle.router_top.specs.Placed.{IsJudgement, JudgesPlaced, ReadsRouted}
 use Rattle.router_top.specs.Search.{Search, clauses_held, core_search, route_search, sweep_of, sweep_search}
 use Rattle.router_top.specs.Suited.{IsLeastUnsuited, IsTrueOfSuited, IsUnsuited, Suits, is_suited, obstacle_to}
 use Rattle.router_top.specs.Truth.{Agrees, IsOpenBelow, IsReached, IsTrueAt, IsTrueOf, IsTrueOfEncoding, IsTrueOfJob, IsTrueOfSearch, IsTrueOfSuitedSearch, IsTrueOfWork, IsTrueOfCount}
@@ -227,7 +227,8 @@ judge-agrees : (job : JudgeAsked) (files : FileMap) (a b : Outcome)
     → JudgesPlaced (IsHalted (Some files)) (Some files) job (IsJudgement job) a
     → JudgesPlaced (IsHalted (Some files)) (Some files) job (IsJudgement job) b → Agrees a b
 judge-agrees job files a b h g =
-    placed-agrees files job.files _ a b h g
+    placed-agrees files job.files
+    (ReadsRouted (IsHalted (Some files)) (Some files) job (IsJudgement job)) a b h g
     (λ placed h g. inl (reads-alike files h g (λ found is other. is ∙ sym other)))
 
 -- ---- a generated problem

@@ -37,7 +37,7 @@ use Rattle.router_top.specs.Generated.{PosesNone, generated_files, texts_of}
 use Rattle.router_top.specs.JobFiles.{IsClimb, LeavesWhole}
 use Rattle.router_top.specs.Means.{IsJudged, IsJudgedPlaced, Means}
 use Rattle.router_top.specs.Method.{IsRoutingBy, clauses_by}
-use Rattle.router_top.specs.Placed.{IsJudgement, IsTrueJudgement, JudgesPlaced}
+use Rattle.router_top.specs.Placed.{IsJudgement, IsTrueJudgement, JudgesPlaced, ReadsRouted}
 use Rattle.router_top.specs.Report.{climbed_outcome, found_outcome, written_outcome}
 use Rattle.router_top.specs.Suited.{LeavesPrepared, EncodeLeaves, IsUnsuited, LeavesSuited, RouteLeaves, Suits, SweepLeaves}
 use Rattle.router_top.specs.Run.{Leaves, LeavesJob, LeavesWork, Scene, TriesGenerated, WritesGenerated}
@@ -48,7 +48,7 @@ use Rattle.router_top.specs.Truth.{IsTrueOf, IsTrueOfEncoding, IsTrueOfJob, IsTr
 use Rattle.router_top.specs.Written.{JobFile, with_files, AreWritten}
 use Rattle.router_top.specs.Core.{LeavesCore, SaysBlamed, SaysLead}
 use Rattle.router_top.specs.Headline.{IsRefuted}
-use Rattle.router_top.specs.Subject.{Bytes, FileMap, ShelfState, after_say, FileNames, Poses, IsHalted, IsStopped, Says, RoutingProblem, Cnf, Step, job_of, Bounds, CheckAsked, Checks, EncodeAsked, Encodes as EncodesJob, GenAsked, Generates, JobAsked, JudgeAsked, Judges, Negotiates, RouteAsked, Routes, SweepAsked, Sweeps as SweepsJob, TrialAsked, Tries as TriesJob, Verifies, VerifyAsked, Blames, CoreAsked, Word, Method, Outcome, Done, Usage, WriteFault, OutOfMemory, Unroutable, Limit, File}
+use Rattle.router_top.specs.Subject.{Bytes, FileMap, ShelfState, after_say, FileNames, Poses, IsHalted, IsStopped, Says, RoutingProblem, RouteText, Cnf, Step, job_of, Bounds, CheckAsked, Checks, EncodeAsked, Encodes as EncodesJob, GenAsked, Generates, JobAsked, JudgeAsked, Judges, Negotiates, RouteAsked, Routes, SweepAsked, Sweeps as SweepsJob, TrialAsked, Tries as TriesJob, Verifies, VerifyAsked, Blames, CoreAsked, Word, Method, Outcome, Done, Usage, WriteFault, OutOfMemory, Unroutable, Limit, File}
 use Rattle.router_top.specs.declared.text_file.TextFile.TheVariants.{Cnf as CnfFile, Lrat, Routed}
 use Rattle.router_top.proofs.Came.{Came, Cut, HasCome, Idle, IsSpared, Searched, Wrote, ended_with}
 use Rattle.router_top.proofs.ClimbLaws.{climbed-calm, climbed-logs, climbed-outcome, climbed-said}
@@ -633,7 +633,11 @@ module _ (words : List Word) (at : Scene) where
         → JudgesPlaced (IsStopped at.desk at.desk_now) at.desk.files job (IsTrueJudgement job) o
         → JudgesPlaced (IsHalted at.desk.files) at.desk.files job (IsJudgement job) o ⊎ IsSpent o
     calm-judge o calm h = calm-placed at.desk at.desk_now job.files calm
-        (λ placed o h. calm-reads at.desk at.desk_now IsSpent calm refl (λ found is. inl is.0) h) o h
+        {works = ReadsRouted (IsStopped at.desk at.desk_now) at.desk.files job
+        (IsTrueJudgement job)}
+        {told = ReadsRouted (IsHalted at.desk.files) at.desk.files job (IsJudgement job)}
+        (λ placed o h. calm-reads at.desk at.desk_now IsSpent calm refl
+        (λ (found : RouteText) (is : IsTrueJudgement job placed found o). inl is.0) h) o h
 
     judge-came : (o : Outcome)
         → JudgesPlaced (IsStopped at.desk at.desk_now) at.desk.files job (IsTrueJudgement job) o

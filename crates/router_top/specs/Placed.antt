@@ -29,14 +29,19 @@ WorksOnPlaced stops files names works outcome =
     GivesNoPlaced stops files names outcome
     ⊎ ((placed : PlacedNetlist) × PosesPlaced files names placed × works placed outcome)
 
--- what the judging of a routed file comes to, by the placed netlist that the three files pose and
--- the route that it says; or the work stops at a file, those before it read
+-- the work stops at the routed file; or that reads, and the work on it and the placed netlist comes
+-- to this
+abbrev pub ReadsRouted : (Source → FileFault → Type 0) → Option FileMap → JudgeAsked
+    → (PlacedNetlist → RouteText → Outcome → Type 0) → PlacedNetlist → Outcome → Type 0
+ReadsRouted stops files job works placed =
+    ReadsThen stops files (route_source job.routed) (unread_outcome Routed) route_value
+    (works placed)
+
+-- so behind the three files, which pose that placed netlist; or the work stops at one of them
 abbrev pub JudgesPlaced : (Source → FileFault → Type 0) → Option FileMap → JudgeAsked
     → (PlacedNetlist → RouteText → Outcome → Type 0) → Outcome → Type 0
 JudgesPlaced stops files job works =
-    WorksOnPlaced stops files job.files (λ placed.
-    ReadsThen stops files (route_source job.routed) (unread_outcome Routed) route_value
-    (works placed))
+    WorksOnPlaced stops files job.files (ReadsRouted stops files job works)
 
 -- the outcome is how the file is judged
 abbrev pub IsJudgement : JudgeAsked → PlacedNetlist → RouteText → Outcome → Type 0
