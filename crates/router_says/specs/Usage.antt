@@ -31,6 +31,8 @@ usage_why code clash =
     ++ codes "verify, judge, gen or trial.\n" else
     if code == 3 then codes "A number is missing or out of its range.\n" else
     if code == 4 then clash else
+    if code == 5
+    then codes "A file that this would write is one that it reads: give another PREFIX.\n" else
     codes "The command does not take these words.\n"
 
 -- which options of a command exclude each other, or need another

@@ -120,6 +120,7 @@ fn usage_why(code: u32, clash: &'static str) -> &'static str
         }
         3 => "A number is missing or out of its range.\n",
         4 => clash,
+        5 => "A file that this would write is one that it reads: give another PREFIX.\n",
         _ => "The command does not take these words.\n",
     }
 }

@@ -7,7 +7,7 @@ use Rattle.router_words.specs.Command.{job_of}
 use Rattle.router_words.specs.Job.{Blames, Bounds, Checks, Encodes, Generates, JobAsked, Judges, Negotiates, Routes, SearchAsked, Sweeps, Tries, Verifies}
 use Rattle.router_words.specs.Word.{Word}
 use Rattle.router_words.specs.declared.fault.Refusal.{Refusal}
-use Rattle.router_words.specs.declared.fault.Refusal.TheVariants.{Clash, Command, Form, Number}
+use Rattle.router_words.specs.declared.fault.Refusal.TheVariants.{Clash, Command, Form, Number, Overwriting}
 use Rattle.router_words.specs.declared.method.Method.TheVariants.{Ordered, Pinned, Strictly, Within}
 
 abbrev Asked : Type 0
@@ -77,6 +77,17 @@ too_wide = refl
 pub signed : route (codes "-5" ∷ codes "out" ∷ []) ≡ Err Form
 unfolding clap_on_literals
 signed = refl
+
+-- no file that is written is to be one that is read, by its name
+pub writes_over : job_of (codes "route" ∷ codes "a" ∷ codes "n" ∷ codes "p" ∷ codes "d.route"
+    ∷ codes "5" ∷ codes "d" ∷ []) ≡ Err Overwriting
+unfolding clap_on_literals
+writes_over = refl
+
+pub writes_beside : job_of (codes "route" ∷ codes "d.arch" ∷ codes "d.net" ∷ codes "d.place"
+    ∷ codes "d.route" ∷ codes "65" ∷ codes "d" ∷ []) ≡ Err Number
+unfolding clap_on_literals
+writes_beside = refl
 
 -- options stand anywhere, with a value behind them or behind `=`
 pub options : job_of (codes "route" ∷ codes "--conflicts=5" ∷ codes "a" ∷ codes "n"
@@ -226,6 +237,21 @@ pub sweeps : sweep (codes "8" ∷ codes "out" ∷ codes "--conflicts" ∷ codes 
     }))
 unfolding clap_on_literals
 sweeps = refl
+
+pub sweep_writes_over : job_of (codes "sweep" ∷ codes "a" ∷ codes "n" ∷ codes "p"
+    ∷ codes "d.w3.cnf" ∷ codes "8" ∷ codes "d" ∷ []) ≡ Err Overwriting
+unfolding clap_on_literals
+sweep_writes_over = refl
+
+-- no file of a width that is not tried
+pub sweep_writes_beside : job_of (codes "sweep" ∷ codes "a" ∷ codes "n" ∷ codes "p"
+    ∷ codes "d.w3.cnf" ∷ codes "2" ∷ codes "d" ∷ [])
+    ≡ Ok (Sweeps (record {
+      files = record four_files { route = codes "d.w3.cnf" };
+      search = told 2 (codes "d") 1_000_000 false;
+    }))
+unfolding clap_on_literals
+sweep_writes_beside = refl
 
 pub sweep_reaches : sweep (codes "8" ∷ codes "out" ∷ codes "--reach" ∷ codes "2" ∷ [])
     ≡ Ok (Sweeps (record {
@@ -427,6 +453,11 @@ pub negotiates_from : global (codes "5" ∷ codes "--from" ∷ codes "r" ∷ cod
     }))
 unfolding clap_on_literals
 negotiates_from = refl
+
+pub negotiates_over : global (codes "5" ∷ codes "d" ∷ codes "--from=d.route" ∷ [])
+    ≡ Err Overwriting
+unfolding clap_on_literals
+negotiates_over = refl
 
 pub no_rounds : global (codes "5" ∷ codes "out" ∷ codes "--rounds=0" ∷ []) ≡ Err Number
 unfolding clap_on_literals

@@ -9,13 +9,14 @@ use Rattle.fpga_problem.specs.Files.{FileNames, PlacedNames}
 use Rattle.router_words.specs.Form.{bound_form, check_form, core_form, encode_form, gen_form, global_form, judge_form, route_form, sweep_form, trial_form, verify_form}
 use Rattle.router_words.specs.Near.{has_one_track}
 use Rattle.router_words.specs.Job.{Blames, Bounds, Checks, Encodes, Generates, JobAsked, Judges, MembersAsked, Negotiates, RecipeAsked, Routes, SearchAsked, Sweeps, Tries, Verifies, job_said}
+use Rattle.router_words.specs.Overwriting.{overwrites}
 use Rattle.router_words.specs.Results.{and_then, map_ok}
 use Rattle.router_words.specs.Taken.{HasRequired, is_taken}
 use Rattle.router_words.specs.Word.{Word}
 use Rattle.router_words.specs.declared.command_name.CommandName.{CommandName}
 use Rattle.router_words.specs.declared.command_name.CommandName.TheVariants.{Bound, Check, Core, Encode, Gen, Global, Judge, Route, Sweep, Trial, Verify}
 use Rattle.router_words.specs.declared.fault.Refusal.{Refusal}
-use Rattle.router_words.specs.declared.fault.Refusal.TheVariants.{Clash, Command, Form, Number}
+use Rattle.router_words.specs.declared.fault.Refusal.TheVariants.{Clash, Command, Form, Number, Overwriting}
 use Rattle.router_words.specs.declared.fault.WordsFault.{WordsFault}
 use Rattle.router_words.specs.declared.fault.WordsFault.TheVariants.{Memory, Refused}
 use Rattle.router_words.specs.declared.job.Job.{Job}
@@ -330,11 +331,15 @@ commands =
 
 -- ---- the job of words
 
+-- the job, unless a file that it may write is one that it reads
+abbrev pub unless_overwriting : JobAsked → Result JobAsked Refusal
+unless_overwriting job = if overwrites job then Err Overwriting else Ok job
+
 -- the job that the command makes of the words behind its name, or why it makes none
 abbrev pub command_job : CommandRow → List Word → Result JobAsked Refusal
 command_job command words =
     if is_taken command.form words
-    then command.job (matches_of command.form words)
+    then and_then (command.job (matches_of command.form words)) unless_overwriting
     else Err Form
 
 -- the command that a word names

@@ -5,4 +5,5 @@ pub mod Near
 pub mod Job
 pub mod Form
 pub mod Taken
+pub mod Overwriting
 pub mod Command

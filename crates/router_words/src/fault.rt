@@ -19,6 +19,9 @@ pub enum Refusal {
     /// An option is given without one that it needs, or with one that it excludes.
     #[error("an option is given without one that it needs, or with one that it excludes")]
     Clash,
+    /// A file that the job may write has the name of one that it reads.
+    #[error("a file that the job may write has the name of one that it reads")]
+    Overwriting,
 }
 
 impl Refusal {
@@ -31,6 +34,7 @@ impl Refusal {
             Refusal::Form => 2,
             Refusal::Number => 3,
             Refusal::Clash => 4,
+            Refusal::Overwriting => 5,
         }
     }
 }

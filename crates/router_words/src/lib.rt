@@ -34,6 +34,7 @@
 //! | 2 | the form of the command does not take the words behind it |
 //! | 3 | a word that is to be a number is no whole number in its range |
 //! | 4 | `--seed` alone; two of `--pin`, `--symmetry`, `--reach`; `--count` with `--reach` |
+//! | 5 | a file that the job may write has, letter by letter, the name of one that it reads |
 //!
 //! The least code that holds is answered.
 #![tactic(auto)]
@@ -46,6 +47,7 @@ mod job;
 mod limits;
 mod matched;
 mod method;
+mod overwriting;
 mod read;
 
 pub use fault::{Refusal, WordsFault};

@@ -1,12 +1,14 @@
 //! The words of a command, read.
 ghost use Rattle.std.specs.Prelude.{◌≡◌, IfOk, IfSome};
-ghost use Rattle.router_words.specs.Command.{Answers, AreThere, HasItsWords, command_named, job_behind, job_of};
+ghost use Rattle.router_words.specs.Command.{Answers, AreThere, HasItsWords, command_named, job_behind, job_of, unless_overwriting};
+ghost use Rattle.router_words.specs.Job.{job_said};
 ghost use Rattle.router_words.specs.Word.{words_of};
 
 use crate::command_name::CommandName;
 use crate::fault::{Refusal, WordsFault};
 use crate::job::Job;
 use crate::matched::take;
+use crate::overwriting::overwrites;
 use std::alloc::Global;
 
 // Reads the words behind the name of a command.
@@ -26,8 +28,19 @@ fn read_command<'a>(alloc: Global, name: &str, words: &'a [String]) -> Result<Jo
         Err(fault) => return Err(fault),
     };
     match command.job(&matches) {
-        Ok(job) => Ok(job),
+        Ok(job) => kept_apart(alloc, job),
         Err(refusal) => Err(WordsFault::Refused(refusal)),
+    }
+}
+
+// The job, unless a file that it may write is one that it reads.
+fn kept_apart<'a>(alloc: Global, job: Job<'a>) -> Result<Job<'a>, WordsFault>
+    ensures { Answers (unless_overwriting (job_said job.entry)) result }
+{
+    match overwrites(alloc, &job) {
+        Ok(false) => Ok(job),
+        Ok(true) => Err(WordsFault::Refused(Refusal::Overwriting)),
+        Err(_) => Err(WordsFault::Memory),
     }
 }
 

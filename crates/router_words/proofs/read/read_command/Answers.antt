@@ -1,11 +1,12 @@
 use Rattle.std.proofs.Common.{◌≡◌, ◌∙◌, true, List, Option, Some, ap, refl, subst, sym}
 use Rattle.std.specs.Option.{option_map_or}
-use Rattle.std.specs.Prelude.{Err, IfSome, Result}
+use Rattle.std.specs.Prelude.{Err, IfOk, IfSome, Ok, Result}
 use Rattle.clap.specs.Words.{App, Row, app_of, matches_of}
 use Rattle.clap.proofs.OnLiterals.{clap_on_literals}
-use Rattle.router_words.specs.Command.{Answers, CommandRow, HasItsWords, command_job, command_named, job_behind, row_of}
+use Rattle.router_words.specs.Command.{Answers, CommandRow, HasItsWords, command_job, command_named, job_behind, row_of, unless_overwriting}
 use Rattle.router_words.specs.Form.{is_form}
 use Rattle.router_words.specs.Job.{JobAsked}
+use Rattle.router_words.specs.Results.{and_then}
 use Rattle.router_words.specs.Taken.{HasRequired, IsTaken, Takes}
 use Rattle.router_words.specs.Word.{Word, words_of}
 use Rattle.router_words.specs.declared.command_name.CommandName.{CommandName}
@@ -38,8 +39,15 @@ behind name words row is =
     (Err Command)) (sym is)
 
 taken_job : (row : CommandRow) (words : List Word) (rows : List Row)
-    → IsTaken row.form words rows → command_job row words ≡ row.job rows
-taken_job row words rows t = rw t.taken (ap row.job (sym t.found))
+    → IsTaken row.form words rows
+    → command_job row words ≡ and_then (row.job rows) unless_overwriting
+taken_job row words rows t = rw t.taken
+    (ap (λ (rows : List Row). and_then (row.job rows) unless_overwriting) (sym t.found))
+
+-- what is so is so behind any value
+if_ok : {T : Type 0} (result : Result T WordsFault) {X : Type 0} → X → IfOk result (λ value. X)
+if_ok (Ok value) is = is
+if_ok (Err fault) is = tt
 
 -- a form that does not take the words
 refused_job : (row : CommandRow) (words : List Word) (fault : WordsFault)
@@ -57,9 +65,10 @@ returns-in-Ok-job-clause-there c =
     let taken = c.in-Ok-take.ensures in
     let there = subst (λ (rows : List Row). HasRequired (app_of c.in-Ok.form) rows) taken.found
     taken.there in
-    subst (λ (named : Option CommandRow). IfSome named (λ command. HasItsWords command words))
+    if_ok c.kept_apart.result
+    (subst (λ (named : Option CommandRow). IfSome named (λ command. HasItsWords command words))
     c.in-Some.ensures
-    (subst (λ (form : App). HasRequired form (matches_of form words)) c.in-Ok.ensures there)
+    (subst (λ (form : App). HasRequired form (matches_of form words)) c.in-Ok.ensures there))
 
 pub returns-in_default-clause-answers : goal.returns-in_default-clause-answers
 returns-in_default-clause-answers c =
@@ -77,13 +86,17 @@ returns-in-Err-clause-answers c =
 pub returns-in-Ok-job-clause-answers : goal.returns-in-Ok-job-clause-answers
 returns-in-Ok-job-clause-answers c =
     let words = words_of c.args.words.now in
-    behind c.args.name.now words (row_of c.in-Some.command) c.in-Some.ensures
+    let is = behind c.args.name.now words (row_of c.in-Some.command) c.in-Some.ensures
     ∙ taken_job (row_of c.in-Some.command) words _ (rw c.in-Ok.ensures at c.in-Ok-take.ensures)
-    ∙ sym c.in-Ok-job.ensures
+    ∙ ap (λ (asked : Result JobAsked Refusal). and_then asked unless_overwriting)
+    (sym c.in-Ok-job.ensures) in
+    subst (λ (asked : Result JobAsked Refusal). Answers asked c.kept_apart.result) (sym is)
+    c.kept_apart.ensures
 
 pub returns-clause-answers : goal.returns-clause-answers
 returns-clause-answers c =
     let words = words_of c.args.words.now in
     behind c.args.name.now words (row_of c.in-Some.command) c.in-Some.ensures
     ∙ taken_job (row_of c.in-Some.command) words _ (rw c.in-Ok.ensures at c.in-Ok-take.ensures)
-    ∙ sym c.in-Err-job.ensures
+    ∙ ap (λ (asked : Result JobAsked Refusal). and_then asked unless_overwriting)
+    (sym c.in-Err-job.ensures)

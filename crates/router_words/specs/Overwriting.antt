@@ -1,0 +1,50 @@
+-- Jobs that would write over a file that they read, by the names of both.
+use Rattle.std.specs.Prelude.{ℕ, ◌++◌, Bool, false, ◌||◌, List, [], ◌∷◌, Option, bytes_eq, codes, decimal}
+use Rattle.std.specs.List.{list_any, range_with_len}
+use Rattle.std.specs.Option.{option_map_or}
+use Rattle.fpga_problem.specs.Files.{FileNames, PlacedNames}
+use Rattle.router_words.specs.Job.{Blames, Encodes, JobAsked, Negotiates, Routes, Sweeps}
+use Rattle.router_words.specs.Word.{Word}
+
+-- the names of the files of a problem, and of a placed netlist
+abbrev pub four_names : FileNames → List Word
+four_names files =
+    files.architecture ∷ files.netlist ∷ files.placement ∷ files.route ∷ []
+
+abbrev pub three_names : PlacedNames → List Word
+three_names files = files.architecture ∷ files.netlist ∷ files.placement ∷ []
+
+-- this name is one of these
+abbrev pub has_name : (names : List Word) → (sought : Word) → Bool
+has_name names sought = list_any (λ name. bytes_eq name sought) names
+
+-- the prefix with this ending behind it is one of them
+abbrev pub is_named : (names : List Word) → (prefix ending : Word) → Bool
+is_named names prefix ending = has_name names (prefix ++ ending)
+
+-- so is the name of one of the files that a search may write
+abbrev pub search_overwrites : (names : List Word) → (prefix : Word) → Bool
+search_overwrites names prefix = is_named names prefix (codes ".route")
+    || (is_named names prefix (codes ".cnf") || is_named names prefix (codes ".lrat"))
+
+-- of those that a climb may write at a width
+abbrev pub width_overwrites : (names : List Word) → (prefix : Word) → (width : ℕ) → Bool
+width_overwrites names prefix width =
+    is_named names prefix (codes ".w" ++ decimal width ++ codes ".cnf")
+    || is_named names prefix (codes ".w" ++ decimal width ++ codes ".lrat")
+
+-- of those that it may write up to the last width
+abbrev pub climb_overwrites : (names : List Word) → (prefix : Word) → (last : ℕ) → Bool
+climb_overwrites names prefix last = is_named names prefix (codes ".route")
+    || list_any (width_overwrites names prefix) (range_with_len 1 last)
+
+-- a file that the job may write has the name of one that it reads
+abbrev pub overwrites : JobAsked → Bool
+overwrites (Routes job) = search_overwrites (four_names job.files) job.search.prefix
+overwrites (Sweeps job) =
+    climb_overwrites (four_names job.files) job.search.prefix job.search.width
+overwrites (Encodes job) = is_named (four_names job.files) job.prefix (codes ".cnf")
+overwrites (Blames job) = search_overwrites (four_names job.files) job.prefix
+overwrites (Negotiates job) = is_named (three_names job.files) job.prefix (codes ".route")
+    || option_map_or (λ from. is_named (from ∷ []) job.prefix (codes ".route")) job.from false
+overwrites job = false
