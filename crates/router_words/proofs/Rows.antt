@@ -1,5 +1,6 @@
 -- Worked rows: the jobs that words ask for, each by computation.
 use Rattle.std.proofs.Common.{◌≡◌, ℕ, Bool, true, false, List, [], ◌∷◌, codes, refl}
+use Rattle.std.specs.Fmt.{digits}
 use Rattle.std.specs.Prelude.{Result, Ok, Err, None, Some}
 use Rattle.clap.proofs.OnLiterals.{clap_on_literals}
 use Rattle.fpga_problem.specs.Files.{FileNames, PlacedNames}
@@ -240,7 +241,7 @@ sweeps = refl
 
 pub sweep_writes_over : job_of (codes "sweep" ∷ codes "a" ∷ codes "n" ∷ codes "p"
     ∷ codes "d.w3.cnf" ∷ codes "8" ∷ codes "d" ∷ []) ≡ Err Overwriting
-unfolding clap_on_literals
+unfolding clap_on_literals digits
 sweep_writes_over = refl
 
 -- no file of a width that is not tried
@@ -250,7 +251,7 @@ pub sweep_writes_beside : job_of (codes "sweep" ∷ codes "a" ∷ codes "n" ∷ 
       files = record four_files { route = codes "d.w3.cnf" };
       search = told 2 (codes "d") 1_000_000 false;
     }))
-unfolding clap_on_literals
+unfolding clap_on_literals digits
 sweep_writes_beside = refl
 
 pub sweep_reaches : sweep (codes "8" ∷ codes "out" ∷ codes "--reach" ∷ codes "2" ∷ [])
