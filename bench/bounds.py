@@ -3,7 +3,7 @@
 
     bounds.py PROGRAM [COUNT [SEED]]
 
-makes COUNT small designs, has PROGRAM ARCH NET PLACE say a cut and a bound, counts the nets that cross that cut and
+makes COUNT small designs, has PROGRAM bound ARCH NET PLACE say a cut and a bound, counts the nets that cross that cut and
 those that cross each straight line from plain definitions, and looks for the least width at which the nets can be
 routed, over all global routes and all tracks: net by net, way by way, with every way back. PROGRAM says the lines
 `cut (I,J) (I,J) cells K nets M`, `net NAME` for each of these nets, and `bound B`. This shares nothing with it.
@@ -284,7 +284,7 @@ def main():
         for number in range(count):
             design = Design(rng)
             names = design.write(Path(folder))
-            said = subprocess.run([program] + names, capture_output=True, text=True).stdout
+            said = subprocess.run([program, "bound"] + names, capture_output=True, text=True).stdout
             cut = re.match(r"cut \((\d+),(\d+)\) \((\d+),(\d+)\) cells (\d+) nets (\d+)\n", said)
             assert cut, (number, names, said)
             i1, j1, i2, j2, k, m = map(int, cut.groups())

@@ -24,7 +24,7 @@ from seen_words import words_of
 DATA = os.path.join(os.path.dirname(os.path.dirname(os.path.abspath(__file__))), "crates", "router_rows", "data")
 FILES = (
     "worked", "pinned", "symmetry", "count", "reach", "within", "failing_calls", "route_texts", "limits",
-    "proof_texts", "resolution_logs", "routed_texts", "members", "core",
+    "proof_texts", "resolution_logs", "routed_texts", "members", "core", "bound",
 )  # in the order of the program of rows: a file cites parts of those before it
 ESCAPES = {"n": b"\n", "t": b"\t", "r": b"\r", "0": b"\0", "\\": b"\\"}
 
@@ -187,7 +187,7 @@ def files_in(folder):
 def kind_of(report):
     """A report without its numbers but codes."""
     kind = re.sub(r"\b(line|count|step) \d+", r"\1 _", report)
-    kind = re.sub(r"^(routed|unroutable|undecided) \d+( after \d+)?", r"\1 _\2", kind)
+    kind = re.sub(r"^(routed|unroutable|undecided|bound) \d+( after \d+)?", r"\1 _\2", kind)
     return re.sub(r"after \d+", "after _", kind)
 
 

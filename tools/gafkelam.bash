@@ -3,7 +3,7 @@ _gafkelam() {
     local word=${COMP_WORDS[COMP_CWORD]} command=${COMP_WORDS[1]}
     COMPREPLY=()
     if [ "$COMP_CWORD" -eq 1 ]; then
-        mapfile -t COMPREPLY < <(compgen -W "route sweep core encode check verify judge gen trial picture help --help --version" -- "$word")
+        mapfile -t COMPREPLY < <(compgen -W "route sweep bound core encode check verify judge gen trial picture help --help --version" -- "$word")
         return
     fi
     local options=--help

@@ -1,5 +1,5 @@
 //! The program: runs the router on the words that it is given, over real files, and says on
-//! standard error what it came to where that was not what was asked for.
+//! standard error what it came to where that was not what was asked for, and why a bound is one.
 #![tactic(auto)]
 
 mod progress;

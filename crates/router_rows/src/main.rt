@@ -19,7 +19,7 @@ use desk_io::FileDesk;
 use rows_problem::{RowsError, text};
 
 // The files of cases. The first says how they are written.
-const FILES: [&str; 15] = [
+const FILES: [&str; 16] = [
     "worked.rows",
     "pinned.rows",
     "symmetry.rows",
@@ -35,6 +35,7 @@ const FILES: [&str; 15] = [
     "judged_texts.rows",
     "members.rows",
     "core.rows",
+    "bound.rows",
 ];
 
 fn main(rt: HostRuntime) -> Result<(), RowsError> {

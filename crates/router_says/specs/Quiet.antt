@@ -1,8 +1,10 @@
 -- Which outcomes need no words.
-use Rattle.std.specs.Prelude.{Bool, ◌==◌}
+use Rattle.std.specs.Prelude.{Bool, false, ◌==◌}
 use Rattle.router_top.specs.Report.{status_of}
 use Rattle.router_top.specs.declared.outcome.Outcome.{Outcome}
+use Rattle.router_top.specs.declared.outcome.Outcome.TheVariants.{Bound}
 
--- whether the run came to what was asked for
+-- whether the run came to what was asked for; of a bound it is said why that is one
 abbrev pub is_quiet : Outcome → Bool
+is_quiet (Bound tracks cells nets) = false
 is_quiet outcome = status_of outcome == 0

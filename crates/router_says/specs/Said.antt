@@ -1,4 +1,4 @@
--- What is said of an outcome that was not asked for.
+-- What is said of an outcome that was not asked for, or of which there is more to say.
 use Rattle.std.specs.Prelude.{◌≡◌, ℕ, ◌++◌, ◌*◌, Bool, List, [], codes, decimal, false, min, nat_le, nat_lt, Option, Some, None, true, unwrap_or, if◌then◌else◌}
 use Rattle.std.specs.declared.io.ErrorKind.{ErrorKind}
 use Rattle.code_words.specs.Causes.{cause_phrase, refusal_phrase, within_reach_phrase}
@@ -17,7 +17,7 @@ use Rattle.router_top.specs.SlotNames.{OfEach, OfOne, Prefix, slot_name}
 use Rattle.router_top.specs.declared.outcome.Obstacle.{Obstacle}
 use Rattle.router_top.specs.declared.outcome.Obstacle.TheVariants.{Order, Pins}
 use Rattle.router_top.specs.declared.outcome.Outcome.{Outcome}
-use Rattle.router_top.specs.declared.outcome.Outcome.TheVariants.{NotAccepted, NotLegal, NotSymmetric, InputFault, Limit, ReadFault, Undecided, Unroutable, WriteFault, Usage, OutOfMemory}
+use Rattle.router_top.specs.declared.outcome.Outcome.TheVariants.{Bound, NotAccepted, NotLegal, NotSymmetric, InputFault, Limit, ReadFault, Undecided, Unroutable, WriteFault, Usage, OutOfMemory}
 use Rattle.router_top.specs.declared.slot.Slot.{Slot as SlotOf}
 use Rattle.router_top.specs.declared.slot.Slot.TheVariants.{Said as SaidSlot}
 use Rattle.router_top.specs.declared.text_file.TextFile.{TextFile}
@@ -189,6 +189,17 @@ abbrev pub undecided_said : Option JobAsked → (width learned : ℕ) → List �
 undecided_said asked width learned =
     undecided_by (prefix_of asked) (reach_of asked) width learned
 
+-- ---- a cut that was found
+
+-- how many tracks it asks for, and why
+abbrev pub bound_said : (tracks cells nets : ℕ) → List ℕ
+bound_said tracks cells nets =
+    codes "No routing of this placement has fewer than " ++ (decimal tracks
+    ++ (codes " tracks, whatever its global route: " ++ (decimal nets
+    ++ (codes " nets cross the cut that the first line names, and each takes a wire in one of its "
+    ++ (decimal cells ++ (codes " cells.\nThis placement may need more, "
+    ++ codes "and another one may do with fewer."))))))
+
 -- ---- what failed
 
 abbrev pub memory_said : Option Prefix → List ℕ
@@ -256,6 +267,8 @@ Says before now words asked errors (Unroutable width) said =
     SaysAnd (Sees before now asked width false) (unroutable_said asked width) said
 Says before now words asked errors (Undecided width learned) said =
     SaysAnd (Sees before now asked width true) (undecided_said asked width learned) said
+Says before now words asked errors (Bound tracks cells nets) said =
+    JustSays before now (bound_said tracks cells nets) said
 Says before now words asked errors (Usage code) said =
     JustSays before now (usage_said words code) said
 Says before now words asked errors (ReadFault file) said =

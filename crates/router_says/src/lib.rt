@@ -2,6 +2,7 @@
 #![tactic(auto)]
 
 mod at_fault;
+mod bounds;
 mod faults;
 mod line_of;
 mod missing;

@@ -26,6 +26,7 @@ ghost use Rattle.router_top.specs.declared.text_file.TextFile.TheVariants.{Lrat,
 ghost use Rattle.router_words.specs.Word.{words_of};
 
 use crate::at_fault::append_at_fault;
+use crate::bounds::append_bound;
 use crate::faults::{SystemErrors, append_unread, append_unwritten};
 use crate::names::{job_in, may_have_several};
 use crate::refused::{
@@ -44,7 +45,8 @@ use std::alloc::{AllocError, Global};
 /// Appends what an outcome of a run with these words means, in lines that end with a newline:
 /// which file is meant, by the name that was given or made; what its line has, and the name of what
 /// is at fault there; of a fault the reason that the system gave last; what can be tried next. It
-/// appends nothing where the run came to what was asked for, and in each other case something.
+/// appends nothing where the run came to what was asked for and no more is to be known of that, and
+/// in each other case something.
 ///
 /// Where a code leaves one searching, or a width has no routing or is open, it reads the files of
 /// the desk once more; else none.
@@ -74,11 +76,14 @@ pub fn append_words<D: Desk>(
     Ok(())
 }
 
-// Whether the run came to what was asked for.
+// Whether the run came to what was asked for, and no more is to be known of that.
 fn is_quiet(outcome: &Outcome) -> bool
     ensures { result ≡ is_quiet outcome.now }
 {
-    status(outcome) == 0
+    match outcome {
+        Outcome::Bound { .. } => false,
+        _ => status(outcome) == 0,
+    }
 }
 
 // Appends what an outcome means, without the newline at the end.
@@ -106,6 +111,11 @@ fn append_meaning<D: Desk>(
         Outcome::Undecided { width, learned } => {
             append_left_open(alloc, desk, out, job, width, learned)
         }
+        Outcome::Bound {
+            tracks,
+            cells,
+            nets,
+        } => append_bound(out, tracks, cells, nets),
         Outcome::Usage { code } => append_usage(out, words, code),
         Outcome::ReadFault { file } => append_unread(out, job, file, errors.reading),
         Outcome::WriteFault { slot } => append_unwritten(out, job, slot, errors),

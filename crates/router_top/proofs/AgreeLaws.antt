@@ -6,18 +6,20 @@ use Rattle.fpga_problem.proofs.FileLemmas.{one-problem}
 use Rattle.fpga_problem.proofs.SourceLemmas.{reads-alike}
 use Rattle.fpga_types.specs.Slots.{slots}
 use Rattle.fpga_types.specs.declared.limits.TheConstants.{SLOT_LIMIT}
+use Rattle.fpga_types.specs.Problem.{PlacedNetlist}
 use Rattle.list_laws.proofs.Places.{some_is}
 use Rattle.route_ways.specs.Way.{budget_of, copies_by}
 use Rattle.sat_clause.specs.declared.limits.TheConstants.{CLAUSE_LIMIT}
 use Rattle.router_words.specs.Refusal.{code_of}
 use Rattle.router_words.specs.declared.fault.Refusal.{Refusal}
+use Rattle.router_top.specs.Bound.{IsTrueOfCut, bound_outcome}
 use Rattle.router_top.specs.Check.{ChecksTo, JudgesTo, VerifiesTo}
 use Rattle.router_top.specs.Generated.{IsTooLarge, Makes, HasRoom, IsTooMany}
 use Rattle.router_top.specs.Method.{HasNone, clauses_by}
 use Rattle.router_top.specs.Placed.{IsJudgement, JudgesPlaced, ReadsRouted}
 use Rattle.router_top.specs.Search.{Search, clauses_held, core_search, route_search, sweep_of, sweep_search}
 use Rattle.router_top.specs.Suited.{IsLeastUnsuited, IsTrueOfSuited, IsUnsuited, Suits, is_suited, obstacle_to}
-use Rattle.router_top.specs.Truth.{Agrees, IsOpenBelow, IsReached, IsTrueAt, IsTrueOf, IsTrueOfEncoding, IsTrueOfJob, IsTrueOfSearch, IsTrueOfSuitedSearch, IsTrueOfWork, IsTrueOfCount}
+use Rattle.router_top.specs.Truth.{Agrees, AreBounds, IsOpenBelow, IsReached, IsTrueAt, IsTrueOf, IsTrueOfEncoding, IsTrueOfJob, IsTrueOfSearch, IsTrueOfSuitedSearch, IsTrueOfWork, IsTrueOfCount}
 use Rattle.router_top.specs.Subject.{FileMap, FileNames, IsHalted, RoutingProblem, HasFew, job_of, Blames, Bounds, CheckAsked, Checks, Encodes, Generates, JobAsked, JudgeAsked, Judges, Negotiates, RecipeAsked, Routes, Sweeps, TrialAsked, Tries, Verifies, VerifyAsked, Word, Method, Outcome, Done, NotSymmetric, Undecided, Usage}
 use Rattle.router_top.specs.declared.outcome.Obstacle.{Obstacle}
 use Rattle.router_top.proofs.GeneratedLaws.{one-made}
@@ -138,7 +140,7 @@ module _ (search : Search) (p : RoutingProblem) where
   one-width width a b (inr (few, inr (held, inr (inr h)))) (inr (so, inr g)) =
       inr (inl (open-below width width a b (omega arith) h (λ small. held) (inr (so, inr g))))
   one-width width a b (inr (few, inr h)) (inr (so, inr (less, inr (inr g)))) =
-      inr (inr (open-below width width b a (omega arith) g (λ small. less) (inr (few, inr h))))
+      inr (inr (inl (open-below width width b a (omega arith) g (λ small. less) (inr (few, inr h)))))
 
   -- a search at more than one width is one search alone
   alone : (copies_by search.way ≡ 1) ⊎ (search.first ≡ search.last) → (width other n : ℕ)
@@ -158,9 +160,9 @@ module _ (search : Search) (p : RoutingProblem) where
           (alone turns width other _ at.from less on.to) g))
       go (inr (inl same)) =
           one-width width a b h (subst (λ (n : ℕ). IsTrueThere n b) (sym same) g)
-      go (inr (inr more)) = inr (inr (open-below other width b a (omega (arith, more))
+      go (inr (inr more)) = inr (inr (inl (open-below other width b a (omega (arith, more))
           (was-open other width b on at more (alone turns other width _ on.from more at.to) g)
-          (alone turns other width _ on.from more at.to) h))
+          (alone turns other width _ on.from more at.to) h)))
 
 -- ---- a method that does not suit the problem
 
@@ -230,6 +232,14 @@ judge-agrees job files a b h g =
     placed-agrees files job.files
     (ReadsRouted (IsHalted (Some files)) (Some files) job (IsJudgement job)) a b h g
     (λ placed h g. inl (reads-alike files h g (λ found is other. is ∙ sym other)))
+
+-- ---- a cut of a placement
+
+bounds-agree : (placed : PlacedNetlist) (a b : Outcome) → IsTrueOfCut placed a
+    → IsTrueOfCut placed b → Agrees a b
+bounds-agree placed a b (cut, best, is) (other, best_other, is_other) =
+    inr (inr (inr (subst (λ (o : Outcome). AreBounds o b) (sym is)
+    (subst (λ (o : Outcome). AreBounds (bound_outcome cut) o) (sym is_other) tt))))
 
 -- ---- a generated problem
 
@@ -304,7 +314,8 @@ job-agrees (Blames job) files a b h g =
 job-agrees (Checks job) files a b h g = inl (check-agrees job files a b h g)
 job-agrees (Verifies job) files a b h g = verify-agrees job files a b h g
 job-agrees (Judges job) files a b h g = judge-agrees job files a b h g
-job-agrees (Bounds job) files a b h g = absurd h
+job-agrees (Bounds job) files a b h g =
+    placed-agrees files job.files IsTrueOfCut a b h g (λ placed h g. bounds-agree placed a b h g)
 job-agrees (Negotiates job) files a b h g = absurd h
 job-agrees (Generates job) files a b h g =
     recipe-agrees job.recipe (λ said. said ≡ Done) a b h g (λ s t. inl (s ∙ sym t))

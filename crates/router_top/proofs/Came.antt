@@ -1,4 +1,4 @@
--- What the work of a run has come to, whatever its words ask for. The laws on runs go by these four
+-- What the work of a run has come to, whatever its words ask for. The laws on runs go by these five
 -- kinds; which of them a job comes to is said in one place.
 use Rattle.std.specs.Prelude.{◌⊎◌}
 use Rattle.std.proofs.Common.{◌≡◌, ℕ, ◌≤◌, List, [], ◌∷◌, ◌++◌, length, take, Result}
@@ -19,13 +19,14 @@ use Rattle.router_top.specs.Saying.{HasNoLead, IsLead, Leads, more_said}
 use Rattle.router_top.specs.Search.{proof_files, route_file}
 use Rattle.router_top.specs.Truth.{IsTrueOf, IsTrueOfSearch}
 use Rattle.router_top.specs.Work.{Finds}
-use Rattle.router_top.specs.Subject.{Bytes, ShelfState, RouteText, Step, Word, Outcome, Done, Unroutable, WriteFault, OutOfMemory, Said}
+use Rattle.router_top.specs.Subject.{Bytes, ShelfState, RouteText, Step, Word, Outcome, Bound, Done, Unroutable, WriteFault, OutOfMemory, Said}
 use Rattle.router_top.proofs.WrittenLaws.{AreApart}
 
--- no fault of the shelf, and no width that is unroutable
+-- no fault of the shelf, no width that is unroutable, and no bound
 abbrev pub IsSpared : Outcome → Type 0
 IsSpared (WriteFault slot) = ⊥
 IsSpared (Unroutable width) = ⊥
+IsSpared (Bound tracks cells nets) = ⊥
 IsSpared outcome = Unit {0}
 
 -- no fault of what is said
@@ -109,9 +110,26 @@ pub record IsCut (words : List Word) (at : Scene) (o : Outcome) : Type 0 where
   pub within : count ≤ length lead
   pub said : at.shelf_now.said ≡ more_said at.shelf.said (take count lead)
 
+-- a bound was found: what there is to say before it was said, and no file was written
+pub record HasTold (words : List Word) (at : Scene) (o : Outcome) : Type 0 where
+  pub tracks : ℕ
+  pub cells : ℕ
+  pub nets : ℕ
+  pub is : o ≡ Bound tracks cells nets
+  pub files : at.shelf_now.files ≡ at.shelf.files
+  pub faults : at.shelf_now.faults ≡ at.shelf.faults
+  pub lead : Bytes
+  pub leads : IsLead words at.desk.files at.shelf.files at.shelf_now.files
+      (Bound tracks cells nets) lead
+  pub said : at.shelf_now.said ≡ more_said at.shelf.said lead
+  pub means : Means words at.desk.files at.shelf.files at.shelf_now.files
+      (Bound tracks cells nets)
+  pub told : IsTrueOf words at.desk.files (Bound tracks cells nets)
+
 -- one of these
 pub data Came (words : List Word) (at : Scene) (o : Outcome) : Type 0 where
   Idle : IsIdle words at o → Came words at o
   Searched : HasSearched words at o → Came words at o
   Wrote : HasWritten words at o → Came words at o
+  Told : HasTold words at o → Came words at o
   Cut : IsCut words at o → Came words at o

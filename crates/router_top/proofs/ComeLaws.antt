@@ -6,8 +6,12 @@ use Rattle.std.proofs.Common.{◌≡◌, ◌∙◌, ◌⊎◌, ℕ, ◌+◌, ◌
 use Rattle.desk_io.specs.Files.{HasRisen}
 use Rattle.desk_io.proofs.FileLemmas.{has_risen}
 use Rattle.fpga_problem.proofs.SourceLemmas.{calm-reads}
+use Rattle.fpga_problem.specs.Files.{PosesPlaced}
 use Rattle.fpga_types.specs.Given.{IsGiven}
+use Rattle.fpga_types.specs.Problem.{PlacedNetlist}
 use Rattle.fpga_types.specs.declared.limits.TheConstants.{WIDTH_LIMIT}
+use Rattle.route_bound.specs.Cuts.{IsBestCut}
+use Rattle.route_bound.specs.declared.cut.Cut.{Cut as BestCut}
 use Rattle.route_sweep.specs.Climb.{EndsAt}
 use Rattle.route_sweep.specs.declared.found.FileSlot.{FileSlot}
 use Rattle.route_sweep.specs.declared.found.FileSlot.TheVariants.{Clauses}
@@ -31,6 +35,7 @@ use Rattle.router_words.specs.Refusal.{code_of}
 use Rattle.router_words.specs.declared.fault.Refusal.{Refusal}
 use Rattle.router_top.specs.SizeCauses.{size_code}
 use Rattle.router_top.specs.declared.size_cause.SizeCause.TheVariants.{FormulaClauses}
+use Rattle.router_top.specs.Bound.{BoundsTo, IsBounded, IsTrueOfCut, SaysCut, bound_outcome, cut_lines}
 use Rattle.router_top.specs.Check.{JudgesTo, ChecksTo, cnf_source, judgement_outcome, lrat_source, VerifiesTo, judged_outcome}
 use Rattle.router_top.specs.Comes.{ComesTo, lower_files}
 use Rattle.router_top.specs.Generated.{PosesNone, generated_files, texts_of}
@@ -40,17 +45,17 @@ use Rattle.router_top.specs.Method.{IsRoutingBy, clauses_by}
 use Rattle.router_top.specs.Placed.{IsJudgement, IsTrueJudgement, JudgesPlaced, ReadsRouted}
 use Rattle.router_top.specs.Report.{climbed_outcome, found_outcome, written_outcome}
 use Rattle.router_top.specs.Suited.{LeavesPrepared, EncodeLeaves, IsUnsuited, LeavesSuited, RouteLeaves, Suits, SweepLeaves}
-use Rattle.router_top.specs.Run.{Leaves, LeavesJob, LeavesWork, Scene, TriesGenerated, WritesGenerated}
-use Rattle.router_top.specs.Saying.{more_said, AreNetLines, IsUnroutable, Leads}
+use Rattle.router_top.specs.Run.{Leaves, LeavesJob, LeavesPlaced, LeavesWork, Scene, TriesGenerated, WritesGenerated}
+use Rattle.router_top.specs.Saying.{more_said, AreCutLines, AreNetLines, IsOfBound, IsUnroutable, Leads}
 use Rattle.router_top.specs.Search.{files_of, route_search, search_asked, sweep_of, sweep_search, Search, core_search, lower_widths, proof_files, route_file}
 use Rattle.router_top.specs.Work.{trial_line, Encodes, LeavesRoute, Sweeps, WritesClauses, clauses_file, Finds}
 use Rattle.router_top.specs.Truth.{IsTrueOf, IsTrueOfEncoding, IsTrueOfJob, IsTrueOfSearch, IsTrueOfSuitedSearch, IsTrueOfWork}
 use Rattle.router_top.specs.Written.{JobFile, with_files, AreWritten}
 use Rattle.router_top.specs.Core.{LeavesCore, SaysBlamed, SaysLead}
 use Rattle.router_top.specs.Headline.{IsRefuted}
-use Rattle.router_top.specs.Subject.{Bytes, FileMap, ShelfState, after_say, FileNames, Poses, IsHalted, IsStopped, Says, RoutingProblem, RouteText, Cnf, Step, job_of, Bounds, CheckAsked, Checks, EncodeAsked, Encodes as EncodesJob, GenAsked, Generates, JobAsked, JudgeAsked, Judges, Negotiates, RouteAsked, Routes, SweepAsked, Sweeps as SweepsJob, TrialAsked, Tries as TriesJob, Verifies, VerifyAsked, Blames, CoreAsked, Word, Method, Outcome, Done, Usage, WriteFault, OutOfMemory, Unroutable, Limit, File}
+use Rattle.router_top.specs.Subject.{Bytes, FileMap, ShelfState, after_say, FileNames, Poses, IsHalted, IsStopped, Says, RoutingProblem, RouteText, Cnf, Step, job_of, BoundAsked, Bounds, CheckAsked, Checks, EncodeAsked, Encodes as EncodesJob, GenAsked, Generates, JobAsked, JudgeAsked, Judges, Negotiates, RouteAsked, Routes, SweepAsked, Sweeps as SweepsJob, TrialAsked, Tries as TriesJob, Verifies, VerifyAsked, Blames, CoreAsked, Word, Method, Outcome, Bound, Done, Usage, WriteFault, OutOfMemory, Unroutable, Limit, File}
 use Rattle.router_top.specs.declared.text_file.TextFile.TheVariants.{Cnf as CnfFile, Lrat, Routed}
-use Rattle.router_top.proofs.Came.{Came, Cut, HasCome, Idle, IsSpared, Searched, Wrote, ended_with}
+use Rattle.router_top.proofs.Came.{Came, Cut, HasCome, Idle, IsSpared, Searched, Told, Wrote, ended_with}
 use Rattle.router_top.proofs.ClimbLaws.{climbed-calm, climbed-logs, climbed-outcome, climbed-said}
 use Rattle.router_top.proofs.GeneratedLaws.{made-poses, problem-apart}
 use Rattle.router_top.proofs.LeftLaws.{none-left, log-left}
@@ -70,6 +75,11 @@ less-itself n = omega arith
 spared-routable : (o : Outcome) → IsSpared o → ¬ IsUnroutable o
 spared-routable (Unroutable width) spared = absurd spared
 spared-routable o spared = λ bad. bad
+
+-- nor of a bound
+spared-boundless : (o : Outcome) → IsSpared o → ¬ IsOfBound o
+spared-boundless (Bound tracks cells nets) spared = absurd spared
+spared-boundless o spared = λ bad. bad
 
 module _ (words : List Word) (at : Scene) where
   abbrev MeansHere : Outcome → Type 0
@@ -103,7 +113,11 @@ module _ (words : List Word) (at : Scene) where
   idle o same none spares told = Idle (record {
     same = same;
     spared = spares.0;
-    leads = record { no_trial = none; no_nets = λ job is. spared-routable o spares.0 };
+    leads = record {
+      no_trial = none;
+      no_nets = λ job is. spared-routable o spares.0;
+      no_cut = λ job is. spared-boundless o spares.0;
+    };
     means = spares.1;
     told = told;
   })
@@ -216,7 +230,14 @@ module _ (words : List Word) (at : Scene) where
       files = refl;
       faults = refl;
       lead = [];
-      leads = inr (refl, record { no_trial = λ other is. cc; no_nets = λ other is unroutable. cc });
+      leads = inr (
+        refl,
+        record {
+          no_trial = λ other is. cc;
+          no_nets = λ other is unroutable. cc;
+          no_cut = λ other is bound. cc;
+        },
+      );
       said = finds-silent (route_search job) p job.search.width at.shelf at.shelf_now h.came h.finds
           ∙ sym (more-none at.shelf.said);
     })
@@ -250,6 +271,7 @@ module _ (words : List Word) (at : Scene) where
         record {
           no_trial = λ other is. cc;
           no_nets = λ other is_core unroutable. routable (subst IsUnroutable is unroutable);
+          no_cut = λ other is_bound bound. cc;
         },
       );
       said = ap (λ (s : ShelfState). s.said) same
@@ -305,7 +327,7 @@ module _ (words : List Word) (at : Scene) where
           faults = ap (λ (s : ShelfState). s.faults) now;
           lead = lead.items;
           leads = subst (λ (a : Outcome). Leads words at.desk.files at.shelf.files
-              at.shelf_now.files a lead.items) (sym is) (inl (inr (net-lines lead finds same)));
+              at.shelf_now.files a lead.items) (sym is) (inl (inr (inl (net-lines lead finds same))));
           said = ap (λ (s : ShelfState). s.said) now
               ∙ ap (λ (s : Option Bytes). more_said s lead.items) (silent lead finds same);
         })
@@ -324,7 +346,7 @@ module _ (words : List Word) (at : Scene) where
               (has_risen _ _ fails.failed.risen);
           outcome = Unroutable job.width;
           lead = lead.items;
-          leads = inr (net-lines lead finds same);
+          leads = inr (inl (net-lines lead finds same));
           count = fails.count;
           within = fails.within;
           said = fails.failed.said
@@ -463,7 +485,11 @@ module _ (words : List Word) (at : Scene) where
       apart = (tt, tt);
       heard = (tt, tt);
       writes = inl (is, h.2);
-      leads = record { no_trial = λ other is. cc; no_nets = λ other is unroutable. cc };
+      leads = record {
+        no_trial = λ other is. cc;
+        no_nets = λ other is unroutable. cc;
+        no_cut = λ other is bound. cc;
+      };
       means = λ done written. inl (record {
         job = job;
         p = p;
@@ -492,7 +518,11 @@ module _ (words : List Word) (at : Scene) where
         inl (refl, h.2),
         is ∙ ap (λ (s : FileSlot). WriteFault (File s)) h.0,
       );
-      leads = record { no_trial = λ other is. cc; no_nets = λ other is unroutable. cc };
+      leads = record {
+        no_trial = λ other is. cc;
+        no_nets = λ other is unroutable. cc;
+        no_cut = λ other is bound. cc;
+      };
       means = λ done written. cc;
       told = encode-true Done (inr (suits, inr (h.1, refl)));
     })
@@ -648,6 +678,80 @@ module _ (words : List Word) (at : Scene) where
           | inr short ↦ inr short
         ])
 
+  -- ---- a cut of a placement
+
+  module _ (job : BoundAsked) (asked : job_of words ≡ Ok (Bounds job)) where
+    module _ (placed : PlacedNetlist) (poses : PosesPlaced at.desk.files job.files placed)
+        (cut : BestCut) (best : IsBestCut placed cut) where
+      abbrev bounded : IsBounded words at.desk.files cut.tracks cut.cells (length cut.nets)
+      bounded = record {
+        job = job;
+        asked = asked;
+        placed = placed;
+        poses = poses;
+        cut = cut;
+        best = best;
+        tracks_of = refl;
+        cells_of = refl;
+        nets_of = refl;
+        bound = best.bound;
+      }
+
+      cut-named : AreCutLines words at.desk.files (bound_outcome cut)
+          (cut_lines placed.netlist cut)
+      cut-named = record {
+        tracks = cut.tracks;
+        cells = cut.cells;
+        nets = length cut.nets;
+        bound = refl;
+        bounded = bounded;
+        is = refl;
+      }
+
+      said-came : (o : Outcome) → SaysCut placed.netlist cut at.shelf at.shelf_now o
+          → Came words at o
+      said-came o (inl (now, is)) = Told (record {
+        tracks = cut.tracks;
+        cells = cut.cells;
+        nets = length cut.nets;
+        is = is;
+        files = ap (λ (s : ShelfState). s.files) now;
+        faults = ap (λ (s : ShelfState). s.faults) now;
+        lead = cut_lines placed.netlist cut;
+        leads = inr (inr cut-named);
+        said = ap (λ (s : ShelfState). s.said) now;
+        means = bounded;
+        told = true-of (Bounds job) asked (bound_outcome cut)
+            (inr (placed, poses, (cut, best, refl)));
+      })
+      said-came o (inr (fails, is)) = Cut (record {
+        is = is;
+        whole = none-left words at.desk.files at.shelf.files at.shelf_now.files
+            fails.failed.files;
+        risen = has_risen _ _ fails.failed.risen;
+        outcome = bound_outcome cut;
+        lead = cut_lines placed.netlist cut;
+        leads = inr (inr cut-named);
+        count = fails.count;
+        within = fails.within;
+        said = fails.failed.said;
+      })
+
+    bound-came : (o : Outcome) → LeavesPlaced job.files BoundsTo at o → Came words at o
+    bound-came o (inl (none, same)) = idle o same (λ other is. cc)
+        (placed-lacks-hold Spares stops-spare (IsStopped at.desk at.desk_now) at.desk.files
+        job.files o none)
+        (λ calm. elim (calm-placed at.desk at.desk_now job.files calm
+        (λ (placed : PlacedNetlist) (o : Outcome) (h : IsTrueOfCut placed o). inl h) o
+        (inl none)) [
+          | inl told ↦ inl (true-of (Bounds job) asked o told)
+          | inr short ↦ inr short
+        ])
+    bound-came o (inr (placed, poses, inl (short, same))) =
+        spent o same (λ other is. cc) short
+    bound-came o (inr (placed, poses, inr (cut, best, says))) =
+        said-came placed poses cut best o says
+
   -- ---- the files of a generated problem
 
   module _ (job : GenAsked) (asked : job_of words ≡ Ok (Generates job)) where
@@ -662,7 +766,11 @@ module _ (words : List Word) (at : Scene) where
       apart = problem-apart job.prefix (texts_of job.recipe);
       heard = (tt, (tt, (tt, (tt, tt))));
       writes = h;
-      leads = record { no_trial = λ other is. cc; no_nets = λ other is unroutable. cc };
+      leads = record {
+        no_trial = λ other is. cc;
+        no_nets = λ other is unroutable. cc;
+        no_cut = λ other is bound. cc;
+      };
       means = λ done written.
           inr (record { job = job; asked = asked; room = room; written = written });
       told = true-of (Generates job) asked Done (inr (room, refl));
@@ -725,7 +833,14 @@ module _ (words : List Word) (at : Scene) where
       (sweep-came (SweepsJob job) job p asked refl (inl (job, asked)) poses
       (λ says told. true-of (SweepsJob job) asked says (inr (p, poses, inr (suits, told))))
       at.shelf refl refl [] (sym (more-none at.shelf.said)) o
-      (inr (refl, record { no_trial = λ other is. cc; no_nets = λ other is unroutable. cc }))))) h
+      (inr (
+        refl,
+        record {
+          no_trial = λ other is. cc;
+          no_nets = λ other is unroutable. cc;
+          no_cut = λ other is bound. cc;
+        },
+      ))))) h
   job-came (EncodesJob job) o asked h =
       work-came (EncodesJob job) asked job.files (IsTrueOfEncoding job) (EncodeLeaves job) o
       (λ told. told) (λ other is. cc)
@@ -742,7 +857,7 @@ module _ (words : List Word) (at : Scene) where
   job-came (Checks job) o asked h = check-came job asked o h.0 h.1
   job-came (Verifies job) o asked h = verify-came job asked o h.0 h.1
   job-came (Judges job) o asked h = judge-came job asked o h.0 h.1
-  job-came (Bounds job) o asked h = spent o h.1 (λ other is. cc) h.0
+  job-came (Bounds job) o asked h = bound-came job asked o h
   job-came (Negotiates job) o asked h = spent o h.1 (λ other is. cc) h.0
   job-came (Generates job) o asked h = made-came job asked o h.0
   job-came (TriesJob job) o asked h = trial-came job asked o h.0

@@ -27,7 +27,7 @@ use Rattle.router_top.specs.Truth.{Agrees, IsComplete, IsReached, IsTrueAt, IsTr
 use Rattle.router_top.specs.Work.{Finds}
 use Rattle.router_top.specs.Subject.{DeskState, Bytes, FileMap, ShelfState, after_say, RouteText, Cnf, Step, Word, Outcome, Routed, Unroutable, Undecided, Limit, OutOfMemory, Slot}
 use Rattle.router_top.proofs.AgreeLaws.{outcomes-agree}
-use Rattle.router_top.proofs.Came.{Came, Cut, HasCome, HasWritten, Idle, Searched, Wrote, ended_with}
+use Rattle.router_top.proofs.Came.{Came, Cut, HasCome, HasWritten, Idle, Searched, Told, Wrote, ended_with}
 use Rattle.router_top.proofs.EndLaws.{refutes-none}
 use Rattle.router_top.proofs.GeneratedLaws.{faults-after}
 use Rattle.router_top.proofs.MethodLaws.{one-legal}
@@ -201,6 +201,8 @@ module _ (words : List Word) (at : Scene) (calm : ¬ HasRisen at.desk.faults at.
     came-settles o (Searched h) = subst SettlesHere (sym h.come.is)
         (found-settles h.wrote h.faults o h.come h.come.came h.come.finds h.come.last)
     came-settles o (Wrote h) = files-settle o h h.writes
+    came-settles o (Told h) = by-word at.shelf at.shelf_now Says o (omega (arith, h.faults))
+        (subst Says (sym h.is) h.told)
     came-settles o (Cut h) = by-fault at.shelf at.shelf_now Says o h.risen
 
 -- ---- a run

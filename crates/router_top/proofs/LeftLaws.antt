@@ -29,7 +29,7 @@ use Rattle.router_top.specs.Run.{Runs, Scene, scene}
 use Rattle.router_top.specs.Search.{proof_files, route_file}
 use Rattle.router_top.specs.Work.{Finds}
 use Rattle.router_top.specs.Subject.{DeskState, Bytes, FileMap, ShelfState, HasFew, Cnf, Step, Word, Outcome, InputFault, Limit, NotSymmetric, ReadFault, Unroutable, Usage, WriteFault, Slot, Said, File}
-use Rattle.router_top.proofs.Came.{AreHeard, Came, Cut, HasCome, HasWritten, Idle, IsHeard, IsSpared, Searched, Wrote, ended_with}
+use Rattle.router_top.proofs.Came.{AreHeard, Came, Cut, HasCome, HasWritten, Idle, IsHeard, IsSpared, Searched, Told, Wrote, ended_with}
 use Rattle.router_top.proofs.GeneratedLaws.{files-after}
 use Rattle.router_top.proofs.SlotNameLaws.{part-named}
 use Rattle.router_top.proofs.WrittenLaws.{AreApart, NoneHas, Stand, all-stand, are-written, get-other, with_files-append, written-stand}
@@ -438,6 +438,8 @@ module _ (words : List Word) (at : Scene) where
       LeavesFiles words at.desk.files at.shelf.files files o) (sym h.files)
       (come-left words (ended_with h.wrote at) o h.come)
   came-left o (Wrote h) = files-left words at o h h.writes
+  came-left o (Told h) = subst (LeftHere words at) (sym h.is)
+      (none-left words at.desk.files at.shelf.files at.shelf_now.files h.files)
   came-left o (Cut h) = subst (LeftHere words at) (sym h.is) h.whole
 
 -- ---- the report

@@ -18,7 +18,7 @@ use Rattle.router_top.specs.Run.{Runs, Scene, scene}
 use Rattle.router_top.specs.Search.{proof_files, route_file}
 use Rattle.router_top.specs.Work.{Finds}
 use Rattle.router_top.specs.Subject.{DeskState, FileMap, ShelfState, Word, Outcome, WriteFault}
-use Rattle.router_top.proofs.Came.{Came, Cut, HasCome, HasWritten, Idle, Searched, Wrote, ended_with}
+use Rattle.router_top.proofs.Came.{Came, Cut, HasCome, HasWritten, Idle, Searched, Told, Wrote, ended_with}
 use Rattle.router_top.proofs.EndLaws.{refuted-at}
 use Rattle.router_top.proofs.GeneratedLaws.{files-after}
 use Rattle.router_top.proofs.MethodLaws.{routing-printable}
@@ -107,6 +107,7 @@ module _ (words : List Word) (at : Scene) where
       Means words at.desk.files at.shelf.files files o) (sym h.files)
       (come-means words (ended_with h.wrote at) o h.come)
   came-means o (Wrote h) = files-mean words at o h h.writes
+  came-means o (Told h) = subst (MeansHere words at) (sym h.is) h.means
   came-means o (Cut h) = subst (MeansHere words at) (sym h.is) tt
 
 -- a run whose report line was not said means nothing more

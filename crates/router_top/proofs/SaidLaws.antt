@@ -17,7 +17,7 @@ use Rattle.router_top.specs.Search.{Search}
 use Rattle.router_top.specs.Work.{Finds}
 use Rattle.router_top.specs.Method.{clauses_by}
 use Rattle.router_top.specs.Subject.{DeskState, Bytes, FileMap, ShelfState, RoutingProblem, Word, Outcome, WriteFault, Slot, Said}
-use Rattle.router_top.proofs.Came.{Came, Cut, HasWritten, Idle, IsCut, IsHeard, IsSpared, Searched, Wrote}
+use Rattle.router_top.proofs.Came.{Came, Cut, HasWritten, Idle, IsCut, IsHeard, IsSpared, Searched, Told, Wrote}
 use Rattle.router_top.proofs.LeftLaws.{among-heard}
 
 -- ---- texts behind texts
@@ -126,6 +126,13 @@ module _ (words : List Word) (at : Scene) where
         subst IsHeard (sym h.come.is) (found-heard h.come.width h.come.came),
       )
   came-led o (Wrote h) = files-led o h h.writes
+  came-led o (Told h) = inl (
+    h.lead,
+    subst (λ (a : Outcome). Leads words at.desk.files at.shelf.files at.shelf_now.files a h.lead)
+        (sym h.is) (inl h.leads),
+    h.said,
+    subst IsHeard (sym h.is) tt,
+  )
   came-led o (Cut h) = inr h
 
 -- ---- the report

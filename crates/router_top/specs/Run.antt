@@ -1,11 +1,14 @@
 -- A run: the words, then the files in their order, then the work, and last the report.
 use Rattle.std.specs.Prelude.{◌≡◌, ◌⊎◌, List, MatchResult}
 use Rattle.router_words.specs.Refusal.{code_of}
+use Rattle.fpga_problem.specs.Files.{PlacedNames, PosesPlaced}
+use Rattle.fpga_types.specs.Problem.{PlacedNetlist}
+use Rattle.router_top.specs.Bound.{BoundsTo}
 use Rattle.router_top.specs.Check.{ChecksTo, VerifiesTo}
 use Rattle.router_top.specs.Core.{LeavesCore}
 use Rattle.router_top.specs.Written.{WritesFiles}
 use Rattle.router_top.specs.Generated.{HasRoom, Makes, MakesNone, PosesNone, generated_files}
-use Rattle.router_top.specs.Placed.{IsTrueJudgement, JudgesPlaced}
+use Rattle.router_top.specs.Placed.{GivesNoPlaced, IsTrueJudgement, JudgesPlaced}
 use Rattle.router_top.specs.Report.{GivesNone, IsReadFault, line_of, unsaid}
 use Rattle.router_top.specs.Suited.{EncodeLeaves, RouteLeaves, SweepLeaves}
 use Rattle.router_top.specs.Work.{Tries}
@@ -31,6 +34,16 @@ LeavesWork names works at outcome =
     × (at.shelf_now ≡ at.shelf))
     ⊎ ((p : RoutingProblem) × Poses at.desk.files names p
     × works p at.shelf at.shelf_now outcome)
+
+-- nothing was written, since the three files give no placed netlist; or they pose one, and this is
+-- what the work on it leaves
+abbrev pub LeavesPlaced : PlacedNames
+    → (PlacedNetlist → (before now : ShelfState) → Outcome → Type 0) → Scene → Outcome → Type 0
+LeavesPlaced names works at outcome =
+    (GivesNoPlaced (IsStopped at.desk at.desk_now) at.desk.files names outcome
+    × (at.shelf_now ≡ at.shelf))
+    ⊎ ((placed : PlacedNetlist) × PosesPlaced at.desk.files names placed
+    × works placed at.shelf at.shelf_now outcome)
 
 -- nothing was written, since no problem was made; or one was, and its files were written
 abbrev pub WritesGenerated : GenAsked → (before now : ShelfState) → Outcome → Type 0
@@ -62,7 +75,7 @@ LeavesJob (Verifies job) at outcome =
 LeavesJob (Judges job) at outcome =
     JudgesPlaced (IsStopped at.desk at.desk_now) at.desk.files job (IsTrueJudgement job) outcome
     × (at.shelf_now ≡ at.shelf)
-LeavesJob (Bounds job) at outcome = (outcome ≡ OutOfMemory) × (at.shelf_now ≡ at.shelf)
+LeavesJob (Bounds job) at outcome = LeavesPlaced job.files BoundsTo at outcome
 LeavesJob (Negotiates job) at outcome = (outcome ≡ OutOfMemory) × (at.shelf_now ≡ at.shelf)
 LeavesJob (Generates job) at outcome =
     WritesGenerated job at.shelf at.shelf_now outcome × (at.desk_now ≡ at.desk)

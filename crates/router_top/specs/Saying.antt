@@ -2,11 +2,12 @@
 use Rattle.std.specs.Prelude.{◌≡◌, ◌⊎◌, ℕ, ◌≤◌, ◌++◌, List, [], length, take, Ok, Option, option_map}
 use Rattle.route_core.specs.Blamed.{blamed}
 use Rattle.route_ways.specs.Trimming.{net_lines}
+use Rattle.router_top.specs.Bound.{IsBounded, cut_lines}
 use Rattle.router_top.specs.Generated.{Makes, PosesNone}
 use Rattle.router_top.specs.Headline.{IsRefuted}
 use Rattle.router_top.specs.Report.{line_of}
 use Rattle.router_top.specs.Work.{trial_line}
-use Rattle.router_top.specs.Subject.{Bytes, FileMap, ShelfState, RoutingProblem, job_of, Blames, CoreAsked, TrialAsked, Tries, Word, Outcome, Unroutable, WriteFault, Said}
+use Rattle.router_top.specs.Subject.{Bytes, FileMap, ShelfState, RoutingProblem, job_of, Blames, BoundAsked, Bounds, CoreAsked, TrialAsked, Tries, Word, Outcome, Bound, Unroutable, WriteFault, Said}
 
 -- the bytes said, and a text behind them
 abbrev pub more_said : Option Bytes → Bytes → Option Bytes
@@ -33,21 +34,41 @@ pub record AreNetLines
   pub refuted : IsRefuted words desk before now width
   pub is : lead ≡ net_lines refuted.comes.p.route (blamed width refuted.comes.p refuted.log)
 
--- what is said before the report line of this outcome: the trial line, or the nets to blame
+-- the words ask for a bound, and the outcome is one: these lines name the cut that it is of, and
+-- exactly the nets that cross it, in order
+pub record AreCutLines
+    (words : List Word) (desk : Option FileMap) (outcome : Outcome) (lead : Bytes) : Type 0 where
+  pub tracks : ℕ
+  pub cells : ℕ
+  pub nets : ℕ
+  pub bound : outcome ≡ Bound tracks cells nets
+  pub bounded : IsBounded words desk tracks cells nets
+  pub is : lead ≡ cut_lines bounded.placed.netlist bounded.cut
+
+-- what is said before the report line of this outcome: the trial line, the nets to blame, or a cut
+-- and the nets that cross it
 abbrev pub IsLead : List Word → (desk before now : Option FileMap) → Outcome → Bytes → Type 0
 IsLead words desk before now outcome lead =
     IsTrialLine words lead ⊎ AreNetLines words desk before now outcome lead
+    ⊎ AreCutLines words desk outcome lead
 
 -- the width of the job is unroutable
 abbrev pub IsUnroutable : Outcome → Type 0
 IsUnroutable (Unroutable width) = Unit {0}
 IsUnroutable outcome = ⊥
 
+-- no placed routing has fewer tracks than so many
+abbrev pub IsOfBound : Outcome → Type 0
+IsOfBound (Bound tracks cells nets) = Unit {0}
+IsOfBound outcome = ⊥
+
 -- nothing is said before it: the words ask for no trial, or for one of a problem that was not made
--- or is too large; and for no nets to blame, or no width was refuted
+-- or is too large; for no nets to blame, or no width was refuted; and for no bound, or none was
+-- found
 pub record HasNoLead (words : List Word) (outcome : Outcome) : Type 0 where
   pub no_trial : (job : TrialAsked) → job_of words ≡ Ok (Tries job) → PosesNone job.recipe outcome
   pub no_nets : (job : CoreAsked) → job_of words ≡ Ok (Blames job) → ¬ IsUnroutable outcome
+  pub no_cut : (job : BoundAsked) → job_of words ≡ Ok (Bounds job) → ¬ IsOfBound outcome
 
 -- what is said before it, which may be nothing
 abbrev pub Leads : List Word → (desk before now : Option FileMap) → Outcome → Bytes → Type 0

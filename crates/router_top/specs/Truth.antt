@@ -7,14 +7,15 @@ use Rattle.sat_clause.specs.declared.limits.TheConstants.{CLAUSE_LIMIT}
 use Rattle.router_words.specs.Refusal.{code_of}
 use Rattle.router_top.specs.SizeCauses.{size_code}
 use Rattle.router_top.specs.declared.size_cause.SizeCause.TheVariants.{FormulaClauses, ClausesOfTurns}
+use Rattle.router_top.specs.Bound.{IsTrueOfCut}
 use Rattle.router_top.specs.Check.{ChecksTo, VerifiesTo}
 use Rattle.router_top.specs.Generated.{HasRoom, IsTooLarge, IsTooMany, Makes}
 use Rattle.router_top.specs.Method.{HasNone, HasOne, clauses_by}
-use Rattle.router_top.specs.Placed.{IsJudgement, JudgesPlaced}
+use Rattle.router_top.specs.Placed.{IsJudgement, JudgesPlaced, WorksOnPlaced}
 use Rattle.router_top.specs.Report.{GivesNone}
 use Rattle.router_top.specs.Search.{Search, clauses_held, core_search, route_search, sweep_of, sweep_search}
 use Rattle.router_top.specs.Suited.{IsTrueOfSuited}
-use Rattle.router_top.specs.Subject.{DeskState, FileMap, ShelfState, FileNames, Poses, IsHalted, RoutingProblem, HasFew, job_of, Blames, Bounds, Checks, EncodeAsked, Encodes, Generates, JobAsked, Judges, Negotiates, Routes, Sweeps, Tries, Verifies, Word, Outcome, Routed, Unroutable, Undecided, Done, Limit, Usage, OutOfMemory}
+use Rattle.router_top.specs.Subject.{DeskState, FileMap, ShelfState, FileNames, Poses, IsHalted, RoutingProblem, HasFew, job_of, Blames, Bounds, Checks, EncodeAsked, Encodes, Generates, JobAsked, Judges, Negotiates, Routes, Sweeps, Tries, Verifies, Word, Outcome, Routed, Unroutable, Undecided, Bound, Done, Limit, Usage, OutOfMemory}
 use Rattle.router_top.specs.declared.size_cause.SizeCause.{SizeCause}
 
 -- so many clauses are more than may be built, as this cause says, and the outcome has their number;
@@ -84,7 +85,8 @@ IsTrueOfJob (Checks job) files outcome = ChecksTo (IsHalted files) files job out
 IsTrueOfJob (Verifies job) files outcome = VerifiesTo (IsHalted files) files job outcome
 IsTrueOfJob (Judges job) files outcome =
     JudgesPlaced (IsHalted files) files job (IsJudgement job) outcome
-IsTrueOfJob (Bounds job) files outcome = ⊥
+IsTrueOfJob (Bounds job) files outcome =
+    WorksOnPlaced (IsHalted files) files job.files IsTrueOfCut outcome
 IsTrueOfJob (Negotiates job) files outcome = ⊥
 IsTrueOfJob (Generates job) files outcome =
     IsTooMany job.recipe outcome ⊎ (HasRoom job.recipe × (outcome ≡ Done))
@@ -107,11 +109,18 @@ IsOpenBelow (Undecided width learned) (Undecided of others) = (width ≤ of) × 
 IsOpenBelow (Undecided width learned) (Limit file code count) = code ≡ size_code FormulaClauses
 IsOpenBelow outcome other = ⊥
 
+-- both are bounds
+abbrev pub AreBounds : Outcome → Outcome → Type 0
+AreBounds (Bound tracks cells nets) (Bound others other_cells other_nets) = Unit {0}
+AreBounds outcome other = ⊥
+
 -- the answer is this outcome; or a search is left open by one of the two, for which width its
--- budget is spent is the search's own
+-- budget is spent is the search's own; or both are bounds, for which of the best cuts is found is
+-- that search's own
 abbrev pub Agrees : Outcome → Outcome → Type 0
 Agrees answer outcome =
     (answer ≡ outcome) ⊎ IsOpenBelow answer outcome ⊎ IsOpenBelow outcome answer
+    ⊎ AreBounds answer outcome
 
 -- where the files are told, no fault has risen, memory sufficed and some outcome is true, the
 -- answer is true and agrees with that outcome

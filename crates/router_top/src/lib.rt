@@ -3,9 +3,11 @@
 //! least that has a routing, and writes the detailed route, or a refutation; writes the clauses
 //! that say what a routing is; names the nets that a refutation blames; checks a refutation of such
 //! clauses; judges a routed file, whoever wrote it, within the cells of a global route or as a
-//! routing of the placement alone; or makes a design from a number, and writes or routes it.
+//! routing of the placement alone; says how many tracks a placement needs at the least; or makes a
+//! design from a number, and writes or routes it.
 #![tactic(auto)]
 
+mod bounding;
 mod checking;
 mod chosen;
 mod coring;

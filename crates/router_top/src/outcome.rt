@@ -34,6 +34,13 @@ pub enum Outcome {
         width: u32,
         learned: u64,
     },
+    /// No routing of the placement has fewer tracks: so many nets cross a cut with so many cells,
+    /// and each of them takes a wire in one of these.
+    Bound {
+        tracks: u32,
+        cells: u32,
+        nets: u64,
+    },
     /// What was asked for was written.
     Done,
     /// The log refutes the formula.
@@ -94,7 +101,11 @@ pub fn status(outcome: &Outcome) -> u8
     ensures { result ≡ status_of outcome.now }
 {
     match outcome {
-        Outcome::Routed { .. } | Outcome::Done | Outcome::Accepted | Outcome::LegalRoute => 0,
+        Outcome::Routed { .. }
+        | Outcome::Bound { .. }
+        | Outcome::Done
+        | Outcome::Accepted
+        | Outcome::LegalRoute => 0,
         Outcome::Unroutable { .. } | Outcome::NotAccepted { .. } | Outcome::NotLegal { .. } => 1,
         Outcome::Undecided { .. } => 2,
         Outcome::InputFault { .. } | Outcome::Limit { .. } | Outcome::NotSymmetric { .. } => 3,
@@ -119,6 +130,7 @@ pub fn report(outcome: &Outcome) -> ArrayString<LINE_ROOM>
             push_count(&mut line, " after ", learned);
             line.push_str(" learned clauses");
         }
+        Outcome::Bound { tracks, .. } => push_count(&mut line, "bound ", tracks as u64),
         Outcome::Done => line.push_str("done"),
         Outcome::Accepted => line.push_str("accepted"),
         Outcome::NotAccepted { step, cause } => {

@@ -8,6 +8,7 @@ ghost use Rattle.router_top.specs.Run.{Leaves, Reports, Runs, scene};
 ghost use Rattle.router_top.specs.Saying.{Speaks};
 ghost use Rattle.router_top.specs.Truth.{IsComplete};
 
+use crate::bounding::bound_files;
 use crate::checking::check_files;
 use crate::generating::generate_files;
 use crate::judging::judge_file;
@@ -61,7 +62,8 @@ fn work<D: Desk, S: Shelf>(alloc: Global, words: &[String], desk: &mut D, shelf:
         Ok(Job::Check(job)) => check_files(alloc, &job, desk),
         Ok(Job::Verify(job)) => verify_file(alloc, &job, desk),
         Ok(Job::Judge(job)) => judge_file(alloc, &job, desk),
-        Ok(Job::Bound(_)) | Ok(Job::Global(_)) => Outcome::OutOfMemory,
+        Ok(Job::Bound(job)) => bound_files(alloc, &job, desk, shelf),
+        Ok(Job::Global(_)) => Outcome::OutOfMemory,
         Ok(Job::Gen(job)) => generate_files(alloc, &job, shelf),
         Ok(Job::Trial(job)) => trial(alloc, &job, shelf),
         Err(WordsFault::Refused(cause)) => Outcome::Usage { code: cause.code() },
@@ -119,6 +121,10 @@ fn say_report<S: Shelf>(shelf: &mut S, outcome: Outcome) -> Outcome
 /// `judge` asks of a routed file whether it is a routing of the placement, with no cells given
 /// beforehand: one wire of a cell alone for each net where `--strict` is given, and else several.
 ///
+/// `bound` asks how many tracks each routing of the placement has at the least, whatever its cells:
+/// it says a line that names a cut of the array, a line `net NAME` for each net that crosses it, and
+/// writes nothing.
+///
 /// `gen` makes a problem from its recipe and writes PREFIX.arch, PREFIX.net, PREFIX.place and
 /// PREFIX.route. `trial` makes one too, says a line with the numbers of its slots, its steps and
 /// its pairs of slots of different nets in one cell, and writes what `sweep` would write if it read
@@ -128,7 +134,7 @@ fn say_report<S: Shelf>(shelf: &mut S, outcome: Outcome) -> Outcome
 /// the shelf fails on one, those before it are whole, it holds a front part of its text or was not
 /// created, and those behind it are as they were; after any other answer each file that was begun
 /// is whole. What is said is a front part of the lead and the report line, and all of both where
-/// the shelf has not failed. The lead is the trial line, or the lines of `core`.
+/// the shelf has not failed. The lead is the trial line, or the lines of `core` or of `bound`.
 ///
 /// After want of memory the files of a `sweep` or a `trial` are those of lower widths, and of
 /// another command there is none. The files of the desk stay in any case.

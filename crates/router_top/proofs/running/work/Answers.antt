@@ -26,6 +26,11 @@ returns-in-Ok-Judge-clause-leaves g c =
     let asked = rw c.in-Ok-Judge.field-0-is at c.in-Ok-Judge.ensures.answers in
     inr (rw asked (c.judge_file.ensures.judges, refl))
 
+pub returns-in-Ok-Bound-clause-leaves : goal.returns-in-Ok-Bound-clause-leaves
+returns-in-Ok-Bound-clause-leaves g c =
+    let asked = rw c.in-Ok-Bound.field-0-is at c.in-Ok-Bound.ensures.answers in
+    inr (rw asked c.bound_files.ensures.bounds)
+
 pub returns-in-Ok-Gen-clause-leaves : goal.returns-in-Ok-Gen-clause-leaves
 returns-in-Ok-Gen-clause-leaves g c =
     let asked = rw c.in-Ok-Gen.field-0-is at c.in-Ok-Gen.ensures.answers in
