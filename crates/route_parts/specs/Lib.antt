@@ -1,0 +1,5 @@
+pub mod Flooding
+pub mod Links
+pub mod Marks
+pub mod Opening
+pub mod Unreached
