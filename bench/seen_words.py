@@ -11,9 +11,9 @@ from asked import answer_help
 
 answer_help(__name__, __doc__)
 
-VALUED = ("--conflicts", "--reach", "--members", "--seed")
-FLAGS = ("--keep", "--count", "--pin", "--symmetry")
-BUDGET_LIMIT, WIDTH_LIMIT, NAMED = 100_000_000, 64, 10
+VALUED = ("--conflicts", "--reach", "--members", "--seed", "--from", "--rounds")
+FLAGS = ("--keep", "--count", "--pin", "--symmetry", "--free")
+BUDGET_LIMIT, ROUND_LIMIT, WIDTH_LIMIT, NAMED = 100_000_000, 100_000, 64, 10
 START_LIMIT, CROWD_LIMIT = 512, 128
 CELL_LEAD = "More nets than there are tracks want the cell "
 CROWD_LEAD = "Under subset switch blocks more nets than there are tracks share cells, each with each:"
@@ -248,8 +248,22 @@ def seen_lines(words, is_open, width, files):
     return []
 
 
+def unfound(words, width, rounds):
+    """The lines that say that rounds have found no route of a placement, and what can be tried."""
+    tries = [f"--rounds {min(10 * rounds, ROUND_LIMIT)}"] if rounds < ROUND_LIMIT else []
+    tries += [] if "--free" in words.options else ["--free"]
+    last = "a greater width or another placement" if width < WIDTH_LIMIT else "another placement"
+    return [
+        f"Whether there is a route with {width} tracks is open: the search found none in {rounds} rounds.",
+        "Try " + ", ".join(tries + [last]) + ".",
+    ]
+
+
 def words_of(given, report, files):
     """What is to be said of a report of a width without a routing, or of an open one; None of another report."""
+    found = re.fullmatch(r"undecided (\d+) after (\d+) rounds", report)
+    if found:
+        return "\n".join(unfound(Words(given), int(found[1]), int(found[2])))
     found = re.fullmatch(r"(unroutable|undecided) (\d+)(?: after (\d+) learned clauses)?", report)
     if not found:
         return None

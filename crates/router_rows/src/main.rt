@@ -19,7 +19,7 @@ use desk_io::FileDesk;
 use rows_problem::{RowsError, text};
 
 // The files of cases. The first says how they are written.
-const FILES: [&str; 16] = [
+const FILES: [&str; 17] = [
     "worked.rows",
     "pinned.rows",
     "symmetry.rows",
@@ -36,6 +36,7 @@ const FILES: [&str; 16] = [
     "members.rows",
     "core.rows",
     "bound.rows",
+    "global.rows",
 ];
 
 fn main(rt: HostRuntime) -> Result<(), RowsError> {

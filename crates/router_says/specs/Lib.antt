@@ -3,5 +3,6 @@ pub mod Names
 pub mod NameBytes
 pub mod AtFault
 pub mod Seen
+pub mod Unfound
 pub mod Usage
 pub mod Said

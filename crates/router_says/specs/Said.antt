@@ -11,13 +11,14 @@ use Rattle.route_symmetry.specs.declared.full.Asymmetry.TheVariants.{Inputs, Out
 use Rattle.router_says.specs.AtFault.{NamesSought, sought_of}
 use Rattle.router_says.specs.Names.{asked_in, file_said, may_have_several, name_of, prefix_of, reach_of}
 use Rattle.router_says.specs.Seen.{Sees}
+use Rattle.router_says.specs.Unfound.{unfound_said}
 use Rattle.router_says.specs.Usage.{usage_said}
 use Rattle.router_says.specs.declared.faults.SystemErrors.{SystemErrors}
 use Rattle.router_top.specs.SlotNames.{OfEach, OfOne, Prefix, slot_name}
 use Rattle.router_top.specs.declared.outcome.Obstacle.{Obstacle}
 use Rattle.router_top.specs.declared.outcome.Obstacle.TheVariants.{Order, Pins}
 use Rattle.router_top.specs.declared.outcome.Outcome.{Outcome}
-use Rattle.router_top.specs.declared.outcome.Outcome.TheVariants.{Bound, NotAccepted, NotLegal, NotSymmetric, InputFault, Limit, ReadFault, Undecided, Unroutable, WriteFault, Usage, OutOfMemory}
+use Rattle.router_top.specs.declared.outcome.Outcome.TheVariants.{Bound, NotAccepted, NotLegal, NotSymmetric, InputFault, Limit, ReadFault, Undecided, Unroutable, WriteFault, Usage, OutOfMemory, Unfound}
 use Rattle.router_top.specs.declared.slot.Slot.{Slot as SlotOf}
 use Rattle.router_top.specs.declared.slot.Slot.TheVariants.{Said as SaidSlot}
 use Rattle.router_top.specs.declared.text_file.TextFile.{TextFile}
@@ -269,6 +270,8 @@ Says before now words asked errors (Undecided width learned) said =
     SaysAnd (Sees before now asked width true) (undecided_said asked width learned) said
 Says before now words asked errors (Bound tracks cells nets) said =
     JustSays before now (bound_said tracks cells nets) said
+Says before now words asked errors (Unfound width rounds) said =
+    JustSays before now (unfound_said asked width rounds) said
 Says before now words asked errors (Usage code) said =
     JustSays before now (usage_said words code) said
 Says before now words asked errors (ReadFault file) said =

@@ -12,6 +12,7 @@ mod pin_use;
 mod refused;
 mod seen;
 mod symmetry;
+mod unfound;
 mod unsettled;
 mod usage;
 mod words;

@@ -104,10 +104,8 @@ fn name_of_three<'a>(files: ThreeNames<'a>, file: TextFile) -> Option<&'a str>
         TextFile::Problem(ProblemFile::Architecture) => Some(files.architecture),
         TextFile::Problem(ProblemFile::Netlist) => Some(files.netlist),
         TextFile::Problem(ProblemFile::Placement) => Some(files.placement),
-        TextFile::Problem(ProblemFile::Route)
-        | TextFile::Cnf
-        | TextFile::Lrat
-        | TextFile::Routed => None,
+        TextFile::Problem(ProblemFile::Route) | TextFile::Cnf | TextFile::Lrat | TextFile::Routed =>
+            None,
     }
 }
 

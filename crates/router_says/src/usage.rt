@@ -174,9 +174,7 @@ fn takes_said(command: Command) -> &'static str
         Command::Verify => {
             "verify ARCH NET PLACE ROUTE WIDTH ROUTED [--reach L], WIDTH and L from 1 to 64"
         }
-        Command::Judge => {
-            "judge ARCH NET PLACE WIDTH ROUTED [--strict], WIDTH from 1 to 64"
-        }
+        Command::Judge => { "judge ARCH NET PLACE WIDTH ROUTED [--strict], WIDTH from 1 to 64" }
         Command::Bound => "bound ARCH NET PLACE",
         Command::Global => {
             "global ARCH NET PLACE WIDTH PREFIX [--free] [--from ROUTE] [--rounds N], WIDTH from \

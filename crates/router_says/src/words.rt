@@ -34,6 +34,7 @@ use crate::refused::{
 };
 use crate::seen::append_seen;
 use crate::symmetry::append_obstacle;
+use crate::unfound::append_unfound;
 use crate::unsettled::{append_no_memory, append_undecided, append_unroutable};
 use crate::usage::append_usage;
 use code_words::{cause, cause_within_reach, refusal};
@@ -116,6 +117,7 @@ fn append_meaning<D: Desk>(
             cells,
             nets,
         } => append_bound(out, tracks, cells, nets),
+        Outcome::Unfound { width, rounds } => append_unfound(out, job, width, rounds),
         Outcome::Usage { code } => append_usage(out, words, code),
         Outcome::ReadFault { file } => append_unread(out, job, file, errors.reading),
         Outcome::WriteFault { slot } => append_unwritten(out, job, slot, errors),

@@ -36,6 +36,10 @@ const SWEEP: &str = "sweep a.arch a.net a.place big.route 9 out";
 
 const GEN: &str = "gen 1 20 300 made";
 
+const GLOBAL: &str = "global a.arch a.net a.place 9 out";
+
+const FREE: &str = "global a.arch a.net a.place 64 out --free";
+
 const VERIFY: &str = "verify a.arch a.net a.place big.route 9 out.route";
 
 #[test]
@@ -68,6 +72,25 @@ fn all_that_is_said(rt: HostRuntime) -> Result<(), Fail> {
             Outcome::OutOfMemory,
             "Memory ran out, so that nothing was found.\n",
         ),
+        (
+            GLOBAL,
+            Outcome::Unfound {
+                width: 9,
+                rounds: 200,
+            },
+            "Whether there is a route with 9 tracks is open: the search found none in 200 rounds.\n\
+            Try --rounds 2000, --free, a greater width or another placement.\n",
+        ),
+        (
+            FREE,
+            Outcome::Unfound {
+                width: 64,
+                rounds: 100_000,
+            },
+            "Whether there is a route with 64 tracks is open: the search found none in 100000 \
+            rounds.\nTry another placement.\n",
+        ),
+        (GLOBAL, Outcome::Routed { width: 9 }, ""),
         (ROUTE, Outcome::Routed { width: 9 }, ""),
     ];
     for (line, outcome, text) in cases {

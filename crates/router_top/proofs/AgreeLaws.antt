@@ -24,6 +24,7 @@ use Rattle.router_top.specs.Subject.{FileMap, FileNames, IsHalted, RoutingProble
 use Rattle.router_top.specs.declared.outcome.Obstacle.{Obstacle}
 use Rattle.router_top.proofs.GeneratedLaws.{one-made}
 use Rattle.router_top.proofs.PlacedLaws.{placed-agrees}
+use Rattle.router_top.proofs.GlobalLaws.{global-agrees}
 use Rattle.router_top.proofs.ServeLaws.{one-copy}
 use Rattle.router_top.proofs.StopLaws.{lack-poses, one-lack}
 use Rattle.router_top.specs.declared.size_cause.SizeCause.{SizeCause}
@@ -316,7 +317,7 @@ job-agrees (Verifies job) files a b h g = verify-agrees job files a b h g
 job-agrees (Judges job) files a b h g = judge-agrees job files a b h g
 job-agrees (Bounds job) files a b h g =
     placed-agrees files job.files IsTrueOfCut a b h g (λ placed h g. bounds-agree placed a b h g)
-job-agrees (Negotiates job) files a b h g = absurd h
+job-agrees (Negotiates job) files a b h g = global-agrees job files a b h g
 job-agrees (Generates job) files a b h g =
     recipe-agrees job.recipe (λ said. said ≡ Done) a b h g (λ s t. inl (s ∙ sym t))
 job-agrees (Tries job) files a b h g = trial-agrees job (Some files) a b h g

@@ -19,7 +19,7 @@ use Rattle.router_top.specs.Saying.{HasNoLead, IsLead, Leads, more_said}
 use Rattle.router_top.specs.Search.{proof_files, route_file}
 use Rattle.router_top.specs.Truth.{IsTrueOf, IsTrueOfSearch}
 use Rattle.router_top.specs.Work.{Finds}
-use Rattle.router_top.specs.Subject.{Bytes, ShelfState, RouteText, Step, Word, Outcome, Bound, Done, Unroutable, WriteFault, OutOfMemory, Said}
+use Rattle.router_top.specs.Subject.{Bytes, ShelfState, RouteText, Step, Word, Outcome, Bound, Done, Unroutable, WriteFault, OutOfMemory, Said, Routed}
 use Rattle.router_top.proofs.WrittenLaws.{AreApart}
 
 -- no fault of the shelf, no width that is unroutable, and no bound
@@ -86,17 +86,25 @@ pub record HasSearched (words : List Word) (at : Scene) (o : Outcome) : Type 0 w
   pub leads : Leads words at.desk.files at.shelf.files at.shelf_now.files o lead
   pub said : at.shelf_now.said ≡ more_said at.shelf.said lead
 
+-- what a run comes to that has written all its files
+abbrev pub IsDone : Outcome → Type 0
+IsDone Done = Unit {0}
+IsDone (Routed width) = Unit {0}
+IsDone outcome = ⊥
+
 -- files were written in silence, one after the other, or not all of them
 pub record HasWritten (words : List Word) (at : Scene) (o : Outcome) : Type 0 where
+  pub done : Outcome
+  pub is_done : IsDone done
   pub files : List JobFile
   pub of : AreFilesOf words at.desk.files files
   pub apart : AreApart files
   pub heard : AreHeard files
-  pub writes : WritesFiles files at.shelf at.shelf_now o
+  pub writes : WritesFiles done files at.shelf at.shelf_now o
   pub leads : HasNoLead words o
-  pub means : o ≡ Done → AreWritten files at.shelf.files at.shelf_now.files
-      → Means words at.desk.files at.shelf.files at.shelf_now.files Done
-  pub told : IsTrueOf words at.desk.files Done
+  pub means : o ≡ done → AreWritten files at.shelf.files at.shelf_now.files
+      → Means words at.desk.files at.shelf.files at.shelf_now.files done
+  pub told : IsTrueOf words at.desk.files done
 
 -- the lead was cut, and what the work has come to by then stands whole
 pub record IsCut (words : List Word) (at : Scene) (o : Outcome) : Type 0 where

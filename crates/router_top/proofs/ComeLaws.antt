@@ -39,13 +39,14 @@ use Rattle.router_top.specs.Bound.{BoundsTo, IsBounded, IsTrueOfCut, SaysCut, bo
 use Rattle.router_top.specs.Check.{JudgesTo, ChecksTo, cnf_source, judgement_outcome, lrat_source, VerifiesTo, judged_outcome}
 use Rattle.router_top.specs.Comes.{ComesTo, lower_files}
 use Rattle.router_top.specs.Generated.{PosesNone, generated_files, texts_of}
+use Rattle.router_top.specs.Global.{HasFiles, IsTrueOfFound, LeavesFound, found_file}
 use Rattle.router_top.specs.JobFiles.{IsClimb, LeavesWhole}
 use Rattle.router_top.specs.Means.{IsJudged, IsJudgedPlaced, Means}
 use Rattle.router_top.specs.Method.{IsRoutingBy, clauses_by}
 use Rattle.router_top.specs.Placed.{IsJudgement, IsTrueJudgement, JudgesPlaced, ReadsRouted}
 use Rattle.router_top.specs.Report.{climbed_outcome, found_outcome, written_outcome}
 use Rattle.router_top.specs.Suited.{LeavesPrepared, EncodeLeaves, IsUnsuited, LeavesSuited, RouteLeaves, Suits, SweepLeaves}
-use Rattle.router_top.specs.Run.{Leaves, LeavesJob, LeavesPlaced, LeavesWork, Scene, TriesGenerated, WritesGenerated}
+use Rattle.router_top.specs.Run.{Leaves, LeavesJob, LeavesPlaced, LeavesWork, Scene, TriesGenerated, WritesGenerated, LeavesGlobal}
 use Rattle.router_top.specs.Saying.{more_said, AreCutLines, AreNetLines, IsOfBound, IsUnroutable, Leads}
 use Rattle.router_top.specs.Search.{files_of, route_search, search_asked, sweep_of, sweep_search, Search, core_search, lower_widths, proof_files, route_file}
 use Rattle.router_top.specs.Work.{trial_line, Encodes, LeavesRoute, Sweeps, WritesClauses, clauses_file, Finds}
@@ -53,11 +54,12 @@ use Rattle.router_top.specs.Truth.{IsTrueOf, IsTrueOfEncoding, IsTrueOfJob, IsTr
 use Rattle.router_top.specs.Written.{JobFile, with_files, AreWritten}
 use Rattle.router_top.specs.Core.{LeavesCore, SaysBlamed, SaysLead}
 use Rattle.router_top.specs.Headline.{IsRefuted}
-use Rattle.router_top.specs.Subject.{Bytes, FileMap, ShelfState, after_say, FileNames, Poses, IsHalted, IsStopped, Says, RoutingProblem, RouteText, Cnf, Step, job_of, BoundAsked, Bounds, CheckAsked, Checks, EncodeAsked, Encodes as EncodesJob, GenAsked, Generates, JobAsked, JudgeAsked, Judges, Negotiates, RouteAsked, Routes, SweepAsked, Sweeps as SweepsJob, TrialAsked, Tries as TriesJob, Verifies, VerifyAsked, Blames, CoreAsked, Word, Method, Outcome, Bound, Done, Usage, WriteFault, OutOfMemory, Unroutable, Limit, File}
+use Rattle.router_top.specs.Subject.{Bytes, FileMap, ShelfState, after_say, FileNames, Poses, IsHalted, IsStopped, Says, RoutingProblem, RouteText, Cnf, Step, job_of, BoundAsked, Bounds, CheckAsked, Checks, EncodeAsked, Encodes as EncodesJob, GenAsked, Generates, JobAsked, JudgeAsked, Judges, Negotiates, RouteAsked, Routes, SweepAsked, Sweeps as SweepsJob, TrialAsked, Tries as TriesJob, Verifies, VerifyAsked, Blames, CoreAsked, Word, Method, Outcome, Bound, Done, Usage, WriteFault, OutOfMemory, Unroutable, Limit, File, GlobalAsked, Routed as IsRoutedAt}
 use Rattle.router_top.specs.declared.text_file.TextFile.TheVariants.{Cnf as CnfFile, Lrat, Routed}
 use Rattle.router_top.proofs.Came.{Came, Cut, HasCome, Idle, IsSpared, Searched, Told, Wrote, ended_with}
 use Rattle.router_top.proofs.ClimbLaws.{climbed-calm, climbed-logs, climbed-outcome, climbed-said}
 use Rattle.router_top.proofs.GeneratedLaws.{made-poses, problem-apart}
+use Rattle.router_top.proofs.GlobalLaws.{calm-lacking, lacking-holds, routing-said}
 use Rattle.router_top.proofs.LeftLaws.{none-left, log-left}
 use Rattle.router_top.proofs.LiteralLaws.{log_literals}
 use Rattle.router_top.proofs.NameLaws.{proof-apart, proofs-then-proof, proofs-then-route, route-apart}
@@ -473,6 +475,8 @@ module _ (words : List Word) (at : Scene) where
     written-came : (came : Result (Unit {0}) Stop) (o : Outcome) → o ≡ written_outcome came
         → WritesClauses job formula at.shelf at.shelf_now came → Came words at o
     written-came (Ok written) o is h = Wrote (record {
+      done = Done;
+      is_done = tt;
       files = clauses_file job p ∷ [];
       of = inr (inl (record {
         job = job;
@@ -502,6 +506,8 @@ module _ (words : List Word) (at : Scene) where
       told = encode-true Done (inr (suits, inr (h.0, refl)));
     })
     written-came (Err (Fault slot)) o is h = Wrote (record {
+      done = Done;
+      is_done = tt;
       files = clauses_file job p ∷ [];
       of = inr (inl (record {
         job = job;
@@ -752,6 +758,70 @@ module _ (words : List Word) (at : Scene) where
     bound-came o (inr (placed, poses, inr (cut, best, says))) =
         said-came placed poses cut best o says
 
+  -- ---- a route of a placement
+
+  module _ (job : GlobalAsked) (asked : job_of words ≡ Ok (Negotiates job)) where
+    global-true : (placed : PlacedNetlist) → HasFiles at.desk.files job placed → (o : Outcome)
+        → IsTrueOfFound job placed o → IsTrueOf words at.desk.files o
+    global-true placed has o told = true-of (Negotiates job) asked o (inr (placed, has, told))
+
+    found-came : (placed : PlacedNetlist) → HasFiles at.desk.files job placed → (o : Outcome)
+        → LeavesFound job placed at.shelf at.shelf_now o → Came words at o
+    found-came placed has o (inl (inl none, same)) = idle o same (λ other is. cc)
+        (subst Spares (sym none) (
+          tt,
+          record {
+            job = job;
+            asked = asked;
+            width_is = refl;
+            rounds_are = refl;
+            placed = placed;
+            files = has;
+            same = ap (λ (s : ShelfState). s.files) same;
+          },
+        ))
+        (λ calm. inl (global-true placed has o (inr none)))
+    found-came placed has o (inl (inr short, same)) = spent o same (λ other is. cc) short
+    found-came placed has o (inr (found, route, h)) = Wrote (record {
+      done = IsRoutedAt job.width;
+      is_done = tt;
+      files = found_file job found ∷ [];
+      of = inr (inr (inr (inl (record {
+        job = job;
+        asked = asked;
+        placed = placed;
+        has = has;
+        found = found;
+        route = route;
+        order = refl;
+      }))));
+      apart = (tt, tt);
+      heard = (tt, tt);
+      writes = h;
+      leads = record { no_trial = λ other is. cc; no_nets = λ other is unroutable. cc };
+      means = λ done written. inr (record {
+        job = job;
+        asked = asked;
+        width_is = refl;
+        placed = placed;
+        files = has;
+        found = found;
+        route = route;
+        says = routing-said at.desk.files job placed found has route;
+        written = written;
+      });
+      told = global-true placed has (IsRoutedAt job.width) (inl (found, route, refl));
+    })
+
+    global-came : (o : Outcome) → LeavesGlobal job at o → Came words at o
+    global-came o (inl (h, same)) = idle o same (λ other is. cc)
+        (lacking-holds Spares stops-spare (IsStopped at.desk at.desk_now) at.desk.files job o h)
+        (λ calm. elim (calm-lacking at.desk at.desk_now calm job o h) [
+          | inl told ↦ inl (true-of (Negotiates job) asked o (inl told))
+          | inr short ↦ inr short
+        ])
+    global-came o (inr (placed, has, h)) = found-came placed has o h
+
   -- ---- the files of a generated problem
 
   module _ (job : GenAsked) (asked : job_of words ≡ Ok (Generates job)) where
@@ -761,6 +831,8 @@ module _ (words : List Word) (at : Scene) where
         (λ calm. inl (true-of (Generates job) asked o (inl many)))
     made-came o (inl (inr short, same)) = spent o same (λ other is. cc) short
     made-came o (inr (room, h)) = Wrote (record {
+      done = Done;
+      is_done = tt;
       files = generated_files job.recipe job.prefix;
       of = inr (inr (inl (record { job = job; asked = asked; room = room; order = refl })));
       apart = problem-apart job.prefix (texts_of job.recipe);
@@ -858,7 +930,7 @@ module _ (words : List Word) (at : Scene) where
   job-came (Verifies job) o asked h = verify-came job asked o h.0 h.1
   job-came (Judges job) o asked h = judge-came job asked o h.0 h.1
   job-came (Bounds job) o asked h = bound-came job asked o h
-  job-came (Negotiates job) o asked h = spent o h.1 (λ other is. cc) h.0
+  job-came (Negotiates job) o asked h = global-came job asked o h
   job-came (Generates job) o asked h = made-came job asked o h.0
   job-came (TriesJob job) o asked h = trial-came job asked o h.0
 

@@ -186,7 +186,7 @@ module _ (words : List Word) (at : Scene) (calm : ¬ HasRisen at.desk.faults at.
 
     -- files in a row
     files-settle : (o : Outcome) (h : HasWritten words at o)
-        → WritesFiles h.files at.shelf at.shelf_now o → SettlesHere o
+        → WritesFiles h.done h.files at.shelf at.shelf_now o → SettlesHere o
     files-settle o h (inl done) = by-word at.shelf at.shelf_now Says o
         (omega (arith, ap (λ (s : ShelfState). s.faults) done.1, faults-after h.files at.shelf))
         (subst Says (sym done.0) h.told)

@@ -28,8 +28,8 @@ use Rattle.router_top.specs.Report.{found_outcome, unsaid}
 use Rattle.router_top.specs.Run.{Runs, Scene, scene}
 use Rattle.router_top.specs.Search.{proof_files, route_file}
 use Rattle.router_top.specs.Work.{Finds}
-use Rattle.router_top.specs.Subject.{DeskState, Bytes, FileMap, ShelfState, HasFew, Cnf, Step, Word, Outcome, InputFault, Limit, NotSymmetric, ReadFault, Unroutable, Usage, WriteFault, Slot, Said, File}
-use Rattle.router_top.proofs.Came.{AreHeard, Came, Cut, HasCome, HasWritten, Idle, IsHeard, IsSpared, Searched, Told, Wrote, ended_with}
+use Rattle.router_top.specs.Subject.{DeskState, Bytes, FileMap, ShelfState, HasFew, Cnf, Step, Word, Outcome, InputFault, Limit, NotSymmetric, ReadFault, Unroutable, Usage, WriteFault, Slot, Said, File, Done, Routed, Unfound}
+use Rattle.router_top.proofs.Came.{AreHeard, Came, Cut, HasCome, HasWritten, Idle, IsHeard, IsSpared, Searched, Told, Wrote, ended_with, IsDone}
 use Rattle.router_top.proofs.GeneratedLaws.{files-after}
 use Rattle.router_top.proofs.SlotNameLaws.{part-named}
 use Rattle.router_top.proofs.WrittenLaws.{AreApart, NoneHas, Stand, all-stand, are-written, get-other, with_files-append, written-stand}
@@ -165,7 +165,7 @@ module _ (words : List Word) (desk before : Option FileMap) where
   }
 
   pub none-left : (now : Option FileMap) → now ≡ before → LeavesWhole words desk before now
-  none-left now same = whole-left [] (inr (inr (inr refl))) tt now same
+  none-left now same = whole-left [] (inr (inr (inr (inr refl)))) tt now same
 
   -- a file behind others was begun
   part-left : (files : List JobFile) → AreFilesOf words desk files → AreApart files
@@ -226,6 +226,7 @@ module _ (words : List Word) (desk before : Option FileMap) where
   idle-left now (ReadFault file) spared same = same
   idle-left now (InputFault file line code) spared same = same
   idle-left now (NotSymmetric width why) spared same = same
+  idle-left now (Unfound width rounds) spared same = same
   idle-left now (Limit file code count) spared same = inl same
   idle-left now o spared same = none-left now same
 
@@ -416,12 +417,19 @@ module _ (words : List Word) (at : Scene) where
   part-leaves Said heard part = absurd heard
   part-leaves slot heard part = part
 
+  -- files that stand whole are what is left where all were written
+  done-leaves : (o : Outcome) → IsDone o
+      → LeavesWhole words at.desk.files at.shelf.files at.shelf_now.files → LeftHere o
+  done-leaves Done is_done whole = whole
+  done-leaves (Routed width) is_done whole = whole
+  done-leaves o is_done whole = absurd is_done
+
   -- files in a row
   files-left : (o : Outcome) (h : HasWritten words at o)
-      → WritesFiles h.files at.shelf at.shelf_now o → LeftHere o
-  files-left o h (inl done) = subst LeftHere (sym done.0)
+      → WritesFiles h.done h.files at.shelf at.shelf_now o → LeftHere o
+  files-left o h (inl done) = subst LeftHere (sym done.0) (done-leaves h.done h.is_done
       (whole-left words at.desk.files at.shelf.files h.files h.of h.apart at.shelf_now.files
-      (ap (λ (s : ShelfState). s.files) done.1 ∙ files-after h.files at.shelf))
+      (ap (λ (s : ShelfState). s.files) done.1 ∙ files-after h.files at.shelf)))
   files-left o h (inr (slot, fails, is)) =
       let off = breaks-off h.files at.shelf at.shelf_now slot fails in
       let part = part-left words at.desk.files at.shelf.files h.files h.of h.apart off.whole
@@ -452,6 +460,7 @@ module _ (words : List Word) (desk before now : Option FileMap) where
   unsaid-left (ReadFault file) h = none-left words desk before now h
   unsaid-left (InputFault file line code) h = none-left words desk before now h
   unsaid-left (NotSymmetric width why) h = none-left words desk before now h
+  unsaid-left (Unfound width rounds) h = none-left words desk before now h
   unsaid-left (Limit file code count) (inl same) = none-left words desk before now same
   unsaid-left (Limit file code count) (inr h) = h.2
   unsaid-left (WriteFault slot) h = h

@@ -5,6 +5,7 @@ mod ComeLaws
 mod CompleteLaws
 mod EndLaws
 mod GeneratedLaws
+mod GlobalLaws
 mod LeftLaws
 mod LimitRows
 mod LiteralLaws

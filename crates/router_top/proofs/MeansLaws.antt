@@ -60,7 +60,7 @@ module _ (words : List Word) (at : Scene) where
         → Finds h.comes.search h.comes.p h.width h.between at.shelf_now came
         → (IsRefutation came → h.width ≡ h.comes.search.last)
         → MeansHere (found_outcome h.width came)
-    found-means (Ok IsRoutedThere) f last = record {
+    found-means (Ok IsRoutedThere) f last = inl (record {
       comes = h.comes;
       few = f.0.few;
       found = f.1.found;
@@ -70,7 +70,7 @@ module _ (words : List Word) (at : Scene) where
           (h.comes.poses.route.faultless, h.comes.poses.route.says) f.1.routing);
       written = behind (route_file h.comes.search f.1.found ∷ []) (h.route_apart f.1.found) _
           f.1.written refl;
-    }
+    })
     found-means (Ok (Refuted lead)) f last = refuted-there lead f (last tt)
     found-means (Ok (Spent learned)) f last = record {
       comes = h.comes;
@@ -94,7 +94,7 @@ module _ (words : List Word) (at : Scene) where
 
   -- files that were written
   files-mean : (o : Outcome) (h : HasWritten words at o)
-      → WritesFiles h.files at.shelf at.shelf_now o → MeansHere o
+      → WritesFiles h.done h.files at.shelf at.shelf_now o → MeansHere o
   files-mean o h (inl done) = subst MeansHere (sym done.0)
       (h.means done.0 (are-written h.files at.shelf.files at.shelf_now.files
       (ap (λ (s : ShelfState). s.files) done.1 ∙ files-after h.files at.shelf) h.apart))

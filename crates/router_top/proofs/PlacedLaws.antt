@@ -1,8 +1,8 @@
 -- Work on the three files of a placed netlist: what holds of it, where it comes again, and that its
 -- true outcomes agree.
-use Rattle.std.proofs.Common.{◌≡◌, ◌∙◌, ◌⊎◌, Option, Some, sym, ap, subst, inl, inr}
+use Rattle.std.proofs.Common.{◌∙◌, ◌⊎◌, Option, Some, sym, ap, subst, inl, inr}
 use Rattle.desk_io.specs.Files.{HasRisen}
-use Rattle.fpga_problem.specs.Files.{PlacedNames, PosesPlaced}
+use Rattle.fpga_problem.specs.Files.{PlacedNames}
 use Rattle.fpga_problem.specs.declared.unread.Unread.{Unread}
 use Rattle.fpga_problem.proofs.FileLemmas as three
 use Rattle.fpga_types.specs.Problem.{PlacedNetlist}

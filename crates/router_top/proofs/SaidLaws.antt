@@ -17,7 +17,7 @@ use Rattle.router_top.specs.Search.{Search}
 use Rattle.router_top.specs.Work.{Finds}
 use Rattle.router_top.specs.Method.{clauses_by}
 use Rattle.router_top.specs.Subject.{DeskState, Bytes, FileMap, ShelfState, RoutingProblem, Word, Outcome, WriteFault, Slot, Said}
-use Rattle.router_top.proofs.Came.{Came, Cut, HasWritten, Idle, IsCut, IsHeard, IsSpared, Searched, Told, Wrote}
+use Rattle.router_top.proofs.Came.{Came, Cut, HasWritten, Idle, IsCut, IsHeard, IsSpared, Searched, Told, Wrote, IsDone}
 use Rattle.router_top.proofs.LeftLaws.{among-heard}
 
 -- ---- texts behind texts
@@ -87,6 +87,10 @@ spared-heard : (o : Outcome) → IsSpared o → IsHeard o
 spared-heard (WriteFault slot) spared = absurd spared
 spared-heard o spared = tt
 
+done-heard : (o : Outcome) → IsDone o → IsHeard o
+done-heard (WriteFault slot) is_done = absurd is_done
+done-heard o is_done = tt
+
 module _ (words : List Word) (at : Scene) where
   -- the lead was said, and no fault of what is said has come; or there was one in the lead
   abbrev HasLed : Outcome → Type 0
@@ -96,13 +100,13 @@ module _ (words : List Word) (at : Scene) where
       ⊎ IsCut words at o
 
   files-led : (o : Outcome) (h : HasWritten words at o)
-      → WritesFiles h.files at.shelf at.shelf_now o → HasLed o
+      → WritesFiles h.done h.files at.shelf at.shelf_now o → HasLed o
   files-led o h (inl done) = inl (
     [],
     inr (refl, h.leads),
     ap (λ (s : ShelfState). s.said) done.1 ∙ after-silent h.files at.shelf
         ∙ sym (more-none at.shelf.said),
-    subst IsHeard (sym done.0) tt,
+    subst IsHeard (sym done.0) (done-heard h.done h.is_done),
   )
   files-led o h (inr (slot, fails, is)) = inl (
     [],

@@ -1,5 +1,5 @@
 -- A file that a job writes has the name that its slot tells.
-use Rattle.std.proofs.Common.{◌≡◌, ◌⊎◌, ℕ, List, [], ◌∷◌, ◌++◌, Option, Some, Ok, refl, sym, subst, inl, inr}
+use Rattle.std.proofs.Common.{◌≡◌, ◌⊎◌, ℕ, List, [], ◌∷◌, ◌++◌, codes, Option, Some, Ok, refl, sym, subst, inl, inr}
 use Rattle.std.specs.Prelude.{flat_map}
 use Rattle.desk_io.specs.Files.{Bytes, FileMap}
 use Rattle.list_laws.proofs.Places.{some_is}
@@ -120,7 +120,9 @@ module _ (words : List Word) where
           (named Placement names.placement refl, (named GlobalRoute names.route refl, tt)),
         ),
       )
-  files-named desk files (inr (inr (inr none))) = subst AreNamed (sym none) tt
+  files-named desk files (inr (inr (inr (inl h)))) = subst AreNamed (sym h.order)
+      (by-job (Negotiates h.job) h.asked (File Route) (h.job.prefix ++ codes ".route") refl, tt)
+  files-named desk files (inr (inr (inr (inr none)))) = subst AreNamed (sym none) tt
 
   -- so has the file that was being written
   pub part-named : (desk : Option FileMap) (files : List JobFile) → AreFilesOf words desk files

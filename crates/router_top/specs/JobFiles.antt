@@ -4,8 +4,10 @@ use Rattle.std.specs.Prelude.{◌≡◌, ◌⊎◌, ℕ, ◌≤◌, ◌++◌, Li
 use Rattle.std.specs.List.{All}
 use Rattle.desk_io.specs.Changes.{OnlyChanges, held}
 use Rattle.desk_io.specs.Reading.{IsWhole}
+use Rattle.fpga_types.specs.Problem.{PlacedNetlist}
 use Rattle.router_top.specs.Comes.{ComesTo, lower_files, EndsSearch}
 use Rattle.router_top.specs.Generated.{HasRoom, generated_files}
+use Rattle.router_top.specs.Global.{HasFiles, IsFoundRoute, found_file}
 use Rattle.router_top.specs.Method.{IsRoutingBy, clauses_by}
 use Rattle.router_top.specs.Search.{Search, proof_files, route_file}
 use Rattle.router_top.specs.SizeCauses.{size_code}
@@ -13,7 +15,7 @@ use Rattle.router_top.specs.SlotNames.{name_written}
 use Rattle.router_top.specs.declared.size_cause.SizeCause.TheVariants.{FormulaClauses}
 use Rattle.router_top.specs.Work.{clauses_file}
 use Rattle.router_top.specs.Written.{AreWritten, JobFile, with_file}
-use Rattle.router_top.specs.Subject.{FileMap, Poses, RoutingProblem, RouteText, HasFew, Step, job_of, EncodeAsked, Encodes, GenAsked, Generates, JobAsked, SweepAsked, Sweeps, TrialAsked, Tries, Word, Outcome, InputFault, Limit, NotSymmetric, Usage, ReadFault, WriteFault, Slot, Said}
+use Rattle.router_top.specs.Subject.{FileMap, Poses, RoutingProblem, RouteText, HasFew, Step, job_of, EncodeAsked, Encodes, GenAsked, Generates, GlobalAsked, Negotiates, JobAsked, SweepAsked, Sweeps, TrialAsked, Tries, Word, Outcome, InputFault, Limit, NotSymmetric, Unfound, Usage, ReadFault, WriteFault, Slot, Said}
 
 -- ---- the files of each job
 
@@ -59,12 +61,23 @@ pub record AreGenerated (words : List Word) (files : List JobFile) : Type 0 wher
   pub room : HasRoom job.recipe
   pub order : files ≡ generated_files job.recipe job.prefix
 
+-- of `global`: the route that was found
+pub record AreNegotiated (words : List Word) (desk : Option FileMap) (files : List JobFile)
+    : Type 0 where
+  pub job : GlobalAsked
+  pub asked : job_of words ≡ Ok (Negotiates job)
+  pub placed : PlacedNetlist
+  pub has : HasFiles desk job placed
+  pub found : RouteText
+  pub route : IsFoundRoute job placed found
+  pub order : files ≡ found_file job found ∷ []
+
 -- the files that the words ask for, in the order in which they are written; none where the work
 -- does not come to a file
 abbrev pub AreFilesOf : List Word → (desk : Option FileMap) → List JobFile → Type 0
 AreFilesOf words desk files =
     AreSearched words desk files ⊎ AreEncoded words desk files ⊎ AreGenerated words files
-    ⊎ (files ≡ [])
+    ⊎ AreNegotiated words desk files ⊎ (files ≡ [])
 
 -- ---- what is left of them
 
@@ -107,14 +120,15 @@ IsClimb words =
     ⊎ ((job : TrialAsked) × (job_of words ≡ Ok (Tries job)))
 
 -- what is left of the files, by the answer: nothing is written where the words are not taken, where
--- a file is not read or is refused, where tracks are not alike as the method asks, and where a
--- limit is passed, but for that of the clauses in a climb; a fault of a file leaves a part; and
--- after each other answer the files that were begun are whole
+-- a file is not read or is refused, where tracks are not alike as the method asks, where rounds have
+-- found no route, and where a limit is passed, but for that of the clauses in a climb; a fault of a
+-- file leaves a part; and after each other answer the files that were begun are whole
 abbrev pub LeavesFiles : List Word → (desk before now : Option FileMap) → Outcome → Type 0
 LeavesFiles words desk before now (Usage code) = now ≡ before
 LeavesFiles words desk before now (ReadFault file) = now ≡ before
 LeavesFiles words desk before now (InputFault file line code) = now ≡ before
 LeavesFiles words desk before now (NotSymmetric width why) = now ≡ before
+LeavesFiles words desk before now (Unfound width rounds) = now ≡ before
 LeavesFiles words desk before now (Limit file code count) =
     (now ≡ before)
     ⊎ ((code ≡ size_code FormulaClauses) × IsClimb words × LeavesWhole words desk before now)

@@ -3,6 +3,7 @@ pub mod Check
 pub mod Comes
 pub mod Core
 pub mod Generated
+pub mod Global
 pub mod Headline
 pub mod JobFiles
 pub mod Means

@@ -14,12 +14,13 @@ use Rattle.sat_text.specs.LratText.{lrat_said}
 use Rattle.router_top.specs.Bound.{IsBounded}
 use Rattle.router_top.specs.Check.{cnf_source, lrat_source}
 use Rattle.router_top.specs.Generated.{HasRoom, generated_files}
+use Rattle.router_top.specs.Global.{IsNegotiated, IsUnfound}
 use Rattle.router_top.specs.Headline.{IsLeftOpen, IsRefuted, IsRouted}
 use Rattle.router_top.specs.Method.{clauses_by}
 use Rattle.router_top.specs.Placed.{SaysIfLegal}
 use Rattle.router_top.specs.Work.{clauses_file}
 use Rattle.router_top.specs.Written.{AreWritten}
-use Rattle.router_top.specs.Subject.{FileMap, Poses, Says, route_source, RoutingProblem, RouteText, HasFew, Cnf, Step, job_of, CheckAsked, Checks, EncodeAsked, Encodes, GenAsked, Generates, JudgeAsked, Judges, VerifyAsked, Verifies, Word, Outcome, Accepted, Bound, Done, LegalRoute, NotLegal, Routed, Undecided, Unroutable}
+use Rattle.router_top.specs.Subject.{FileMap, Poses, Says, route_source, RoutingProblem, RouteText, HasFew, Cnf, Step, job_of, CheckAsked, Checks, EncodeAsked, Encodes, GenAsked, Generates, JudgeAsked, Judges, VerifyAsked, Verifies, Word, Outcome, Accepted, Bound, Done, LegalRoute, NotLegal, Routed, Undecided, Unroutable, Unfound}
 
 -- the words ask for the clauses, and one file alone was written: those of the problem
 pub record IsEncoded (words : List Word) (desk before now : Option FileMap) : Type 0 where
@@ -85,11 +86,14 @@ IsJudgedSo words desk judgement =
 -- what an answer means, by the files of the desk and those of the shelf before the run and after
 -- it; of the answers that something keeps the run from its work, *Runs* speaks
 abbrev pub Means : List Word → (desk before now : Option FileMap) → Outcome → Type 0
-Means words desk before now (Routed width) = IsRouted words desk before now width
+Means words desk before now (Routed width) =
+    IsRouted words desk before now width ⊎ IsNegotiated words desk before now width
 Means words desk before now (Unroutable width) = IsRefuted words desk before now width
 Means words desk before now (Undecided width learned) =
     IsLeftOpen words desk before now width learned
 Means words desk before now (Bound tracks cells nets) = IsBounded words desk tracks cells nets
+Means words desk before now (Unfound width rounds) =
+    IsUnfound words desk before now width rounds
 Means words desk before now Done =
     IsEncoded words desk before now ⊎ IsGenerated words before now
 Means words desk before now Accepted = IsProved words desk

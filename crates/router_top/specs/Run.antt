@@ -1,5 +1,6 @@
 -- A run: the words, then the files in their order, then the work, and last the report.
 use Rattle.std.specs.Prelude.{◌≡◌, ◌⊎◌, List, MatchResult}
+use Rattle.fpga_types.specs.Problem.{PlacedNetlist}
 use Rattle.router_words.specs.Refusal.{code_of}
 use Rattle.fpga_problem.specs.Files.{PlacedNames, PosesPlaced}
 use Rattle.fpga_types.specs.Problem.{PlacedNetlist}
@@ -7,12 +8,13 @@ use Rattle.router_top.specs.Bound.{BoundsTo}
 use Rattle.router_top.specs.Check.{ChecksTo, VerifiesTo}
 use Rattle.router_top.specs.Core.{LeavesCore}
 use Rattle.router_top.specs.Written.{WritesFiles}
+use Rattle.router_top.specs.Global.{HasFiles, LacksFiles, LeavesFound}
 use Rattle.router_top.specs.Generated.{HasRoom, Makes, MakesNone, PosesNone, generated_files}
 use Rattle.router_top.specs.Placed.{GivesNoPlaced, IsTrueJudgement, JudgesPlaced}
 use Rattle.router_top.specs.Report.{GivesNone, IsReadFault, line_of, unsaid}
 use Rattle.router_top.specs.Suited.{EncodeLeaves, RouteLeaves, SweepLeaves}
 use Rattle.router_top.specs.Work.{Tries}
-use Rattle.router_top.specs.Subject.{DeskState, FailsToSay, ShelfState, after_say, FileNames, Poses, IsStopped, RoutingProblem, job_of, Blames, Bounds, Checks, Encodes as EncodesJob, GenAsked, Generates, JobAsked, Judges, Negotiates, Routes, Sweeps as SweepsJob, TrialAsked, Tries as TriesJob, Verifies, Word, Outcome, Usage, OutOfMemory}
+use Rattle.router_top.specs.Subject.{DeskState, FailsToSay, ShelfState, after_say, FileNames, Poses, IsStopped, RoutingProblem, job_of, Blames, Bounds, Checks, Encodes as EncodesJob, GenAsked, Generates, GlobalAsked, JobAsked, Judges, Negotiates, Routes, Sweeps as SweepsJob, TrialAsked, Tries as TriesJob, Verifies, Word, Outcome, Usage, OutOfMemory, Done}
 
 -- the desk and the shelf before the work and after it
 pub record Scene : Type 0 where
@@ -50,7 +52,7 @@ abbrev pub WritesGenerated : GenAsked → (before now : ShelfState) → Outcome 
 WritesGenerated job before now outcome =
     (MakesNone job.recipe outcome × (now ≡ before))
     ⊎ (HasRoom job.recipe
-    × WritesFiles (generated_files job.recipe job.prefix) before now outcome)
+    × WritesFiles Done (generated_files job.recipe job.prefix) before now outcome)
 
 -- nothing was written, since no problem was made, or one that is too large; or a problem was made
 -- that is not, and this is what the trial of it leaves
@@ -58,6 +60,15 @@ abbrev pub TriesGenerated : TrialAsked → (before now : ShelfState) → Outcome
 TriesGenerated job before now outcome =
     (PosesNone job.recipe outcome × (now ≡ before))
     ⊎ ((p : RoutingProblem) × Makes job.recipe p × Tries job p before now outcome)
+
+-- nothing was written, since a file of the job gives nothing; or they pose a placed netlist, and
+-- this is what the search for a route of it leaves
+abbrev pub LeavesGlobal : GlobalAsked → Scene → Outcome → Type 0
+LeavesGlobal job at outcome =
+    (LacksFiles (IsStopped at.desk at.desk_now) at.desk.files job outcome
+    × (at.shelf_now ≡ at.shelf))
+    ⊎ ((placed : PlacedNetlist) × HasFiles at.desk.files job placed
+    × LeavesFound job placed at.shelf at.shelf_now outcome)
 
 -- what each job leaves before its outcome is reported; to check a refutation and to judge a routed
 -- file writes nothing, and no file is read where a problem is generated
@@ -76,7 +87,7 @@ LeavesJob (Judges job) at outcome =
     JudgesPlaced (IsStopped at.desk at.desk_now) at.desk.files job (IsTrueJudgement job) outcome
     × (at.shelf_now ≡ at.shelf)
 LeavesJob (Bounds job) at outcome = LeavesPlaced job.files BoundsTo at outcome
-LeavesJob (Negotiates job) at outcome = (outcome ≡ OutOfMemory) × (at.shelf_now ≡ at.shelf)
+LeavesJob (Negotiates job) at outcome = LeavesGlobal job at outcome
 LeavesJob (Generates job) at outcome =
     WritesGenerated job at.shelf at.shelf_now outcome × (at.desk_now ≡ at.desk)
 LeavesJob (TriesJob job) at outcome =

@@ -18,8 +18,8 @@ abbrev pub prefix_given : JobAsked → Option Prefix
 prefix_given (Routes job) = Some (OfOne job.search.prefix)
 prefix_given (Blames job) = Some (OfOne job.prefix)
 prefix_given (Encodes job) = Some (OfOne job.prefix)
-prefix_given (Generates job) = Some (OfOne job.prefix)
 prefix_given (Negotiates job) = Some (OfOne job.prefix)
+prefix_given (Generates job) = Some (OfOne job.prefix)
 prefix_given (Sweeps job) = Some (OfEach job.search.prefix)
 prefix_given (Tries job) = Some (OfEach job.search.prefix)
 prefix_given job = None

@@ -4,18 +4,20 @@ use Rattle.std.specs.Option.{ForSome}
 use Rattle.desk_io.specs.Files.{HasRisen}
 use Rattle.route_ways.specs.Way.{budget_of}
 use Rattle.sat_clause.specs.declared.limits.TheConstants.{CLAUSE_LIMIT}
+use Rattle.fpga_types.specs.Problem.{PlacedNetlist}
 use Rattle.router_words.specs.Refusal.{code_of}
 use Rattle.router_top.specs.SizeCauses.{size_code}
 use Rattle.router_top.specs.declared.size_cause.SizeCause.TheVariants.{FormulaClauses, ClausesOfTurns}
 use Rattle.router_top.specs.Bound.{IsTrueOfCut}
 use Rattle.router_top.specs.Check.{ChecksTo, VerifiesTo}
 use Rattle.router_top.specs.Generated.{HasRoom, IsTooLarge, IsTooMany, Makes}
+use Rattle.router_top.specs.Global.{HasFiles, IsTrueOfFound, LacksFiles}
 use Rattle.router_top.specs.Method.{HasNone, HasOne, clauses_by}
 use Rattle.router_top.specs.Placed.{IsJudgement, JudgesPlaced, WorksOnPlaced}
 use Rattle.router_top.specs.Report.{GivesNone}
 use Rattle.router_top.specs.Search.{Search, clauses_held, core_search, route_search, sweep_of, sweep_search}
 use Rattle.router_top.specs.Suited.{IsTrueOfSuited}
-use Rattle.router_top.specs.Subject.{DeskState, FileMap, ShelfState, FileNames, Poses, IsHalted, RoutingProblem, HasFew, job_of, Blames, Bounds, Checks, EncodeAsked, Encodes, Generates, JobAsked, Judges, Negotiates, Routes, Sweeps, Tries, Verifies, Word, Outcome, Routed, Unroutable, Undecided, Bound, Done, Limit, Usage, OutOfMemory}
+use Rattle.router_top.specs.Subject.{DeskState, FileMap, ShelfState, FileNames, Poses, IsHalted, RoutingProblem, HasFew, job_of, Blames, Bounds, Checks, EncodeAsked, Encodes, Generates, JobAsked, Judges, Negotiates, Routes, Sweeps, Tries, Verifies, Word, Outcome, Routed, Unroutable, Undecided, Bound, Done, Limit, Usage, OutOfMemory, GlobalAsked, Unfound}
 use Rattle.router_top.specs.declared.size_cause.SizeCause.{SizeCause}
 
 -- so many clauses are more than may be built, as this cause says, and the outcome has their number;
@@ -71,6 +73,13 @@ IsTrueOfWork names says files outcome =
     GivesNone (IsHalted files) files names outcome
     ⊎ ((p : RoutingProblem) × Poses files names p × says p outcome)
 
+-- a file of the job gives nothing, and the outcome says why; or they pose a placed netlist, of which
+-- the outcome is true
+abbrev pub IsTrueOfGlobal : GlobalAsked → Option FileMap → Outcome → Type 0
+IsTrueOfGlobal job files outcome =
+    LacksFiles (IsHalted files) files job outcome
+    ⊎ ((placed : PlacedNetlist) × HasFiles files job placed × IsTrueOfFound job placed outcome)
+
 -- what an outcome says of the files of each job
 abbrev pub IsTrueOfJob : JobAsked → Option FileMap → Outcome → Type 0
 IsTrueOfJob (Routes job) files outcome =
@@ -87,7 +96,7 @@ IsTrueOfJob (Judges job) files outcome =
     JudgesPlaced (IsHalted files) files job (IsJudgement job) outcome
 IsTrueOfJob (Bounds job) files outcome =
     WorksOnPlaced (IsHalted files) files job.files IsTrueOfCut outcome
-IsTrueOfJob (Negotiates job) files outcome = ⊥
+IsTrueOfJob (Negotiates job) files outcome = IsTrueOfGlobal job files outcome
 IsTrueOfJob (Generates job) files outcome =
     IsTooMany job.recipe outcome ⊎ (HasRoom job.recipe × (outcome ≡ Done))
 IsTrueOfJob (Tries job) files outcome =
@@ -107,6 +116,7 @@ IsOpenBelow (Undecided width learned) (Routed of) = width ≤ of
 IsOpenBelow (Undecided width learned) (Unroutable of) = width ≤ of
 IsOpenBelow (Undecided width learned) (Undecided of others) = (width ≤ of) × (learned ≡ others)
 IsOpenBelow (Undecided width learned) (Limit file code count) = code ≡ size_code FormulaClauses
+IsOpenBelow (Unfound width rounds) (Routed of) = width ≤ of
 IsOpenBelow outcome other = ⊥
 
 -- both are bounds

@@ -5,7 +5,7 @@ use Rattle.std.specs.List.{All}
 use Rattle.std.specs.FinMap.{insert}
 use Rattle.desk_io.specs.Reading.{IsWhole}
 use Rattle.desk_io.specs.WholeFile.{FailsToWrite, after_writing}
-use Rattle.router_top.specs.Subject.{Bytes, FileMap, ShelfState, Outcome, Done, WriteFault, Slot}
+use Rattle.router_top.specs.Subject.{Bytes, FileMap, ShelfState, Outcome, WriteFault, Slot}
 
 -- a file that a job writes: the slot by which reports name it, its name and its text
 pub record JobFile : Type 0 where
@@ -43,8 +43,10 @@ FailsAmong (file ∷ files) before now failed =
     ((failed ≡ file.slot) × FailsToWrite before file.name file.text now)
     ⊎ FailsAmong files (after_writing before file.name file.text) now failed
 
--- all files were written; or one was not, and the outcome has its slot
-abbrev pub WritesFiles : List JobFile → (before now : ShelfState) → Outcome → Type 0
-WritesFiles files before now outcome =
-    ((outcome ≡ Done) × (now ≡ after_files files before))
+-- all files were written, and this is the outcome of that; or one was not, and the outcome has its
+-- slot
+abbrev pub WritesFiles : (done : Outcome) → List JobFile → (before now : ShelfState) → Outcome
+    → Type 0
+WritesFiles done files before now outcome =
+    ((outcome ≡ done) × (now ≡ after_files files before))
     ⊎ ((slot : Slot) × FailsAmong files before now slot × (outcome ≡ WriteFault slot))

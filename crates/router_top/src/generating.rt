@@ -5,6 +5,7 @@ ghost use Rattle.router_words.specs.Job.{gen_said, recipe_said};
 ghost use Rattle.router_top.specs.Written.{WritesFiles};
 ghost use Rattle.router_top.specs.Generated.{HasRoom, MakesNone, problem_files, texts_of};
 ghost use Rattle.router_top.specs.Run.{WritesGenerated};
+ghost use Rattle.router_top.specs.declared.outcome.Outcome.TheVariants.{Done};
 
 use crate::file_name::file_name;
 use crate::outcome::Outcome;
@@ -88,7 +89,7 @@ impl Prints<Vec<u8>> for WholeText {
 
 // Writes four texts, each under its name.
 fn write_texts<S: Shelf>(shelf: &mut S, names: &ProblemNames, texts: &FourTexts) -> Outcome
-    ensures { WritesFiles (problem_files names.now texts.now) (S.state shelf.old)
+    ensures { WritesFiles Done (problem_files names.now texts.now) (S.state shelf.old)
         (S.state shelf.new) result }
 {
     let name = names.architecture.as_str();

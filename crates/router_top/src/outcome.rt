@@ -41,6 +41,12 @@ pub enum Outcome {
         cells: u32,
         nets: u64,
     },
+    /// In as many rounds as were asked for no route of the placement was found with its tracks,
+    /// whether or not there is one.
+    Unfound {
+        width: u32,
+        rounds: u32,
+    },
     /// What was asked for was written.
     Done,
     /// The log refutes the formula.
@@ -107,7 +113,7 @@ pub fn status(outcome: &Outcome) -> u8
         | Outcome::Accepted
         | Outcome::LegalRoute => 0,
         Outcome::Unroutable { .. } | Outcome::NotAccepted { .. } | Outcome::NotLegal { .. } => 1,
-        Outcome::Undecided { .. } => 2,
+        Outcome::Undecided { .. } | Outcome::Unfound { .. } => 2,
         Outcome::InputFault { .. } | Outcome::Limit { .. } | Outcome::NotSymmetric { .. } => 3,
         Outcome::Usage { .. } => 4,
         Outcome::ReadFault { .. } => 5,
@@ -131,6 +137,11 @@ pub fn report(outcome: &Outcome) -> ArrayString<LINE_ROOM>
             line.push_str(" learned clauses");
         }
         Outcome::Bound { tracks, .. } => push_count(&mut line, "bound ", tracks as u64),
+        Outcome::Unfound { width, rounds } => {
+            push_count(&mut line, "undecided ", width as u64);
+            push_count(&mut line, " after ", rounds as u64);
+            line.push_str(" rounds");
+        }
         Outcome::Done => line.push_str("done"),
         Outcome::Accepted => line.push_str("accepted"),
         Outcome::NotAccepted { step, cause } => {

@@ -12,6 +12,7 @@ use crate::bounding::bound_files;
 use crate::checking::check_files;
 use crate::generating::generate_files;
 use crate::judging::judge_file;
+use crate::negotiating::negotiate_files;
 use crate::outcome::{Outcome, report};
 use crate::problem_work::work_on;
 use crate::slot::Slot;
@@ -63,7 +64,7 @@ fn work<D: Desk, S: Shelf>(alloc: Global, words: &[String], desk: &mut D, shelf:
         Ok(Job::Verify(job)) => verify_file(alloc, &job, desk),
         Ok(Job::Judge(job)) => judge_file(alloc, &job, desk),
         Ok(Job::Bound(job)) => bound_files(alloc, &job, desk, shelf),
-        Ok(Job::Global(_)) => Outcome::OutOfMemory,
+        Ok(Job::Global(job)) => negotiate_files(alloc, &job, desk, shelf),
         Ok(Job::Gen(job)) => generate_files(alloc, &job, shelf),
         Ok(Job::Trial(job)) => trial(alloc, &job, shelf),
         Err(WordsFault::Refused(cause)) => Outcome::Usage { code: cause.code() },
@@ -124,6 +125,10 @@ fn say_report<S: Shelf>(shelf: &mut S, outcome: Outcome) -> Outcome
 /// `bound` asks how many tracks each routing of the placement has at the least, whatever its cells:
 /// it says a line that names a cut of the array, a line `net NAME` for each net that crosses it, and
 /// writes nothing.
+///
+/// `global` reads the first three files alone, and looks for a route of the placement together with
+/// its tracks. It writes PREFIX.route where one is found in as many rounds as it is given, and else
+/// nothing.
 ///
 /// `gen` makes a problem from its recipe and writes PREFIX.arch, PREFIX.net, PREFIX.place and
 /// PREFIX.route. `trial` makes one too, says a line with the numbers of its slots, its steps and

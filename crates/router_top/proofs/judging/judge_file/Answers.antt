@@ -1,4 +1,4 @@
-use Rattle.std.proofs.Common.{◌≡◌, ◌∙◌, inl, inr, ℕ}
+use Rattle.std.proofs.Common.{◌∙◌, inl, inr}
 use Rattle.fpga_problem.specs.Sources.{Reads, Stops, route_source}
 use Rattle.fpga_problem.specs.declared.unread.FileFault.TheVariants.{Text}
 use Rattle.fpga_problem.proofs.SourceLemmas.{says-before, stop-before}

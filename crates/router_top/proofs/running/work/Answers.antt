@@ -50,3 +50,8 @@ pub returns-in-Ok-Check-clause-leaves : goal.returns-in-Ok-Check-clause-leaves
 returns-in-Ok-Check-clause-leaves g c =
     let asked = rw c.in-Ok-Check.field-0-is at c.in-Ok-Check.ensures.answers in
     inr (rw asked (c.check_files.ensures.checks, refl))
+
+pub returns-in-Ok-Global-clause-leaves : goal.returns-in-Ok-Global-clause-leaves
+returns-in-Ok-Global-clause-leaves g c =
+    let asked = rw c.in-Ok-Global.field-0-is at c.in-Ok-Global.ensures.answers in
+    inr (rw asked c.negotiate_files.ensures.leaves)

@@ -1,0 +1,121 @@
+//! Words for rounds that have found no route of a placement.
+ghost use Rattle.std.specs.Prelude.{◌≡◌, ◌*◌, ◌<◌, ◌≤◌, ◌++◌, OnOk, min, string_bytes};
+ghost use Rattle.router_says.specs.Names.{asked};
+ghost use Rattle.router_says.specs.Unfound.{
+  freer_said,
+  is_free,
+  more_rounds_said,
+  others_said,
+  rounds_said,
+  tries_said,
+  try_rounds_said,
+  unfound_said,
+  wider_said,
+};
+ghost use Rattle.router_words.specs.declared.limits.TheConstants.{ROUND_LIMIT};
+
+use fpga_types::WIDTH_LIMIT;
+use router_words::{Job, ROUND_LIMIT};
+use std::alloc::AllocError;
+
+/// Appends that a width is open, since rounds have found no route, and what can be tried.
+pub(crate) fn append_unfound(
+    out: &mut String,
+    job: Option<Job<'_>>,
+    width: u32,
+    rounds: u32,
+) -> Result<(), AllocError>
+    ensures { OnOk result (string_bytes out.new
+        ≡ string_bytes out.old ++ unfound_said (asked job.entry) width rounds) }
+{
+    append_rounds(out, width, rounds)?;
+    append_tries(out, is_free(job), width, rounds)?;
+    Ok(())
+}
+
+// What can be tried.
+fn append_tries(out: &mut String, free: bool, width: u32, rounds: u32) -> Result<(), AllocError>
+    ensures { OnOk result
+        (string_bytes out.new ≡ string_bytes out.old ++ tries_said free width rounds) }
+{
+    out.push_str("\nTry")?;
+    append_more_rounds(out, rounds)?;
+    append_others(out, free, width)?;
+    Ok(())
+}
+
+// What can be tried beside more rounds.
+fn append_others(out: &mut String, free: bool, width: u32) -> Result<(), AllocError>
+    ensures { OnOk result (string_bytes out.new ≡ string_bytes out.old ++ others_said free width) }
+{
+    out.push_str(freer_said(free))?;
+    out.push_str(wider_said(width))?;
+    out.push_str(" another placement.")?;
+    Ok(())
+}
+
+// In how many rounds none was found.
+fn append_rounds(out: &mut String, width: u32, rounds: u32) -> Result<(), AllocError>
+    ensures { OnOk result
+        (string_bytes out.new ≡ string_bytes out.old ++ rounds_said width rounds) }
+{
+    write!(
+        out,
+        "Whether there is a route with {width} tracks is open: the search found none in {rounds} \
+         rounds."
+    )
+}
+
+// How many rounds can be tried next, if the words take more.
+fn append_more_rounds(out: &mut String, rounds: u32) -> Result<(), AllocError>
+    ensures { OnOk result
+        (string_bytes out.new ≡ string_bytes out.old ++ more_rounds_said rounds) }
+{
+    if rounds >= ROUND_LIMIT {
+        return Ok(());
+    }
+    append_try_rounds(out, more_rounds(rounds))
+}
+
+// Ten times as many rounds, but no more than the words take.
+fn more_rounds(rounds: u32) -> u32
+    requires { rounds < ROUND_LIMIT }
+    ensures value { result ≡ min (rounds * 10) ROUND_LIMIT }
+    ensures within { result ≤ ROUND_LIMIT }
+{
+    (rounds * 10).min(ROUND_LIMIT)
+}
+
+fn append_try_rounds(out: &mut String, rounds: u32) -> Result<(), AllocError>
+    ensures { OnOk result (string_bytes out.new ≡ string_bytes out.old ++ try_rounds_said rounds) }
+{
+    write!(out, " --rounds {rounds},")
+}
+
+// Whether the words let a net have several wires of a cell.
+fn is_free(job: Option<Job<'_>>) -> bool
+    ensures { result ≡ is_free (asked job.entry) }
+{
+    match job {
+        Some(Job::Global(job)) => job.free,
+        _ => false,
+    }
+}
+
+// A net can be let have several wires of a cell, where it may not yet.
+fn freer_said(free: bool) -> &'static str
+    ensures { result.now ≡ freer_said free }
+{
+    if free { "" } else { " --free," }
+}
+
+// A greater width can be tried, where the words take one.
+fn wider_said(width: u32) -> &'static str
+    ensures { result.now ≡ wider_said width }
+{
+    if width < WIDTH_LIMIT {
+        " a greater width or"
+    } else {
+        ""
+    }
+}

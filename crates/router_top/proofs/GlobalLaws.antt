@@ -1,0 +1,116 @@
+-- What keeps a search for a route of a placement from its work is one thing; what is found says a
+-- routing, and two outcomes that are true of the same files agree.
+use Rattle.std.proofs.Common.{◌≡◌, ◌∙◌, ◌⊎◌, ℕ, Option, Some, None, sym, subst, inl, inr, refl, arith}
+use Rattle.std.specs.Prelude.{not}
+use Rattle.desk_io.specs.Files.{HasRisen}
+use Rattle.fpga_problem.proofs.FileLemmas.{one-placed, placed-lack-poses}
+use Rattle.fpga_problem.proofs.SourceLemmas.{calm-stops, halted-says, stops-alike}
+use Rattle.fpga_problem.specs.declared.text_file.TextFile.TheVariants.{Route as RouteFile}
+use Rattle.fpga_types.specs.Placed.{NetWires}
+use Rattle.fpga_types.specs.Problem.{PlacedNetlist}
+use Rattle.route_judge.specs.Says.{SaysRouting}
+use Rattle.route_judge.proofs.OwnEnds.{own-ends}
+use Rattle.route_judge.proofs.SaysLemmas.{says}
+use Rattle.router_top.specs.Global.{HasFiles, HasStart, IsFoundRoute, IsTrueOfFound, LacksFiles, LacksStart}
+use Rattle.router_top.specs.Truth.{Agrees, IsOpenBelow, IsTrueOfGlobal}
+use Rattle.router_top.specs.Subject.{DeskState, FileMap, IsHalted, IsStopped, Source, FileFault, RouteText, GlobalAsked, Word, Outcome, Routed, Unfound}
+use Rattle.router_top.specs.declared.text_file.TextFile.TheVariants.{Problem}
+use Rattle.router_top.proofs.PlacedLaws.{calm-placed, placed-agrees, placed-lacks-hold}
+use Rattle.router_top.proofs.StopLaws.{HoldsOfStops, IsSpent, unread-holds}
+
+-- ---- the route to begin with
+
+module _ (Q : Outcome → Type 0) (each : HoldsOfStops Q) (stops : Source → FileFault → Type 0) where
+  start-holds : (start : Option Word) (o : Outcome) → LacksStart stops start o → Q o
+  start-holds None o h = absurd h
+  start-holds (Some name) o h =
+      subst Q (sym h.tells) (unread-holds Q each (Problem RouteFile) h.fault)
+
+  -- what holds of want of memory, of faults and of limits holds of files that give nothing
+  pub lacking-holds : (files : Option FileMap) (job : GlobalAsked) (o : Outcome)
+      → LacksFiles stops files job o → Q o
+  lacking-holds files job o (inl h) = placed-lacks-hold Q each stops files job.files o h
+  lacking-holds files job o (inr (placed, poses, h)) = start-holds job.from o h
+
+module _ (desk now : DeskState) (calm : ¬ HasRisen desk.faults now.faults) where
+  calm-start : (start : Option Word) (o : Outcome) → LacksStart (IsStopped desk now) start o
+      → LacksStart (IsHalted desk.files) start o ⊎ IsSpent o
+  calm-start None o h = absurd h
+  calm-start (Some name) o h = calm-stops desk now IsSpent calm refl h
+
+  -- where the desk has not failed, files that give nothing are kept from it by what they hold
+  pub calm-lacking : (job : GlobalAsked) (o : Outcome)
+      → LacksFiles (IsStopped desk now) desk.files job o
+      → LacksFiles (IsHalted desk.files) desk.files job o ⊎ IsSpent o
+  calm-lacking job = calm-placed desk now job.files calm (λ placed. calm-start job.from)
+
+module _ (files : FileMap) where
+  -- what the files of a desk hold keeps a job from its work
+  abbrev Lacks : GlobalAsked → Outcome → Type 0
+  Lacks job o = LacksFiles (IsHalted (Some files)) (Some files) job o
+
+  one-start : (start : Option Word) (a b : Outcome)
+      → LacksStart (IsHalted (Some files)) start a → LacksStart (IsHalted (Some files)) start b
+      → a ≡ b
+  one-start None a b h g = absurd h
+  one-start (Some name) a b h g = stops-alike files h g
+
+  no-start : (start : Option Word) (a : Outcome) → LacksStart (IsHalted (Some files)) start a
+      → HasStart (Some files) start → ⊥
+  no-start None a h has = h
+  no-start (Some name) a h has = halted-says files h.fault h.because has.1
+
+  -- what keeps files from giving something is told in one way
+  lacking-agrees : (job : GlobalAsked) (a b : Outcome) → Lacks job a → Lacks job b → Agrees a b
+  lacking-agrees job a b h g =
+      placed-agrees files job.files (λ placed. LacksStart (IsHalted (Some files)) job.from) a b h g
+      (λ placed u v. inl (one-start job.from a b u v))
+
+  -- files that give all are not kept from it
+  lacking-has : (job : GlobalAsked) (placed : PlacedNetlist) (a : Outcome) → Lacks job a
+      → HasFiles (Some files) job placed → ⊥
+  lacking-has job placed a (inl h) has =
+      placed-lack-poses files job.files placed h.0 h.1 has.poses
+  lacking-has job placed a (inr (other, poses, h)) has = no-start job.from a h has.start
+
+-- ---- what is found
+
+-- it says a routing of the placement
+pub routing-said : (files : Option FileMap) (job : GlobalAsked) (placed : PlacedNetlist)
+    (found : RouteText) → HasFiles files job placed → IsFoundRoute job placed found
+    → (has : ℕ → NetWires) × SaysRouting placed job.width found has
+routing-said files job placed found has route =
+    let net = has.poses.netlist in
+    says (not job.free) job.width placed found route.sound
+    (own-ends placed.arch net.text placed.netlist placed.placement (net.faultless, net.says)
+    has.sound.netlist has.sound.placement) route.legal
+
+-- that none was found leaves the width of one that was found open
+open-at : (job : GlobalAsked) (a b : Outcome) → a ≡ Unfound job.width job.rounds
+    → b ≡ Routed job.width → IsOpenBelow a b
+open-at job a b none is =
+    subst (λ (o : Outcome). IsOpenBelow o b) (sym none)
+    (subst (IsOpenBelow (Unfound job.width job.rounds)) (sym is) (omega arith))
+
+-- outcomes that are true of one placed netlist agree: they are one, or no route was found for the
+-- one and some was for the other
+found-agrees : (job : GlobalAsked) (placed : PlacedNetlist) (a b : Outcome)
+    → IsTrueOfFound job placed a → IsTrueOfFound job placed b → Agrees a b
+found-agrees job placed a b (inl (found, route, is)) (inl (other, others, is_other)) =
+    inl (is ∙ sym is_other)
+found-agrees job placed a b (inl (found, route, is)) (inr none) =
+    inr (inr (open-at job b a none is))
+found-agrees job placed a b (inr none) (inl (found, route, is)) =
+    inr (inl (open-at job a b none is))
+found-agrees job placed a b (inr none) (inr others) = inl (none ∙ sym others)
+
+pub global-agrees : (job : GlobalAsked) (files : FileMap) (a b : Outcome)
+    → IsTrueOfGlobal job (Some files) a → IsTrueOfGlobal job (Some files) b → Agrees a b
+global-agrees job files a b (inl h) (inl g) = lacking-agrees files job a b h g
+global-agrees job files a b (inl h) (inr (placed, has, g)) =
+    absurd (lacking-has files job placed a h has)
+global-agrees job files a b (inr (placed, has, h)) (inl g) =
+    absurd (lacking-has files job placed b g has)
+global-agrees job files a b (inr (placed, has, h)) (inr (other, others, g)) =
+    found-agrees job placed a b h (subst (λ (p : PlacedNetlist). IsTrueOfFound job p b)
+    (one-placed files job.files other placed others.poses has.poses) g)

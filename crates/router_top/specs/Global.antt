@@ -1,0 +1,114 @@
+-- The command `global`: a route of a placement that was found together with its tracks.
+use Rattle.std.specs.Prelude.{◌≡◌, ◌⊎◌, ◌++◌, ℕ, not, ⊤, List, [], ◌∷◌, codes, Option, None, Some, Ok}
+use Rattle.fpga_problem.specs.Files.{IsSoundPlaced, PosesPlaced}
+use Rattle.fpga_problem.specs.Sources.{StopsAt}
+use Rattle.fpga_problem.specs.declared.text_file.TextFile.TheVariants.{Route as RouteFile}
+use Rattle.fpga_route.specs.Printed.{printed}
+use Rattle.fpga_route.specs.ReadBack.{ReadsBack}
+use Rattle.fpga_route.specs.Value.{route_value}
+use Rattle.fpga_types.specs.Placed.{NetWires}
+use Rattle.fpga_types.specs.Problem.{PlacedNetlist}
+use Rattle.fpga_types.specs.Sound.{IsSound}
+use Rattle.route_judge.specs.Judged.{placed_judged}
+use Rattle.route_judge.specs.Says.{SaysRouting}
+use Rattle.route_sweep.specs.declared.found.FileSlot.TheVariants.{Route}
+use Rattle.route_verify.specs.declared.judgement.Judgement.{Judgement}
+use Rattle.route_verify.specs.declared.judgement.Judgement.TheVariants.{Legal as IsLegal}
+use Rattle.router_top.specs.Placed.{WorksOnPlaced}
+use Rattle.router_top.specs.Report.{unread_outcome}
+use Rattle.router_top.specs.Written.{AreWritten, JobFile, WritesFiles, job_file}
+use Rattle.router_top.specs.Subject.{FileMap, ShelfState, Source, FileFault, Says, route_source, RouteText, job_of, GlobalAsked, Negotiates, Word, Outcome, Routed, Unfound, OutOfMemory, File}
+use Rattle.router_top.specs.declared.text_file.TextFile.TheVariants.{Problem}
+
+-- ---- what is found
+
+-- how a route is judged for a job: as one in which each net has one wire of a cell alone, unless
+-- the words allow it several
+abbrev pub judged_for : GlobalAsked → PlacedNetlist → RouteText → Judgement
+judged_for job placed found = placed_judged (not job.free) job.width placed found
+
+-- the route is such as is read, it is judged legal, and its printed form reads back
+pub record IsFoundRoute (job : GlobalAsked) (placed : PlacedNetlist) (found : RouteText) : Type 0
+  where
+    pub sound : IsSound found
+    pub legal : judged_for job placed found ≡ IsLegal
+    pub reads_back : ReadsBack found
+
+-- its file
+abbrev pub found_file : GlobalAsked → RouteText → JobFile
+found_file job found = job_file (File Route) (job.prefix ++ codes ".route") (printed found)
+
+-- ---- what is read
+
+-- the words name a route to begin with, its file gives none, and the outcome says why
+abbrev pub LacksStart : (Source → FileFault → Type 0) → Option Word → Outcome → Type 0
+LacksStart stops None outcome = ⊥
+LacksStart stops (Some name) outcome =
+    StopsAt stops (route_source name) (unread_outcome (Problem RouteFile)) outcome
+
+-- the words name no route to begin with, or its file says one
+abbrev pub HasStart : Option FileMap → Option Word → Type 0
+HasStart files None = ⊤
+HasStart files (Some name) = (start : RouteText) × Says files (route_source name) route_value start
+
+-- a file of the job gives nothing, those before it read, and the outcome says why
+abbrev pub LacksFiles : (Source → FileFault → Type 0) → Option FileMap → GlobalAsked → Outcome
+    → Type 0
+LacksFiles stops files job =
+    WorksOnPlaced stops files job.files (λ placed. LacksStart stops job.from)
+
+-- the files of the job pose this placed netlist, and say a route to begin with where the words name
+-- one
+pub record HasFiles (files : Option FileMap) (job : GlobalAsked) (placed : PlacedNetlist) : Type 0
+  where
+    pub poses : PosesPlaced files job.files placed
+    pub sound : IsSoundPlaced placed
+    pub start : HasStart files job.from
+
+-- ---- what is left
+
+-- nothing was written, since no route was found in as many rounds as were asked for, or memory ran
+-- out; or one was found, and its file was written, or not whole
+abbrev pub LeavesFound : GlobalAsked → PlacedNetlist → (before now : ShelfState) → Outcome → Type 0
+LeavesFound job placed before now outcome =
+    (((outcome ≡ Unfound job.width job.rounds) ⊎ (outcome ≡ OutOfMemory)) × (now ≡ before))
+    ⊎ ((found : RouteText) × IsFoundRoute job placed found
+    × WritesFiles (Routed job.width) (found_file job found ∷ []) before now outcome)
+
+-- ---- what the answers mean
+
+-- the words ask for a route of a placement, and the files read; one was found, and one file alone
+-- was written: it is the printed form of a route that is judged legal at this width and says a
+-- routing of the placement, and it reads back
+pub record IsNegotiated (words : List Word) (desk before now : Option FileMap) (width : ℕ)
+    : Type 0 where
+  pub job : GlobalAsked
+  pub asked : job_of words ≡ Ok (Negotiates job)
+  pub width_is : width ≡ job.width
+  pub placed : PlacedNetlist
+  pub files : HasFiles desk job placed
+  pub found : RouteText
+  pub route : IsFoundRoute job placed found
+  pub says : (has : ℕ → NetWires) × SaysRouting placed job.width found has
+  pub written : AreWritten (found_file job found ∷ []) before now
+
+-- the words ask for one, and the files read; none was found in so many rounds, and no file has
+-- changed
+pub record IsUnfound (words : List Word) (desk before now : Option FileMap) (width rounds : ℕ)
+    : Type 0 where
+  pub job : GlobalAsked
+  pub asked : job_of words ≡ Ok (Negotiates job)
+  pub width_is : width ≡ job.width
+  pub rounds_are : rounds ≡ job.rounds
+  pub placed : PlacedNetlist
+  pub files : HasFiles desk job placed
+  pub same : now ≡ before
+
+-- ---- what is true
+
+-- some route is judged legal and reads back, and the outcome is that one was found; or it is that
+-- none was, which is true of any placed netlist
+abbrev pub IsTrueOfFound : GlobalAsked → PlacedNetlist → Outcome → Type 0
+IsTrueOfFound job placed outcome =
+    ((found : RouteText) × IsFoundRoute job placed found × (outcome ≡ Routed job.width))
+    ⊎ (outcome ≡ Unfound job.width job.rounds)

@@ -1,0 +1,213 @@
+//! The command `global`: a search for a route of a placement together with its tracks.
+ghost use Rattle.std.specs.Prelude.{◌≡◌, ◌⊎◌, [], ◌∷◌, IfOk, IfSome};
+ghost use Rattle.fpga_problem.specs.Files.{IsSoundPlaced};
+ghost use Rattle.fpga_route.specs.Printed.{printed};
+ghost use Rattle.fpga_route.specs.ReadBack.{ReadsBack};
+ghost use Rattle.fpga_types.specs.Sound.{IsSound};
+ghost use Rattle.router_words.specs.Job.{global_said};
+ghost use Rattle.router_top.specs.Global.{IsFoundRoute, LeavesFound, found_file, judged_for};
+ghost use Rattle.router_top.specs.Report.{IsReadFault};
+ghost use Rattle.router_top.specs.Run.{LeavesGlobal, scene};
+ghost use Rattle.router_top.specs.Written.{WritesFiles};
+ghost use Rattle.router_top.specs.declared.outcome.Outcome.TheVariants.{OutOfMemory, Routed};
+
+use crate::file_name::file_name;
+use crate::outcome::Outcome;
+use crate::slot::Slot;
+use crate::stopping::unread_outcome;
+use crate::text_file::TextFile;
+use desk_io::{Desk, MemShelf, Shelf, write_file};
+use fpga_problem::{PlacedFiles, TextFile as ProblemFile, read_placed, read_route_file};
+use fpga_route::{WholeRoute, read_route};
+use fpga_text::TextFault;
+use fpga_types::RouteText;
+use route_judge::{judge, judge_strict};
+use route_negotiate::{CellWires, Options, negotiate, route_text};
+use route_sweep::FileSlot;
+use route_verify::Judgement;
+use router_words::GlobalJob;
+use std::alloc::{AllocError, Global};
+
+// The number by which the first search of a job tries the start tracks of its nets.
+const SEED: u32 = 1;
+
+// What the search of a job is told.
+fn options_of(job: &GlobalJob<'_>) -> Options
+    ensures { result.rounds ≡ job.now.rounds }
+{
+    let wires = if job.free {
+        CellWires::Several
+    } else {
+        CellWires::One
+    };
+    Options {
+        wires,
+        rounds: job.rounds,
+        seed: SEED,
+    }
+}
+
+// The route of the wires that a search finds, if it finds some. Nothing is known of it but that it
+// can be judged.
+fn searched_route(
+    alloc: Global,
+    job: &GlobalJob<'_>,
+    placed: &PlacedFiles,
+    start: Option<&RouteText>,
+) -> Result<Option<RouteText>, AllocError>
+    requires { IsSoundPlaced placed.now }
+    ensures { IfOk result (λ route. IfSome route IsSound) }
+{
+    let (arch, netlist, placement) = (&placed.arch, &placed.netlist, &placed.placement);
+    let options = options_of(job);
+    let found = negotiate(alloc, arch, netlist, placement, job.width, options, start)?;
+    let Some(found) = found else {
+        return Ok(None);
+    };
+    let route = route_text(alloc, arch, netlist, placement, &found.nets)?;
+    Ok(Some(route))
+}
+
+// The printed form of a route.
+fn printed_form(alloc: Global, route: &RouteText) -> Result<Vec<u8>, AllocError>
+    ensures { IfOk result (λ text. text.items ≡ printed route.now) }
+{
+    let mut shelf = MemShelf::new(alloc, Vec::new(alloc));
+    let Ok(()) = write_file(&WholeRoute, &mut shelf, "", route) else {
+        return Err(AllocError);
+    };
+    let Some(text) = shelf.into_file("") else {
+        unreachable!()
+    };
+    Ok(text)
+}
+
+// What the printed form of a route reads as, if it has no fault. That can be printed itself.
+fn read_back(alloc: Global, route: &RouteText) -> Result<Option<RouteText>, AllocError>
+    ensures sound { IfOk result (λ found. IfSome found IsSound) }
+    ensures back { IfOk result (λ found. IfSome found ReadsBack) }
+{
+    let text = printed_form(alloc, route)?;
+    match read_route(alloc, &text) {
+        Ok(found) => Ok(Some(found)),
+        Err(TextFault::Memory) => Err(AllocError),
+        Err(TextFault::Bad { .. } | TextFault::Limit { .. }) => Ok(None),
+    }
+}
+
+// How a route is judged for a job.
+fn judgement(
+    alloc: Global,
+    job: &GlobalJob<'_>,
+    placed: &PlacedFiles,
+    found: &RouteText,
+) -> Result<Judgement, AllocError>
+    requires placed { IsSoundPlaced placed.now }
+    requires found { IsSound found.now }
+    ensures { IfOk result (λ judgement. judgement
+        ≡ judged_for (global_said job.now) placed.now found.now) }
+{
+    let (arch, netlist, placement) = (&placed.arch, &placed.netlist, &placed.placement);
+    if job.free {
+        return judge(alloc, arch, netlist, placement, job.width, found);
+    }
+    judge_strict(alloc, arch, netlist, placement, job.width, found)
+}
+
+// A route that is judged legal as it is read from its printed form, if the search finds one.
+fn legal_route(
+    alloc: Global,
+    job: &GlobalJob<'_>,
+    placed: &PlacedFiles,
+    start: Option<&RouteText>,
+) -> Result<Option<RouteText>, AllocError>
+    requires { IsSoundPlaced placed.now }
+    ensures { IfOk result
+        (λ found. IfSome found (IsFoundRoute (global_said job.now) placed.now)) }
+{
+    let Some(route) = searched_route(alloc, job, placed, start)? else {
+        return Ok(None);
+    };
+    let Some(found) = read_back(alloc, &route)? else {
+        return Ok(None);
+    };
+    match judgement(alloc, job, placed, &found)? {
+        Judgement::Legal => Ok(Some(found)),
+        Judgement::NotLegal { .. } => Ok(None),
+    }
+}
+
+// Writes the file of a route that was found.
+fn write_found<S: Shelf>(
+    alloc: Global,
+    job: &GlobalJob<'_>,
+    found: &RouteText,
+    shelf: &mut S,
+) -> Outcome
+    ensures { ((result ≡ OutOfMemory) × (S.state shelf.new ≡ S.state shelf.old))
+        ⊎ WritesFiles (Routed job.now.width) (found_file (global_said job.now) found.now ∷ [])
+        (S.state shelf.old) (S.state shelf.new) result }
+{
+    let Ok(name) = file_name(alloc, job.prefix, ".route") else {
+        return Outcome::OutOfMemory;
+    };
+    let Ok(()) = write_file(&WholeRoute, shelf, name.as_str(), found) else {
+        return Outcome::WriteFault {
+            slot: Slot::File(FileSlot::Route),
+        };
+    };
+    Outcome::Routed { width: job.width }
+}
+
+// Looks for a legal route, and writes it.
+fn search_route<S: Shelf>(
+    alloc: Global,
+    job: &GlobalJob<'_>,
+    placed: &PlacedFiles,
+    start: Option<&RouteText>,
+    shelf: &mut S,
+) -> Outcome
+    requires { IsSoundPlaced placed.now }
+    ensures { LeavesFound (global_said job.now) placed.now (S.state shelf.old)
+        (S.state shelf.new) result }
+{
+    match legal_route(alloc, job, placed, start) {
+        Ok(Some(found)) => write_found(alloc, job, &found, shelf),
+        Ok(None) => Outcome::Unfound {
+            width: job.width,
+            rounds: job.rounds,
+        },
+        Err(_) => Outcome::OutOfMemory,
+    }
+}
+
+/// Reads the three files of a placed netlist, and then the route to begin with, if there is to be
+/// one; looks for a route with its tracks, and writes it.
+///
+/// What is found is printed into memory, read from there and judged, and what was judged is
+/// written: so the search is not relied on, nor is what makes a text of its wires.
+pub fn negotiate_files<D: Desk, S: Shelf>(
+    alloc: Global,
+    job: &GlobalJob<'_>,
+    desk: &mut D,
+    shelf: &mut S,
+) -> Outcome
+    ensures leaves { LeavesGlobal (global_said job.now)
+        (scene (D.state desk.old) (D.state desk.new) (S.state shelf.old) (S.state shelf.new))
+        result }
+    ensures files { (D.state desk.new).files ≡ (D.state desk.old).files }
+    ensures quiet { ¬ IsReadFault result → (D.state desk.new).faults ≡ (D.state desk.old).faults }
+{
+    let placed = match read_placed(alloc, desk, &job.files) {
+        Ok(placed) => placed,
+        Err(stop) => return unread_outcome(TextFile::Problem(stop.file), stop.fault),
+    };
+    let Some(name) = job.from else {
+        return search_route(alloc, job, &placed, None, shelf);
+    };
+    let start = match read_route_file(alloc, desk, name) {
+        Ok(start) => start,
+        Err(fault) => return unread_outcome(TextFile::Problem(ProblemFile::Route), fault),
+    };
+    search_route(alloc, job, &placed, Some(&start), shelf)
+}
