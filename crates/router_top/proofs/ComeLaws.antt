@@ -798,7 +798,11 @@ module _ (words : List Word) (at : Scene) where
       apart = (tt, tt);
       heard = (tt, tt);
       writes = h;
-      leads = record { no_trial = λ other is. cc; no_nets = λ other is unroutable. cc };
+      leads = record {
+        no_trial = λ other is. cc;
+        no_nets = λ other is unroutable. cc;
+        no_cut = λ other is bound. cc;
+      };
       means = λ done written. inr (record {
         job = job;
         asked = asked;

@@ -99,7 +99,7 @@ found-agrees : (job : GlobalAsked) (placed : PlacedNetlist) (a b : Outcome)
 found-agrees job placed a b (inl (found, route, is)) (inl (other, others, is_other)) =
     inl (is ∙ sym is_other)
 found-agrees job placed a b (inl (found, route, is)) (inr none) =
-    inr (inr (open-at job b a none is))
+    inr (inr (inl (open-at job b a none is)))
 found-agrees job placed a b (inr none) (inl (found, route, is)) =
     inr (inl (open-at job a b none is))
 found-agrees job placed a b (inr none) (inr others) = inl (none ∙ sym others)
