@@ -1,6 +1,6 @@
 //! The lines of a global net, which name the blocks that it connects.
 
-use fpga_types::{Arch, BlockKind, Items, Name, Net, Netlist, PinRef, Placement};
+use fpga_types::{Arch, BlockKind, Items, Name, Net, Netlist, PinRef, Place, Placement};
 use itoa::Buffer;
 use std::alloc::{AllocError, Global};
 
@@ -16,13 +16,26 @@ pub(crate) fn block_lines(
     net: &Net,
 ) -> Result<Vec<Name>, AllocError> {
     let mut lines = Vec::new(alloc);
+    add_lines(&mut lines, alloc, arch, netlist, placement, net)?;
+    Ok(lines)
+}
+
+/// Adds these lines.
+fn add_lines(
+    lines: &mut Vec<Name>,
+    alloc: Global,
+    arch: &Arch,
+    netlist: &Netlist,
+    placement: &Placement,
+    net: &Net,
+) -> Result<(), AllocError> {
     if let Some(driver) = net.driver {
         lines.push(block_line(alloc, arch, netlist, placement, driver)?)?;
     }
     for sink in net.sinks.as_slice() {
         lines.push(block_line(alloc, arch, netlist, placement, *sink)?)?;
     }
-    Ok(lines)
+    Ok(())
 }
 
 /// The line that names the block of a pin.
@@ -34,24 +47,40 @@ fn block_line(
     pin: PinRef,
 ) -> Result<Name, AllocError> {
     let mut line = Vec::new(alloc);
+    add_block(&mut line, arch, netlist, placement, pin)?;
+    Ok(Name {
+        bytes: Items::of(line),
+    })
+}
+
+/// Adds what the line says.
+fn add_block(
+    line: &mut Vec<u8>,
+    arch: &Arch,
+    netlist: &Netlist,
+    placement: &Placement,
+    pin: PinRef,
+) -> Result<(), AllocError> {
     line.extend_from_slice(b"Block ")?;
     let at = pin.block as usize;
     let blocks = netlist.blocks.as_slice();
     let places = placement.places.as_slice();
-    if at < blocks.len() && at < places.len() {
-        let place = places[at];
-        let block = &blocks[at];
-        line.extend_from_slice(block.name.bytes.as_slice())?;
-        add_number(&mut line, b" (#", pin.block)?;
-        add_number(&mut line, b") at (", place.x)?;
-        add_number(&mut line, b", ", place.y)?;
-        line.extend_from_slice(b"), Pin class ")?;
-        add_class(&mut line, arch, block.kind, pin.pin)?;
-        line.extend_from_slice(b".")?;
+    if at >= blocks.len() || at >= places.len() {
+        return Ok(());
     }
-    Ok(Name {
-        bytes: Items::of(line),
-    })
+    let block = &blocks[at];
+    line.extend_from_slice(block.name.bytes.as_slice())?;
+    add_place(line, pin.block, places[at])?;
+    add_class(line, arch, block.kind, pin.pin)?;
+    line.extend_from_slice(b".")
+}
+
+/// Adds the number and the place of a block.
+fn add_place(line: &mut Vec<u8>, block: u32, place: Place) -> Result<(), AllocError> {
+    add_number(line, b" (#", block)?;
+    add_number(line, b") at (", place.x)?;
+    add_number(line, b", ", place.y)?;
+    line.extend_from_slice(b"), Pin class ")
 }
 
 /// Adds a text and a number behind it.

@@ -30,7 +30,8 @@ impl<'a> Board<'a> {
         width: u32,
     ) -> Result<Board<'a>, AllocError>
         requires { (1 ≤ width) × (width ≤ WIDTH_LIMIT) }
-        ensures { IfOk result (λ board. board.netlist.now ≡ netlist.now) }
+        ensures netlist { IfOk result (λ board. board.netlist.now ≡ netlist.now) }
+        ensures placement { IfOk result (λ board. board.placement.now ≡ placement.now) }
     {
         let fabric = Fabric::new(alloc, arch, placement.grid, width)?;
         let pins = Pins::new(alloc, arch, netlist, placement, fabric.cells())?;

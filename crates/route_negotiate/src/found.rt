@@ -52,13 +52,48 @@ pub fn negotiate(
         (λ f. AreWithin placement.now.grid width f.nets.items)) }
 {
     let board = Board::new(alloc, arch, netlist, placement, width)?;
-    let mut search = Search::new(alloc, &board, options.wires)?;
+    search_on(alloc, &board, width, options, given)
+}
+
+/// The same on a board.
+fn search_on(
+    alloc: Global,
+    board: &Board<'_>,
+    width: u32,
+    options: Options,
+    given: Option<&RouteText>,
+) -> Result<Option<Found>, AllocError>
+    ensures rounds { IfOk result (λ found. IfSome found (λ f. f.rounds ≤ options.rounds)) }
+    ensures each { IfOk result (λ found. IfSome found
+        (λ f. length f.nets.items ≡ length board.now.netlist.now.nets)) }
+    ensures within { IfOk result (λ found. IfSome found
+        (λ f. AreWithin board.now.placement.now.grid width f.nets.items)) }
+{
+    let mut search = Search::new(alloc, board, options.wires)?;
+    found_by(&mut search, alloc, board, width, options, given)
+}
+
+/// What a search on the board finds.
+fn found_by(
+    search: &mut Search<'_>,
+    alloc: Global,
+    board: &Board<'_>,
+    width: u32,
+    options: Options,
+    given: Option<&RouteText>,
+) -> Result<Option<Found>, AllocError>
+    ensures rounds { IfOk result (λ found. IfSome found (λ f. f.rounds ≤ options.rounds)) }
+    ensures each { IfOk result (λ found. IfSome found
+        (λ f. length f.nets.items ≡ length board.now.netlist.now.nets)) }
+    ensures within { IfOk result (λ found. IfSome found
+        (λ f. AreWithin board.now.placement.now.grid width f.nets.items)) }
+{
     if let Some(route) = given {
         search.take_given(alloc, route)?;
     }
     let Some(rounds) = search.run(options.seed, options.rounds)? else {
         return Ok(None);
     };
-    let nets = all_paths(alloc, &board, placement.grid, width, search.trees())?;
+    let nets = all_paths(alloc, board, width, search.trees())?;
     Ok(Some(Found { rounds, nets }))
 }

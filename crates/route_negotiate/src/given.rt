@@ -2,11 +2,12 @@
 
 use crate::board::Board;
 use crate::field::Field;
-use crate::row::{at, put, short};
+use crate::routing::tree_places;
+use crate::row::{at, short};
 use crate::sites::has_track;
 use crate::tree::{Step, Tree};
 use crate::wires::{cell_of, track_of, wire_of};
-use fpga_types::{Elem, ElemKind, PinAt, RouteText, cell_number, number_name};
+use fpga_types::{Elem, ElemKind, Net, PinAt, RouteNet, RouteText, cell_number, number_name};
 use std::alloc::{AllocError, Global};
 use std::collections::BTreeMap;
 
@@ -233,26 +234,56 @@ pub(crate) fn given_places(
     board: &Board<'_>,
     route: &RouteText,
 ) -> Result<Vec<u32>, AllocError> {
-    let nets = board.netlist.nets.as_slice();
+    let numbered = tree_places(alloc, board)?;
+    places_by(
+        alloc,
+        board.netlist.nets.as_slice(),
+        &numbered,
+        route.nets.as_slice(),
+    )
+}
+
+/// For each net of a route what these have for the number of its net.
+fn places_by<'a>(
+    alloc: Global,
+    nets: &'a [Net],
+    numbered: &[u32],
+    given: &'a [RouteNet],
+) -> Result<Vec<u32>, AllocError> {
     let mut numbers = BTreeMap::new(alloc);
+    number_nets(&mut numbers, nets)?;
+    places_in(alloc, &numbers, numbered, given)
+}
+
+/// Numbers nets by name.
+fn number_nets<'a>(
+    numbers: &mut BTreeMap<&'a [u8], usize>,
+    nets: &'a [Net],
+) -> Result<(), AllocError> {
     for (number, net) in nets.iter().enumerate() {
-        number_name(&mut numbers, net.name.bytes.as_slice(), number)?;
+        number_name(numbers, net.name.bytes.as_slice(), number)?;
     }
-    let mut of_number = vec![in alloc; u32::MAX; nets.len()]?;
-    for place in 0..board.nets.count() {
-        put(
-            &mut of_number,
-            board.nets.number(place) as usize,
-            short(place),
-        );
-    }
-    let mut places = Vec::new(alloc);
-    for net in route.nets.as_slice() {
-        let place = match numbers.get(&net.name.bytes.as_slice()) {
-            Some(number) if !net.global => at(&of_number, *number),
-            _ => u32::MAX,
-        };
-        places.push(place)?;
+    Ok(())
+}
+
+/// For each net of a route what these have for its number.
+fn places_in<'a>(
+    alloc: Global,
+    numbers: &BTreeMap<&'a [u8], usize>,
+    numbered: &[u32],
+    given: &'a [RouteNet],
+) -> Result<Vec<u32>, AllocError> {
+    let mut places = Vec::with_capacity(alloc, given.len())?;
+    for net in given {
+        places.push(place_in(numbers, numbered, net))?;
     }
     Ok(places)
+}
+
+/// What these have for the number of a net.
+fn place_in<'a>(numbers: &BTreeMap<&'a [u8], usize>, numbered: &[u32], net: &'a RouteNet) -> u32 {
+    match numbers.get(&net.name.bytes.as_slice()) {
+        Some(number) if !net.global => at(numbered, *number),
+        _ => u32::MAX,
+    }
 }

@@ -1,5 +1,5 @@
 //! What a search finds: the wires of each net, path by path.
-ghost use Rattle.std.specs.Prelude.{◌≡◌, All, IfOk, IfSome, length};
+ghost use Rattle.std.specs.Prelude.{◌≡◌, [], All, IfOk, IfSome, OnOk, length};
 ghost use Rattle.fpga_types.specs.Placed.{IsWire};
 ghost use Rattle.route_negotiate.specs.Routings.{AreWithin};
 
@@ -69,13 +69,12 @@ fn add_wires(
 fn add_path(
     net: &mut NetPaths,
     board: &Board<'_>,
-    grid: Grid,
     width: u32,
     tree: &Tree,
     number: usize,
 ) -> Result<(), AllocError>
-    requires { All (IsWire grid width) net.old.wires.items }
-    ensures { All (IsWire grid width) net.new.wires.items }
+    requires { All (IsWire board.now.placement.now.grid width) net.old.wires.items }
+    ensures { All (IsWire board.now.placement.now.grid width) net.new.wires.items }
 {
     if number >= tree.steps.len() {
         return Ok(());
@@ -89,6 +88,7 @@ fn add_path(
     let Some(enters) = board.pin_at(step.pin) else {
         return Ok(());
     };
+    let grid = board.placement.grid;
     let length = add_wires(&mut net.wires, grid, width, tree.wires_of(number))?;
     net.paths.push(Path {
         leaves,
@@ -98,29 +98,9 @@ fn add_path(
     Ok(())
 }
 
-/// The paths of a tree.
-fn net_paths(
-    alloc: Global,
-    board: &Board<'_>,
-    grid: Grid,
-    width: u32,
-    tree: &Tree,
-) -> Result<NetPaths, AllocError>
-    ensures { IfOk result (λ net. All (IsWire grid width) net.wires.items) }
-{
-    let mut net = NetPaths {
-        wires: Vec::new(alloc),
-        paths: Vec::new(alloc),
-    };
-    for number in 0..tree.steps.len() {
-        add_path(&mut net, board, grid, width, tree, number)?;
-    }
-    Ok(net)
-}
-
 /// For each net of the netlist, by number, the place of its tree among those of ordinary nets; or
 /// that there is none.
-fn tree_places(alloc: Global, board: &Board<'_>) -> Result<Vec<u32>, AllocError>
+pub(crate) fn tree_places(alloc: Global, board: &Board<'_>) -> Result<Vec<u32>, AllocError>
     ensures { IfOk result (λ places. length places.items
         ≡ length board.now.netlist.now.nets) }
 {
@@ -136,20 +116,87 @@ fn tree_places(alloc: Global, board: &Board<'_>) -> Result<Vec<u32>, AllocError>
 pub(crate) fn all_paths(
     alloc: Global,
     board: &Board<'_>,
-    grid: Grid,
     width: u32,
     trees: &[Tree],
 ) -> Result<Vec<NetPaths>, AllocError>
     ensures each { IfOk result (λ nets. length nets.items ≡ length board.now.netlist.now.nets) }
-    ensures within { IfOk result (λ nets. AreWithin grid width nets.items) }
+    ensures within { IfOk result
+        (λ nets. AreWithin board.now.placement.now.grid width nets.items) }
 {
     let places = tree_places(alloc, board)?;
+    paths_at(alloc, board, width, trees, &places)
+}
+
+/// The paths of the trees at these places, where there are some.
+fn paths_at(
+    alloc: Global,
+    board: &Board<'_>,
+    width: u32,
+    trees: &[Tree],
+    places: &[u32],
+) -> Result<Vec<NetPaths>, AllocError>
+    ensures each { IfOk result (λ nets. length nets.items ≡ length places.now) }
+    ensures within { IfOk result
+        (λ nets. AreWithin board.now.placement.now.grid width nets.items) }
+{
     let mut nets = Vec::with_capacity(alloc, places.len())?;
-    let none = Tree::new(alloc);
-    for place in &places {
-        let at = *place as usize;
-        let tree = if at < trees.len() { &trees[at] } else { &none };
-        nets.push(net_paths(alloc, board, grid, width, tree)?)?;
-    }
+    add_paths(&mut nets, alloc, board, width, trees, places)?;
     Ok(nets)
+}
+
+/// Adds the paths of the trees at these places to none.
+fn add_paths(
+    nets: &mut Vec<NetPaths>,
+    alloc: Global,
+    board: &Board<'_>,
+    width: u32,
+    trees: &[Tree],
+    places: &[u32],
+) -> Result<(), AllocError>
+    requires { nets.old.items ≡ [] }
+    ensures each { OnOk result (length nets.new.items ≡ length places.now) }
+    ensures within { OnOk result
+        (AreWithin board.now.placement.now.grid width nets.new.items) }
+{
+    for place in places {
+        nets.push(paths_of(alloc, board, width, trees, *place as usize)?)?;
+    }
+    Ok(())
+}
+
+/// The paths of the tree at a place, if there is one.
+fn paths_of(
+    alloc: Global,
+    board: &Board<'_>,
+    width: u32,
+    trees: &[Tree],
+    place: usize,
+) -> Result<NetPaths, AllocError>
+    ensures { IfOk result
+        (λ net. All (IsWire board.now.placement.now.grid width) net.wires.items) }
+{
+    let mut net = NetPaths {
+        wires: Vec::new(alloc),
+        paths: Vec::new(alloc),
+    };
+    if place < trees.len() {
+        add_tree(&mut net, board, width, &trees[place])?;
+    }
+    Ok(net)
+}
+
+/// Adds the paths of a tree.
+fn add_tree(
+    net: &mut NetPaths,
+    board: &Board<'_>,
+    width: u32,
+    tree: &Tree,
+) -> Result<(), AllocError>
+    requires { All (IsWire board.now.placement.now.grid width) net.old.wires.items }
+    ensures { All (IsWire board.now.placement.now.grid width) net.new.wires.items }
+{
+    for number in 0..tree.steps.len() {
+        add_path(net, board, width, tree, number)?;
+    }
+    Ok(())
 }

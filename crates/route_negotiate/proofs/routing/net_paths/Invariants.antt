@@ -1,6 +1,0 @@
-use Rattle.std.specs.Prelude.{All}
-use Rattle.fpga_types.specs.Placed.{IsWire}
-use Rattle.route_negotiate.proofs.routing.net_paths.Given as goal
-
-abbrev pub invariant-loop-number : goal.invariant-loop-number
-invariant-loop-number l = All (IsWire l.grid l.width) l.net.wires.items
