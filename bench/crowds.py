@@ -3,9 +3,11 @@
 
     crowds.py NAME.route..
 
-prints for each route its slots, its trees, the trees of the crowd by the rule of `route_crowd` (from the cells of large
-trees on), those of the crowd from the most crowded cell alone, and those of the largest one that a search of four
-seconds by chance finds. It shares nothing with the program: sets of trees in place of marks.
+prints for each route its slots, its trees, the trees of the crowd by the rule of `problem_facts` (a search from the
+largest tree down, which begins with what is gathered from the fullest cell on), those of the crowd from the fullest
+cell alone, and those of the largest one that a search of four seconds by chance finds. It shares nothing with the
+program: sets of trees in place of marks, numbers in place of rows of bits, a recursion in place of a stack, and no
+bound on the looks.
 """
 import random
 import sys
@@ -14,7 +16,7 @@ from asked import answer_help
 
 answer_help(__name__, __doc__)
 
-LIMIT, STARTS, SECONDS = 128, 512, 4
+LIMIT, TRACKS, MET, SECONDS = 128, 64, 4096, 4
 
 
 def read(path):
@@ -107,19 +109,60 @@ class Crowds:
         kind, x, y = cell
         return y * self.nx + x - 1 if kind == "CHANX" else self.nx * (self.ny + 1) + (y - 1) * (self.nx + 1) + x
 
-    def crowd(self):
-        most = max(self.size.values(), default=0)
-        starts = [number for number in range(len(self.slots)) if most <= 2 * self.size[self.roots[number]]][:STARTS]
-        return max((self.from_cell(self.slots[number][1:]) for number in starts), key=len, default=[])
+    def fullest(self):
+        return min(self.cells, key=lambda cell: (-len(self.cells[cell]), self.number_of(cell)))
 
-    def from_most_crowded(self):
-        return self.from_cell(min(self.cells, key=lambda cell: (-len(self.cells[cell]), self.number_of(cell))))
+    def from_fullest(self):
+        return self.from_cell(self.fullest()) if self.cells else []
+
+    def longer_than(self, least):
+        """The first of the longest crowds of more trees than these, in the order of the search."""
+        order = sorted(self.size, key=lambda tree: (-self.size[tree], tree))
+        place = {tree: at for at, tree in enumerate(order)}
+        best = []
+
+        def go_over(taken, rest):
+            nonlocal best, least
+            while rest and least < LIMIT:
+                worth = [bit for bit in bits_of(rest) if len(taken) + (rest & rows[bit]).bit_count() >= least]
+                if len(worth) < rest.bit_count():
+                    rest = sum(1 << bit for bit in worth)
+                    continue
+                if len(taken) + len(worth) <= least:
+                    return
+                bit = worth[0]
+                rest &= ~(1 << bit)
+                if least <= len(taken):
+                    best, least = taken + [larger[bit]], len(taken) + 1
+                go_over(taken + [larger[bit]], rest & rows[bit])
+
+        for tree in order:
+            larger = sorted((other for other in self.meets[tree] if place[other] < place[tree]), key=place.get)
+            if least < LIMIT and least <= len(larger) <= MET:
+                spot = {other: at for at, other in enumerate(larger)}
+                rows = [sum(1 << spot[far] for far in self.meets[other] if far in spot) for other in larger]
+                go_over([tree], (1 << len(larger)) - 1)
+        return best
+
+    def crowd(self):
+        first = self.from_fullest()
+        if not self.cells or len(self.cells[self.fullest()]) > TRACKS:
+            return first
+        second = gathered(self.longer_than(len(first)) + sorted(self.size), self.meets)
+        return max(first, second, key=len)
+
+
+def bits_of(number):
+    while number:
+        low = number & -number
+        yield low.bit_length() - 1
+        number ^= low
 
 
 def report(path):
     crowds = Crowds(path)
     print(f"{path}: {len(crowds.slots)} slots, {len(crowds.size)} trees, crowd {len(crowds.crowd())}, "
-          f"from the most crowded cell {len(crowds.from_most_crowded())}, by chance {len(searched(crowds.meets))}",
+          f"from the fullest cell {len(crowds.from_fullest())}, by chance {len(searched(crowds.meets))}",
           flush=True)
 
 

@@ -14,8 +14,8 @@ use Rattle.fpga_types.specs.declared.problem.Slot.{Slot}
 use Rattle.fpga_types.proofs.CellLemmas.{number-within}
 use Rattle.route_encode.specs.Encoding.{below}
 use Rattle.route_encode.proofs.RivalLemmas.{range-append}
-use Rattle.route_symmetry.specs.Crowds.{AreCounted}
-use Rattle.route_symmetry.specs.Pins.{slots_in}
+use Rattle.problem_facts.specs.CellCounts.{AreCounted}
+use Rattle.problem_facts.specs.Fullest.{slots_in}
 use Rattle.route_count.specs.Crowded.{AreSpread}
 
 -- of more numbers no fewer pass

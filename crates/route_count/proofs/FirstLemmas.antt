@@ -13,11 +13,11 @@ use Rattle.sat_count.specs.Places.{some_clause}
 use Rattle.sat_count.specs.Refuting.{Grows, Holds, RefutationState, begun, live_of}
 use Rattle.sat_count.proofs.HintLemmas.{false-two}
 use Rattle.route_count.specs.Firsts.{AreReady, IsLed, IsMet, some_of}
-use Rattle.route_count.specs.Leads.{AreTrees, TreesState, lead_at, root_at}
+use Rattle.problem_facts.specs.Leads.{AreTrees, TreesState, lead_at, root_at}
 use Rattle.route_count.specs.Meetings.{IsMeeting}
 use Rattle.route_count.specs.Said.{AreInNets, IsReason, apart_clause, chain_hints, led_clause}
 use Rattle.route_count.specs.declared.meetings.Meeting.{Meeting}
-use Rattle.route_count.specs.declared.trees.Lead.{Lead}
+use Rattle.problem_facts.specs.declared.trees.Lead.{Lead}
 use Rattle.route_count.proofs.FirstRowLemmas.{apart-either, first-at}
 use Rattle.route_count.proofs.FollowLemmas.{Leads, apart-follows, led-follows}
 

@@ -1,12 +1,11 @@
 pub mod ClauseLemmas
 pub mod CountedLemmas
+pub mod CrowdedLaw
 pub mod CrowdedLemmas
 pub mod FirstLemmas
 pub mod FirstRowLemmas
 pub mod FollowLemmas
 pub mod ForwardLemmas
-pub mod LeadLemmas
 pub mod MarkLemmas
 pub mod MeetingLemmas
 pub mod SaidLemmas
-pub mod TrackLaws

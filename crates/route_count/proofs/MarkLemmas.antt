@@ -4,13 +4,13 @@ use Rattle.std.specs.Prelude.{slice_set}
 use Rattle.std.proofs.lemmas.Bool.{cases_lt, false≢true}
 use Rattle.std.proofs.lemmas.List.{get_or-set_other, get_or-set_same}
 use Rattle.list_laws.proofs.Places.{none_is_not_some, some_is}
-use Rattle.route_symmetry.proofs.CrowdLemmas.{cases-eq}
+use Rattle.problem_facts.proofs.CellCountLemmas.{cases-eq}
 use Rattle.sat_count.specs.Refuting.{Grows, RefutationState}
 use Rattle.route_count.specs.Firsts.{AreClosed, AreLed, AreMarked, AreReady, IsLed, KeepsMarks}
-use Rattle.route_count.specs.Leads.{TreesState, lead_at}
+use Rattle.problem_facts.specs.Leads.{TreesState, lead_at}
 use Rattle.route_count.specs.Meetings.{meeting_at}
 use Rattle.route_count.specs.declared.meetings.Meeting.{Meeting}
-use Rattle.route_count.specs.declared.trees.Lead.{Lead}
+use Rattle.problem_facts.specs.declared.trees.Lead.{Lead}
 use Rattle.route_count.proofs.FirstLemmas.{led-grows}
 
 pub keeps-set : (passed : List Bool) (k : ℕ) → k < length passed

@@ -18,17 +18,17 @@ use Rattle.fpga_types.proofs.CellLemmas.{number-alone, number-within}
 use Rattle.fpga_types.proofs.MeetingLemmas.{both_true}
 use Rattle.route_encode.specs.Encoding.{below}
 use Rattle.route_encode.proofs.CompeteLemmas.{differs}
-use Rattle.route_symmetry.proofs.CrowdLemmas.{cases-eq}
-use Rattle.route_symmetry.proofs.PinLemmas.{rivals-in}
-use Rattle.route_crowd.specs.Crowd.{crowd, tree_of}
-use Rattle.route_crowd.specs.Trees.{is_meeting_slot, is_tree_in, meet, roots_of}
-use Rattle.route_crowd.proofs.CrowdLaws.{crowd-meets}
+use Rattle.problem_facts.proofs.CellCountLemmas.{cases-eq}
+use Rattle.problem_facts.proofs.CellMeets.{cell-pair}
+use Rattle.problem_facts.proofs.Rivals.{rivals-in}
+use Rattle.problem_facts.specs.Crowd.{IsCrowd, tree_of}
+use Rattle.problem_facts.specs.Trees.{is_meeting_slot, is_tree_in, meet, roots_of}
 use Rattle.sat_count.specs.declared.limits.TheConstants.{COUNTED_LIMIT}
 use Rattle.route_count.specs.Crowded.{slots_of_cell}
-use Rattle.route_count.specs.Leads.{TreesState, root_at}
+use Rattle.problem_facts.specs.Leads.{TreesState, root_at}
 use Rattle.route_count.specs.Meetings.{AreFound, AreNoted, ArePlaces, AreTaken, AreUnknown, DoMeet, IsMeeting, IsNoted, KeepsOthers, meeting_at, number_at}
 use Rattle.route_count.specs.declared.meetings.Meeting.{Meeting}
-use Rattle.route_count.proofs.LeadLemmas.{root-first}
+use Rattle.problem_facts.proofs.LeadLemmas.{root-first}
 
 -- ---- the rows of which each two trees meet
 
@@ -48,46 +48,22 @@ pub cell-meets : (p : RoutingProblem) → IsGiven p → (number : ℕ)
     (slots_of_cell p number)
 cell-meets p given number i j d before low =
     let row : List ℕ = slots_of_cell p number in
-    let all : List Slot = slots p.route in
-    let n : ℕ = length all in
-    let grid : Size = p.route.grid in
+    let n : ℕ = length (slots p.route) in
     let rivals = rivals-in p given number in
     let first : i < length row = omega (arith, before, low) in
-    let a : ℕ = get_or row i 0 in
-    let b : ℕ = get_or row j 0 in
-    let at_a : get_or row i d ≡ a = get_or_default row i d 0 first in
-    let at_b : get_or row j d ≡ b = get_or_default row j d 0 low in
-    let in_a = rivals.within i first in
-    let in_b = rivals.within j low in
-    let numbers :
-    number_of_cell grid (slot_at all a).cell ≡ number_of_cell grid (slot_at all b).cell =
-    ap (number_of_cell grid) (rivals.cells i j before low) in
-    let nets : not ((slot_at all b).net == (slot_at all a).net) ≡ true =
-    rw (differs (slot_at all b).net (slot_at all a).net
-    (λ e. rivals.nets i j before low (sym e))) refl in
-    let of_a : is_tree_in grid all (roots_of [] n) a (number_of_cell grid (slot_at all b).cell) a
-    ≡ true =
-    rw (
-      (Decides-eqb (get_or (roots_of [] n) a 0) a).1 (root-first [] n a in_a refl),
-      (Decides-eqb (number_of_cell grid (slot_at all a).cell)
-          (number_of_cell grid (slot_at all b).cell)).1 numbers,
-    ) refl in
-    let has : list_any (is_tree_in grid all (roots_of [] n) a
-    (number_of_cell grid (slot_at all b).cell)) (below n) ≡ true =
-    list_any-from_In (is_tree_in grid all (roots_of [] n) a
-    (number_of_cell grid (slot_at all b).cell)) (below n) a
-    (In-range 0 n a (omega arith) (omega (arith, in_a))) of_a in
-    let of_b : is_meeting_slot grid all (roots_of [] n) b a b ≡ true =
-    rw (
-      (Decides-eqb (get_or (roots_of [] n) b 0) b).1 (root-first [] n b in_b refl),
-      has,
-    ) refl in
-    let met : list_any (is_meeting_slot grid all (roots_of [] n) b a) (below n) ≡ true =
-    list_any-from_In (is_meeting_slot grid all (roots_of [] n) b a) (below n) b
-    (In-range 0 n b (omega arith) (omega (arith, in_b))) of_b in
-    subst (λ (x : ℕ). meet grid all (roots_of [] n) (get_or row j d) x ≡ true) (sym at_a)
-    (subst (λ (y : ℕ). meet grid all (roots_of [] n) y a ≡ true) (sym at_b)
-    (rw (nets, met) refl))
+    let itself : (s : ℕ) → s < n → get_or (roots_of [] n) s 0 ≡ s =
+    λ s inside. root-first [] n s inside refl in
+    let met = cell-pair p given (roots_of [] n)
+    (λ s inside. ap (λ (r : ℕ). (slot_at (slots p.route) r).net) (itself s inside))
+    number i j before low in
+    let at_i : get_or (roots_of [] n) (get_or row i 0) 0 ≡ get_or row i d =
+    itself (get_or row i 0) (rivals.within i first) ∙ sym (get_or_default row i d 0 first) in
+    let at_j : get_or (roots_of [] n) (get_or row j 0) 0 ≡ get_or row j d =
+    itself (get_or row j 0) (rivals.within j low) ∙ sym (get_or_default row j d 0 low) in
+    subst (λ (a : ℕ). meet p.route.grid (slots p.route) (roots_of [] n) (get_or row j d) a ≡ true)
+    at_i
+    (subst (λ (b : ℕ). meet p.route.grid (slots p.route) (roots_of [] n) b
+    (get_or (roots_of [] n) (get_or row i 0) 0) ≡ true) at_j met)
 
 -- the first of them, one more than there are tracks
 pub cell-row-meets : (p : RoutingProblem) → IsGiven p → (number width : ℕ) (roots row : List ℕ)
@@ -100,13 +76,14 @@ cell-row-meets p given number width roots row are is =
     (pairs-take (λ a b. meet p.route.grid (slots p.route) alone b a ≡ true) (suc width)
     (slots_of_cell p number) (cell-meets p given number)))
 
-pub crowd-row-meets : (p : RoutingProblem) (width : ℕ) (roots row : List ℕ) → roots ≡ tree_of p
-    → row ≡ take (suc width) (crowd p) → DoMeet p.route.grid (slots p.route) roots row
-crowd-row-meets p width roots row are is =
+pub crowd-row-meets : (p : RoutingProblem) (crowd : List ℕ) → IsCrowd p crowd → (width : ℕ)
+    (roots row : List ℕ) → roots ≡ tree_of p → row ≡ take (suc width) crowd
+    → DoMeet p.route.grid (slots p.route) roots row
+crowd-row-meets p crowd known width roots row are is =
     subst (λ (xs : List ℕ). DoMeet p.route.grid (slots p.route) xs row) (sym are)
     (subst (λ (ys : List ℕ). DoMeet p.route.grid (slots p.route) (tree_of p) ys) (sym is)
     (pairs-take (λ a b. meet p.route.grid (slots p.route) (tree_of p) b a ≡ true) (suc width)
-    (crowd p) (crowd-meets p.route.grid (slots p.route) (tree_of p))))
+    crowd known.met))
 
 -- ---- tables
 

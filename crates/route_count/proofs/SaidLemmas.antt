@@ -23,16 +23,16 @@ use Rattle.sat_clause.specs.Formula.{Cnf}
 use Rattle.sat_clause.specs.Literal.{Clause}
 use Rattle.route_encode.specs.Encoding.{apart_track, below, cnf_of, has, joined_track, lacks, not_both, one_track, open_track, some_track, track_after}
 use Rattle.route_encode.proofs.CompeteLemmas.{competing, pair-in}
-use Rattle.route_crowd.specs.Trees.{later_of, leads_to, roots_of}
-use Rattle.route_crowd.proofs.TreeLemmas.{length-roots}
+use Rattle.problem_facts.specs.Trees.{later_of, leads_to, roots_of}
+use Rattle.problem_facts.proofs.TreeLemmas.{length-roots}
 use Rattle.sat_count.specs.Names.{yes}
 use Rattle.sat_count.specs.Places.{some_clause}
 use Rattle.route_count.specs.Begun.{IsBegunBy}
-use Rattle.route_count.specs.Leads.{AreLeads, IsLead, TreesState, lead_at}
+use Rattle.problem_facts.specs.Leads.{AreLeads, IsLead, TreesState, lead_at}
 use Rattle.route_count.specs.Said.{AreInNets, HasClauses, IsOneOf, apart_clause, led_clause}
-use Rattle.route_count.specs.declared.trees.Lead.{Lead}
+use Rattle.problem_facts.specs.declared.trees.Lead.{Lead}
 use Rattle.route_count.proofs.ForwardLemmas.{IsForward, forward-steps}
-use Rattle.route_count.proofs.TrackLaws.{root-alike, steps-in-nets}
+use Rattle.problem_facts.proofs.TrackLaws.{root-alike, steps-in-nets}
 
 -- a row of variables, from another number on
 row-from : (a b n : ℕ) → map (λ t. yes (a + t)) (range_with_len b n) ≡ some_clause (a + b) n
@@ -162,13 +162,11 @@ module _ (width : ℕ) (p : RoutingProblem) where
 
     -- under subset switch blocks
     pub crowd-clauses : IsGiven p → Fits p → p.arch.pattern ≡ Subset → (t : TreesState)
-        (found : List RouteStep) → found ≡ steps p.route → AreLeads found 0 t.leads
-        → length t.leads ≡ length all → HasClauses formula width all t
-    crowd-clauses given fits subset t found are leads size =
-        let own : AreLeads (steps p.route) 0 t.leads =
-        subst (λ (ss : List RouteStep). AreLeads ss 0 t.leads) are leads in
+        → AreLeads (steps p.route) 0 t.leads → length t.leads ≡ length all
+        → HasClauses formula width all t
+    crowd-clauses given fits subset t leads size =
         has-clauses t (λ s track lead low few some.
-        led-in fits subset given t own s track lead (omega (arith, low, size)) few some)
+        led-in fits subset given t leads s track lead (omega (arith, low, size)) few some)
 
 -- ---- trees are of one net
 

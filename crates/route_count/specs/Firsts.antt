@@ -4,11 +4,11 @@ use Rattle.sat_clause.specs.Formula.{Cnf}
 use Rattle.sat_clause.specs.Literal.{Clause}
 use Rattle.sat_count.specs.Firsts.{first_apart, first_some}
 use Rattle.sat_count.specs.Refuting.{Holds, RefutationState}
-use Rattle.route_count.specs.Leads.{TreesState, lead_at, root_at}
+use Rattle.problem_facts.specs.Leads.{TreesState, lead_at, root_at}
 use Rattle.route_count.specs.Meetings.{meeting_at}
 use Rattle.route_count.specs.Said.{IsInput, apart_clause, led_clause}
 use Rattle.route_count.specs.declared.meetings.Meeting.{Meeting}
-use Rattle.route_count.specs.declared.trees.Lead.{Lead}
+use Rattle.problem_facts.specs.declared.trees.Lead.{Lead}
 
 -- for each slot of a row the variable by which it has the first track, by its number less one
 abbrev pub firsts_of : (width : ℕ) → (row : List ℕ) → List ℕ

@@ -5,9 +5,9 @@ use Rattle.fpga_types.specs.CellNumbers.{number_of_cell}
 use Rattle.fpga_types.specs.Size.{Size}
 use Rattle.fpga_types.specs.Slots.{slot_at}
 use Rattle.fpga_types.specs.declared.problem.Slot.{Slot}
-use Rattle.route_crowd.specs.Trees.{meet}
+use Rattle.problem_facts.specs.Trees.{meet}
 use Rattle.sat_count.specs.declared.limits.TheConstants.{COUNTED_LIMIT}
-use Rattle.route_count.specs.Leads.{TreesState, root_at}
+use Rattle.problem_facts.specs.Leads.{TreesState, root_at}
 use Rattle.route_count.specs.declared.meetings.Meeting.{Meeting}
 
 -- slots of the trees of a and b, which are of different nets, both of one cell

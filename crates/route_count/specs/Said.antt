@@ -8,8 +8,8 @@ use Rattle.sat_clause.specs.Literal.{Clause}
 use Rattle.sat_count.specs.Names.{no, yes}
 use Rattle.sat_count.specs.Places.{not_both, some_clause}
 use Rattle.sat_count.specs.Refuting.{Holds, RefutationState, begun}
-use Rattle.route_count.specs.Leads.{TreesState, lead_at, root_at}
-use Rattle.route_count.specs.declared.trees.Lead.{Lead}
+use Rattle.problem_facts.specs.Leads.{TreesState, lead_at, root_at}
+use Rattle.problem_facts.specs.declared.trees.Lead.{Lead}
 
 -- where slot a has the track, slot b has it
 abbrev pub led_clause : (width a b track : ℕ) → Clause

@@ -9,8 +9,8 @@ ghost use Rattle.sat_clause.specs.declared.limits.TheConstants.{ID_LIMIT};
 
 use fpga_bounds::PlacedProblem;
 use fpga_types::{Grid, SLOT_LIMIT, STEP_LIMIT, Slot, WIDTH_LIMIT, cell_number};
+use problem_facts::cells_of;
 use route_encode::{Encoder, Strict};
-use route_symmetry::cells_of;
 use sat_clause::ID_LIMIT;
 use std::alloc::{AllocError, Global};
 

@@ -2,9 +2,10 @@
 ghost use Rattle.std.specs.Prelude.{◌≡◌, ◌≤◌, ◌<◌, All, IfOk, OnOk, length, suc};
 ghost use Rattle.fpga_types.specs.Slots.{slots};
 ghost use Rattle.fpga_types.specs.declared.limits.TheConstants.{WIDTH_LIMIT};
+ghost use Rattle.problem_facts.specs.Facts.{AreFactsOf};
 ghost use Rattle.route_count.specs.Begun.{IsBegunBy};
 ghost use Rattle.route_count.specs.Crowded.{IsCrowding};
-ghost use Rattle.route_count.specs.Leads.{AreTrees};
+ghost use Rattle.problem_facts.specs.Leads.{AreTrees};
 ghost use Rattle.route_count.specs.Meetings.{DoMeet};
 ghost use Rattle.route_count.specs.Said.{AreInNets, HasClauses};
 ghost use Rattle.route_encode.specs.Encoding.{cnf_of};
@@ -15,9 +16,9 @@ use crate::clause_ids::ClauseIds;
 use crate::crowded::Crowding;
 use crate::first_level::Beginning;
 use crate::meetings::Meetings;
-use crate::trees::Trees;
 use fpga_bounds::PlacedProblem;
 use fpga_types::WIDTH_LIMIT;
+use problem_facts::{Facts, Trees};
 use route_encode::Variables;
 use sat_clause::{Formula, Log};
 use sat_count::{Refutation, count_down};
@@ -31,26 +32,26 @@ pub(crate) fn counting(
     alloc: Global,
     formula: &Formula,
     problem: &PlacedProblem,
+    facts: &Facts,
     width: u32,
     crowding: &Crowding,
 ) -> Result<Log, AllocError>
     requires width { (1 ≤ width) × (width ≤ WIDTH_LIMIT) }
     requires begun { IsBegunBy formula.now.cnf (cnf_of width problem.now) }
-    requires crowding { IsCrowding width problem.now crowding.now }
+    requires facts { AreFactsOf problem.now facts.now }
+    requires crowding { IsCrowding width problem.now facts.now.crowd crowding.now }
     ensures accepted { IfOk result (λ log. FullAccepts formula.now.cnf log.steps) }
     ensures sound { OnOk result (IsUnsat formula.now.cnf) }
 {
     let _route = problem.route();
+    let _steps = problem.steps();
     let count = problem.slots().len() as u32;
     match crowding {
         Crowding::Cell(row) => {
             let trees = Trees::apart(alloc, count)?;
             counted_row(alloc, formula, problem, width, row, &trees)
         }
-        Crowding::Crowd(row) => {
-            let trees = Trees::of_steps(alloc, count, problem.steps())?;
-            counted_row(alloc, formula, problem, width, row, &trees)
-        }
+        Crowding::Crowd(row) => counted_row(alloc, formula, problem, width, row, facts.trees()),
     }
 }
 

@@ -2,15 +2,15 @@
 ghost use Rattle.std.specs.Prelude.{◌≡◌, ◌+◌, ◌≤◌, ◌<◌, All, IfOk, IfSome, IsNone, IsTrue, length, suc, take};
 ghost use Rattle.fpga_types.specs.CellNumbers.{cell_count};
 ghost use Rattle.fpga_types.specs.Fabric.{is_cell};
-ghost use Rattle.route_symmetry.specs.Crowds.{slots_before};
-ghost use Rattle.route_symmetry.specs.Pins.{slots_in};
+ghost use Rattle.problem_facts.specs.CellCounts.{slots_before};
+ghost use Rattle.problem_facts.specs.Fullest.{slots_in};
+ghost use Rattle.problem_facts.specs.Facts.{AreFactsOf};
 ghost use Rattle.route_count.specs.Crowded.{AreSpread, IsCrowded, IsCrowding};
 
 use arrayvec::ArrayVec;
 use fpga_bounds::PlacedProblem;
 use fpga_types::{Grid, Pattern, SLOT_LIMIT, Slot, WIDTH_LIMIT, cell_number};
-use route_crowd::crowd;
-use route_symmetry::cells_of;
+use problem_facts::{Facts, cells_of};
 use sat_count::COUNTED_LIMIT;
 use std::alloc::{AllocError, Global};
 
@@ -24,19 +24,23 @@ pub enum Crowding {
 }
 
 /// What is seen to forbid this width, from 1 to 64: a cell with more slots than tracks, or else,
-/// where the switch blocks are subset ones, a crowd of more trees; `None` where there is neither.
-/// The time is that of [`crowd`].
+/// where the switch blocks are subset ones, the crowd that is known of the problem, if it has more
+/// trees; `None` where there is neither. The time is that of the slots and the cells.
 ///
 /// # Errors
 /// Where memory is short.
 pub fn crowded_by(
     alloc: Global,
     problem: &PlacedProblem,
+    facts: &Facts,
     width: u32,
 ) -> Result<Option<Crowding>, AllocError>
     requires width { (1 ≤ width) × (width ≤ WIDTH_LIMIT) }
-    ensures some { IfOk result (λ found. IfSome found (IsCrowding width problem.now)) }
-    ensures none { IfOk result (λ found. IsNone found → ¬ IsCrowded width problem.now) }
+    requires facts { AreFactsOf problem.now facts.now }
+    ensures some { IfOk result (λ found. IfSome found
+        (IsCrowding width problem.now facts.now.crowd)) }
+    ensures none { IfOk result (λ found. IsNone found
+        → ¬ IsCrowded width problem.now facts.now.crowd) }
 {
     let grid = problem.route().grid;
     let slots = problem.slots();
@@ -46,11 +50,11 @@ pub fn crowded_by(
     if problem.arch().pattern != Pattern::Subset {
         return Ok(None);
     }
-    let trees = crowd(alloc, problem)?;
+    let trees = facts.crowd();
     if trees.len() <= width as usize {
         return Ok(None);
     }
-    Ok(Some(Crowding::Crowd(first_of(&trees, width))))
+    Ok(Some(Crowding::Crowd(first_of(trees, width))))
 }
 
 /// The number of a cell that more slots take than there are tracks, if there is one.

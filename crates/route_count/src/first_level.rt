@@ -1,8 +1,8 @@
 //! The first level of a count: slots of a problem, and their clauses.
 ghost use Rattle.std.specs.Prelude.{◌≡◌, ◌≢◌, ◌+◌, ◌*◌, ◌≤◌, ◌<◌, ◌++◌, ◌∷◌, [], ◌^◌, ℕ, All, IfOk, IfSome, OnOk, Some, length, pos, slice_index};
 ghost use Rattle.std.specs.List.{AllPairs};
-ghost use Rattle.route_count.specs.Leads.{AreTrees, lead_at, root_at};
-ghost use Rattle.route_count.specs.declared.trees.Lead.{Lead};
+ghost use Rattle.problem_facts.specs.Leads.{AreTrees, lead_at, root_at};
+ghost use Rattle.problem_facts.specs.declared.trees.Lead.{Lead};
 ghost use Rattle.route_count.specs.Firsts.{AreClosed, AreLed, AreMarked, AreReady, IsLed, IsMet, KeepsMarks, apart_of, firsts_of, some_of};
 ghost use Rattle.route_count.specs.Meetings.{AreFound, IsMeeting};
 ghost use Rattle.route_count.specs.Said.{AreInNets, HasClauses, IsInput, IsOneOf, IsReason, apart_clause, chain_hints, led_clause, reason_hints};
@@ -14,9 +14,9 @@ ghost use Rattle.sat_count.specs.Rows.{AddsPairs, AddsRow, AddsRows};
 use crate::clause_ids::ClauseIds;
 use crate::clauses::clause_id;
 use crate::meetings::{Meeting, Meetings};
-use crate::trees::{Lead, Trees};
 use arrayvec::ArrayVec;
 use fpga_types::Slot;
+use problem_facts::{Lead, Trees};
 use route_encode::Variables;
 use sat_clause::{Formula, Lit};
 use sat_count::{Level, Refutation};

@@ -10,11 +10,7 @@ mod crowded;
 mod first_level;
 mod laws;
 mod meetings;
-mod trees;
 
 pub use counted::counted_out;
 pub use crowded::{Crowding, crowded_by};
-pub use laws::{
-    cells_have_different_tracks, crowded_is_unroutable, crowds_have_different_tracks,
-    trees_have_one_track,
-};
+pub use laws::crowded_is_unroutable;

@@ -6,9 +6,8 @@ ghost use Rattle.fpga_types.specs.Fabric.{is_cell};
 ghost use Rattle.route_count.specs.Meetings.{AreFound, AreNoted, ArePlaces, AreTaken, AreUnknown, DoMeet, KeepsOthers, meeting_at};
 ghost use Rattle.sat_count.specs.declared.limits.TheConstants.{COUNTED_LIMIT};
 
-use crate::trees::Trees;
 use fpga_types::{Grid, SLOT_LIMIT, Slot, cell_number};
-use route_symmetry::cells_of;
+use problem_facts::{Trees, cells_of};
 use sat_count::COUNTED_LIMIT;
 use std::alloc::{AllocError, Global};
 use std::marker::Model;

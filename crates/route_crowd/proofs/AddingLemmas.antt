@@ -19,7 +19,7 @@ use Rattle.route_encode.specs.Encoding.{below, has, lacks}
 use Rattle.route_encode.proofs.AddLemmas.{adds-more, room-next}
 use Rattle.route_encode.proofs.BitLemmas.{place-inside}
 use Rattle.route_encode.proofs.LiteralLemmas.{has-within}
-use Rattle.route_crowd.specs.Groups.{group_count, track_group}
+use Rattle.problem_facts.specs.Groups.{group_count, track_group}
 use Rattle.route_crowd.specs.Precedence.{group_clauses, only_behind, precedence, slot_clauses}
 use Rattle.fpga_types.specs.declared.arch.Pattern.TheVariants.{Subset, Wilton, Universal}
 use Rattle.route_encode.proofs.CompeteLemmas.{differs}

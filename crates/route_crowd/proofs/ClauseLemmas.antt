@@ -25,7 +25,7 @@ use Rattle.route_encode.proofs.BitLemmas.{length-bits, place-inside, says-bits}
 use Rattle.route_encode.proofs.CompeteLemmas.{differs}
 use Rattle.route_encode.proofs.Models.{IsTrueLit, in-below, of-below, of-both, of-map, of-rows, to-map, to-rows, unless, unless-had}
 use Rattle.route_encode.proofs.ProblemExactness.{bits-say-legal, models-say-legal}
-use Rattle.route_crowd.specs.Groups.{group_count, is_exchangeable, track_group}
+use Rattle.problem_facts.specs.Groups.{group_count, is_exchangeable, track_group}
 use Rattle.route_crowd.specs.Precedence.{AreInOrder, AreSlots, ClausesSayOrder, IsUsed, OrderedSaysUnroutable, group_clauses, only_behind, ordered_cnf, precedence, slot_clauses}
 use Rattle.route_crowd.proofs.GroupLemmas.{In-later, in-within}
 use Rattle.route_crowd.proofs.OrderLemmas.{nothing_changes}

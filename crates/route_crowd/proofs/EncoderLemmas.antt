@@ -11,7 +11,7 @@ use Rattle.sat_clause.specs.Literal.{Clause}
 use Rattle.route_encode.specs.Adding.{HasRoom}
 use Rattle.route_encode.specs.Encoding.{cnf_of}
 use Rattle.route_crowd.specs.Counts.{clauses_per_slot}
-use Rattle.route_crowd.specs.Groups.{is_exchangeable}
+use Rattle.problem_facts.specs.Groups.{is_exchangeable}
 use Rattle.route_crowd.specs.Precedence.{AreSlots, ordered_cnf, ordered_row, precedence, slots_among}
 use Rattle.route_crowd.proofs.AddingLemmas.{few-lits, length-precedence}
 

@@ -11,7 +11,7 @@ use Rattle.fpga_types.specs.declared.grid.Side.{Side}
 use Rattle.fpga_types.specs.declared.grid.Side.TheVariants.{Left, Right, Bottom, Top}
 use Rattle.route_encode.proofs.CompeteLemmas.{differs}
 use Rattle.route_symmetry.proofs.SwapLemmas.{IsChange, swap, swap-change, swap-other, swap-there}
-use Rattle.route_crowd.specs.Groups.{group_count, track_group}
+use Rattle.problem_facts.specs.Groups.{group_count, track_group}
 
 -- the track is in group p, which there is
 abbrev pub IsIn : Pattern → (width p t : ℕ) → Type 0

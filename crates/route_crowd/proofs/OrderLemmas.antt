@@ -11,7 +11,7 @@ use Rattle.fpga_types.specs.declared.arch.Pattern.{Pattern}
 use Rattle.fpga_types.proofs.MeetingLemmas.{both_true}
 use Rattle.route_encode.specs.Exact.{IsLegalRouting, IsRoutableAt}
 use Rattle.route_symmetry.proofs.SwapLemmas.{AreOpen, are-open, changed-legal}
-use Rattle.route_crowd.specs.Groups.{group_count, is_exchangeable, track_group}
+use Rattle.problem_facts.specs.Groups.{group_count, is_exchangeable, track_group}
 use Rattle.route_crowd.specs.Precedence.{AreSlots, IsOrderedRoutableAt, OrderChangesNothing}
 use Rattle.route_crowd.proofs.GroupLemmas.{In-later, IsIn, in-alone, in-first, in-some, not-later, turn, turn-change, turn-other, turn-there}
 

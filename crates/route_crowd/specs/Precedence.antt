@@ -11,7 +11,7 @@ use Rattle.sat_clause.specs.Literal.{Clause}
 use Rattle.route_encode.specs.Bits.{bits}
 use Rattle.route_encode.specs.Encoding.{below, cnf_of, has, lacks}
 use Rattle.route_encode.specs.Exact.{IsLegalRouting, IsRoutableAt, IsUnroutableAt}
-use Rattle.route_crowd.specs.Groups.{group_count, is_exchangeable, track_group}
+use Rattle.problem_facts.specs.Groups.{group_count, is_exchangeable, track_group}
 
 -- each of these is a slot of the problem
 abbrev pub AreSlots : RoutingProblem → List ℕ → Type 0

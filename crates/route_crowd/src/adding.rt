@@ -2,11 +2,11 @@
 ghost use Rattle.std.specs.Prelude.{◌≡◌, ◌≤◌, ◌<◌, ◌++◌, All, IfOk, OnOk, drop, length, map};
 ghost use Rattle.route_encode.specs.Adding.{Adds, HasRoom, HasVariables};
 ghost use Rattle.route_encode.specs.Encoding.{has};
-ghost use Rattle.route_crowd.specs.Groups.{group_count, track_group};
+ghost use Rattle.problem_facts.specs.Groups.{group_count, track_group};
 ghost use Rattle.route_crowd.specs.Precedence.{group_clauses, only_behind, precedence, slot_clauses};
 
-use crate::exchange::{group_count, track_group};
 use fpga_types::Pattern;
+use problem_facts::{group_count, track_group};
 use route_encode::{Variables, add_clause};
 use sat_clause::{Formula, Lit};
 use std::alloc::{AllocError, Global};

@@ -2,8 +2,8 @@
 ghost use Rattle.std.specs.Prelude.{◌≡◌, ℕ, List, true};
 ghost use Rattle.fpga_types.specs.Fits.{Fits};
 ghost use Rattle.fpga_types.specs.Problem.{RoutingProblem};
-ghost use Rattle.route_crowd.specs.Crowd.{CrowdMeets, crowd};
-ghost use Rattle.route_crowd.specs.Groups.{is_exchangeable};
+ghost use Rattle.problem_facts.specs.Crowd.{IsCrowd};
+ghost use Rattle.problem_facts.specs.Groups.{is_exchangeable};
 ghost use Rattle.route_crowd.specs.Precedence.{AreSlots, ClausesSayOrder, OrderChangesNothing, OrderedSaysUnroutable, slots_among};
 
 /// Of a problem that fits, whose groups of tracks may change places, there is a legal routing
@@ -29,13 +29,9 @@ pub fn ordered_says_unroutable()
         → AreSlots problem row → OrderedSaysUnroutable width problem row }
 {}
 
-/// Of the trees of a problem's crowd each meets those before it.
-pub fn crowds_meet()
-    ensures { (problem : RoutingProblem) → CrowdMeets problem }
-{}
-
-/// The trees of a problem's crowd stand by slots of the problem, so that all of them count in an
-/// order.
+/// The trees of a crowd of a problem, whichever it is, stand by slots of the problem, so that all
+/// of them count in an order.
 pub fn crowds_are_slots()
-    ensures { (problem : RoutingProblem) → slots_among problem (crowd problem) ≡ crowd problem }
+    ensures { (problem : RoutingProblem) (crowd : List ℕ) → IsCrowd problem crowd
+        → slots_among problem crowd ≡ crowd }
 {}

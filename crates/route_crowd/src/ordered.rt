@@ -1,17 +1,15 @@
-//! The encoding with the tracks in the order in which a crowd comes to them.
+//! The encoding with the tracks in the order in which a row of slots comes to them.
 ghost use Rattle.std.specs.Prelude.{◌≡◌, ◌≤◌, IfOk, filter, length, nat_lt};
 ghost use Rattle.route_encode.specs.Good.{IsRoutingOf};
+ghost use Rattle.problem_facts.specs.declared.limits.TheConstants.{CROWD_LIMIT};
 ghost use Rattle.route_crowd.specs.Counts.{clauses_per_slot};
-ghost use Rattle.route_crowd.specs.Crowd.{crowd};
 ghost use Rattle.route_crowd.specs.Precedence.{AreSlots, ordered_cnf, ordered_row, slots_among};
 
 use crate::adding::add_precedence;
-use crate::crowding::crowd;
-use crate::exchange::is_exchangeable;
-use crate::limits::CROWD_LIMIT;
 use arrayvec::ArrayVec;
 use fpga_bounds::PlacedProblem;
 use fpga_types::{Pattern, RouteText, WIDTH_LIMIT};
+use problem_facts::{CROWD_LIMIT, Facts, is_exchangeable};
 use route_encode::{Encoder, Strict, Variables};
 use sat_clause::Formula;
 use std::alloc::{AllocError, Global};
@@ -67,15 +65,12 @@ impl Encoder for Precedence {
 }
 
 impl Precedence {
-    /// The order of the crowd of a problem. The time is that of [`crowd`].
-    ///
-    /// # Errors
-    /// Where memory is short.
-    pub fn of_crowd(alloc: Global, problem: &PlacedProblem) -> Result<Precedence, AllocError>
-        ensures { IfOk result (λ it. it.row.items ≡ crowd problem.now) }
+    /// The order of the crowd that is known of a problem. Takes no memory.
+    pub fn of_crowd(facts: &Facts) -> Precedence
+        ensures { result.row.items ≡ facts.now.crowd }
     {
-        let row = crowd(alloc, problem)?;
-        Ok(Precedence { row })
+        let row = row_of(facts.crowd());
+        Precedence { row }
     }
 
     /// The slots of the row that the problem has, where its groups of tracks may change places, and
@@ -92,6 +87,18 @@ impl Precedence {
         }
         slots_among(problem.slots().len() as u32, &self.row)
     }
+}
+
+/// The row of these slots.
+fn row_of(slots: &[u32]) -> ArrayVec<u32, CROWD_LIMIT>
+    requires { length slots.now ≤ CROWD_LIMIT }
+    ensures { result.items ≡ slots.now }
+{
+    let mut row = ArrayVec::new();
+    for s in slots {
+        row.push(*s);
+    }
+    row
 }
 
 /// Those of these numbers that are below the count.

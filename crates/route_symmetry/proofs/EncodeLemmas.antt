@@ -28,9 +28,10 @@ use Rattle.route_encode.specs.Good.{IsRoutingOf}
 use Rattle.route_encode.proofs.BitLemmas.{says-bits}
 use Rattle.route_encode.proofs.ProblemDecoded.{no-routing}
 use Rattle.route_encode.proofs.ProblemExactness.{bits-say-legal, models-say-legal}
-use Rattle.route_symmetry.specs.Full.{is_symmetric}
+use Rattle.problem_facts.specs.Full.{is_symmetric}
 use Rattle.route_symmetry.specs.Pinned.{ArePinned, pin_clauses, pinned_cnf, pinned_row, row_clauses}
-use Rattle.route_symmetry.specs.Pins.{has_most, pin_row, pinned_slots, pins, slots_in}
+use Rattle.problem_facts.specs.Fullest.{has_most, slots_in}
+use Rattle.route_symmetry.specs.Pins.{pin_row, pinned_slots, pins}
 use Rattle.route_symmetry.proofs.PinLemmas.{pinned-legal, pinned-rivals}
 
 -- what satisfies the clauses with pinned tracks satisfies those without

@@ -1,7 +1,5 @@
-pub mod CrowdLemmas
 pub mod EncodeLemmas
 pub mod PinClauses
 pub mod PinLemmas
 mod Rows
-pub mod SlotCells
 pub mod SwapLemmas

@@ -16,10 +16,10 @@ use Rattle.fpga_types.specs.declared.route.RouteNet.{RouteNet}
 use Rattle.fpga_types.specs.declared.route.RouteText.{RouteText}
 use Rattle.sat_clause.specs.Formula.{Cnf}
 use Rattle.sat_clause.specs.Literal.{lit}
-use Rattle.route_symmetry.specs.Full.{asymmetry_of, is_symmetric}
+use Rattle.problem_facts.specs.Full.{asymmetry_of, is_symmetric}
 use Rattle.route_symmetry.specs.Pinned.{pinned_cnf}
 use Rattle.route_symmetry.specs.Pins.{pins}
-use Rattle.route_symmetry.specs.declared.full.Asymmetry.TheVariants.{Pads, Pattern as OfPattern}
+use Rattle.problem_facts.specs.declared.full.Asymmetry.TheVariants.{Pads, Pattern as OfPattern}
 
 -- a pin on the bottom side
 abbrev spec : ℕ → Bool → Bool → PinSpec

@@ -6,7 +6,7 @@ use Rattle.sat_clause.specs.Formula.{Cnf, IsUnsat}
 use Rattle.sat_clause.specs.Literal.{Clause}
 use Rattle.route_encode.specs.Encoding.{cnf_of, has}
 use Rattle.route_encode.specs.Exact.{IsLegalRouting, IsRoutableAt, IsUnroutableAt}
-use Rattle.route_symmetry.specs.Full.{is_symmetric}
+use Rattle.problem_facts.specs.Full.{is_symmetric}
 use Rattle.route_symmetry.specs.Pins.{pin_row, pins}
 
 -- a clause for each pin: the slot has the track

@@ -1,25 +1,14 @@
 -- The slots whose tracks may be given beforehand: those of one cell, which has the most slots.
-use Rattle.std.specs.Prelude.{ℕ, ◌==◌, nat_le, Bool, List, [], length, map, filter, find, take}
-use Rattle.std.specs.List.{enumerate_from, list_all}
+use Rattle.std.specs.Prelude.{ℕ, List, [], map, find, take}
+use Rattle.std.specs.List.{enumerate_from}
 use Rattle.std.specs.Option.{option_map_or}
-use Rattle.fpga_types.specs.CellNumbers.{cell_count, number_of_cell}
+use Rattle.fpga_types.specs.CellNumbers.{cell_count}
 use Rattle.fpga_types.specs.Problem.{RoutingProblem}
 use Rattle.fpga_types.specs.Size.{Size}
-use Rattle.fpga_types.specs.Slots.{slot_at, slots}
+use Rattle.fpga_types.specs.Slots.{slots}
 use Rattle.fpga_types.specs.declared.problem.Slot.{Slot}
 use Rattle.route_encode.specs.Encoding.{below}
-
--- the slots that take the cell with this number, rising
-abbrev pub slots_in : Size → List Slot → ℕ → List ℕ
-slots_in grid all number =
-    filter (λ s. number_of_cell grid (slot_at all s).cell == number) (below (length all))
-
--- no cell has more slots than the one with this number
-abbrev pub has_most : Size → List Slot → ℕ → Bool
-has_most grid all number =
-    list_all
-    (λ other. nat_le (length (slots_in grid all other)) (length (slots_in grid all number)))
-    (below (cell_count grid))
+use Rattle.problem_facts.specs.Fullest.{has_most, slots_in}
 
 -- the slots of the pinned cell, which is the first by number of the cells that have the most
 abbrev pub pinned_slots : Size → List Slot → List ℕ

@@ -4,15 +4,14 @@ ghost use Rattle.fpga_types.specs.Fabric.{is_cell};
 ghost use Rattle.fpga_types.specs.Fits.{Fits};
 ghost use Rattle.fpga_types.specs.Given.{IsGiven};
 ghost use Rattle.fpga_types.specs.Slots.{slots};
-ghost use Rattle.route_symmetry.specs.Crowds.{slots_before};
-ghost use Rattle.route_symmetry.specs.Pins.{slots_in};
+ghost use Rattle.problem_facts.specs.CellCounts.{slots_before};
+ghost use Rattle.problem_facts.specs.Fullest.{slots_in};
 ghost use Rattle.route_symmetry.specs.Pinned.{pinned_row};
 
-use crate::full::is_symmetric;
-use crate::pinned_cell::pinned_cell;
 use arrayvec::ArrayVec;
 use fpga_bounds::PlacedProblem;
 use fpga_types::{Grid, SLOT_LIMIT, Slot, WIDTH_LIMIT, cell_number};
+use problem_facts::{fullest_cell, is_symmetric};
 
 /// Where all tracks are alike the pinned slots of the problem, the first with track 0, the second
 /// with track 1 and so on, as far as there are tracks; none elsewhere.
@@ -29,7 +28,7 @@ pub(crate) fn pinned_row(problem: &PlacedProblem, width: u32) -> ArrayVec<u32, 6
         return ArrayVec::new();
     }
     let slots = problem.slots();
-    slots_in_cell(grid, slots, pinned_cell(grid, slots), width)
+    slots_in_cell(grid, slots, fullest_cell(grid, slots), width)
 }
 
 /// The first slots that take the cell with this number, as many as there are tracks at most.

@@ -1,8 +1,9 @@
 -- What each way holds and needs, and the logs by which it refutes a formula and by which it leaves
 -- it open.
-use Rattle.std.specs.Prelude.{◌≡◌, ℕ, List}
+use Rattle.std.specs.Prelude.{◌≡◌, ℕ, List, Bool, true, false}
 use Rattle.desk_io.specs.Files.{Bytes}
 use Rattle.fpga_types.specs.Problem.{RoutingProblem}
+use Rattle.problem_facts.specs.Facts.{AreFactsOf}
 use Rattle.route_count.specs.Begun.{IsBegunBy}
 use Rattle.route_count.specs.Crowded.{IsCrowded}
 use Rattle.route_encode.specs.Encoding.{cnf_of}
@@ -15,38 +16,58 @@ use Rattle.route_ways.specs.declared.plain.Plain.{Plain}
 use Rattle.route_ways.specs.declared.way.Way.{Way}
 use Rattle.route_ways.specs.declared.way.Way.TheVariants.{Alone, Counted, Cut}
 
+-- a way, with no more of what is known of the problem than the crowd that it counts: a search, one
+-- behind counting, or one whose refutations are cut down
+pub data Course : Type 0 where
+  Searches : Plain → Course
+  Counts : Plain → (crowd : List ℕ) → Course
+  Trims : Plain → Course
+
+-- so seen
+abbrev pub course_of : Way → Course
+course_of (Alone plain) = Searches plain
+course_of (Counted counting) = Counts counting.rest counting.facts.now.crowd
+course_of (Cut trimming) = Trims trimming.rest
+
 -- the search in it
-abbrev pub search_in : Way → Plain
-search_in (Alone plain) = plain
-search_in (Counted counting) = counting.rest
-search_in (Cut trimming) = trimming.rest
+abbrev pub search_in : Course → Plain
+search_in (Searches plain) = plain
+search_in (Counts plain crowd) = plain
+search_in (Trims plain) = plain
 
 -- how many copies of the clauses it holds
-abbrev pub copies_by : Way → ℕ
+abbrev pub copies_by : Course → ℕ
 copies_by way = copies_of (search_in way).solver
 
+-- whether it counts
+abbrev pub is_counting : Course → Bool
+is_counting (Searches plain) = false
+is_counting (Counts plain crowd) = true
+is_counting (Trims plain) = false
+
 -- how many clauses it may learn
-abbrev pub budget_of : Way → ℕ
+abbrev pub budget_of : Course → ℕ
 budget_of way = (search_in way).budget
 
--- counting needs clauses that begin with those of one track in each cell, and trimming has to have
--- no others
+-- counting needs the facts of the problem, and clauses that begin with those of one track in each
+-- cell; trimming has to have no others
 abbrev pub serves_by : Way → RoutingProblem → ℕ → Cnf → Type 0
 serves_by (Alone plain) p width formula = CanSearch plain
 serves_by (Counted counting) p width formula =
-    IsBegunBy formula (cnf_of width p) × CanSearch counting.rest
+    AreFactsOf p counting.facts.now × IsBegunBy formula (cnf_of width p)
+    × CanSearch counting.rest
 serves_by (Cut trimming) p width formula = (formula ≡ cnf_of width p) × CanSearch trimming.rest
 
 -- the log refutes the formula so, and this is said before the report
-abbrev pub refutes_by : Way → RoutingProblem → ℕ → Cnf → List Step → Bytes → Type 0
-refutes_by (Alone plain) p width formula log lead = IsRefuted plain formula log lead
-refutes_by (Counted counting) p width formula log lead =
-    IsRefutedIf (IsCrowded width p) (IsRefuted counting.rest formula log lead) formula log lead
-refutes_by (Cut trimming) p width formula log lead = IsCutDown p width formula log lead
+abbrev pub refutes_by : Course → RoutingProblem → ℕ → Cnf → List Step → Bytes → Type 0
+refutes_by (Searches plain) p width formula log lead = IsRefuted plain formula log lead
+refutes_by (Counts plain crowd) p width formula log lead =
+    IsRefutedIf (IsCrowded width p crowd) (IsRefuted plain formula log lead) formula log lead
+refutes_by (Trims plain) p width formula log lead = IsCutDown p width formula log lead
 
 -- the log leaves it open so; behind counting, numbers alone do not forbid the width
-abbrev pub opens_by : Way → RoutingProblem → ℕ → Cnf → List Step → Type 0
-opens_by (Alone plain) p width formula log = IsLeftOpen plain formula log
-opens_by (Counted counting) p width formula log =
-    (¬ IsCrowded width p) × IsLeftOpen counting.rest formula log
-opens_by (Cut trimming) p width formula log = IsLeftOpen trimming.rest formula log
+abbrev pub opens_by : Course → RoutingProblem → ℕ → Cnf → List Step → Type 0
+opens_by (Searches plain) p width formula log = IsLeftOpen plain formula log
+opens_by (Counts plain crowd) p width formula log =
+    (¬ IsCrowded width p crowd) × IsLeftOpen plain formula log
+opens_by (Trims plain) p width formula log = IsLeftOpen plain formula log

@@ -1,6 +1,7 @@
 //! Counting in front of another way.
 
 use fpga_bounds::PlacedProblem;
+use problem_facts::Facts;
 use route_count::counted_out;
 use route_sweep::{Ended, Searcher};
 use sat_clause::Formula;
@@ -8,12 +9,15 @@ use std::alloc::{AllocError, Global};
 
 /// A width that numbers alone forbid is refuted by counting, and another one goes another way.
 #[derive(Clone, Copy)]
-pub struct Counting<R: Searcher> {
+pub struct Counting<'a, R: Searcher> {
     /// The other way.
     pub rest: R,
+    /// What is known of the problem, whose crowd is counted.
+    pub facts: &'a Facts,
 }
 
-impl<R: Searcher> Searcher for Counting<R> {
+impl<'a, R: Searcher> Searcher for Counting<'a, R> {
+    ghost use Rattle.problem_facts.specs.Facts.{AreFactsOf};
     ghost use Rattle.route_count.specs.Begun.{IsBegunBy};
     ghost use Rattle.route_count.specs.Crowded.{IsCrowded};
     ghost use Rattle.route_encode.specs.Encoding.{cnf_of};
@@ -21,13 +25,14 @@ impl<R: Searcher> Searcher for Counting<R> {
 
     ghost copies = { λ way. R.copies way.rest };
 
-    ghost serves = { λ way p width formula. IsBegunBy formula (cnf_of width p)
-        × R.serves way.rest p width formula };
+    ghost serves = { λ way p width formula. AreFactsOf p way.facts.now
+        × IsBegunBy formula (cnf_of width p) × R.serves way.rest p width formula };
 
-    ghost refutes = { λ way p width formula log lead. IsRefutedIf (IsCrowded width p)
+    ghost refutes = { λ way p width formula log lead.
+        IsRefutedIf (IsCrowded width p way.facts.now.crowd)
         (R.refutes way.rest p width formula log lead) formula log lead };
 
-    ghost leaves_open = { λ way p width formula log. (¬ IsCrowded width p)
+    ghost leaves_open = { λ way p width formula log. (¬ IsCrowded width p way.facts.now.crowd)
         × R.leaves_open way.rest p width formula log };
 
     fn copy_count(&self) -> u32 {
@@ -41,7 +46,7 @@ impl<R: Searcher> Searcher for Counting<R> {
         width: u32,
         formula: &Formula,
     ) -> Result<Ended, AllocError> {
-        let Ok(found) = counted_out(alloc, formula, problem, width) else {
+        let Ok(found) = counted_out(alloc, formula, problem, self.facts, width) else {
             return Err(AllocError);
         };
         match found {

@@ -9,25 +9,25 @@ use std::alloc::{AllocError, Global};
 
 /// A way that words can ask for.
 #[derive(Clone, Copy)]
-pub enum Way {
+pub enum Way<'a> {
     /// A search alone.
     Alone { plain: Plain },
     /// Counting in front of a search.
-    Counted { counting: Counting<Plain> },
+    Counted { counting: Counting<'a, Plain> },
     /// A search whose refutations are cut down.
     Cut { trimming: Trimming<Plain> },
 }
 
-impl Searcher for Way {
-    ghost use Rattle.route_ways.specs.Way.{copies_by, opens_by, refutes_by, serves_by};
+impl<'a> Searcher for Way<'a> {
+    ghost use Rattle.route_ways.specs.Way.{copies_by, course_of, opens_by, refutes_by, serves_by};
 
-    ghost copies = { copies_by };
+    ghost copies = { λ way. copies_by (course_of way) };
 
     ghost serves = { serves_by };
 
-    ghost refutes = { refutes_by };
+    ghost refutes = { λ way. refutes_by (course_of way) };
 
-    ghost leaves_open = { opens_by };
+    ghost leaves_open = { λ way. opens_by (course_of way) };
 
     fn copy_count(&self) -> u32 {
         match self {

@@ -5,9 +5,9 @@ use Rattle.code_words.specs.Causes.{cause_phrase, refusal_phrase, within_reach_p
 use Rattle.code_words.specs.Errors.{error_phrase}
 use Rattle.desk_io.specs.DeskState.{DeskState}
 use Rattle.fpga_types.specs.declared.limits.TheConstants.{WIDTH_LIMIT}
+use Rattle.problem_facts.specs.declared.full.Asymmetry.{Asymmetry}
+use Rattle.problem_facts.specs.declared.full.Asymmetry.TheVariants.{Inputs, Outputs, Pads, Pattern}
 use Rattle.route_sweep.specs.Names.{numbered_prefix}
-use Rattle.route_symmetry.specs.declared.full.Asymmetry.{Asymmetry}
-use Rattle.route_symmetry.specs.declared.full.Asymmetry.TheVariants.{Inputs, Outputs, Pads, Pattern}
 use Rattle.router_says.specs.AtFault.{NamesSought, sought_of}
 use Rattle.router_says.specs.Names.{asked_in, file_said, may_have_several, name_of, prefix_of, reach_of}
 use Rattle.router_says.specs.Seen.{Sees}

@@ -19,12 +19,13 @@ use Rattle.fpga_types.specs.declared.problem.PinStep.{PinStep}
 use Rattle.fpga_types.specs.declared.problem.Slot.{Slot}
 use Rattle.fpga_types.specs.declared.grid.PinAt.{PinAt}
 use Rattle.fpga_types.specs.declared.grid.PinAt.TheVariants.{Pad as PadAt, Pin as PinOf}
-use Rattle.route_alone.specs.Alone.{HasTrackless, IsTracklessTree}
-use Rattle.route_alone.specs.declared.closed_tree.ClosedTree.{ClosedTree}
+use Rattle.problem_facts.specs.Alone.{HasTrackless, IsTracklessTree}
+use Rattle.problem_facts.specs.Crowd.{IsCrowd}
+use Rattle.problem_facts.specs.Groups.{is_exchangeable}
+use Rattle.problem_facts.specs.declared.closed_tree.ClosedTree.{ClosedTree}
 use Rattle.route_count.specs.Crowded.{IsCrowded, IsCrowding}
 use Rattle.route_count.specs.declared.crowded.Crowding.{Crowding}
 use Rattle.route_count.specs.declared.crowded.Crowding.TheVariants.{Cell, Crowd}
-use Rattle.route_crowd.specs.Groups.{is_exchangeable}
 use Rattle.router_says.specs.AtFault.{IsRead}
 use Rattle.router_says.specs.NameBytes.{name_said}
 use Rattle.router_says.specs.Names.{name_of, reach_of}
@@ -150,13 +151,18 @@ SaysAlone width hints p said =
     ((¬ HasTrackless width p) × (said ≡ order_said width hints p))
     ⊎ ((found : ClosedTree) × IsTracklessTree width p found × (said ≡ trackless_said p found))
 
--- where numbers alone forbid the width, slots that do are said; where not, what is seen of each net
--- alone
+-- where numbers alone forbid the width, of a cell or of this crowd, slots that do are said; where
+-- not, what is seen of each net alone
+abbrev pub SaysSeenBy : (width : ℕ) → Hints → RoutingProblem → (crowd : List ℕ) → List ℕ → Type 0
+SaysSeenBy width hints p crowd said =
+    ((¬ IsCrowded width p crowd) × SaysAlone width hints p said)
+    ⊎ ((crowding : Crowding) × IsCrowding width p crowd crowding
+    × (said ≡ crowding_said p crowding ++ count_said hints))
+
+-- so by some crowd of the problem
 abbrev pub SaysSeenOf : (width : ℕ) → Hints → RoutingProblem → List ℕ → Type 0
 SaysSeenOf width hints p said =
-    ((¬ IsCrowded width p) × SaysAlone width hints p said)
-    ⊎ ((crowding : Crowding) × IsCrowding width p crowding
-    × (said ≡ crowding_said p crowding ++ count_said hints))
+    (crowd : List ℕ) × IsCrowd p crowd × SaysSeenBy width hints p crowd said
 
 -- of texts that pose a problem, what is seen of it; of others nothing
 abbrev pub SaysSeen : (width : ℕ) → Hints → Option Texts → List ℕ → Type 0

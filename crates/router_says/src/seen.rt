@@ -16,6 +16,7 @@ ghost use Rattle.std.specs.Prelude.{
   take,
 };
 ghost use Rattle.fpga_types.specs.declared.limits.TheConstants.{WIDTH_LIMIT};
+ghost use Rattle.problem_facts.specs.Facts.{AreFactsOf};
 ghost use Rattle.router_says.specs.AtFault.{Appends};
 ghost use Rattle.router_says.specs.Names.{asked};
 ghost use Rattle.router_says.specs.Seen as spec;
@@ -23,6 +24,7 @@ ghost use Rattle.router_says.specs.Seen.{
   Looks,
   SaysAlone,
   SaysSeen,
+  SaysSeenBy,
   SaysSeenOf,
   Sees,
   apart_said,
@@ -54,9 +56,8 @@ use fpga_bounds::PlacedProblem;
 use fpga_problem::{FourTexts, TextFile, read_problem};
 use fpga_text::TextFault;
 use fpga_types::{Axis, Cell, PinAt, PinStep, RouteText, WIDTH_LIMIT};
-use route_alone::{ClosedTree, trackless};
+use problem_facts::{ClosedTree, Facts, is_exchangeable, trackless};
 use route_count::{Crowding, crowded_by};
-use route_crowd::is_exchangeable;
 use router_words::{Job, Method};
 use std::alloc::{AllocError, Global};
 
@@ -277,9 +278,27 @@ fn append_of_problem(
     ensures { OnOk result (Appends (SaysSeenOf width hints problem.now) (string_bytes out.old)
         (string_bytes out.new)) }
 {
-    match crowded_by(alloc, problem, width)? {
+    let facts = Facts::of(alloc, problem)?;
+    append_by_facts(alloc, out, problem, &facts, width, hints)
+}
+
+// Appends it of a problem of which this is known.
+fn append_by_facts(
+    alloc: Global,
+    out: &mut String,
+    problem: &PlacedProblem,
+    facts: &Facts,
+    width: u32,
+    hints: Hints,
+) -> Result<(), AllocError>
+    requires width { (1 ≤ width) × (width ≤ WIDTH_LIMIT) }
+    requires facts { AreFactsOf problem.now facts.now }
+    ensures { OnOk result (Appends (SaysSeenBy width hints problem.now facts.now.crowd)
+        (string_bytes out.old) (string_bytes out.new)) }
+{
+    match crowded_by(alloc, problem, facts, width)? {
         Some(crowding) => append_crowded(out, problem, &crowding, hints),
-        None => append_alone(alloc, out, problem, width, hints),
+        None => append_alone(alloc, out, problem, facts, width, hints),
     }
 }
 
@@ -288,14 +307,16 @@ fn append_alone(
     alloc: Global,
     out: &mut String,
     problem: &PlacedProblem,
+    facts: &Facts,
     width: u32,
     hints: Hints,
 ) -> Result<(), AllocError>
     requires width { (1 ≤ width) × (width ≤ WIDTH_LIMIT) }
+    requires facts { AreFactsOf problem.now facts.now }
     ensures { OnOk result (Appends (SaysAlone width hints problem.now) (string_bytes out.old)
         (string_bytes out.new)) }
 {
-    match trackless(alloc, problem, width)? {
+    match trackless(alloc, problem, facts, width)? {
         Some(found) => append_trackless(out, problem, &found),
         None => append_order(out, problem, width, hints),
     }

@@ -2,7 +2,7 @@
 ghost use Rattle.std.specs.Prelude.{◌≡◌, ◌++◌, OnOk, codes, decimal, string_bytes};
 ghost use Rattle.router_says.specs.Said.{lack_said, obstacle_said, option_said, reason_said};
 
-use route_symmetry::Asymmetry;
+use problem_facts::Asymmetry;
 use router_top::Obstacle;
 use std::alloc::AllocError;
 

@@ -1,5 +1,5 @@
--- Outcomes that are true of the same words and files agree: they are one, or one of them says that
--- a search was left open.
+-- Outcomes that are true of the same words and files by one crowd agree: they are one, or one of
+-- them says that a search was left open.
 use Rattle.std.specs.Prelude.{◌*◌, MatchResult, Option}
 use Rattle.std.proofs.Common.{true, false, ◌≡◌, ◌∙◌, ◌⊎◌, ℕ, zero, suc, ◌<◌, ◌≤◌, List, length, Some, Ok, Err, Result, refl, sym, ap, subst, inl, inr, arith}
 use Rattle.fpga_problem.proofs.FileLemmas.{one-problem}
@@ -15,11 +15,11 @@ use Rattle.router_words.specs.declared.fault.Refusal.{Refusal}
 use Rattle.router_top.specs.Bound.{IsTrueOfCut, bound_outcome}
 use Rattle.router_top.specs.Check.{ChecksTo, JudgesTo, VerifiesTo}
 use Rattle.router_top.specs.Generated.{IsTooLarge, Makes, HasRoom, IsTooMany}
-use Rattle.router_top.specs.Method.{HasNone, clauses_by}
+use Rattle.router_top.specs.Method.{HasNone, clauses_by, IsCrowdFor}
 use Rattle.router_top.specs.Placed.{IsJudgement, JudgesPlaced, ReadsRouted}
-use Rattle.router_top.specs.Search.{Search, clauses_held, core_search, route_search, sweep_of, sweep_search}
+use Rattle.router_top.specs.Search.{Search, clauses_held, core_search, route_search, sweep_of, sweep_search, clauses_at}
 use Rattle.router_top.specs.Suited.{IsLeastUnsuited, IsTrueOfSuited, IsUnsuited, Suits, is_suited, obstacle_to}
-use Rattle.router_top.specs.Truth.{Agrees, AreBounds, IsOpenBelow, IsReached, IsTrueAt, IsTrueOf, IsTrueOfEncoding, IsTrueOfJob, IsTrueOfSearch, IsTrueOfSuitedSearch, IsTrueOfWork, IsTrueOfCount}
+use Rattle.router_top.specs.Truth.{Agrees, AreBounds, IsOpenBelow, IsReached, IsTrueAt, IsTrueOf, IsTrueOfEncoding, IsTrueOfJob, IsTrueOfSearch, IsTrueOfSuitedSearch, IsTrueOfWork, IsTrueOfCount, IsTrueBy}
 use Rattle.router_top.specs.Subject.{FileMap, FileNames, IsHalted, RoutingProblem, HasFew, job_of, Blames, Bounds, CheckAsked, Checks, Encodes, Generates, JobAsked, JudgeAsked, Judges, Negotiates, RecipeAsked, Routes, Sweeps, TrialAsked, Tries, Verifies, VerifyAsked, Word, Method, Outcome, Done, NotSymmetric, Undecided, Usage}
 use Rattle.router_top.specs.declared.outcome.Obstacle.{Obstacle}
 use Rattle.router_top.proofs.GeneratedLaws.{one-made}
@@ -76,14 +76,14 @@ module _ (search : Search) (p : RoutingProblem) where
   -- what is true of the clauses at a width
   abbrev IsTrueThere : (width : ℕ) → Outcome → Type 0
   IsTrueThere width outcome =
-      IsTrueOfCount FormulaClauses (length (clauses_by search.method width p).clauses)
+      IsTrueOfCount FormulaClauses (length (clauses_at search width p).clauses)
       (IsTrueOfCount ClausesOfTurns (clauses_held search width p)
       (IsTrueAt search p width outcome) outcome) outcome
 
   -- where the clauses are few enough, so are those that all searches hold together
   abbrev HasRoomAt : (width : ℕ) → Type 0
   HasRoomAt width =
-      HasFew (clauses_by search.method width p) → clauses_held search width p ≤ CLAUSE_LIMIT
+      HasFew (clauses_at search width p) → clauses_held search width p ≤ CLAUSE_LIMIT
 
   -- the search was left open, and came to another outcome at the same width or at a higher one
   open-below : (width higher : ℕ) (a b : Outcome) → width ≤ higher
@@ -110,7 +110,7 @@ module _ (search : Search) (p : RoutingProblem) where
   was-open width higher a at on low room there =
       let shown = on.lower width at.from low in go shown.0 shown.1 there
     where
-      go : HasFew (clauses_by search.method width p) → HasNone search.method width p
+      go : HasFew (clauses_at search width p) → HasNone search.method width p
           → IsTrueThere width a → a ≡ Undecided width (budget_of search.way)
       go few none (inl h) = absurd (omega (arith, few, h.0))
       go few none (inr (so, inl h)) =
@@ -258,11 +258,11 @@ recipe-agrees recipe says a b (inr h) (inl g) agree =
     absurd (not-both recipe.nets (recipe.side * recipe.side) g.0 h.0)
 recipe-agrees recipe says a b (inr h) (inr g) agree = agree h.1 g.1
 
-module _ (job : TrialAsked) where
+module _ (crowd : List ℕ) (job : TrialAsked) where
   -- what is true of a problem that was made
   abbrev IsTrueOfMade : Outcome → Type 0
   IsTrueOfMade outcome = (p : RoutingProblem) × Makes job.recipe p
-      × IsTrueOfSearch (sweep_search (sweep_of job)) p outcome
+      × IsTrueOfSearch (sweep_search (sweep_of job) crowd) p outcome
 
   -- a problem is not too large and small enough
   not-large : (a b : Outcome) → IsTooLarge job.recipe a → IsTrueOfMade b → ⊥
@@ -271,8 +271,8 @@ module _ (job : TrialAsked) where
       (one-made job.recipe g.0 h.0 g.1.made h.1) g.1.few in
       omega (arith, few, h.2)
 
-  trial-agrees : (files : Option FileMap) (a b : Outcome) → IsTrueOfJob (Tries job) files a
-      → IsTrueOfJob (Tries job) files b → Agrees a b
+  trial-agrees : (files : Option FileMap) (a b : Outcome) → IsTrueOfJob crowd (Tries job) files a
+      → IsTrueOfJob crowd (Tries job) files b → Agrees a b
   trial-agrees files a b (inl h) (inl g) = inl (h.1 ∙ sym g.1)
   trial-agrees files a b (inl h) (inr (inl g)) =
       absurd (not-both job.recipe.nets (job.recipe.side * job.recipe.side) h.0 g.1.room)
@@ -286,50 +286,51 @@ module _ (job : TrialAsked) where
       absurd (not-both job.recipe.nets (job.recipe.side * job.recipe.side) g.0 h.1.made.room)
   trial-agrees files a b (inr (inr h)) (inr (inl g)) = absurd (not-large b a g h)
   trial-agrees files a b (inr (inr h)) (inr (inr g)) =
-      search-agrees (sweep_search (sweep_of job)) h.0 (inl (one-copy job.search)) a b h.2
-      (subst (λ (p : RoutingProblem). IsTrueOfSearch (sweep_search (sweep_of job)) p b)
+      search-agrees (sweep_search (sweep_of job) crowd) h.0 (inl (one-copy job.search crowd)) a b
+      h.2 (subst (λ (p : RoutingProblem). IsTrueOfSearch (sweep_search (sweep_of job) crowd) p b)
       (one-made job.recipe g.0 h.0 g.1.made h.1.made) g.2)
 
-job-agrees : (job : JobAsked) (files : FileMap) (a b : Outcome) → IsTrueOfJob job (Some files) a →
-    IsTrueOfJob job (Some files) b → Agrees a b
-job-agrees (Routes job) files a b h g =
-    work-agrees files job.files (IsTrueOfSuitedSearch (route_search job)) a b h g
+job-agrees : (crowd : List ℕ) (job : JobAsked) (files : FileMap) (a b : Outcome)
+    → IsTrueOfJob crowd job (Some files) a → IsTrueOfJob crowd job (Some files) b → Agrees a b
+job-agrees crowd (Routes job) files a b h g =
+    work-agrees files job.files (IsTrueOfSuitedSearch (route_search job crowd)) a b h g
     (λ p u v. suited-agrees job.search.method job.search.width job.search.width p
-    (IsTrueOfSearch (route_search job) p) a b u v
-    (search-agrees (route_search job) p (inr refl) a b))
-job-agrees (Sweeps job) files a b h g =
-    work-agrees files job.files (IsTrueOfSuitedSearch (sweep_search job)) a b h g
+    (IsTrueOfSearch (route_search job crowd) p) a b u v
+    (search-agrees (route_search job crowd) p (inr refl) a b))
+job-agrees crowd (Sweeps job) files a b h g =
+    work-agrees files job.files (IsTrueOfSuitedSearch (sweep_search job crowd)) a b h g
     (λ p u v. suited-agrees job.search.method 1 job.search.width p
-    (IsTrueOfSearch (sweep_search job) p) a b u v
-    (search-agrees (sweep_search job) p (inl (one-copy job.search)) a b))
-job-agrees (Encodes job) files a b h g =
-    work-agrees files job.files (IsTrueOfEncoding job) a b h g
+    (IsTrueOfSearch (sweep_search job crowd) p) a b u v
+    (search-agrees (sweep_search job crowd) p (inl (one-copy job.search crowd)) a b))
+job-agrees crowd (Encodes job) files a b h g =
+    work-agrees files job.files (IsTrueOfEncoding job crowd) a b h g
     (λ p u v. suited-agrees job.method job.width job.width p
-    (λ said. IsTrueOfCount FormulaClauses (length (clauses_by job.method job.width p).clauses)
-    (said ≡ Done) said) a b u v
-    (λ s t. counts-agree FormulaClauses (length (clauses_by job.method job.width p).clauses)
-    (λ said. said ≡ Done) a b s t (λ e f. inl (e ∙ sym f))))
-job-agrees (Blames job) files a b h g =
+    (λ said. IsCrowdFor job.method false crowd p × IsTrueOfCount FormulaClauses
+    (length (clauses_by job.method crowd job.width p).clauses) (said ≡ Done) said) a b u v
+    (λ s t. counts-agree FormulaClauses
+    (length (clauses_by job.method crowd job.width p).clauses)
+    (λ said. said ≡ Done) a b s.1 t.1 (λ e f. inl (e ∙ sym f))))
+job-agrees crowd (Blames job) files a b h g =
     work-agrees files job.files (IsTrueOfSearch (core_search job)) a b h g
     (λ p u v. search-agrees (core_search job) p (inl refl) a b u v)
-job-agrees (Checks job) files a b h g = inl (check-agrees job files a b h g)
-job-agrees (Verifies job) files a b h g = verify-agrees job files a b h g
-job-agrees (Judges job) files a b h g = judge-agrees job files a b h g
-job-agrees (Bounds job) files a b h g =
+job-agrees crowd (Checks job) files a b h g = inl (check-agrees job files a b h g)
+job-agrees crowd (Verifies job) files a b h g = verify-agrees job files a b h g
+job-agrees crowd (Judges job) files a b h g = judge-agrees job files a b h g
+job-agrees crowd (Bounds job) files a b h g =
     placed-agrees files job.files IsTrueOfCut a b h g (λ placed h g. bounds-agree placed a b h g)
-job-agrees (Negotiates job) files a b h g = global-agrees job files a b h g
-job-agrees (Generates job) files a b h g =
+job-agrees crowd (Negotiates job) files a b h g = global-agrees job files a b h g
+job-agrees crowd (Generates job) files a b h g =
     recipe-agrees job.recipe (λ said. said ≡ Done) a b h g (λ s t. inl (s ∙ sym t))
-job-agrees (Tries job) files a b h g = trial-agrees job (Some files) a b h g
+job-agrees crowd (Tries job) files a b h g = trial-agrees crowd job (Some files) a b h g
 
-pub outcomes-agree : (words : List Word) (files : FileMap) (a b : Outcome) →
-    IsTrueOf words (Some files) a → IsTrueOf words (Some files) b → Agrees a b
-outcomes-agree words files a b h g = go (job_of words) h g
+pub outcomes-agree : (crowd : List ℕ) (words : List Word) (files : FileMap) (a b : Outcome)
+    → IsTrueBy crowd words (Some files) a → IsTrueBy crowd words (Some files) b → Agrees a b
+outcomes-agree crowd words files a b h g = go (job_of words) h g
   where
     go : (asked : Result JobAsked Refusal)
-        → MatchResult asked (λ job. IsTrueOfJob job (Some files) a)
+        → MatchResult asked (λ job. IsTrueOfJob crowd job (Some files) a)
         (λ cause. a ≡ Usage (code_of cause))
-        → MatchResult asked (λ job. IsTrueOfJob job (Some files) b)
+        → MatchResult asked (λ job. IsTrueOfJob crowd job (Some files) b)
         (λ cause. b ≡ Usage (code_of cause)) → Agrees a b
-    go (Ok job) h g = job-agrees job files a b h g
+    go (Ok job) h g = job-agrees crowd job files a b h g
     go (Err cause) h g = inl (h ∙ sym g)

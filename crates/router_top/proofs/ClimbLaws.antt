@@ -12,9 +12,9 @@ use Rattle.route_sweep.specs.declared.found.Found.TheVariants.{Routed as IsRoute
 use Rattle.route_sweep.specs.declared.found.Stop.{Stop}
 use Rattle.route_ways.specs.Way.{copies_by, opens_by, refutes_by}
 use Rattle.router_top.specs.Comes.{IsRefutedAt}
-use Rattle.router_top.specs.Method.{IsRoutingBy, clauses_by}
+use Rattle.router_top.specs.Method.{IsRoutingBy}
 use Rattle.router_top.specs.Report.{climbed_outcome, found_outcome}
-use Rattle.router_top.specs.Search.{Search, sweep_search, proof_files}
+use Rattle.router_top.specs.Search.{HasCrowd, Search, sweep_search, proof_files, clauses_at}
 use Rattle.router_top.specs.Work.{Finds}
 use Rattle.router_top.specs.Written.{JobFile, with_files}
 use Rattle.router_top.specs.Subject.{FileMap, ShelfState, RoutingProblem, Step, SweepAsked}
@@ -92,29 +92,30 @@ climbed-outcome width (Err stop) = refl
 
 -- ---- what a climb has shown of lower widths
 
-module _ (job : SweepAsked) (p : RoutingProblem) (given : IsGiven p) (fits : Fits p) where
+module _ (job : SweepAsked) (p : RoutingProblem) (given : IsGiven p) (fits : Fits p)
+    (crowd : List ℕ) (known : HasCrowd (sweep_search job crowd) p) where
   abbrev search : Search
-  search = sweep_search job
+  search = sweep_search job crowd
 
   -- the widths up to this one were refuted
   abbrev HasClimbed : ℕ → ShelfState → ShelfState → Type 0
   HasClimbed = AreRefuted (copies_by search.way)
-      (λ width. refutes_by search.way p width (clauses_by search.method width p))
-      (λ width. opens_by search.way p width (clauses_by search.method width p)) search.ask
-      (λ width. clauses_by search.method width p) (λ width. IsRoutingBy search.method width p)
+      (λ width. refutes_by search.way p width (clauses_at search width p))
+      (λ width. opens_by search.way p width (clauses_at search width p)) search.ask
+      (λ width. clauses_at search width p) (λ width. IsRoutingBy search.method width p)
 
   -- a width was refuted, and its clauses and a log were written
   record HasRefuted (width : ℕ) (between now : ShelfState) : Type 0 where
     log : List Step
     at : IsRefutedAt search p width log
-    written : now ≡ after_proof between search.ask width (clauses_by search.method width p) log
+    written : now ≡ after_proof between search.ask width (clauses_at search width p) log
 
   has-refuted : (width : ℕ) (between now : ShelfState) (came : Result Found Stop)
       → IsRefuted came → Finds search p width between now came → HasRefuted width between now
   has-refuted width between now (Ok (Refuted lead)) is found = record {
     log = found.1.log;
-    at = refuted-at search width p found.1.log lead.items given fits found.1.ends found.0.few
-        found.1.clauses_back;
+    at = refuted-at search width p found.1.log lead.items given fits known found.1.ends
+        found.0.few found.1.clauses_back;
     written = found.1.written;
   }
   has-refuted width between now (Ok IsRouted) is found = absurd is

@@ -1,8 +1,8 @@
 -- What each job has come to, by what it leaves.
-use Rattle.std.specs.Prelude.{◌<◌, MatchResult, None, Some, Vec, flat_map}
+use Rattle.std.specs.Prelude.{◌<◌, Bool, MatchResult, None, Some, Vec, flat_map}
 use Rattle.std.specs.Global.{Global}
 use Rattle.std.specs.List.{range_with_len}
-use Rattle.std.proofs.Common.{◌≡◌, ◌∙◌, ◌⊎◌, ℕ, ◌+◌, ◌-◌, ◌≤◌, List, [], ◌∷◌, ◌++◌, length, Option, Ok, Err, Result, refl, sym, ap, subst, inl, inr, arith, take}
+use Rattle.std.proofs.Common.{◌≡◌, ◌∙◌, ◌⊎◌, ℕ, ◌+◌, ◌-◌, ◌≤◌, true, false, List, [], ◌∷◌, ◌++◌, length, Option, Ok, Err, Result, refl, sym, ap, subst, inl, inr, arith, take}
 use Rattle.desk_io.specs.Files.{HasRisen}
 use Rattle.desk_io.proofs.FileLemmas.{has_risen}
 use Rattle.fpga_problem.proofs.SourceLemmas.{calm-reads}
@@ -42,13 +42,13 @@ use Rattle.router_top.specs.Generated.{PosesNone, generated_files, texts_of}
 use Rattle.router_top.specs.Global.{HasFiles, IsTrueOfFound, LeavesFound, found_file}
 use Rattle.router_top.specs.JobFiles.{IsClimb, LeavesWhole}
 use Rattle.router_top.specs.Means.{IsJudged, IsJudgedPlaced, Means}
-use Rattle.router_top.specs.Method.{IsRoutingBy, clauses_by}
+use Rattle.router_top.specs.Method.{IsRoutingBy, clauses_by, IsCrowdFor}
 use Rattle.router_top.specs.Placed.{IsJudgement, IsTrueJudgement, JudgesPlaced, ReadsRouted}
 use Rattle.router_top.specs.Report.{climbed_outcome, found_outcome, written_outcome}
 use Rattle.router_top.specs.Suited.{LeavesPrepared, EncodeLeaves, IsUnsuited, LeavesSuited, RouteLeaves, Suits, SweepLeaves}
 use Rattle.router_top.specs.Run.{Leaves, LeavesJob, LeavesPlaced, LeavesWork, Scene, TriesGenerated, WritesGenerated, LeavesGlobal}
 use Rattle.router_top.specs.Saying.{more_said, AreCutLines, AreNetLines, IsOfBound, IsUnroutable, Leads}
-use Rattle.router_top.specs.Search.{files_of, route_search, search_asked, sweep_of, sweep_search, Search, core_search, lower_widths, proof_files, route_file}
+use Rattle.router_top.specs.Search.{files_of, route_search, search_asked, sweep_of, sweep_search, Search, core_search, lower_widths, proof_files, route_file, HasCrowd, clauses_at}
 use Rattle.router_top.specs.Work.{trial_line, Encodes, LeavesRoute, Sweeps, WritesClauses, clauses_file, Finds}
 use Rattle.router_top.specs.Truth.{IsTrueOf, IsTrueOfEncoding, IsTrueOfJob, IsTrueOfSearch, IsTrueOfSuitedSearch, IsTrueOfWork}
 use Rattle.router_top.specs.Written.{JobFile, with_files, AreWritten}
@@ -66,7 +66,7 @@ use Rattle.router_top.proofs.NameLaws.{proof-apart, proofs-then-proof, proofs-th
 use Rattle.router_top.proofs.PlacedLaws.{calm-placed, placed-lacks-hold}
 use Rattle.router_top.proofs.SaidLaws.{finds-silent, more-none}
 use Rattle.router_top.proofs.StopLaws.{HoldsOfStops, IsSpent, calm-lack, lacks-hold, reads-hold, unsuited-holds}
-use Rattle.router_top.proofs.ServeLaws.{one-copy}
+use Rattle.router_top.proofs.ServeLaws.{crowd-said, one-copy}
 use Rattle.router_top.proofs.WrittenLaws.{AreApart}
 use Rattle.router_top.proofs.MeansLaws.{refuted-there}
 
@@ -82,6 +82,10 @@ spared-routable o spared = λ bad. bad
 spared-boundless : (o : Outcome) → IsSpared o → ¬ IsOfBound o
 spared-boundless (Bound tracks cells nets) spared = absurd spared
 spared-boundless o spared = λ bad. bad
+
+-- `core` goes by no crowd
+core-crowd : (job : CoreAsked) (p : RoutingProblem) → HasCrowd (core_search job) p
+core-crowd job p = λ (goes : false ≡ true). cc
 
 module _ (words : List Word) (at : Scene) where
   abbrev MeansHere : Outcome → Type 0
@@ -129,14 +133,24 @@ module _ (words : List Word) (at : Scene) where
   spent o same none is = idle o same none (subst Spares (sym is) (tt, tt)) (λ calm. inr is)
 
   module _ (job : JobAsked) (asked : job_of words ≡ Ok job) where
-    true-of : (o : Outcome) → IsTrueOfJob job at.desk.files o → IsTrueOf words at.desk.files o
-    true-of o = subst (λ (r : Result JobAsked Refusal). MatchResult r
-        (λ job. IsTrueOfJob job at.desk.files o) (λ cause. o ≡ Usage (code_of cause))) (sym asked)
+    -- what is true of the job by a crowd
+    true-by : (crowd : List ℕ) (o : Outcome) → IsTrueOfJob crowd job at.desk.files o
+        → IsTrueOf words at.desk.files o
+    true-by crowd o h = (
+      crowd,
+      subst (λ (r : Result JobAsked Refusal). MatchResult r
+          (λ job. IsTrueOfJob crowd job at.desk.files o) (λ cause. o ≡ Usage (code_of cause)))
+          (sym asked) h,
+    )
+
+    -- what is true of it whichever crowd is gone by
+    true-of : (o : Outcome) → IsTrueOfJob [] job at.desk.files o → IsTrueOf words at.desk.files o
+    true-of = true-by []
 
     -- the work on the problem of four files
     work-came : (names : FileNames) (says : RoutingProblem → Outcome → Type 0)
         (works : RoutingProblem → ShelfState → ShelfState → Outcome → Type 0) (o : Outcome)
-        → (IsTrueOfWork names says at.desk.files o → IsTrueOfJob job at.desk.files o)
+        → (IsTrueOfWork names says at.desk.files o → IsTrueOfJob [] job at.desk.files o)
         → NoTrial o
         → ((p : RoutingProblem) → Poses at.desk.files names p → works p at.shelf at.shelf_now o
         → Came words at o)
@@ -153,7 +167,7 @@ module _ (words : List Word) (at : Scene) where
     -- where the method suits it
     suited-came : (method : Method) (first last : ℕ)
         (works : RoutingProblem → ShelfState → ShelfState → Outcome → Type 0) (p : RoutingProblem)
-        (o : Outcome) → (IsUnsuited method first last p o → IsTrueOfJob job at.desk.files o)
+        (o : Outcome) → (IsUnsuited method first last p o → IsTrueOfJob [] job at.desk.files o)
         → NoTrial o
         → (Suits method first last p → works p at.shelf at.shelf_now o → Came words at o)
         → LeavesSuited method first last works p at.shelf at.shelf_now o → Came words at o
@@ -162,19 +176,20 @@ module _ (words : List Word) (at : Scene) where
         (λ calm. inl (true-of o (told h.0)))
     suited-came method first last works p o told none came (inr h) = came h.0 h.1
 
-  -- where memory sufficed for what the method wants before the work
-  prepared-came : (method : Method)
+  -- where memory sufficed for the crowd that is to be gone by
+  prepared-came : (method : Method) (count : Bool)
       (works : RoutingProblem → ShelfState → ShelfState → Outcome → Type 0) (p : RoutingProblem)
       (o : Outcome) → NoTrial o → (works p at.shelf at.shelf_now o → Came words at o)
-      → LeavesPrepared method works p at.shelf at.shelf_now o → Came words at o
-  prepared-came method works p o none came (inl h) = spent o h.1 none h.0.1
-  prepared-came method works p o none came (inr h) = came h
+      → LeavesPrepared method count works p at.shelf at.shelf_now o → Came words at o
+  prepared-came method count works p o none came (inl h) = spent o h.1 none h.0.1
+  prepared-came method count works p o none came (inr h) = came h
 
   -- ---- a search at one width
 
   module _ (which : JobAsked) (asked : job_of words ≡ Ok which) (search : Search)
-      (searches : search_asked which ≡ Some search) (one : search.first ≡ search.last)
-      (p : RoutingProblem) (poses : Poses (files_of which at.desk.files) search.files p)
+      (searches : search_asked which search.crowd ≡ Some search)
+      (one : search.first ≡ search.last) (p : RoutingProblem)
+      (poses : Poses (files_of which at.desk.files) search.files p) (crowd : HasCrowd search p)
       (told : (o : Outcome) → IsTrueOfSearch search p o → IsTrueOf words at.desk.files o) where
     none-lower : flat_map (λ k. proof_files search p k []) (lower_widths search search.first) ≡ []
     none-lower = ap (λ (count : ℕ). flat_map (λ k. proof_files search p k [])
@@ -188,6 +203,7 @@ module _ (words : List Word) (at : Scene) where
       searches = searches;
       p = p;
       poses = poses;
+      crowd = crowd;
       from = omega arith;
       to = omega (arith, one);
       logs = λ k. [];
@@ -222,13 +238,13 @@ module _ (words : List Word) (at : Scene) where
 
   module _ (job : RouteAsked) (asked : job_of words ≡ Ok (Routes job)) (p : RoutingProblem)
       (poses : Poses at.desk.files job.files p)
-      (told : (o : Outcome) → IsTrueOfSearch (route_search job) p o
+      (told : (crowd : List ℕ) (o : Outcome) → IsTrueOfSearch (route_search job crowd) p o
       → IsTrueOf words at.desk.files o) where
     route-came : (o : Outcome) → LeavesRoute job p at.shelf at.shelf_now o → Came words at o
     route-came o h = Searched (record {
       wrote = at.shelf_now;
-      come = come-alone (Routes job) asked (route_search job) refl refl p poses told h.given
-          h.narrow at.shelf_now h.came h.finds o h.is;
+      come = come-alone (Routes job) asked (route_search job h.crowd) refl refl p poses
+          (crowd-said job.search job.members h.crowd p h.known) (told h.crowd) h.given h.narrow at.shelf_now h.came h.finds o h.is;
       files = refl;
       faults = refl;
       lead = [];
@@ -240,8 +256,8 @@ module _ (words : List Word) (at : Scene) where
           no_cut = λ other is bound. cc;
         },
       );
-      said = finds-silent (route_search job) p job.search.width at.shelf at.shelf_now h.came h.finds
-          ∙ sym (more-none at.shelf.said);
+      said = finds-silent (route_search job h.crowd) p job.search.width at.shelf at.shelf_now h.came
+          h.finds ∙ sym (more-none at.shelf.said);
     })
 
   -- ---- a search that names the nets to blame
@@ -254,8 +270,8 @@ module _ (words : List Word) (at : Scene) where
     abbrev come-core : (came : Result Found Stop)
         → Finds (core_search job) p job.width at.shelf wrote came → (o : Outcome)
         → o ≡ found_outcome job.width came → HasCome words (ended_with wrote at) o
-    come-core = come-alone (Blames job) asked (core_search job) refl refl p poses told given narrow
-        wrote
+    come-core = come-alone (Blames job) asked (core_search job) refl refl p poses
+        (core-crowd job p) told given narrow wrote
 
     -- a width that was not refuted
     quiet-core : (came : Result Found Stop)
@@ -384,27 +400,31 @@ module _ (words : List Word) (at : Scene) where
   -- ---- a climb through the widths, which a sweep or a trial asks for
 
   module _ (which : JobAsked) (job : SweepAsked) (p : RoutingProblem)
-      (asked : job_of words ≡ Ok which) (searches : search_asked which ≡ Some (sweep_search job))
+      (asked : job_of words ≡ Ok which)
+      (searches : (crowd : List ℕ) → search_asked which crowd ≡ Some (sweep_search job crowd))
       (climb : IsClimb words)
       (poses : Poses (files_of which at.desk.files) job.files p)
-      (told : (o : Outcome) → IsTrueOfSearch (sweep_search job) p o
+      (told : (crowd : List ℕ) (o : Outcome) → IsTrueOfSearch (sweep_search job crowd) p o
       → IsTrueOf words at.desk.files o)
       (first : ShelfState) (files : first.files ≡ at.shelf.files)
       (faults : first.faults ≡ at.shelf.faults) (lead : Bytes)
       (led : first.said ≡ more_said at.shelf.said lead) where
-    climbed : IsGiven p → job.search.width ≤ WIDTH_LIMIT → (width : ℕ) (found : Result Found Stop)
-        (o : Outcome) → o ≡ found_outcome width found
-        → EndsAt (copies_by (sweep_search job).way)
-        (λ width. refutes_by (sweep_search job).way p width
-        (clauses_by job.search.method width p))
-        (λ width. opens_by (sweep_search job).way p width (clauses_by job.search.method width p))
-        (sweep_search job).ask job.search.width (λ width. clauses_by job.search.method width p)
+    climbed : (crowd : List ℕ) → HasCrowd (sweep_search job crowd) p → IsGiven p
+        → job.search.width ≤ WIDTH_LIMIT → (width : ℕ) (found : Result Found Stop) (o : Outcome) → o ≡ found_outcome width found
+        → EndsAt (copies_by (sweep_search job crowd).way)
+        (λ width. refutes_by (sweep_search job crowd).way p width
+        (clauses_at (sweep_search job crowd) width p))
+        (λ width. opens_by (sweep_search job crowd).way p width
+        (clauses_at (sweep_search job crowd) width p))
+        (sweep_search job crowd).ask job.search.width
+        (λ width. clauses_at (sweep_search job crowd) width p)
         (λ width. IsRoutingBy job.search.method width p) first at.shelf_now width found
         → HasCome words at o
-    climbed given narrow width found o is end =
-        let search = sweep_search job in
+    climbed crowd known given narrow width found o is end =
+        let search = sweep_search job crowd in
         let below = end.below in
-        let lower = climbed-logs job p given poses.fits below first end.between end.refuted in
+        let lower = climbed-logs job p given poses.fits crowd known below first end.between
+        end.refuted in
         let low : width ≤ 64 = omega (arith, end.next, end.within, narrow) in
         let count : below ≡ width - 1 = omega (arith, end.next) in
         let few : 1 + (width - 1) ≤ width = omega (arith, end.next) in
@@ -414,9 +434,10 @@ module _ (words : List Word) (at : Scene) where
             job = which;
             asked = asked;
             search = search;
-            searches = searches;
+            searches = searches crowd;
             p = p;
             poses = poses;
+            crowd = known;
             from = omega (arith, end.next);
             to = omega (arith, end.next, end.within);
             logs = lower.logs;
@@ -428,8 +449,9 @@ module _ (words : List Word) (at : Scene) where
           lower = lower.files ∙ (λ i. with_files
               (flat_map (λ k. proof_files search p k (lower.logs k)) (range_with_len 1 (count i)))
               (files i));
-          calm = climbed-calm job p given poses.fits below first end.between end.refuted ∙ faults;
-          climbs = inr (climb, one-copy job.search);
+          calm = climbed-calm job p given poses.fits crowd known below first end.between end.refuted
+              ∙ faults;
+          climbs = inr (climb, one-copy job.search crowd);
           route_apart = λ found. proofs-then-route search p refl lower.logs 1 (width - 1)
               found (omega (arith, few, low));
           proof_apart = λ log. proofs-then-proof search p refl lower.logs 1 (width - 1) width log
@@ -438,7 +460,7 @@ module _ (words : List Word) (at : Scene) where
           finds = end.then;
           last = end.last;
           is = is;
-          told = told;
+          told = told crowd;
         }
 
     sweep-came : (o : Outcome)
@@ -447,17 +469,19 @@ module _ (words : List Word) (at : Scene) where
     sweep-came o leads did =
         let climbs = did.climbs in
         let end = climbs.3 in
+        let known = crowd-said job.search None did.crowd p did.known in
         Searched (record {
           wrote = at.shelf_now;
-          come = climbed did.given did.narrow climbs.0 climbs.1 o
+          come = climbed did.crowd known did.given did.narrow climbs.0 climbs.1 o
               (did.is ∙ ap climbed_outcome climbs.2 ∙ climbed-outcome climbs.0 climbs.1) end;
           files = refl;
           faults = refl;
           lead = lead;
           leads = leads;
-          said = finds-silent (sweep_search job) p climbs.0 end.between at.shelf_now climbs.1
-              end.then
-              ∙ climbed-said job p did.given poses.fits end.below first end.between end.refuted
+          said = finds-silent (sweep_search job did.crowd) p climbs.0 end.between at.shelf_now
+              climbs.1 end.then
+              ∙ climbed-said job p did.given poses.fits did.crowd known end.below first
+              end.between end.refuted
               ∙ led;
         })
 
@@ -465,24 +489,27 @@ module _ (words : List Word) (at : Scene) where
 
   module _ (job : EncodeAsked) (asked : job_of words ≡ Ok (EncodesJob job)) (p : RoutingProblem)
       (poses : Poses at.desk.files job.files p)
-      (suits : Suits job.method job.width job.width p) where
+      (suits : Suits job.method job.width job.width p) (crowd : List ℕ)
+      (known : IsCrowdFor job.method false crowd p) where
     abbrev formula : Cnf
-    formula = clauses_by job.method job.width p
+    formula = clauses_by job.method crowd job.width p
 
-    encode-true : (o : Outcome) → IsTrueOfEncoding job p o → IsTrueOf words at.desk.files o
-    encode-true o h = true-of (EncodesJob job) asked o (inr (p, poses, h))
+    encode-true : (o : Outcome) → IsTrueOfEncoding job crowd p o → IsTrueOf words at.desk.files o
+    encode-true o h = true-by (EncodesJob job) asked crowd o (inr (p, poses, h))
 
     written-came : (came : Result (Unit {0}) Stop) (o : Outcome) → o ≡ written_outcome came
         → WritesClauses job formula at.shelf at.shelf_now came → Came words at o
     written-came (Ok written) o is h = Wrote (record {
       done = Done;
       is_done = tt;
-      files = clauses_file job p ∷ [];
+      files = clauses_file job crowd p ∷ [];
       of = inr (inl (record {
         job = job;
         asked = asked;
         p = p;
         poses = poses;
+        crowd = crowd;
+        known = known;
         few = h.0;
         order = refl;
       }));
@@ -499,21 +526,25 @@ module _ (words : List Word) (at : Scene) where
         p = p;
         asked = asked;
         poses = poses;
+        crowd = crowd;
+        known = known;
         few = h.0;
         reads_back = h.1;
         written = written;
       });
-      told = encode-true Done (inr (suits, inr (h.0, refl)));
+      told = encode-true Done (inr (suits, (known, inr (h.0, refl))));
     })
     written-came (Err (Fault slot)) o is h = Wrote (record {
       done = Done;
       is_done = tt;
-      files = clauses_file job p ∷ [];
+      files = clauses_file job crowd p ∷ [];
       of = inr (inl (record {
         job = job;
         asked = asked;
         p = p;
         poses = poses;
+        crowd = crowd;
+        known = known;
         few = h.1;
         order = refl;
       }));
@@ -530,15 +561,18 @@ module _ (words : List Word) (at : Scene) where
         no_cut = λ other is bound. cc;
       };
       means = λ done written. cc;
-      told = encode-true Done (inr (suits, inr (h.1, refl)));
+      told = encode-true Done (inr (suits, (known, inr (h.1, refl))));
     })
     written-came (Err (TooManyClauses count)) o is h = idle o h.1 (λ other is. cc)
         (subst Spares (sym is) (tt, tt))
         (λ calm. inl (encode-true o (inr (
           suits,
-          inl (
-            subst (λ (n : ℕ). CLAUSE_LIMIT < n) h.0.0 h.0.1,
-            is ∙ ap (Limit None (size_code FormulaClauses)) h.0.0,
+          (
+            known,
+            inl (
+              subst (λ (n : ℕ). CLAUSE_LIMIT < n) h.0.0 h.0.1,
+              is ∙ ap (Limit None (size_code FormulaClauses)) h.0.0,
+            ),
           ),
         ))))
     written-came (Err (TooManyHeld count)) o is h =
@@ -869,9 +903,9 @@ module _ (words : List Word) (at : Scene) where
     trial-came o (inl (inr large, same)) = idle o same (none-posed o (inr large))
         (subst Spares (sym large.3) (tt, tt))
         (λ calm. inl (true-of (TriesJob job) asked o (inr (inl large))))
-    trial-came o (inr (p, makes, inl h)) = sweep-came (TriesJob job) (sweep_of job) p asked refl
-        (inr (job, asked)) (made-poses job.recipe job.search.prefix p makes)
-        (λ says h. true-of (TriesJob job) asked says (inr (inr (p, makes, h))))
+    trial-came o (inr (p, makes, inl h)) = sweep-came (TriesJob job) (sweep_of job) p asked
+        (λ crowd. refl) (inr (job, asked)) (made-poses job.recipe job.search.prefix p makes)
+        (λ crowd says h. true-by (TriesJob job) asked crowd says (inr (inr (p, makes, h))))
         (after_say at.shelf (trial_line p)) refl refl (trial_line p) refl o
         (inl (inl (record { job = job; asked = asked; p = p; makes = makes; is = refl }))) h
     trial-came o (inr (p, makes, inr h)) = Cut (record {
@@ -891,23 +925,25 @@ module _ (words : List Word) (at : Scene) where
   job-came : (job : JobAsked) (o : Outcome) → job_of words ≡ Ok job → LeavesJob job at o
       → Came words at o
   job-came (Routes job) o asked h =
-      work-came (Routes job) asked job.files (IsTrueOfSuitedSearch (route_search job))
+      work-came (Routes job) asked job.files (IsTrueOfSuitedSearch (route_search job []))
       (RouteLeaves job) o (λ told. told) (λ other is. cc)
       (λ p poses. suited-came (Routes job) asked job.search.method job.search.width
-      job.search.width (LeavesPrepared job.search.method (LeavesRoute job)) p o
+      job.search.width (LeavesPrepared job.search.method job.search.count (LeavesRoute job)) p o
       (λ unsuited. inr (p, poses, inl unsuited)) (λ other is. cc)
-      (λ suits. prepared-came job.search.method (LeavesRoute job) p o (λ other is. cc)
+      (λ suits. prepared-came job.search.method job.search.count (LeavesRoute job) p o (λ other is. cc)
       (route-came job asked p poses
-      (λ says told. true-of (Routes job) asked says (inr (p, poses, inr (suits, told)))) o))) h
+      (λ crowd says told. true-by (Routes job) asked crowd says
+      (inr (p, poses, inr (suits, told)))) o))) h
   job-came (SweepsJob job) o asked h =
-      work-came (SweepsJob job) asked job.files (IsTrueOfSuitedSearch (sweep_search job))
+      work-came (SweepsJob job) asked job.files (IsTrueOfSuitedSearch (sweep_search job []))
       (SweepLeaves job) o (λ told. told) (λ other is. cc)
       (λ p poses. suited-came (SweepsJob job) asked job.search.method 1 job.search.width
-      (LeavesPrepared job.search.method (Sweeps job)) p o
+      (LeavesPrepared job.search.method job.search.count (Sweeps job)) p o
       (λ unsuited. inr (p, poses, inl unsuited)) (λ other is. cc)
-      (λ suits. prepared-came job.search.method (Sweeps job) p o (λ other is. cc)
-      (sweep-came (SweepsJob job) job p asked refl (inl (job, asked)) poses
-      (λ says told. true-of (SweepsJob job) asked says (inr (p, poses, inr (suits, told))))
+      (λ suits. prepared-came job.search.method job.search.count (Sweeps job) p o (λ other is. cc)
+      (sweep-came (SweepsJob job) job p asked (λ crowd. refl) (inl (job, asked)) poses
+      (λ crowd says told. true-by (SweepsJob job) asked crowd says
+      (inr (p, poses, inr (suits, told))))
       at.shelf refl refl [] (sym (more-none at.shelf.said)) o
       (inr (
         refl,
@@ -918,13 +954,14 @@ module _ (words : List Word) (at : Scene) where
         },
       ))))) h
   job-came (EncodesJob job) o asked h =
-      work-came (EncodesJob job) asked job.files (IsTrueOfEncoding job) (EncodeLeaves job) o
+      work-came (EncodesJob job) asked job.files (IsTrueOfEncoding job []) (EncodeLeaves job) o
       (λ told. told) (λ other is. cc)
       (λ p poses. suited-came (EncodesJob job) asked job.method job.width job.width
-      (LeavesPrepared job.method (Encodes job)) p o (λ unsuited. inr (p, poses, inl unsuited))
+      (LeavesPrepared job.method false (Encodes job)) p o (λ unsuited. inr (p, poses, inl unsuited))
       (λ other is. cc)
-      (λ suits. prepared-came job.method (Encodes job) p o (λ other is. cc)
-      (λ did. written-came job asked p poses suits did.came o did.is did.writes))) h
+      (λ suits. prepared-came job.method false (Encodes job) p o (λ other is. cc)
+      (λ did. written-came job asked p poses suits did.crowd did.known did.came o did.is
+      did.writes))) h
   job-came (Blames job) o asked h =
       work-came (Blames job) asked job.files (IsTrueOfSearch (core_search job)) (LeavesCore job) o
       (λ told. told) (λ other is. cc)
@@ -948,6 +985,9 @@ module _ (words : List Word) (at : Scene) where
       go (Ok job) asked h = job-came job o asked h
       go (Err cause) asked h = idle o h.1 (λ job is. cc)
           (subst Spares (sym h.0) (tt, tt))
-          (λ calm. inl (subst (λ (r : Result JobAsked Refusal). MatchResult r
-          (λ job. IsTrueOfJob job at.desk.files o) (λ cause. o ≡ Usage (code_of cause)))
-          (sym asked) h.0))
+          (λ calm. inl (
+            [],
+            subst (λ (r : Result JobAsked Refusal). MatchResult r
+                (λ job. IsTrueOfJob [] job at.desk.files o) (λ cause. o ≡ Usage (code_of cause)))
+                (sym asked) h.0,
+          ))

@@ -19,11 +19,11 @@ use Rattle.router_top.specs.SizeCauses.{size_code}
 use Rattle.router_top.specs.declared.size_cause.SizeCause.TheVariants.{FormulaClauses, ClausesOfTurns}
 use Rattle.router_top.specs.Written.{FailsAmong, WritesFiles, JobFile}
 use Rattle.router_top.specs.Comes.{EndsSearch}
-use Rattle.router_top.specs.Method.{IsRoutingBy, clauses_by}
+use Rattle.router_top.specs.Method.{IsRoutingBy}
 use Rattle.router_top.specs.Report.{found_outcome, line_of}
 use Rattle.router_top.specs.Run.{Runs, Scene, scene}
-use Rattle.router_top.specs.Search.{Search, clauses_held}
-use Rattle.router_top.specs.Truth.{Agrees, IsComplete, IsReached, IsTrueAt, IsTrueOf, IsTrueOfCount}
+use Rattle.router_top.specs.Search.{Search, clauses_held, clauses_at}
+use Rattle.router_top.specs.Truth.{AgreeByCrowd, IsComplete, IsReached, IsTrueAt, IsTrueOf, IsTrueOfCount}
 use Rattle.router_top.specs.Work.{Finds}
 use Rattle.router_top.specs.Subject.{DeskState, Bytes, FileMap, ShelfState, after_say, RouteText, Cnf, Step, Word, Outcome, Routed, Unroutable, Undecided, Limit, OutOfMemory, Slot}
 use Rattle.router_top.proofs.AgreeLaws.{outcomes-agree}
@@ -97,6 +97,7 @@ module _ (words : List Word) (at : Scene) (calm : ¬ HasRisen at.desk.faults at.
 
       reached : IsReached search h.comes.p h.width
       reached = record {
+        crowd = h.comes.crowd;
         from = h.comes.from;
         to = h.comes.to;
         lower = λ k from high.
@@ -106,7 +107,7 @@ module _ (words : List Word) (at : Scene) (calm : ¬ HasRisen at.desk.faults at.
       -- an outcome that is true of the width
       true-there : (says : Outcome)
           → IsTrueOfCount FormulaClauses
-          (length (clauses_by search.method h.width h.comes.p).clauses)
+          (length (clauses_at search h.width h.comes.p).clauses)
           (IsTrueOfCount ClausesOfTurns (clauses_held search h.width h.comes.p)
           (IsTrueAt search h.comes.p h.width says) says) says
           → wrote.faults ≡ h.between.faults → SettlesHere says
@@ -136,7 +137,7 @@ module _ (words : List Word) (at : Scene) (calm : ¬ HasRisen at.desk.faults at.
               f.0.all,
               inr (inl (
                 refutes-none search h.width h.comes.p f.1.log lead.items h.given
-                    h.comes.poses.fits f.1.ends,
+                    h.comes.poses.fits h.comes.crowd f.1.ends,
                 last tt,
                 refl,
               )),
@@ -150,7 +151,7 @@ module _ (words : List Word) (at : Scene) (calm : ¬ HasRisen at.desk.faults at.
               f.0.all,
               inr (inr (ap (Undecided h.width) (f.1.ends.many
                   ∙ way-spends search.way h.comes.p h.width
-                  (clauses_by search.method h.width h.comes.p) f.1.log f.1.ends.opens))),
+                  (clauses_at search h.width h.comes.p) f.1.log f.1.ends.opens))),
             ),
           ))
           (ap (λ (s : ShelfState). s.faults) f.1.written)
@@ -158,7 +159,7 @@ module _ (words : List Word) (at : Scene) (calm : ¬ HasRisen at.desk.faults at.
           by-fault at.shelf at.shelf_now Says (found_outcome h.width (Err (Fault slot)))
           (subst (λ (n : ℕ). HasRisen at.shelf.faults n) (sym faults)
           (subst (λ (n : ℕ). HasRisen n wrote.faults) h.calm
-          (fails-risen search.ask h.width (clauses_by search.method h.width h.comes.p)
+          (fails-risen search.ask h.width (clauses_at search h.width h.comes.p)
           (IsRoutingBy search.method h.width h.comes.p)
           (EndsSearch search h.comes.p h.width)
           h.between wrote slot f.1)))
@@ -231,7 +232,8 @@ runs-complete words desk desk_now shelf now answer r came = λ o files told true
     (λ risen. quiet (subst (λ (n : ℕ). HasRisen shelf.faults n) (sym faults) risen))) [
       | inl h ↦ (let true_too =
           subst (λ (f : Option FileMap). IsTrueOf words f r.outcome) told h in
-          inl (subst (λ (a : Outcome). IsTrueOf words (Some files) a × Agrees a o) (sym done.0)
-          (true_too, outcomes-agree words files r.outcome o true_too true_of)))
+          inl (subst (λ (a : Outcome).
+          IsTrueOf words (Some files) a × AgreeByCrowd words files a o) (sym done.0)
+          (true_too, λ crowd. outcomes-agree crowd words files r.outcome o)))
       | inr spent ↦ inr (done.0 ∙ spent)
     ]

@@ -23,10 +23,9 @@ use Rattle.sat_text.specs.Printed.{cnf_text, log_text}
 use Rattle.router_top.specs.Comes.{lower_files, EndsSearch}
 use Rattle.router_top.specs.Written.{FailsAmong, WritesFiles, JobFile, with_file, with_files}
 use Rattle.router_top.specs.JobFiles.{AreFilesOf, AreFound, IsBegun, LeavesFiles, LeavesPart, LeavesWhole}
-use Rattle.router_top.specs.Method.{clauses_by}
 use Rattle.router_top.specs.Report.{found_outcome, unsaid}
 use Rattle.router_top.specs.Run.{Runs, Scene, scene}
-use Rattle.router_top.specs.Search.{proof_files, route_file}
+use Rattle.router_top.specs.Search.{proof_files, route_file, clauses_at}
 use Rattle.router_top.specs.Work.{Finds}
 use Rattle.router_top.specs.Subject.{DeskState, Bytes, FileMap, ShelfState, HasFew, Cnf, Step, Word, Outcome, InputFault, Limit, NotSymmetric, ReadFault, Unroutable, Usage, WriteFault, Slot, Said, File, Done, Routed, Unfound}
 use Rattle.router_top.proofs.Came.{AreHeard, Came, Cut, HasCome, HasWritten, Idle, IsHeard, IsSpared, Searched, Told, Wrote, ended_with, IsDone}
@@ -296,7 +295,7 @@ module _ (words : List Word) (at : Scene) where
 
     -- the clauses at the width
     abbrev formula : Cnf
-    formula = clauses_by h.comes.search.method h.width h.comes.p
+    formula = clauses_at h.comes.search h.width h.comes.p
 
     -- the files at the width behind those of lower ones
     behind : (here : List JobFile) (now : Option FileMap) → now ≡ with_files here h.between.files

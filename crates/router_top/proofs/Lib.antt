@@ -6,6 +6,7 @@ mod CompleteLaws
 mod EndLaws
 mod GeneratedLaws
 mod GlobalLaws
+mod KnownLaws
 mod LeftLaws
 mod LimitRows
 mod LiteralLaws

@@ -12,10 +12,9 @@ use Rattle.router_top.specs.Comes.{lower_files}
 use Rattle.router_top.specs.Written.{WritesFiles, AreWritten, JobFile, with_files}
 use Rattle.router_top.specs.Headline.{IsRefuted}
 use Rattle.router_top.specs.Means.{Means}
-use Rattle.router_top.specs.Method.{clauses_by}
 use Rattle.router_top.specs.Report.{found_outcome, unsaid}
 use Rattle.router_top.specs.Run.{Runs, Scene, scene}
-use Rattle.router_top.specs.Search.{proof_files, route_file}
+use Rattle.router_top.specs.Search.{proof_files, route_file, clauses_at}
 use Rattle.router_top.specs.Work.{Finds}
 use Rattle.router_top.specs.Subject.{DeskState, FileMap, ShelfState, Word, Outcome, WriteFault}
 use Rattle.router_top.proofs.Came.{Came, Cut, HasCome, HasWritten, Idle, Searched, Told, Wrote, ended_with}
@@ -51,7 +50,7 @@ module _ (words : List Word) (at : Scene) where
       last = last;
       log = f.1.log;
       refuted = refuted-at h.comes.search h.width h.comes.p f.1.log lead.items h.given
-          h.comes.poses.fits f.1.ends f.0.few f.1.clauses_back;
+          h.comes.poses.fits h.comes.crowd f.1.ends f.0.few f.1.clauses_back;
       written = behind (proof_files h.comes.search h.comes.p h.width f.1.log)
           (h.proof_apart f.1.log) _ f.1.written refl;
     }
@@ -77,7 +76,7 @@ module _ (words : List Word) (at : Scene) where
       few = f.0.few;
       budget = f.1.ends.many
           ∙ way-spends h.comes.search.way h.comes.p h.width
-          (clauses_by h.comes.search.method h.width h.comes.p) f.1.log f.1.ends.opens;
+          (clauses_at h.comes.search h.width h.comes.p) f.1.log f.1.ends.opens;
       log = f.1.log;
       open_by = f.1.ends.opens;
       clauses_back = f.1.clauses_back;

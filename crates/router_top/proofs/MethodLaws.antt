@@ -1,5 +1,5 @@
 -- What the commands need to know of each method.
-use Rattle.std.proofs.Common.{ℕ, ◌≤◌, map, sym, subst, arith}
+use Rattle.std.proofs.Common.{ℕ, ◌≤◌, Bool, List, map, refl, sym, subst, arith}
 use Rattle.fpga_route.specs.ReadBack.{IsPrintable}
 use Rattle.fpga_route.specs.Value.{Reads}
 use Rattle.fpga_route.proofs.PrintableLemmas.{can_print, can_print_tracks}
@@ -7,9 +7,7 @@ use Rattle.fpga_types.specs.Fits.{Fits}
 use Rattle.fpga_types.specs.Given.{IsGiven}
 use Rattle.fpga_types.specs.Legal.{tracks_of}
 use Rattle.fpga_types.specs.declared.limits.TheConstants.{WIDTH_LIMIT}
-use Rattle.route_crowd.specs.Crowd.{crowd}
 use Rattle.route_crowd.proofs.ClauseLemmas.{unsat_unroutable as unsat-ordered}
-use Rattle.route_crowd.proofs.CrowdSlots.{crowd-slots}
 use Rattle.route_encode.specs.Good.{IsRoutingOf}
 use Rattle.route_encode.proofs.ProblemExactness.{unsat-says-unroutable}
 use Rattle.route_reach.specs.Trees.{wires_of}
@@ -19,17 +17,19 @@ use Rattle.route_reach.proofs.RouteLemmas.{routes-say-reached}
 use Rattle.route_reach.proofs.StrictLemmas.{reach-covers-strict}
 use Rattle.route_symmetry.proofs.EncodeLemmas.{unsat_unroutable}
 use Rattle.sat_clause.specs.Formula.{IsUnsat}
-use Rattle.router_top.specs.Method.{CoversStrict, HasNone, HasOne, IsRoutingBy, clauses_by}
+use Rattle.router_top.specs.Method.{CoversStrict, HasNone, HasOne, IsCrowdFor, IsRoutingBy, clauses_by}
 use Rattle.router_top.specs.Subject.{Bytes, RoutingProblem, RouteText, Method, Ordered, Pinned, Strictly, Within}
 
 -- a problem that fits, of whose clauses no values satisfy all, has no legal routing
-pub none-legal : (method : Method) (width : ℕ) (p : RoutingProblem) → IsGiven p → Fits p
-    → IsUnsat (clauses_by method width p) → HasNone method width p
-none-legal Strictly width p given fits = (unsat-says-unroutable width p fits).0
-none-legal Pinned width p given fits = (unsat_unroutable width p given fits).0
-none-legal (Within reach) width p given fits = (unsat-says-unreachable width reach p).0
-none-legal Ordered width p given fits =
-    (unsat-ordered width p (crowd p) fits (crowd-slots p)).0
+pub none-legal : (method : Method) (count : Bool) (crowd : List ℕ) (width : ℕ) (p : RoutingProblem)
+    → IsGiven p → Fits p → IsCrowdFor method count crowd p
+    → IsUnsat (clauses_by method crowd width p) → HasNone method width p
+none-legal Strictly count crowd width p given fits known = (unsat-says-unroutable width p fits).0
+none-legal Pinned count crowd width p given fits known = (unsat_unroutable width p given fits).0
+none-legal (Within reach) count crowd width p given fits known =
+    (unsat-says-unreachable width reach p).0
+none-legal Ordered count crowd width p given fits known =
+    (unsat-ordered width p crowd fits (known refl).within).0
 
 -- where a problem that fits has no legal routing within a reach that is long enough for its global
 -- route, it has none without a reach either

@@ -1,43 +1,43 @@
--- The encoder that a job has made of its problem says what its method says.
+-- The encoder that a job has made by a crowd of its problem says what its method says.
 use Rattle.std.specs.Prelude.{if◌then◌else◌}
-use Rattle.std.proofs.Common.{◌≡◌, ◌∙◌, ℕ, true, List, [], refl, sym, ap, subst, arith}
+use Rattle.std.proofs.Common.{◌≡◌, ◌∙◌, ℕ, Bool, true, List, [], refl, sym, ap, subst, arith}
 use Rattle.std.proofs.lemmas.List.{append-nil}
+use Rattle.problem_facts.specs.Full.{is_symmetric}
+use Rattle.problem_facts.specs.Groups.{is_exchangeable}
 use Rattle.route_count.specs.Begun.{IsBegunBy}
-use Rattle.route_crowd.specs.Crowd.{crowd}
-use Rattle.route_crowd.specs.Groups.{is_exchangeable}
 use Rattle.route_crowd.specs.Precedence.{ordered_cnf, precedence, slots_among}
 use Rattle.route_crowd.proofs.CrowdSlots.{among-crowd}
 use Rattle.route_encode.specs.Encoding.{cnf_of}
-use Rattle.route_symmetry.specs.Full.{is_symmetric}
 use Rattle.route_symmetry.specs.Pinned.{pin_clauses}
 use Rattle.router_words.specs.Near.{has_one_track}
-use Rattle.router_top.specs.Method.{IsRoutingBy, clauses_by}
+use Rattle.router_top.specs.Method.{IsCrowdFor, IsRoutingBy, clauses_by}
 use Rattle.router_top.specs.Suited.{IsEncoderOf, clauses_along}
 use Rattle.router_top.specs.Subject.{RoutingProblem, RouteText, Cnf, Method, Ordered, Pinned, Strictly, Within}
 use Rattle.router_top.specs.declared.chosen.Chosen.{Chosen}
 
 -- where the row is the crowd, the clauses are those of the method
-row-clauses : (method : Method) (p : RoutingProblem) (row : List ℕ)
-    → (method ≡ Ordered → row ≡ crowd p) → (width : ℕ)
-    → clauses_along method row width p ≡ clauses_by method width p
-row-clauses Strictly p row h width = refl
-row-clauses Pinned p row h width = refl
-row-clauses (Within reach) p row h width = refl
-row-clauses Ordered p row h width =
+row-clauses : (method : Method) (count : Bool) (crowd : List ℕ) (p : RoutingProblem)
+    (row : List ℕ) → IsCrowdFor method count crowd p → (method ≡ Ordered → row ≡ crowd)
+    → (width : ℕ)
+    → clauses_along method row width p ≡ clauses_by method crowd width p
+row-clauses Strictly count crowd p row known h width = refl
+row-clauses Pinned count crowd p row known h width = refl
+row-clauses (Within reach) count crowd p row known h width = refl
+row-clauses Ordered count crowd p row known h width =
     ap (λ (r : List ℕ). ordered_cnf width p (slots_among p r)) (h refl)
-    ∙ ap (ordered_cnf width p) (among-crowd p)
+    ∙ ap (ordered_cnf width p) (among-crowd p crowd (known refl))
 
 -- what holds of what the encoder makes of the widths holds of what the method makes of them
-pub by-encoder : (method : Method) (p : RoutingProblem) (chosen : Chosen)
-    → IsEncoderOf method p chosen
+pub by-encoder : (method : Method) (count : Bool) (crowd : List ℕ) (p : RoutingProblem)
+    (chosen : Chosen) → IsEncoderOf method crowd chosen → IsCrowdFor method count crowd p
     → (Q : (formula : ℕ → Cnf) → (good : ℕ → RouteText → Type 0) → Type 0)
     → Q (λ width. clauses_along chosen.method chosen.order.row.items width p)
     (λ width. IsRoutingBy chosen.method width p)
-    → Q (λ width. clauses_by method width p) (λ width. IsRoutingBy method width p)
-by-encoder method p chosen own Q h =
+    → Q (λ width. clauses_by method crowd width p) (λ width. IsRoutingBy method width p)
+by-encoder method count crowd p chosen own known Q h =
     let row : List ℕ = chosen.order.row.items in
     subst (λ (f : ℕ → Cnf). Q f (λ width. IsRoutingBy method width p))
-    (λ i width. row-clauses method p row own.row width i)
+    (λ i width. row-clauses method count crowd p row known own.row width i)
     (subst (λ (m : Method). Q (λ width. clauses_along m row width p)
     (λ width. IsRoutingBy m width p)) own.is h)
 
@@ -61,9 +61,9 @@ begins Ordered p row width one = record {
 }
 
 -- so do those of the encoder of such a method
-pub encoder-begins : (method : Method) (p : RoutingProblem) (chosen : Chosen)
-    → IsEncoderOf method p chosen → has_one_track method ≡ true → (width : ℕ)
+pub encoder-begins : (method : Method) (crowd : List ℕ) (p : RoutingProblem) (chosen : Chosen)
+    → IsEncoderOf method crowd chosen → has_one_track method ≡ true → (width : ℕ)
     → IsBegunBy (clauses_along chosen.method chosen.order.row.items width p) (cnf_of width p)
-encoder-begins method p chosen own one width =
+encoder-begins method crowd p chosen own one width =
     begins chosen.method p chosen.order.row.items width
     (subst (λ (m : Method). has_one_track m ≡ true) (sym own.is) one)

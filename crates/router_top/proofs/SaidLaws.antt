@@ -13,9 +13,8 @@ use Rattle.router_top.specs.Written.{FailsAmong, WritesFiles, after_files, JobFi
 use Rattle.router_top.specs.Report.{found_outcome, line_of, unsaid}
 use Rattle.router_top.specs.Run.{Reports, Runs, Scene, scene}
 use Rattle.router_top.specs.Saying.{IsLead, Leads, Speaks, more_said}
-use Rattle.router_top.specs.Search.{Search}
+use Rattle.router_top.specs.Search.{Search, clauses_at}
 use Rattle.router_top.specs.Work.{Finds}
-use Rattle.router_top.specs.Method.{clauses_by}
 use Rattle.router_top.specs.Subject.{DeskState, Bytes, FileMap, ShelfState, RoutingProblem, Word, Outcome, WriteFault, Slot, Said}
 use Rattle.router_top.proofs.Came.{Came, Cut, HasWritten, Idle, IsCut, IsHeard, IsSpared, Searched, Told, Wrote, IsDone}
 use Rattle.router_top.proofs.LeftLaws.{among-heard}
@@ -52,7 +51,7 @@ module _ (search : Search) (p : RoutingProblem) (width : ℕ) (before now : Shel
   finds-silent (Err (Fault RouteSlot)) h = fails-silent before now _ _ h.1.fails
   finds-silent (Err (Fault (Clauses of))) h = fails-silent before now _ _ h.1.fails.1
   finds-silent (Err (Fault (Log of))) h =
-      fails-silent (after_clauses before search.ask width (clauses_by search.method width p)) now
+      fails-silent (after_clauses before search.ask width (clauses_at search width p)) now
       _ _ h.1.fails.1
   finds-silent (Err (TooManyClauses count)) h = ap (λ (s : ShelfState). s.said) h.1
   finds-silent (Err (TooManyHeld count)) h = ap (λ (s : ShelfState). s.said) h.1

@@ -1,16 +1,13 @@
--- The way of a job serves it, and a job at more than one width holds one copy of the clauses.
-use Rattle.std.specs.Prelude.{◌^◌, if◌then◌else◌, Bool, IsTrue, Option, None, Some, option_map}
-use Rattle.std.proofs.Common.{◌≡◌, ◌<◌, ◌≤◌, ℕ, true, false, refl, arith}
-use Rattle.fpga_types.specs.Problem.{RoutingProblem}
-use Rattle.route_count.specs.Begun.{IsBegunBy}
-use Rattle.route_encode.specs.Encoding.{cnf_of}
+-- The search of a job can be done, and a job at more than one width holds one copy of the clauses.
+use Rattle.std.specs.Prelude.{◌^◌, if◌then◌else◌, Bool, Option, None, Some, option_map}
+use Rattle.std.proofs.Common.{◌≡◌, ◌<◌, ◌≤◌, ℕ, List, true, false, refl, subst, sym, arith}
 use Rattle.route_ways.specs.Plain.{CanSearch}
-use Rattle.route_ways.specs.Way.{copies_by, serves_by}
+use Rattle.route_ways.specs.Way.{Counts, Searches, copies_by, is_counting}
 use Rattle.route_ways.specs.declared.plain.TheConstants.{BUDGET_LIMIT}
-use Rattle.route_ways.specs.declared.way.Way.TheVariants.{Alone, Counted}
 use Rattle.router_words.specs.Job.{MembersAsked, members_said}
 use Rattle.router_words.specs.declared.job.Members.{Members}
-use Rattle.router_top.specs.Subject.{Cnf, SearchAsked}
+use Rattle.router_top.specs.Method.{IsCrowdFor}
+use Rattle.router_top.specs.Subject.{RoutingProblem, SearchAsked}
 use Rattle.router_top.specs.Ways.{plain_by, way_by}
 
 -- as many searches as may take turns, by a seed of theirs, if any do
@@ -23,29 +20,34 @@ said-turn None = tt
 said-turn (Some members) = (members.some.0, members.some.1, omega (arith, members.drawable))
 
 module _ (search : SearchAsked) where
-  can-search : (members : Option MembersAsked) → MayTurn members → 1 ≤ search.conflicts
+  pub can-search : (members : Option MembersAsked) → MayTurn members → 1 ≤ search.conflicts
       → search.conflicts ≤ BUDGET_LIMIT → CanSearch (plain_by search members)
   can-search None turn some most = record { some = some; affordable = most; turns = tt }
   can-search (Some members) turn some most =
       record { some = some; affordable = most; turns = turn }
 
-  pub way-serves : (members : Option MembersAsked) → MayTurn members → 1 ≤ search.conflicts
-      → search.conflicts ≤ BUDGET_LIMIT → (p : RoutingProblem) (width : ℕ) (formula : Cnf)
-      → (IsTrue search.count → IsBegunBy formula (cnf_of width p))
-      → serves_by (way_by search members) p width formula
-  way-serves members turn some most p width formula begun = go search.count begun
-    where
-      go : (count : Bool) → (IsTrue count → IsBegunBy formula (cnf_of width p))
-          → serves_by (if count then Counted (record { rest = plain_by search members })
-          else Alone (plain_by search members)) p width formula
-      go true begun = (begun refl, can-search members turn some most)
-      go false begun = can-search members turn some most
-
   -- one search alone holds the clauses once
-  pub one-copy : copies_by (way_by search None) ≡ 1
-  one-copy = go search.count
+  pub one-copy : (crowd : List ℕ) → copies_by (way_by search None crowd) ≡ 1
+  one-copy crowd = go search.count
     where
-      go : (count : Bool) → copies_by (if count then Counted (record { rest = plain_by search None })
-          else Alone (plain_by search None)) ≡ 1
+      go : (count : Bool) → copies_by (if count then Counts (plain_by search None) crowd
+          else Searches (plain_by search None)) ≡ 1
       go true = refl
       go false = refl
+
+  -- a search counts where the words say so
+  pub counting-said : (members : Option MembersAsked) (crowd : List ℕ)
+      → is_counting (way_by search members crowd) ≡ search.count
+  counting-said members crowd = go search.count
+    where
+      go : (count : Bool) → is_counting (if count then Counts (plain_by search members) crowd
+          else Searches (plain_by search members)) ≡ count
+      go true = refl
+      go false = refl
+
+  -- and goes by a crowd of the problem then
+  pub crowd-said : (members : Option MembersAsked) (crowd : List ℕ) (p : RoutingProblem)
+      → IsCrowdFor search.method search.count crowd p
+      → IsCrowdFor search.method (is_counting (way_by search members crowd)) crowd p
+  crowd-said members crowd p = subst (λ (count : Bool). IsCrowdFor search.method count crowd p)
+      (sym (counting-said members crowd))

@@ -25,7 +25,7 @@ record HasNames (job : JobAsked) (search : Search) : Type 0 where
   clauses : (k : ℕ) → name_written job (File (Clauses k)) ≡ Some (cnf_name search.ask k)
   log : (k : ℕ) → name_written job (File (Log k)) ≡ Some (lrat_name search.ask k)
 
-search-names : (job : JobAsked) (search : Search) → search_asked job ≡ Some search
+search-names : (job : JobAsked) (search : Search) → search_asked job search.crowd ≡ Some search
     → HasNames job search
 search-names (Routes ask) search is = subst (λ (s : Search). HasNames (Routes ask) s) (some_is is)
     (record { route = refl; clauses = λ k. refl; log = λ k. refl })

@@ -6,8 +6,8 @@ use Rattle.route_ways.specs.Way.{opens_by, refutes_by}
 use Rattle.sat_rat.specs.FullJudge.{FullAccepts}
 use Rattle.sat_text.specs.CnfText.{ReadsCnf}
 use Rattle.sat_text.specs.Printed.{cnf_text}
-use Rattle.router_top.specs.Method.{IsRoutingBy, clauses_by, CoversStrict, HasNone}
-use Rattle.router_top.specs.Search.{Search, files_of, lower_widths, search_asked, proof_files}
+use Rattle.router_top.specs.Method.{IsRoutingBy, CoversStrict, HasNone}
+use Rattle.router_top.specs.Search.{Search, HasCrowd, clauses_at, files_of, lower_widths, search_asked, proof_files}
 use Rattle.router_top.specs.Written.{JobFile}
 use Rattle.router_top.specs.Subject.{Bytes, FileMap, Poses, RoutingProblem, HasFew, Step, job_of, JobAsked, Word}
 
@@ -15,13 +15,13 @@ use Rattle.router_top.specs.Subject.{Bytes, FileMap, Poses, RoutingProblem, HasF
 -- the report; no values satisfy them, and no route is a routing
 abbrev pub Refutes : Search → RoutingProblem → (width : ℕ) → (lead : Bytes) → List Step → Type 0
 Refutes search p width lead log =
-    IsRefutedBy (refutes_by search.way p width (clauses_by search.method width p))
-    (clauses_by search.method width p) (IsRoutingBy search.method width p) lead log
+    IsRefutedBy (refutes_by search.way p width (clauses_at search width p))
+    (clauses_at search width p) (IsRoutingBy search.method width p) lead log
 
 -- the log leaves them open in that way
 abbrev pub LeavesOpen : Search → RoutingProblem → (width : ℕ) → List Step → Type 0
 LeavesOpen search p width log =
-    opens_by search.way p width (clauses_by search.method width p) log
+    opens_by search.way p width (clauses_at search width p) log
 
 -- the log refutes them or leaves them open
 abbrev pub EndsSearch : Search → RoutingProblem → (width : ℕ) → List Step → Type 0
@@ -33,25 +33,26 @@ EndsSearch search p width log =
 -- global route, none without a reach either; the clauses read back
 pub record IsRefutedAt (search : Search) (p : RoutingProblem) (width : ℕ) (log : List Step)
     : Type 0 where
-  pub few : HasFew (clauses_by search.method width p)
+  pub few : HasFew (clauses_at search width p)
   pub lead : Bytes
   pub refuted : Refutes search p width lead log
-  pub accepted : FullAccepts (clauses_by search.method width p) log
+  pub accepted : FullAccepts (clauses_at search width p) log
   pub none_legal : HasNone search.method width p
   pub none_strictly : CoversStrict search.method width p
-  pub clauses_back : ReadsCnf (cnf_text (clauses_by search.method width p))
-      (clauses_by search.method width p)
+  pub clauses_back : ReadsCnf (cnf_text (clauses_at search width p))
+      (clauses_at search width p)
 
 -- the words ask for a search; its four files, which a trial makes itself, read as the values of the
--- problem and fit; and it comes to this width, since each lower one that it tries is refuted by a
--- log
+-- problem and fit; the crowd that it goes by, if it does, is one of the problem; and it comes to
+-- this width, since each lower one that it tries is refuted by a log
 pub record ComesTo (words : List Word) (desk : Option FileMap) (width : ℕ) : Type 0 where
   pub job : JobAsked
   pub asked : job_of words ≡ Ok job
   pub search : Search
-  pub searches : search_asked job ≡ Some search
+  pub searches : search_asked job search.crowd ≡ Some search
   pub p : RoutingProblem
   pub poses : Poses (files_of job desk) search.files p
+  pub crowd : HasCrowd search p
   pub from : search.first ≤ width
   pub to : width ≤ search.last
   pub logs : (width : ℕ) → List Step

@@ -11,8 +11,8 @@ use Rattle.route_ways.specs.Way.{budget_of}
 use Rattle.sat_text.specs.CnfText.{ReadsCnf}
 use Rattle.sat_text.specs.Printed.{cnf_text}
 use Rattle.router_top.specs.Comes.{ComesTo, IsRefutedAt, lower_files, LeavesOpen}
-use Rattle.router_top.specs.Method.{IsRoutingBy, clauses_by}
-use Rattle.router_top.specs.Search.{proof_files, route_file}
+use Rattle.router_top.specs.Method.{IsRoutingBy}
+use Rattle.router_top.specs.Search.{clauses_at, proof_files, route_file}
 use Rattle.router_top.specs.Written.{AreWritten}
 use Rattle.router_top.specs.Subject.{FileMap, RouteText, HasFew, Step, Word}
 
@@ -21,7 +21,7 @@ use Rattle.router_top.specs.Subject.{FileMap, RouteText, HasFew, Step, Word}
 pub record IsRouted (words : List Word) (desk before now : Option FileMap) (width : ℕ)
     : Type 0 where
   pub comes : ComesTo words desk width
-  pub few : HasFew (clauses_by comes.search.method width comes.p)
+  pub few : HasFew (clauses_at comes.search width comes.p)
   pub found : RouteText
   pub routing : IsRoutingBy comes.search.method width comes.p found
   pub reads_back : ReadsBack found
@@ -44,11 +44,11 @@ pub record IsRefuted (words : List Word) (desk before now : Option FileMap) (wid
 pub record IsLeftOpen
     (words : List Word) (desk before now : Option FileMap) (width learned : ℕ) : Type 0 where
   pub comes : ComesTo words desk width
-  pub few : HasFew (clauses_by comes.search.method width comes.p)
+  pub few : HasFew (clauses_at comes.search width comes.p)
   pub budget : learned ≡ budget_of comes.search.way
   pub log : List Step
   pub open_by : LeavesOpen comes.search comes.p width log
-  pub clauses_back : ReadsCnf (cnf_text (clauses_by comes.search.method width comes.p))
-      (clauses_by comes.search.method width comes.p)
+  pub clauses_back : ReadsCnf (cnf_text (clauses_at comes.search width comes.p))
+      (clauses_at comes.search width comes.p)
   pub written : AreWritten (lower_files comes ++ proof_files comes.search comes.p width log)
       before now

@@ -1,6 +1,6 @@
 -- The files of a job in the order in which they are written, and what a run leaves of them,
 -- whatever fails.
-use Rattle.std.specs.Prelude.{◌≡◌, ◌⊎◌, ℕ, ◌≤◌, ◌++◌, List, [], ◌∷◌, length, take, Ok, Option, Some}
+use Rattle.std.specs.Prelude.{◌≡◌, ◌⊎◌, ℕ, ◌≤◌, ◌++◌, List, [], ◌∷◌, false, length, take, Ok, Option, Some}
 use Rattle.std.specs.List.{All}
 use Rattle.desk_io.specs.Changes.{OnlyChanges, held}
 use Rattle.desk_io.specs.Reading.{IsWhole}
@@ -8,8 +8,8 @@ use Rattle.fpga_types.specs.Problem.{PlacedNetlist}
 use Rattle.router_top.specs.Comes.{ComesTo, lower_files, EndsSearch}
 use Rattle.router_top.specs.Generated.{HasRoom, generated_files}
 use Rattle.router_top.specs.Global.{HasFiles, IsFoundRoute, found_file}
-use Rattle.router_top.specs.Method.{IsRoutingBy, clauses_by}
-use Rattle.router_top.specs.Search.{Search, proof_files, route_file}
+use Rattle.router_top.specs.Method.{IsRoutingBy, clauses_by, IsCrowdFor}
+use Rattle.router_top.specs.Search.{Search, proof_files, route_file, clauses_at}
 use Rattle.router_top.specs.SizeCauses.{size_code}
 use Rattle.router_top.specs.SlotNames.{name_written}
 use Rattle.router_top.specs.declared.size_cause.SizeCause.TheVariants.{FormulaClauses}
@@ -28,7 +28,7 @@ IsNamed words file =
 -- then a log that refutes them or leaves them open
 abbrev pub AreFound : Search → RoutingProblem → (width : ℕ) → List JobFile → Type 0
 AreFound search p width files =
-    HasFew (clauses_by search.method width p)
+    HasFew (clauses_at search width p)
     × (((found : RouteText) × IsRoutingBy search.method width p found
     × (files ≡ route_file search found ∷ []))
     ⊎ ((log : List Step) × EndsSearch search p width log
@@ -51,8 +51,10 @@ pub record AreEncoded (words : List Word) (desk : Option FileMap) (files : List 
   pub asked : job_of words ≡ Ok (Encodes job)
   pub p : RoutingProblem
   pub poses : Poses desk job.files p
-  pub few : HasFew (clauses_by job.method job.width p)
-  pub order : files ≡ clauses_file job p ∷ []
+  pub crowd : List ℕ
+  pub known : IsCrowdFor job.method false crowd p
+  pub few : HasFew (clauses_by job.method crowd job.width p)
+  pub order : files ≡ clauses_file job crowd p ∷ []
 
 -- of `gen`: the four files of a problem that has blocks for its nets
 pub record AreGenerated (words : List Word) (files : List JobFile) : Type 0 where

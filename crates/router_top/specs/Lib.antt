@@ -6,6 +6,7 @@ pub mod Generated
 pub mod Global
 pub mod Headline
 pub mod JobFiles
+pub mod Known
 pub mod Means
 pub mod Method
 pub mod Placed

@@ -1,5 +1,5 @@
 -- What each answer means.
-use Rattle.std.specs.Prelude.{◌≡◌, ◌⊎◌, List, [], ◌∷◌, ⊤, length, Ok, Option}
+use Rattle.std.specs.Prelude.{◌≡◌, ◌⊎◌, List, [], ◌∷◌, ⊤, length, Ok, Option, ℕ, false}
 use Rattle.fpga_problem.specs.Files.{PosesPlaced}
 use Rattle.fpga_route.specs.Value.{route_value}
 use Rattle.fpga_types.specs.Problem.{PlacedNetlist}
@@ -16,21 +16,25 @@ use Rattle.router_top.specs.Check.{cnf_source, lrat_source}
 use Rattle.router_top.specs.Generated.{HasRoom, generated_files}
 use Rattle.router_top.specs.Global.{IsNegotiated, IsUnfound}
 use Rattle.router_top.specs.Headline.{IsLeftOpen, IsRefuted, IsRouted}
-use Rattle.router_top.specs.Method.{clauses_by}
+use Rattle.router_top.specs.Method.{clauses_by, IsCrowdFor}
 use Rattle.router_top.specs.Placed.{SaysIfLegal}
 use Rattle.router_top.specs.Work.{clauses_file}
 use Rattle.router_top.specs.Written.{AreWritten}
 use Rattle.router_top.specs.Subject.{FileMap, Poses, Says, route_source, RoutingProblem, RouteText, HasFew, Cnf, Step, job_of, CheckAsked, Checks, EncodeAsked, Encodes, GenAsked, Generates, JudgeAsked, Judges, VerifyAsked, Verifies, Word, Outcome, Accepted, Bound, Done, LegalRoute, NotLegal, Routed, Undecided, Unroutable, Unfound}
 
--- the words ask for the clauses, and one file alone was written: those of the problem
+-- the words ask for the clauses, and one file alone was written: those of the problem, by a crowd
+-- of it if they go by one
 pub record IsEncoded (words : List Word) (desk before now : Option FileMap) : Type 0 where
   pub job : EncodeAsked
   pub p : RoutingProblem
   pub asked : job_of words ≡ Ok (Encodes job)
   pub poses : Poses desk job.files p
-  pub few : HasFew (clauses_by job.method job.width p)
-  pub reads_back : ReadsCnf (clauses_file job p).text (clauses_by job.method job.width p)
-  pub written : AreWritten (clauses_file job p ∷ []) before now
+  pub crowd : List ℕ
+  pub known : IsCrowdFor job.method false crowd p
+  pub few : HasFew (clauses_by job.method crowd job.width p)
+  pub reads_back : ReadsCnf (clauses_file job crowd p).text
+      (clauses_by job.method crowd job.width p)
+  pub written : AreWritten (clauses_file job crowd p ∷ []) before now
 
 -- the words ask for a generated problem, there are blocks for its nets, and its four files alone
 -- were written

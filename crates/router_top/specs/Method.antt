@@ -1,8 +1,8 @@
 -- What a method makes of a problem: its clauses, its routings, and what it means that there is one
 -- or none. Nothing else here knows of an encoding.
-use Rattle.std.specs.Prelude.{ℕ, ◌≤◌, List, ⊤}
+use Rattle.std.specs.Prelude.{◌≡◌, ℕ, ◌≤◌, Bool, true, List, ⊤}
 use Rattle.fpga_types.specs.declared.grid.Wire.{Wire}
-use Rattle.route_crowd.specs.Crowd.{crowd}
+use Rattle.problem_facts.specs.Crowd.{IsCrowd}
 use Rattle.route_crowd.specs.Precedence.{ordered_cnf}
 use Rattle.route_encode.specs.Encoding.{cnf_of}
 use Rattle.route_encode.specs.Exact.{IsLegalRouting, IsUnroutableAt}
@@ -14,12 +14,22 @@ use Rattle.route_reach.specs.TraceDepth.{trace_depth}
 use Rattle.route_symmetry.specs.Pinned.{pinned_cnf}
 use Rattle.router_top.specs.Subject.{RoutingProblem, RouteText, Cnf, Method, Ordered, Pinned, Strictly, Within}
 
--- the clauses that say a routing of the problem at a width
-abbrev pub clauses_by : Method → (width : ℕ) → RoutingProblem → Cnf
-clauses_by Strictly width p = cnf_of width p
-clauses_by Pinned width p = pinned_cnf width p
-clauses_by (Within reach) width p = reach_cnf width reach p
-clauses_by Ordered width p = ordered_cnf width p (crowd p)
+-- the clauses that say a routing of the problem at a width; tracks are kept in the order of this
+-- crowd, where the method does so
+abbrev pub clauses_by : Method → (crowd : List ℕ) → (width : ℕ) → RoutingProblem → Cnf
+clauses_by Strictly crowd width p = cnf_of width p
+clauses_by Pinned crowd width p = pinned_cnf width p
+clauses_by (Within reach) crowd width p = reach_cnf width reach p
+clauses_by Ordered crowd width p = ordered_cnf width p crowd
+
+-- tracks are kept in the order of a crowd, or its trees are counted
+abbrev pub goes_by_crowd : Method → (count : Bool) → Bool
+goes_by_crowd Ordered count = true
+goes_by_crowd method count = count
+
+-- the crowd that is gone by, if one is, is one of the problem
+abbrev pub IsCrowdFor : Method → (count : Bool) → (crowd : List ℕ) → RoutingProblem → Type 0
+IsCrowdFor method count crowd p = goes_by_crowd method count ≡ true → IsCrowd p crowd
 
 -- the route is a legal routing of the problem, whichever tracks were pinned or put in order to find
 -- it; or it is one within the reach

@@ -1,11 +1,10 @@
 -- Whether the method of a job suits its problem at each width that the job may come to, the encoder
--- that is made of the problem before the work, and what the job leaves by both.
+-- that is made before the work by what is known of the problem, and what the job leaves by both.
 use Rattle.std.specs.Prelude.{◌≡◌, ◌⊎◌, ℕ, List, ◌<◌, ◌≤◌, Bool, true, false, Option, Some, None, option_map}
-use Rattle.route_crowd.specs.Crowd.{crowd}
+use Rattle.problem_facts.specs.Full.{asymmetry_of, is_symmetric}
+use Rattle.problem_facts.specs.Groups.{is_exchangeable, obstacle_of}
 use Rattle.route_crowd.specs.Precedence.{ordered_cnf, slots_among}
-use Rattle.route_crowd.specs.Groups.{is_exchangeable, obstacle_of}
-use Rattle.route_symmetry.specs.Full.{asymmetry_of, is_symmetric}
-use Rattle.router_top.specs.Method.{clauses_by}
+use Rattle.router_top.specs.Method.{clauses_by, goes_by_crowd}
 use Rattle.router_top.specs.Work.{Encodes, LeavesRoute, Sweeps}
 use Rattle.router_top.specs.Subject.{ShelfState, RoutingProblem, Cnf, EncodeAsked, RouteAsked, SweepAsked, Method, Ordered, Pinned, Strictly, Within, Outcome, OutOfMemory, NotSymmetric}
 use Rattle.router_top.specs.declared.chosen.Chosen.{Chosen}
@@ -16,21 +15,21 @@ use Rattle.router_top.specs.declared.outcome.Obstacle.TheVariants.{Order, Pins}
 -- that is kept in order
 abbrev pub clauses_along : Method → (row : List ℕ) → (width : ℕ) → RoutingProblem → Cnf
 clauses_along Ordered row width p = ordered_cnf width p (slots_among p row)
-clauses_along method row width p = clauses_by method width p
+clauses_along method row width p = clauses_by method row width p
 
--- the encoder is that of the method; where tracks are kept in order, its row is the crowd of the
--- problem
-pub record IsEncoderOf (method : Method) (p : RoutingProblem) (chosen : Chosen) : Type 0 where
+-- the encoder is that of the method; where tracks are kept in order, its row is this crowd
+pub record IsEncoderOf (method : Method) (crowd : List ℕ) (chosen : Chosen) : Type 0 where
   pub is : chosen.method ≡ method
-  pub row : method ≡ Ordered → chosen.order.row.items ≡ crowd p
+  pub row : method ≡ Ordered → chosen.order.row.items ≡ crowd
 
--- nothing was written, since memory was short for the crowd in whose order tracks are to be kept;
--- or this is what the work leaves
-abbrev pub LeavesPrepared : Method
+-- nothing was written, since memory was short for the crowd that is to be gone by; or this is what
+-- the work leaves
+abbrev pub LeavesPrepared : Method → (count : Bool)
     → (RoutingProblem → (before now : ShelfState) → Outcome → Type 0)
     → RoutingProblem → (before now : ShelfState) → Outcome → Type 0
-LeavesPrepared method works p before now outcome =
-    (((method ≡ Ordered) × (outcome ≡ OutOfMemory)) × (now ≡ before)) ⊎ works p before now outcome
+LeavesPrepared method count works p before now outcome =
+    (((goes_by_crowd method count ≡ true) × (outcome ≡ OutOfMemory)) × (now ≡ before))
+    ⊎ works p before now outcome
 
 -- the method suits the problem at a width: where tracks are pinned, all of them are alike there,
 -- and where they are kept in order, their groups may change places
@@ -88,16 +87,16 @@ LeavesSuited method first last works p before now outcome =
 -- what `route` leaves of its problem
 abbrev pub RouteLeaves : RouteAsked → RoutingProblem → (before now : ShelfState) → Outcome → Type 0
 RouteLeaves job = LeavesSuited job.search.method job.search.width job.search.width
-    (LeavesPrepared job.search.method (LeavesRoute job))
+    (LeavesPrepared job.search.method job.search.count (LeavesRoute job))
 
 -- what `sweep` leaves of its problem; each width up to the greatest counts, also if it is not come
 -- to
 abbrev pub SweepLeaves : SweepAsked → RoutingProblem → (before now : ShelfState) → Outcome → Type 0
 SweepLeaves job = LeavesSuited job.search.method 1 job.search.width
-    (LeavesPrepared job.search.method (Sweeps job))
+    (LeavesPrepared job.search.method job.search.count (Sweeps job))
 
 -- what `encode` leaves of its problem
 abbrev pub EncodeLeaves : EncodeAsked → RoutingProblem → (before now : ShelfState) → Outcome
     → Type 0
 EncodeLeaves job = LeavesSuited job.method job.width job.width
-    (LeavesPrepared job.method (Encodes job))
+    (LeavesPrepared job.method false (Encodes job))

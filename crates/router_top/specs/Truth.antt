@@ -1,5 +1,5 @@
 -- What each outcome but those of faults says of the words and of the files.
-use Rattle.std.specs.Prelude.{◌≡◌, ◌⊎◌, ℕ, ◌<◌, ◌≤◌, List, length, MatchResult, Option, None, Some}
+use Rattle.std.specs.Prelude.{◌≡◌, ◌⊎◌, ℕ, ◌<◌, ◌≤◌, List, false, length, MatchResult, Option, None, Some}
 use Rattle.std.specs.Option.{ForSome}
 use Rattle.desk_io.specs.Files.{HasRisen}
 use Rattle.route_ways.specs.Way.{budget_of}
@@ -12,10 +12,10 @@ use Rattle.router_top.specs.Bound.{IsTrueOfCut}
 use Rattle.router_top.specs.Check.{ChecksTo, VerifiesTo}
 use Rattle.router_top.specs.Generated.{HasRoom, IsTooLarge, IsTooMany, Makes}
 use Rattle.router_top.specs.Global.{HasFiles, IsTrueOfFound, LacksFiles}
-use Rattle.router_top.specs.Method.{HasNone, HasOne, clauses_by}
+use Rattle.router_top.specs.Method.{HasNone, HasOne, clauses_by, IsCrowdFor}
 use Rattle.router_top.specs.Placed.{IsJudgement, JudgesPlaced, WorksOnPlaced}
 use Rattle.router_top.specs.Report.{GivesNone}
-use Rattle.router_top.specs.Search.{Search, clauses_held, core_search, route_search, sweep_of, sweep_search}
+use Rattle.router_top.specs.Search.{Search, HasCrowd, clauses_at, clauses_held, core_search, route_search, sweep_of, sweep_search}
 use Rattle.router_top.specs.Suited.{IsTrueOfSuited}
 use Rattle.router_top.specs.Subject.{DeskState, FileMap, ShelfState, FileNames, Poses, IsHalted, RoutingProblem, HasFew, job_of, Blames, Bounds, Checks, EncodeAsked, Encodes, Generates, JobAsked, Judges, Negotiates, Routes, Sweeps, Tries, Verifies, Word, Outcome, Routed, Unroutable, Undecided, Bound, Done, Limit, Usage, OutOfMemory, GlobalAsked, Unfound}
 use Rattle.router_top.specs.declared.size_cause.SizeCause.{SizeCause}
@@ -27,13 +27,14 @@ IsTrueOfCount cause count says outcome =
     ((CLAUSE_LIMIT < count) × (outcome ≡ Limit None (size_code cause) count))
     ⊎ ((count ≤ CLAUSE_LIMIT) × says)
 
--- the search comes to this width: each lower one that it tries has few enough clauses, and no legal
--- routing
+-- the crowd that the search goes by, if it does, is one of the problem, and it comes to this width:
+-- each lower one that it tries has few enough clauses, and no legal routing
 pub record IsReached (search : Search) (p : RoutingProblem) (width : ℕ) : Type 0 where
+  pub crowd : HasCrowd search p
   pub from : search.first ≤ width
   pub to : width ≤ search.last
   pub lower : (k : ℕ) → search.first ≤ k → k < width
-      → HasFew (clauses_by search.method k p) × HasNone search.method k p
+      → HasFew (clauses_at search k p) × HasNone search.method k p
 
 -- there is a legal routing at this width, or it is the last one and there is none, and the outcome
 -- says which; or it says that the budget was spent
@@ -47,7 +48,7 @@ IsTrueAt search p width outcome =
 abbrev pub IsTrueOfSearch : Search → RoutingProblem → Outcome → Type 0
 IsTrueOfSearch search p outcome =
     (width : ℕ) × IsReached search p width
-    × IsTrueOfCount FormulaClauses (length (clauses_by search.method width p).clauses)
+    × IsTrueOfCount FormulaClauses (length (clauses_at search width p).clauses)
     (IsTrueOfCount ClausesOfTurns (clauses_held search width p) (IsTrueAt search p width outcome)
     outcome) outcome
 
@@ -58,12 +59,13 @@ IsTrueOfSuitedSearch search p outcome =
     IsTrueOfSuited search.method search.first search.last p (IsTrueOfSearch search p outcome)
     outcome
 
--- the method does not suit the problem at the width, and the outcome says so; or it does, and there
--- are too many clauses, or they were written
-abbrev pub IsTrueOfEncoding : EncodeAsked → RoutingProblem → Outcome → Type 0
-IsTrueOfEncoding job p outcome =
+-- the method does not suit the problem at the width, and the outcome says so; or it does, and of its
+-- clauses, by a crowd of the problem if they go by one, there are too many, or they were written
+abbrev pub IsTrueOfEncoding : EncodeAsked → (crowd : List ℕ) → RoutingProblem → Outcome → Type 0
+IsTrueOfEncoding job crowd p outcome =
     IsTrueOfSuited job.method job.width job.width p
-    (IsTrueOfCount FormulaClauses (length (clauses_by job.method job.width p).clauses)
+    (IsCrowdFor job.method false crowd p
+    × IsTrueOfCount FormulaClauses (length (clauses_by job.method crowd job.width p).clauses)
     (outcome ≡ Done) outcome) outcome
 
 -- the four files give no problem, and the outcome says why; or they pose one, of which it is true
@@ -80,35 +82,39 @@ IsTrueOfGlobal job files outcome =
     LacksFiles (IsHalted files) files job outcome
     ⊎ ((placed : PlacedNetlist) × HasFiles files job placed × IsTrueOfFound job placed outcome)
 
--- what an outcome says of the files of each job
-abbrev pub IsTrueOfJob : JobAsked → Option FileMap → Outcome → Type 0
-IsTrueOfJob (Routes job) files outcome =
-    IsTrueOfWork job.files (IsTrueOfSuitedSearch (route_search job)) files outcome
-IsTrueOfJob (Sweeps job) files outcome =
-    IsTrueOfWork job.files (IsTrueOfSuitedSearch (sweep_search job)) files outcome
-IsTrueOfJob (Encodes job) files outcome =
-    IsTrueOfWork job.files (IsTrueOfEncoding job) files outcome
-IsTrueOfJob (Blames job) files outcome =
+-- what an outcome says of the files of each job, where this crowd is gone by
+abbrev pub IsTrueOfJob : (crowd : List ℕ) → JobAsked → Option FileMap → Outcome → Type 0
+IsTrueOfJob crowd (Routes job) files outcome =
+    IsTrueOfWork job.files (IsTrueOfSuitedSearch (route_search job crowd)) files outcome
+IsTrueOfJob crowd (Sweeps job) files outcome =
+    IsTrueOfWork job.files (IsTrueOfSuitedSearch (sweep_search job crowd)) files outcome
+IsTrueOfJob crowd (Encodes job) files outcome =
+    IsTrueOfWork job.files (IsTrueOfEncoding job crowd) files outcome
+IsTrueOfJob crowd (Blames job) files outcome =
     IsTrueOfWork job.files (IsTrueOfSearch (core_search job)) files outcome
-IsTrueOfJob (Checks job) files outcome = ChecksTo (IsHalted files) files job outcome
-IsTrueOfJob (Verifies job) files outcome = VerifiesTo (IsHalted files) files job outcome
-IsTrueOfJob (Judges job) files outcome =
+IsTrueOfJob crowd (Checks job) files outcome = ChecksTo (IsHalted files) files job outcome
+IsTrueOfJob crowd (Verifies job) files outcome = VerifiesTo (IsHalted files) files job outcome
+IsTrueOfJob crowd (Judges job) files outcome =
     JudgesPlaced (IsHalted files) files job (IsJudgement job) outcome
-IsTrueOfJob (Bounds job) files outcome =
+IsTrueOfJob crowd (Bounds job) files outcome =
     WorksOnPlaced (IsHalted files) files job.files IsTrueOfCut outcome
-IsTrueOfJob (Negotiates job) files outcome = IsTrueOfGlobal job files outcome
-IsTrueOfJob (Generates job) files outcome =
+IsTrueOfJob crowd (Negotiates job) files outcome = IsTrueOfGlobal job files outcome
+IsTrueOfJob crowd (Generates job) files outcome =
     IsTooMany job.recipe outcome ⊎ (HasRoom job.recipe × (outcome ≡ Done))
-IsTrueOfJob (Tries job) files outcome =
+IsTrueOfJob crowd (Tries job) files outcome =
     IsTooMany job.recipe outcome ⊎ IsTooLarge job.recipe outcome
     ⊎ ((p : RoutingProblem) × Makes job.recipe p
-    × IsTrueOfSearch (sweep_search (sweep_of job)) p outcome)
+    × IsTrueOfSearch (sweep_search (sweep_of job) crowd) p outcome)
 
 -- by what the words ask for, or by the code of what keeps them from being taken
-abbrev pub IsTrueOf : List Word → Option FileMap → Outcome → Type 0
-IsTrueOf words files outcome =
-    MatchResult (job_of words) (λ job. IsTrueOfJob job files outcome)
+abbrev pub IsTrueBy : (crowd : List ℕ) → List Word → Option FileMap → Outcome → Type 0
+IsTrueBy crowd words files outcome =
+    MatchResult (job_of words) (λ job. IsTrueOfJob crowd job files outcome)
     (λ cause. outcome ≡ Usage (code_of cause))
+
+-- so by some crowd
+abbrev pub IsTrueOf : List Word → Option FileMap → Outcome → Type 0
+IsTrueOf words files outcome = (crowd : List ℕ) × IsTrueBy crowd words files outcome
 
 -- a search is left open, at a width that is not above the one of the other outcome
 abbrev pub IsOpenBelow : Outcome → Outcome → Type 0
@@ -132,11 +138,18 @@ Agrees answer outcome =
     (answer ≡ outcome) ⊎ IsOpenBelow answer outcome ⊎ IsOpenBelow outcome answer
     ⊎ AreBounds answer outcome
 
+-- if both are true by one crowd, they agree; where tracks are not kept in order, any crowd serves
+abbrev pub AgreeByCrowd : List Word → FileMap → (answer outcome : Outcome) → Type 0
+AgreeByCrowd words files answer outcome =
+    (crowd : List ℕ) → IsTrueBy crowd words (Some files) answer
+    → IsTrueBy crowd words (Some files) outcome → Agrees answer outcome
+
 -- where the files are told, no fault has risen, memory sufficed and some outcome is true, the
--- answer is true and agrees with that outcome
+-- answer is true and agrees with that outcome, by any crowd that makes both true
 abbrev pub IsComplete : List Word → (desk desk_now : DeskState) → (shelf shelf_now : ShelfState)
     → Outcome → Type 0
 IsComplete words desk desk_now shelf shelf_now answer =
     (outcome : Outcome) → ForSome desk.files (λ files. IsTrueOf words (Some files) outcome
     → ¬ HasRisen desk.faults desk_now.faults → ¬ HasRisen shelf.faults shelf_now.faults
-    → (IsTrueOf words (Some files) answer × Agrees answer outcome) ⊎ (answer ≡ OutOfMemory))
+    → (IsTrueOf words (Some files) answer × AgreeByCrowd words files answer outcome)
+    ⊎ (answer ≡ OutOfMemory))

@@ -1,10 +1,9 @@
 -- The ways in which jobs search.
-use Rattle.std.specs.Prelude.{Option, None, Some, true, if◌then◌else◌}
+use Rattle.std.specs.Prelude.{ℕ, List, Option, None, Some, true, if◌then◌else◌}
 use Rattle.router_words.specs.Job.{MembersAsked}
+use Rattle.route_ways.specs.Way.{Course, Counts, Searches, Trims}
 use Rattle.route_ways.specs.declared.plain.Plain.{Plain}
 use Rattle.route_ways.specs.declared.plain.Solver.TheVariants.{Merging, Straight, Turns}
-use Rattle.route_ways.specs.declared.way.Way.{Way}
-use Rattle.route_ways.specs.declared.way.Way.TheVariants.{Alone, Counted, Cut}
 use Rattle.router_top.specs.Subject.{CoreAsked, SearchAsked}
 
 -- one search, which keeps all clauses where the words say so; or as many as they say, which do
@@ -17,14 +16,12 @@ plain_by search (Some members) = record {
   keep = true;
 }
 
--- behind counting, where they say so
-abbrev pub way_by : SearchAsked → Option MembersAsked → Way
-way_by search members =
-    if search.count then Counted (record { rest = plain_by search members })
-    else Alone (plain_by search members)
+-- behind counting, which goes by this crowd, where they say so
+abbrev pub way_by : SearchAsked → Option MembersAsked → (crowd : List ℕ) → Course
+way_by search members crowd =
+    if search.count then Counts (plain_by search members) crowd
+    else Searches (plain_by search members)
 
 -- `core` keeps all clauses, and its refutation is cut down
-abbrev pub core_way : CoreAsked → Way
-core_way job = Cut (record {
-  rest = record { solver = Straight; budget = job.conflicts; keep = true };
-})
+abbrev pub core_way : CoreAsked → Course
+core_way job = Trims (record { solver = Straight; budget = job.conflicts; keep = true })

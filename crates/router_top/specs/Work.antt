@@ -1,6 +1,6 @@
 -- What the work on a problem leaves on the shelf, by its outcome; last of a trial, which is a sweep
 -- that says first how large its generated problem is.
-use Rattle.std.specs.Prelude.{◌≡◌, ◌⊎◌, ℕ, ◌++◌, ◌≤◌, true, codes, None, Result, Ok, Err, decimal, length}
+use Rattle.std.specs.Prelude.{◌≡◌, ◌⊎◌, ℕ, ◌++◌, ◌≤◌, List, false, true, codes, None, Result, Ok, Err, decimal, length}
 use Rattle.desk_io.specs.WholeFile.{FailsToWrite, after_writing}
 use Rattle.fpga_types.specs.Given.{IsGiven}
 use Rattle.fpga_types.specs.Slots.{pairs, slots, steps}
@@ -15,9 +15,9 @@ use Rattle.route_sweep.specs.declared.found.Stop.TheVariants.{Fault}
 use Rattle.route_ways.specs.Way.{copies_by, opens_by, refutes_by}
 use Rattle.sat_text.specs.CnfText.{ReadsCnf}
 use Rattle.sat_text.specs.Printed.{cnf_text}
-use Rattle.router_top.specs.Method.{IsRoutingBy, clauses_by}
+use Rattle.router_top.specs.Method.{IsCrowdFor, IsRoutingBy, clauses_by}
 use Rattle.router_top.specs.Report.{climbed_outcome, found_outcome, written_outcome}
-use Rattle.router_top.specs.Search.{Search, route_search, sweep_of}
+use Rattle.router_top.specs.Search.{Search, route_search, sweep_of, clauses_at}
 use Rattle.router_top.specs.Ways.{way_by}
 use Rattle.router_top.specs.Written.{JobFile, job_file}
 use Rattle.router_top.specs.Subject.{Bytes, ShelfState, FailsToSay, after_say, RoutingProblem, HasFew, Cnf, EncodeAsked, RouteAsked, SearchAsked, SweepAsked, TrialAsked, Outcome, WriteFault, File, Said}
@@ -27,35 +27,42 @@ abbrev pub Finds : Search → RoutingProblem → (width : ℕ) → (before now :
     → Result Found Stop → Type 0
 Finds search p width before now came =
     FindsBy (copies_by search.way)
-    (refutes_by search.way p width (clauses_by search.method width p))
-    (opens_by search.way p width (clauses_by search.method width p)) search.ask width
-    (clauses_by search.method width p) (IsRoutingBy search.method width p) before now came
+    (refutes_by search.way p width (clauses_at search width p))
+    (opens_by search.way p width (clauses_at search width p)) search.ask width
+    (clauses_at search width p) (IsRoutingBy search.method width p) before now came
 
--- what `route` leaves: a search of the problem, which was given, at the width of the job, which is
--- at most 64
+-- what `route` leaves: a search of the problem, which was given, by a crowd of it if it goes by one,
+-- at the width of the job, which is at most 64
 pub record LeavesRoute
     (job : RouteAsked) (p : RoutingProblem) (before now : ShelfState) (outcome : Outcome)
     : Type 0 where
   pub given : IsGiven p
   pub narrow : job.search.width ≤ WIDTH_LIMIT
+  pub crowd : List ℕ
+  pub known : IsCrowdFor job.search.method job.search.count crowd p
   pub came : Result Found Stop
-  pub finds : Finds (route_search job) p job.search.width before now came
+  pub finds : Finds (route_search job crowd) p job.search.width before now came
   pub is : outcome ≡ found_outcome job.search.width came
 
--- a climb through the widths of the problem, which was given, up to the greatest, which is at most
--- 64
+-- a climb through the widths of the problem, which was given, by one crowd of it if it goes by one,
+-- up to the greatest, which is at most 64
 pub record Climbs
     (search : SearchAsked) (p : RoutingProblem) (before now : ShelfState) (outcome : Outcome)
     : Type 0 where
   pub given : IsGiven p
   pub some : 1 ≤ search.width
   pub narrow : search.width ≤ WIDTH_LIMIT
+  pub crowd : List ℕ
+  pub known : IsCrowdFor search.method search.count crowd p
   pub came : Result Climbed Stop
-  pub climbs : ClimbsTo (copies_by (way_by search None))
-      (λ width. refutes_by (way_by search None) p width (clauses_by search.method width p))
-      (λ width. opens_by (way_by search None) p width (clauses_by search.method width p))
+  pub climbs : ClimbsTo (copies_by (way_by search None crowd))
+      (λ width. refutes_by (way_by search None crowd) p width
+      (clauses_by search.method crowd width p))
+      (λ width. opens_by (way_by search None crowd) p width
+      (clauses_by search.method crowd width p))
       (record { prefix = search.prefix; numbered = true }) search.width
-      (λ width. clauses_by search.method width p) (λ width. IsRoutingBy search.method width p)
+      (λ width. clauses_by search.method crowd width p)
+      (λ width. IsRoutingBy search.method width p)
       before now came
   pub is : outcome ≡ climbed_outcome came
 
@@ -67,10 +74,10 @@ Sweeps job p before now outcome = Climbs job.search p before now outcome
 abbrev pub clauses_name : EncodeAsked → Bytes
 clauses_name job = job.prefix ++ codes ".cnf"
 
--- the file of the clauses of the problem
-abbrev pub clauses_file : EncodeAsked → RoutingProblem → JobFile
-clauses_file job p = job_file (File (Clauses job.width)) (clauses_name job)
-    (cnf_text (clauses_by job.method job.width p))
+-- the file of the clauses of the problem, by this crowd
+abbrev pub clauses_file : EncodeAsked → (crowd : List ℕ) → RoutingProblem → JobFile
+clauses_file job crowd p = job_file (File (Clauses job.width)) (clauses_name job)
+    (cnf_text (clauses_by job.method crowd job.width p))
 
 -- the clauses were written, and read back; or they were not written whole; or nothing was written,
 -- since there are too many or memory is short
@@ -84,12 +91,15 @@ WritesClauses job formula before now (Err (Fault slot)) =
     × FailsToWrite before (clauses_name job) (cnf_text formula) now
 WritesClauses job formula before now (Err stop) = IsUnbuilt 1 formula stop × (now ≡ before)
 
--- the writing of the clauses of the problem at the width of the job
+-- the writing of the clauses of the problem, by a crowd of it if they go by one, at the width of the
+-- job
 pub record Encodes
     (job : EncodeAsked) (p : RoutingProblem) (before now : ShelfState) (outcome : Outcome)
     : Type 0 where
+  pub crowd : List ℕ
+  pub known : IsCrowdFor job.method false crowd p
   pub came : Result (Unit {0}) Stop
-  pub writes : WritesClauses job (clauses_by job.method job.width p) before now came
+  pub writes : WritesClauses job (clauses_by job.method crowd job.width p) before now came
   pub is : outcome ≡ written_outcome came
 
 -- the trial line with its newline: how many slots and steps the problem has, and how many pairs of

@@ -1,6 +1,7 @@
 //! The encoders of the methods.
-ghost use Rattle.std.specs.Prelude.{◌≡◌, IfOk, OnErr};
+ghost use Rattle.std.specs.Prelude.{◌≡◌, IsSome};
 ghost use Rattle.router_words.specs.Near.{IsNear};
+ghost use Rattle.router_top.specs.Known.{crowd_of};
 ghost use Rattle.router_top.specs.Method.{IsRoutingBy};
 ghost use Rattle.router_top.specs.Suited.{IsEncoderOf, clauses_along};
 ghost use Rattle.router_words.specs.declared.method.Method.TheVariants.{Ordered};
@@ -9,6 +10,7 @@ use crate::chosen::Chosen;
 use arrayvec::ArrayVec;
 use fpga_bounds::PlacedProblem;
 use fpga_types::RouteText;
+use problem_facts::Facts;
 use route_crowd::Precedence;
 use route_encode::{Encoder, Strict};
 use route_reach::Reach;
@@ -18,25 +20,21 @@ use sat_clause::Formula;
 use std::alloc::{AllocError, Global};
 
 impl Chosen {
-    /// The encoder of a method for a problem. The time is that of [`crowd`](route_crowd::crowd)
-    /// where slots of a crowd are to be kept in order, and else does not grow with the problem.
-    ///
-    /// # Errors
-    /// Where memory is short, which that order alone needs.
-    pub fn of(alloc: Global, method: Method, problem: &PlacedProblem) -> Result<Chosen, AllocError>
+    /// The encoder of a method for a problem of which this is known: its facts, where tracks are to
+    /// be kept in the order of a crowd. Takes no memory.
+    pub fn of(method: Method, known: &Option<Facts>) -> Chosen
         requires near { IsNear method }
-        ensures ok { IfOk result (IsEncoderOf method problem.now) }
-        ensures err { OnErr result (method ≡ Ordered) }
+        requires known { method ≡ Ordered → IsSome known.now }
+        ensures { IsEncoderOf method (crowd_of known.now) result }
     {
         match method {
             Method::Ordered => {
-                let Ok(order) = Precedence::of_crowd(alloc, problem) else {
-                    return Err(AllocError);
-                };
-                Ok(Chosen { method, order })
+                let Some(facts) = known else { unreachable!() };
+                let order = Precedence::of_crowd(facts);
+                Chosen { method, order }
             }
             Method::Strictly | Method::Pinned | Method::Within(_) => {
-                Ok(Chosen::without_order(method))
+                Chosen::without_order(method)
             }
         }
     }

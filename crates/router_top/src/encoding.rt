@@ -1,19 +1,21 @@
 //! The command `encode`: the clauses of a problem.
-ghost use Rattle.std.specs.Prelude.{◌≡◌, IfErr, IfOk, OnOk};
+ghost use Rattle.std.specs.Prelude.{◌≡◌, IfErr, IfOk, OnOk, false};
 ghost use Rattle.route_sweep.specs.Found.{IsHeld, IsUnbuilt};
 ghost use Rattle.router_words.specs.Job.{encode_said};
+ghost use Rattle.router_top.specs.Known.{IsKnown, crowd_of};
 ghost use Rattle.router_top.specs.Method.{clauses_by};
 ghost use Rattle.router_top.specs.Report.{written_outcome};
-ghost use Rattle.router_top.specs.Suited.{IsEncoderOf};
 ghost use Rattle.router_top.specs.Work.{WritesClauses};
 
 use crate::chosen::Chosen;
 use crate::file_name::file_name;
+use crate::known::known_of;
 use crate::outcome::Outcome;
 use crate::problem_work::ProblemWork;
 use crate::stopping::stop_outcome;
 use desk_io::{Shelf, write_file};
 use fpga_bounds::PlacedProblem;
+use problem_facts::Facts;
 use route_sweep::{FileSlot, Stop, few_clauses};
 use router_words::EncodeJob;
 use sat_clause::Formula;
@@ -24,34 +26,35 @@ use std::alloc::Global;
 fn asked_clauses(
     alloc: Global,
     job: &EncodeJob<'_>,
-    encoder: &Chosen,
+    known: &Option<Facts>,
     problem: &PlacedProblem,
 ) -> Result<Formula, Stop>
-    requires { IsEncoderOf job.now.method problem.now encoder.now }
-    ensures formula { IfOk result
-        (λ formula. formula.cnf ≡ clauses_by job.now.method job.now.width problem.now) }
+    requires { IsKnown job.now.method false problem.now known.now }
+    ensures formula { IfOk result (λ formula. formula.cnf
+        ≡ clauses_by job.now.method (crowd_of known.now) job.now.width problem.now) }
     ensures held { OnOk result
-        (IsHeld 1 (clauses_by job.now.method job.now.width problem.now)) }
+        (IsHeld 1 (clauses_by job.now.method (crowd_of known.now) job.now.width problem.now)) }
     ensures stop { IfErr result
-        (IsUnbuilt 1 (clauses_by job.now.method job.now.width problem.now)) }
+        (IsUnbuilt 1 (clauses_by job.now.method (crowd_of known.now) job.now.width problem.now)) }
 {
-    few_clauses(alloc, 1, encoder, problem, job.width)
+    let encoder = Chosen::of(job.method, known);
+    few_clauses(alloc, 1, &encoder, problem, job.width)
 }
 
 // Builds the clauses that the job asks for and writes them, where there are not too many.
 fn write_clauses<S: Shelf>(
     alloc: Global,
     job: &EncodeJob<'_>,
-    encoder: &Chosen,
+    known: &Option<Facts>,
     problem: &PlacedProblem,
     shelf: &mut S,
 ) -> Result<(), Stop>
-    requires { IsEncoderOf job.now.method problem.now encoder.now }
+    requires { IsKnown job.now.method false problem.now known.now }
     ensures { WritesClauses (encode_said job.now)
-        (clauses_by job.now.method job.now.width problem.now)
+        (clauses_by job.now.method (crowd_of known.now) job.now.width problem.now)
         (S.state shelf.old) (S.state shelf.new) result }
 {
-    let formula = match asked_clauses(alloc, job, encoder, problem) {
+    let formula = match asked_clauses(alloc, job, known, problem) {
         Ok(formula) => formula,
         Err(stop) => return Err(stop),
     };
@@ -78,16 +81,17 @@ fn written_outcome(came: Result<(), Stop>) -> Outcome
 
 // Builds the clauses and writes them.
 impl<'a> ProblemWork for EncodeJob<'a> {
+    ghost use Rattle.std.specs.Prelude.{false};
     ghost use Rattle.router_words.specs.Job.{encode_said};
     ghost use Rattle.router_top.specs.Suited.{LeavesPrepared};
     ghost use Rattle.router_top.specs.Work.{Encodes};
 
-    ghost leaves = { λ job. LeavesPrepared job.method (Encodes (encode_said job)) };
+    ghost leaves = { λ job. LeavesPrepared job.method false (Encodes (encode_said job)) };
 
     fn work<S: Shelf>(&self, alloc: Global, problem: &PlacedProblem, shelf: &mut S) -> Outcome {
-        let Ok(encoder) = Chosen::of(alloc, self.method, problem) else {
+        let Ok(known) = known_of(alloc, self.method, false, problem) else {
             return Outcome::OutOfMemory;
         };
-        written_outcome(write_clauses(alloc, self, &encoder, problem, shelf))
+        written_outcome(write_clauses(alloc, self, &known, problem, shelf))
     }
 }

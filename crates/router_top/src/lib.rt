@@ -16,6 +16,7 @@ mod encoding;
 mod file_name;
 mod generating;
 mod judging;
+mod known;
 mod negotiating;
 mod outcome;
 mod problem_work;

@@ -7,7 +7,7 @@ use crate::slot::Slot;
 use crate::text_file::TextFile;
 use arrayvec::ArrayString;
 use itoa::Buffer;
-use route_symmetry::Asymmetry;
+use problem_facts::Asymmetry;
 
 /// What keeps a method from saying the routings of a problem at a width.
 #[derive(Clone, Copy)]

@@ -1,17 +1,19 @@
 //! The command `route`: a search for a legal routing.
 ghost use Rattle.std.specs.Prelude.{◌≡◌};
 ghost use Rattle.router_words.specs.Job.{route_said};
+ghost use Rattle.router_top.specs.Known.{IsKnown};
 ghost use Rattle.router_top.specs.Report.{found_outcome};
-ghost use Rattle.router_top.specs.Suited.{IsEncoderOf};
 ghost use Rattle.router_top.specs.Work.{LeavesRoute};
 
 use crate::chosen::Chosen;
+use crate::known::known_of;
 use crate::outcome::Outcome;
 use crate::problem_work::{ProblemWork, was_given};
 use crate::stopping::stop_outcome;
 use crate::ways::way_by;
 use desk_io::Shelf;
 use fpga_bounds::PlacedProblem;
+use problem_facts::Facts;
 use route_sweep::{Ask, Found, Stop, one_width};
 use router_words::RouteJob;
 use std::alloc::Global;
@@ -28,27 +30,28 @@ fn found_outcome(width: u32, came: Result<Found, Stop>) -> Outcome
     }
 }
 
-// Searches for a legal routing by the encoder of the problem, and writes it; or else the clauses
+// Searches for a legal routing by what is known of the problem, and writes it; or else the clauses
 // and the log.
 fn search_width<S: Shelf>(
     alloc: Global,
     job: &RouteJob<'_>,
-    encoder: &Chosen,
+    known: &Option<Facts>,
     problem: &PlacedProblem,
     shelf: &mut S,
 ) -> Outcome
-    requires { IsEncoderOf job.now.search.method problem.now encoder.now }
+    requires { IsKnown job.now.search.method job.now.search.count problem.now known.now }
     ensures { LeavesRoute (route_said job.now) problem.now (S.state shelf.old)
         (S.state shelf.new) result }
 {
     was_given(problem);
     let search = job.search;
-    let way = way_by(&search, job.members);
+    let encoder = Chosen::of(search.method, known);
+    let way = way_by(&search, job.members, known);
     let ask = Ask {
         prefix: search.prefix,
         numbered: false,
     };
-    let came = one_width(alloc, &way, encoder, problem, search.width, &ask, shelf);
+    let came = one_width(alloc, &way, &encoder, problem, search.width, &ask, shelf);
     found_outcome(search.width, came)
 }
 
@@ -58,12 +61,13 @@ impl<'a> ProblemWork for RouteJob<'a> {
     ghost use Rattle.router_top.specs.Suited.{LeavesPrepared};
     ghost use Rattle.router_top.specs.Work.{LeavesRoute};
 
-    ghost leaves = { λ job. LeavesPrepared job.search.method (LeavesRoute (route_said job)) };
+    ghost leaves = { λ job. LeavesPrepared job.search.method job.search.count
+        (LeavesRoute (route_said job)) };
 
     fn work<S: Shelf>(&self, alloc: Global, problem: &PlacedProblem, shelf: &mut S) -> Outcome {
-        let Ok(encoder) = Chosen::of(alloc, self.search.method, problem) else {
+        let Ok(known) = known_of(alloc, self.search.method, self.search.count, problem) else {
             return Outcome::OutOfMemory;
         };
-        search_width(alloc, self, &encoder, problem, shelf)
+        search_width(alloc, self, &known, problem, shelf)
     }
 }

@@ -9,8 +9,7 @@ use crate::problem_work::ProblemWork;
 use desk_io::Shelf;
 use fpga_bounds::PlacedProblem;
 use fpga_types::WIDTH_LIMIT;
-use route_crowd::why_not_exchangeable;
-use route_symmetry::{Asymmetry, why_not_symmetric};
+use problem_facts::{Asymmetry, why_not_exchangeable, why_not_symmetric};
 use router_words::Method;
 use std::alloc::Global;
 

@@ -1,17 +1,19 @@
 //! The command `sweep`: a search for the least width that has a legal routing.
 ghost use Rattle.std.specs.Prelude.{◌≡◌};
 ghost use Rattle.router_words.specs.Job.{search_said};
+ghost use Rattle.router_top.specs.Known.{IsKnown};
 ghost use Rattle.router_top.specs.Report.{climbed_outcome};
-ghost use Rattle.router_top.specs.Suited.{IsEncoderOf};
 ghost use Rattle.router_top.specs.Work.{Climbs};
 
 use crate::chosen::Chosen;
+use crate::known::known_of;
 use crate::outcome::Outcome;
 use crate::problem_work::{ProblemWork, was_given};
 use crate::stopping::stop_outcome;
 use crate::ways::way_by;
 use desk_io::Shelf;
 use fpga_bounds::PlacedProblem;
+use problem_facts::Facts;
 use route_sweep::{Ask, Climbed, Stop, climb};
 use router_words::{SearchJob, SweepJob};
 use std::alloc::Global;
@@ -28,27 +30,28 @@ fn climbed_outcome(came: Result<Climbed, Stop>) -> Outcome
     }
 }
 
-/// Searches at the widths from 1 on, up to the first that is not refuted or up to the last, by the
-/// encoder of the problem; writes a routing, or else the clauses and the log of each width that was
-/// searched.
+/// Searches at the widths from 1 on, up to the first that is not refuted or up to the last, by what
+/// is known of the problem; writes a routing, or else the clauses and the log of each width that
+/// was searched.
 pub fn search_widths<S: Shelf>(
     alloc: Global,
     problem: &PlacedProblem,
-    encoder: &Chosen,
+    known: &Option<Facts>,
     search: &SearchJob<'_>,
     shelf: &mut S,
 ) -> Outcome
-    requires { IsEncoderOf search.now.method problem.now encoder.now }
+    requires { IsKnown search.now.method search.now.count problem.now known.now }
     ensures { Climbs (search_said search.now) problem.now (S.state shelf.old) (S.state shelf.new)
         result }
 {
     was_given(problem);
-    let way = way_by(search, None);
+    let encoder = Chosen::of(search.method, known);
+    let way = way_by(search, None, known);
     let ask = Ask {
         prefix: search.prefix,
         numbered: true,
     };
-    climbed_outcome(climb(alloc, &way, encoder, problem, search.width, &ask, shelf))
+    climbed_outcome(climb(alloc, &way, &encoder, problem, search.width, &ask, shelf))
 }
 
 // Searches at one width after another.
@@ -57,12 +60,13 @@ impl<'a> ProblemWork for SweepJob<'a> {
     ghost use Rattle.router_top.specs.Suited.{LeavesPrepared};
     ghost use Rattle.router_top.specs.Work.{Sweeps};
 
-    ghost leaves = { λ job. LeavesPrepared job.search.method (Sweeps (sweep_said job)) };
+    ghost leaves = { λ job. LeavesPrepared job.search.method job.search.count
+        (Sweeps (sweep_said job)) };
 
     fn work<S: Shelf>(&self, alloc: Global, problem: &PlacedProblem, shelf: &mut S) -> Outcome {
-        let Ok(encoder) = Chosen::of(alloc, self.search.method, problem) else {
+        let Ok(known) = known_of(alloc, self.search.method, self.search.count, problem) else {
             return Outcome::OutOfMemory;
         };
-        search_widths(alloc, problem, &encoder, &self.search, shelf)
+        search_widths(alloc, problem, &known, &self.search, shelf)
     }
 }

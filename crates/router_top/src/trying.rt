@@ -7,8 +7,8 @@ ghost use Rattle.router_top.specs.Generated.{IsMade, PosesNone};
 ghost use Rattle.router_top.specs.Run.{TriesGenerated};
 ghost use Rattle.router_top.specs.Work.{trial_line};
 
-use crate::chosen::Chosen;
 use crate::generating::make_texts;
+use crate::known::known_of;
 use crate::outcome::{LINE_ROOM, Outcome, push_count};
 use crate::slot::Slot;
 use crate::stopping::unread_outcome;
@@ -74,11 +74,11 @@ pub fn trial<S: Shelf>(alloc: Global, job: &TrialJob<'_>, shelf: &mut S) -> Outc
         Ok(problem) => problem,
         Err(outcome) => return outcome,
     };
-    let Ok(encoder) = Chosen::of(alloc, job.search.method, &problem) else {
+    let Ok(known) = known_of(alloc, job.search.method, job.search.count, &problem) else {
         return Outcome::OutOfMemory;
     };
     let Ok(()) = shelf.say(trial_line(&problem).as_bytes()) else {
         return Outcome::WriteFault { slot: Slot::Said };
     };
-    search_widths(alloc, &problem, &encoder, &job.search, shelf)
+    search_widths(alloc, &problem, &known, &job.search, shelf)
 }

@@ -1,8 +1,15 @@
 //! The ways in which jobs search.
-ghost use Rattle.std.specs.Prelude.{◌≡◌, option_map};
+ghost use Rattle.std.specs.Prelude.{◌≡◌, ℕ, IsSome, IsTrue, option_map};
+ghost use Rattle.fpga_types.specs.Problem.{RoutingProblem};
+ghost use Rattle.route_count.specs.Begun.{IsBegunBy};
+ghost use Rattle.route_encode.specs.Encoding.{cnf_of};
+ghost use Rattle.route_ways.specs.Way.{course_of, serves_by};
 ghost use Rattle.router_words.specs.Job.{core_said, members_said, search_said};
+ghost use Rattle.router_top.specs.Known.{IsKnown, crowd_of};
 ghost use Rattle.router_top.specs.Ways.{core_way, plain_by, way_by};
+ghost use Rattle.sat_clause.specs.Formula.{Cnf};
 
+use problem_facts::Facts;
 use route_ways::{Counting, Plain, Solver, Trimming, Way};
 use router_words::{CoreJob, Members, SearchJob};
 
@@ -27,21 +34,35 @@ fn plain_by(search: &SearchJob<'_>, members: Option<Members>) -> Plain
     }
 }
 
-/// The way in which a search is to be done, by one or by as many as take turns.
-pub fn way_by(search: &SearchJob<'_>, members: Option<Members>) -> Way
-    ensures { result ≡ way_by (search_said search.now) (option_map members_said members) }
+/// The way in which a search is to be done, by one or by as many as take turns. Where it counts, it
+/// does so by the facts of its problem, and the clauses are to begin with those of
+/// [`Strict`](route_encode::Strict).
+pub fn way_by<'a>(
+    search: &SearchJob<'_>,
+    members: Option<Members>,
+    known: &'a Option<Facts>,
+) -> Way<'a>
+    requires { IsTrue search.now.count → IsSome known.now }
+    ensures is { course_of result
+        ≡ way_by (search_said search.now) (option_map members_said members) (crowd_of known.now) }
+    ensures serves { (p : RoutingProblem) (width : ℕ) (formula : Cnf)
+        → IsKnown search.now.method search.now.count p known.now
+        → (IsTrue search.now.count → IsBegunBy formula (cnf_of width p))
+        → serves_by result p width formula }
 {
     let plain = plain_by(search, members);
     if search.count {
-        let counting = Counting { rest: plain };
+        let Some(facts) = known else { unreachable!() };
+        let counting = Counting { rest: plain, facts };
         return Way::Counted { counting };
     }
     Way::Alone { plain }
 }
 
-/// The way of `core`.
-pub fn core_way(job: &CoreJob<'_>) -> Way
-    ensures { result ≡ core_way (core_said job.now) }
+/// The way of `core`, which serves the clauses of [`Strict`](route_encode::Strict).
+pub fn core_way(job: &CoreJob<'_>) -> Way<'static>
+    ensures is { course_of result ≡ core_way (core_said job.now) }
+    ensures serves { (p : RoutingProblem) (width : ℕ) → serves_by result p width (cnf_of width p) }
 {
     let rest = Plain {
         solver: Solver::Straight,

@@ -1,9 +1,11 @@
 //! What is printed of a problem at a width.
 ghost use Rattle.std.specs.Prelude.{◌≤◌};
+ghost use Rattle.problem_facts.specs.Facts.{AreFactsOf};
 
 use crate::say::say;
 use fpga_bounds::PlacedProblem;
 use fpga_types::WIDTH_LIMIT;
+use problem_facts::Facts;
 use route_count::counted_out;
 use route_encode::{Encoder, Strict};
 use rows_problem::RowsError;
@@ -15,15 +17,17 @@ pub(crate) fn print_counted(
     rt: &impl Print,
     alloc: Global,
     problem: &PlacedProblem,
+    facts: &Facts,
     width: u32,
 ) -> Result<(), RowsError>
-    requires { (1 ≤ width) × (width ≤ WIDTH_LIMIT) }
+    requires width { (1 ≤ width) × (width ≤ WIDTH_LIMIT) }
+    requires facts { AreFactsOf problem.now facts.now }
 {
     if Strict.count(problem, width) > CLAUSE_LIMIT {
         return say(rt, "too many clauses");
     }
     let formula = Strict.build(alloc, problem, width)?;
-    let log = counted_out(alloc, &formula, problem, width)?;
+    let log = counted_out(alloc, &formula, problem, facts, width)?;
     drop(formula);
     let Some(log) = log else {
         println!(rt; "{width}: not counted out")?;

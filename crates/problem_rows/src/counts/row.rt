@@ -3,6 +3,7 @@ use crate::counts::counted::print_counted;
 use crate::say::say;
 use desk_io::Desk;
 use fpga_bounds::PlacedProblem;
+use problem_facts::Facts;
 use rows_problem::{RowsError, problem_of_files, width_of};
 use std::alloc::Global;
 use std::str::SplitWhitespace;
@@ -32,9 +33,10 @@ fn print_widths(
     problem: &PlacedProblem,
     words: SplitWhitespace<'_>,
 ) -> Result<(), RowsError> {
+    let facts = Facts::of(alloc, problem)?;
     for word in words {
         match width_of(word) {
-            Some(width) => print_counted(rt, alloc, problem, width)?,
+            Some(width) => print_counted(rt, alloc, problem, &facts, width)?,
             None => say(rt, "no width")?,
         }
     }

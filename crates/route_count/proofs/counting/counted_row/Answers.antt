@@ -1,7 +1,7 @@
 use Rattle.std.proofs.Common.{arith, length, length-append, ap}
 use Rattle.fpga_types.specs.Slots.{slots}
 use Rattle.route_encode.specs.Encoding.{cnf_of}
-use Rattle.route_symmetry.proofs.SlotCells.{all-there}
+use Rattle.problem_facts.proofs.SlotCells.{all-there}
 use Rattle.route_count.proofs.FirstRowLemmas.{meeting-different}
 use Rattle.route_count.proofs.counting.counted_row.Goals as goal
 

@@ -3,7 +3,7 @@ use Rattle.std.proofs.lemmas.Bool.Decides.{Decides-eqb}
 use Rattle.fpga_types.specs.CellNumbers.{number_of_cell}
 use Rattle.fpga_types.specs.Slots.{slot_at}
 use Rattle.route_encode.proofs.CompeteLemmas.{differs}
-use Rattle.route_symmetry.proofs.CrowdLemmas.{row-full, row-left, row-taken, takes}
+use Rattle.problem_facts.proofs.CellCountLemmas.{row-full, row-left, row-taken, takes}
 use Rattle.route_count.proofs.crowded.add_of_cell.Goals as goal
 
 pub returns-then-width-len : goal.returns-then-width-len

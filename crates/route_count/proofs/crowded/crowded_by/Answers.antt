@@ -1,4 +1,4 @@
-use Rattle.route_symmetry.proofs.SlotCells.{all-there}
+use Rattle.problem_facts.proofs.SlotCells.{all-there}
 use Rattle.route_count.proofs.crowded.crowded_by.Goals as goal
 
 pub crowded_cell-requires-clause-there : goal.crowded_cell-requires-clause-there

@@ -3,8 +3,8 @@ use Rattle.std.specs.Prelude.{slice_set}
 use Rattle.std.proofs.lemmas.List.{get_or-set_other, get_or-set_same}
 use Rattle.fpga_types.specs.CellNumbers.{number_of_cell}
 use Rattle.fpga_types.specs.Slots.{slot_at}
-use Rattle.route_symmetry.specs.Crowds.{AreCounted}
-use Rattle.route_symmetry.proofs.CrowdLemmas.{cases-eq, counted-more, few-passing, takes}
+use Rattle.problem_facts.specs.CellCounts.{AreCounted}
+use Rattle.problem_facts.proofs.CellCountLemmas.{cases-eq, counted-more, few-passing, takes}
 use Rattle.route_count.proofs.CrowdedLemmas.{are-spread, passing-rises}
 use Rattle.route_count.proofs.crowded.first_over.Goals as goal
 

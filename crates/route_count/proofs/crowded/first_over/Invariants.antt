@@ -2,7 +2,7 @@
 use Rattle.std.proofs.Common.{◌≡◌, ◌<◌, ◌≤◌, ℕ, length}
 use Rattle.std.specs.Prelude.{slice_index}
 use Rattle.fpga_types.specs.CellNumbers.{cell_count}
-use Rattle.route_symmetry.specs.Crowds.{AreCounted}
+use Rattle.problem_facts.specs.CellCounts.{AreCounted}
 use Rattle.route_count.proofs.crowded.first_over.Given as goal
 
 abbrev pub invariant-loop-slot : goal.invariant-loop-slot

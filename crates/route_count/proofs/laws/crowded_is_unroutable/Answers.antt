@@ -1,4 +1,4 @@
-use Rattle.route_count.proofs.TrackLaws.{crowded_unroutable}
+use Rattle.route_count.proofs.CrowdedLaw.{crowded_unroutable}
 use Rattle.route_count.proofs.laws.crowded_is_unroutable.Goals as goal
 
 pub returns : goal.returns

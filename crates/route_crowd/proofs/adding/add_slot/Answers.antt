@@ -1,6 +1,6 @@
 use Rattle.std.proofs.Common.{arith}
 use Rattle.route_encode.proofs.AddLemmas.{below-more, below-room}
-use Rattle.route_crowd.specs.Groups.{group_count}
+use Rattle.problem_facts.specs.Groups.{group_count}
 use Rattle.route_crowd.specs.Precedence.{group_clauses}
 use Rattle.route_crowd.proofs.adding.add_slot.Goals as goal
 

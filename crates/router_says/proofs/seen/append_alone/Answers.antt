@@ -1,6 +1,6 @@
 use Rattle.std.proofs.Common.{inl, inr, refl}
 use Rattle.std.proofs.lemmas.Result.{on_ok_weaker}
-use Rattle.route_alone.specs.Alone.{IsTracklessTree}
+use Rattle.problem_facts.specs.Alone.{IsTracklessTree}
 use Rattle.router_says.proofs.SeenLemmas.{where-none, where-some}
 use Rattle.router_says.specs.Seen.{order_said, trackless_said}
 use Rattle.router_says.proofs.seen.append_alone.Goals as goal

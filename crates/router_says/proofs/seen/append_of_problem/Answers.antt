@@ -1,17 +1,12 @@
-use Rattle.std.proofs.Common.{inl}
 use Rattle.std.proofs.lemmas.Result.{on_ok_weaker}
-use Rattle.router_says.proofs.SeenLemmas.{where-none}
 use Rattle.router_says.proofs.seen.append_of_problem.Goals as goal
 
-pub returns-in-None : goal.returns-in-None
-returns-in-None c =
-    on_ok_weaker c.append_alone.result
+pub returns : goal.returns
+returns c =
+    on_ok_weaker c.append_by_facts.result
     (λ added. (
       added.0,
-      inl (
-        where-none c.in_ok-crowding.field-0 c.in-None.is c.in_ok-crowding.ensures.none,
-        added.1,
-      ),
+      (c.in_ok-facts.facts.crowd, c.in_ok-facts.ensures.crowd, added.1),
       added.2,
     ))
-    c.append_alone.ensures
+    c.append_by_facts.ensures

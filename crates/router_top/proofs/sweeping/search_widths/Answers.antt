@@ -1,46 +1,61 @@
-use Rattle.std.proofs.Common.{subst, sym, true}
-use Rattle.std.specs.Prelude.{None}
+use Rattle.std.proofs.Common.{subst, true}
 use Rattle.route_sweep.specs.Asked.{Asked}
 use Rattle.route_sweep.specs.Climb.{ClimbsTo}
-use Rattle.route_ways.specs.Way.{copies_by, opens_by, refutes_by, serves_by}
-use Rattle.route_ways.specs.declared.way.Way.{Way}
-use Rattle.router_words.specs.Job.{search_said}
+use Rattle.route_ways.specs.Way.{Course, copies_by, course_of, opens_by, refutes_by}
+use Rattle.router_top.specs.Known.{crowd_of}
 use Rattle.router_top.specs.Method.{IsRoutingBy, clauses_by}
 use Rattle.router_top.specs.Suited.{clauses_along}
+use Rattle.router_top.proofs.KnownLaws.{count-goes, known-crowd, known-some, order-goes}
 use Rattle.router_top.proofs.PreparedLaws.{by-encoder, encoder-begins}
-use Rattle.router_top.proofs.ServeLaws.{way-serves}
 use Rattle.router_top.proofs.sweeping.search_widths.Goals as goal
+
+pub of-encoder-requires-clause-known : goal.of-encoder-requires-clause-known
+of-encoder-requires-clause-known g c = λ is.
+    let search = c.args.search.now in
+    known-some search.method search.count c.args.problem.now c.args.known.now c.requires
+    (order-goes search.method search.count is)
+
+pub way_by-way-requires : goal.way_by-way-requires
+way_by-way-requires g c = λ counts.
+    let search = c.args.search.now in
+    known-some search.method search.count c.args.problem.now c.args.known.now c.requires
+    (count-goes search.method search.count counts)
 
 pub climb-requires-clause-serves : goal.climb-requires-clause-serves
 climb-requires-clause-serves g c = λ width.
     let search = c.args.search.now in
     let p = c.args.problem.now in
-    let formula =
-    clauses_along c.args.encoder.now.method c.args.encoder.now.order.row.items width p in
-    subst (λ (w : Way). serves_by w p width formula) (sym c.way_by-way.ensures)
-    (way-serves (search_said search) None tt search.affordable.0 search.affordable.1 p width
-    formula (λ counts. encoder-begins search.method p c.args.encoder.now c.requires
-    (search.countable counts) width))
+    let encoder = c.of-encoder.result in
+    c.way_by-way.ensures.serves p width
+    (clauses_along encoder.method encoder.order.row.items width p) c.requires
+    (λ counts. encoder-begins search.method (crowd_of c.args.known.now) p encoder
+    c.of-encoder.ensures (search.countable counts) width)
 
 pub returns : goal.returns
 returns g c =
     let search = c.args.search.now in
     let p = c.args.problem.now in
+    let crowd = crowd_of c.args.known.now in
+    let known = known-crowd search.method search.count p c.args.known.now c.requires in
     let before = g.S.Shelf.state c.args.shelf.now in
     let now = g.S.Shelf.state c.climb.new.shelf in
-    let way = c.way_by-way.result in
+    let way = course_of c.way_by-way.result in
     let ask : Asked = record { prefix = search.prefix.now; numbered = true } in
     record {
       given = c.was_given.ensures;
       some = search.in_range.0;
       narrow = search.in_range.1;
+      crowd = crowd;
+      known = known;
       came = c.climb.result;
-      climbs = subst (λ (w : Way). ClimbsTo (copies_by w)
-          (λ width. refutes_by w p width (clauses_by search.method width p))
-          (λ width. opens_by w p width (clauses_by search.method width p)) ask search.width
-          (λ width. clauses_by search.method width p) (λ width. IsRoutingBy search.method width p)
-          before now c.climb.result) c.way_by-way.ensures
-          (by-encoder search.method p c.args.encoder.now c.requires
+      climbs = subst (λ (w : Course). ClimbsTo (copies_by w)
+          (λ width. refutes_by w p width (clauses_by search.method crowd width p))
+          (λ width. opens_by w p width (clauses_by search.method crowd width p)) ask search.width
+          (λ width. clauses_by search.method crowd width p)
+          (λ width. IsRoutingBy search.method width p)
+          before now c.climb.result) c.way_by-way.ensures.is
+          (by-encoder search.method search.count crowd p c.of-encoder.result
+          c.of-encoder.ensures known
           (λ formula good. ClimbsTo (copies_by way)
           (λ width. refutes_by way p width (formula width))
           (λ width. opens_by way p width (formula width)) ask search.width formula good

@@ -1,4 +1,4 @@
-use Rattle.route_symmetry.proofs.SlotCells.{all-there}
+use Rattle.problem_facts.proofs.SlotCells.{all-there}
 use Rattle.route_count.proofs.clause_ids.ClauseIds.of.Goals as goal
 
 pub rivals_after-requires-clause-there : goal.rivals_after-requires-clause-there

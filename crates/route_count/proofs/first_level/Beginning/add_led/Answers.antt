@@ -4,7 +4,7 @@ use Rattle.sat_rat.specs.FullRup.{full_rup}
 use Rattle.sat_count.specs.Names.{no, yes}
 use Rattle.sat_count.specs.Refuting.{RefutationState, live_of}
 use Rattle.route_encode.specs.Encoding.{lacks, place_of}
-use Rattle.route_count.specs.Leads.{TreesState, root_at}
+use Rattle.problem_facts.specs.Leads.{TreesState, root_at}
 use Rattle.route_count.specs.Said.{led_clause}
 use Rattle.route_count.proofs.FirstLemmas.{led-justified}
 use Rattle.route_count.proofs.first_level.Beginning.add_led.Goals as goal

@@ -1,7 +1,7 @@
 use Rattle.std.proofs.Common.{◌<◌, arith, get_or, length, sym}
 use Rattle.sat_count.specs.Refuting.{begun}
 use Rattle.sat_count.proofs.GrowLemmas.{grows-on, row-more, row-none}
-use Rattle.route_count.specs.Leads.{root_at}
+use Rattle.problem_facts.specs.Leads.{root_at}
 use Rattle.route_count.specs.Said.{led_clause}
 use Rattle.route_count.proofs.FirstLemmas.{led-grows}
 use Rattle.route_count.proofs.first_level.Beginning.add_led_track.Goals as goal

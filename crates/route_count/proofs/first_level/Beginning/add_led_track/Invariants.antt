@@ -1,6 +1,6 @@
 -- the clauses of the tracks so far
 use Rattle.sat_count.specs.Rows.{AddsRow}
-use Rattle.route_count.specs.Leads.{root_at}
+use Rattle.problem_facts.specs.Leads.{root_at}
 use Rattle.route_count.specs.Said.{led_clause}
 use Rattle.route_count.proofs.first_level.Beginning.add_led_track.Given as goal
 

@@ -6,7 +6,7 @@ use Rattle.sat_count.specs.Names.{no}
 use Rattle.sat_count.specs.Refuting.{RefutationState, live_of}
 use Rattle.sat_count.proofs.VariableLemmas.{within-two}
 use Rattle.route_encode.specs.Encoding.{place_of}
-use Rattle.route_count.specs.Leads.{TreesState}
+use Rattle.problem_facts.specs.Leads.{TreesState}
 use Rattle.route_count.specs.Meetings.{IsMeeting}
 use Rattle.route_count.specs.Said.{apart_clause}
 use Rattle.route_count.specs.declared.meetings.Meeting.{Meeting}

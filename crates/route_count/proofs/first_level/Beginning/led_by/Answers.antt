@@ -1,6 +1,6 @@
 use Rattle.std.proofs.Common.{◌≡◌, ◌<◌, ◌∙◌, ℕ, None, arith, length, subst, sym}
 use Rattle.sat_count.specs.Refuting.{Holds}
-use Rattle.route_count.specs.Leads.{TreesState, lead_at, root_at}
+use Rattle.problem_facts.specs.Leads.{TreesState, lead_at, root_at}
 use Rattle.route_count.specs.Said.{led_clause}
 use Rattle.route_count.proofs.first_level.Beginning.led_by.Goals as goal
 

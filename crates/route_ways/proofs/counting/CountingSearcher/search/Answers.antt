@@ -10,6 +10,7 @@ returns-in-None g c =
     let p = c.args.problem.now in
     let width = c.args.width in
     let formula = c.args.formula.now.cnf in
-    goes-on (IsCrowded width p) (g.R.Searcher.refutes rest p width formula)
+    let crowd = c.args.self.now.facts.now.crowd in
+    goes-on (IsCrowded width p crowd) (g.R.Searcher.refutes rest p width formula)
     (g.R.Searcher.leaves_open rest p width formula) formula
     (c.in-Ok.ensures.none (ap is_some c.in-None.is)) c.search.result c.search.ensures

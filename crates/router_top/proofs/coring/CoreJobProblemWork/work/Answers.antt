@@ -1,20 +1,13 @@
-use Rattle.std.proofs.Common.{refl, subst, sym}
-use Rattle.route_ways.specs.Way.{serves_by}
-use Rattle.route_ways.specs.declared.way.Way.{Way}
+use Rattle.std.proofs.Common.{subst}
+use Rattle.route_ways.specs.Way.{Course}
 use Rattle.router_words.specs.Job.{core_said}
-use Rattle.router_words.specs.declared.method.Method.TheVariants.{Strictly}
-use Rattle.router_top.specs.Method.{clauses_by}
 use Rattle.router_top.specs.Search.{core_search}
 use Rattle.router_top.specs.Work.{Finds}
 use Rattle.router_top.proofs.coring.CoreJobProblemWork.work.Goals as goal
 
 pub one_width-came-requires-clause-serves : goal.one_width-came-requires-clause-serves
 one_width-came-requires-clause-serves g c =
-    let job = c.args.self.now in
-    let p = c.args.problem.now in
-    subst (λ (w : Way). serves_by w p job.width (clauses_by Strictly job.width p))
-    (sym c.core_way-way.ensures)
-    (refl, record { some = job.affordable.0; affordable = job.affordable.1; turns = tt })
+    c.core_way-way.ensures.serves c.args.problem.now c.args.self.now.width
 
 pub returns : goal.returns
 returns g c =
@@ -25,8 +18,8 @@ returns g c =
       narrow = job.in_range.1;
       came = c.one_width-came.result;
       wrote = wrote;
-      finds = subst (λ (w : Way). Finds (record (core_search (core_said job)) { way = w })
+      finds = subst (λ (w : Course). Finds (record (core_search (core_said job)) { way = w })
           c.args.problem.now job.width (g.S.Shelf.state c.args.shelf.now) wrote
-          c.one_width-came.result) c.core_way-way.ensures c.one_width-came.ensures;
+          c.one_width-came.result) c.core_way-way.ensures.is c.one_width-came.ensures;
       says = c.say_blamed.ensures;
     }

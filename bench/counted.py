@@ -1,0 +1,63 @@
+#!/usr/bin/env python3
+"""Reckons how many steps refute a width by counting: python3 bench/counted.py ROUTE WIDTH..
+
+Reads a global route alone and takes switch blocks to be subset ones. Prints for each width the number of steps, or that
+it is not counted out. It shares no code with the router, and is what the cases of crates/problem_rows/data/count.rows
+were worked out with."""
+import sys
+from math import comb
+
+from crowds import Crowds
+
+
+def counting_down(tracks):
+    """The steps from one slot more than tracks that want different ones, down to the empty clause."""
+    first = tracks + 1 + comb(tracks + 1, 2) * tracks
+    return first + 1 + sum(4 * t * (t - 1) + 2 * comb(t, 2) * (t - 1) + t + 1 for t in range(2, tracks + 1))
+
+
+class Ways:
+    """How the slots of a route are come to from the first slots of their trees."""
+
+    def __init__(self, crowds):
+        self.slots, self.roots, self.before = crowds.slots, crowds.roots, {}
+        for a, b in crowds.steps:
+            if a != b:
+                self.before.setdefault(max(a, b), min(a, b))
+
+    def cells(self, root):
+        return {self.slots[s][1:]: s for s in range(len(self.slots)) if self.roots[s] == root}
+
+    def meeting(self, lower, higher):
+        """The last slot of the lower tree whose cell the higher one takes, with that one's."""
+        ours, theirs = self.cells(lower), self.cells(higher)
+        return max((s, theirs[cell]) for cell, s in ours.items() if cell in theirs)
+
+    def on_the_way(self, row):
+        """The slots on the ways to where each two trees meet that are come to by more than one step."""
+        found = {slot for at, higher in enumerate(row) for lower in row[:at] for slot in self.meeting(lower, higher)}
+        for slot in sorted(found, reverse=True):
+            while slot in self.before:
+                slot = self.before[slot]
+                found.add(slot)
+        return [slot for slot in found if self.before.get(slot) in self.before]
+
+
+def steps(crowds, crowd, width):
+    if any(width < len(trees) for trees in crowds.cells.values()):
+        return counting_down(width)
+    if len(crowd) <= width:
+        return None
+    led = len(Ways(crowds).on_the_way(crowd[: width + 1]))
+    return counting_down(width) + (width * led + 1 if led else 0)
+
+
+def main():
+    crowds = Crowds(sys.argv[1])
+    crowd = crowds.crowd()
+    for width in map(int, sys.argv[2:]):
+        count = steps(crowds, crowd, width)
+        print(f"{width}: {'not counted out' if count is None else f'{count} steps'}")
+
+
+main()

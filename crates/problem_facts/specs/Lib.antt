@@ -1,0 +1,11 @@
+pub mod Alone
+pub mod CellCounts
+pub mod Crowd
+pub mod Facts
+pub mod Full
+pub mod Fullest
+pub mod Gathering
+pub mod Groups
+pub mod Leads
+pub mod Tracks
+pub mod Trees

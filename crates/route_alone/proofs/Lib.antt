@@ -1,2 +1,0 @@
-pub mod ClosedLemmas
-pub mod TracklessLaw

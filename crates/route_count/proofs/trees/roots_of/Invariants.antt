@@ -1,7 +1,0 @@
--- the slots so far have the ones that stand for their trees
-use Rattle.std.proofs.Common.{◌≡◌}
-use Rattle.route_crowd.specs.Trees.{roots_of}
-use Rattle.route_count.proofs.trees.roots_of.Given as goal
-
-abbrev pub invariant-loop-s : goal.invariant-loop-s
-invariant-loop-s l = l.roots.items ≡ roots_of l.steps l.s
