@@ -418,6 +418,7 @@ JOBS = [
     ),
     ("encode", ["encode", *THREE, "2", "out"], ["out.cnf"]),
     ("global", ["global", *THREE[:3], "3", "out", "--from", THREE[3]], ["out.route"]),
+    ("bound", ["bound", *THREE[:3]], []),
     ("check", ["check", "three.cnf", "three.lrat"], []),
     ("gen", ["gen", "1", "2", "1", "out"], ["out.arch", "out.net", "out.place", "out.route"]),
     ("trial", ["trial", "1", "2", "2", "4", "out"], ["out.w1.cnf", "out.w1.lrat", "out.route"]),
