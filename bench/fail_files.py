@@ -542,8 +542,8 @@ def main():
 
         proof = {}
         first = Row(router, fresh())
-        first.run(["route", *THREE, "2", "three"])
-        proof = {e: first.held()[f"three.{e}"] for e in ("cnf", "lrat")}
+        first.run(["route", *THREE, "2", "proof"])
+        proof = {e: first.held()[f"proof.{e}"] for e in ("cnf", "lrat")}
         table = Table(asked.rows, asked.plain)
         table.show("| what fails | status | said | what has changed |\n|---|---|---|---|")
         kinds = [simple_rows, output_rows]
