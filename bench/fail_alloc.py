@@ -167,8 +167,8 @@ def main():
             return folder
 
         first = Row(router, fresh())
-        first.run(["route", *THREE, "2", "three"])
-        proof = {e: first.held()[f"three.{e}"] for e in ("cnf", "lrat")}
+        first.run(["route", *THREE, "2", "proof"])
+        proof = {e: first.held()[f"proof.{e}"] for e in ("cnf", "lrat")}
         print("| command | allocations | what comes |\n|---|---|---|")
         for job, job_words, order in JOBS:
             if asked.job is None or asked.job in job:
