@@ -15,9 +15,7 @@ pub fn overwrites(alloc: Global, job: &Job<'_>) -> Result<bool, AllocError>
     ensures { IfOk result (λ is. is ≡ spec.overwrites (job_said job.now)) }
 {
     match *job {
-        Job::Route(job) => {
-            search_overwrites(alloc, &four_names(job.files), job.search.prefix)
-        }
+        Job::Route(job) => { search_overwrites(alloc, &four_names(job.files), job.search.prefix) }
         Job::Sweep(job) => climb_overwrites(
             alloc,
             &four_names(job.files),
@@ -56,12 +54,7 @@ fn three_names<'a>(files: ThreeNames<'a>) -> [&'a str; 3]
 }
 
 // Whether the prefix with this ending behind it is one of these names.
-fn is_named(
-    alloc: Global,
-    names: &[&str],
-    prefix: &str,
-    ending: &str,
-) -> Result<bool, AllocError>
+fn is_named(alloc: Global, names: &[&str], prefix: &str, ending: &str) -> Result<bool, AllocError>
     ensures { IfOk result
         (λ is. is ≡ is_named (map (λ name. name.now) names.now) prefix.now ending.now) }
 {
@@ -86,9 +79,11 @@ fn search_overwrites(alloc: Global, names: &[&str], prefix: &str) -> Result<bool
     ensures { IfOk result
         (λ is. is ≡ spec.search_overwrites (map (λ name. name.now) names.now) prefix.now) }
 {
-    Ok(is_named(alloc, names, prefix, ".route")?
-        || is_named(alloc, names, prefix, ".cnf")?
-        || is_named(alloc, names, prefix, ".lrat")?)
+    Ok(
+        is_named(alloc, names, prefix, ".route")?
+            || is_named(alloc, names, prefix, ".cnf")?
+            || is_named(alloc, names, prefix, ".lrat")?,
+    )
 }
 
 // Whether one that a climb may write at a width has.
@@ -103,8 +98,10 @@ fn width_overwrites(
 {
     let cnf = format!(in alloc; ".w{width}.cnf")?;
     let lrat = format!(in alloc; ".w{width}.lrat")?;
-    Ok(is_named(alloc, names, prefix, cnf.as_str())?
-        || is_named(alloc, names, prefix, lrat.as_str())?)
+    Ok(
+        is_named(alloc, names, prefix, cnf.as_str())?
+            || is_named(alloc, names, prefix, lrat.as_str())?,
+    )
 }
 
 // Whether one that a climb may write up to its last width has.
