@@ -7,7 +7,10 @@ were worked out with."""
 import sys
 from math import comb
 
+from asked import answer_help
 from crowds import Crowds
+
+answer_help(__name__, __doc__)
 
 
 def counting_down(tracks):
