@@ -9,7 +9,7 @@ use Rattle.router_top.specs.SlotNames.{OfEach, OfOne, Prefix, prefix_given}
 use Rattle.router_top.specs.declared.text_file.TextFile.{TextFile}
 use Rattle.router_top.specs.declared.text_file.TextFile.TheVariants.{Cnf, Lrat, Problem, Routed}
 use Rattle.router_words.specs.Command.{job_of}
-use Rattle.router_words.specs.Job.{CheckAsked, GlobalAsked, JobAsked, JudgeAsked, VerifyAsked, Routes, Sweeps, Encodes, Blames, Bounds, Checks, Judges, Negotiates, Verifies, Generates, Tries, job_said}
+use Rattle.router_words.specs.Job.{CheckAsked, JobAsked, JudgeAsked, VerifyAsked, Routes, Sweeps, Encodes, Blames, Bounds, Checks, Judges, Narrows, Negotiates, Verifies, Generates, Tries, job_said}
 use Rattle.router_words.specs.Word.{Word}
 use Rattle.router_words.specs.declared.fault.Refusal.{Refusal}
 use Rattle.router_words.specs.declared.job.Job.{Job}
@@ -50,9 +50,9 @@ name_of_judged ask Routed = Some ask.routed
 name_of_judged ask file = name_of_three ask.files file
 
 -- the name of the route that a search begins with, or among those of the placed netlist
-abbrev pub name_of_begun : GlobalAsked → TextFile → Option Word
-name_of_begun ask (Problem Route) = ask.from
-name_of_begun ask file = name_of_three ask.files file
+abbrev pub name_of_begun : PlacedNames → (from : Option Word) → TextFile → Option Word
+name_of_begun files from (Problem Route) = from
+name_of_begun files from file = name_of_three files file
 
 -- the name that is given for a file, if the job reads it
 abbrev pub name_given : JobAsked → TextFile → Option Word
@@ -64,7 +64,8 @@ name_given (Checks ask) file = name_of_two ask file
 name_given (Verifies ask) file = name_of_five ask file
 name_given (Judges ask) file = name_of_judged ask file
 name_given (Bounds ask) file = name_of_three ask.files file
-name_given (Negotiates ask) file = name_of_begun ask file
+name_given (Negotiates ask) file = name_of_begun ask.files ask.from file
+name_given (Narrows ask) file = name_of_begun ask.files ask.from file
 name_given (Generates ask) file = None
 name_given (Tries ask) file = None
 

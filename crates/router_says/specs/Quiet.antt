@@ -2,9 +2,11 @@
 use Rattle.std.specs.Prelude.{Bool, false, ◌==◌}
 use Rattle.router_top.specs.Report.{status_of}
 use Rattle.router_top.specs.declared.outcome.Outcome.{Outcome}
-use Rattle.router_top.specs.declared.outcome.Outcome.TheVariants.{Bound}
+use Rattle.router_top.specs.declared.outcome.Outcome.TheVariants.{Bound, Narrowed}
 
--- whether the run came to what was asked for; of a bound it is said why that is one
+-- whether the run came to what was asked for; of a bound it is said why that is one, and of a width
+-- that was found how near the least it is
 abbrev pub is_quiet : Outcome → Bool
 is_quiet (Bound tracks cells nets) = false
+is_quiet (Narrowed tracks width) = false
 is_quiet outcome = status_of outcome == 0

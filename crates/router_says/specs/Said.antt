@@ -18,7 +18,7 @@ use Rattle.router_top.specs.SlotNames.{OfEach, OfOne, Prefix, slot_name}
 use Rattle.router_top.specs.declared.outcome.Obstacle.{Obstacle}
 use Rattle.router_top.specs.declared.outcome.Obstacle.TheVariants.{Order, Pins}
 use Rattle.router_top.specs.declared.outcome.Outcome.{Outcome}
-use Rattle.router_top.specs.declared.outcome.Outcome.TheVariants.{Bound, NotAccepted, NotLegal, NotSymmetric, InputFault, Limit, ReadFault, Undecided, Unroutable, WriteFault, Usage, OutOfMemory, Unfound}
+use Rattle.router_top.specs.declared.outcome.Outcome.TheVariants.{Bound, NotAccepted, NotLegal, NotSymmetric, InputFault, Limit, ReadFault, Undecided, Unroutable, WriteFault, Usage, OutOfMemory, Unfound, Narrowed, Beyond}
 use Rattle.router_top.specs.declared.slot.Slot.{Slot as SlotOf}
 use Rattle.router_top.specs.declared.slot.Slot.TheVariants.{Said as SaidSlot}
 use Rattle.router_top.specs.declared.text_file.TextFile.{TextFile}
@@ -201,6 +201,23 @@ bound_said tracks cells nets =
     ++ (decimal cells ++ (codes " cells.\nThis placement may need more, "
     ++ codes "and another one may do with fewer."))))))
 
+-- the width that was found is the least of the placement, or how near that it is
+abbrev pub least_said : (width : ℕ) → List ℕ
+least_said width =
+    decimal width ++ (codes " tracks are the least that this placement needs: a route with them "
+    ++ (codes "was found, and the cut that the first line names asks for as many, whatever the "
+    ++ codes "global route."))
+
+abbrev pub between_said : (tracks width : ℕ) → List ℕ
+between_said tracks width =
+    codes "This placement needs from " ++ (decimal tracks ++ (codes " to " ++ (decimal width
+    ++ (codes " tracks: the cut that the first line names asks for the former, whatever the global "
+    ++ codes "route, and a route with the latter was found.\nWhether fewer will do is open."))))
+
+abbrev pub narrowed_said : (tracks width : ℕ) → List ℕ
+narrowed_said tracks width =
+    if nat_lt tracks width then between_said tracks width else least_said width
+
 -- ---- what failed
 
 abbrev pub memory_said : Option Prefix → List ℕ
@@ -269,6 +286,10 @@ Says before now words asked errors (Unroutable width) said =
 Says before now words asked errors (Undecided width learned) said =
     SaysAnd (Sees before now asked width true) (undecided_said asked width learned) said
 Says before now words asked errors (Bound tracks cells nets) said =
+    JustSays before now (bound_said tracks cells nets) said
+Says before now words asked errors (Narrowed tracks width) said =
+    JustSays before now (narrowed_said tracks width) said
+Says before now words asked errors (Beyond tracks cells nets) said =
     JustSays before now (bound_said tracks cells nets) said
 Says before now words asked errors (Unfound width rounds) said =
     JustSays before now (unfound_said asked width rounds) said

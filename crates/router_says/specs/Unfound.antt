@@ -1,7 +1,7 @@
 -- What is said where rounds have found no route of a placement.
 use Rattle.std.specs.Prelude.{ℕ, ◌++◌, ◌*◌, Bool, List, [], codes, decimal, false, min, nat_le, nat_lt, Option, Some, if◌then◌else◌}
 use Rattle.fpga_types.specs.declared.limits.TheConstants.{WIDTH_LIMIT}
-use Rattle.router_words.specs.Job.{JobAsked, Negotiates}
+use Rattle.router_words.specs.Job.{JobAsked, Narrows, Negotiates}
 use Rattle.router_words.specs.declared.limits.TheConstants.{ROUND_LIMIT}
 
 -- in how many rounds none was found
@@ -21,6 +21,7 @@ more_rounds_said rounds =
 -- the words let a net have several wires of a cell
 abbrev pub is_free : Option JobAsked → Bool
 is_free (Some (Negotiates job)) = job.free
+is_free (Some (Narrows job)) = job.free
 is_free asked = false
 
 -- a net can be let have several wires of a cell, where it may not yet

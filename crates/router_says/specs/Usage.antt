@@ -1,7 +1,7 @@
 -- What is said of words that are not taken.
 use Rattle.std.specs.Prelude.{ℕ, ◌++◌, ◌==◌, List, [], ◌∷◌, bytes_eq, codes, if◌then◌else◌}
 use Rattle.router_says.specs.declared.usage.Command.{Command}
-use Rattle.router_says.specs.declared.usage.Command.TheVariants.{Route, Sweep, Encode, Core, Check, Verify, Judge, Bound, Global, Gen, Trial}
+use Rattle.router_says.specs.declared.usage.Command.TheVariants.{Route, Sweep, Encode, Core, Check, Verify, Judge, Bound, Global, Least, Gen, Trial}
 use Rattle.router_words.specs.Word.{Word}
 
 -- the command that a word names; route where it names none
@@ -15,6 +15,7 @@ command_of name =
     if bytes_eq name (codes "judge") then Judge else
     if bytes_eq name (codes "bound") then Bound else
     if bytes_eq name (codes "global") then Global else
+    if bytes_eq name (codes "least") then Least else
     if bytes_eq name (codes "gen") then Gen else
     if bytes_eq name (codes "trial") then Trial else Route
 
@@ -27,8 +28,8 @@ command_in (word ∷ words) = command_of word
 abbrev pub usage_why : (code : ℕ) → (clash : List ℕ) → List ℕ
 usage_why code clash =
     if code == 1 then
-    codes "The first word is to be a command: route, sweep, global, bound, encode, core, check, "
-    ++ codes "verify, judge, gen or trial.\n" else
+    codes "The first word is to be a command: route, sweep, global, least, bound, encode, core, "
+    ++ codes "check, verify, judge, gen or trial.\n" else
     if code == 3 then codes "A number is missing or out of its range.\n" else
     if code == 4 then clash else
     if code == 5
@@ -67,6 +68,9 @@ takes_said Bound = codes "bound ARCH NET PLACE"
 takes_said Global =
     codes "global ARCH NET PLACE WIDTH PREFIX [--free] [--from ROUTE] [--rounds N], WIDTH from "
     ++ codes "1 to 64, N to 100,000"
+takes_said Least =
+    codes "least ARCH NET PLACE MAX PREFIX [--free] [--from ROUTE] [--rounds N], MAX from 1 to "
+    ++ codes "64, N to 100,000"
 takes_said Gen = codes "gen SEED NX NETS PREFIX, NX from 1 to 100, NETS from 1 to 10,000"
 takes_said Trial =
     codes "trial SEED NX NETS MAX PREFIX [--conflicts N] [--keep] [--count | --reach L], NX "
@@ -83,6 +87,7 @@ example_said Verify = codes "verify design.arch design.net design.place design.r
 example_said Judge = codes "judge design.arch design.net design.place 9 out.route"
 example_said Bound = codes "bound design.arch design.net design.place"
 example_said Global = codes "global design.arch design.net design.place 5 out"
+example_said Least = codes "least design.arch design.net design.place 12 out"
 example_said Gen = codes "gen 1 20 300 made"
 example_said Trial = codes "trial 1 20 300 12 out"
 

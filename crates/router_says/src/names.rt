@@ -19,12 +19,12 @@ ghost use Rattle.router_says.specs.Names.{
   reach_of as reach_of_job,
 };
 ghost use Rattle.router_top.specs.declared.text_file.TextFile.TheVariants.{Problem};
-ghost use Rattle.router_words.specs.Job.{check_said, global_said, judge_said, verify_said};
+ghost use Rattle.router_words.specs.Job.{check_said, judge_said, verify_said};
 ghost use Rattle.router_words.specs.Word.{words_of};
 
 use fpga_problem::{FourNames, TextFile as ProblemFile, ThreeNames};
 use router_top::TextFile;
-use router_words::{CheckJob, GlobalJob, Job, JudgeJob, Method, VerifyJob, WordsFault, read_words};
+use router_words::{CheckJob, Job, JudgeJob, Method, VerifyJob, WordsFault, read_words};
 use std::alloc::{AllocError, Global};
 
 /// The job that the words ask for, if they ask for one.
@@ -54,7 +54,8 @@ pub(crate) fn given_name<'a>(job: Option<Job<'a>>, file: TextFile) -> Option<&'a
         Job::Verify(job) => name_of_five(job, file),
         Job::Judge(job) => name_of_judged(job, file),
         Job::Bound(job) => name_of_three(job.files, file),
-        Job::Global(job) => name_of_begun(job, file),
+        Job::Global(job) => name_of_begun(job.files, job.from, file),
+        Job::Least(job) => name_of_begun(job.files, job.from, file),
         Job::Gen(_) | Job::Trial(_) => None,
     }
 }
@@ -118,12 +119,17 @@ fn name_of_judged<'a>(job: JudgeJob<'a>, file: TextFile) -> Option<&'a str>
     }
 }
 
-fn name_of_begun<'a>(job: GlobalJob<'a>, file: TextFile) -> Option<&'a str>
-    ensures { option_copied result ≡ name_of_begun (global_said job.entry) file }
+fn name_of_begun<'a>(
+    files: ThreeNames<'a>,
+    from: Option<&'a str>,
+    file: TextFile,
+) -> Option<&'a str>
+    ensures { option_copied result
+        ≡ name_of_begun (placed_names_said files.entry) (option_copied from.entry) file }
 {
     match file {
-        TextFile::Problem(ProblemFile::Route) => job.from,
-        _ => name_of_three(job.files, file),
+        TextFile::Problem(ProblemFile::Route) => from,
+        _ => name_of_three(files, file),
     }
 }
 
@@ -148,6 +154,7 @@ pub(crate) fn files_written(job: Option<Job<'_>>) -> Option<Written<'_>>
         Job::Core(job) => Some(Written::One(job.prefix)),
         Job::Encode(job) => Some(Written::One(job.prefix)),
         Job::Global(job) => Some(Written::One(job.prefix)),
+        Job::Least(job) => Some(Written::One(job.prefix)),
         Job::Gen(job) => Some(Written::One(job.prefix)),
         Job::Sweep(job) => Some(Written::Each(job.search.prefix)),
         Job::Trial(job) => Some(Written::Each(job.search.prefix)),
@@ -173,6 +180,7 @@ pub(crate) fn reach_asked(job: Option<Job<'_>>) -> Option<u32>
         | Job::Judge(_)
         | Job::Bound(_)
         | Job::Global(_)
+        | Job::Least(_)
         | Job::Gen(_) => None,
     }
 }

@@ -163,6 +163,7 @@ fn may_count(job: Option<Job<'_>>) -> bool
         | Job::Judge(_)
         | Job::Bound(_)
         | Job::Global(_)
+        | Job::Least(_)
         | Job::Gen(_)
         | Job::Trial(_) => false,
     }
@@ -185,6 +186,7 @@ fn may_order(job: Option<Job<'_>>) -> bool
         | Job::Judge(_)
         | Job::Bound(_)
         | Job::Global(_)
+        | Job::Least(_)
         | Job::Gen(_)
         | Job::Trial(_) => false,
     }

@@ -98,6 +98,7 @@ fn is_free(job: Option<Job<'_>>) -> bool
 {
     match job {
         Some(Job::Global(job)) => job.free,
+        Some(Job::Least(job)) => job.free,
         _ => false,
     }
 }

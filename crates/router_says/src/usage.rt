@@ -25,6 +25,7 @@ pub(crate) enum Command {
     Judge,
     Bound,
     Global,
+    Least,
     Gen,
     Trial,
 }
@@ -75,6 +76,9 @@ fn command_of(name: &str) -> Command
     if name == "global" {
         return Command::Global;
     }
+    if name == "least" {
+        return Command::Least;
+    }
     if name == "gen" {
         return Command::Gen;
     }
@@ -115,8 +119,8 @@ fn usage_why(code: u32, clash: &'static str) -> &'static str
 {
     match code {
         1 => {
-            "The first word is to be a command: route, sweep, global, bound, encode, core, check, \
-             verify, judge, gen or trial.\n"
+            "The first word is to be a command: route, sweep, global, least, bound, encode, core, \
+             check, verify, judge, gen or trial.\n"
         }
         3 => "A number is missing or out of its range.\n",
         4 => clash,
@@ -142,6 +146,7 @@ fn clash_said(command: Command) -> &'static str
         | Command::Judge
         | Command::Bound
         | Command::Global
+        | Command::Least
         | Command::Gen => {
             "--pin, --symmetry and --reach exclude one another, and so do --count and --reach; \
              --seed is the seed of searches that take turns: give their number by --members.\n"
@@ -180,6 +185,10 @@ fn takes_said(command: Command) -> &'static str
             "global ARCH NET PLACE WIDTH PREFIX [--free] [--from ROUTE] [--rounds N], WIDTH from \
              1 to 64, N to 100,000"
         }
+        Command::Least => {
+            "least ARCH NET PLACE MAX PREFIX [--free] [--from ROUTE] [--rounds N], MAX from 1 to \
+             64, N to 100,000"
+        }
         Command::Gen => "gen SEED NX NETS PREFIX, NX from 1 to 100, NETS from 1 to 10,000",
         Command::Trial => {
             "trial SEED NX NETS MAX PREFIX [--conflicts N] [--keep] [--count | --reach L], NX \
@@ -202,6 +211,7 @@ fn example_said(command: Command) -> &'static str
         Command::Judge => "judge design.arch design.net design.place 9 out.route",
         Command::Bound => "bound design.arch design.net design.place",
         Command::Global => "global design.arch design.net design.place 5 out",
+        Command::Least => "least design.arch design.net design.place 12 out",
         Command::Gen => "gen 1 20 300 made",
         Command::Trial => "trial 1 20 300 12 out",
     }

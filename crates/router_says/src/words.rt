@@ -26,7 +26,7 @@ ghost use Rattle.router_top.specs.declared.text_file.TextFile.TheVariants.{Lrat,
 ghost use Rattle.router_words.specs.Word.{words_of};
 
 use crate::at_fault::append_at_fault;
-use crate::bounds::append_bound;
+use crate::bounds::{append_bound, append_narrowed};
 use crate::faults::{SystemErrors, append_unread, append_unwritten};
 use crate::names::{job_in, may_have_several};
 use crate::refused::{
@@ -82,7 +82,7 @@ fn is_quiet(outcome: &Outcome) -> bool
     ensures { result ≡ is_quiet outcome.now }
 {
     match outcome {
-        Outcome::Bound { .. } => false,
+        Outcome::Bound { .. } | Outcome::Narrowed { .. } => false,
         _ => status(outcome) == 0,
     }
 }
@@ -116,7 +116,13 @@ fn append_meaning<D: Desk>(
             tracks,
             cells,
             nets,
+        }
+        | Outcome::Beyond {
+            tracks,
+            cells,
+            nets,
         } => append_bound(out, tracks, cells, nets),
+        Outcome::Narrowed { tracks, width } => append_narrowed(out, tracks, width),
         Outcome::Unfound { width, rounds } => append_unfound(out, job, width, rounds),
         Outcome::Usage { code } => append_usage(out, words, code),
         Outcome::ReadFault { file } => append_unread(out, job, file, errors.reading),

@@ -20,11 +20,12 @@ use Rattle.router_top.specs.Placed.{IsJudgement, JudgesPlaced, ReadsRouted}
 use Rattle.router_top.specs.Search.{Search, clauses_held, core_search, route_search, sweep_of, sweep_search, clauses_at}
 use Rattle.router_top.specs.Suited.{IsLeastUnsuited, IsTrueOfSuited, IsUnsuited, Suits, is_suited, obstacle_to}
 use Rattle.router_top.specs.Truth.{Agrees, AreBounds, IsOpenBelow, IsReached, IsTrueAt, IsTrueOf, IsTrueOfEncoding, IsTrueOfJob, IsTrueOfSearch, IsTrueOfSuitedSearch, IsTrueOfWork, IsTrueOfCount, IsTrueBy}
-use Rattle.router_top.specs.Subject.{FileMap, FileNames, IsHalted, RoutingProblem, HasFew, job_of, Blames, Bounds, CheckAsked, Checks, Encodes, Generates, JobAsked, JudgeAsked, Judges, Negotiates, RecipeAsked, Routes, Sweeps, TrialAsked, Tries, Verifies, VerifyAsked, Word, Method, Outcome, Done, NotSymmetric, Undecided, Usage}
+use Rattle.router_top.specs.Subject.{FileMap, FileNames, IsHalted, RoutingProblem, HasFew, job_of, Blames, Bounds, CheckAsked, Checks, Encodes, Generates, JobAsked, JudgeAsked, Judges, Negotiates, RecipeAsked, Routes, Sweeps, TrialAsked, Tries, Verifies, VerifyAsked, Word, Method, Outcome, Done, NotSymmetric, Undecided, Usage, Narrows}
 use Rattle.router_top.specs.declared.outcome.Obstacle.{Obstacle}
 use Rattle.router_top.proofs.GeneratedLaws.{one-made}
 use Rattle.router_top.proofs.PlacedLaws.{placed-agrees}
 use Rattle.router_top.proofs.GlobalLaws.{global-agrees}
+use Rattle.router_top.proofs.LeastLaws.{least-agrees}
 use Rattle.router_top.proofs.ServeLaws.{one-copy}
 use Rattle.router_top.proofs.StopLaws.{lack-poses, one-lack}
 use Rattle.router_top.specs.declared.size_cause.SizeCause.{SizeCause}
@@ -239,8 +240,8 @@ judge-agrees job files a b h g =
 bounds-agree : (placed : PlacedNetlist) (a b : Outcome) → IsTrueOfCut placed a
     → IsTrueOfCut placed b → Agrees a b
 bounds-agree placed a b (cut, best, is) (other, best_other, is_other) =
-    inr (inr (inr (subst (λ (o : Outcome). AreBounds o b) (sym is)
-    (subst (λ (o : Outcome). AreBounds (bound_outcome cut) o) (sym is_other) tt))))
+    inr (inr (inr (inl (subst (λ (o : Outcome). AreBounds o b) (sym is)
+    (subst (λ (o : Outcome). AreBounds (bound_outcome cut) o) (sym is_other) tt)))))
 
 -- ---- a generated problem
 
@@ -319,6 +320,7 @@ job-agrees crowd (Judges job) files a b h g = judge-agrees job files a b h g
 job-agrees crowd (Bounds job) files a b h g =
     placed-agrees files job.files IsTrueOfCut a b h g (λ placed h g. bounds-agree placed a b h g)
 job-agrees crowd (Negotiates job) files a b h g = global-agrees job files a b h g
+job-agrees crowd (Narrows job) files a b h g = least-agrees job files a b h g
 job-agrees crowd (Generates job) files a b h g =
     recipe-agrees job.recipe (λ said. said ≡ Done) a b h g (λ s t. inl (s ∙ sym t))
 job-agrees crowd (Tries job) files a b h g = trial-agrees crowd job (Some files) a b h g

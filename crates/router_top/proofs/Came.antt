@@ -19,15 +19,25 @@ use Rattle.router_top.specs.Saying.{HasNoLead, IsLead, Leads, more_said}
 use Rattle.router_top.specs.Search.{proof_files, route_file}
 use Rattle.router_top.specs.Truth.{IsTrueOf, IsTrueOfSearch}
 use Rattle.router_top.specs.Work.{Finds}
-use Rattle.router_top.specs.Subject.{Bytes, ShelfState, RouteText, Step, Word, Outcome, Bound, Done, Unroutable, WriteFault, OutOfMemory, Said, Routed}
+use Rattle.router_top.specs.Subject.{Bytes, ShelfState, RouteText, Step, Word, Outcome, Bound, Done, Unroutable, WriteFault, OutOfMemory, Said, Routed, Narrowed, Beyond, Unfound}
 use Rattle.router_top.proofs.WrittenLaws.{AreApart}
 
--- no fault of the shelf, no width that is unroutable, and no bound
+-- no fault of the shelf, no width that is unroutable, and nothing that a cut or a search for a route
+-- of a placement tells
 abbrev pub IsSpared : Outcome → Type 0
 IsSpared (WriteFault slot) = ⊥
 IsSpared (Unroutable width) = ⊥
 IsSpared (Bound tracks cells nets) = ⊥
+IsSpared (Narrowed tracks width) = ⊥
+IsSpared (Beyond tracks cells nets) = ⊥
+IsSpared (Unfound width rounds) = ⊥
 IsSpared outcome = Unit {0}
+
+-- after it no file need have been written
+abbrev pub NeedsNoFile : Outcome → Type 0
+NeedsNoFile (WriteFault slot) = ⊥
+NeedsNoFile (Unroutable width) = ⊥
+NeedsNoFile outcome = Unit {0}
 
 -- no fault of what is said
 abbrev pub IsHeard : Outcome → Type 0
@@ -90,9 +100,10 @@ pub record HasSearched (words : List Word) (at : Scene) (o : Outcome) : Type 0 w
 abbrev pub IsDone : Outcome → Type 0
 IsDone Done = Unit {0}
 IsDone (Routed width) = Unit {0}
+IsDone (Narrowed tracks width) = Unit {0}
 IsDone outcome = ⊥
 
--- files were written in silence, one after the other, or not all of them
+-- once a lead was said, if there was one, files were written one after the other, or not all of them
 pub record HasWritten (words : List Word) (at : Scene) (o : Outcome) : Type 0 where
   pub done : Outcome
   pub is_done : IsDone done
@@ -100,8 +111,13 @@ pub record HasWritten (words : List Word) (at : Scene) (o : Outcome) : Type 0 wh
   pub of : AreFilesOf words at.desk.files files
   pub apart : AreApart files
   pub heard : AreHeard files
-  pub writes : WritesFiles done files at.shelf at.shelf_now o
-  pub leads : HasNoLead words o
+  pub between : ShelfState
+  pub begun : between.files ≡ at.shelf.files
+  pub calm : between.faults ≡ at.shelf.faults
+  pub lead : Bytes
+  pub said : between.said ≡ more_said at.shelf.said lead
+  pub writes : WritesFiles done files between at.shelf_now o
+  pub leads : Leads words at.desk.files at.shelf.files at.shelf_now.files o lead
   pub means : o ≡ done → AreWritten files at.shelf.files at.shelf_now.files
       → Means words at.desk.files at.shelf.files at.shelf_now.files done
   pub told : IsTrueOf words at.desk.files done
@@ -118,21 +134,17 @@ pub record IsCut (words : List Word) (at : Scene) (o : Outcome) : Type 0 where
   pub within : count ≤ length lead
   pub said : at.shelf_now.said ≡ more_said at.shelf.said (take count lead)
 
--- a bound was found: what there is to say before it was said, and no file was written
+-- a cut was found, or no route was: what there is to say before the outcome was said, and no file was
+-- written
 pub record HasTold (words : List Word) (at : Scene) (o : Outcome) : Type 0 where
-  pub tracks : ℕ
-  pub cells : ℕ
-  pub nets : ℕ
-  pub is : o ≡ Bound tracks cells nets
+  pub fileless : NeedsNoFile o
   pub files : at.shelf_now.files ≡ at.shelf.files
   pub faults : at.shelf_now.faults ≡ at.shelf.faults
   pub lead : Bytes
-  pub leads : IsLead words at.desk.files at.shelf.files at.shelf_now.files
-      (Bound tracks cells nets) lead
+  pub leads : Leads words at.desk.files at.shelf.files at.shelf_now.files o lead
   pub said : at.shelf_now.said ≡ more_said at.shelf.said lead
-  pub means : Means words at.desk.files at.shelf.files at.shelf_now.files
-      (Bound tracks cells nets)
-  pub told : IsTrueOf words at.desk.files (Bound tracks cells nets)
+  pub means : Means words at.desk.files at.shelf.files at.shelf_now.files o
+  pub told : IsTrueOf words at.desk.files o ⊎ (o ≡ OutOfMemory)
 
 -- one of these
 pub data Came (words : List Word) (at : Scene) (o : Outcome) : Type 0 where

@@ -2,7 +2,7 @@
 use Rattle.std.specs.Prelude.{◌<◌, Bool, MatchResult, None, Some, Vec, flat_map}
 use Rattle.std.specs.Global.{Global}
 use Rattle.std.specs.List.{range_with_len}
-use Rattle.std.proofs.Common.{◌≡◌, ◌∙◌, ◌⊎◌, ℕ, ◌+◌, ◌-◌, ◌≤◌, true, false, List, [], ◌∷◌, ◌++◌, length, Option, Ok, Err, Result, refl, sym, ap, subst, inl, inr, arith, take}
+use Rattle.std.proofs.Common.{◌≡◌, ◌∙◌, ◌⊎◌, ℕ, ◌+◌, ◌-◌, ◌≤◌, true, false, List, [], ◌∷◌, ◌++◌, length, Option, Ok, Err, Result, refl, sym, ap, subst, inl, inr, arith, take, codes}
 use Rattle.desk_io.specs.Files.{HasRisen}
 use Rattle.desk_io.proofs.FileLemmas.{has_risen}
 use Rattle.fpga_problem.proofs.SourceLemmas.{calm-reads}
@@ -10,11 +10,13 @@ use Rattle.fpga_problem.specs.Files.{PosesPlaced}
 use Rattle.fpga_types.specs.Given.{IsGiven}
 use Rattle.fpga_types.specs.Problem.{PlacedNetlist}
 use Rattle.fpga_types.specs.declared.limits.TheConstants.{WIDTH_LIMIT}
+use Rattle.fpga_route.specs.Printed.{printed}
+use Rattle.route_bound.specs.Crossing.{IsBound}
 use Rattle.route_bound.specs.Cuts.{IsBestCut}
 use Rattle.route_bound.specs.declared.cut.Cut.{Cut as BestCut}
 use Rattle.route_sweep.specs.Climb.{EndsAt}
 use Rattle.route_sweep.specs.declared.found.FileSlot.{FileSlot}
-use Rattle.route_sweep.specs.declared.found.FileSlot.TheVariants.{Clauses}
+use Rattle.route_sweep.specs.declared.found.FileSlot.TheVariants.{Clauses, Route as RouteSlot}
 use Rattle.route_sweep.specs.declared.found.Found.{Found}
 use Rattle.route_sweep.specs.declared.found.Stop.{Stop}
 use Rattle.route_sweep.specs.declared.found.Stop.TheVariants.{Fault, TooManyClauses, TooManyHeld, Memory}
@@ -40,26 +42,28 @@ use Rattle.router_top.specs.Check.{JudgesTo, ChecksTo, cnf_source, judgement_out
 use Rattle.router_top.specs.Comes.{ComesTo, lower_files}
 use Rattle.router_top.specs.Generated.{PosesNone, generated_files, texts_of}
 use Rattle.router_top.specs.Global.{HasFiles, IsTrueOfFound, LeavesFound, found_file}
+use Rattle.router_top.specs.Least.{AreLeastLines, IsCutOfLeast, IsNarrowing, IsOfCut, IsTrueOfLeast, LeavesCut, LeavesWidths, at_width, beyond_outcome, last_asked}
 use Rattle.router_top.specs.JobFiles.{IsClimb, LeavesWhole}
 use Rattle.router_top.specs.Means.{IsJudged, IsJudgedPlaced, Means}
 use Rattle.router_top.specs.Method.{IsRoutingBy, clauses_by, IsCrowdFor}
 use Rattle.router_top.specs.Placed.{IsJudgement, IsTrueJudgement, JudgesPlaced, ReadsRouted}
 use Rattle.router_top.specs.Report.{climbed_outcome, found_outcome, written_outcome}
 use Rattle.router_top.specs.Suited.{LeavesPrepared, EncodeLeaves, IsUnsuited, LeavesSuited, RouteLeaves, Suits, SweepLeaves}
-use Rattle.router_top.specs.Run.{Leaves, LeavesJob, LeavesPlaced, LeavesWork, Scene, TriesGenerated, WritesGenerated, LeavesGlobal}
+use Rattle.router_top.specs.Run.{Leaves, LeavesJob, LeavesPlaced, LeavesWork, Scene, TriesGenerated, WritesGenerated, LeavesGlobal, LeavesLeast}
 use Rattle.router_top.specs.Saying.{more_said, AreCutLines, AreNetLines, IsOfBound, IsUnroutable, Leads}
 use Rattle.router_top.specs.Search.{files_of, route_search, search_asked, sweep_of, sweep_search, Search, core_search, lower_widths, proof_files, route_file, HasCrowd, clauses_at}
 use Rattle.router_top.specs.Work.{trial_line, Encodes, LeavesRoute, Sweeps, WritesClauses, clauses_file, Finds}
 use Rattle.router_top.specs.Truth.{IsTrueOf, IsTrueOfEncoding, IsTrueOfJob, IsTrueOfSearch, IsTrueOfSuitedSearch, IsTrueOfWork}
-use Rattle.router_top.specs.Written.{JobFile, with_files, AreWritten}
+use Rattle.router_top.specs.Written.{JobFile, WritesFiles, job_file, with_files, AreWritten}
 use Rattle.router_top.specs.Core.{LeavesCore, SaysBlamed, SaysLead}
 use Rattle.router_top.specs.Headline.{IsRefuted}
-use Rattle.router_top.specs.Subject.{Bytes, FileMap, ShelfState, after_say, FileNames, Poses, IsHalted, IsStopped, Says, RoutingProblem, RouteText, Cnf, Step, job_of, BoundAsked, Bounds, CheckAsked, Checks, EncodeAsked, Encodes as EncodesJob, GenAsked, Generates, JobAsked, JudgeAsked, Judges, Negotiates, RouteAsked, Routes, SweepAsked, Sweeps as SweepsJob, TrialAsked, Tries as TriesJob, Verifies, VerifyAsked, Blames, CoreAsked, Word, Method, Outcome, Bound, Done, Usage, WriteFault, OutOfMemory, Unroutable, Limit, File, GlobalAsked, Routed as IsRoutedAt}
+use Rattle.router_top.specs.Subject.{Bytes, FileMap, ShelfState, after_say, FileNames, Poses, IsHalted, IsStopped, Says, RoutingProblem, RouteText, Cnf, Step, job_of, BoundAsked, Bounds, CheckAsked, Checks, EncodeAsked, Encodes as EncodesJob, GenAsked, Generates, JobAsked, JudgeAsked, Judges, Negotiates, RouteAsked, Routes, SweepAsked, Sweeps as SweepsJob, TrialAsked, Tries as TriesJob, Verifies, VerifyAsked, Blames, CoreAsked, Word, Method, Outcome, Bound, Done, Usage, WriteFault, OutOfMemory, Unroutable, Limit, File, GlobalAsked, LeastAsked, Narrows, Narrowed, Beyond, Unfound, Slot, Routed as IsRoutedAt}
 use Rattle.router_top.specs.declared.text_file.TextFile.TheVariants.{Cnf as CnfFile, Lrat, Routed}
-use Rattle.router_top.proofs.Came.{Came, Cut, HasCome, Idle, IsSpared, Searched, Told, Wrote, ended_with}
+use Rattle.router_top.proofs.Came.{Came, Cut, HasCome, Idle, IsSpared, NeedsNoFile, Searched, Told, Wrote, ended_with}
 use Rattle.router_top.proofs.ClimbLaws.{climbed-calm, climbed-logs, climbed-outcome, climbed-said}
 use Rattle.router_top.proofs.GeneratedLaws.{made-poses, problem-apart}
 use Rattle.router_top.proofs.GlobalLaws.{calm-lacking, lacking-holds, routing-said}
+use Rattle.router_top.proofs.LeastLaws.{says-at}
 use Rattle.router_top.proofs.LeftLaws.{none-left, log-left}
 use Rattle.router_top.proofs.LiteralLaws.{log_literals}
 use Rattle.router_top.proofs.NameLaws.{proof-apart, proofs-then-proof, proofs-then-route, route-apart}
@@ -86,6 +90,24 @@ spared-boundless o spared = λ bad. bad
 -- `core` goes by no crowd
 core-crowd : (job : CoreAsked) (p : RoutingProblem) → HasCrowd (core_search job) p
 core-crowd job p = λ (goes : false ≡ true). cc
+
+-- nor of what a placement needs
+spared-spanless : (o : Outcome) → IsSpared o → ¬ IsNarrowing o
+spared-spanless (Narrowed tracks width) spared = absurd spared
+spared-spanless (Beyond tracks cells nets) spared = absurd spared
+spared-spanless (Unfound width rounds) spared = absurd spared
+spared-spanless o spared = λ bad. bad
+
+-- what comes of the file of a route tells of the cut that was said before it
+tells-of-cut : (cut : BestCut) (width : ℕ) (name text : Bytes) (before now : ShelfState)
+    (o : Outcome)
+    → WritesFiles (Narrowed cut.tracks width) (job_file (File RouteSlot) name text ∷ []) before now o
+    → IsOfCut cut o
+tells-of-cut cut width name text before now o (inl (is, written)) =
+    subst (IsOfCut cut) (sym is) refl
+tells-of-cut cut width name text before now o (inr (slot, inl (failed, fails), is)) =
+    subst (IsOfCut cut) (sym is) (subst (λ (s : Slot). IsOfCut cut (WriteFault s)) (sym failed) tt)
+tells-of-cut cut width name text before now o (inr (slot, inr none, is)) = absurd none
 
 module _ (words : List Word) (at : Scene) where
   abbrev MeansHere : Outcome → Type 0
@@ -123,6 +145,7 @@ module _ (words : List Word) (at : Scene) where
       no_trial = none;
       no_nets = λ job is. spared-routable o spares.0;
       no_cut = λ job is. spared-boundless o spares.0;
+      no_span = λ job is. spared-spanless o spares.0;
     };
     means = spares.1;
     told = told;
@@ -254,6 +277,7 @@ module _ (words : List Word) (at : Scene) where
           no_trial = λ other is. cc;
           no_nets = λ other is unroutable. cc;
           no_cut = λ other is bound. cc;
+          no_span = λ other is narrowing. cc;
         },
       );
       said = finds-silent (route_search job h.crowd) p job.search.width at.shelf at.shelf_now h.came
@@ -290,6 +314,7 @@ module _ (words : List Word) (at : Scene) where
           no_trial = λ other is. cc;
           no_nets = λ other is_core unroutable. routable (subst IsUnroutable is unroutable);
           no_cut = λ other is_bound bound. cc;
+          no_span = λ other is_span narrowing. cc;
         },
       );
       said = ap (λ (s : ShelfState). s.said) same
@@ -502,6 +527,11 @@ module _ (words : List Word) (at : Scene) where
     written-came (Ok written) o is h = Wrote (record {
       done = Done;
       is_done = tt;
+      between = at.shelf;
+      begun = refl;
+      calm = refl;
+      lead = [];
+      said = sym (more-none at.shelf.said);
       files = clauses_file job crowd p ∷ [];
       of = inr (inl (record {
         job = job;
@@ -516,11 +546,15 @@ module _ (words : List Word) (at : Scene) where
       apart = (tt, tt);
       heard = (tt, tt);
       writes = inl (is, h.2);
-      leads = record {
-        no_trial = λ other is. cc;
-        no_nets = λ other is unroutable. cc;
-        no_cut = λ other is bound. cc;
-      };
+      leads = inr (
+        refl,
+        record {
+          no_trial = λ other is. cc;
+          no_nets = λ other is unroutable. cc;
+          no_cut = λ other is bound. cc;
+          no_span = λ other is narrowing. cc;
+        },
+      );
       means = λ done written. inl (record {
         job = job;
         p = p;
@@ -537,6 +571,11 @@ module _ (words : List Word) (at : Scene) where
     written-came (Err (Fault slot)) o is h = Wrote (record {
       done = Done;
       is_done = tt;
+      between = at.shelf;
+      begun = refl;
+      calm = refl;
+      lead = [];
+      said = sym (more-none at.shelf.said);
       files = clauses_file job crowd p ∷ [];
       of = inr (inl (record {
         job = job;
@@ -555,11 +594,15 @@ module _ (words : List Word) (at : Scene) where
         inl (refl, h.2),
         is ∙ ap (λ (s : FileSlot). WriteFault (File s)) h.0,
       );
-      leads = record {
-        no_trial = λ other is. cc;
-        no_nets = λ other is unroutable. cc;
-        no_cut = λ other is bound. cc;
-      };
+      leads = inr (
+        refl,
+        record {
+          no_trial = λ other is. cc;
+          no_nets = λ other is unroutable. cc;
+          no_cut = λ other is bound. cc;
+          no_span = λ other is narrowing. cc;
+        },
+      );
       means = λ done written. cc;
       told = encode-true Done (inr (suits, (known, inr (h.1, refl))));
     })
@@ -750,20 +793,17 @@ module _ (words : List Word) (at : Scene) where
 
       said-came : (o : Outcome) → SaysCut placed.netlist cut at.shelf at.shelf_now o
           → Came words at o
-      said-came o (inl (now, is)) = Told (record {
-        tracks = cut.tracks;
-        cells = cut.cells;
-        nets = length cut.nets;
-        is = is;
+      said-came o (inl (now, is)) = subst (Came words at) (sym is) (Told (record {
+        fileless = tt;
         files = ap (λ (s : ShelfState). s.files) now;
         faults = ap (λ (s : ShelfState). s.faults) now;
         lead = cut_lines placed.netlist cut;
-        leads = inr (inr cut-named);
+        leads = inl (inr (inr (inl cut-named)));
         said = ap (λ (s : ShelfState). s.said) now;
         means = bounded;
-        told = true-of (Bounds job) asked (bound_outcome cut)
-            (inr (placed, poses, (cut, best, refl)));
-      })
+        told = inl (true-of (Bounds job) asked (bound_outcome cut)
+            (inr (placed, poses, (cut, best, refl))));
+      }))
       said-came o (inr (fails, is)) = Cut (record {
         is = is;
         whole = none-left words at.desk.files at.shelf.files at.shelf_now.files
@@ -771,7 +811,7 @@ module _ (words : List Word) (at : Scene) where
         risen = has_risen _ _ fails.failed.risen;
         outcome = bound_outcome cut;
         lead = cut_lines placed.netlist cut;
-        leads = inr (inr cut-named);
+        leads = inr (inr (inl cut-named));
         count = fails.count;
         within = fails.within;
         said = fails.failed.said;
@@ -801,24 +841,41 @@ module _ (words : List Word) (at : Scene) where
 
     found-came : (placed : PlacedNetlist) → HasFiles at.desk.files job placed → (o : Outcome)
         → LeavesFound job placed at.shelf at.shelf_now o → Came words at o
-    found-came placed has o (inl (inl none, same)) = idle o same (λ other is. cc)
-        (subst Spares (sym none) (
-          tt,
-          record {
-            job = job;
-            asked = asked;
-            width_is = refl;
-            rounds_are = refl;
-            placed = placed;
-            files = has;
-            same = ap (λ (s : ShelfState). s.files) same;
-          },
-        ))
-        (λ calm. inl (global-true placed has o (inr none)))
+    found-came placed has o (inl (inl none, same)) = subst (Came words at) (sym none) (Told (record {
+      fileless = tt;
+      files = ap (λ (s : ShelfState). s.files) same;
+      faults = ap (λ (s : ShelfState). s.faults) same;
+      lead = [];
+      leads = inr (
+        refl,
+        record {
+          no_trial = λ other is. cc;
+          no_nets = λ other is unroutable. cc;
+          no_cut = λ other is bound. cc;
+          no_span = λ other is narrowing. cc;
+        },
+      );
+      said = ap (λ (s : ShelfState). s.said) same ∙ sym (more-none at.shelf.said);
+      means = inl (record {
+        job = job;
+        asked = asked;
+        width_is = refl;
+        rounds_are = refl;
+        placed = placed;
+        files = has;
+        same = ap (λ (s : ShelfState). s.files) same;
+      });
+      told = inl (global-true placed has (Unfound job.width job.rounds) (inr refl));
+    }))
     found-came placed has o (inl (inr short, same)) = spent o same (λ other is. cc) short
     found-came placed has o (inr (found, route, h)) = Wrote (record {
       done = IsRoutedAt job.width;
       is_done = tt;
+      between = at.shelf;
+      begun = refl;
+      calm = refl;
+      lead = [];
+      said = sym (more-none at.shelf.said);
       files = found_file job found ∷ [];
       of = inr (inr (inr (inl (record {
         job = job;
@@ -832,11 +889,15 @@ module _ (words : List Word) (at : Scene) where
       apart = (tt, tt);
       heard = (tt, tt);
       writes = h;
-      leads = record {
-        no_trial = λ other is. cc;
-        no_nets = λ other is unroutable. cc;
-        no_cut = λ other is bound. cc;
-      };
+      leads = inr (
+        refl,
+        record {
+          no_trial = λ other is. cc;
+          no_nets = λ other is unroutable. cc;
+          no_cut = λ other is bound. cc;
+          no_span = λ other is narrowing. cc;
+        },
+      );
       means = λ done written. inr (record {
         job = job;
         asked = asked;
@@ -860,6 +921,141 @@ module _ (words : List Word) (at : Scene) where
         ])
     global-came o (inr (placed, has, h)) = found-came placed has o h
 
+  -- ---- what a placement needs
+
+  module _ (job : LeastAsked) (asked : job_of words ≡ Ok (Narrows job)) where
+    least-true : (placed : PlacedNetlist) → HasFiles at.desk.files (last_asked job) placed
+        → (o : Outcome) → IsTrueOfLeast job placed o → IsTrueOf words at.desk.files o
+    least-true placed has o told = true-of (Narrows job) asked o (inr (placed, has, told))
+
+    module _ (placed : PlacedNetlist) (has : HasFiles at.desk.files (last_asked job) placed)
+        (cut : BestCut) (best : IsBestCut placed cut) where
+      abbrev cut-of-least : IsCutOfLeast words at.desk.files cut
+      cut-of-least = record {
+        job = job;
+        asked = asked;
+        placed = placed;
+        files = has;
+        best = best;
+        bound = best.bound;
+      }
+
+      abbrev said-first : Bytes
+      said-first = cut_lines placed.netlist cut
+
+      least-lines : (o : Outcome) → IsOfCut cut o
+          → AreLeastLines words at.desk.files o said-first
+      least-lines o tells =
+          record { cut = cut; least = cut-of-least; tells = tells; is = refl }
+
+      -- nothing was written behind the lines
+      told-cut : (o : Outcome) → at.shelf_now ≡ after_say at.shelf said-first → NeedsNoFile o
+          → IsOfCut cut o → MeansHere o → IsTrueOf words at.desk.files o ⊎ (o ≡ OutOfMemory)
+          → Came words at o
+      told-cut o now fileless tells means told = Told (record {
+        fileless = fileless;
+        files = ap (λ (s : ShelfState). s.files) now;
+        faults = ap (λ (s : ShelfState). s.faults) now;
+        lead = said-first;
+        leads = inl (inr (inr (inr (least-lines o tells))));
+        said = ap (λ (s : ShelfState). s.said) now;
+        means = means;
+        told = told;
+      })
+
+      widths-came : (o : Outcome)
+          → LeavesWidths job placed cut (after_say at.shelf said-first) at.shelf_now o
+          → Came words at o
+      widths-came o (inl (inl (inl (above, is)), same)) = subst (Came words at) (sym is)
+          (told-cut (beyond_outcome cut) same tt refl (record {
+            cut = cut;
+            least = cut-of-least;
+            tracks_of = refl;
+            cells_of = refl;
+            nets_of = refl;
+            beyond = above;
+            none = λ width wires from to routing.
+                let most = best.bound width wires from routing in omega (arith, most, to, above);
+            same = ap (λ (s : ShelfState). s.files) same;
+          })
+          (inl (least-true placed has (beyond_outcome cut) (cut, best, inl (inl (above, refl))))))
+      widths-came o (inl (inl (inr (within, is)), same)) = subst (Came words at) (sym is)
+          (told-cut (Unfound job.last job.rounds) same tt within (inr (record {
+            cut = cut;
+            least = cut-of-least;
+            width_is = refl;
+            rounds_are = refl;
+            within = within;
+            same = ap (λ (s : ShelfState). s.files) same;
+          }))
+          (inl (least-true placed has (Unfound job.last job.rounds)
+          (cut, best, inl (inr (within, refl))))))
+      widths-came o (inl (inr short, same)) = subst (Came words at) (sym short)
+          (told-cut OutOfMemory same tt tt tt (inr refl))
+      widths-came o (inr (found, is, h)) = Wrote (record {
+        done = Narrowed cut.tracks found.width;
+        is_done = tt;
+        between = after_say at.shelf said-first;
+        begun = refl;
+        calm = refl;
+        lead = said-first;
+        said = refl;
+        files = found_file (at_width job found.width) found.found ∷ [];
+        of = inr (inr (inr (inr (inl (record {
+          cut = cut;
+          least = cut-of-least;
+          at = found;
+          found = is;
+          order = refl;
+        })))));
+        apart = (tt, tt);
+        heard = (tt, tt);
+        writes = h;
+        leads = inl (inr (inr (inr (least-lines o (tells-of-cut cut found.width
+            (job.prefix ++ codes ".route") (printed found.found) (after_say at.shelf said-first)
+            at.shelf_now o h)))));
+        means = λ done written. record {
+          cut = cut;
+          least = cut-of-least;
+          tracks_of = refl;
+          from = is.from;
+          to = is.to;
+          found = found.found;
+          route = is.route;
+          says = says-at at.desk.files job placed cut.tracks found has is;
+          written = written;
+          is_least = λ alike. subst (IsBound placed) (sym alike) best.bound;
+        };
+        told = least-true placed has (Narrowed cut.tracks found.width)
+            (cut, best, inr (found, is, refl));
+      })
+
+      cut-came : (o : Outcome) → LeavesCut job placed cut at.shelf at.shelf_now o → Came words at o
+      cut-came o (inl (fails, is)) = Cut (record {
+        is = is;
+        whole = none-left words at.desk.files at.shelf.files at.shelf_now.files
+            fails.failed.files;
+        risen = has_risen _ _ fails.failed.risen;
+        outcome = OutOfMemory;
+        lead = said-first;
+        leads = inr (inr (inr (least-lines OutOfMemory tt)));
+        count = fails.count;
+        within = fails.within;
+        said = fails.failed.said;
+      })
+      cut-came o (inr h) = widths-came o h
+
+    least-came : (o : Outcome) → LeavesLeast job at o → Came words at o
+    least-came o (inl (h, same)) = idle o same (λ other is. cc)
+        (lacking-holds Spares stops-spare (IsStopped at.desk at.desk_now) at.desk.files
+        (last_asked job) o h)
+        (λ calm. elim (calm-lacking at.desk at.desk_now calm (last_asked job) o h) [
+          | inl told ↦ inl (true-of (Narrows job) asked o (inl told))
+          | inr short ↦ inr short
+        ])
+    least-came o (inr (placed, has, inl (short, same))) = spent o same (λ other is. cc) short
+    least-came o (inr (placed, has, inr (cut, best, h))) = cut-came placed has cut best o h
+
   -- ---- the files of a generated problem
 
   module _ (job : GenAsked) (asked : job_of words ≡ Ok (Generates job)) where
@@ -871,16 +1067,25 @@ module _ (words : List Word) (at : Scene) where
     made-came o (inr (room, h)) = Wrote (record {
       done = Done;
       is_done = tt;
+      between = at.shelf;
+      begun = refl;
+      calm = refl;
+      lead = [];
+      said = sym (more-none at.shelf.said);
       files = generated_files job.recipe job.prefix;
       of = inr (inr (inl (record { job = job; asked = asked; room = room; order = refl })));
       apart = problem-apart job.prefix (texts_of job.recipe);
       heard = (tt, (tt, (tt, (tt, tt))));
       writes = h;
-      leads = record {
-        no_trial = λ other is. cc;
-        no_nets = λ other is unroutable. cc;
-        no_cut = λ other is bound. cc;
-      };
+      leads = inr (
+        refl,
+        record {
+          no_trial = λ other is. cc;
+          no_nets = λ other is unroutable. cc;
+          no_cut = λ other is bound. cc;
+          no_span = λ other is narrowing. cc;
+        },
+      );
       means = λ done written.
           inr (record { job = job; asked = asked; room = room; written = written });
       told = true-of (Generates job) asked Done (inr (room, refl));
@@ -951,6 +1156,7 @@ module _ (words : List Word) (at : Scene) where
           no_trial = λ other is. cc;
           no_nets = λ other is unroutable. cc;
           no_cut = λ other is bound. cc;
+          no_span = λ other is narrowing. cc;
         },
       ))))) h
   job-came (EncodesJob job) o asked h =
@@ -972,6 +1178,7 @@ module _ (words : List Word) (at : Scene) where
   job-came (Judges job) o asked h = judge-came job asked o h.0 h.1
   job-came (Bounds job) o asked h = bound-came job asked o h
   job-came (Negotiates job) o asked h = global-came job asked o h
+  job-came (Narrows job) o asked h = least-came job asked o h
   job-came (Generates job) o asked h = made-came job asked o h.0
   job-came (TriesJob job) o asked h = trial-came job asked o h.0
 

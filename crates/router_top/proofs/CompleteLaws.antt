@@ -187,12 +187,18 @@ module _ (words : List Word) (at : Scene) (calm : ¬ HasRisen at.desk.faults at.
 
     -- files in a row
     files-settle : (o : Outcome) (h : HasWritten words at o)
-        → WritesFiles h.done h.files at.shelf at.shelf_now o → SettlesHere o
+        → WritesFiles h.done h.files h.between at.shelf_now o → SettlesHere o
     files-settle o h (inl done) = by-word at.shelf at.shelf_now Says o
-        (omega (arith, ap (λ (s : ShelfState). s.faults) done.1, faults-after h.files at.shelf))
+        (omega (
+          arith,
+          ap (λ (s : ShelfState). s.faults) done.1,
+          faults-after h.files h.between,
+          h.calm,
+        ))
         (subst Says (sym done.0) h.told)
     files-settle o h (inr fails) = by-fault at.shelf at.shelf_now Says o
-        (among-risen h.files at.shelf at.shelf_now fails.0 fails.1)
+        (subst (λ (n : ℕ). HasRisen n at.shelf_now.faults) h.calm
+        (among-risen h.files h.between at.shelf_now fails.0 fails.1))
 
     came-settles : (o : Outcome) → Came words at o → SettlesHere o
     came-settles o (Idle h) = record {
@@ -202,8 +208,10 @@ module _ (words : List Word) (at : Scene) (calm : ¬ HasRisen at.desk.faults at.
     came-settles o (Searched h) = subst SettlesHere (sym h.come.is)
         (found-settles h.wrote h.faults o h.come h.come.came h.come.finds h.come.last)
     came-settles o (Wrote h) = files-settle o h h.writes
-    came-settles o (Told h) = by-word at.shelf at.shelf_now Says o (omega (arith, h.faults))
-        (subst Says (sym h.is) h.told)
+    came-settles o (Told h) = record {
+      kept = omega (arith, h.faults);
+      settled = λ quiet. h.told;
+    }
     came-settles o (Cut h) = by-fault at.shelf at.shelf_now Says o h.risen
 
 -- ---- a run

@@ -61,13 +61,13 @@ module _ (files : FileMap) where
   no-start (Some name) a h has = halted-says files h.fault h.because has.1
 
   -- what keeps files from giving something is told in one way
-  lacking-agrees : (job : GlobalAsked) (a b : Outcome) → Lacks job a → Lacks job b → Agrees a b
+  pub lacking-agrees : (job : GlobalAsked) (a b : Outcome) → Lacks job a → Lacks job b → Agrees a b
   lacking-agrees job a b h g =
       placed-agrees files job.files (λ placed. LacksStart (IsHalted (Some files)) job.from) a b h g
       (λ placed u v. inl (one-start job.from a b u v))
 
   -- files that give all are not kept from it
-  lacking-has : (job : GlobalAsked) (placed : PlacedNetlist) (a : Outcome) → Lacks job a
+  pub lacking-has : (job : GlobalAsked) (placed : PlacedNetlist) (a : Outcome) → Lacks job a
       → HasFiles (Some files) job placed → ⊥
   lacking-has job placed a (inl h) has =
       placed-lack-poses files job.files placed h.0 h.1 has.poses

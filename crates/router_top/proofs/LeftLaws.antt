@@ -27,8 +27,8 @@ use Rattle.router_top.specs.Report.{found_outcome, unsaid}
 use Rattle.router_top.specs.Run.{Runs, Scene, scene}
 use Rattle.router_top.specs.Search.{proof_files, route_file, clauses_at}
 use Rattle.router_top.specs.Work.{Finds}
-use Rattle.router_top.specs.Subject.{DeskState, Bytes, FileMap, ShelfState, HasFew, Cnf, Step, Word, Outcome, InputFault, Limit, NotSymmetric, ReadFault, Unroutable, Usage, WriteFault, Slot, Said, File, Done, Routed, Unfound}
-use Rattle.router_top.proofs.Came.{AreHeard, Came, Cut, HasCome, HasWritten, Idle, IsHeard, IsSpared, Searched, Told, Wrote, ended_with, IsDone}
+use Rattle.router_top.specs.Subject.{DeskState, Bytes, FileMap, ShelfState, HasFew, Cnf, Step, Word, Outcome, InputFault, Limit, NotSymmetric, ReadFault, Unroutable, Usage, WriteFault, Slot, Said, File, Done, Routed, Unfound, Narrowed, Beyond}
+use Rattle.router_top.proofs.Came.{AreHeard, Came, Cut, HasCome, HasWritten, Idle, IsHeard, IsSpared, NeedsNoFile, Searched, Told, Wrote, ended_with, IsDone}
 use Rattle.router_top.proofs.GeneratedLaws.{files-after}
 use Rattle.router_top.proofs.SlotNameLaws.{part-named}
 use Rattle.router_top.proofs.WrittenLaws.{AreApart, NoneHas, Stand, all-stand, are-written, get-other, with_files-append, written-stand}
@@ -164,7 +164,7 @@ module _ (words : List Word) (desk before : Option FileMap) where
   }
 
   pub none-left : (now : Option FileMap) → now ≡ before → LeavesWhole words desk before now
-  none-left now same = whole-left [] (inr (inr (inr (inr refl)))) tt now same
+  none-left now same = whole-left [] (inr (inr (inr (inr (inr refl))))) tt now same
 
   -- a file behind others was begun
   part-left : (files : List JobFile) → AreFilesOf words desk files → AreApart files
@@ -218,16 +218,17 @@ module _ (words : List Word) (desk before : Option FileMap) where
       )
 
   -- where nothing was written, all is as it was
-  idle-left : (now : Option FileMap) (o : Outcome) → IsSpared o → now ≡ before → Here now o
-  idle-left now (WriteFault slot) spared same = absurd spared
-  idle-left now (Unroutable width) spared same = absurd spared
-  idle-left now (Usage code) spared same = same
-  idle-left now (ReadFault file) spared same = same
-  idle-left now (InputFault file line code) spared same = same
-  idle-left now (NotSymmetric width why) spared same = same
-  idle-left now (Unfound width rounds) spared same = same
-  idle-left now (Limit file code count) spared same = inl same
-  idle-left now o spared same = none-left now same
+  idle-left : (now : Option FileMap) (o : Outcome) → NeedsNoFile o → now ≡ before → Here now o
+  idle-left now (WriteFault slot) fileless same = absurd fileless
+  idle-left now (Unroutable width) fileless same = absurd fileless
+  idle-left now (Usage code) fileless same = same
+  idle-left now (ReadFault file) fileless same = same
+  idle-left now (InputFault file line code) fileless same = same
+  idle-left now (NotSymmetric width why) fileless same = same
+  idle-left now (Unfound width rounds) fileless same = same
+  idle-left now (Beyond tracks cells nets) fileless same = same
+  idle-left now (Limit file code count) fileless same = inl same
+  idle-left now o fileless same = none-left now same
 
 -- ---- files in a row
 
@@ -421,32 +422,40 @@ module _ (words : List Word) (at : Scene) where
       → LeavesWhole words at.desk.files at.shelf.files at.shelf_now.files → LeftHere o
   done-leaves Done is_done whole = whole
   done-leaves (Routed width) is_done whole = whole
+  done-leaves (Narrowed tracks width) is_done whole = whole
   done-leaves o is_done whole = absurd is_done
 
   -- files in a row
   files-left : (o : Outcome) (h : HasWritten words at o)
-      → WritesFiles h.done h.files at.shelf at.shelf_now o → LeftHere o
+      → WritesFiles h.done h.files h.between at.shelf_now o → LeftHere o
   files-left o h (inl done) = subst LeftHere (sym done.0) (done-leaves h.done h.is_done
       (whole-left words at.desk.files at.shelf.files h.files h.of h.apart at.shelf_now.files
-      (ap (λ (s : ShelfState). s.files) done.1 ∙ files-after h.files at.shelf)))
+      (ap (λ (s : ShelfState). s.files) done.1 ∙ files-after h.files h.between
+      ∙ ap (with_files h.files) h.begun)))
   files-left o h (inr (slot, fails, is)) =
-      let off = breaks-off h.files at.shelf at.shelf_now slot fails in
+      let off = breaks-off h.files h.between at.shelf_now slot fails in
       let part = part-left words at.desk.files at.shelf.files h.files h.of h.apart off.whole
-      off.part off.later off.order off.between at.shelf_now off.behind off.fails in
+      off.part off.later off.order off.between at.shelf_now
+      (off.behind ∙ ap (with_files off.whole) h.begun) off.fails in
       subst LeftHere (sym is) (part-leaves slot
-      (among-heard h.files at.shelf at.shelf_now slot h.heard fails)
+      (among-heard h.files h.between at.shelf_now slot h.heard fails)
       (subst (LeavesPart words at.desk.files at.shelf.files at.shelf_now.files) off.named part))
+
+spared-fileless : (o : Outcome) → IsSpared o → NeedsNoFile o
+spared-fileless (WriteFault slot) spared = spared
+spared-fileless (Unroutable width) spared = spared
+spared-fileless o spared = tt
 
 module _ (words : List Word) (at : Scene) where
   came-left : (o : Outcome) → Came words at o → LeftHere words at o
-  came-left o (Idle h) = idle-left words at.desk.files at.shelf.files at.shelf_now.files o h.spared
-      (ap (λ (s : ShelfState). s.files) h.same)
+  came-left o (Idle h) = idle-left words at.desk.files at.shelf.files at.shelf_now.files o
+      (spared-fileless o h.spared) (ap (λ (s : ShelfState). s.files) h.same)
   came-left o (Searched h) = subst (λ (files : Option FileMap).
       LeavesFiles words at.desk.files at.shelf.files files o) (sym h.files)
       (come-left words (ended_with h.wrote at) o h.come)
   came-left o (Wrote h) = files-left words at o h h.writes
-  came-left o (Told h) = subst (LeftHere words at) (sym h.is)
-      (none-left words at.desk.files at.shelf.files at.shelf_now.files h.files)
+  came-left o (Told h) =
+      idle-left words at.desk.files at.shelf.files at.shelf_now.files o h.fileless h.files
   came-left o (Cut h) = subst (LeftHere words at) (sym h.is) h.whole
 
 -- ---- the report
@@ -460,6 +469,7 @@ module _ (words : List Word) (desk before now : Option FileMap) where
   unsaid-left (InputFault file line code) h = none-left words desk before now h
   unsaid-left (NotSymmetric width why) h = none-left words desk before now h
   unsaid-left (Unfound width rounds) h = none-left words desk before now h
+  unsaid-left (Beyond tracks cells nets) h = none-left words desk before now h
   unsaid-left (Limit file code count) (inl same) = none-left words desk before now same
   unsaid-left (Limit file code count) (inr h) = h.2
   unsaid-left (WriteFault slot) h = h

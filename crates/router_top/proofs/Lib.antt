@@ -7,6 +7,7 @@ mod EndLaws
 mod GeneratedLaws
 mod GlobalLaws
 mod KnownLaws
+mod LeastLaws
 mod LeftLaws
 mod LimitRows
 mod LiteralLaws

@@ -93,10 +93,11 @@ module _ (words : List Word) (at : Scene) where
 
   -- files that were written
   files-mean : (o : Outcome) (h : HasWritten words at o)
-      → WritesFiles h.done h.files at.shelf at.shelf_now o → MeansHere o
+      → WritesFiles h.done h.files h.between at.shelf_now o → MeansHere o
   files-mean o h (inl done) = subst MeansHere (sym done.0)
       (h.means done.0 (are-written h.files at.shelf.files at.shelf_now.files
-      (ap (λ (s : ShelfState). s.files) done.1 ∙ files-after h.files at.shelf) h.apart))
+      (ap (λ (s : ShelfState). s.files) done.1 ∙ files-after h.files h.between
+      ∙ ap (with_files h.files) h.begun) h.apart))
   files-mean o h (inr fails) = subst MeansHere (sym fails.2) tt
 
 module _ (words : List Word) (at : Scene) where
@@ -106,7 +107,7 @@ module _ (words : List Word) (at : Scene) where
       Means words at.desk.files at.shelf.files files o) (sym h.files)
       (come-means words (ended_with h.wrote at) o h.come)
   came-means o (Wrote h) = files-mean words at o h h.writes
-  came-means o (Told h) = subst (MeansHere words at) (sym h.is) h.means
+  came-means o (Told h) = h.means
   came-means o (Cut h) = subst (MeansHere words at) (sym h.is) tt
 
 -- a run whose report line was not said means nothing more

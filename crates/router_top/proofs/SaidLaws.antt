@@ -16,7 +16,7 @@ use Rattle.router_top.specs.Saying.{IsLead, Leads, Speaks, more_said}
 use Rattle.router_top.specs.Search.{Search, clauses_at}
 use Rattle.router_top.specs.Work.{Finds}
 use Rattle.router_top.specs.Subject.{DeskState, Bytes, FileMap, ShelfState, RoutingProblem, Word, Outcome, WriteFault, Slot, Said}
-use Rattle.router_top.proofs.Came.{Came, Cut, HasWritten, Idle, IsCut, IsHeard, IsSpared, Searched, Told, Wrote, IsDone}
+use Rattle.router_top.proofs.Came.{Came, Cut, HasWritten, Idle, IsCut, IsHeard, IsSpared, NeedsNoFile, Searched, Told, Wrote, IsDone}
 use Rattle.router_top.proofs.LeftLaws.{among-heard}
 
 -- ---- texts behind texts
@@ -86,6 +86,10 @@ spared-heard : (o : Outcome) → IsSpared o → IsHeard o
 spared-heard (WriteFault slot) spared = absurd spared
 spared-heard o spared = tt
 
+fileless-heard : (o : Outcome) → NeedsNoFile o → IsHeard o
+fileless-heard (WriteFault slot) fileless = absurd fileless
+fileless-heard o fileless = tt
+
 done-heard : (o : Outcome) → IsDone o → IsHeard o
 done-heard (WriteFault slot) is_done = absurd is_done
 done-heard o is_done = tt
@@ -99,19 +103,18 @@ module _ (words : List Word) (at : Scene) where
       ⊎ IsCut words at o
 
   files-led : (o : Outcome) (h : HasWritten words at o)
-      → WritesFiles h.done h.files at.shelf at.shelf_now o → HasLed o
+      → WritesFiles h.done h.files h.between at.shelf_now o → HasLed o
   files-led o h (inl done) = inl (
-    [],
-    inr (refl, h.leads),
-    ap (λ (s : ShelfState). s.said) done.1 ∙ after-silent h.files at.shelf
-        ∙ sym (more-none at.shelf.said),
+    h.lead,
+    h.leads,
+    ap (λ (s : ShelfState). s.said) done.1 ∙ after-silent h.files h.between ∙ h.said,
     subst IsHeard (sym done.0) (done-heard h.done h.is_done),
   )
   files-led o h (inr (slot, fails, is)) = inl (
-    [],
-    inr (refl, h.leads),
-    among-silent h.files at.shelf at.shelf_now slot fails ∙ sym (more-none at.shelf.said),
-    subst IsHeard (sym is) (among-heard h.files at.shelf at.shelf_now slot h.heard fails),
+    h.lead,
+    h.leads,
+    among-silent h.files h.between at.shelf_now slot fails ∙ h.said,
+    subst IsHeard (sym is) (among-heard h.files h.between at.shelf_now slot h.heard fails),
   )
 
   came-led : (o : Outcome) → Came words at o → HasLed o
@@ -129,13 +132,7 @@ module _ (words : List Word) (at : Scene) where
         subst IsHeard (sym h.come.is) (found-heard h.come.width h.come.came),
       )
   came-led o (Wrote h) = files-led o h h.writes
-  came-led o (Told h) = inl (
-    h.lead,
-    subst (λ (a : Outcome). Leads words at.desk.files at.shelf.files at.shelf_now.files a h.lead)
-        (sym h.is) (inl h.leads),
-    h.said,
-    subst IsHeard (sym h.is) tt,
-  )
+  came-led o (Told h) = inl (h.lead, h.leads, h.said, fileless-heard o h.fileless)
   came-led o (Cut h) = inr h
 
 -- ---- the report

@@ -1,6 +1,6 @@
 -- The command `bound`: a cut of a placement that many nets cross for each of its cells, what is
 -- said of it, and how many tracks it asks for.
-use Rattle.std.specs.Prelude.{◌≡◌, ◌⊎◌, ℕ, ◌++◌, List, [], codes, decimal, flat_map, length, slice_get, Ok, Option}
+use Rattle.std.specs.Prelude.{◌≡◌, ◌⊎◌, ℕ, ◌++◌, List, [], codes, decimal, flat_map, length, slice_get, Ok, Err, Result, Option}
 use Rattle.std.specs.Option.{option_map_or}
 use Rattle.fpga_problem.specs.Files.{PosesPlaced}
 use Rattle.fpga_types.specs.Problem.{PlacedNetlist}
@@ -51,6 +51,15 @@ SaysCut netlist cut before now outcome =
 -- memory ran out, and nothing was said
 abbrev pub IsShort : (before now : ShelfState) → Outcome → Type 0
 IsShort before now outcome = (outcome ≡ OutOfMemory) × (now ≡ before)
+
+-- the lines of the cut were said; or memory ran out, or a front part of them was said, and the run
+-- comes to that
+abbrev pub HasSaidCut : Netlist → Cut → (before now : ShelfState) → Result (Unit {0}) Outcome
+    → Type 0
+HasSaidCut netlist cut before now (Ok said) = now ≡ after_say before (cut_lines netlist cut)
+HasSaidCut netlist cut before now (Err stop) =
+    IsShort before now stop
+    ⊎ (FailsToSay before (cut_lines netlist cut) now × (stop ≡ WriteFault Said))
 
 -- so it was; or one of the best cuts of the placed netlist was found and said
 abbrev pub BoundsTo : PlacedNetlist → (before now : ShelfState) → Outcome → Type 0

@@ -8,14 +8,17 @@ use Rattle.fpga_types.specs.Problem.{PlacedNetlist}
 use Rattle.router_top.specs.Comes.{ComesTo, lower_files, EndsSearch}
 use Rattle.router_top.specs.Generated.{HasRoom, generated_files}
 use Rattle.router_top.specs.Global.{HasFiles, IsFoundRoute, found_file}
+use Rattle.route_bound.specs.declared.cut.Cut.{Cut}
+use Rattle.router_top.specs.Least.{IsCutOfLeast, IsFoundAt, at_width}
 use Rattle.router_top.specs.Method.{IsRoutingBy, clauses_by, IsCrowdFor}
 use Rattle.router_top.specs.Search.{Search, proof_files, route_file, clauses_at}
+use Rattle.router_top.specs.declared.narrowing.FoundAt.{FoundAt}
 use Rattle.router_top.specs.SizeCauses.{size_code}
 use Rattle.router_top.specs.SlotNames.{name_written}
 use Rattle.router_top.specs.declared.size_cause.SizeCause.TheVariants.{FormulaClauses}
 use Rattle.router_top.specs.Work.{clauses_file}
 use Rattle.router_top.specs.Written.{AreWritten, JobFile, with_file}
-use Rattle.router_top.specs.Subject.{FileMap, Poses, RoutingProblem, RouteText, HasFew, Step, job_of, EncodeAsked, Encodes, GenAsked, Generates, GlobalAsked, Negotiates, JobAsked, SweepAsked, Sweeps, TrialAsked, Tries, Word, Outcome, InputFault, Limit, NotSymmetric, Unfound, Usage, ReadFault, WriteFault, Slot, Said}
+use Rattle.router_top.specs.Subject.{FileMap, Poses, RoutingProblem, RouteText, HasFew, Step, job_of, EncodeAsked, Encodes, GenAsked, Generates, GlobalAsked, Negotiates, JobAsked, SweepAsked, Sweeps, TrialAsked, Tries, Word, Outcome, InputFault, Limit, NotSymmetric, Unfound, Beyond, Usage, ReadFault, WriteFault, Slot, Said}
 
 -- ---- the files of each job
 
@@ -74,12 +77,21 @@ pub record AreNegotiated (words : List Word) (desk : Option FileMap) (files : Li
   pub route : IsFoundRoute job placed found
   pub order : files ≡ found_file job found ∷ []
 
+-- of `least`: the same, at a width from as many tracks on as one of the best cuts asks for
+pub record AreNarrowed (words : List Word) (desk : Option FileMap) (files : List JobFile)
+    : Type 0 where
+  pub cut : Cut
+  pub least : IsCutOfLeast words desk cut
+  pub at : FoundAt
+  pub found : IsFoundAt least.job least.placed cut.tracks at
+  pub order : files ≡ found_file (at_width least.job at.width) at.found ∷ []
+
 -- the files that the words ask for, in the order in which they are written; none where the work
 -- does not come to a file
 abbrev pub AreFilesOf : List Word → (desk : Option FileMap) → List JobFile → Type 0
 AreFilesOf words desk files =
     AreSearched words desk files ⊎ AreEncoded words desk files ⊎ AreGenerated words files
-    ⊎ AreNegotiated words desk files ⊎ (files ≡ [])
+    ⊎ AreNegotiated words desk files ⊎ AreNarrowed words desk files ⊎ (files ≡ [])
 
 -- ---- what is left of them
 
@@ -123,14 +135,16 @@ IsClimb words =
 
 -- what is left of the files, by the answer: nothing is written where the words are not taken, where
 -- a file is not read or is refused, where tracks are not alike as the method asks, where rounds have
--- found no route, and where a limit is passed, but for that of the clauses in a climb; a fault of a
--- file leaves a part; and after each other answer the files that were begun are whole
+-- found no route or a cut asks for more tracks than were to be tried, and where a limit is passed,
+-- but for that of the clauses in a climb; a fault of a file leaves a part; and after each other
+-- answer the files that were begun are whole
 abbrev pub LeavesFiles : List Word → (desk before now : Option FileMap) → Outcome → Type 0
 LeavesFiles words desk before now (Usage code) = now ≡ before
 LeavesFiles words desk before now (ReadFault file) = now ≡ before
 LeavesFiles words desk before now (InputFault file line code) = now ≡ before
 LeavesFiles words desk before now (NotSymmetric width why) = now ≡ before
 LeavesFiles words desk before now (Unfound width rounds) = now ≡ before
+LeavesFiles words desk before now (Beyond tracks cells nets) = now ≡ before
 LeavesFiles words desk before now (Limit file code count) =
     (now ≡ before)
     ⊎ ((code ≡ size_code FormulaClauses) × IsClimb words × LeavesWhole words desk before now)

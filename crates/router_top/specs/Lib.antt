@@ -7,6 +7,7 @@ pub mod Global
 pub mod Headline
 pub mod JobFiles
 pub mod Known
+pub mod Least
 pub mod Means
 pub mod Method
 pub mod Placed

@@ -10,11 +10,12 @@ use Rattle.router_top.specs.Core.{LeavesCore}
 use Rattle.router_top.specs.Written.{WritesFiles}
 use Rattle.router_top.specs.Global.{HasFiles, LacksFiles, LeavesFound}
 use Rattle.router_top.specs.Generated.{HasRoom, Makes, MakesNone, PosesNone, generated_files}
+use Rattle.router_top.specs.Least.{LeavesNarrowed, last_asked}
 use Rattle.router_top.specs.Placed.{GivesNoPlaced, IsTrueJudgement, JudgesPlaced}
 use Rattle.router_top.specs.Report.{GivesNone, IsReadFault, line_of, unsaid}
 use Rattle.router_top.specs.Suited.{EncodeLeaves, RouteLeaves, SweepLeaves}
 use Rattle.router_top.specs.Work.{Tries}
-use Rattle.router_top.specs.Subject.{DeskState, FailsToSay, ShelfState, after_say, FileNames, Poses, IsStopped, RoutingProblem, job_of, Blames, Bounds, Checks, Encodes as EncodesJob, GenAsked, Generates, GlobalAsked, JobAsked, Judges, Negotiates, Routes, Sweeps as SweepsJob, TrialAsked, Tries as TriesJob, Verifies, Word, Outcome, Usage, OutOfMemory, Done}
+use Rattle.router_top.specs.Subject.{DeskState, FailsToSay, ShelfState, after_say, FileNames, Poses, IsStopped, RoutingProblem, job_of, Blames, Bounds, Checks, Encodes as EncodesJob, GenAsked, Generates, GlobalAsked, JobAsked, Judges, LeastAsked, Narrows, Negotiates, Routes, Sweeps as SweepsJob, TrialAsked, Tries as TriesJob, Verifies, Word, Outcome, Usage, OutOfMemory, Done}
 
 -- the desk and the shelf before the work and after it
 pub record Scene : Type 0 where
@@ -70,6 +71,15 @@ LeavesGlobal job at outcome =
     ⊎ ((placed : PlacedNetlist) × HasFiles at.desk.files job placed
     × LeavesFound job placed at.shelf at.shelf_now outcome)
 
+-- nothing was written, since a file of the job gives nothing; or they pose a placed netlist, and
+-- this is what the bound and the searches leave
+abbrev pub LeavesLeast : LeastAsked → Scene → Outcome → Type 0
+LeavesLeast job at outcome =
+    (LacksFiles (IsStopped at.desk at.desk_now) at.desk.files (last_asked job) outcome
+    × (at.shelf_now ≡ at.shelf))
+    ⊎ ((placed : PlacedNetlist) × HasFiles at.desk.files (last_asked job) placed
+    × LeavesNarrowed job placed at.shelf at.shelf_now outcome)
+
 -- what each job leaves before its outcome is reported; to check a refutation and to judge a routed
 -- file writes nothing, and no file is read where a problem is generated
 abbrev pub LeavesJob : JobAsked → Scene → Outcome → Type 0
@@ -88,6 +98,7 @@ LeavesJob (Judges job) at outcome =
     × (at.shelf_now ≡ at.shelf)
 LeavesJob (Bounds job) at outcome = LeavesPlaced job.files BoundsTo at outcome
 LeavesJob (Negotiates job) at outcome = LeavesGlobal job at outcome
+LeavesJob (Narrows job) at outcome = LeavesLeast job at outcome
 LeavesJob (Generates job) at outcome =
     WritesGenerated job at.shelf at.shelf_now outcome × (at.desk_now ≡ at.desk)
 LeavesJob (TriesJob job) at outcome =

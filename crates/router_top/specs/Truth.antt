@@ -12,12 +12,13 @@ use Rattle.router_top.specs.Bound.{IsTrueOfCut}
 use Rattle.router_top.specs.Check.{ChecksTo, VerifiesTo}
 use Rattle.router_top.specs.Generated.{HasRoom, IsTooLarge, IsTooMany, Makes}
 use Rattle.router_top.specs.Global.{HasFiles, IsTrueOfFound, LacksFiles}
+use Rattle.router_top.specs.Least.{IsTrueOfLeast, last_asked}
 use Rattle.router_top.specs.Method.{HasNone, HasOne, clauses_by, IsCrowdFor}
 use Rattle.router_top.specs.Placed.{IsJudgement, JudgesPlaced, WorksOnPlaced}
 use Rattle.router_top.specs.Report.{GivesNone}
 use Rattle.router_top.specs.Search.{Search, HasCrowd, clauses_at, clauses_held, core_search, route_search, sweep_of, sweep_search}
 use Rattle.router_top.specs.Suited.{IsTrueOfSuited}
-use Rattle.router_top.specs.Subject.{DeskState, FileMap, ShelfState, FileNames, Poses, IsHalted, RoutingProblem, HasFew, job_of, Blames, Bounds, Checks, EncodeAsked, Encodes, Generates, JobAsked, Judges, Negotiates, Routes, Sweeps, Tries, Verifies, Word, Outcome, Routed, Unroutable, Undecided, Bound, Done, Limit, Usage, OutOfMemory, GlobalAsked, Unfound}
+use Rattle.router_top.specs.Subject.{DeskState, FileMap, ShelfState, FileNames, Poses, IsHalted, RoutingProblem, HasFew, job_of, Blames, Bounds, Checks, EncodeAsked, Encodes, Generates, JobAsked, Judges, LeastAsked, Narrows, Negotiates, Routes, Sweeps, Tries, Verifies, Word, Outcome, Routed, Unroutable, Undecided, Bound, Done, Limit, Usage, OutOfMemory, GlobalAsked, Unfound, Narrowed, Beyond}
 use Rattle.router_top.specs.declared.size_cause.SizeCause.{SizeCause}
 
 -- so many clauses are more than may be built, as this cause says, and the outcome has their number;
@@ -82,6 +83,13 @@ IsTrueOfGlobal job files outcome =
     LacksFiles (IsHalted files) files job outcome
     ⊎ ((placed : PlacedNetlist) × HasFiles files job placed × IsTrueOfFound job placed outcome)
 
+-- so of what the placed netlist needs
+abbrev pub IsTrueOfNarrows : LeastAsked → Option FileMap → Outcome → Type 0
+IsTrueOfNarrows job files outcome =
+    LacksFiles (IsHalted files) files (last_asked job) outcome
+    ⊎ ((placed : PlacedNetlist) × HasFiles files (last_asked job) placed
+    × IsTrueOfLeast job placed outcome)
+
 -- what an outcome says of the files of each job, where this crowd is gone by
 abbrev pub IsTrueOfJob : (crowd : List ℕ) → JobAsked → Option FileMap → Outcome → Type 0
 IsTrueOfJob crowd (Routes job) files outcome =
@@ -99,6 +107,7 @@ IsTrueOfJob crowd (Judges job) files outcome =
 IsTrueOfJob crowd (Bounds job) files outcome =
     WorksOnPlaced (IsHalted files) files job.files IsTrueOfCut outcome
 IsTrueOfJob crowd (Negotiates job) files outcome = IsTrueOfGlobal job files outcome
+IsTrueOfJob crowd (Narrows job) files outcome = IsTrueOfNarrows job files outcome
 IsTrueOfJob crowd (Generates job) files outcome =
     IsTooMany job.recipe outcome ⊎ (HasRoom job.recipe × (outcome ≡ Done))
 IsTrueOfJob crowd (Tries job) files outcome =
@@ -130,13 +139,25 @@ abbrev pub AreBounds : Outcome → Outcome → Type 0
 AreBounds (Bound tracks cells nets) (Bound others other_cells other_nets) = Unit {0}
 AreBounds outcome other = ⊥
 
+-- both tell of one placement: no width at which a route was found is below a bound, and none is
+-- above the last that was tried, nor is that below a bound where it was left open
+abbrev pub AreOfOne : Outcome → Outcome → Type 0
+AreOfOne (Narrowed tracks width) (Narrowed others of) = (tracks ≤ of) × (others ≤ width)
+AreOfOne (Narrowed tracks width) (Unfound last rounds) = width ≤ last
+AreOfOne (Unfound last rounds) (Narrowed tracks width) = width ≤ last
+AreOfOne (Unfound last rounds) (Beyond tracks cells nets) = last < tracks
+AreOfOne (Beyond tracks cells nets) (Unfound last rounds) = last < tracks
+AreOfOne (Beyond tracks cells nets) (Beyond others other_cells other_nets) = Unit {0}
+AreOfOne outcome other = ⊥
+
 -- the answer is this outcome; or a search is left open by one of the two, for which width its
 -- budget is spent is the search's own; or both are bounds, for which of the best cuts is found is
--- that search's own
+-- that search's own; or both tell of what one placement needs, for that and the routes that are
+-- found are those searches' own
 abbrev pub Agrees : Outcome → Outcome → Type 0
 Agrees answer outcome =
     (answer ≡ outcome) ⊎ IsOpenBelow answer outcome ⊎ IsOpenBelow outcome answer
-    ⊎ AreBounds answer outcome
+    ⊎ AreBounds answer outcome ⊎ AreOfOne answer outcome
 
 -- if both are true by one crowd, they agree; where tracks are not kept in order, any crowd serves
 abbrev pub AgreeByCrowd : List Word → FileMap → (answer outcome : Outcome) → Type 0

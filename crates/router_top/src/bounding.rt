@@ -1,7 +1,7 @@
 //! The command `bound`: how many tracks a cut of a placement asks for.
-ghost use Rattle.std.specs.Prelude.{◌≡◌, ◌⊎◌, ◌++◌, IfOk, OnOk, flat_map, string_bytes};
+ghost use Rattle.std.specs.Prelude.{◌≡◌, ◌++◌, IfOk, OnOk, flat_map, string_bytes};
 ghost use Rattle.fpga_problem.specs.Files.{IsSoundPlaced, placed_names_said};
-ghost use Rattle.router_top.specs.Bound.{BoundsTo, IsShort, SaysCut, cut_line, cut_lines, net_line, net_name};
+ghost use Rattle.router_top.specs.Bound.{BoundsTo, HasSaidCut, bound_outcome, cut_line, cut_lines, net_line, net_name};
 ghost use Rattle.router_top.specs.Report.{IsReadFault};
 ghost use Rattle.router_top.specs.Run.{LeavesPlaced, scene};
 
@@ -74,17 +74,31 @@ fn cut_lines(alloc: Global, netlist: &Netlist, cut: &Cut) -> Result<Vec<u8>, All
     Ok(lines)
 }
 
-// Says the lines of a cut once they are all made, and gives what the run comes to.
-fn say_cut<S: Shelf>(alloc: Global, netlist: &Netlist, cut: &Cut, shelf: &mut S) -> Outcome
-    ensures { IsShort (S.state shelf.old) (S.state shelf.new) result
-        ⊎ SaysCut netlist.now cut.now (S.state shelf.old) (S.state shelf.new) result }
+/// Says the lines of a cut once they are all made.
+///
+/// # Errors
+/// What the run comes to that they keep from its end: memory ran out, or they were not said whole.
+pub(crate) fn say_cut<S: Shelf>(
+    alloc: Global,
+    netlist: &Netlist,
+    cut: &Cut,
+    shelf: &mut S,
+) -> Result<(), Outcome>
+    ensures { HasSaidCut netlist.now cut.now (S.state shelf.old) (S.state shelf.new) result }
 {
     let Ok(lines) = cut_lines(alloc, netlist, cut) else {
-        return Outcome::OutOfMemory;
+        return Err(Outcome::OutOfMemory);
     };
     let Ok(()) = shelf.say(&lines) else {
-        return Outcome::WriteFault { slot: Slot::Said };
+        return Err(Outcome::WriteFault { slot: Slot::Said });
     };
+    Ok(())
+}
+
+// How many tracks a cut asks for, and why.
+fn bound_outcome(cut: &Cut) -> Outcome
+    ensures { result ≡ bound_outcome cut.now }
+{
     Outcome::Bound {
         tracks: cut.tracks,
         cells: cut.cells,
@@ -100,7 +114,10 @@ fn bound_placed<S: Shelf>(alloc: Global, placed: &PlacedFiles, shelf: &mut S) ->
     let Ok(cut) = best_cut(alloc, &placed.arch, &placed.netlist, &placed.placement) else {
         return Outcome::OutOfMemory;
     };
-    say_cut(alloc, &placed.netlist, &cut, shelf)
+    match say_cut(alloc, &placed.netlist, &cut, shelf) {
+        Ok(()) => bound_outcome(&cut),
+        Err(stop) => stop,
+    }
 }
 
 /// Reads the three files, finds one of the best cuts of what they pose, and says its lines.

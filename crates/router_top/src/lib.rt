@@ -17,6 +17,7 @@ mod file_name;
 mod generating;
 mod judging;
 mod known;
+mod narrowing;
 mod negotiating;
 mod outcome;
 mod problem_work;

@@ -1,15 +1,17 @@
 //! The command `global`: a search for a route of a placement together with its tracks.
-ghost use Rattle.std.specs.Prelude.{◌≡◌, ◌⊎◌, [], ◌∷◌, IfOk, IfSome};
+ghost use Rattle.std.specs.Prelude.{◌≡◌, ◌⊎◌, [], ◌∷◌, IfErr, IfOk, IfSome};
+ghost use Rattle.std.specs.Result.{IsErrAnd};
 ghost use Rattle.fpga_problem.specs.Files.{IsSoundPlaced};
+ghost use Rattle.fpga_problem.specs.Sources.{IsStopped};
 ghost use Rattle.fpga_route.specs.Printed.{printed};
 ghost use Rattle.fpga_route.specs.ReadBack.{ReadsBack};
 ghost use Rattle.fpga_types.specs.Sound.{IsSound};
 ghost use Rattle.router_words.specs.Job.{global_said};
-ghost use Rattle.router_top.specs.Global.{IsFoundRoute, LeavesFound, found_file, judged_for};
+ghost use Rattle.router_top.specs.Global.{HasFiles, IsFoundRoute, LacksFiles, LeavesFound, found_file, judged_for};
 ghost use Rattle.router_top.specs.Report.{IsReadFault};
 ghost use Rattle.router_top.specs.Run.{LeavesGlobal, scene};
 ghost use Rattle.router_top.specs.Written.{WritesFiles};
-ghost use Rattle.router_top.specs.declared.outcome.Outcome.TheVariants.{OutOfMemory, Routed};
+ghost use Rattle.router_top.specs.declared.outcome.Outcome.TheVariants.{OutOfMemory};
 
 use crate::file_name::file_name;
 use crate::outcome::Outcome;
@@ -114,8 +116,11 @@ fn judgement(
     judge_strict(alloc, arch, netlist, placement, job.width, found)
 }
 
-// A route that is judged legal as it is read from its printed form, if the search finds one.
-fn legal_route(
+/// A route that is judged legal as it is read from its printed form, if the search finds one.
+///
+/// # Errors
+/// Memory ran out.
+pub(crate) fn legal_route(
     alloc: Global,
     job: &GlobalJob<'_>,
     placed: &PlacedFiles,
@@ -137,15 +142,16 @@ fn legal_route(
     }
 }
 
-// Writes the file of a route that was found.
-fn write_found<S: Shelf>(
+/// Writes the file of a route that was found, and gives the outcome of that.
+pub(crate) fn write_found<S: Shelf>(
     alloc: Global,
     job: &GlobalJob<'_>,
     found: &RouteText,
+    done: Outcome,
     shelf: &mut S,
 ) -> Outcome
     ensures { ((result ≡ OutOfMemory) × (S.state shelf.new ≡ S.state shelf.old))
-        ⊎ WritesFiles (Routed job.now.width) (found_file (global_said job.now) found.now ∷ [])
+        ⊎ WritesFiles done (found_file (global_said job.now) found.now ∷ [])
         (S.state shelf.old) (S.state shelf.new) result }
 {
     let Ok(name) = file_name(alloc, job.prefix, ".route") else {
@@ -156,7 +162,7 @@ fn write_found<S: Shelf>(
             slot: Slot::File(FileSlot::Route),
         };
     };
-    Outcome::Routed { width: job.width }
+    done
 }
 
 // Looks for a legal route, and writes it.
@@ -171,8 +177,9 @@ fn search_route<S: Shelf>(
     ensures { LeavesFound (global_said job.now) placed.now (S.state shelf.old)
         (S.state shelf.new) result }
 {
+    let done = Outcome::Routed { width: job.width };
     match legal_route(alloc, job, placed, start) {
-        Ok(Some(found)) => write_found(alloc, job, &found, shelf),
+        Ok(Some(found)) => write_found(alloc, job, &found, done, shelf),
         Ok(None) => Outcome::Unfound {
             width: job.width,
             rounds: job.rounds,
@@ -181,8 +188,53 @@ fn search_route<S: Shelf>(
     }
 }
 
+/// What a search for a route of a placement begins with.
+#[derive(Drop)]
+pub(crate) struct Begun {
+    /// The placed netlist.
+    pub placed: PlacedFiles,
+    /// The route to begin with, if there is to be one.
+    pub start: Option<RouteText>,
+}
+
 /// Reads the three files of a placed netlist, and then the route to begin with, if there is to be
-/// one; looks for a route with its tracks, and writes it.
+/// one.
+///
+/// # Errors
+/// What the run comes to, since a file of these gives nothing.
+pub(crate) fn read_begun<D: Desk>(
+    alloc: Global,
+    job: &GlobalJob<'_>,
+    desk: &mut D,
+) -> Result<Begun, Outcome>
+    ensures has { IfOk result (λ begun. HasFiles (D.state desk.old).files (global_said job.now)
+        begun.placed) }
+    ensures lacks { IfErr result (LacksFiles (IsStopped (D.state desk.old) (D.state desk.new))
+        (D.state desk.old).files (global_said job.now)) }
+    ensures files { (D.state desk.new).files ≡ (D.state desk.old).files }
+    ensures quiet { ¬ IsErrAnd result IsReadFault
+        → (D.state desk.new).faults ≡ (D.state desk.old).faults }
+{
+    let placed = match read_placed(alloc, desk, &job.files) {
+        Ok(placed) => placed,
+        Err(stop) => return Err(unread_outcome(TextFile::Problem(stop.file), stop.fault)),
+    };
+    let Some(name) = job.from else {
+        return Ok(Begun {
+            placed,
+            start: None,
+        });
+    };
+    match read_route_file(alloc, desk, name) {
+        Ok(start) => Ok(Begun {
+            placed,
+            start: Some(start),
+        }),
+        Err(fault) => Err(unread_outcome(TextFile::Problem(ProblemFile::Route), fault)),
+    }
+}
+
+/// Reads the files of a job, looks for a route with its tracks, and writes it.
 ///
 /// What is found is printed into memory, read from there and judged, and what was judged is
 /// written: so the search is not relied on, nor is what makes a text of its wires.
@@ -198,16 +250,8 @@ pub fn negotiate_files<D: Desk, S: Shelf>(
     ensures files { (D.state desk.new).files ≡ (D.state desk.old).files }
     ensures quiet { ¬ IsReadFault result → (D.state desk.new).faults ≡ (D.state desk.old).faults }
 {
-    let placed = match read_placed(alloc, desk, &job.files) {
-        Ok(placed) => placed,
-        Err(stop) => return unread_outcome(TextFile::Problem(stop.file), stop.fault),
-    };
-    let Some(name) = job.from else {
-        return search_route(alloc, job, &placed, None, shelf);
-    };
-    let start = match read_route_file(alloc, desk, name) {
-        Ok(start) => start,
-        Err(fault) => return unread_outcome(TextFile::Problem(ProblemFile::Route), fault),
-    };
-    search_route(alloc, job, &placed, Some(&start), shelf)
+    match read_begun(alloc, job, desk) {
+        Ok(begun) => search_route(alloc, job, &begun.placed, begun.start.as_ref(), shelf),
+        Err(stop) => stop,
+    }
 }

@@ -47,6 +47,19 @@ pub enum Outcome {
         width: u32,
         rounds: u32,
     },
+    /// A legal routing of this width was written, and no routing of the placement has fewer tracks
+    /// than so many, for which a cut asks.
+    Narrowed {
+        tracks: u32,
+        width: u32,
+    },
+    /// No routing of the placement has fewer tracks, as of a bound, and these are more than were to
+    /// be tried.
+    Beyond {
+        tracks: u32,
+        cells: u32,
+        nets: u64,
+    },
     /// What was asked for was written.
     Done,
     /// The log refutes the formula.
@@ -109,10 +122,14 @@ pub fn status(outcome: &Outcome) -> u8
     match outcome {
         Outcome::Routed { .. }
         | Outcome::Bound { .. }
+        | Outcome::Narrowed { .. }
         | Outcome::Done
         | Outcome::Accepted
         | Outcome::LegalRoute => 0,
-        Outcome::Unroutable { .. } | Outcome::NotAccepted { .. } | Outcome::NotLegal { .. } => 1,
+        Outcome::Unroutable { .. }
+        | Outcome::Beyond { .. }
+        | Outcome::NotAccepted { .. }
+        | Outcome::NotLegal { .. } => 1,
         Outcome::Undecided { .. } | Outcome::Unfound { .. } => 2,
         Outcome::InputFault { .. } | Outcome::Limit { .. } | Outcome::NotSymmetric { .. } => 3,
         Outcome::Usage { .. } => 4,
@@ -142,6 +159,8 @@ pub fn report(outcome: &Outcome) -> ArrayString<LINE_ROOM>
             push_count(&mut line, " after ", rounds as u64);
             line.push_str(" rounds");
         }
+        Outcome::Narrowed { width, .. } => push_count(&mut line, "routed ", width as u64),
+        Outcome::Beyond { tracks, .. } => push_count(&mut line, "bound ", tracks as u64),
         Outcome::Done => line.push_str("done"),
         Outcome::Accepted => line.push_str("accepted"),
         Outcome::NotAccepted { step, cause } => {

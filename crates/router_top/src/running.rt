@@ -12,6 +12,7 @@ use crate::bounding::bound_files;
 use crate::checking::check_files;
 use crate::generating::generate_files;
 use crate::judging::judge_file;
+use crate::narrowing::narrow_files;
 use crate::negotiating::negotiate_files;
 use crate::outcome::{Outcome, report};
 use crate::problem_work::work_on;
@@ -65,6 +66,7 @@ fn work<D: Desk, S: Shelf>(alloc: Global, words: &[String], desk: &mut D, shelf:
         Ok(Job::Judge(job)) => judge_file(alloc, &job, desk),
         Ok(Job::Bound(job)) => bound_files(alloc, &job, desk, shelf),
         Ok(Job::Global(job)) => negotiate_files(alloc, &job, desk, shelf),
+        Ok(Job::Least(job)) => narrow_files(alloc, &job, desk, shelf),
         Ok(Job::Gen(job)) => generate_files(alloc, &job, shelf),
         Ok(Job::Trial(job)) => trial(alloc, &job, shelf),
         Err(WordsFault::Refused(cause)) => Outcome::Usage { code: cause.code() },
@@ -130,6 +132,9 @@ fn say_report<S: Shelf>(shelf: &mut S, outcome: Outcome) -> Outcome
 /// its tracks. It writes PREFIX.route where one is found in as many rounds as it is given, and else
 /// nothing.
 ///
+/// `least` reads what `global` does and says what `bound` does. From as many tracks as the cut asks
+/// for up to MAX it looks for a route as `global` does, and the first that is found ends it.
+///
 /// `gen` makes a problem from its recipe and writes PREFIX.arch, PREFIX.net, PREFIX.place and
 /// PREFIX.route. `trial` makes one too, says a line with the numbers of its slots, its steps and
 /// its pairs of slots of different nets in one cell, and writes what `sweep` would write if it read
@@ -139,7 +144,7 @@ fn say_report<S: Shelf>(shelf: &mut S, outcome: Outcome) -> Outcome
 /// the shelf fails on one, those before it are whole, it holds a front part of its text or was not
 /// created, and those behind it are as they were; after any other answer each file that was begun
 /// is whole. What is said is a front part of the lead and the report line, and all of both where
-/// the shelf has not failed. The lead is the trial line, or the lines of `core` or of `bound`.
+/// the shelf has not failed. The lead is the trial line, or the lines of `core`, `bound` or `least`.
 ///
 /// After want of memory the files of a `sweep` or a `trial` are those of lower widths, and of
 /// another command there is none. The files of the desk stay in any case.

@@ -5,7 +5,7 @@ use Rattle.std.specs.Prelude.{Result, Ok, Err, None, Some}
 use Rattle.clap.proofs.OnLiterals.{clap_on_literals}
 use Rattle.fpga_problem.specs.Files.{FileNames, PlacedNames}
 use Rattle.router_words.specs.Command.{job_of}
-use Rattle.router_words.specs.Job.{Blames, Bounds, Checks, Encodes, Generates, JobAsked, Judges, Negotiates, Routes, SearchAsked, Sweeps, Tries, Verifies}
+use Rattle.router_words.specs.Job.{Blames, Bounds, Checks, Encodes, Generates, JobAsked, Judges, Narrows, Negotiates, Routes, SearchAsked, Sweeps, Tries, Verifies}
 use Rattle.router_words.specs.Word.{Word}
 use Rattle.router_words.specs.declared.fault.Refusal.{Refusal}
 use Rattle.router_words.specs.declared.fault.Refusal.TheVariants.{Clash, Command, Form, Number, Overwriting}
@@ -471,6 +471,44 @@ too_many_rounds = refl
 pub no_global_prefix : global (codes "5" ∷ []) ≡ Err Form
 unfolding clap_on_literals
 no_global_prefix = refl
+
+-- `least a n p` and more words
+abbrev least : List Word → Asked
+least more = job_of (codes "least" ∷ codes "a" ∷ codes "n" ∷ codes "p" ∷ more)
+
+pub narrows : least (codes "64" ∷ codes "out" ∷ [])
+    ≡ Ok (Narrows (record {
+      files = three_files;
+      last = 64;
+      prefix = codes "out";
+      free = false;
+      from = None;
+      rounds = 200;
+    }))
+unfolding clap_on_literals
+narrows = refl
+
+pub narrows_from : least (codes "--rounds" ∷ codes "7" ∷ codes "5" ∷ codes "out" ∷ codes "--free"
+    ∷ codes "--from=r" ∷ [])
+    ≡ Ok (Narrows (record {
+      files = three_files;
+      last = 5;
+      prefix = codes "out";
+      free = true;
+      from = Some (codes "r");
+      rounds = 7;
+    }))
+unfolding clap_on_literals
+narrows_from = refl
+
+pub narrows_over : job_of (codes "least" ∷ codes "a" ∷ codes "d.route" ∷ codes "p" ∷ codes "5"
+    ∷ codes "d" ∷ []) ≡ Err Overwriting
+unfolding clap_on_literals
+narrows_over = refl
+
+pub too_wide_at_last : least (codes "65" ∷ codes "out" ∷ []) ≡ Err Number
+unfolding clap_on_literals
+too_wide_at_last = refl
 
 -- `gen` and more words
 abbrev gen : List Word → Asked

@@ -6,15 +6,15 @@ use Rattle.clap.specs.Words.{App, Row, first_of, matches_of}
 use Rattle.fpga_text.specs.Numbers.{whole_number_of}
 use Rattle.fpga_types.specs.declared.limits.TheConstants.{REACH_LIMIT, SIDE_LIMIT, WIDTH_LIMIT}
 use Rattle.fpga_problem.specs.Files.{FileNames, PlacedNames}
-use Rattle.router_words.specs.Form.{bound_form, check_form, core_form, encode_form, gen_form, global_form, judge_form, route_form, sweep_form, trial_form, verify_form}
+use Rattle.router_words.specs.Form.{bound_form, check_form, core_form, encode_form, gen_form, global_form, judge_form, least_form, route_form, sweep_form, trial_form, verify_form}
 use Rattle.router_words.specs.Near.{has_one_track}
-use Rattle.router_words.specs.Job.{Blames, Bounds, Checks, Encodes, Generates, JobAsked, Judges, MembersAsked, Negotiates, RecipeAsked, Routes, SearchAsked, Sweeps, Tries, Verifies, job_said}
+use Rattle.router_words.specs.Job.{Blames, Bounds, Checks, Encodes, Generates, JobAsked, Judges, MembersAsked, Narrows, Negotiates, RecipeAsked, Routes, SearchAsked, Sweeps, Tries, Verifies, job_said}
 use Rattle.router_words.specs.Overwriting.{overwrites}
 use Rattle.router_words.specs.Results.{and_then, map_ok}
 use Rattle.router_words.specs.Taken.{HasRequired, is_taken}
 use Rattle.router_words.specs.Word.{Word}
 use Rattle.router_words.specs.declared.command_name.CommandName.{CommandName}
-use Rattle.router_words.specs.declared.command_name.CommandName.TheVariants.{Bound, Check, Core, Encode, Gen, Global, Judge, Route, Sweep, Trial, Verify}
+use Rattle.router_words.specs.declared.command_name.CommandName.TheVariants.{Bound, Check, Core, Encode, Gen, Global, Judge, Least, Route, Sweep, Trial, Verify}
 use Rattle.router_words.specs.declared.fault.Refusal.{Refusal}
 use Rattle.router_words.specs.declared.fault.Refusal.TheVariants.{Clash, Command, Form, Number, Overwriting}
 use Rattle.router_words.specs.declared.fault.WordsFault.{WordsFault}
@@ -61,7 +61,7 @@ placed_asked rows = record {
   placement = word_in (codes "placement") rows;
 }
 
--- WIDTH, or MAX of a sweep
+-- WIDTH, or MAX
 abbrev pub width_asked : List Row → Result ℕ Refusal
 width_asked rows = number_within 1 WIDTH_LIMIT (word_in (codes "width") rows)
 
@@ -260,6 +260,19 @@ global_asked rows =
       rounds = rounds;
     })) (rounds_asked rows))
 
+-- what `least` is asked for
+abbrev pub least_asked : List Row → Result JobAsked Refusal
+least_asked rows =
+    and_then (width_asked rows) (λ last.
+    map_ok (λ rounds. Narrows (record {
+      files = placed_asked rows;
+      last = last;
+      prefix = word_in (codes "prefix") rows;
+      free = has_flag (codes "free") rows;
+      from = first_of (codes "from") rows;
+      rounds = rounds;
+    })) (rounds_asked rows))
+
 -- what `gen` is asked for
 abbrev pub gen_asked : List Row → Result JobAsked Refusal
 gen_asked rows = map_ok
@@ -304,6 +317,9 @@ bound_row = record { name = codes "bound"; form = bound_form; job = bound_asked 
 abbrev pub global_row : CommandRow
 global_row = record { name = codes "global"; form = global_form; job = global_asked }
 
+abbrev pub least_row : CommandRow
+least_row = record { name = codes "least"; form = least_form; job = least_asked }
+
 abbrev pub gen_row : CommandRow
 gen_row = record { name = codes "gen"; form = gen_form; job = gen_asked }
 
@@ -321,13 +337,14 @@ row_of Verify = verify_row
 row_of Judge = judge_row
 row_of Bound = bound_row
 row_of Global = global_row
+row_of Least = least_row
 row_of Gen = gen_row
 row_of Trial = trial_row
 
 abbrev pub commands : List CommandRow
 commands =
     route_row ∷ sweep_row ∷ encode_row ∷ core_row ∷ check_row ∷ verify_row ∷ judge_row
-    ∷ bound_row ∷ global_row ∷ gen_row ∷ trial_row ∷ []
+    ∷ bound_row ∷ global_row ∷ least_row ∷ gen_row ∷ trial_row ∷ []
 
 -- ---- the job of words
 

@@ -115,10 +115,17 @@ judge_form = with_flag (codes "strict") (with_word (codes "routed") (with_word (
 abbrev pub bound_form : App
 bound_form = with_placed (empty_form (codes "bound"))
 
--- ARCH NET PLACE WIDTH PREFIX [--free] [--from ROUTE] [--rounds N]
+-- ARCH NET PLACE WIDTH PREFIX [--free] [--from ROUTE] [--rounds N], or with MAX
+abbrev pub with_negotiation : App → App
+with_negotiation form = with_option (codes "rounds") (with_option (codes "from")
+    (with_flag (codes "free") (with_width_and_prefix (with_placed form))))
+
 abbrev pub global_form : App
-global_form = with_option (codes "rounds") (with_option (codes "from") (with_flag (codes "free")
-    (with_width_and_prefix (with_placed (empty_form (codes "global"))))))
+global_form = with_negotiation (empty_form (codes "global"))
+
+-- the same, with MAX in the place of WIDTH
+abbrev pub least_form : App
+least_form = with_negotiation (empty_form (codes "least"))
 
 -- SEED NX NETS PREFIX
 abbrev pub gen_form : App

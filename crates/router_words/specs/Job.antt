@@ -9,8 +9,9 @@ use Rattle.router_words.specs.declared.job.EncodeJob.{EncodeJob}
 use Rattle.router_words.specs.declared.job.GenJob.{GenJob}
 use Rattle.router_words.specs.declared.job.GlobalJob.{GlobalJob}
 use Rattle.router_words.specs.declared.job.Job.{Job}
-use Rattle.router_words.specs.declared.job.Job.TheVariants.{Bound, Check, Core, Encode, Gen, Global, Judge, Route, Sweep, Trial, Verify}
+use Rattle.router_words.specs.declared.job.Job.TheVariants.{Bound, Check, Core, Encode, Gen, Global, Judge, Least, Route, Sweep, Trial, Verify}
 use Rattle.router_words.specs.declared.job.JudgeJob.{JudgeJob}
+use Rattle.router_words.specs.declared.job.LeastJob.{LeastJob}
 use Rattle.router_words.specs.declared.job.Members.{Members}
 use Rattle.router_words.specs.declared.job.Recipe.{Recipe}
 use Rattle.router_words.specs.declared.job.RouteJob.{RouteJob}
@@ -102,6 +103,18 @@ pub record GlobalAsked : Type 0 where
   pub from : Option Word
   pub rounds : ℕ
 
+-- to look for the least width that has a route of a placement: the files of the placed netlist, the
+-- greatest width that is tried, what the name of the written file begins with, whether a net may have
+-- several wires of a cell, the file with the route to begin with, if there is one, and after how many
+-- rounds to give up at a width
+pub record LeastAsked : Type 0 where
+  pub files : PlacedNames
+  pub last : ℕ
+  pub prefix : Word
+  pub free : Bool
+  pub from : Option Word
+  pub rounds : ℕ
+
 -- what a generated problem is made from: a number, how many logic blocks each side of its array
 -- has, and how many nets it has
 pub record RecipeAsked : Type 0 where
@@ -131,6 +144,7 @@ pub data JobAsked : Type 0 where
   Judges : JudgeAsked → JobAsked
   Bounds : BoundAsked → JobAsked
   Negotiates : GlobalAsked → JobAsked
+  Narrows : LeastAsked → JobAsked
   Generates : GenAsked → JobAsked
   Tries : TrialAsked → JobAsked
 
@@ -207,6 +221,16 @@ global_said job = record {
   rounds = job.rounds;
 }
 
+abbrev pub least_said : LeastJob → LeastAsked
+least_said job = record {
+  files = placed_names_said job.files;
+  last = job.last;
+  prefix = job.prefix.now;
+  free = job.free;
+  from = option_map (λ word. word.now) job.from;
+  rounds = job.rounds;
+}
+
 abbrev pub recipe_said : Recipe → RecipeAsked
 recipe_said recipe = record { seed = recipe.seed; side = recipe.side; nets = recipe.nets }
 
@@ -226,5 +250,6 @@ job_said (Verify job) = Verifies (verify_said job)
 job_said (Judge job) = Judges (judge_said job)
 job_said (Bound job) = Bounds (bound_said job)
 job_said (Global job) = Negotiates (global_said job)
+job_said (Least job) = Narrows (least_said job)
 job_said (Gen job) = Generates (gen_said job)
 job_said (Trial job) = Tries (trial_said job)

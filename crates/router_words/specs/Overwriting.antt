@@ -3,7 +3,7 @@ use Rattle.std.specs.Prelude.{ℕ, ◌++◌, Bool, false, ◌||◌, List, [], �
 use Rattle.std.specs.List.{list_any, range_with_len}
 use Rattle.std.specs.Option.{option_map_or}
 use Rattle.fpga_problem.specs.Files.{FileNames, PlacedNames}
-use Rattle.router_words.specs.Job.{Blames, Encodes, JobAsked, Negotiates, Routes, Sweeps}
+use Rattle.router_words.specs.Job.{Blames, Encodes, JobAsked, Narrows, Negotiates, Routes, Sweeps}
 use Rattle.router_words.specs.Word.{Word}
 
 -- the names of the files of a problem, and of a placed netlist
@@ -38,6 +38,12 @@ abbrev pub climb_overwrites : (names : List Word) → (prefix : Word) → (last 
 climb_overwrites names prefix last = is_named names prefix (codes ".route")
     || list_any (width_overwrites names prefix) (range_with_len 1 last)
 
+-- the route of a placement that is looked for has the name of one of its files, or of the route that
+-- the search begins with
+abbrev pub route_overwrites : (files : PlacedNames) → (from : Option Word) → (prefix : Word) → Bool
+route_overwrites files from prefix = is_named (three_names files) prefix (codes ".route")
+    || option_map_or (λ start. is_named (start ∷ []) prefix (codes ".route")) from false
+
 -- a file that the job may write has the name of one that it reads
 abbrev pub overwrites : JobAsked → Bool
 overwrites (Routes job) = search_overwrites (four_names job.files) job.search.prefix
@@ -45,6 +51,6 @@ overwrites (Sweeps job) =
     climb_overwrites (four_names job.files) job.search.prefix job.search.width
 overwrites (Encodes job) = is_named (four_names job.files) job.prefix (codes ".cnf")
 overwrites (Blames job) = search_overwrites (four_names job.files) job.prefix
-overwrites (Negotiates job) = is_named (three_names job.files) job.prefix (codes ".route")
-    || option_map_or (λ from. is_named (from ∷ []) job.prefix (codes ".route")) job.from false
+overwrites (Negotiates job) = route_overwrites job.files job.from job.prefix
+overwrites (Narrows job) = route_overwrites job.files job.from job.prefix
 overwrites job = false

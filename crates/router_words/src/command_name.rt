@@ -9,11 +9,11 @@ ghost use Rattle.router_words.specs.Taken.{HasRequired};
 use crate::fault::Refusal;
 use crate::form::{
     bound_command, check_command, core_command, encode_command, gen_command, global_command,
-    judge_command, route_command, search_command, trial_command, verify_command,
+    judge_command, least_command, route_command, search_command, trial_command, verify_command,
 };
 use crate::from_matches::{
-    bound_job, check_job, core_job, encode_job, gen_job, global_job, judge_job, route_job,
-    sweep_job, trial_job, verify_job,
+    bound_job, check_job, core_job, encode_job, gen_job, global_job, judge_job, least_job,
+    route_job, sweep_job, trial_job, verify_job,
 };
 use crate::job::Job;
 use clap::{ArgMatches, Command};
@@ -31,6 +31,7 @@ pub enum CommandName {
     Judge,
     Bound,
     Global,
+    Least,
     Gen,
     Trial,
 }
@@ -67,6 +68,9 @@ impl CommandName {
         if word == "global" {
             return Some(CommandName::Global);
         }
+        if word == "least" {
+            return Some(CommandName::Least);
+        }
         if word == "gen" {
             return Some(CommandName::Gen);
         }
@@ -90,6 +94,7 @@ impl CommandName {
             CommandName::Judge => judge_command(alloc),
             CommandName::Bound => bound_command(alloc),
             CommandName::Global => global_command(alloc),
+            CommandName::Least => least_command(alloc),
             CommandName::Gen => gen_command(alloc),
             CommandName::Trial => trial_command(alloc),
         }
@@ -110,6 +115,7 @@ impl CommandName {
             CommandName::Judge => judge_job(matches),
             CommandName::Bound => bound_job(matches),
             CommandName::Global => global_job(matches),
+            CommandName::Least => least_job(matches),
             CommandName::Gen => gen_job(matches),
             CommandName::Trial => trial_job(matches),
         }

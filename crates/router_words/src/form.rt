@@ -1,7 +1,7 @@
 //! The forms of the commands, as `clap` has them.
 ghost use Rattle.std.specs.Prelude.{◌≡◌, IfOk, codes};
 ghost use Rattle.clap.specs.Words.{app_of, rule_of};
-ghost use Rattle.router_words.specs.Form.{bound_form, check_form, core_form, empty_form, encode_form, gen_form, global_form, judge_form, route_form, search_form, trial_form, verify_form, with_effort, with_files, with_flag, with_option, with_placed, with_recipe, with_search, with_symmetry, with_width_and_prefix, with_word};
+ghost use Rattle.router_words.specs.Form.{bound_form, check_form, core_form, empty_form, encode_form, gen_form, global_form, judge_form, least_form, route_form, search_form, trial_form, verify_form, with_effort, with_files, with_flag, with_negotiation, with_option, with_placed, with_recipe, with_search, with_symmetry, with_width_and_prefix, with_word};
 
 use clap::{Arg, ArgAction, Command};
 use std::alloc::{AllocError, Global};
@@ -183,15 +183,29 @@ pub fn bound_command<'a>(alloc: Global) -> Result<Command<'a>, AllocError>
     add_placed(alloc, named(alloc, "bound"))
 }
 
-/// ARCH NET PLACE WIDTH PREFIX [--free] [--from ROUTE] [--rounds N]
-pub fn global_command<'a>(alloc: Global) -> Result<Command<'a>, AllocError>
-    ensures { IfOk result (λ c. app_of c ≡ global_form) }
+// With what a search for a route of a placement is told.
+fn add_negotiation<'a>(alloc: Global, command: Command<'a>) -> Result<Command<'a>, AllocError>
+    ensures { IfOk result (λ c. app_of c ≡ with_negotiation (app_of command.entry)) }
 {
-    let placed = add_placed(alloc, named(alloc, "global"))?;
+    let placed = add_placed(alloc, command)?;
     let command = add_width_and_prefix(alloc, placed)?;
     let command = add_flag(alloc, command, "free")?;
     let command = add_option(alloc, command, "from")?;
     add_option(alloc, command, "rounds")
+}
+
+/// ARCH NET PLACE WIDTH PREFIX [--free] [--from ROUTE] [--rounds N]
+pub fn global_command<'a>(alloc: Global) -> Result<Command<'a>, AllocError>
+    ensures { IfOk result (λ c. app_of c ≡ global_form) }
+{
+    add_negotiation(alloc, named(alloc, "global"))
+}
+
+/// ARCH NET PLACE MAX PREFIX [--free] [--from ROUTE] [--rounds N]
+pub fn least_command<'a>(alloc: Global) -> Result<Command<'a>, AllocError>
+    ensures { IfOk result (λ c. app_of c ≡ least_form) }
+{
+    add_negotiation(alloc, named(alloc, "least"))
 }
 
 /// SEED NX NETS PREFIX

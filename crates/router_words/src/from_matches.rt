@@ -3,8 +3,8 @@ ghost use Rattle.std.specs.Prelude.{◌≡◌, ◌≤◌, IfOk, IfSome, codes, i
 ghost use Rattle.clap.specs.Words.{first_of, found_of, rows_of};
 ghost use Rattle.fpga_problem.specs.Files.{names_said, placed_names_said};
 ghost use Rattle.fpga_types.specs.declared.limits.TheConstants.{REACH_LIMIT, WIDTH_LIMIT};
-ghost use Rattle.router_words.specs.Command.{bound_asked, check_asked, conflicts_asked, core_asked, encode_asked, files_asked, gen_asked, global_asked, judge_asked, members_asked, members_with, method_asked, method_within, number_if_any, number_within, has_clash, has_two_methods, placed_asked, reach_asked, recipe_asked, rounds_asked, route_asked, search_asked, search_by_method, sweep_asked, trial_asked, verify_asked, width_asked, word_in};
-ghost use Rattle.router_words.specs.Form.{bound_form, check_form, core_form, encode_form, gen_form, global_form, judge_form, route_form, sweep_form, trial_form, verify_form};
+ghost use Rattle.router_words.specs.Command.{bound_asked, check_asked, conflicts_asked, core_asked, encode_asked, files_asked, gen_asked, global_asked, judge_asked, members_asked, members_with, method_asked, method_within, number_if_any, number_within, has_clash, has_two_methods, least_asked, placed_asked, reach_asked, recipe_asked, rounds_asked, route_asked, search_asked, search_by_method, sweep_asked, trial_asked, verify_asked, width_asked, word_in};
+ghost use Rattle.router_words.specs.Form.{bound_form, check_form, core_form, encode_form, gen_form, global_form, judge_form, least_form, route_form, sweep_form, trial_form, verify_form};
 ghost use Rattle.router_words.specs.Job.{job_said, members_said, recipe_said, search_said};
 ghost use Rattle.router_words.specs.Near.{IsNear, has_one_track};
 ghost use Rattle.router_words.specs.Results.{map_ok};
@@ -13,8 +13,8 @@ ghost use Rattle.router_words.specs.declared.limits.TheConstants.{BUDGET_LIMIT, 
 
 use crate::fault::Refusal;
 use crate::job::{
-    BoundJob, CheckJob, CoreJob, EncodeJob, GenJob, GlobalJob, Job, JudgeJob, Members, Recipe,
-    RouteJob, SearchJob, SweepJob, TrialJob, VerifyJob,
+    BoundJob, CheckJob, CoreJob, EncodeJob, GenJob, GlobalJob, Job, JudgeJob, LeastJob, Members,
+    Recipe, RouteJob, SearchJob, SweepJob, TrialJob, VerifyJob,
 };
 use crate::limits::{
     BUDGET_DEFAULT, BUDGET_LIMIT, GENERATED_NETS_LIMIT, MEMBER_LIMIT, ROUND_DEFAULT, ROUND_LIMIT,
@@ -364,6 +364,23 @@ pub fn global_job<'a>(matches: &ArgMatches<'a>) -> Result<Job<'a>, Refusal>
     Ok(Job::Global(GlobalJob {
         files: placed_names(matches),
         width,
+        prefix: required_word(matches, "prefix"),
+        free: has_flag(matches, "free"),
+        from: first_word(matches, "from"),
+        rounds,
+    }))
+}
+
+/// What `least` is asked for, or why its words ask for nothing.
+pub fn least_job<'a>(matches: &ArgMatches<'a>) -> Result<Job<'a>, Refusal>
+    requires { HasRequired least_form (rows_of (found_of matches.now)) }
+    ensures { map_ok job_said result ≡ least_asked (rows_of (found_of matches.now)) }
+{
+    let last = width(matches)?;
+    let rounds = rounds(matches)?;
+    Ok(Job::Least(LeastJob {
+        files: placed_names(matches),
+        last,
         prefix: required_word(matches, "prefix"),
         free: has_flag(matches, "free"),
         from: first_word(matches, "from"),

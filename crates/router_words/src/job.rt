@@ -155,6 +155,26 @@ pub struct GlobalJob<'a> {
     ghost patient: { (1 ≤ rounds) × (rounds ≤ ROUND_LIMIT) },
 }
 
+/// To look for the least width that has a route of a placement.
+#[derive(Clone, Copy)]
+pub struct LeastJob<'a> {
+    /// The files of the placed netlist.
+    pub files: ThreeNames<'a>,
+    /// The greatest width that is tried, from 1 to 64.
+    pub last: u32,
+    /// What the name of the file that is written begins with.
+    pub prefix: &'a str,
+    /// Whether a net may have several wires of a cell.
+    pub free: bool,
+    /// The name of the file with the route that each search begins with, if it is to begin with
+    /// one.
+    pub from: Option<&'a str>,
+    /// After how many rounds the search at a width gives up, from 1 to 100,000.
+    pub rounds: u32,
+    ghost in_range: { (1 ≤ last) × (last ≤ WIDTH_LIMIT) },
+    ghost patient: { (1 ≤ rounds) × (rounds ≤ ROUND_LIMIT) },
+}
+
 /// What a generated problem is made from.
 #[derive(Clone, Copy)]
 pub struct Recipe {
@@ -208,6 +228,8 @@ pub enum Job<'a> {
     Bound(BoundJob<'a>),
     /// A route of a placement together with its tracks.
     Global(GlobalJob<'a>),
+    /// The least width that has a route of a placement.
+    Least(LeastJob<'a>),
     /// The files of a generated problem.
     Gen(GenJob<'a>),
     /// The least width that has a routing of a generated problem.

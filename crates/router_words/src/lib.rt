@@ -11,6 +11,7 @@
 //! | `judge` | PLACED WIDTH ROUTED | `--strict` |
 //! | `bound` | PLACED | |
 //! | `global` | PLACED WIDTH PREFIX | `--free`, `--from ROUTE`, `--rounds N` |
+//! | `least` | PLACED MAX PREFIX | `--free`, `--from ROUTE`, `--rounds N` |
 //! | `gen` | SEED NX NETS PREFIX | |
 //! | `trial` | SEED NX NETS MAX PREFIX | `--reach L`, SEARCH |
 //!
@@ -52,8 +53,8 @@ mod read;
 
 pub use fault::{Refusal, WordsFault};
 pub use job::{
-    BoundJob, CheckJob, CoreJob, EncodeJob, GenJob, GlobalJob, Job, JudgeJob, Members, Recipe,
-    RouteJob, SearchJob, SweepJob, TrialJob, VerifyJob,
+    BoundJob, CheckJob, CoreJob, EncodeJob, GenJob, GlobalJob, Job, JudgeJob, LeastJob, Members,
+    Recipe, RouteJob, SearchJob, SweepJob, TrialJob, VerifyJob,
 };
 pub use limits::{
     BUDGET_DEFAULT, BUDGET_LIMIT, GENERATED_NETS_LIMIT, MEMBER_LIMIT, ROUND_DEFAULT, ROUND_LIMIT,

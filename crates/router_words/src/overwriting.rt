@@ -1,12 +1,12 @@
 //! Jobs that would write over a file that they read.
-ghost use Rattle.std.specs.Prelude.{◌≡◌, ◌≤◌, IfOk, map};
+ghost use Rattle.std.specs.Prelude.{◌≡◌, ◌≤◌, IfOk, map, option_map};
 ghost use Rattle.fpga_problem.specs.Files.{names_said, placed_names_said};
 ghost use Rattle.fpga_types.specs.declared.limits.TheConstants.{WIDTH_LIMIT};
-ghost use Rattle.router_words.specs.Job.{Negotiates, global_said, job_said};
+ghost use Rattle.router_words.specs.Job.{job_said};
 ghost use Rattle.router_words.specs.Overwriting as spec;
 ghost use Rattle.router_words.specs.Overwriting.{four_names, has_name, is_named, three_names};
 
-use crate::job::{GlobalJob, Job};
+use crate::job::Job;
 use fpga_problem::{FourNames, ThreeNames};
 use std::alloc::{AllocError, Global};
 
@@ -24,7 +24,8 @@ pub fn overwrites(alloc: Global, job: &Job<'_>) -> Result<bool, AllocError>
         ),
         Job::Encode(job) => is_named(alloc, &four_names(job.files), job.prefix, ".cnf"),
         Job::Core(job) => search_overwrites(alloc, &four_names(job.files), job.prefix),
-        Job::Global(job) => global_overwrites(alloc, &job),
+        Job::Global(job) => route_overwrites(alloc, job.files, job.from, job.prefix),
+        Job::Least(job) => route_overwrites(alloc, job.files, job.from, job.prefix),
         Job::Check(_)
         | Job::Verify(_)
         | Job::Judge(_)
@@ -126,16 +127,22 @@ fn climb_overwrites(
     Ok(false)
 }
 
-// Whether the route that is looked for would be written over a file of its placed netlist, or over
-// the one that it begins with.
-fn global_overwrites(alloc: Global, job: &GlobalJob<'_>) -> Result<bool, AllocError>
-    ensures { IfOk result (λ is. is ≡ spec.overwrites (Negotiates (global_said job.now))) }
+// Whether the route of a placement that is looked for would be written over one of its files, or
+// over the route that the search begins with.
+fn route_overwrites(
+    alloc: Global,
+    files: ThreeNames<'_>,
+    from: Option<&str>,
+    prefix: &str,
+) -> Result<bool, AllocError>
+    ensures { IfOk result (λ is. is ≡ spec.route_overwrites (placed_names_said files.entry)
+        (option_map (λ word. word.now) from.entry) prefix.now) }
 {
-    if is_named(alloc, &three_names(job.files), job.prefix, ".route")? {
+    if is_named(alloc, &three_names(files), prefix, ".route")? {
         return Ok(true);
     }
-    let Some(from) = job.from else {
+    let Some(from) = from else {
         return Ok(false);
     };
-    is_named(alloc, &[from], job.prefix, ".route")
+    is_named(alloc, &[from], prefix, ".route")
 }

@@ -6,10 +6,16 @@ use Rattle.router_top.proofs.bounding.bound_placed.Goals as goal
 pub returns-in_default : goal.returns-in_default
 returns-in_default g c = inl (refl, refl)
 
+pub returns-in-Ok-say_cut : goal.returns-in-Ok-say_cut
+returns-in-Ok-say_cut g c = subst (λ (placed : PlacedNetlist). BoundsTo placed
+    (g.S.Shelf.state c.args.shelf.now) (g.S.Shelf.state c.say_cut.new.shelf)
+    c.bound_outcome.result) c.placed.view_is
+    (inr (c.in-Ok.cut, c.in-Ok.ensures, inl (c.in-Ok-say_cut.ensures, c.bound_outcome.ensures)))
+
 pub returns : goal.returns
 returns g c = subst (λ (placed : PlacedNetlist). BoundsTo placed
-    (g.S.Shelf.state c.args.shelf.now) (g.S.Shelf.state c.say_cut.new.shelf) c.say_cut.result)
-    c.placed.view_is (elim c.say_cut.ensures [
+    (g.S.Shelf.state c.args.shelf.now) (g.S.Shelf.state c.say_cut.new.shelf) c.in-Err.stop)
+    c.placed.view_is (elim c.in-Err.ensures [
       | inl short ↦ inl short
-      | inr says ↦ inr (c.in-Ok.cut, c.in-Ok.ensures, says)
+      | inr fails ↦ inr (c.in-Ok.cut, c.in-Ok.ensures, inr fails)
     ])

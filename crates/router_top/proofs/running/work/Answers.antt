@@ -55,3 +55,8 @@ pub returns-in-Ok-Global-clause-leaves : goal.returns-in-Ok-Global-clause-leaves
 returns-in-Ok-Global-clause-leaves g c =
     let asked = rw c.in-Ok-Global.field-0-is at c.in-Ok-Global.ensures.answers in
     inr (rw asked c.negotiate_files.ensures.leaves)
+
+pub returns-in-Ok-Least-clause-leaves : goal.returns-in-Ok-Least-clause-leaves
+returns-in-Ok-Least-clause-leaves g c =
+    let asked = rw c.in-Ok-Least.field-0-is at c.in-Ok-Least.ensures.answers in
+    inr (rw asked c.narrow_files.ensures.leaves)

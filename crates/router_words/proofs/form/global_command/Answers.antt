@@ -1,13 +1,8 @@
-use Rattle.std.proofs.Common.{ap, codes, ◌∙◌}
+use Rattle.std.proofs.Common.{ap, ◌∙◌}
 use Rattle.std.proofs.lemmas.Result.{IfOk-weaker}
-use Rattle.router_words.specs.Form.{with_flag, with_option, with_placed, with_width_and_prefix}
+use Rattle.router_words.specs.Form.{with_negotiation}
 use Rattle.router_words.proofs.form.global_command.Goals as goal
 
 pub returns : goal.returns
-returns c =
-    let placed = c.in_ok-placed.ensures ∙ ap with_placed c.named.ensures in
-    let width = c.in_ok-command.ensures ∙ ap with_width_and_prefix placed in
-    let free = c.in_ok-command-2.ensures ∙ ap (with_flag (codes "free")) width in
-    let from = c.in_ok-command-3.ensures ∙ ap (with_option (codes "from")) free in
-    IfOk-weaker c.add_option-2.result _ _ (λ r h. h ∙ ap (with_option (codes "rounds")) from)
-    c.add_option-2.ensures
+returns c = IfOk-weaker c.add_negotiation.result _ _
+    (λ r h. h ∙ ap with_negotiation c.named.ensures) c.add_negotiation.ensures

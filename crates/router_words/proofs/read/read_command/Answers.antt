@@ -10,7 +10,7 @@ use Rattle.router_words.specs.Results.{and_then}
 use Rattle.router_words.specs.Taken.{HasRequired, IsTaken, Takes}
 use Rattle.router_words.specs.Word.{Word, words_of}
 use Rattle.router_words.specs.declared.command_name.CommandName.{CommandName}
-use Rattle.router_words.specs.declared.command_name.CommandName.TheVariants.{Bound, Check, Core, Encode, Gen, Global, Judge, Route, Sweep, Trial, Verify}
+use Rattle.router_words.specs.declared.command_name.CommandName.TheVariants.{Bound, Check, Core, Encode, Gen, Global, Judge, Least, Route, Sweep, Trial, Verify}
 use Rattle.router_words.specs.declared.fault.Refusal.{Refusal}
 use Rattle.router_words.specs.declared.fault.Refusal.TheVariants.{Command}
 use Rattle.router_words.specs.declared.fault.WordsFault.{WordsFault}
@@ -28,6 +28,7 @@ forms Verify = refl
 forms Judge = refl
 forms Bound = refl
 forms Global = refl
+forms Least = refl
 forms Gen = refl
 forms Trial = refl
 

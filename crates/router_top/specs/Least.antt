@@ -1,0 +1,173 @@
+-- The command `least`: how many tracks a placement needs, from both sides.
+use Rattle.std.specs.Prelude.{◌≡◌, ◌⊎◌, ℕ, ◌<◌, ◌≤◌, ⊤, List, [], ◌∷◌, length, Ok, Option}
+use Rattle.fpga_types.specs.Placed.{IsPlacedRouting, NetWires}
+use Rattle.fpga_types.specs.Problem.{PlacedNetlist}
+use Rattle.route_bound.specs.Crossing.{IsBound}
+use Rattle.route_bound.specs.Cuts.{IsBestCut}
+use Rattle.route_bound.specs.declared.cut.Cut.{Cut}
+use Rattle.route_judge.specs.Says.{SaysRouting}
+use Rattle.route_sweep.specs.declared.found.FileSlot.TheVariants.{Route}
+use Rattle.router_top.specs.Bound.{IsShort, cut_lines}
+use Rattle.router_top.specs.Global.{HasFiles, IsFoundRoute, found_file}
+use Rattle.router_top.specs.Written.{AreWritten, WritesFiles}
+use Rattle.router_top.specs.declared.narrowing.FoundAt.{FoundAt}
+use Rattle.router_top.specs.Subject.{FailsToSay, FileMap, ShelfState, after_say, RouteText, job_of, GlobalAsked, LeastAsked, Narrows, Word, Outcome, Beyond, Narrowed, Unfound, WriteFault, OutOfMemory, Said, File}
+
+-- ---- what is asked for
+
+-- the search for a route at a width
+abbrev pub at_width : LeastAsked → (width : ℕ) → GlobalAsked
+at_width job width = record {
+  files = job.files;
+  width = width;
+  prefix = job.prefix;
+  free = job.free;
+  from = job.from;
+  rounds = job.rounds;
+}
+
+-- the last one
+abbrev pub last_asked : LeastAsked → GlobalAsked
+last_asked job = at_width job job.last
+
+-- ---- what is found
+
+-- a route was found at a width from so many tracks up to the last
+pub record IsFoundAt (job : LeastAsked) (placed : PlacedNetlist) (tracks : ℕ) (at : FoundAt)
+    : Type 0 where
+  pub from : tracks ≤ at.width
+  pub to : at.width ≤ job.last
+  pub route : IsFoundRoute (at_width job at.width) placed at.found
+
+-- more tracks are needed than were to be tried: as many as the cut asks for
+abbrev pub beyond_outcome : Cut → Outcome
+beyond_outcome cut = Beyond cut.tracks cut.cells (length cut.nets)
+
+-- the cut asks for more tracks than were to be tried; or none of the searches found a route
+abbrev pub EndsOpen : LeastAsked → Cut → Outcome → Type 0
+EndsOpen job cut outcome =
+    ((job.last < cut.tracks) × (outcome ≡ beyond_outcome cut))
+    ⊎ ((cut.tracks ≤ job.last) × (outcome ≡ Unfound job.last job.rounds))
+
+-- ---- what is left
+
+-- nothing was written, since no route was found, or memory ran out; or one was found at a width from
+-- those tracks on for which the cut asks, and its file was written, or not whole
+abbrev pub LeavesWidths : LeastAsked → PlacedNetlist → Cut → (before now : ShelfState) → Outcome
+    → Type 0
+LeavesWidths job placed cut before now outcome =
+    ((EndsOpen job cut outcome ⊎ (outcome ≡ OutOfMemory)) × (now ≡ before))
+    ⊎ ((at : FoundAt) × IsFoundAt job placed cut.tracks at
+    × WritesFiles (Narrowed cut.tracks at.width)
+    (found_file (at_width job at.width) at.found ∷ []) before now outcome)
+
+-- a front part of the lines of the cut was said, and the run has failed to write; or they were said,
+-- and this is what the searches leave
+abbrev pub LeavesCut : LeastAsked → PlacedNetlist → Cut → (before now : ShelfState) → Outcome
+    → Type 0
+LeavesCut job placed cut before now outcome =
+    (FailsToSay before (cut_lines placed.netlist cut) now × (outcome ≡ WriteFault Said))
+    ⊎ LeavesWidths job placed cut (after_say before (cut_lines placed.netlist cut)) now outcome
+
+-- memory ran out before anything was said; or one of the best cuts was found, and this is left
+abbrev pub LeavesNarrowed : LeastAsked → PlacedNetlist → (before now : ShelfState) → Outcome
+    → Type 0
+LeavesNarrowed job placed before now outcome =
+    IsShort before now outcome
+    ⊎ ((cut : Cut) × IsBestCut placed cut × LeavesCut job placed cut before now outcome)
+
+-- ---- what the answers mean
+
+-- the words ask how many tracks a placement needs, the files read, and one of its best cuts asks for
+-- so many tracks, than which no placed routing has fewer
+pub record IsCutOfLeast (words : List Word) (desk : Option FileMap) (cut : Cut) : Type 0 where
+  pub job : LeastAsked
+  pub asked : job_of words ≡ Ok (Narrows job)
+  pub placed : PlacedNetlist
+  pub files : HasFiles desk (last_asked job) placed
+  pub best : IsBestCut placed cut
+  pub bound : IsBound placed cut.tracks
+
+-- so it is; and a route was found at a width from so many tracks up to the last, and one file alone
+-- was written: it is the printed form of a route that is judged legal at this width and says a
+-- routing of the placement, and it reads back. Where that width is as many tracks as the cut asks
+-- for, it is the least of the placement: every placed routing has at least as many
+pub record IsNarrowed (words : List Word) (desk before now : Option FileMap) (tracks width : ℕ)
+    : Type 0 where
+  pub cut : Cut
+  pub least : IsCutOfLeast words desk cut
+  pub tracks_of : tracks ≡ cut.tracks
+  pub from : tracks ≤ width
+  pub to : width ≤ least.job.last
+  pub found : RouteText
+  pub route : IsFoundRoute (at_width least.job width) least.placed found
+  pub says : (has : ℕ → NetWires) × SaysRouting least.placed width found has
+  pub written : AreWritten (found_file (at_width least.job width) found ∷ []) before now
+  pub is_least : width ≡ tracks → IsBound least.placed width
+
+-- so it is, and these are more tracks than were to be tried: no placed routing has so few, and no
+-- file has changed
+pub record IsBeyond (words : List Word) (desk before now : Option FileMap) (tracks cells nets : ℕ)
+    : Type 0 where
+  pub cut : Cut
+  pub least : IsCutOfLeast words desk cut
+  pub tracks_of : tracks ≡ cut.tracks
+  pub cells_of : cells ≡ cut.cells
+  pub nets_of : nets ≡ length cut.nets
+  pub beyond : least.job.last < tracks
+  pub none : (width : ℕ) (has : ℕ → NetWires) → 1 ≤ width → width ≤ least.job.last
+      → ¬ IsPlacedRouting least.placed width has
+  pub same : now ≡ before
+
+-- so it is, and none was found in so many rounds at any width up to the last; no file has changed
+pub record IsUnnarrowed (words : List Word) (desk before now : Option FileMap) (width rounds : ℕ)
+    : Type 0 where
+  pub cut : Cut
+  pub least : IsCutOfLeast words desk cut
+  pub width_is : width ≡ least.job.last
+  pub rounds_are : rounds ≡ least.job.rounds
+  pub within : cut.tracks ≤ width
+  pub same : now ≡ before
+
+-- ---- what is said first
+
+-- what an outcome tells of the cut whose lines were said before it
+abbrev pub IsOfCut : Cut → Outcome → Type 0
+IsOfCut cut (Narrowed tracks width) = tracks ≡ cut.tracks
+IsOfCut cut (Beyond tracks cells nets) = Beyond tracks cells nets ≡ beyond_outcome cut
+IsOfCut cut (Unfound width rounds) = cut.tracks ≤ width
+IsOfCut cut (WriteFault (File Route)) = ⊤
+IsOfCut cut OutOfMemory = ⊤
+IsOfCut cut outcome = ⊥
+
+-- the words ask how many tracks a placement needs, and these lines name one of its best cuts, of
+-- which the outcome tells, and exactly the nets that cross it, in order
+pub record AreLeastLines
+    (words : List Word) (desk : Option FileMap) (outcome : Outcome) (lead : List ℕ)
+    : Type 0 where
+  pub cut : Cut
+  pub least : IsCutOfLeast words desk cut
+  pub tells : IsOfCut cut outcome
+  pub is : lead ≡ cut_lines least.placed.netlist cut
+
+-- the outcome tells of a cut that was said
+abbrev pub IsNarrowing : Outcome → Type 0
+IsNarrowing (Narrowed tracks width) = Unit {0}
+IsNarrowing (Beyond tracks cells nets) = Unit {0}
+IsNarrowing (Unfound width rounds) = Unit {0}
+IsNarrowing outcome = ⊥
+
+-- ---- what is true
+
+-- some route is judged legal at a width from as many tracks on as the cut asks for, and the outcome
+-- is that one was found there; or it is that none was, or that the cut asks for too many
+abbrev pub IsTrueOfWidths : LeastAsked → PlacedNetlist → Cut → Outcome → Type 0
+IsTrueOfWidths job placed cut outcome =
+    EndsOpen job cut outcome
+    ⊎ ((at : FoundAt) × IsFoundAt job placed cut.tracks at
+    × (outcome ≡ Narrowed cut.tracks at.width))
+
+-- so it is of one of the best cuts
+abbrev pub IsTrueOfLeast : LeastAsked → PlacedNetlist → Outcome → Type 0
+IsTrueOfLeast job placed outcome =
+    (cut : Cut) × IsBestCut placed cut × IsTrueOfWidths job placed cut outcome

@@ -1,0 +1,179 @@
+//! The command `least`: how many tracks a placement needs, from both sides.
+ghost use Rattle.std.specs.Prelude.{◌≡◌, ◌⊎◌, ◌≤◌, [], ◌∷◌, IfOk, IfSome};
+ghost use Rattle.fpga_problem.specs.Files.{IsSoundPlaced};
+ghost use Rattle.route_bound.specs.Cuts.{IsBestCut};
+ghost use Rattle.router_words.specs.Job.{global_said, least_said};
+ghost use Rattle.router_top.specs.Bound.{IsShort};
+ghost use Rattle.router_top.specs.Global.{found_file};
+ghost use Rattle.router_top.specs.Least.{IsFoundAt, LeavesCut, LeavesNarrowed, LeavesWidths, at_width};
+ghost use Rattle.router_top.specs.Report.{IsReadFault};
+ghost use Rattle.router_top.specs.Run.{LeavesLeast, scene};
+ghost use Rattle.router_top.specs.Written.{WritesFiles};
+ghost use Rattle.router_top.specs.declared.outcome.Outcome.TheVariants.{Narrowed, OutOfMemory};
+
+use crate::bounding::say_cut;
+use crate::negotiating::{Begun, legal_route, read_begun, write_found};
+use crate::outcome::Outcome;
+use desk_io::{Desk, Shelf};
+use fpga_types::RouteText;
+use route_bound::{Cut, best_cut};
+use router_words::{GlobalJob, LeastJob};
+use std::alloc::{AllocError, Global};
+
+/// A width, and a legal route that was found at it.
+#[derive(Drop)]
+struct FoundAt {
+    width: u32,
+    found: RouteText,
+}
+
+// The search for a route at a width.
+fn at_width<'a>(job: &LeastJob<'a>, width: u32) -> GlobalJob<'a>
+    requires some { 1 ≤ width }
+    requires within { width ≤ job.now.last }
+    ensures { global_said result ≡ at_width (least_said job.now) width }
+{
+    GlobalJob {
+        files: job.files,
+        width,
+        prefix: job.prefix,
+        free: job.free,
+        from: job.from,
+        rounds: job.rounds,
+    }
+}
+
+// The first width from so many tracks up to the last at which a route is found, and that route, if
+// there is one.
+fn first_found(
+    alloc: Global,
+    job: &LeastJob<'_>,
+    begun: &Begun,
+    tracks: u32,
+) -> Result<Option<FoundAt>, AllocError>
+    requires placed { IsSoundPlaced begun.now.placed }
+    requires some { 1 ≤ tracks }
+    ensures { IfOk result
+        (λ at. IfSome at (IsFoundAt (least_said job.now) begun.now.placed tracks)) }
+{
+    for width in tracks..job.last + 1 {
+        let job = at_width(job, width);
+        let found = legal_route(alloc, &job, &begun.placed, begun.start.as_ref())?;
+        if let Some(found) = found {
+            return Ok(Some(FoundAt { width, found }));
+        }
+    }
+    Ok(None)
+}
+
+// Writes the file of a route that was found from so many tracks on.
+fn write_narrowed<S: Shelf>(
+    alloc: Global,
+    job: &LeastJob<'_>,
+    tracks: u32,
+    at: &FoundAt,
+    shelf: &mut S,
+) -> Outcome
+    requires some { 1 ≤ at.now.width }
+    requires within { at.now.width ≤ job.now.last }
+    ensures { ((result ≡ OutOfMemory) × (S.state shelf.new ≡ S.state shelf.old))
+        ⊎ WritesFiles (Narrowed tracks at.now.width)
+        (found_file (at_width (least_said job.now) at.now.width) at.now.found ∷ [])
+        (S.state shelf.old) (S.state shelf.new) result }
+{
+    let done = Outcome::Narrowed {
+        tracks,
+        width: at.width,
+    };
+    write_found(alloc, &at_width(job, at.width), &at.found, done, shelf)
+}
+
+// Looks for a route at each width from as many tracks on as a cut asks for, and writes the first.
+fn search_widths<S: Shelf>(
+    alloc: Global,
+    job: &LeastJob<'_>,
+    begun: &Begun,
+    cut: &Cut,
+    shelf: &mut S,
+) -> Outcome
+    requires placed { IsSoundPlaced begun.now.placed }
+    requires some { 1 ≤ cut.now.tracks }
+    ensures { LeavesWidths (least_said job.now) begun.now.placed cut.now (S.state shelf.old)
+        (S.state shelf.new) result }
+{
+    let tracks = cut.tracks;
+    if job.last < tracks {
+        return Outcome::Beyond {
+            tracks,
+            cells: cut.cells,
+            nets: cut.nets.as_slice().len() as u64,
+        };
+    }
+    match first_found(alloc, job, begun, tracks) {
+        Ok(Some(at)) => write_narrowed(alloc, job, tracks, &at, shelf),
+        Ok(None) => Outcome::Unfound {
+            width: job.last,
+            rounds: job.rounds,
+        },
+        Err(_) => Outcome::OutOfMemory,
+    }
+}
+
+// Says the lines of a cut, and then looks for a route.
+fn narrow_cut<S: Shelf>(
+    alloc: Global,
+    job: &LeastJob<'_>,
+    begun: &Begun,
+    cut: &Cut,
+    shelf: &mut S,
+) -> Outcome
+    requires placed { IsSoundPlaced begun.now.placed }
+    requires some { 1 ≤ cut.now.tracks }
+    ensures { IsShort (S.state shelf.old) (S.state shelf.new) result
+        ⊎ LeavesCut (least_said job.now) begun.now.placed cut.now (S.state shelf.old)
+        (S.state shelf.new) result }
+{
+    match say_cut(alloc, &begun.placed.netlist, cut, shelf) {
+        Ok(()) => search_widths(alloc, job, begun, cut, shelf),
+        Err(stop) => stop,
+    }
+}
+
+// Finds one of the best cuts of a placed netlist, says its lines, and looks for a route.
+fn narrow_placed<S: Shelf>(
+    alloc: Global,
+    job: &LeastJob<'_>,
+    begun: &Begun,
+    shelf: &mut S,
+) -> Outcome
+    requires { IsSoundPlaced begun.now.placed }
+    ensures { LeavesNarrowed (least_said job.now) begun.now.placed (S.state shelf.old)
+        (S.state shelf.new) result }
+{
+    let placed = &begun.placed;
+    let Ok(cut) = best_cut(alloc, &placed.arch, &placed.netlist, &placed.placement) else {
+        return Outcome::OutOfMemory;
+    };
+    narrow_cut(alloc, job, begun, &cut, shelf)
+}
+
+/// Reads the files of a job, says the lines of one of the best cuts, and looks for a route of the
+/// placement at each width from as many tracks on as that asks for, up to the last: the first that
+/// is found is written.
+pub fn narrow_files<D: Desk, S: Shelf>(
+    alloc: Global,
+    job: &LeastJob<'_>,
+    desk: &mut D,
+    shelf: &mut S,
+) -> Outcome
+    ensures leaves { LeavesLeast (least_said job.now)
+        (scene (D.state desk.old) (D.state desk.new) (S.state shelf.old) (S.state shelf.new))
+        result }
+    ensures files { (D.state desk.new).files ≡ (D.state desk.old).files }
+    ensures quiet { ¬ IsReadFault result → (D.state desk.new).faults ≡ (D.state desk.old).faults }
+{
+    match read_begun(alloc, &at_width(job, job.last), desk) {
+        Ok(begun) => narrow_placed(alloc, job, &begun, shelf),
+        Err(stop) => stop,
+    }
+}
