@@ -19,7 +19,7 @@ use desk_io::FileDesk;
 use rows_problem::{RowsError, text};
 
 // The files of cases. The first says how they are written.
-const FILES: [&str; 17] = [
+const FILES: [&str; 18] = [
     "worked.rows",
     "pinned.rows",
     "symmetry.rows",
@@ -37,6 +37,7 @@ const FILES: [&str; 17] = [
     "core.rows",
     "bound.rows",
     "global.rows",
+    "least.rows",
 ];
 
 fn main(rt: HostRuntime) -> Result<(), RowsError> {
