@@ -3,8 +3,9 @@
 
 Each row is a run in a folder of its own: its status, what it says, and what stands then. A row is
 wrong where one of these is otherwise than it must be, or its words on standard error are, or where
-a file has changed that is not of the job. Then each call of the system that a command makes on files is refused alone, one number
-after the other, and all from a number on; and interrupted, after which the run must go on.
+a file has changed that is not of the job. Then each call of the system that a command makes on
+files is refused alone, one number after the other, and all from a number on; and interrupted,
+after which the run must go on.
 
     bench/fail_files.py [--router PATH] [--rows WORD] [--plain] [--count N]
 
@@ -419,6 +420,7 @@ JOBS = [
     ("encode", ["encode", *THREE, "2", "out"], ["out.cnf"]),
     ("global", ["global", *THREE[:3], "3", "out", "--from", THREE[3]], ["out.route"]),
     ("bound", ["bound", *THREE[:3]], []),
+    ("least", ["least", *THREE[:3], "3", "out", "--from", THREE[3]], ["out.route"]),
     ("check", ["check", "three.cnf", "three.lrat"], []),
     ("gen", ["gen", "1", "2", "1", "out"], ["out.arch", "out.net", "out.place", "out.route"]),
     ("trial", ["trial", "1", "2", "2", "4", "out"], ["out.w1.cnf", "out.w1.lrat", "out.route"]),

@@ -23,8 +23,9 @@ from seen_words import words_of
 
 DATA = os.path.join(os.path.dirname(os.path.dirname(os.path.abspath(__file__))), "crates", "router_rows", "data")
 FILES = (
-    "worked", "pinned", "symmetry", "count", "reach", "within", "failing_calls", "route_texts", "limits",
-    "proof_texts", "resolution_logs", "routed_texts", "judged_texts", "members", "core", "bound", "global",
+    "worked", "pinned", "symmetry", "count", "reach", "within", "failing_calls", "route_texts",
+    "limits", "proof_texts", "resolution_logs", "routed_texts", "judged_texts", "members", "core",
+    "bound", "global", "least",
 )  # in the order of the program of rows: a file cites parts of those before it
 ESCAPES = {"n": b"\n", "t": b"\t", "r": b"\r", "0": b"\0", "\\": b"\\"}
 
