@@ -5,8 +5,10 @@ pub mod CutLemmas
 pub mod CutRows
 pub mod PigeonLemmas
 pub mod ReachLemmas
+pub mod LineLemmas
 pub mod SideLemmas
 pub mod SizeLemmas
+pub mod SpanLemmas
 pub mod InsideLemmas
 pub mod PartLemmas
 pub mod WalkLemmas

@@ -6,5 +6,6 @@ pub mod Lying
 pub mod Placed
 pub mod Ranges
 pub mod Reaches
+pub mod Spans
 pub mod Standings
 pub mod Walks

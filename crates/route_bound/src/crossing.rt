@@ -70,7 +70,7 @@ impl<'a> PlacedNets<'a> {
     }
 
     /// Whether a net is an ordinary one that crosses the cut round these corners.
-    fn crosses(&self, range: CornerRange, net: &Net) -> bool
+    pub fn crosses(&self, range: CornerRange, net: &Net) -> bool
         ensures { result ≡ crosses self.now (corners_of range) net.now }
     {
         if net.global {

@@ -33,8 +33,9 @@ pub(crate) struct Crossed {
 /// straight line, and no routing of the placement has fewer tracks than it asks for, whatever the
 /// global route. Where no net crosses any line the cut is one of these, and asks for one track.
 ///
-/// Takes time for each terminal and line, and then for each terminal and rectangle that is looked
-/// at: at most 4,000, and at most 60 million terminals in all. Takes memory for the terminals.
+/// Takes time for each terminal and each line that goes between the terminals of its net, and then
+/// for each terminal and rectangle that is looked at: at most 4,000, and at most 60 million terminals
+/// in all. Takes memory for the terminals.
 ///
 /// # Errors
 /// Where memory is short.
@@ -104,7 +105,7 @@ impl<'a> PlacedNets<'a> {
         ensures crossed { IfOk result (IsCrossed self.now) }
         ensures most { IfOk result (λ c. IsFullLine self.now kind (length c.nets.items) c.cells) }
     {
-        let line = self.best_line(alloc, kind)?;
+        let line = self.best_line(kind);
         let range = CornerRange::of_line(self.placement.grid, kind, line);
         let cut = self.crossed(alloc, range)?;
         Ok(cut)

@@ -10,6 +10,7 @@ mod placed;
 mod range;
 mod reach;
 mod search;
+mod span;
 
 pub use crossing::crossing_nets;
 pub use cut::{Cut, best_cut};

@@ -1,58 +1,79 @@
 //! The straight line that most nets cross, of each kind.
-ghost use Rattle.std.specs.Prelude.{◌≡◌, ◌<◌, ◌≤◌, IfOk, length};
-ghost use Rattle.route_bound.specs.Lines.{IsBestLine, line_crossings};
+ghost use Rattle.std.specs.Prelude.{◌≡◌, ℕ, ◌+◌, ◌<◌, ◌≤◌, All, get_or, length};
+ghost use Rattle.route_bound.specs.Lines.{AreCounted, IsBestLine, IsFirstGreatest, crosses_line, one_if};
 ghost use Rattle.route_bound.specs.Ranges.{line_count};
 
 use crate::placed::PlacedNets;
 use crate::range::{CornerRange, LineKind};
-use fpga_types::{Grid, NET_LIMIT};
-use std::alloc::{AllocError, Global};
+use fpga_types::{NET_LIMIT, Net};
+
+/// The greatest number of straight lines of a kind.
+const LINE_LIMIT: usize = 100;
 
 impl<'a> PlacedNets<'a> {
     /// The number of a straight line of a kind that most nets cross.
     ///
-    /// # Errors
-    /// Where memory is short.
-    pub fn best_line(&self, alloc: Global, kind: LineKind) -> Result<u32, AllocError>
+    /// Takes time for each terminal and each line that goes between the terminals of its net.
+    pub fn best_line(&self, kind: LineKind) -> u32
         requires { length self.now.netlist.nets ≤ NET_LIMIT }
-        ensures { IfOk result (IsBestLine self.now kind) }
+        ensures { IsBestLine self.now kind result }
     {
-        let mut best = 0;
-        let mut most = self.line_crossings(alloc, kind, 0)?;
-        for line in 1..self.line_count(kind) {
-            let count = self.line_crossings(alloc, kind, line)?;
-            if count <= most {
+        let limit = self.line_count(kind) as usize;
+        let mut counts = [0; LINE_LIMIT];
+        self.count_nets(&mut counts, kind);
+        first_greatest(&counts[..limit])
+    }
+
+    /// Counts in a row of zeros, by the numbers of the lines, how many nets cross each.
+    fn count_nets(&self, counts: &mut [u32], kind: LineKind)
+        requires few { length self.now.netlist.nets ≤ NET_LIMIT }
+        requires room { line_count self.now.placement.grid kind ≤ length counts.old }
+        requires zeros { All (λ n. n ≡ 0) counts.old }
+        ensures size { length counts.new ≡ length counts.old }
+        ensures counted { AreCounted self.now kind (length self.now.netlist.nets) counts.new }
+    {
+        for net in self.netlist.nets.as_slice() {
+            self.add_net(counts, kind, net);
+        }
+    }
+
+    /// Counts a net at each line that it crosses: it crosses none outside of its span.
+    fn add_net(&self, counts: &mut [u32], kind: LineKind, net: &Net)
+        requires room { line_count self.now.placement.grid kind ≤ length counts.old }
+        requires few { (line : ℕ) → line < line_count self.now.placement.grid kind
+            → get_or counts.old line 0 < NET_LIMIT }
+        ensures size { length counts.new ≡ length counts.old }
+        ensures added { (line : ℕ) → line < line_count self.now.placement.grid kind
+            → get_or counts.new line 0
+            ≡ get_or counts.old line 0 + one_if (crosses_line self.now kind net.now line) }
+    {
+        let span = self.net_span(kind, net);
+        for line in span.low..span.high.min(self.line_count(kind)) {
+            if !self.crosses_line(kind, net, line) {
                 continue;
             }
-            most = count;
-            best = line;
-        }
-        Ok(best)
-    }
-
-    /// How many straight lines of a kind the array has; at least one.
-    fn line_count(&self, kind: LineKind) -> u32
-        ensures count { result ≡ line_count self.now.placement.grid kind }
-        ensures some { 1 ≤ result }
-    {
-        let grid = self.placement.grid;
-        let Grid { nx, ny } = grid;
-        match kind {
-            LineKind::Column => nx,
-            LineKind::Row => ny,
+            counts[line as usize] += 1;
         }
     }
 
-    /// How many nets cross a straight line.
-    ///
-    /// # Errors
-    /// Where memory is short.
-    fn line_crossings(&self, alloc: Global, kind: LineKind, line: u32) -> Result<usize, AllocError>
-        requires { length self.now.netlist.nets ≤ NET_LIMIT }
-        ensures { IfOk result (λ count. count ≡ line_crossings self.now kind line) }
+    /// Whether a net crosses a straight line.
+    fn crosses_line(&self, kind: LineKind, net: &Net, line: u32) -> bool
+        ensures { result ≡ crosses_line self.now kind net.now line }
     {
-        let range = CornerRange::of_line(self.placement.grid, kind, line);
-        let numbers = self.crossing(alloc, range)?;
-        Ok(numbers.as_slice().len())
+        self.crosses(CornerRange::of_line(self.placement.grid, kind, line), net)
     }
+}
+
+/// Where the first of the greatest numbers of a row stands.
+fn first_greatest(row: &[u32]) -> u32
+    requires some { (1 ≤ length row.now) × (length row.now ≤ LINE_LIMIT) }
+    ensures { IsFirstGreatest row.now result }
+{
+    let mut best = 0;
+    for at in 1..row.len() {
+        if row[best] < row[at] {
+            best = at;
+        }
+    }
+    best as u32
 }

@@ -35,12 +35,20 @@ struct Candidate {
     edges: Edges,
 }
 
+/// The cells that the driver and the sinks of a net touch, in this order, and corners among which
+/// all of theirs are.
+#[derive(Drop)]
+struct Touched {
+    reaches: Vec<Reach>,
+    corners: CornerRange,
+}
+
 /// A search: for each net the cells that its driver and its sinks touch, the rectangles that were
 /// looked at, those whose neighbors were not, the fullest so far, and how many may be looked at yet.
 #[derive(Drop)]
 struct Search {
     grid: Grid,
-    nets: Vec<Vec<Reach>>,
+    nets: Vec<Touched>,
     seen: BTreeSet<Edges>,
     open: BTreeSet<Candidate>,
     best: Candidate,
@@ -211,12 +219,13 @@ impl Edges {
     }
 }
 
-/// For each ordinary net, the cells that its driver and its sinks touch, in this order.
-fn nets_of(alloc: Global, placed: &PlacedNets<'_>) -> Result<Vec<Vec<Reach>>, AllocError> {
+/// For each net, the cells that its driver and its sinks touch.
+fn nets_of(alloc: Global, placed: &PlacedNets<'_>) -> Result<Vec<Touched>, AllocError> {
     let mut nets = Vec::new(alloc);
     for net in placed.netlist.nets.as_slice() {
         let reaches = reaches_of(alloc, placed, net)?;
-        nets.push(reaches)?;
+        let corners = corners_of(reaches.as_slice());
+        nets.push(Touched { reaches, corners })?;
     }
     Ok(nets)
 }
@@ -237,24 +246,64 @@ fn reaches_of(alloc: Global, placed: &PlacedNets<'_>, net: &Net) -> Result<Vec<R
     Ok(reaches)
 }
 
+/// Corners among which all are of the cells that are touched: those round the places, and all there
+/// are where one touches none.
+fn corners_of(reaches: &[Reach]) -> CornerRange {
+    let mut low = SwitchAt {
+        i: u32::MAX,
+        j: u32::MAX,
+    };
+    let mut high = SwitchAt { i: 0, j: 0 };
+    for reach in reaches {
+        let Reach { x, y, sides } = *reach;
+        if !(sides.left || sides.right || sides.bottom || sides.top) {
+            return CornerRange {
+                low: SwitchAt { i: 0, j: 0 },
+                high: SwitchAt {
+                    i: u32::MAX,
+                    j: u32::MAX,
+                },
+            };
+        }
+        low.i = low.i.min(x.saturating_sub(1));
+        low.j = low.j.min(y.saturating_sub(1));
+        high.i = high.i.max(x);
+        high.j = high.j.max(y);
+    }
+    CornerRange { low, high }
+}
+
 /// How many rectangles may be looked at.
-fn look_count(nets: &[Vec<Reach>]) -> u64 {
+fn look_count(nets: &[Touched]) -> u64 {
     let mut terminals = 1u64;
-    for reaches in nets {
-        terminals = terminals.saturating_add(reaches.len() as u64);
+    for net in nets {
+        terminals = terminals.saturating_add(net.reaches.len() as u64);
     }
     RECTANGLE_LIMIT.min(TERMINAL_LIMIT / terminals.max(1))
 }
 
 /// How many nets cross the cut round these corners.
-fn count_crossing(nets: &[Vec<Reach>], range: CornerRange) -> u64 {
+fn count_crossing(nets: &[Touched], range: CornerRange) -> u64 {
     let mut count = 0u64;
-    for reaches in nets {
-        if crosses(reaches.as_slice(), range) {
+    for net in nets {
+        if is_on_one_side(net.corners, range) {
+            continue;
+        }
+        if crosses(net.reaches.as_slice(), range) {
             count = count.saturating_add(1);
         }
     }
     count
+}
+
+/// Whether all of these corners are in a range, or none.
+fn is_on_one_side(corners: CornerRange, range: CornerRange) -> bool {
+    let CornerRange { low, high } = range;
+    let beside = corners.high.i < low.i || high.i < corners.low.i;
+    let above_or_below = corners.high.j < low.j || high.j < corners.low.j;
+    let within_columns = low.i <= corners.low.i && corners.high.i <= high.i;
+    let within_rows = low.j <= corners.low.j && corners.high.j <= high.j;
+    beside || above_or_below || within_columns && within_rows
 }
 
 /// Whether a sink lies across the cut from the driver.

@@ -10,26 +10,26 @@ pub crossed-requires-clause-range : goal.crossed-requires-clause-range
 crossed-requires-clause-range c =
     let grid : Size = c.args.self.now.placement.grid in
     let at = c.of_line-range.ensures
-    ∙ ap (λ (p : PlacedNetlist). line_range p.placement.grid c.args.kind c.in_ok-line.line)
+    ∙ ap (λ (p : PlacedNetlist). line_range p.placement.grid c.args.kind c.best_line-line.result)
     c.self.view_is in
     subst (λ (r : CornerRange). IsRange grid r) (sym at)
-    (line-range grid c.args.kind c.in_ok-line.line c.in_ok-line.ensures.there)
+    (line-range grid c.args.kind c.best_line-line.result c.best_line-line.ensures.there)
 
 pub crossed-requires-clause-some : goal.crossed-requires-clause-some
 crossed-requires-clause-some c =
     let grid : Size = c.args.self.now.placement.grid in
     let at = c.of_line-range.ensures
-    ∙ ap (λ (p : PlacedNetlist). line_range p.placement.grid c.args.kind c.in_ok-line.line)
+    ∙ ap (λ (p : PlacedNetlist). line_range p.placement.grid c.args.kind c.best_line-line.result)
     c.self.view_is in
     subst (λ (r : CornerRange). 1 ≤ cut_size grid r) (sym at)
     (subst (λ (n : ℕ). 1 ≤ n)
-    (sym (line-size grid c.args.kind c.in_ok-line.line c.in_ok-line.ensures.there))
+    (sym (line-size grid c.args.kind c.best_line-line.result c.best_line-line.ensures.there))
     (line-some grid c.args.kind))
 
 pub returns-clause-most : goal.returns-clause-most
 returns-clause-most c =
     let at = c.of_line-range.ensures
-    ∙ ap (λ (p : PlacedNetlist). line_range p.placement.grid c.args.kind c.in_ok-line.line)
+    ∙ ap (λ (p : PlacedNetlist). line_range p.placement.grid c.args.kind c.best_line-line.result)
     c.self.view_is in
-    full-line c.args.self.now c.args.kind c.in_ok-line.line c.in_ok-cut.cut c.in_ok-line.ensures
+    full-line c.args.self.now c.args.kind c.best_line-line.result c.in_ok-cut.cut c.best_line-line.ensures
     c.in_ok-cut.ensures.crossed (c.in_ok-cut.ensures.range ∙ at)
