@@ -9,9 +9,22 @@ use Rattle.fpga_types.specs.CellNumbers.{number_of_cell}
 use Rattle.fpga_types.specs.Fabric.{is_cell}
 use Rattle.fpga_types.specs.Size.{Size}
 use Rattle.fpga_types.specs.declared.grid.Cell.{Cell}
-use Rattle.route_draw.specs.Crowded.{AddsMarks, IsMark, IsMarkIf, is_crowded}
+use Rattle.route_draw.specs.Crowded.{AddsMarks, AreFirstCells, IsMark, IsMarkIf, is_crowded}
 use Rattle.route_draw.specs.Parts.{Adds}
 use Rattle.route_draw.proofs.PartLemmas.{parts-more}
+
+-- one cell more of the array
+pub first-more : (grid : Size) (count : ℕ) (cells : List Cell) (cell : Cell)
+    → IsTrue (is_cell grid cell) → number_of_cell grid cell ≡ count → AreFirstCells grid count cells
+    → AreFirstCells grid (count + 1) (cells ++ cell ∷ [])
+first-more grid count cells cell within number first = record {
+  within = All-push (λ c. IsTrue (is_cell grid c)) cells cell first.within within;
+  each_once = map-append (number_of_cell grid) cells (cell ∷ [])
+      ∙ ap₂ (λ (a b : List ℕ). a ++ b) first.each_once
+      (ap (λ (n : ℕ). n ∷ []) (number ∙ sym (zero-add count)))
+      ∙ sym (range-push 0 count)
+      ∙ ap (range_with_len 0) (let e : suc count ≡ count + 1 = omega arith in e);
+}
 
 -- one cell more, with its mark if it is crowded
 pub marks-next : (grid : Size) (wants : Cell → ℕ) (width count crowded here want : ℕ) (cell : Cell)
@@ -25,15 +38,8 @@ marks-next grid wants width count crowded here want cell old mid new within numb
       part = front.part ++ next.part;
       is_part = record {
         cells = front.is_part.cells ++ cell ∷ [];
-        are_first = record {
-          within = All-push (λ c. IsTrue (is_cell grid c)) front.is_part.cells cell
-              front.is_part.are_first.within within;
-          each_once = map-append (number_of_cell grid) front.is_part.cells (cell ∷ [])
-              ∙ ap₂ (λ (a b : List ℕ). a ++ b) front.is_part.are_first.each_once
-              (ap (λ (n : ℕ). n ∷ []) (number ∙ sym (zero-add count)))
-              ∙ sym (range-push 0 count)
-              ∙ ap (range_with_len 0) (let e : suc count ≡ count + 1 = omega arith in e);
-        };
+        are_first = first-more grid count front.is_part.cells cell within number
+            front.is_part.are_first;
         are_marks = parts-more (IsMark wants width) front.is_part.cells cell front.part next.part
             front.is_part.are_marks
             (subst (λ (n : ℕ). IsMarkIf (nat_lt width n) cell n width next.part) is next.is_part);

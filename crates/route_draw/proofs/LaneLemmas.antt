@@ -1,5 +1,5 @@
 -- Where wires stand by a table of what cells want.
-use Rattle.std.proofs.Common.{◌≡◌, ℕ, Bool, false, List, sym, ap, subst, ◌∙◌}
+use Rattle.std.proofs.Common.{◌≡◌, ℕ, Bool, false, List, Option, sym, ap, subst, ◌∙◌}
 use Rattle.std.specs.Prelude.{IsTrue, max}
 use Rattle.std.proofs.lemmas.Bool.{false≢true}
 use Rattle.fpga_types.specs.Fabric.{is_cell}
@@ -8,6 +8,7 @@ use Rattle.fpga_types.specs.Size.{Size}
 use Rattle.fpga_types.specs.declared.grid.Cell.{Cell}
 use Rattle.fpga_types.specs.declared.route.RouteText.{RouteText}
 use Rattle.route_draw.specs.Blamed.{Blame}
+use Rattle.route_draw.specs.Cut.{CutSaid}
 use Rattle.route_draw.specs.Needs.{AreNeeds, has_tracks}
 use Rattle.route_draw.specs.Picture.{IsPicture, IsPictureOf}
 use Rattle.route_draw.specs.Wires.{AreLanes, IsAcross, LanesOf, Layout, layout_of, track_place}
@@ -46,15 +47,16 @@ across-free layout lanes cell track across off are = λ on within.
 
 -- a picture of a problem's own route
 pub own-picture : (problem : RoutingProblem) (route : RouteText) (width : ℕ) (blame : Blame)
-    (lanes : LanesOf) (text : List ℕ) → route ≡ problem.route
+    (shown : Option CutSaid) (lanes : LanesOf) (text : List ℕ) → route ≡ problem.route
     → AreLanes (layout_of (has_tracks problem.route.nets) problem.route width) lanes
     → ((on_tracks : Bool) → AreLanes (layout_of on_tracks route width) lanes
-    → IsPictureOf (record problem { route = route }) (layout_of on_tracks route width) blame text)
-    → IsPicture problem width blame text
-own-picture problem route width blame lanes text same are shows =
+    → IsPictureOf (record problem { route = route }) (layout_of on_tracks route width) blame shown
+    text)
+    → IsPicture problem width blame shown text
+own-picture problem route width blame shown lanes text same are shows =
     subst (λ (r : RouteText).
     IsPictureOf (record problem { route = r }) (layout_of (has_tracks problem.route.nets) r width)
-    blame text) same
+    blame shown text) same
     (shows (has_tracks problem.route.nets)
     (subst (λ (r : RouteText).
     AreLanes (layout_of (has_tracks problem.route.nets) r width) lanes) (sym same) are))

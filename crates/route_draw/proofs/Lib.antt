@@ -1,5 +1,6 @@
 mod CountLemmas
 mod CrowdLemmas
+mod CutLemmas
 mod LaneLemmas
 mod NameLemmas
 mod NeedLemmas

@@ -1,5 +1,5 @@
 -- What each part of a picture adds to its text.
-use Rattle.std.proofs.Common.{◌≡◌, ℕ, Bool, true, false, List, [], ◌++◌, length, ap, ap₂, sym, subst, ◌∙◌, refl, append_assoc}
+use Rattle.std.proofs.Common.{◌≡◌, ℕ, Bool, true, false, List, [], ◌++◌, Option, length, ap, ap₂, sym, subst, ◌∙◌, refl, append_assoc}
 use Rattle.std.specs.Prelude.{codes}
 use Rattle.fpga_types.specs.CellNumbers.{cell_count}
 use Rattle.fpga_types.specs.Problem.{RoutingProblem}
@@ -11,9 +11,10 @@ use Rattle.fpga_types.specs.declared.route.RouteNet.{RouteNet}
 use Rattle.route_draw.specs.Blamed.{Blame, mark_of}
 use Rattle.route_draw.specs.Caption.{AreCounts, IsKey, blamed_counted, counted, global_count, line_opening}
 use Rattle.route_draw.specs.Crowded.{AddsMarks, AreCrowded, AreMarks}
+use Rattle.route_draw.specs.Cut.{CutSaid}
 use Rattle.route_draw.specs.Needs.{AreNeeds}
 use Rattle.route_draw.specs.Parts.{Adds, AreParts}
-use Rattle.route_draw.specs.Picture.{IsBlock, IsBody, IsGlobal, IsGlobalIf, IsPictureOf, IsRouted, IsRoutedUnless, block_class, group}
+use Rattle.route_draw.specs.Picture.{IsBlock, IsBody, IsCutIf, IsGlobal, IsGlobalIf, IsPictureOf, IsRouted, IsRoutedUnless, block_class, group}
 use Rattle.route_draw.specs.Wires.{AreLanes, AreWires, LanesOf, Layout}
 
 pub block-added : (block : Block) (class name drawn old new : List ℕ) →
@@ -120,18 +121,22 @@ body-added problem layout blame blocks globals nets old a b new all_blocks all_g
     }
 
 pub picture-made : (problem : RoutingProblem) (layout : Layout) (blame : Blame)
-    (head marks key : List ℕ) (s0 s1 s2 s3 s4 s5 s6 : List ℕ) → AreCrowded layout marks key →
-    s0 ≡ codes "<svg " ++ head → Adds (IsBody problem layout blame) s0 s1 → s2 ≡ s1 ++ marks →
-    s3 ≡ s2 ++ codes "</g>\n" → Adds (AreCounts problem layout.width blame) s3 s4 →
-    s5 ≡ s4 ++ key → s6 ≡ s5 ++ codes "</svg>\n" → IsPictureOf problem layout blame s6
-picture-made problem layout blame head marks key s0 s1 s2 s3 s4 s5 s6 crowded e0 body e2 e3 line e5
-    e6 =
+    (shown : Option CutSaid) (head marks key : List ℕ) (s s0 s1 s2 s3 s4 s5 s6 : List ℕ) →
+    AreCrowded layout marks key → s ≡ codes "<svg " ++ head →
+    Adds (IsCutIf layout.grid shown) s s0 → Adds (IsBody problem layout blame) s0 s1 →
+    s2 ≡ s1 ++ marks → s3 ≡ s2 ++ codes "</g>\n" →
+    Adds (AreCounts problem layout.width blame) s3 s4 → s5 ≡ s4 ++ key →
+    s6 ≡ s5 ++ codes "</svg>\n" → IsPictureOf problem layout blame shown s6
+picture-made problem layout blame shown head marks key s s0 s1 s2 s3 s4 s5 s6 crowded e cut body e2
+    e3 line e5 e6 =
     record {
       head = head;
+      cut = cut.part;
       body = body.part;
       marks = marks;
       line = line.part;
       key = key;
+      is_cut = cut.is_part;
       is_body = body.is_part;
       are_crowded = crowded;
       are_counts = line.is_part;
@@ -140,7 +145,8 @@ picture-made problem layout blame head marks key s0 s1 s2 s3 s4 s5 s6 crowded e0
           (line.added ∙ ap (λ (t : List ℕ). t ++ line.part)
           (e3 ∙ ap (λ (t : List ℕ). t ++ codes "</g>\n")
           (e2 ∙ ap (λ (t : List ℕ). t ++ marks)
-          (body.added ∙ ap (λ (t : List ℕ). t ++ body.part) e0)))));
+          (body.added ∙ ap (λ (t : List ℕ). t ++ body.part)
+          (cut.added ∙ ap (λ (t : List ℕ). t ++ cut.part) e))))));
     }
 
 -- the marks on the cells of a route, by a table of what they want, and the key to them

@@ -1,6 +1,7 @@
 pub mod Blamed
 pub mod Caption
 pub mod Crowded
+pub mod Cut
 pub mod Escape
 pub mod Needs
 pub mod Parts

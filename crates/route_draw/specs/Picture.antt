@@ -1,6 +1,8 @@
 -- What a picture shows, as a text of SVG.
-use Rattle.std.specs.Prelude.{◌≡◌, ℕ, Bool, true, false, List, [], ◌++◌, None, codes, flat_map}
+use Rattle.std.specs.Prelude.{◌≡◌, ℕ, Bool, true, false, List, [], ◌++◌, Option, None, Some, codes, flat_map}
+use Rattle.fpga_types.specs.CellNumbers.{cell_count}
 use Rattle.fpga_types.specs.Problem.{RoutingProblem}
+use Rattle.fpga_types.specs.Size.{Size}
 use Rattle.fpga_types.specs.declared.netlist.Block.{Block}
 use Rattle.fpga_types.specs.declared.netlist.BlockKind.{BlockKind}
 use Rattle.fpga_types.specs.declared.netlist.BlockKind.TheVariants.{Input, Output, Logic}
@@ -10,6 +12,7 @@ use Rattle.fpga_types.specs.declared.route.RouteText.{RouteText}
 use Rattle.route_draw.specs.Blamed.{Blame, mark_of}
 use Rattle.route_draw.specs.Caption.{AreCounts}
 use Rattle.route_draw.specs.Crowded.{AreCrowded}
+use Rattle.route_draw.specs.Cut.{AreBands, CutSaid}
 use Rattle.route_draw.specs.Escape.{escaped}
 use Rattle.route_draw.specs.Needs.{has_tracks}
 use Rattle.route_draw.specs.Parts.{AreParts}
@@ -72,29 +75,41 @@ pub record IsBody (problem : RoutingProblem) (layout : Layout) (blame : Blame) (
   pub are_nets : AreParts (IsRouted layout blame) problem.route.nets nets
   pub text_is : text ≡ blocks ++ globals ++ nets
 
+-- of a cut that is shown: a group with its line for a name, in which a band lies over each of its
+-- cells and over no other; and nothing where none is
+abbrev pub IsCutIf : Size → Option CutSaid → List ℕ → Type 0
+IsCutIf grid None text = text ≡ []
+IsCutIf grid (Some cut) text =
+    (colour : List ℕ) × ((bands : List ℕ) × AreBands grid cut.range (cell_count grid) bands
+    × (text ≡ group [] (codes "cut\" fill-opacity=\".4\" fill=\"") colour cut.line bands))
+
 -- a picture of a problem, whose wires stand so in the channels: one element of SVG from its start
--- to its end, with all blocks and nets, a mark on each crowded cell and on no other, and below them
--- the counts and a key
+-- to its end, with the cells of a cut if one is shown, all blocks and nets, a mark on each crowded
+-- cell and on no other, and below them the counts and a key
 pub record IsPictureOf (problem : RoutingProblem) (layout : Layout) (blame : Blame)
-    (text : List ℕ) : Type 0 where
+    (shown : Option CutSaid) (text : List ℕ) : Type 0 where
   pub head : List ℕ
+  pub cut : List ℕ
   pub body : List ℕ
   pub marks : List ℕ
   pub line : List ℕ
   pub key : List ℕ
+  pub is_cut : IsCutIf layout.grid shown cut
   pub is_body : IsBody problem layout blame body
   pub are_crowded : AreCrowded layout marks key
   pub are_counts : AreCounts problem layout.width blame line
-  pub text_is : text ≡ codes "<svg " ++ head ++ body ++ marks ++ codes "</g>\n" ++ line ++ key
-      ++ codes "</svg>\n"
+  pub text_is : text ≡ codes "<svg " ++ head ++ cut ++ body ++ marks ++ codes "</g>\n" ++ line
+      ++ key ++ codes "</svg>\n"
 
--- a picture of a problem and its route, with so many tracks in each channel
-abbrev pub IsPicture : RoutingProblem → (width : ℕ) → Blame → List ℕ → Type 0
-IsPicture problem width blame text =
+-- a picture of a problem and its route, with so many tracks in each channel, and of a cut if one is
+-- shown
+abbrev pub IsPicture : RoutingProblem → (width : ℕ) → Blame → (shown : Option CutSaid) → List ℕ
+    → Type 0
+IsPicture problem width blame shown text =
     let route : RouteText = problem.route in
-    IsPictureOf problem (layout_of (has_tracks route.nets) route width) blame text
+    IsPictureOf problem (layout_of (has_tracks route.nets) route width) blame shown text
 
 -- a picture of a routing of a problem, whose wires stand on their tracks
 abbrev pub IsRoutedPicture : RoutingProblem → RouteText → (width : ℕ) → List ℕ → Type 0
 IsRoutedPicture problem found width text =
-    IsPictureOf (record problem { route = found }) (layout_of true found width) None text
+    IsPictureOf (record problem { route = found }) (layout_of true found width) None None text

@@ -1,10 +1,12 @@
 //! The cells that want more tracks than there are.
-ghost use Rattle.std.specs.Prelude.{◌≡◌, ◌++◌, IfOk, OnOk, ℕ, codes, decimal, if◌then◌else◌, nat_lt, string_bytes};
+ghost use Rattle.std.specs.Prelude.{◌≡◌, ◌+◌, ◌*◌, ◌++◌, IfOk, OnOk, ℕ, codes, decimal, if◌then◌else◌, nat_lt, string_bytes};
 ghost use Rattle.fpga_types.specs.CellNumbers.{cell_count};
 ghost use Rattle.fpga_types.specs.declared.grid.Cell.{Cell as AnyCell};
 ghost use Rattle.route_draw.specs.Crowded.{AddsMarks, IsMarkIf, kind_of, mark_title, place_said, wanted_said};
+ghost use Rattle.route_draw.specs.Cut.{area};
 ghost use Rattle.route_draw.specs.Needs.{AreNeeds};
 ghost use Rattle.route_draw.specs.Parts.{Adds};
+ghost use Rattle.route_draw.specs.declared.scale.TheConstants.{BLOCK, TILE};
 
 use crate::needs::{cell_count, need_at};
 use crate::path::append_rectangle;
@@ -101,22 +103,40 @@ fn kind_of(axis: Axis) -> &'static str
 // The rectangle of a cell.
 fn cell_drawn(alloc: Global, cell: Cell) -> Result<String, AllocError> {
     let mut out = String::new(alloc);
+    append_cell(&mut out, cell)?;
+    Ok(out)
+}
+
+/// Appends the rectangle of a cell.
+pub(crate) fn append_cell(out: &mut String, cell: Cell) -> Result<(), AllocError>
+    ensures { OnOk result
+        (string_bytes out.new ≡ string_bytes out.old ++ area cell.axis cell.x cell.y) }
+{
     let Cell { axis, x, y } = cell;
     match axis {
-        Axis::X => {
-            let at = Point {
-                x: block_start(x),
-                y: channel_start(y),
-            };
-            append_rectangle(&mut out, at, BLOCK, CHANNEL)?;
-        }
-        Axis::Y => {
-            let at = Point {
-                x: channel_start(x),
-                y: block_start(y),
-            };
-            append_rectangle(&mut out, at, CHANNEL, BLOCK)?;
-        }
+        Axis::X => append_rectangle(out, row_cell(x, y), BLOCK, CHANNEL),
+        Axis::Y => append_rectangle(out, column_cell(x, y), CHANNEL, BLOCK),
     }
-    Ok(out)
+}
+
+// Where a cell along a row begins.
+fn row_cell(x: u32, y: u32) -> Point
+    ensures x { result.x ≡ x * TILE }
+    ensures y { result.y ≡ y * TILE + BLOCK }
+{
+    Point {
+        x: block_start(x),
+        y: channel_start(y),
+    }
+}
+
+// Where a cell along a column begins.
+fn column_cell(x: u32, y: u32) -> Point
+    ensures x { result.x ≡ x * TILE + BLOCK }
+    ensures y { result.y ≡ y * TILE }
+{
+    Point {
+        x: channel_start(x),
+        y: block_start(y),
+    }
 }

@@ -1,6 +1,6 @@
 //! Pictures of routes, as texts of SVG: the array with its blocks and pads, the channels with their
-//! tracks, each net in a colour, which may be bold or pale, and the cells that want more tracks
-//! than there are.
+//! tracks, each net in a colour, which may be bold or pale, the cells that want more tracks than
+//! there are, and those of a cut.
 #![tactic(auto)]
 
 mod array;
@@ -8,6 +8,7 @@ mod blocks;
 mod caption;
 mod colour;
 mod crowded;
+mod cut;
 mod emphasis;
 mod escape;
 mod group;
@@ -22,6 +23,7 @@ mod pins;
 mod scale;
 mod wires;
 
+pub use cut::ShownCut;
 pub use emphasis::{Emphasis, NetNames};
 pub use escape::append_escaped;
 pub use picture::{draw, draw_routed};

@@ -1,5 +1,6 @@
 //! Parts of the data of a path of SVG. Each begins with a move, so that they stand in any order.
 ghost use Rattle.std.specs.Prelude.{◌≡◌, ◌++◌, OnOk, codes, decimal, string_bytes};
+ghost use Rattle.route_draw.specs.Cut.{rectangle};
 
 use crate::scale::Point;
 use std::alloc::AllocError;
@@ -40,7 +41,10 @@ pub(crate) fn append_rectangle(
     at: Point,
     width: u64,
     height: u64,
-) -> Result<(), AllocError> {
+) -> Result<(), AllocError>
+    ensures { OnOk result (string_bytes out.new ≡ string_bytes out.old
+        ++ rectangle at.x at.y width height) }
+{
     let Point { x, y } = at;
     write!(out, "M{x} {y}h{width}v{height}h-{width}z")
 }

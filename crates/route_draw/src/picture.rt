@@ -2,6 +2,7 @@
 ghost use Rattle.std.specs.Prelude.{◌≡◌, ◌++◌, ℕ, Bool, IfOk, List, OnOk, codes, string_bytes};
 ghost use Rattle.route_draw.specs.Blamed.{blame_of};
 ghost use Rattle.route_draw.specs.Crowded.{AreCrowded};
+ghost use Rattle.route_draw.specs.Cut.{cut_of};
 ghost use Rattle.route_draw.specs.Parts.{Adds};
 ghost use Rattle.route_draw.specs.Picture.{IsBody, IsPicture, IsPictureOf, IsRoutedPicture};
 ghost use Rattle.route_draw.specs.Wires.{AreLanes, Layout, layout_of};
@@ -10,6 +11,7 @@ use crate::array::append_array;
 use crate::blocks::{append_blocks, append_global_nets};
 use crate::caption::{append_counts, key};
 use crate::crowded::append_crowded;
+use crate::cut::{ShownCut, append_cut};
 use crate::emphasis::Emphasis;
 use crate::head::append_head;
 use crate::lanes::Lanes;
@@ -27,7 +29,8 @@ const LINES: u64 = 5;
 /// tracks of the route are 0, it is a global route, and the nets of a cell are drawn side by side.
 /// A cell is red that wants more tracks than the width: those up to the highest track of its
 /// channel lines, and in a global route one for each net. Where names are given for `emphasis`, the
-/// nets with these names are bold, and the others pale.
+/// nets with these names are bold, and the others pale. Behind blocks and nets a band lies over each
+/// cell of `cut`, if one is given.
 ///
 /// Takes time and memory that grow with the array, the width, the blocks and the elements, and time
 /// with the nets by the logarithm of the number of names.
@@ -36,12 +39,21 @@ pub fn draw<'a>(
     problem: &'a PlacedProblem,
     width: u32,
     emphasis: &Emphasis<'a>,
+    cut: Option<ShownCut<'_>>,
 ) -> Result<String, AllocError>
-    ensures { IfOk result (λ text.
-        IsPicture problem.now width (blame_of emphasis.now) (string_bytes text)) }
+    ensures { IfOk result (λ text. IsPicture problem.now width (blame_of emphasis.now)
+        (cut_of cut.entry) (string_bytes text)) }
 {
     let mut lanes = Lanes::of(alloc, problem, width)?;
-    draw_route(alloc, problem, problem.route(), width, &mut lanes, emphasis)
+    draw_route(
+        alloc,
+        problem,
+        problem.route(),
+        width,
+        &mut lanes,
+        emphasis,
+        cut,
+    )
 }
 
 /// The picture of a routing of a problem, in which a net may have several wires of a cell: like
@@ -56,7 +68,15 @@ pub fn draw_routed(
         IsRoutedPicture problem.now found.now width (string_bytes text)) }
 {
     let mut lanes = Lanes::on_tracks(alloc, found, width)?;
-    draw_route(alloc, problem, found, width, &mut lanes, &Emphasis::Alike)
+    draw_route(
+        alloc,
+        problem,
+        found,
+        width,
+        &mut lanes,
+        &Emphasis::Alike,
+        None,
+    )
 }
 
 // The picture of a route of a problem whose wires stand so.
@@ -67,14 +87,16 @@ fn draw_route<'a>(
     width: u32,
     lanes: &mut Lanes,
     emphasis: &Emphasis<'a>,
+    cut: Option<ShownCut<'_>>,
 ) -> Result<String, AllocError>
     ensures { IfOk result (λ text. (on_tracks : Bool) →
         AreLanes (layout_of on_tracks route.now width) lanes.old →
         IsPictureOf (record problem.now { route = route.now }) (layout_of on_tracks route.now width)
-        (blame_of emphasis.now) (string_bytes text)) }
+        (blame_of emphasis.now) (cut_of cut.entry) (string_bytes text)) }
 {
     let marks = crowded_marks(alloc, route, lanes, width)?;
     let mut out = front(alloc, route.grid, width)?;
+    append_cut(&mut out, alloc, route.grid, cut)?;
     append_body(&mut out, alloc, problem, route, lanes, emphasis)?;
     out.push_str(marks.text.as_str())?;
     out.push_str("</g>\n")?;

@@ -10,8 +10,10 @@ use Rattle.fpga_types.specs.Problem.{RoutingProblem}
 use Rattle.fpga_types.specs.Texts.{Texts}
 use Rattle.fpga_types.specs.declared.netlist.Net.{Net}
 use Rattle.route_draw.specs.Blamed.{Blame}
+use Rattle.route_draw.specs.Cut.{CutSaid}
 use Rattle.route_draw.specs.Picture.{IsPicture}
 use Rattle.route_picture.specs.Blame.{IsStopped, NamesNetsIf, NamesOthersIf, blame_said}
+use Rattle.route_picture.specs.Cut.{cut_said}
 use Rattle.route_picture.specs.Files.{AreTexts, GivenTexts, IsReached, IsText, IsTextIf, IsUnread, StopsAt, StopsAtIf, name_of}
 use Rattle.route_picture.specs.Printed.{IsDrawn, IsUndrawn, Shows, ShowsRouted, StopsRouted, StopsRoutedIf}
 use Rattle.route_picture.specs.Words.{Asked, RoutedAsked}
@@ -120,13 +122,14 @@ misrouted-of ask limit before now texts four problem text stop are same faultles
 -- the picture is drawn
 pub drawn-of : (ask : Asked) (limit : ℕ) (files : Option FileMap) (texts : GivenTexts)
     (four : Texts) (problem : RoutingProblem) (nets : List Net) (names text : Option Bytes)
-    (blame : Blame) (picture : Bytes) → AreTexts ask limit files texts → four ≡ texts.four
+    (blame : Blame) (shown : Option CutSaid) (picture : Bytes) → AreTexts ask limit files texts → four ≡ texts.four
     → AreFaultless four → problem ≡ problem_said four → nets ≡ problem.netlist.nets
     → names ≡ texts.names → NamesNetsIf nets names → blame ≡ blame_said names
-    → text ≡ texts.routed → Shows ask.routed text problem ask.width blame picture
+    → shown ≡ cut_said names → text ≡ texts.routed
+    → Shows ask.routed text problem ask.width blame shown picture
     → IsDrawn ask limit files picture
-drawn-of ask limit files texts four problem nets names text blame picture are same faultless said
-    given named there blamed is shown =
+drawn-of ask limit files texts four problem nets names text blame shown picture are same faultless
+    said given named there blamed cut is shows =
     record {
       texts = texts;
       are_texts = are;
@@ -136,39 +139,47 @@ drawn-of ask limit files texts four problem nets names text blame picture are sa
           (subst (λ (n : Option Bytes). NamesNetsIf nets n) named there);
       shows = subst
           (λ (p : RoutingProblem).
-          Shows ask.routed texts.routed p ask.width (blame_said texts.names) picture)
+          Shows ask.routed texts.routed p ask.width (blame_said texts.names)
+          (cut_said texts.names) picture)
           (said ∙ ap problem_said same)
-          (subst (λ (b : Blame). Shows ask.routed texts.routed problem ask.width b picture)
+          (subst (λ (b : Blame).
+          Shows ask.routed texts.routed problem ask.width b (cut_said texts.names) picture)
           (blamed ∙ ap blame_said named)
-          (subst (λ (t : Option Bytes). Shows ask.routed t problem ask.width blame picture) is
-          shown));
+          (subst (λ (c : Option CutSaid).
+          Shows ask.routed texts.routed problem ask.width blame c picture)
+          (cut ∙ ap cut_said named)
+          (subst (λ (t : Option Bytes). Shows ask.routed t problem ask.width blame shown picture)
+          is shows)));
     }
 
 -- no routing is asked for
 pub shows-own : (routed : Option RoutedAsked) (text : Option Bytes) (problem : RoutingProblem)
-    (width : ℕ) (blame : Blame) (picture : Bytes) → routed ≡ None
-    → IsPicture problem width blame picture → Shows routed text problem width blame picture
-shows-own routed text problem width blame picture none =
-    subst (λ (r : Option RoutedAsked). Shows r text problem width blame picture) (sym none)
+    (width : ℕ) (blame : Blame) (shown : Option CutSaid) (picture : Bytes) → routed ≡ None
+    → IsPicture problem width blame shown picture
+    → Shows routed text problem width blame shown picture
+shows-own routed text problem width blame shown picture none =
+    subst (λ (r : Option RoutedAsked). Shows r text problem width blame shown picture) (sym none)
 
 -- there is no text of one
 pub shows-textless : (routed : Option RoutedAsked) (text : Option Bytes)
-    (problem : RoutingProblem) (width : ℕ) (blame : Blame) (picture : Bytes) → text ≡ None
-    → IsPicture problem width blame picture → Shows routed text problem width blame picture
-shows-textless None text problem width blame picture none shown = shown
-shows-textless (Some routed) text problem width blame picture none shown =
-    subst (λ (t : Option Bytes). Shows (Some routed) t problem width blame picture) (sym none) shown
+    (problem : RoutingProblem) (width : ℕ) (blame : Blame) (shown : Option CutSaid)
+    (picture : Bytes) → text ≡ None → IsPicture problem width blame shown picture
+    → Shows routed text problem width blame shown picture
+shows-textless None text problem width blame shown picture none shows = shows
+shows-textless (Some routed) text problem width blame shown picture none shows =
+    subst (λ (t : Option Bytes). Shows (Some routed) t problem width blame shown picture)
+    (sym none) shows
 
 -- a routing is asked for, and there is its text
 pub shows-routed : (routed : Option RoutedAsked) (text : Option Bytes) (asked : RoutedAsked)
-    (said : Bytes) (problem : RoutingProblem) (width : ℕ) (blame : Blame) (picture : Bytes)
-    → routed ≡ Some asked → text ≡ Some said
+    (said : Bytes) (problem : RoutingProblem) (width : ℕ) (blame : Blame)
+    (shown : Option CutSaid) (picture : Bytes) → routed ≡ Some asked → text ≡ Some said
     → ShowsRouted problem width asked.reach said picture
-    → Shows routed text problem width blame picture
-shows-routed routed text asked said problem width blame picture is there shown =
-    subst (λ (r : Option RoutedAsked). Shows r text problem width blame picture) (sym is)
-    (subst (λ (t : Option Bytes). Shows (Some asked) t problem width blame picture) (sym there)
-    shown)
+    → Shows routed text problem width blame shown picture
+shows-routed routed text asked said problem width blame shown picture is there shows =
+    subst (λ (r : Option RoutedAsked). Shows r text problem width blame shown picture) (sym is)
+    (subst (λ (t : Option Bytes). Shows (Some asked) t problem width blame shown picture)
+    (sym there) shows)
 
 pub stops-routed : (routed : Option RoutedAsked) (text : Option Bytes) (asked : RoutedAsked)
     (said : Bytes) (problem : RoutingProblem) (width : ℕ) (stop : Stop)

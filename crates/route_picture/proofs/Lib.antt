@@ -1,4 +1,5 @@
 mod BlameLemmas
+mod CutLemmas
 mod DrawnLemmas
 mod SaidLemmas
 mod WordLemmas

@@ -1,4 +1,5 @@
 pub mod Blame
+pub mod Cut
 pub mod Files
 pub mod Printed
 pub mod Said

@@ -12,8 +12,10 @@ use Rattle.fpga_text.specs.Bytes.{Bytes}
 use Rattle.fpga_text.specs.FirstFault.{IsFaultless, IsRefusal}
 use Rattle.fpga_types.specs.Problem.{RoutingProblem}
 use Rattle.route_draw.specs.Blamed.{Blame}
+use Rattle.route_draw.specs.Cut.{CutSaid}
 use Rattle.route_draw.specs.Picture.{IsPicture, IsRoutedPicture}
 use Rattle.route_picture.specs.Blame.{NamesNetsIf, NamesOthersIf, blame_said}
+use Rattle.route_picture.specs.Cut.{cut_said}
 use Rattle.route_picture.specs.Files.{AreTexts, GivenTexts, IsUnread}
 use Rattle.route_picture.specs.Words.{Asked, RoutedAsked, asked}
 use Rattle.route_picture.specs.declared.stop.Stop.{Stop}
@@ -30,13 +32,14 @@ pub record ShowsRouted (problem : RoutingProblem) (width reach : ℕ) (text pict
 
 -- what a picture shows: the routing that is asked for, or else the route of the problem
 abbrev pub Shows : Option RoutedAsked → (text : Option Bytes) → RoutingProblem → (width : ℕ) →
-    Blame → (picture : Bytes) → Type 0
-Shows (Some routed) (Some text) problem width blame picture =
+    Blame → (shown : Option CutSaid) → (picture : Bytes) → Type 0
+Shows (Some routed) (Some text) problem width blame shown picture =
     ShowsRouted problem width routed.reach text picture
-Shows _ _ problem width blame picture = IsPicture problem width blame picture
+Shows _ _ problem width blame shown picture = IsPicture problem width blame shown picture
 
 -- a picture of the problem that the files of the words say, in channels of the width that they say;
--- where a file of names is asked for, the nets with these names are to blame, and there are some
+-- where a file of names is asked for, the nets with these names are to blame, and there are some,
+-- and the first cut that it says is shown, if it says one
 pub record IsDrawn (ask : Asked) (limit : ℕ) (files : Option FileMap) (picture : Bytes) :
     Type 0 where
   pub texts : GivenTexts
@@ -44,7 +47,7 @@ pub record IsDrawn (ask : Asked) (limit : ℕ) (files : Option FileMap) (picture
   pub faultless : AreFaultless texts.four
   pub names_nets : NamesNetsIf (netlist_said texts.four).nets texts.names
   pub shows : Shows ask.routed texts.routed (problem_said texts.four) ask.width
-      (blame_said texts.names) picture
+      (blame_said texts.names) (cut_said texts.names) picture
 
 -- one of the texts of the files is refused, and the stop says which and why
 pub record AreRefused (ask : Asked) (limit : ℕ) (files : Option FileMap) (stop : Stop) :

@@ -11,6 +11,7 @@ ghost use Rattle.route_picture.specs.Printed.{IsDrawn, IsPrinted, IsStopped, IsU
 ghost use Rattle.route_picture.specs.Words.{words_said};
 
 use crate::blame::emphasis;
+use crate::cut::shown_cut;
 use crate::file_texts::FileTexts;
 use crate::given_file::GivenFile;
 use crate::shown::shown;
@@ -102,11 +103,13 @@ fn picture_of_problem<'a>(
         → IsUndrawn (words_said words.entry) TEXT_BYTES before now stop) }
 {
     let nets = problem.netlist().nets.as_slice();
-    let emphasis = match emphasis(alloc, nets, texts.names()) {
+    let names = texts.names();
+    let emphasis = match emphasis(alloc, nets, names) {
         Ok(emphasis) => emphasis,
         Err(stop) => return Err(stop),
     };
-    shown(alloc, problem, words, texts.routed(), &emphasis)
+    let cut = shown_cut(names);
+    shown(alloc, problem, words, texts.routed(), &emphasis, cut)
 }
 
 // The bytes of the files that the words name.

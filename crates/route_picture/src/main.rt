@@ -3,7 +3,7 @@
 //! It is called as `route_picture ARCH NET PLACE ROUTE WIDTH [NAMES | ROUTED --reach L]`, where
 //! WIDTH and L are whole numbers from 1 to 64, and as `gafkelam picture` with the same words. The
 //! nets that the lines `net NAME` of NAMES name, as `core` says them, are drawn bold, and the
-//! others pale. Of ROUTED its routing is drawn, in which a net may have several wires of a cell: it
+//! others pale; where a line says a cut, as `bound` does, a band lies over its cells. Of ROUTED its routing is drawn, in which a net may have several wires of a cell: it
 //! has to be legal at WIDTH within L joins. Where no picture is printed, it says why on standard
 //! error.
 //!
@@ -19,6 +19,7 @@
 #![tactic(auto)]
 
 mod blame;
+mod cut;
 mod drawn;
 mod file_texts;
 mod given_file;

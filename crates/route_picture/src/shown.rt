@@ -3,6 +3,7 @@ ghost use Rattle.std.specs.Prelude.{◌≡◌, ◌⊎◌, ◌≤◌, MatchResult
 ghost use Rattle.std.specs.Option.{option_copied};
 ghost use Rattle.fpga_types.specs.declared.limits.TheConstants.{WIDTH_LIMIT};
 ghost use Rattle.route_draw.specs.Blamed.{blame_of};
+ghost use Rattle.route_draw.specs.Cut.{cut_of};
 ghost use Rattle.route_draw.specs.Picture.{IsPicture};
 ghost use Rattle.route_picture.specs.declared.stop.Stop.TheVariants.{Memory};
 ghost use Rattle.route_picture.specs.Printed.{Shows, ShowsRouted, StopsRouted, StopsRoutedIf};
@@ -12,7 +13,7 @@ use crate::stop::Stop;
 use crate::words::Words;
 use fpga_bounds::PlacedProblem;
 use fpga_route::read_route;
-use route_draw::{Emphasis, draw, draw_routed};
+use route_draw::{Emphasis, ShownCut, draw, draw_routed};
 use route_verify::{Judgement, verify_reach};
 use std::alloc::Global;
 
@@ -24,22 +25,23 @@ pub(crate) fn shown<'a>(
     words: Words<'_>,
     text: Option<&[u8]>,
     emphasis: &Emphasis<'a>,
+    cut: Option<ShownCut<'_>>,
 ) -> Result<String, Stop>
     requires { (1 ≤ words.width) × (words.width ≤ WIDTH_LIMIT) }
     ensures { MatchResult result
         (λ picture. Shows (words_said words.entry).routed (option_copied text.entry) problem.now
-        words.entry.width (blame_of emphasis.now) (string_bytes picture))
+        words.entry.width (blame_of emphasis.now) (cut_of cut.entry) (string_bytes picture))
         (λ stop. StopsRoutedIf (words_said words.entry).routed (option_copied text.entry)
         problem.now words.entry.width stop ⊎ (stop ≡ Memory)) }
 {
     let Some(routed) = words.routed else {
-        match route_picture(alloc, problem, words.width, emphasis) {
+        match route_picture(alloc, problem, words.width, emphasis, cut) {
             Ok(picture) => return Ok(picture),
             Err(stop) => return Err(stop),
         }
     };
     let Some(text) = text else {
-        match route_picture(alloc, problem, words.width, emphasis) {
+        match route_picture(alloc, problem, words.width, emphasis, cut) {
             Ok(picture) => return Ok(picture),
             Err(stop) => return Err(stop),
         }
@@ -56,12 +58,14 @@ fn route_picture<'a>(
     problem: &'a PlacedProblem,
     width: u32,
     emphasis: &Emphasis<'a>,
+    cut: Option<ShownCut<'_>>,
 ) -> Result<String, Stop>
     ensures { MatchResult result
-        (λ picture. IsPicture problem.now width (blame_of emphasis.now) (string_bytes picture))
+        (λ picture. IsPicture problem.now width (blame_of emphasis.now) (cut_of cut.entry)
+        (string_bytes picture))
         (λ stop. stop ≡ Memory) }
 {
-    let Ok(picture) = draw(alloc, problem, width, emphasis) else {
+    let Ok(picture) = draw(alloc, problem, width, emphasis, cut) else {
         return Err(Stop::Memory);
     };
     Ok(picture)
