@@ -188,7 +188,7 @@ def files_in(folder):
 def kind_of(report):
     """A report without its numbers but codes."""
     kind = re.sub(r"\b(line|count|step) \d+", r"\1 _", report)
-    kind = re.sub(r"^(routed|unroutable|undecided|bound) \d+( after \d+)?", r"\1 _\2", kind)
+    kind = re.sub(r"^(routed|unroutable|undecided|bound|no way) \d+( after \d+)?", r"\1 _\2", kind)
     return re.sub(r"after \d+", "after _", kind)
 
 

@@ -259,11 +259,23 @@ def unfound(words, width, rounds):
     ]
 
 
+def no_way(width):
+    """The lines that say that no wires reach a sink of a net."""
+    return [
+        f"There is no route with {width} tracks: of the net that the first line names, none of the wires that its "
+        "driver opens leads to one that a sink of it opens, whatever the other nets have.",
+        "Another width, other boxes or other switch blocks may have a way.",
+    ]
+
+
 def words_of(given, report, files):
     """What is to be said of a report of a width without a routing, or of an open one; None of another report."""
     found = re.fullmatch(r"undecided (\d+) after (\d+) rounds", report)
     if found:
         return "\n".join(unfound(Words(given), int(found[1]), int(found[2])))
+    found = re.fullmatch(r"no way (\d+)", report)
+    if found:
+        return "\n".join(no_way(int(found[1])))
     found = re.fullmatch(r"(unroutable|undecided) (\d+)(?: after (\d+) learned clauses)?", report)
     if not found:
         return None

@@ -19,6 +19,7 @@ use Rattle.fpga_problem.specs.declared.unread.FileFault.{FileFault}
 use Rattle.fpga_problem.specs.declared.unread.Unread.{Unread}
 use Rattle.fpga_route.specs.Codes.{route_faults}
 use Rattle.fpga_route.specs.Value.{route_value}
+use Rattle.fpga_types.specs.ArchSound.{IsSoundArch}
 use Rattle.fpga_types.specs.Fits.{Fits, problem_faults}
 use Rattle.fpga_types.specs.Placements.{IsSoundPlacement}
 use Rattle.fpga_types.specs.Problem.{PlacedNetlist, RoutingProblem, problem_of}
@@ -119,6 +120,7 @@ pub record PosesPlaced (files : Option FileMap) (names : PlacedNames) (placed : 
 
 -- its values are such as are read
 pub record IsSoundPlaced (placed : PlacedNetlist) : Type 0 where
+  pub arch : IsSoundArch placed.arch
   pub netlist : IsSoundNetlist placed.arch placed.netlist
   pub placement : IsSoundPlacement placed.arch placed.netlist placed.placement
 

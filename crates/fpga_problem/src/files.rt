@@ -7,6 +7,7 @@ ghost use Rattle.fpga_net.specs.Value.{net_value};
 ghost use Rattle.fpga_place.specs.Value.{place_value};
 ghost use Rattle.fpga_problem.specs.Files.{ArePlacedUnread, AreUnread, IsSoundPlaced, Poses, PosesPlaced, arch_source, names_said, net_source, place_source, placed_names_said};
 ghost use Rattle.fpga_problem.specs.Sources.{IsDeskFault, IsStopped, ReadsTo, Says};
+ghost use Rattle.fpga_types.specs.ArchSound.{IsSoundArch};
 ghost use Rattle.fpga_types.specs.Placements.{IsSoundPlacement};
 
 use crate::names::{FourNames, ThreeNames};
@@ -24,8 +25,9 @@ use std::alloc::Global;
 
 // The architecture that a file says.
 fn architecture<D: Desk>(alloc: Global, desk: &mut D, name: &str) -> Result<Arch, FileFault>
-    ensures { ReadsTo (D.state desk.old) (D.state desk.new) (arch_source name.now)
+    ensures reads { ReadsTo (D.state desk.old) (D.state desk.new) (arch_source name.now)
         (Says (D.state desk.old).files (arch_source name.now) arch_value) result }
+    ensures sound { IfOk result IsSoundArch }
 {
     let text = match read_bytes(alloc, desk, name, TEXT_BYTES) {
         Ok(text) => text,

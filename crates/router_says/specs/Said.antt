@@ -11,14 +11,14 @@ use Rattle.route_sweep.specs.Names.{numbered_prefix}
 use Rattle.router_says.specs.AtFault.{NamesSought, sought_of}
 use Rattle.router_says.specs.Names.{asked_in, file_said, may_have_several, name_of, prefix_of, reach_of}
 use Rattle.router_says.specs.Seen.{Sees}
-use Rattle.router_says.specs.Unfound.{unfound_said}
+use Rattle.router_says.specs.Unfound.{no_way_said, unfound_said}
 use Rattle.router_says.specs.Usage.{usage_said}
 use Rattle.router_says.specs.declared.faults.SystemErrors.{SystemErrors}
 use Rattle.router_top.specs.SlotNames.{OfEach, OfOne, Prefix, slot_name}
 use Rattle.router_top.specs.declared.outcome.Obstacle.{Obstacle}
 use Rattle.router_top.specs.declared.outcome.Obstacle.TheVariants.{Order, Pins}
 use Rattle.router_top.specs.declared.outcome.Outcome.{Outcome}
-use Rattle.router_top.specs.declared.outcome.Outcome.TheVariants.{Bound, NotAccepted, NotLegal, NotSymmetric, InputFault, Limit, ReadFault, Undecided, Unroutable, WriteFault, Usage, OutOfMemory, Unfound, Narrowed, Beyond}
+use Rattle.router_top.specs.declared.outcome.Outcome.TheVariants.{Bound, NotAccepted, NotLegal, NotSymmetric, InputFault, Limit, ReadFault, Undecided, Unroutable, WriteFault, Usage, OutOfMemory, Unfound, NoWay, Narrowed, Beyond}
 use Rattle.router_top.specs.declared.slot.Slot.{Slot as SlotOf}
 use Rattle.router_top.specs.declared.slot.Slot.TheVariants.{Said as SaidSlot}
 use Rattle.router_top.specs.declared.text_file.TextFile.{TextFile}
@@ -293,6 +293,8 @@ Says before now words asked errors (Beyond tracks cells nets) said =
     JustSays before now (bound_said tracks cells nets) said
 Says before now words asked errors (Unfound width rounds) said =
     JustSays before now (unfound_said asked width rounds) said
+Says before now words asked errors (NoWay width) said =
+    JustSays before now (no_way_said width) said
 Says before now words asked errors (Usage code) said =
     JustSays before now (usage_said words code) said
 Says before now words asked errors (ReadFault file) said =

@@ -1,4 +1,4 @@
--- What is said where rounds have found no route of a placement.
+-- What is said where rounds have found no route of a placement, or there is none.
 use Rattle.std.specs.Prelude.{ℕ, ◌++◌, ◌*◌, Bool, List, [], codes, decimal, false, min, nat_le, nat_lt, Option, Some, if◌then◌else◌}
 use Rattle.fpga_types.specs.declared.limits.TheConstants.{WIDTH_LIMIT}
 use Rattle.router_words.specs.Job.{JobAsked, Narrows, Negotiates}
@@ -42,3 +42,11 @@ tries_said free width rounds =
 abbrev pub unfound_said : Option JobAsked → (width rounds : ℕ) → List ℕ
 unfound_said asked width rounds =
     rounds_said width rounds ++ tries_said (is_free asked) width rounds
+
+-- no wires reach a sink of a net, so that there is no route
+abbrev pub no_way_said : (width : ℕ) → List ℕ
+no_way_said width =
+    codes "There is no route with " ++ (decimal width
+    ++ (codes " tracks: of the net that the first line names, none of the wires that its driver "
+    ++ (codes "opens leads to one that a sink of it opens, whatever the other nets have.\n"
+    ++ codes "Another width, other boxes or other switch blocks may have a way.")))

@@ -1,10 +1,11 @@
-//! Words for rounds that have found no route of a placement.
+//! Words for rounds that have found no route of a placement, and for a net that has none.
 ghost use Rattle.std.specs.Prelude.{◌≡◌, ◌*◌, ◌<◌, ◌≤◌, ◌++◌, OnOk, min, string_bytes};
 ghost use Rattle.router_says.specs.Names.{asked};
 ghost use Rattle.router_says.specs.Unfound.{
   freer_said,
   is_free,
   more_rounds_said,
+  no_way_said,
   others_said,
   rounds_said,
   tries_said,
@@ -31,6 +32,18 @@ pub(crate) fn append_unfound(
     append_rounds(out, width, rounds)?;
     append_tries(out, is_free(job), width, rounds)?;
     Ok(())
+}
+
+/// Appends that a width has no route, and why.
+pub(crate) fn append_no_way(out: &mut String, width: u32) -> Result<(), AllocError>
+    ensures { OnOk result (string_bytes out.new ≡ string_bytes out.old ++ no_way_said width) }
+{
+    write!(
+        out,
+        "There is no route with {width} tracks: of the net that the first line names, none of the \
+         wires that its driver opens leads to one that a sink of it opens, whatever the other nets \
+         have.\nAnother width, other boxes or other switch blocks may have a way."
+    )
 }
 
 // What can be tried.

@@ -34,7 +34,7 @@ use crate::refused::{
 };
 use crate::seen::append_seen;
 use crate::symmetry::append_obstacle;
-use crate::unfound::append_unfound;
+use crate::unfound::{append_no_way, append_unfound};
 use crate::unsettled::{append_no_memory, append_undecided, append_unroutable};
 use crate::usage::append_usage;
 use code_words::{cause, cause_within_reach, refusal};
@@ -124,6 +124,7 @@ fn append_meaning<D: Desk>(
         } => append_bound(out, tracks, cells, nets),
         Outcome::Narrowed { tracks, width } => append_narrowed(out, tracks, width),
         Outcome::Unfound { width, rounds } => append_unfound(out, job, width, rounds),
+        Outcome::NoWay { width } => append_no_way(out, width),
         Outcome::Usage { code } => append_usage(out, words, code),
         Outcome::ReadFault { file } => append_unread(out, job, file, errors.reading),
         Outcome::WriteFault { slot } => append_unwritten(out, job, slot, errors),

@@ -90,6 +90,13 @@ fn all_that_is_said(rt: HostRuntime) -> Result<(), Fail> {
             "Whether there is a route with 64 tracks is open: the search found none in 100000 \
             rounds.\nTry another placement.\n",
         ),
+        (
+            GLOBAL,
+            Outcome::NoWay { width: 2 },
+            "There is no route with 2 tracks: of the net that the first line names, none of the \
+            wires that its driver opens leads to one that a sink of it opens, whatever the other \
+            nets have.\nAnother width, other boxes or other switch blocks may have a way.\n",
+        ),
         (GLOBAL, Outcome::Routed { width: 9 }, ""),
         (ROUTE, Outcome::Routed { width: 9 }, ""),
     ];

@@ -19,7 +19,7 @@ use Rattle.router_top.specs.Saying.{HasNoLead, IsLead, Leads, more_said}
 use Rattle.router_top.specs.Search.{proof_files, route_file}
 use Rattle.router_top.specs.Truth.{IsTrueOf, IsTrueOfSearch}
 use Rattle.router_top.specs.Work.{Finds}
-use Rattle.router_top.specs.Subject.{Bytes, ShelfState, RouteText, Step, Word, Outcome, Bound, Done, Unroutable, WriteFault, OutOfMemory, Said, Routed, Narrowed, Beyond, Unfound}
+use Rattle.router_top.specs.Subject.{Bytes, ShelfState, RouteText, Step, Word, Outcome, Bound, Done, Unroutable, WriteFault, OutOfMemory, Said, Routed, Narrowed, Beyond, Unfound, NoWay}
 use Rattle.router_top.proofs.WrittenLaws.{AreApart}
 
 -- no fault of the shelf, no width that is unroutable, and nothing that a cut or a search for a route
@@ -31,6 +31,7 @@ IsSpared (Bound tracks cells nets) = ⊥
 IsSpared (Narrowed tracks width) = ⊥
 IsSpared (Beyond tracks cells nets) = ⊥
 IsSpared (Unfound width rounds) = ⊥
+IsSpared (NoWay width) = ⊥
 IsSpared outcome = Unit {0}
 
 -- after it no file need have been written

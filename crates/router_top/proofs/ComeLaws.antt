@@ -14,6 +14,9 @@ use Rattle.fpga_route.specs.Printed.{printed}
 use Rattle.route_bound.specs.Crossing.{IsBound}
 use Rattle.route_bound.specs.Cuts.{IsBestCut}
 use Rattle.route_bound.specs.declared.cut.Cut.{Cut as BestCut}
+use Rattle.route_parts.proofs.ReachLemmas.{no-routing}
+use Rattle.route_parts.specs.Unreached.{AreNetsReached, IsFirstNet}
+use Rattle.route_parts.specs.declared.unreached.Unreached.{Unreached}
 use Rattle.route_sweep.specs.Climb.{EndsAt}
 use Rattle.route_sweep.specs.declared.found.FileSlot.{FileSlot}
 use Rattle.route_sweep.specs.declared.found.FileSlot.TheVariants.{Clauses, Route as RouteSlot}
@@ -37,11 +40,11 @@ use Rattle.router_words.specs.Refusal.{code_of}
 use Rattle.router_words.specs.declared.fault.Refusal.{Refusal}
 use Rattle.router_top.specs.SizeCauses.{size_code}
 use Rattle.router_top.specs.declared.size_cause.SizeCause.TheVariants.{FormulaClauses}
-use Rattle.router_top.specs.Bound.{BoundsTo, IsBounded, IsTrueOfCut, SaysCut, bound_outcome, cut_lines}
+use Rattle.router_top.specs.Bound.{BoundsTo, IsBounded, IsTrueOfCut, SaysCut, bound_outcome, cut_lines, net_line}
 use Rattle.router_top.specs.Check.{JudgesTo, ChecksTo, cnf_source, judgement_outcome, lrat_source, VerifiesTo, judged_outcome}
 use Rattle.router_top.specs.Comes.{ComesTo, lower_files}
 use Rattle.router_top.specs.Generated.{PosesNone, generated_files, texts_of}
-use Rattle.router_top.specs.Global.{HasFiles, IsTrueOfFound, LeavesFound, found_file}
+use Rattle.router_top.specs.Global.{HasFiles, IsNoWay, IsTrueOfSought, IsWaylessLine, IsWithoutWay, LeavesFound, LeavesSought, SaysNet, found_file}
 use Rattle.router_top.specs.Least.{AreLeastLines, IsCutOfLeast, IsNarrowing, IsOfCut, IsTrueOfLeast, LeavesCut, LeavesWidths, at_width, beyond_outcome, last_asked}
 use Rattle.router_top.specs.JobFiles.{IsClimb, LeavesWhole}
 use Rattle.router_top.specs.Means.{IsJudged, IsJudgedPlaced, Means}
@@ -57,7 +60,7 @@ use Rattle.router_top.specs.Truth.{IsTrueOf, IsTrueOfEncoding, IsTrueOfJob, IsTr
 use Rattle.router_top.specs.Written.{JobFile, WritesFiles, job_file, with_files, AreWritten}
 use Rattle.router_top.specs.Core.{LeavesCore, SaysBlamed, SaysLead}
 use Rattle.router_top.specs.Headline.{IsRefuted}
-use Rattle.router_top.specs.Subject.{Bytes, FileMap, ShelfState, after_say, FileNames, Poses, IsHalted, IsStopped, Says, RoutingProblem, RouteText, Cnf, Step, job_of, BoundAsked, Bounds, CheckAsked, Checks, EncodeAsked, Encodes as EncodesJob, GenAsked, Generates, JobAsked, JudgeAsked, Judges, Negotiates, RouteAsked, Routes, SweepAsked, Sweeps as SweepsJob, TrialAsked, Tries as TriesJob, Verifies, VerifyAsked, Blames, CoreAsked, Word, Method, Outcome, Bound, Done, Usage, WriteFault, OutOfMemory, Unroutable, Limit, File, GlobalAsked, LeastAsked, Narrows, Narrowed, Beyond, Unfound, Slot, Routed as IsRoutedAt}
+use Rattle.router_top.specs.Subject.{Bytes, FileMap, ShelfState, after_say, FileNames, Poses, IsHalted, IsStopped, Says, RoutingProblem, RouteText, Cnf, Step, job_of, BoundAsked, Bounds, CheckAsked, Checks, EncodeAsked, Encodes as EncodesJob, GenAsked, Generates, JobAsked, JudgeAsked, Judges, Negotiates, RouteAsked, Routes, SweepAsked, Sweeps as SweepsJob, TrialAsked, Tries as TriesJob, Verifies, VerifyAsked, Blames, CoreAsked, Word, Method, Outcome, Bound, Done, Usage, WriteFault, OutOfMemory, Unroutable, Limit, File, GlobalAsked, LeastAsked, Narrows, Narrowed, Beyond, Unfound, NoWay, Slot, Routed as IsRoutedAt}
 use Rattle.router_top.specs.declared.text_file.TextFile.TheVariants.{Cnf as CnfFile, Lrat, Routed}
 use Rattle.router_top.proofs.Came.{Came, Cut, HasCome, Idle, IsSpared, NeedsNoFile, Searched, Told, Wrote, ended_with}
 use Rattle.router_top.proofs.ClimbLaws.{climbed-calm, climbed-logs, climbed-outcome, climbed-said}
@@ -97,6 +100,19 @@ spared-spanless (Narrowed tracks width) spared = absurd spared
 spared-spanless (Beyond tracks cells nets) spared = absurd spared
 spared-spanless (Unfound width rounds) spared = absurd spared
 spared-spanless o spared = λ bad. bad
+
+-- nor of a net that no wires reach
+spared-wayless : (o : Outcome) → IsSpared o → ¬ IsNoWay o
+spared-wayless (NoWay width) spared = absurd spared
+spared-wayless o spared = λ bad. bad
+
+-- what comes of the file of a route tells of no such net
+written-wayless : (width : ℕ) (files : List JobFile) (before now : ShelfState) (o : Outcome)
+    → WritesFiles (IsRoutedAt width) files before now o → ¬ IsNoWay o
+written-wayless width files before now o (inl (is, written)) =
+    subst (λ (o : Outcome). ¬ IsNoWay o) (sym is) (λ bad. bad)
+written-wayless width files before now o (inr (slot, fails, is)) =
+    subst (λ (o : Outcome). ¬ IsNoWay o) (sym is) (λ bad. bad)
 
 -- what comes of the file of a route tells of the cut that was said before it
 tells-of-cut : (cut : BestCut) (width : ℕ) (name text : Bytes) (before now : ShelfState)
@@ -146,6 +162,7 @@ module _ (words : List Word) (at : Scene) where
       no_nets = λ job is. spared-routable o spares.0;
       no_cut = λ job is. spared-boundless o spares.0;
       no_span = λ job is. spared-spanless o spares.0;
+      no_net = λ job is. spared-wayless o spares.0;
     };
     means = spares.1;
     told = told;
@@ -278,6 +295,7 @@ module _ (words : List Word) (at : Scene) where
           no_nets = λ other is unroutable. cc;
           no_cut = λ other is bound. cc;
           no_span = λ other is narrowing. cc;
+          no_net = λ other is way. cc;
         },
       );
       said = finds-silent (route_search job h.crowd) p job.search.width at.shelf at.shelf_now h.came
@@ -315,6 +333,7 @@ module _ (words : List Word) (at : Scene) where
           no_nets = λ other is_core unroutable. routable (subst IsUnroutable is unroutable);
           no_cut = λ other is_bound bound. cc;
           no_span = λ other is_span narrowing. cc;
+          no_net = λ other is_net way. cc;
         },
       );
       said = ap (λ (s : ShelfState). s.said) same
@@ -553,6 +572,7 @@ module _ (words : List Word) (at : Scene) where
           no_nets = λ other is unroutable. cc;
           no_cut = λ other is bound. cc;
           no_span = λ other is narrowing. cc;
+          no_net = λ other is way. cc;
         },
       );
       means = λ done written. inl (record {
@@ -601,6 +621,7 @@ module _ (words : List Word) (at : Scene) where
           no_nets = λ other is unroutable. cc;
           no_cut = λ other is bound. cc;
           no_span = λ other is narrowing. cc;
+          no_net = λ other is way. cc;
         },
       );
       means = λ done written. cc;
@@ -836,12 +857,13 @@ module _ (words : List Word) (at : Scene) where
 
   module _ (job : GlobalAsked) (asked : job_of words ≡ Ok (Negotiates job)) where
     global-true : (placed : PlacedNetlist) → HasFiles at.desk.files job placed → (o : Outcome)
-        → IsTrueOfFound job placed o → IsTrueOf words at.desk.files o
+        → IsTrueOfSought job placed o → IsTrueOf words at.desk.files o
     global-true placed has o told = true-of (Negotiates job) asked o (inr (placed, has, told))
 
-    found-came : (placed : PlacedNetlist) → HasFiles at.desk.files job placed → (o : Outcome)
+    found-came : (placed : PlacedNetlist) → HasFiles at.desk.files job placed
+        → AreNetsReached placed job.width → (o : Outcome)
         → LeavesFound job placed at.shelf at.shelf_now o → Came words at o
-    found-came placed has o (inl (inl none, same)) = subst (Came words at) (sym none) (Told (record {
+    found-came placed has reached o (inl (inl none, same)) = subst (Came words at) (sym none) (Told (record {
       fileless = tt;
       files = ap (λ (s : ShelfState). s.files) same;
       faults = ap (λ (s : ShelfState). s.faults) same;
@@ -853,6 +875,7 @@ module _ (words : List Word) (at : Scene) where
           no_nets = λ other is unroutable. cc;
           no_cut = λ other is bound. cc;
           no_span = λ other is narrowing. cc;
+          no_net = λ other is way. way;
         },
       );
       said = ap (λ (s : ShelfState). s.said) same ∙ sym (more-none at.shelf.said);
@@ -863,12 +886,13 @@ module _ (words : List Word) (at : Scene) where
         rounds_are = refl;
         placed = placed;
         files = has;
+        reached = reached;
         same = ap (λ (s : ShelfState). s.files) same;
       });
-      told = inl (global-true placed has (Unfound job.width job.rounds) (inr refl));
+      told = inl (global-true placed has (Unfound job.width job.rounds) (inr (reached, inr refl)));
     }))
-    found-came placed has o (inl (inr short, same)) = spent o same (λ other is. cc) short
-    found-came placed has o (inr (found, route, h)) = Wrote (record {
+    found-came placed has reached o (inl (inr short, same)) = spent o same (λ other is. cc) short
+    found-came placed has reached o (inr (found, route, h)) = Wrote (record {
       done = IsRoutedAt job.width;
       is_done = tt;
       between = at.shelf;
@@ -896,6 +920,8 @@ module _ (words : List Word) (at : Scene) where
           no_nets = λ other is unroutable. cc;
           no_cut = λ other is bound. cc;
           no_span = λ other is narrowing. cc;
+          no_net = λ other is. written-wayless job.width (found_file job found ∷ []) at.shelf
+              at.shelf_now o h;
         },
       );
       means = λ done written. inr (record {
@@ -909,8 +935,67 @@ module _ (words : List Word) (at : Scene) where
         says = routing-said at.desk.files job placed found has route;
         written = written;
       });
-      told = global-true placed has (IsRoutedAt job.width) (inl (found, route, refl));
+      told = global-true placed has (IsRoutedAt job.width)
+          (inr (reached, inl (found, route, refl)));
     })
+
+    -- a net that no wires reach
+    module _ (placed : PlacedNetlist) (has : HasFiles at.desk.files job placed)
+        (unreached : Unreached) (first : IsFirstNet placed job.width unreached) where
+      abbrev wayless : at.shelf_now.files ≡ at.shelf.files
+          → IsWithoutWay words at.desk.files at.shelf.files at.shelf_now.files job.width
+      wayless same = record {
+        job = job;
+        asked = asked;
+        width_is = refl;
+        placed = placed;
+        files = has;
+        unreached = unreached;
+        first = first;
+        none = no-routing placed job.width unreached first.is;
+        same = same;
+      }
+
+      abbrev wayless-line : at.shelf_now.files ≡ at.shelf.files
+          → IsWaylessLine words at.desk.files at.shelf.files at.shelf_now.files
+          (NoWay job.width) (net_line placed.netlist unreached.net)
+      wayless-line same =
+          record { width = job.width; no_way = refl; without = wayless same; is = refl }
+
+      wayless-came : (o : Outcome)
+          → SaysNet placed.netlist unreached.net job.width at.shelf at.shelf_now o
+          → Came words at o
+      wayless-came o (inl (now, is)) =
+          let same = ap (λ (s : ShelfState). s.files) now in
+          subst (Came words at) (sym is) (Told (record {
+            fileless = tt;
+            files = same;
+            faults = ap (λ (s : ShelfState). s.faults) now;
+            lead = net_line placed.netlist unreached.net;
+            leads = inl (inr (inr (inr (inr (wayless-line same)))));
+            said = ap (λ (s : ShelfState). s.said) now;
+            means = wayless same;
+            told = inl (global-true placed has (NoWay job.width) (inl (unreached, first, refl)));
+          }))
+      wayless-came o (inr (fails, is)) = Cut (record {
+        is = is;
+        whole = none-left words at.desk.files at.shelf.files at.shelf_now.files
+            fails.failed.files;
+        risen = has_risen _ _ fails.failed.risen;
+        outcome = NoWay job.width;
+        lead = net_line placed.netlist unreached.net;
+        leads = inr (inr (inr (inr (wayless-line fails.failed.files))));
+        count = fails.count;
+        within = fails.within;
+        said = fails.failed.said;
+      })
+
+    sought-came : (placed : PlacedNetlist) → HasFiles at.desk.files job placed → (o : Outcome)
+        → LeavesSought job placed at.shelf at.shelf_now o → Came words at o
+    sought-came placed has o (inl (short, same)) = spent o same (λ other is. cc) short
+    sought-came placed has o (inr (inl (unreached, first, says))) =
+        wayless-came placed has unreached first o says
+    sought-came placed has o (inr (inr (reached, h))) = found-came placed has reached o h
 
     global-came : (o : Outcome) → LeavesGlobal job at o → Came words at o
     global-came o (inl (h, same)) = idle o same (λ other is. cc)
@@ -919,7 +1004,7 @@ module _ (words : List Word) (at : Scene) where
           | inl told ↦ inl (true-of (Negotiates job) asked o (inl told))
           | inr short ↦ inr short
         ])
-    global-came o (inr (placed, has, h)) = found-came placed has o h
+    global-came o (inr (placed, has, h)) = sought-came placed has o h
 
   -- ---- what a placement needs
 
@@ -957,7 +1042,7 @@ module _ (words : List Word) (at : Scene) where
         files = ap (λ (s : ShelfState). s.files) now;
         faults = ap (λ (s : ShelfState). s.faults) now;
         lead = said-first;
-        leads = inl (inr (inr (inr (least-lines o tells))));
+        leads = inl (inr (inr (inr (inl (least-lines o tells)))));
         said = ap (λ (s : ShelfState). s.said) now;
         means = means;
         told = told;
@@ -1011,9 +1096,9 @@ module _ (words : List Word) (at : Scene) where
         apart = (tt, tt);
         heard = (tt, tt);
         writes = h;
-        leads = inl (inr (inr (inr (least-lines o (tells-of-cut cut found.width
+        leads = inl (inr (inr (inr (inl (least-lines o (tells-of-cut cut found.width
             (job.prefix ++ codes ".route") (printed found.found) (after_say at.shelf said-first)
-            at.shelf_now o h)))));
+            at.shelf_now o h))))));
         means = λ done written. record {
           cut = cut;
           least = cut-of-least;
@@ -1038,7 +1123,7 @@ module _ (words : List Word) (at : Scene) where
         risen = has_risen _ _ fails.failed.risen;
         outcome = OutOfMemory;
         lead = said-first;
-        leads = inr (inr (inr (least-lines OutOfMemory tt)));
+        leads = inr (inr (inr (inl (least-lines OutOfMemory tt))));
         count = fails.count;
         within = fails.within;
         said = fails.failed.said;
@@ -1084,6 +1169,7 @@ module _ (words : List Word) (at : Scene) where
           no_nets = λ other is unroutable. cc;
           no_cut = λ other is bound. cc;
           no_span = λ other is narrowing. cc;
+          no_net = λ other is way. cc;
         },
       );
       means = λ done written.
@@ -1157,6 +1243,7 @@ module _ (words : List Word) (at : Scene) where
           no_nets = λ other is unroutable. cc;
           no_cut = λ other is bound. cc;
           no_span = λ other is narrowing. cc;
+          no_net = λ other is way. cc;
         },
       ))))) h
   job-came (EncodesJob job) o asked h =

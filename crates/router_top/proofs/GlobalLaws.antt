@@ -9,9 +9,11 @@ use Rattle.fpga_problem.specs.declared.text_file.TextFile.TheVariants.{Route as 
 use Rattle.fpga_types.specs.Placed.{NetWires}
 use Rattle.fpga_types.specs.Problem.{PlacedNetlist}
 use Rattle.route_judge.specs.Says.{SaysRouting}
+use Rattle.route_parts.specs.Unreached.{AreNetsReached, IsFirstNet}
+use Rattle.route_parts.specs.declared.unreached.Unreached.{Unreached}
 use Rattle.route_judge.proofs.OwnEnds.{own-ends}
 use Rattle.route_judge.proofs.SaysLemmas.{says}
-use Rattle.router_top.specs.Global.{HasFiles, HasStart, IsFoundRoute, IsTrueOfFound, LacksFiles, LacksStart}
+use Rattle.router_top.specs.Global.{HasFiles, HasStart, IsFoundRoute, IsTrueOfFound, IsTrueOfSought, LacksFiles, LacksStart}
 use Rattle.router_top.specs.Truth.{Agrees, IsOpenBelow, IsTrueOfGlobal}
 use Rattle.router_top.specs.Subject.{DeskState, FileMap, IsHalted, IsStopped, Source, FileFault, RouteText, GlobalAsked, Word, Outcome, Routed, Unfound}
 use Rattle.router_top.specs.declared.text_file.TextFile.TheVariants.{Problem}
@@ -104,6 +106,26 @@ found-agrees job placed a b (inr none) (inl (found, route, is)) =
     inr (inl (open-at job a b none is))
 found-agrees job placed a b (inr none) (inr others) = inl (none ∙ sym others)
 
+-- wires reach each sink, or there is one that they do not
+not-unreached : (placed : PlacedNetlist) (width : ℕ) (first : Unreached)
+    → IsFirstNet placed width first → AreNetsReached placed width → ⊥
+not-unreached placed width first h reached =
+    let sink = h.is.sink.is in
+    sink.unreached (reached first.net h.is.net h.is.is_net h.is.is_ordinary first.sink sink.pin
+    sink.is_pin sink.at sink.is_there)
+
+-- so do those that are true of it before a search, of which one alone says that there is no way
+sought-agrees : (job : GlobalAsked) (placed : PlacedNetlist) (a b : Outcome)
+    → IsTrueOfSought job placed a → IsTrueOfSought job placed b → Agrees a b
+sought-agrees job placed a b (inl (first, none, is)) (inl (other, none_too, is_other)) =
+    inl (is ∙ sym is_other)
+sought-agrees job placed a b (inl (first, none, is)) (inr (reached, h)) =
+    absurd (not-unreached placed job.width first none reached)
+sought-agrees job placed a b (inr (reached, h)) (inl (first, none, is)) =
+    absurd (not-unreached placed job.width first none reached)
+sought-agrees job placed a b (inr (reached, h)) (inr (reached_too, g)) =
+    found-agrees job placed a b h g
+
 pub global-agrees : (job : GlobalAsked) (files : FileMap) (a b : Outcome)
     → IsTrueOfGlobal job (Some files) a → IsTrueOfGlobal job (Some files) b → Agrees a b
 global-agrees job files a b (inl h) (inl g) = lacking-agrees files job a b h g
@@ -112,5 +134,5 @@ global-agrees job files a b (inl h) (inr (placed, has, g)) =
 global-agrees job files a b (inr (placed, has, h)) (inl g) =
     absurd (lacking-has files job placed b g has)
 global-agrees job files a b (inr (placed, has, h)) (inr (other, others, g)) =
-    found-agrees job placed a b h (subst (λ (p : PlacedNetlist). IsTrueOfFound job p b)
+    sought-agrees job placed a b h (subst (λ (p : PlacedNetlist). IsTrueOfSought job p b)
     (one-placed files job.files other placed others.poses has.poses) g)

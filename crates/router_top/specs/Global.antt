@@ -6,18 +6,22 @@ use Rattle.fpga_problem.specs.declared.text_file.TextFile.TheVariants.{Route as 
 use Rattle.fpga_route.specs.Printed.{printed}
 use Rattle.fpga_route.specs.ReadBack.{ReadsBack}
 use Rattle.fpga_route.specs.Value.{route_value}
-use Rattle.fpga_types.specs.Placed.{NetWires}
+use Rattle.fpga_types.specs.Placed.{IsPlacedRouting, NetWires}
 use Rattle.fpga_types.specs.Problem.{PlacedNetlist}
 use Rattle.fpga_types.specs.Sound.{IsSound}
+use Rattle.fpga_types.specs.declared.netlist.Netlist.{Netlist}
 use Rattle.route_judge.specs.Judged.{placed_judged}
 use Rattle.route_judge.specs.Says.{SaysRouting}
+use Rattle.route_parts.specs.Unreached.{AreNetsReached, IsFirstNet}
+use Rattle.route_parts.specs.declared.unreached.Unreached.{Unreached}
 use Rattle.route_sweep.specs.declared.found.FileSlot.TheVariants.{Route}
 use Rattle.route_verify.specs.declared.judgement.Judgement.{Judgement}
 use Rattle.route_verify.specs.declared.judgement.Judgement.TheVariants.{Legal as IsLegal}
+use Rattle.router_top.specs.Bound.{IsShort, net_line}
 use Rattle.router_top.specs.Placed.{WorksOnPlaced}
 use Rattle.router_top.specs.Report.{unread_outcome}
 use Rattle.router_top.specs.Written.{AreWritten, JobFile, WritesFiles, job_file}
-use Rattle.router_top.specs.Subject.{FileMap, ShelfState, Source, FileFault, Says, route_source, RouteText, job_of, GlobalAsked, Negotiates, Word, Outcome, Routed, Unfound, OutOfMemory, File}
+use Rattle.router_top.specs.Subject.{Bytes, FailsToSay, FileMap, ShelfState, after_say, Source, FileFault, Says, route_source, RouteText, job_of, GlobalAsked, Negotiates, Word, Outcome, Routed, Unfound, NoWay, WriteFault, OutOfMemory, Said, File}
 use Rattle.router_top.specs.declared.text_file.TextFile.TheVariants.{Problem}
 
 -- ---- what is found
@@ -67,6 +71,13 @@ pub record HasFiles (files : Option FileMap) (job : GlobalAsked) (placed : Place
 
 -- ---- what is left
 
+-- the line of the net was said, and the outcome is that there is no way at the width; or a front
+-- part of it was, and the run has failed to write
+abbrev pub SaysNet : Netlist → (net width : ℕ) → (before now : ShelfState) → Outcome → Type 0
+SaysNet netlist net width before now outcome =
+    ((now ≡ after_say before (net_line netlist net)) × (outcome ≡ NoWay width))
+    ⊎ (FailsToSay before (net_line netlist net) now × (outcome ≡ WriteFault Said))
+
 -- nothing was written, since no route was found in as many rounds as were asked for, or memory ran
 -- out; or one was found, and its file was written, or not whole
 abbrev pub LeavesFound : GlobalAsked → PlacedNetlist → (before now : ShelfState) → Outcome → Type 0
@@ -74,6 +85,15 @@ LeavesFound job placed before now outcome =
     (((outcome ≡ Unfound job.width job.rounds) ⊎ (outcome ≡ OutOfMemory)) × (now ≡ before))
     ⊎ ((found : RouteText) × IsFoundRoute job placed found
     × WritesFiles (Routed job.width) (found_file job found ∷ []) before now outcome)
+
+-- memory ran out, and nothing was said or written; or no wires reach a sink of some ordinary net,
+-- and the first such net is said; or wires reach each, and this is what the search leaves
+abbrev pub LeavesSought : GlobalAsked → PlacedNetlist → (before now : ShelfState) → Outcome → Type 0
+LeavesSought job placed before now outcome =
+    IsShort before now outcome
+    ⊎ ((first : Unreached) × IsFirstNet placed job.width first
+    × SaysNet placed.netlist first.net job.width before now outcome)
+    ⊎ (AreNetsReached placed job.width × LeavesFound job placed before now outcome)
 
 -- ---- what the answers mean
 
@@ -92,8 +112,8 @@ pub record IsNegotiated (words : List Word) (desk before now : Option FileMap) (
   pub says : (has : ℕ → NetWires) × SaysRouting placed job.width found has
   pub written : AreWritten (found_file job found ∷ []) before now
 
--- the words ask for one, and the files read; none was found in so many rounds, and no file has
--- changed
+-- the words ask for one, and the files read; wires reach each sink of each ordinary net, but none
+-- was found in so many rounds, and no file has changed
 pub record IsUnfound (words : List Word) (desk before now : Option FileMap) (width rounds : ℕ)
     : Type 0 where
   pub job : GlobalAsked
@@ -102,7 +122,38 @@ pub record IsUnfound (words : List Word) (desk before now : Option FileMap) (wid
   pub rounds_are : rounds ≡ job.rounds
   pub placed : PlacedNetlist
   pub files : HasFiles desk job placed
+  pub reached : AreNetsReached placed width
   pub same : now ≡ before
+
+-- the words ask for one, and the files read; no wires reach a sink of this ordinary net, which is
+-- the first such net, so that there is no placed routing at this width, and no file has changed
+pub record IsWithoutWay (words : List Word) (desk before now : Option FileMap) (width : ℕ)
+    : Type 0 where
+  pub job : GlobalAsked
+  pub asked : job_of words ≡ Ok (Negotiates job)
+  pub width_is : width ≡ job.width
+  pub placed : PlacedNetlist
+  pub files : HasFiles desk job placed
+  pub unreached : Unreached
+  pub first : IsFirstNet placed width unreached
+  pub none : (has : ℕ → NetWires) → ¬ IsPlacedRouting placed width has
+  pub same : now ≡ before
+
+-- ---- what is said first
+
+-- the outcome is that there is no way, and the line names the net that no wires reach
+pub record IsWaylessLine
+    (words : List Word) (desk before now : Option FileMap) (outcome : Outcome) (lead : Bytes)
+    : Type 0 where
+  pub width : ℕ
+  pub no_way : outcome ≡ NoWay width
+  pub without : IsWithoutWay words desk before now width
+  pub is : lead ≡ net_line without.placed.netlist without.unreached.net
+
+-- there is no way
+abbrev pub IsNoWay : Outcome → Type 0
+IsNoWay (NoWay width) = Unit {0}
+IsNoWay outcome = ⊥
 
 -- ---- what is true
 
@@ -112,3 +163,10 @@ abbrev pub IsTrueOfFound : GlobalAsked → PlacedNetlist → Outcome → Type 0
 IsTrueOfFound job placed outcome =
     ((found : RouteText) × IsFoundRoute job placed found × (outcome ≡ Routed job.width))
     ⊎ (outcome ≡ Unfound job.width job.rounds)
+
+-- no wires reach a sink of some ordinary net, and the outcome is that there is no way; or they
+-- reach each, and this is true
+abbrev pub IsTrueOfSought : GlobalAsked → PlacedNetlist → Outcome → Type 0
+IsTrueOfSought job placed outcome =
+    ((first : Unreached) × IsFirstNet placed job.width first × (outcome ≡ NoWay job.width))
+    ⊎ (AreNetsReached placed job.width × IsTrueOfFound job placed outcome)

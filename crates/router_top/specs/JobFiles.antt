@@ -18,7 +18,7 @@ use Rattle.router_top.specs.SlotNames.{name_written}
 use Rattle.router_top.specs.declared.size_cause.SizeCause.TheVariants.{FormulaClauses}
 use Rattle.router_top.specs.Work.{clauses_file}
 use Rattle.router_top.specs.Written.{AreWritten, JobFile, with_file}
-use Rattle.router_top.specs.Subject.{FileMap, Poses, RoutingProblem, RouteText, HasFew, Step, job_of, EncodeAsked, Encodes, GenAsked, Generates, GlobalAsked, Negotiates, JobAsked, SweepAsked, Sweeps, TrialAsked, Tries, Word, Outcome, InputFault, Limit, NotSymmetric, Unfound, Beyond, Usage, ReadFault, WriteFault, Slot, Said}
+use Rattle.router_top.specs.Subject.{FileMap, Poses, RoutingProblem, RouteText, HasFew, Step, job_of, EncodeAsked, Encodes, GenAsked, Generates, GlobalAsked, Negotiates, JobAsked, SweepAsked, Sweeps, TrialAsked, Tries, Word, Outcome, InputFault, Limit, NotSymmetric, Unfound, NoWay, Beyond, Usage, ReadFault, WriteFault, Slot, Said}
 
 -- ---- the files of each job
 
@@ -135,15 +135,16 @@ IsClimb words =
 
 -- what is left of the files, by the answer: nothing is written where the words are not taken, where
 -- a file is not read or is refused, where tracks are not alike as the method asks, where rounds have
--- found no route or a cut asks for more tracks than were to be tried, and where a limit is passed,
--- but for that of the clauses in a climb; a fault of a file leaves a part; and after each other
--- answer the files that were begun are whole
+-- found no route, no wires reach a sink or a cut asks for more tracks than were to be tried, and
+-- where a limit is passed, but for that of the clauses in a climb; a fault of a file leaves a part;
+-- and after each other answer the files that were begun are whole
 abbrev pub LeavesFiles : List Word → (desk before now : Option FileMap) → Outcome → Type 0
 LeavesFiles words desk before now (Usage code) = now ≡ before
 LeavesFiles words desk before now (ReadFault file) = now ≡ before
 LeavesFiles words desk before now (InputFault file line code) = now ≡ before
 LeavesFiles words desk before now (NotSymmetric width why) = now ≡ before
 LeavesFiles words desk before now (Unfound width rounds) = now ≡ before
+LeavesFiles words desk before now (NoWay width) = now ≡ before
 LeavesFiles words desk before now (Beyond tracks cells nets) = now ≡ before
 LeavesFiles words desk before now (Limit file code count) =
     (now ≡ before)

@@ -14,14 +14,14 @@ use Rattle.sat_text.specs.LratText.{lrat_said}
 use Rattle.router_top.specs.Bound.{IsBounded}
 use Rattle.router_top.specs.Check.{cnf_source, lrat_source}
 use Rattle.router_top.specs.Generated.{HasRoom, generated_files}
-use Rattle.router_top.specs.Global.{IsNegotiated, IsUnfound}
+use Rattle.router_top.specs.Global.{IsNegotiated, IsUnfound, IsWithoutWay}
 use Rattle.router_top.specs.Headline.{IsLeftOpen, IsRefuted, IsRouted}
 use Rattle.router_top.specs.Least.{IsBeyond, IsNarrowed, IsUnnarrowed}
 use Rattle.router_top.specs.Method.{clauses_by, IsCrowdFor}
 use Rattle.router_top.specs.Placed.{SaysIfLegal}
 use Rattle.router_top.specs.Work.{clauses_file}
 use Rattle.router_top.specs.Written.{AreWritten}
-use Rattle.router_top.specs.Subject.{FileMap, Poses, Says, route_source, RoutingProblem, RouteText, HasFew, Cnf, Step, job_of, CheckAsked, Checks, EncodeAsked, Encodes, GenAsked, Generates, JudgeAsked, Judges, VerifyAsked, Verifies, Word, Outcome, Accepted, Bound, Done, LegalRoute, NotLegal, Routed, Undecided, Unroutable, Unfound, Narrowed, Beyond}
+use Rattle.router_top.specs.Subject.{FileMap, Poses, Says, route_source, RoutingProblem, RouteText, HasFew, Cnf, Step, job_of, CheckAsked, Checks, EncodeAsked, Encodes, GenAsked, Generates, JudgeAsked, Judges, VerifyAsked, Verifies, Word, Outcome, Accepted, Bound, Done, LegalRoute, NotLegal, Routed, Undecided, Unroutable, Unfound, NoWay, Narrowed, Beyond}
 
 -- the words ask for the clauses, and one file alone was written: those of the problem, by a crowd
 -- of it if they go by one
@@ -100,6 +100,7 @@ Means words desk before now (Bound tracks cells nets) = IsBounded words desk tra
 Means words desk before now (Unfound width rounds) =
     IsUnfound words desk before now width rounds
     ⊎ IsUnnarrowed words desk before now width rounds
+Means words desk before now (NoWay width) = IsWithoutWay words desk before now width
 Means words desk before now (Narrowed tracks width) =
     IsNarrowed words desk before now tracks width
 Means words desk before now (Beyond tracks cells nets) =

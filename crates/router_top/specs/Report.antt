@@ -14,7 +14,7 @@ use Rattle.route_sweep.specs.declared.found.Found.{Found}
 use Rattle.route_sweep.specs.declared.found.Found.TheVariants.{Routed as IsRouted, Refuted, Spent}
 use Rattle.route_sweep.specs.declared.found.Stop.{Stop}
 use Rattle.route_sweep.specs.declared.found.Stop.TheVariants.{Fault, TooManyClauses, TooManyHeld, Memory}
-use Rattle.router_top.specs.Subject.{Outcome, Routed, Unroutable, Undecided, Bound, Done, Accepted, NotAccepted, LegalRoute, NotLegal, InputFault, Limit, NotSymmetric, Usage, ReadFault, WriteFault, OutOfMemory, Slot, Said, File, FileMap, FileNames, Source, FileFault, Unfound, Narrowed, Beyond}
+use Rattle.router_top.specs.Subject.{Outcome, Routed, Unroutable, Undecided, Bound, Done, Accepted, NotAccepted, LegalRoute, NotLegal, InputFault, Limit, NotSymmetric, Usage, ReadFault, WriteFault, OutOfMemory, Slot, Said, File, FileMap, FileNames, Source, FileFault, Unfound, NoWay, Narrowed, Beyond}
 use Rattle.router_top.specs.SizeCauses.{size_code}
 use Rattle.router_top.specs.declared.size_cause.SizeCause.TheVariants.{ClausesOfTurns, FileBytes, FormulaClauses}
 use Rattle.router_top.specs.declared.text_file.TheConstants.{PROOF_BYTES}
@@ -54,6 +54,7 @@ status_of (Unroutable width) = 1
 status_of (Undecided width learned) = 2
 status_of (Bound tracks cells nets) = 0
 status_of (Unfound width rounds) = 2
+status_of (NoWay width) = 1
 status_of (Narrowed tracks width) = 0
 status_of (Beyond tracks cells nets) = 1
 status_of Done = 0
@@ -79,6 +80,7 @@ report_of (Undecided width learned) =
 report_of (Bound tracks cells nets) = codes "bound " ++ decimal tracks
 report_of (Unfound width rounds) =
     codes "undecided " ++ decimal width ++ codes " after " ++ decimal rounds ++ codes " rounds"
+report_of (NoWay width) = codes "no way " ++ decimal width
 report_of (Narrowed tracks width) = codes "routed " ++ decimal width
 report_of (Beyond tracks cells nets) = codes "bound " ++ decimal tracks
 report_of Done = codes "done"

@@ -8,7 +8,7 @@ use Rattle.router_top.specs.Bound.{BoundsTo}
 use Rattle.router_top.specs.Check.{ChecksTo, VerifiesTo}
 use Rattle.router_top.specs.Core.{LeavesCore}
 use Rattle.router_top.specs.Written.{WritesFiles}
-use Rattle.router_top.specs.Global.{HasFiles, LacksFiles, LeavesFound}
+use Rattle.router_top.specs.Global.{HasFiles, LacksFiles, LeavesSought}
 use Rattle.router_top.specs.Generated.{HasRoom, Makes, MakesNone, PosesNone, generated_files}
 use Rattle.router_top.specs.Least.{LeavesNarrowed, last_asked}
 use Rattle.router_top.specs.Placed.{GivesNoPlaced, IsTrueJudgement, JudgesPlaced}
@@ -69,7 +69,7 @@ LeavesGlobal job at outcome =
     (LacksFiles (IsStopped at.desk at.desk_now) at.desk.files job outcome
     × (at.shelf_now ≡ at.shelf))
     ⊎ ((placed : PlacedNetlist) × HasFiles at.desk.files job placed
-    × LeavesFound job placed at.shelf at.shelf_now outcome)
+    × LeavesSought job placed at.shelf at.shelf_now outcome)
 
 -- nothing was written, since a file of the job gives nothing; or they pose a placed netlist, and
 -- this is what the bound and the searches leave

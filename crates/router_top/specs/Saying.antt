@@ -4,11 +4,12 @@ use Rattle.route_core.specs.Blamed.{blamed}
 use Rattle.route_ways.specs.Trimming.{net_lines}
 use Rattle.router_top.specs.Bound.{IsBounded, cut_lines}
 use Rattle.router_top.specs.Generated.{Makes, PosesNone}
+use Rattle.router_top.specs.Global.{IsNoWay, IsWaylessLine}
 use Rattle.router_top.specs.Headline.{IsRefuted}
 use Rattle.router_top.specs.Least.{AreLeastLines, IsNarrowing}
 use Rattle.router_top.specs.Report.{line_of}
 use Rattle.router_top.specs.Work.{trial_line}
-use Rattle.router_top.specs.Subject.{Bytes, FileMap, ShelfState, RoutingProblem, job_of, Blames, BoundAsked, Bounds, CoreAsked, LeastAsked, Narrows, TrialAsked, Tries, Word, Outcome, Bound, Unroutable, WriteFault, Said}
+use Rattle.router_top.specs.Subject.{Bytes, FileMap, ShelfState, RoutingProblem, job_of, Blames, BoundAsked, Bounds, CoreAsked, GlobalAsked, LeastAsked, Narrows, Negotiates, TrialAsked, Tries, Word, Outcome, Bound, Unroutable, WriteFault, Said}
 
 -- the bytes said, and a text behind them
 abbrev pub more_said : Option Bytes → Bytes → Option Bytes
@@ -46,12 +47,14 @@ pub record AreCutLines
   pub bounded : IsBounded words desk tracks cells nets
   pub is : lead ≡ cut_lines bounded.placed.netlist bounded.cut
 
--- what is said before the report line of this outcome: the trial line, the nets to blame, or a cut
--- and the nets that cross it, where a bound alone is asked for or what a placement needs
+-- what is said before the report line of this outcome: the trial line, the nets to blame, a cut and
+-- the nets that cross it, where a bound alone is asked for or what a placement needs, or a net that
+-- no wires reach
 abbrev pub IsLead : List Word → (desk before now : Option FileMap) → Outcome → Bytes → Type 0
 IsLead words desk before now outcome lead =
     IsTrialLine words lead ⊎ AreNetLines words desk before now outcome lead
     ⊎ AreCutLines words desk outcome lead ⊎ AreLeastLines words desk outcome lead
+    ⊎ IsWaylessLine words desk before now outcome lead
 
 -- the width of the job is unroutable
 abbrev pub IsUnroutable : Outcome → Type 0
@@ -65,12 +68,14 @@ IsOfBound outcome = ⊥
 
 -- nothing is said before it: the words ask for no trial, or for one of a problem that was not made
 -- or is too large; for no nets to blame, or no width was refuted; for no bound, or none was found;
--- and not for what a placement needs, or no cut was found
+-- not for what a placement needs, or no cut was found; and for no route of a placement, or there may
+-- be a way
 pub record HasNoLead (words : List Word) (outcome : Outcome) : Type 0 where
   pub no_trial : (job : TrialAsked) → job_of words ≡ Ok (Tries job) → PosesNone job.recipe outcome
   pub no_nets : (job : CoreAsked) → job_of words ≡ Ok (Blames job) → ¬ IsUnroutable outcome
   pub no_cut : (job : BoundAsked) → job_of words ≡ Ok (Bounds job) → ¬ IsOfBound outcome
   pub no_span : (job : LeastAsked) → job_of words ≡ Ok (Narrows job) → ¬ IsNarrowing outcome
+  pub no_net : (job : GlobalAsked) → job_of words ≡ Ok (Negotiates job) → ¬ IsNoWay outcome
 
 -- what is said before it, which may be nothing
 abbrev pub Leads : List Word → (desk before now : Option FileMap) → Outcome → Bytes → Type 0

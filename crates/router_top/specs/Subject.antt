@@ -17,6 +17,6 @@ pub use Rattle.router_words.specs.Word.{Word}
 pub use Rattle.router_words.specs.declared.method.Method.{Method}
 pub use Rattle.router_words.specs.declared.method.Method.TheVariants.{Ordered, Pinned, Strictly, Within}
 pub use Rattle.router_top.specs.declared.outcome.Outcome.{Outcome}
-pub use Rattle.router_top.specs.declared.outcome.Outcome.TheVariants.{Routed, Unroutable, Undecided, Bound, Done, Accepted, NotAccepted, LegalRoute, NotLegal, InputFault, Limit, NotSymmetric, Usage, ReadFault, WriteFault, OutOfMemory, Unfound, Narrowed, Beyond}
+pub use Rattle.router_top.specs.declared.outcome.Outcome.TheVariants.{Routed, Unroutable, Undecided, Bound, Done, Accepted, NotAccepted, LegalRoute, NotLegal, InputFault, Limit, NotSymmetric, Usage, ReadFault, WriteFault, OutOfMemory, Unfound, NoWay, Narrowed, Beyond}
 pub use Rattle.router_top.specs.declared.slot.Slot.{Slot}
 pub use Rattle.router_top.specs.declared.slot.Slot.TheVariants.{Said, File}

@@ -11,7 +11,7 @@ use Rattle.router_top.specs.declared.size_cause.SizeCause.TheVariants.{FormulaCl
 use Rattle.router_top.specs.Bound.{IsTrueOfCut}
 use Rattle.router_top.specs.Check.{ChecksTo, VerifiesTo}
 use Rattle.router_top.specs.Generated.{HasRoom, IsTooLarge, IsTooMany, Makes}
-use Rattle.router_top.specs.Global.{HasFiles, IsTrueOfFound, LacksFiles}
+use Rattle.router_top.specs.Global.{HasFiles, IsTrueOfSought, LacksFiles}
 use Rattle.router_top.specs.Least.{IsTrueOfLeast, last_asked}
 use Rattle.router_top.specs.Method.{HasNone, HasOne, clauses_by, IsCrowdFor}
 use Rattle.router_top.specs.Placed.{IsJudgement, JudgesPlaced, WorksOnPlaced}
@@ -81,7 +81,7 @@ IsTrueOfWork names says files outcome =
 abbrev pub IsTrueOfGlobal : GlobalAsked → Option FileMap → Outcome → Type 0
 IsTrueOfGlobal job files outcome =
     LacksFiles (IsHalted files) files job outcome
-    ⊎ ((placed : PlacedNetlist) × HasFiles files job placed × IsTrueOfFound job placed outcome)
+    ⊎ ((placed : PlacedNetlist) × HasFiles files job placed × IsTrueOfSought job placed outcome)
 
 -- so of what the placed netlist needs
 abbrev pub IsTrueOfNarrows : LeastAsked → Option FileMap → Outcome → Type 0

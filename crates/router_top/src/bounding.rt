@@ -33,17 +33,24 @@ fn cut_line(alloc: Global, cut: &Cut) -> Result<String, AllocError>
 }
 
 // The name of a net by its number; empty where there is none.
-fn net_name(netlist: &Netlist, number: u32) -> &[u8]
+fn net_name(netlist: &Netlist, number: usize) -> &[u8]
     ensures { result.now ≡ net_name netlist.now number }
 {
-    let Some(net) = netlist.nets.as_slice().get(number as usize) else {
+    let Some(net) = netlist.nets.as_slice().get(number) else {
         return b"";
     };
     net.name.bytes.as_slice()
 }
 
-// Appends the line that names a net.
-fn append_net(lines: &mut Vec<u8>, netlist: &Netlist, number: u32) -> Result<(), AllocError>
+/// Appends the line that names a net by its number.
+///
+/// # Errors
+/// Memory ran out; then a front part may have been appended.
+pub(crate) fn append_net(
+    lines: &mut Vec<u8>,
+    netlist: &Netlist,
+    number: usize,
+) -> Result<(), AllocError>
     ensures { OnOk result (lines.new.items ≡ lines.old.items ++ net_line netlist.now number) }
 {
     lines.extend_from_slice(b"net ")?;
@@ -58,7 +65,7 @@ fn append_nets(lines: &mut Vec<u8>, netlist: &Netlist, numbers: &[u32]) -> Resul
         (lines.new.items ≡ lines.old.items ++ flat_map (net_line netlist.now) numbers.now) }
 {
     for number in numbers {
-        append_net(lines, netlist, *number)?;
+        append_net(lines, netlist, *number as usize)?;
     }
     Ok(())
 }

@@ -7,12 +7,14 @@ ghost use Rattle.fpga_route.specs.Printed.{printed};
 ghost use Rattle.fpga_route.specs.ReadBack.{ReadsBack};
 ghost use Rattle.fpga_types.specs.Sound.{IsSound};
 ghost use Rattle.router_words.specs.Job.{global_said};
-ghost use Rattle.router_top.specs.Global.{HasFiles, IsFoundRoute, LacksFiles, LeavesFound, found_file, judged_for};
+ghost use Rattle.router_top.specs.Bound.{IsShort};
+ghost use Rattle.router_top.specs.Global.{HasFiles, IsFoundRoute, LacksFiles, LeavesFound, LeavesSought, SaysNet, found_file, judged_for};
 ghost use Rattle.router_top.specs.Report.{IsReadFault};
 ghost use Rattle.router_top.specs.Run.{LeavesGlobal, scene};
 ghost use Rattle.router_top.specs.Written.{WritesFiles};
 ghost use Rattle.router_top.specs.declared.outcome.Outcome.TheVariants.{OutOfMemory};
 
+use crate::bounding::append_net;
 use crate::file_name::file_name;
 use crate::outcome::Outcome;
 use crate::slot::Slot;
@@ -22,9 +24,10 @@ use desk_io::{Desk, MemShelf, Shelf, write_file};
 use fpga_problem::{PlacedFiles, TextFile as ProblemFile, read_placed, read_route_file};
 use fpga_route::{WholeRoute, read_route};
 use fpga_text::TextFault;
-use fpga_types::RouteText;
+use fpga_types::{Netlist, RouteText};
 use route_judge::{judge, judge_strict};
 use route_negotiate::{CellWires, Options, negotiate, route_text};
+use route_parts::unreached_net;
 use route_sweep::FileSlot;
 use route_verify::Judgement;
 use router_words::GlobalJob;
@@ -188,6 +191,48 @@ fn search_route<S: Shelf>(
     }
 }
 
+// Says the line of a net that no wires reach, and that there is no way at the width.
+fn say_unreached<S: Shelf>(
+    alloc: Global,
+    netlist: &Netlist,
+    net: usize,
+    width: u32,
+    shelf: &mut S,
+) -> Outcome
+    ensures { IsShort (S.state shelf.old) (S.state shelf.new) result
+        ⊎ SaysNet netlist.now net width (S.state shelf.old) (S.state shelf.new) result }
+{
+    let mut line = Vec::new(alloc);
+    let Ok(()) = append_net(&mut line, netlist, net) else {
+        return Outcome::OutOfMemory;
+    };
+    let Ok(()) = shelf.say(&line) else {
+        return Outcome::WriteFault { slot: Slot::Said };
+    };
+    Outcome::NoWay { width }
+}
+
+// Looks for a net that no wires reach, and says it; where there is none, looks for a legal route,
+// and writes it.
+fn seek_route<S: Shelf>(
+    alloc: Global,
+    job: &GlobalJob<'_>,
+    placed: &PlacedFiles,
+    start: Option<&RouteText>,
+    shelf: &mut S,
+) -> Outcome
+    requires { IsSoundPlaced placed.now }
+    ensures { LeavesSought (global_said job.now) placed.now (S.state shelf.old)
+        (S.state shelf.new) result }
+{
+    let (arch, netlist, placement) = (&placed.arch, &placed.netlist, &placed.placement);
+    match unreached_net(alloc, arch, netlist, placement, job.width) {
+        Ok(Some(found)) => say_unreached(alloc, netlist, found.net, job.width, shelf),
+        Ok(None) => search_route(alloc, job, placed, start, shelf),
+        Err(_) => Outcome::OutOfMemory,
+    }
+}
+
 /// What a search for a route of a placement begins with.
 #[derive(Drop)]
 pub(crate) struct Begun {
@@ -234,7 +279,8 @@ pub(crate) fn read_begun<D: Desk>(
     }
 }
 
-/// Reads the files of a job, looks for a route with its tracks, and writes it.
+/// Reads the files of a job, looks for a route with its tracks, and writes it; or says a net that
+/// no wires reach, before any search.
 ///
 /// What is found is printed into memory, read from there and judged, and what was judged is
 /// written: so the search is not relied on, nor is what makes a text of its wires.
@@ -251,7 +297,7 @@ pub fn negotiate_files<D: Desk, S: Shelf>(
     ensures quiet { ¬ IsReadFault result → (D.state desk.new).faults ≡ (D.state desk.old).faults }
 {
     match read_begun(alloc, job, desk) {
-        Ok(begun) => search_route(alloc, job, &begun.placed, begun.start.as_ref(), shelf),
+        Ok(begun) => seek_route(alloc, job, &begun.placed, begun.start.as_ref(), shelf),
         Err(stop) => stop,
     }
 }

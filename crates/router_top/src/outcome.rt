@@ -47,6 +47,11 @@ pub enum Outcome {
         width: u32,
         rounds: u32,
     },
+    /// No routing of the placement has this width: no wires reach a sink of some net, whatever the
+    /// other nets have.
+    NoWay {
+        width: u32,
+    },
     /// A legal routing of this width was written, and no routing of the placement has fewer tracks
     /// than so many, for which a cut asks.
     Narrowed {
@@ -127,6 +132,7 @@ pub fn status(outcome: &Outcome) -> u8
         | Outcome::Accepted
         | Outcome::LegalRoute => 0,
         Outcome::Unroutable { .. }
+        | Outcome::NoWay { .. }
         | Outcome::Beyond { .. }
         | Outcome::NotAccepted { .. }
         | Outcome::NotLegal { .. } => 1,
@@ -159,6 +165,7 @@ pub fn report(outcome: &Outcome) -> ArrayString<LINE_ROOM>
             push_count(&mut line, " after ", rounds as u64);
             line.push_str(" rounds");
         }
+        Outcome::NoWay { width } => push_count(&mut line, "no way ", width as u64),
         Outcome::Narrowed { width, .. } => push_count(&mut line, "routed ", width as u64),
         Outcome::Beyond { tracks, .. } => push_count(&mut line, "bound ", tracks as u64),
         Outcome::Done => line.push_str("done"),

@@ -130,7 +130,8 @@ fn say_report<S: Shelf>(shelf: &mut S, outcome: Outcome) -> Outcome
 ///
 /// `global` reads the first three files alone, and looks for a route of the placement together with
 /// its tracks. It writes PREFIX.route where one is found in as many rounds as it is given, and else
-/// nothing.
+/// nothing. Where no wires reach a sink of some net, whatever the other nets have, it looks for
+/// none, and says a line `net NAME` for the first such net.
 ///
 /// `least` reads what `global` does and says what `bound` does. From as many tracks as the cut asks
 /// for up to MAX it looks for a route as `global` does, and the first that is found ends it.
@@ -144,7 +145,8 @@ fn say_report<S: Shelf>(shelf: &mut S, outcome: Outcome) -> Outcome
 /// the shelf fails on one, those before it are whole, it holds a front part of its text or was not
 /// created, and those behind it are as they were; after any other answer each file that was begun
 /// is whole. What is said is a front part of the lead and the report line, and all of both where
-/// the shelf has not failed. The lead is the trial line, or the lines of `core`, `bound` or `least`.
+/// the shelf has not failed. The lead is the trial line, or the lines of `core`, `bound`, `global`
+/// or `least`.
 ///
 /// After want of memory the files of a `sweep` or a `trial` are those of lower widths, and of
 /// another command there is none. The files of the desk stay in any case.

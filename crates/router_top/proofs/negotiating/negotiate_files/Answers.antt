@@ -7,4 +7,4 @@ returns-in-Err-clause-leaves g c =
 
 pub returns-in-Ok-clause-leaves : goal.returns-in-Ok-clause-leaves
 returns-in-Ok-clause-leaves g c =
-    inr (c.in-Ok.begun.placed, c.in-Ok.ensures.has, c.search_route.ensures)
+    inr (c.in-Ok.begun.placed, c.in-Ok.ensures.has, c.seek_route.ensures)
