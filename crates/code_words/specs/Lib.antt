@@ -2,3 +2,4 @@ pub mod Causes
 pub mod Codes
 pub mod Errors
 pub mod Phrases
+pub mod Refused

@@ -6,7 +6,9 @@ mod causes;
 mod errors;
 mod phrases;
 mod refusals;
+mod refused;
 
 pub use causes::{cause, cause_within_reach};
 pub use errors::system_error;
 pub use refusals::refusal;
+pub use refused::{append_judged, append_limit, append_line, append_step};

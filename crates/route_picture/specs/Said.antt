@@ -1,6 +1,6 @@
 -- What is said where no picture is printed.
-use Rattle.std.specs.Prelude.{◌≡◌, ℕ, ◌++◌, ⊤, IsTrue, List, [], codes, decimal, Option, Some, None, option_and_then}
-use Rattle.code_words.specs.Phrases.{is_phrase}
+use Rattle.std.specs.Prelude.{◌≡◌, ℕ, ◌++◌, ⊤, List, [], codes, decimal, Option, Some, None, option_and_then, true}
+use Rattle.code_words.specs.Refused.{judged_said, limit_said, line_said}
 use Rattle.fpga_problem.specs.declared.text_file.TextFile.TheVariants.{Architecture, Netlist, Placement, Route}
 use Rattle.fpga_text.specs.Bytes.{Bytes}
 use Rattle.fpga_text.specs.declared.fault.TextFault.{TextFault}
@@ -10,7 +10,7 @@ use Rattle.route_picture.specs.Words.{asked}
 use Rattle.route_picture.specs.declared.given_file.GivenFile.{GivenFile}
 use Rattle.route_picture.specs.declared.given_file.GivenFile.TheVariants.{Text, Names, Routed}
 use Rattle.route_picture.specs.declared.stop.Stop.{Stop}
-use Rattle.route_picture.specs.declared.stop.Stop.TheVariants.{Unread, TooLong, Faulty, NoNet, NoNames, BadRouted, Illegal}
+use Rattle.route_picture.specs.declared.stop.Stop.TheVariants.{Unread, TooLong, Faulty, NoNet, NoNames, BadRouted, Illegal, Memory, Unprinted, Usage}
 
 -- the kind of a file
 abbrev pub kind_of : GivenFile → List ℕ
@@ -51,39 +51,43 @@ abbrev pub about_said : List Bytes → Option GivenFile → List ℕ
 about_said words (Some file) = file_said file (name_in words file)
 about_said words None = []
 
--- a line of a file, what is wrong with it, and the code
-abbrev pub line_said : (line code : ℕ) → (why : List ℕ) → List ℕ
-line_said line code why =
-    codes ", line " ++ decimal line ++ codes ": " ++ why ++ codes " (code " ++ decimal code
-    ++ codes ")"
-
--- what passes its limit, the number, and the code
-abbrev pub limit_said : (code count : ℕ) → (why : List ℕ) → List ℕ
-limit_said code count why =
-    codes ": " ++ why ++ codes ": " ++ decimal count ++ codes " (code " ++ decimal code
-    ++ codes ")"
-
 -- a line of the file of names with a name that no net has
 abbrev pub no_net_said : (line : ℕ) → List ℕ
 no_net_said line =
     codes ", line " ++ decimal line ++ codes ": the netlist has no net of this name"
 
--- a text that says so with some phrase as the reason
-abbrev pub GivesWhy : ((why : List ℕ) → List ℕ) → List ℕ → Type 0
-GivesWhy said text = (why : List ℕ) × IsTrue (is_phrase why) × (text ≡ said why)
+-- memory ran out
+abbrev pub memory_said : List ℕ
+memory_said = codes "Memory ran out, so that nothing was drawn."
 
--- a text says what is wrong with a file
-abbrev pub MeansFault : TextFault → List ℕ → Type 0
-MeansFault (Bad line code) text = GivesWhy (line_said line code) text
-MeansFault (Limit code count) text = GivesWhy (limit_said code count) text
-MeansFault NoMemory text = ⊤
+-- which words the command takes
+abbrev pub usage_said : List ℕ
+usage_said =
+    codes "The command does not take these words.\n"
+    ++ (codes "Usage: gafkelam picture ARCH NET PLACE ROUTE WIDTH [NAMES | ROUTED --reach L], "
+    ++ (codes "WIDTH and L from 1 to 64\n"
+    ++ codes "As in: gafkelam picture design.arch design.net design.place out.route 9 > out.svg"))
 
+-- what is wrong with a text of a file
+abbrev pub fault_said : TextFault → List ℕ
+fault_said (Bad line code) = line_said line code
+fault_said (Limit code count) = codes ": " ++ limit_said code count
+fault_said NoMemory = memory_said
+
+-- a text says what a stop means, without the file that it is about; that a file is not read is said
+-- with what the system tells of it
 abbrev pub Means : Stop → List ℕ → Type 0
-Means (Faulty refusal) text = MeansFault refusal.fault text
+Means (Unread file) text = ⊤
+Means (TooLong file) text = text ≡ codes ": it has more than 67,108,864 bytes"
+Means (Faulty refusal) text = text ≡ fault_said refusal.fault
 Means (NoNet line) text = text ≡ no_net_said line
-Means (BadRouted fault) text = MeansFault fault text
-Means (Illegal line cause) text = GivesWhy (line_said line cause) text
-Means _ text = ⊤
+Means NoNames text =
+    text ≡ codes ": no line names a net; gafkelam core does, where a width is unroutable"
+Means (BadRouted fault) text = text ≡ fault_said fault
+Means (Illegal line cause) text = text ≡ judged_said true line cause
+Means Memory text = text ≡ memory_said
+Means Unprinted text = text ≡ codes "Standard output takes no more of the picture."
+Means Usage text = text ≡ usage_said
 
 -- after what stood in a text comes the file that is meant, then what is wrong, and a newline
 pub record IsSaid (words : List Bytes) (stop : Stop) (old new : List ℕ) : Type 0 where

@@ -1,20 +1,17 @@
 //! What is said where no picture is printed: which file is meant, by the name that was given, and
 //! what is wrong with it.
-ghost use Rattle.std.specs.Prelude.{◌≡◌, ◌++◌, IfOk, IfSome, IsTrue, OnOk, map, string_bytes};
+ghost use Rattle.std.specs.Prelude.{◌≡◌, ◌++◌, IfOk, OnOk, map, string_bytes, true};
 ghost use Rattle.std.specs.Option.{option_copied};
-ghost use Rattle.code_words.specs.Phrases.{is_phrase};
+ghost use Rattle.code_words.specs.Refused.{judged_said};
 ghost use Rattle.route_picture.specs.Said.{
-  GivesWhy,
   IsSaid,
   Means,
-  MeansFault,
   about_said,
+  fault_said,
   file_about,
   file_faulty,
   file_said,
   kind_of,
-  limit_said,
-  line_said,
   name_in,
   no_net_said,
 };
@@ -22,7 +19,7 @@ ghost use Rattle.route_picture.specs.Said.{
 use crate::given_file::GivenFile;
 use crate::stop::Stop;
 use crate::words::read_words;
-use code_words::{cause, cause_within_reach};
+use code_words::{append_judged, append_limit, append_line};
 use fpga_problem::TextFile;
 use fpga_text::TextFault;
 use std::alloc::{AllocError, Global};
@@ -138,77 +135,37 @@ fn meaning<R: Files + AllocGlobal>(
         Stop::NoNet { line } => no_net(rt.alloc(), line),
         Stop::Illegal { line, cause } => illegal(rt.alloc(), line, cause),
         Stop::Unread(file) => unread(rt, given_name(words, file)),
-        Stop::Usage | Stop::TooLong(_) | Stop::NoNames | Stop::Memory | Stop::Unprinted => {
-            plain(rt.alloc(), stop)
-        }
+        Stop::TooLong(_) => said(rt.alloc(), TOO_LONG),
+        Stop::NoNames => said(rt.alloc(), NO_NAMES),
+        Stop::Memory => said(rt.alloc(), MEMORY),
+        Stop::Unprinted => said(rt.alloc(), UNPRINTED),
+        Stop::Usage => said(rt.alloc(), USAGE),
     }
 }
 
 // What is wrong with a text.
 fn fault(alloc: Global, fault: TextFault) -> Result<String, AllocError>
-    ensures { IfOk result (λ text. MeansFault fault (string_bytes text)) }
+    ensures { IfOk result (λ text. string_bytes text ≡ fault_said fault) }
 {
-    match fault {
-        TextFault::Bad { line, code } => bad_line(alloc, line, code),
-        TextFault::Limit { code, count } => passed_limit(alloc, code, count),
-        TextFault::Memory => plain(alloc, Stop::Memory),
-    }
-}
-
-// Which line is bad, and why.
-fn bad_line(alloc: Global, line: u64, code: u32) -> Result<String, AllocError>
-    ensures { IfOk result (λ text. GivesWhy (line_said line code) (string_bytes text)) }
-{
-    let why = words_or(cause(code), "this line is not taken");
     let mut text = String::new(alloc);
-    append_line(&mut text, line, code, why)?;
+    match fault {
+        TextFault::Bad { line, code } => append_line(&mut text, line, code)?,
+        TextFault::Limit { code, count } => {
+            text.push_str(": ")?;
+            append_limit(&mut text, code, count)?;
+        }
+        TextFault::Memory => text.push_str(MEMORY)?,
+    }
     Ok(text)
-}
-
-fn append_line(out: &mut String, line: u64, code: u32, why: &str) -> Result<(), AllocError>
-    ensures { OnOk result
-        (string_bytes out.new ≡ string_bytes out.old ++ line_said line code why.now) }
-{
-    write!(out, ", line {line}: {why} (code {code})")
 }
 
 // Which line of a routing is against it, and why.
 fn illegal(alloc: Global, line: u64, cause: u32) -> Result<String, AllocError>
-    ensures { IfOk result (λ text. GivesWhy (line_said line cause) (string_bytes text)) }
+    ensures { IfOk result (λ text. string_bytes text ≡ judged_said true line cause) }
 {
-    let why = words_or(cause_within_reach(cause), "this line is not taken");
     let mut text = String::new(alloc);
-    append_line(&mut text, line, cause, why)?;
+    append_judged(&mut text, true, line, cause)?;
     Ok(text)
-}
-
-// What passes its limit.
-fn passed_limit(alloc: Global, code: u32, count: u64) -> Result<String, AllocError>
-    ensures { IfOk result (λ text. GivesWhy (limit_said code count) (string_bytes text)) }
-{
-    let why = words_or(cause(code), "a number passes its limit");
-    let mut text = String::new(alloc);
-    append_limit(&mut text, code, count, why)?;
-    Ok(text)
-}
-
-fn append_limit(out: &mut String, code: u32, count: u64, why: &str) -> Result<(), AllocError>
-    ensures { OnOk result
-        (string_bytes out.new ≡ string_bytes out.old ++ limit_said code count why.now) }
-{
-    write!(out, ": {why}: {count} (code {code})")
-}
-
-// The words for a cause, or these where it has none.
-fn words_or(words: Option<&'static str>, others: &'static str) -> &'static str
-    requires words { IfSome words (λ words. IsTrue (is_phrase words.now)) }
-    requires others { IsTrue (is_phrase others.now) }
-    ensures { IsTrue (is_phrase result.now) }
-{
-    match words {
-        Some(words) => words,
-        None => others,
-    }
 }
 
 // That a name of the file of names is no net's.
@@ -247,25 +204,19 @@ fn first_byte<R: Files>(rt: &R, name: &str) -> io::Result<()> {
     Ok(())
 }
 
-// What the other stops mean.
-fn plain(alloc: Global, stop: Stop) -> Result<String, AllocError> {
+// A text with these words alone.
+fn said(alloc: Global, words: &str) -> Result<String, AllocError>
+    ensures { IfOk result (λ text. string_bytes text ≡ words.now) }
+{
     let mut text = String::new(alloc);
-    text.push_str(match stop {
-        Stop::TooLong(_) => ": it has more than 67,108,864 bytes",
-        Stop::NoNames => {
-            ": no line names a net; gafkelam core does, where a width is unroutable"
-        }
-        Stop::Memory => "Memory ran out, so that nothing was drawn.",
-        Stop::Unprinted => "Standard output takes no more of the picture.",
-        Stop::Usage
-        | Stop::Unread(_)
-        | Stop::Faulty(_)
-        | Stop::NoNet { .. }
-        | Stop::BadRouted(_)
-        | Stop::Illegal { .. } => USAGE,
-    })?;
+    text.push_str(words)?;
     Ok(text)
 }
+
+const TOO_LONG: &str = ": it has more than 67,108,864 bytes";
+const NO_NAMES: &str = ": no line names a net; gafkelam core does, where a width is unroutable";
+const UNPRINTED: &str = "Standard output takes no more of the picture.";
+const MEMORY: &str = "Memory ran out, so that nothing was drawn.";
 
 const USAGE: &str = "The command does not take these words.\n\
     Usage: gafkelam picture ARCH NET PLACE ROUTE WIDTH [NAMES | ROUTED --reach L], \

@@ -21,9 +21,9 @@ use Rattle.fpga_types.specs.declared.arch.PinSpec.{PinSpec}
 use Rattle.router_says.specs.NameBytes.{name_said}
 use Rattle.router_says.specs.declared.at_fault.Sought.{Sought}
 use Rattle.router_says.specs.declared.at_fault.Sought.TheVariants.{Keywords, Block, GlobalPin, SharedClass}
-use Rattle.router_says.specs.declared.at_fault.TheConstants.{LIMIT}
 use Rattle.router_says.specs.declared.pin_use.PinUse.{PinUse}
 use Rattle.fpga_problem.specs.Sources.{IsLonger}
+use Rattle.fpga_problem.specs.declared.source.TheConstants.{TEXT_BYTES}
 use Rattle.router_top.specs.declared.text_file.TextFile.{TextFile}
 use Rattle.router_top.specs.declared.text_file.TextFile.TheVariants.{Problem}
 
@@ -141,9 +141,10 @@ sought_of file code = None
 -- no name, the desk failed, or the file is too long
 abbrev pub IsRead : (before now : DeskState) → (name text : Option Bytes) → Type 0
 IsRead before now None text = text ≡ None
-IsRead before now (Some name) (Some text) = IsWhole before.files name text × (length text ≤ LIMIT)
+IsRead before now (Some name) (Some text) =
+    IsWhole before.files name text × (length text ≤ TEXT_BYTES)
 IsRead before now (Some name) None =
-    RisesByOne before.faults now.faults ⊎ IsLonger before.files name LIMIT
+    RisesByOne before.faults now.faults ⊎ IsLonger before.files name TEXT_BYTES
 
 -- of a text that was read, which keywords have no line
 abbrev pub NamesKeywords : (before now : DeskState) → (names : TextFile → Option Bytes)

@@ -1,8 +1,8 @@
 -- What is said of an outcome that was not asked for, or of which there is more to say.
 use Rattle.std.specs.Prelude.{◌≡◌, ℕ, ◌++◌, ◌*◌, Bool, List, [], codes, decimal, false, min, nat_le, nat_lt, Option, Some, None, true, unwrap_or, if◌then◌else◌}
 use Rattle.std.specs.declared.io.ErrorKind.{ErrorKind}
-use Rattle.code_words.specs.Causes.{cause_phrase, refusal_phrase, within_reach_phrase}
 use Rattle.code_words.specs.Errors.{error_phrase}
+use Rattle.code_words.specs.Refused.{judged_said, limit_said, line_said, step_said}
 use Rattle.desk_io.specs.DeskState.{DeskState}
 use Rattle.fpga_types.specs.declared.limits.TheConstants.{WIDTH_LIMIT}
 use Rattle.problem_facts.specs.declared.full.Asymmetry.{Asymmetry}
@@ -30,29 +30,6 @@ use Rattle.router_words.specs.declared.limits.TheConstants.{BUDGET_LIMIT}
 -- what is said first: the file that is meant, by the name that the words give
 abbrev pub about_said : Option JobAsked → TextFile → List ℕ
 about_said asked file = file_said file (name_of asked file)
-
--- a line of a file, what is wrong with it, and the code
-abbrev pub line_said : (line code : ℕ) → (why : List ℕ) → List ℕ
-line_said line code why =
-    codes ", line " ++ decimal line ++ codes ": " ++ why ++ codes " (code " ++ decimal code
-    ++ codes ")"
-
--- a line of a routed file, what is wrong with it, and the cause
-abbrev pub judged_said : (line cause : ℕ) → (why : List ℕ) → List ℕ
-judged_said line cause why =
-    codes ", line " ++ decimal line ++ codes ": " ++ why ++ codes " (cause " ++ decimal cause
-    ++ codes ")"
-
--- a step of a log, why it is refused, and the cause
-abbrev pub step_said : (step cause : ℕ) → (why : List ℕ) → List ℕ
-step_said step cause why =
-    codes ", step " ++ decimal step ++ codes ": " ++ why ++ codes " (cause " ++ decimal cause
-    ++ codes "); so it refutes nothing"
-
--- what passes its limit, the number, and the code
-abbrev pub limit_said : (code count : ℕ) → (why : List ℕ) → List ℕ
-limit_said code count why =
-    why ++ codes ": " ++ decimal count ++ codes " (code " ++ decimal code ++ codes ")"
 
 -- the file that holds what passes its limit, if one does
 abbrev pub limit_place : Option JobAsked → Option TextFile → List ℕ
@@ -83,23 +60,6 @@ abbrev pub obstacle_said : (width : ℕ) → Obstacle → List ℕ
 obstacle_said width why =
     codes "not symmetric at " ++ (decimal width ++ (codes " tracks: " ++ (reason_said why
     ++ (codes ", so " ++ (option_said why ++ codes " can't be used")))))
-
--- ---- why
-
-abbrev pub line_why : (code : ℕ) → List ℕ
-line_why code = unwrap_or (cause_phrase code) (codes "this line is not taken")
-
--- of a line of a file that is judged, in which nets may have several wires of a cell or not
-abbrev pub judged_why : (several : Bool) → (cause : ℕ) → List ℕ
-judged_why several cause =
-    unwrap_or (if several then within_reach_phrase cause else cause_phrase cause)
-    (codes "this line is not taken")
-
-abbrev pub step_why : (cause : ℕ) → List ℕ
-step_why cause = unwrap_or (refusal_phrase cause) (codes "it does not follow")
-
-abbrev pub limit_why : (code : ℕ) → List ℕ
-limit_why code = unwrap_or (cause_phrase code) (codes "a number passes its limit")
 
 -- ---- a search that found no routing
 
@@ -269,16 +229,16 @@ SaysAnd IsMore text said = (more : List ℕ) × IsMore more × (said ≡ text ++
 abbrev pub Says : (before now : DeskState) → List Word → Option JobAsked → SystemErrors → Outcome
     → List ℕ → Type 0
 Says before now words asked errors (NotAccepted step cause) said =
-    JustSays before now (about_said asked Lrat ++ step_said step cause (step_why cause)) said
+    JustSays before now (about_said asked Lrat ++ step_said step cause) said
 Says before now words asked errors (NotLegal line cause) said =
     JustSays before now
     (about_said asked Routed
-    ++ judged_said line cause (judged_why (may_have_several asked) cause)) said
+    ++ judged_said (may_have_several asked) line cause) said
 Says before now words asked errors (InputFault file line code) said =
     SaysAnd (NamesSought before now (name_of asked) line (sought_of file code))
-    (about_said asked file ++ line_said line code (line_why code)) said
+    (about_said asked file ++ line_said line code) said
 Says before now words asked errors (Limit file code count) said =
-    JustSays before now (limit_place asked file ++ limit_said code count (limit_why code)) said
+    JustSays before now (limit_place asked file ++ limit_said code count) said
 Says before now words asked errors (NotSymmetric width why) said =
     JustSays before now (obstacle_said width why) said
 Says before now words asked errors (Unroutable width) said =

@@ -30,7 +30,6 @@ use Rattle.router_says.specs.AtFault.{IsRead}
 use Rattle.router_says.specs.NameBytes.{name_said}
 use Rattle.router_says.specs.Names.{name_of, reach_of}
 use Rattle.router_says.specs.declared.seen.Hints.{Hints}
-use Rattle.router_says.specs.declared.seen.TheConstants.{NAME_LIMIT}
 use Rattle.route_ways.specs.Trimming.{net_name}
 use Rattle.router_top.specs.declared.text_file.TextFile.{TextFile}
 use Rattle.router_top.specs.declared.text_file.TextFile.TheVariants.{Problem}
@@ -49,9 +48,9 @@ net_said p slot = option_map_or
 -- the first of these, and how many more there are
 abbrev pub listed : {X : Type 0} → (said_of : X → List ℕ) → (row : List X) → List ℕ
 listed said_of row =
-    if nat_le (length row) NAME_LIMIT then flat_map said_of row
-    else flat_map said_of (take NAME_LIMIT row)
-    ++ (codes " and " ++ (decimal (length row - NAME_LIMIT) ++ codes " more"))
+    if nat_le (length row) 10 then flat_map said_of row
+    else flat_map said_of (take 10 row)
+    ++ (codes " and " ++ (decimal (length row - 10) ++ codes " more"))
 
 -- the nets of slots, the first by name, and how many more there are
 abbrev pub nets_said : RoutingProblem → (row : List ℕ) → List ℕ

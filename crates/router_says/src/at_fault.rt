@@ -11,15 +11,12 @@ use crate::names::problem_name;
 use crate::pin_use::{append_global_pin, append_shared_class, ordinary_uses};
 use desk_io::{Desk, ReadStop, read_file};
 use fpga_arch::read_arch;
-use fpga_problem::TextFile as ProblemFile;
+use fpga_problem::{TEXT_BYTES, TextFile as ProblemFile};
 use fpga_text::{Style, TextFault};
 use fpga_types::PinSpec;
 use router_top::TextFile;
 use router_words::Job;
 use std::alloc::{AllocError, Global};
-
-/// No file is longer.
-pub(crate) const LIMIT: u64 = 1 << 26;
 
 /// What is to be named.
 #[derive(Clone, Copy)]
@@ -84,7 +81,7 @@ pub(crate) fn text_of<D: Desk>(
     let Some(name) = name else {
         return Ok(None);
     };
-    match read_file(alloc, desk, name, LIMIT) {
+    match read_file(alloc, desk, name, TEXT_BYTES) {
         Ok(text) => Ok(Some(text)),
         Err(ReadStop::Fault) => Ok(None),
         Err(ReadStop::TooLong) => Ok(None),

@@ -1,6 +1,7 @@
 //! The words for each outcome.
 ghost use Rattle.std.specs.Prelude.{◌≡◌, ◌++◌, IsOk, IsTrue, OnOk, false, string_bytes, true, unwrap_or};
 ghost use Rattle.std.specs.Option.{option_copied};
+ghost use Rattle.code_words.specs.Refused.{judged_said, limit_said, line_said, step_said};
 ghost use Rattle.router_says.specs.AtFault.{Appends, NamesSought, sought_of};
 ghost use Rattle.router_says.specs.Names.{asked, may_have_several, name_of};
 ghost use Rattle.router_says.specs.Quiet.{is_quiet};
@@ -9,15 +10,7 @@ ghost use Rattle.router_says.specs.Said.{
   Says,
   SaysAnd,
   about_said,
-  judged_said,
-  judged_why,
   limit_place,
-  limit_said,
-  limit_why,
-  line_said,
-  line_why,
-  step_said,
-  step_why,
   undecided_said,
   unroutable_said,
 };
@@ -29,15 +22,13 @@ use crate::at_fault::append_at_fault;
 use crate::bounds::{append_bound, append_narrowed};
 use crate::faults::{SystemErrors, append_unread, append_unwritten};
 use crate::names::{job_in, may_have_several};
-use crate::refused::{
-    append_file, append_judged, append_limit, append_limit_place, append_line, append_step,
-};
+use crate::refused::{append_file, append_limit_place};
 use crate::seen::append_seen;
 use crate::symmetry::append_obstacle;
 use crate::unfound::{append_no_way, append_unfound};
 use crate::unsettled::{append_no_memory, append_undecided, append_unroutable};
 use crate::usage::append_usage;
-use code_words::{cause, cause_within_reach, refusal};
+use code_words::{append_judged, append_limit, append_line, append_step};
 use desk_io::Desk;
 use router_top::{Outcome, TextFile, status};
 use router_words::Job;
@@ -141,16 +132,10 @@ fn append_refused_step(
     code: u32,
 ) -> Result<(), AllocError>
     ensures { OnOk result (string_bytes out.new ≡ string_bytes out.old
-        ++ (about_said (asked job.entry) Lrat ++ step_said step code (step_why code))) }
+        ++ (about_said (asked job.entry) Lrat ++ step_said step code)) }
 {
     append_file(out, job, TextFile::Lrat)?;
-    append_step(out, step, code, step_why(code))
-}
-
-fn step_why(code: u32) -> &'static str
-    ensures { result.now ≡ step_why code }
-{
-    words_or(refusal(code), "it does not follow")
+    append_step(out, step, code)
 }
 
 // Which line of the routed file is bad, and why.
@@ -162,20 +147,10 @@ fn append_not_legal(
 ) -> Result<(), AllocError>
     ensures { OnOk result (string_bytes out.new ≡ string_bytes out.old
         ++ (about_said (asked job.entry) Routed
-        ++ judged_said line code (judged_why (may_have_several (asked job.entry)) code))) }
+        ++ judged_said (may_have_several (asked job.entry)) line code)) }
 {
     append_file(out, job, TextFile::Routed)?;
-    append_judged(out, line, code, judged_why(may_have_several(job), code))
-}
-
-fn judged_why(several: bool, code: u32) -> &'static str
-    ensures { result.now ≡ judged_why several code }
-{
-    let words = match several {
-        true => cause_within_reach(code),
-        false => cause(code),
-    };
-    words_or(words, "this line is not taken")
+    append_judged(out, may_have_several(job), line, code)
 }
 
 // Which line is bad, why, and the name of what is at fault there, where the code does not tell.
@@ -190,7 +165,7 @@ fn append_bad_line<D: Desk>(
 ) -> Result<(), AllocError>
     ensures { OnOk result (Appends (SaysAnd (NamesSought (D.state desk.old) (D.state desk.new)
         (name_of (asked job.entry)) line (sought_of file code))
-        (about_said (asked job.entry) file ++ line_said line code (line_why code)))
+        (about_said (asked job.entry) file ++ line_said line code))
         (string_bytes out.old) (string_bytes out.new)) }
 {
     append_line_of(out, job, file, line, code)?;
@@ -207,16 +182,10 @@ fn append_line_of(
     code: u32,
 ) -> Result<(), AllocError>
     ensures { OnOk result (string_bytes out.new ≡ string_bytes out.old
-        ++ (about_said (asked job.entry) file ++ line_said line code (line_why code))) }
+        ++ (about_said (asked job.entry) file ++ line_said line code)) }
 {
     append_file(out, job, file)?;
-    append_line(out, line, code, line_why(code))
-}
-
-fn line_why(code: u32) -> &'static str
-    ensures { result.now ≡ line_why code }
-{
-    words_or(cause(code), "this line is not taken")
+    append_line(out, line, code)
 }
 
 // What passes its limit, and where.
@@ -228,26 +197,10 @@ fn append_passed_limit(
     count: u64,
 ) -> Result<(), AllocError>
     ensures { OnOk result (string_bytes out.new ≡ string_bytes out.old
-        ++ (limit_place (asked job.entry) file ++ limit_said code count (limit_why code))) }
+        ++ (limit_place (asked job.entry) file ++ limit_said code count)) }
 {
     append_limit_place(out, job, file)?;
-    append_limit(out, code, count, limit_why(code))
-}
-
-fn limit_why(code: u32) -> &'static str
-    ensures { result.now ≡ limit_why code }
-{
-    words_or(cause(code), "a number passes its limit")
-}
-
-// The words for a cause, or these where it has none.
-fn words_or(words: Option<&'static str>, others: &'static str) -> &'static str
-    ensures { result.now ≡ unwrap_or (option_copied words.entry) others.now }
-{
-    match words {
-        Some(words) => words,
-        None => others,
-    }
+    append_limit(out, code, count)
 }
 
 // That no routing of a width is legal, and what is seen of it without a search.

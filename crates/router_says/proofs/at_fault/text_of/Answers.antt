@@ -5,7 +5,7 @@ use Rattle.desk_io.specs.Files.{Bytes}
 use Rattle.desk_io.specs.declared.read.ReadStop.{ReadStop}
 use Rattle.desk_io.specs.declared.read.ReadStop.TheVariants.{Fault, TooLong}
 use Rattle.router_says.specs.AtFault.{IsRead}
-use Rattle.router_says.specs.declared.at_fault.TheConstants.{LIMIT}
+use Rattle.fpga_problem.specs.declared.source.TheConstants.{TEXT_BYTES}
 use Rattle.fpga_problem.specs.Sources.{IsLonger}
 use Rattle.router_says.proofs.at_fault.text_of.Goals as goal
 
@@ -15,7 +15,7 @@ the_value None h = cc
 the_value (Some x) h = (x, refl)
 
 -- nothing is read of a file that is too long
-too-long : (before now : DeskState) (name : Bytes) → IsLonger before.files name LIMIT →
+too-long : (before now : DeskState) (name : Bytes) → IsLonger before.files name TEXT_BYTES →
     IsRead before now (Some name) None
 too-long before now name long = inr long
 
