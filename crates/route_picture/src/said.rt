@@ -214,8 +214,11 @@ fn said(alloc: Global, words: &str) -> Result<String, AllocError>
 }
 
 const TOO_LONG: &str = ": it has more than 67,108,864 bytes";
+
 const NO_NAMES: &str = ": no line names a net; gafkelam core does, where a width is unroutable";
+
 const UNPRINTED: &str = "Standard output takes no more of the picture.";
+
 const MEMORY: &str = "Memory ran out, so that nothing was drawn.";
 
 const USAGE: &str = "The command does not take these words.\n\
