@@ -4,5 +4,4 @@ pub mod NameBytes
 pub mod AtFault
 pub mod Seen
 pub mod Unfound
-pub mod Usage
 pub mod Said

@@ -12,7 +12,7 @@ use Rattle.router_says.specs.AtFault.{NamesSought, sought_of}
 use Rattle.router_says.specs.Names.{asked_in, file_said, may_have_several, name_of, prefix_of, reach_of}
 use Rattle.router_says.specs.Seen.{Sees}
 use Rattle.router_says.specs.Unfound.{no_way_said, unfound_said}
-use Rattle.router_says.specs.Usage.{usage_said}
+use Rattle.usage_words.specs.Usage.{usage_said}
 use Rattle.router_says.specs.declared.faults.SystemErrors.{SystemErrors}
 use Rattle.router_top.specs.SlotNames.{OfEach, OfOne, Prefix, slot_name}
 use Rattle.router_top.specs.declared.outcome.Obstacle.{Obstacle}

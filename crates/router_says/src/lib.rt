@@ -14,7 +14,6 @@ mod seen;
 mod symmetry;
 mod unfound;
 mod unsettled;
-mod usage;
 mod words;
 
 pub use faults::SystemErrors;

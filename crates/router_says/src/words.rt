@@ -27,11 +27,11 @@ use crate::seen::append_seen;
 use crate::symmetry::append_obstacle;
 use crate::unfound::{append_no_way, append_unfound};
 use crate::unsettled::{append_no_memory, append_undecided, append_unroutable};
-use crate::usage::append_usage;
 use code_words::{append_judged, append_limit, append_line, append_step};
 use desk_io::Desk;
 use router_top::{Outcome, TextFile, status};
 use router_words::Job;
+use usage_words::append_usage;
 use std::alloc::{AllocError, Global};
 
 /// Appends what an outcome of a run with these words means, in lines that end with a newline:

@@ -1,129 +1,107 @@
 //! Words for a command that is not taken.
 ghost use Rattle.std.specs.Prelude.{◌≡◌, ◌++◌, OnOk, codes, string_bytes};
-ghost use Rattle.router_says.specs.Usage as spec;
-ghost use Rattle.router_says.specs.Usage.{
+ghost use Rattle.usage_words.specs.Usage as spec;
+ghost use Rattle.usage_words.specs.Usage.{
   clash_said,
+  code_said,
   example_said,
   form_said,
+  lines_said,
   takes_said,
   usage_said,
-  usage_why,
+  why_said,
 };
-ghost use Rattle.router_words.specs.Word.{words_of};
+ghost use Rattle.usage_words.specs.Word.{words_of};
 
+use crate::command::{Command, command_of};
+use crate::wrong::append_wrong;
 use std::alloc::AllocError;
 
-/// A command, by its first word.
-#[derive(Clone, Copy)]
-pub(crate) enum Command {
-    Route,
-    Sweep,
-    Encode,
-    Core,
-    Check,
-    Verify,
-    Judge,
-    Bound,
-    Global,
-    Least,
-    Gen,
-    Trial,
-}
-
-/// Appends what is wrong with the words, what the command takes, and an example.
-pub(crate) fn append_usage(out: &mut String, words: &[String], code: u32) -> Result<(), AllocError>
+/// Appends what is wrong with the words of a command, those after the program's name: which of
+/// them, where one is. Then comes what the command takes, and an example; where the first word
+/// names no command, those of `route`. `code` is the code of the report: 1 where the first word
+/// names no command, 2 where the words are not taken, 3 of a number, 4 of options that exclude each
+/// other, 5 of a file that would be written over.
+///
+/// # Errors
+/// Memory ran out; then a front part may have been appended.
+pub fn append_usage(out: &mut String, words: &[String], code: u32) -> Result<(), AllocError>
     ensures { OnOk result (string_bytes out.new
         ≡ string_bytes out.old ++ usage_said (words_of words.now) code) }
 {
-    append_of_command(out, command_in(words), code)
-}
-
-// The command that is meant.
-fn command_in(words: &[String]) -> Command
-    ensures { result ≡ spec.command_in (words_of words.now) }
-{
-    let [word, ..] = words else {
-        return Command::Route;
+    let [name, others @ ..] = words else {
+        append_code(out, code, Command::Route)?;
+        return append_form(out, Command::Route);
     };
-    command_of(word.as_str())
+    let Some(command) = command_of(name.as_str()) else {
+        append_no_command(out, name.as_str())?;
+        append_code(out, 1, Command::Route)?;
+        return append_form(out, Command::Route);
+    };
+    append_why(out, command, others, code)?;
+    append_form(out, command)
 }
 
-// The command that a word names; `route` where it names none.
-fn command_of(name: &str) -> Command
-    ensures { result ≡ spec.command_of name.now }
-{
-    if name == "sweep" {
-        return Command::Sweep;
-    }
-    if name == "encode" {
-        return Command::Encode;
-    }
-    if name == "core" {
-        return Command::Core;
-    }
-    if name == "check" {
-        return Command::Check;
-    }
-    if name == "verify" {
-        return Command::Verify;
-    }
-    if name == "judge" {
-        return Command::Judge;
-    }
-    if name == "bound" {
-        return Command::Bound;
-    }
-    if name == "global" {
-        return Command::Global;
-    }
-    if name == "least" {
-        return Command::Least;
-    }
-    if name == "gen" {
-        return Command::Gen;
-    }
-    if name == "trial" {
-        return Command::Trial;
-    }
-    Command::Route
-}
-
-// Appends what is wrong with the words of a command, what it takes, and an example.
-fn append_of_command(out: &mut String, command: Command, code: u32) -> Result<(), AllocError>
-    ensures { OnOk result (string_bytes out.new ≡ string_bytes out.old
-        ++ form_said (usage_why code (clash_said command)) (takes_said command)
-        (example_said command)) }
-{
-    append_form(
-        out,
-        usage_why(code, clash_said(command)),
-        takes_said(command),
-        example_said(command),
-    )
-}
-
-// Appends these words, what the command takes, and an example.
-fn append_form(out: &mut String, why: &str, takes: &str, example: &str) -> Result<(), AllocError>
+// Appends that a word names no command.
+fn append_no_command(out: &mut String, name: &str) -> Result<(), AllocError>
     ensures { OnOk result (string_bytes out.new
-        ≡ string_bytes out.old ++ form_said why.now takes.now example.now) }
+        ≡ string_bytes out.old ++ spec.no_command_said name.now) }
 {
-    write!(
-        out,
-        "{why}Usage: gafkelam {takes}\nAs in: gafkelam {example}"
-    )
+    write!(out, "{name} is no command. ")
 }
 
-// What is wrong with the words; which options clash is told.
-fn usage_why(code: u32, clash: &'static str) -> &'static str
-    ensures { result.now ≡ usage_why code clash.now }
+// Appends what is wrong with the words behind the name of a command.
+fn append_why(
+    out: &mut String,
+    command: Command,
+    words: &[String],
+    code: u32,
+) -> Result<(), AllocError>
+    ensures { OnOk result (string_bytes out.new
+        ≡ string_bytes out.old ++ why_said command (words_of words.now) code) }
+{
+    if code == 2 || code == 3 {
+        let is_told = append_wrong(out, command, words)?;
+        if is_told {
+            return Ok(());
+        }
+    }
+    append_code(out, code, command)
+}
+
+// Appends what a code says.
+fn append_code(out: &mut String, code: u32, command: Command) -> Result<(), AllocError>
+    ensures { OnOk result
+        (string_bytes out.new ≡ string_bytes out.old ++ code_said code command) }
+{
+    out.push_str(code_said(code, command))
+}
+
+// Appends what a command takes, and an example.
+fn append_form(out: &mut String, command: Command) -> Result<(), AllocError>
+    ensures { OnOk result (string_bytes out.new ≡ string_bytes out.old ++ form_said command) }
+{
+    append_lines(out, takes_said(command), example_said(command))
+}
+
+fn append_lines(out: &mut String, takes: &str, example: &str) -> Result<(), AllocError>
+    ensures { OnOk result
+        (string_bytes out.new ≡ string_bytes out.old ++ lines_said takes.now example.now) }
+{
+    write!(out, "Usage: gafkelam {takes}\nAs in: gafkelam {example}")
+}
+
+// What a code says.
+fn code_said(code: u32, command: Command) -> &'static str
+    ensures { result.now ≡ code_said code command }
 {
     match code {
         1 => {
             "The first word is to be a command: route, sweep, global, least, bound, encode, core, \
-             check, verify, judge, gen or trial.\n"
+             check, verify, judge, gen, trial or picture.\n"
         }
         3 => "A number is missing or out of its range.\n",
-        4 => clash,
+        4 => clash_said(command),
         5 => "A file that this would write is one that it reads: give another PREFIX.\n",
         _ => "The command does not take these words.\n",
     }

@@ -1,40 +1,10 @@
 -- What is said of words that are not taken.
-use Rattle.std.specs.Prelude.{ℕ, ◌++◌, ◌==◌, List, [], ◌∷◌, bytes_eq, codes, if◌then◌else◌}
-use Rattle.router_says.specs.declared.usage.Command.{Command}
-use Rattle.router_says.specs.declared.usage.Command.TheVariants.{Route, Sweep, Encode, Core, Check, Verify, Judge, Bound, Global, Least, Gen, Trial}
-use Rattle.router_words.specs.Word.{Word}
-
--- the command that a word names; route where it names none
-abbrev pub command_of : Word → Command
-command_of name =
-    if bytes_eq name (codes "sweep") then Sweep else
-    if bytes_eq name (codes "encode") then Encode else
-    if bytes_eq name (codes "core") then Core else
-    if bytes_eq name (codes "check") then Check else
-    if bytes_eq name (codes "verify") then Verify else
-    if bytes_eq name (codes "judge") then Judge else
-    if bytes_eq name (codes "bound") then Bound else
-    if bytes_eq name (codes "global") then Global else
-    if bytes_eq name (codes "least") then Least else
-    if bytes_eq name (codes "gen") then Gen else
-    if bytes_eq name (codes "trial") then Trial else Route
-
--- the command that is meant
-abbrev pub command_in : List Word → Command
-command_in [] = Route
-command_in (word ∷ words) = command_of word
-
--- what is wrong with the words; which options clash is told
-abbrev pub usage_why : (code : ℕ) → (clash : List ℕ) → List ℕ
-usage_why code clash =
-    if code == 1 then
-    codes "The first word is to be a command: route, sweep, global, least, bound, encode, core, "
-    ++ codes "check, verify, judge, gen or trial.\n" else
-    if code == 3 then codes "A number is missing or out of its range.\n" else
-    if code == 4 then clash else
-    if code == 5
-    then codes "A file that this would write is one that it reads: give another PREFIX.\n" else
-    codes "The command does not take these words.\n"
+use Rattle.std.specs.Prelude.{ℕ, ◌++◌, ◌==◌, ◌||◌, List, [], ◌∷◌, Option, None, Some, codes, unwrap_or, if◌then◌else◌}
+use Rattle.usage_words.specs.Command.{command_of}
+use Rattle.usage_words.specs.Word.{Word}
+use Rattle.usage_words.specs.Wrong.{begun, wrong_said}
+use Rattle.usage_words.specs.declared.command.Command.{Command}
+use Rattle.usage_words.specs.declared.command.Command.TheVariants.{Route, Sweep, Encode, Core, Check, Verify, Judge, Bound, Global, Least, Gen, Trial}
 
 -- which options of a command exclude each other, or need another
 abbrev pub clash_said : Command → List ℕ
@@ -91,11 +61,44 @@ example_said Least = codes "least design.arch design.net design.place 12 out"
 example_said Gen = codes "gen 1 20 300 made"
 example_said Trial = codes "trial 1 20 300 12 out"
 
+-- what the command takes, and an example
+abbrev pub lines_said : (takes example : List ℕ) → List ℕ
+lines_said takes example =
+    codes "Usage: gafkelam " ++ (takes ++ (codes "\nAs in: gafkelam " ++ example))
+
+abbrev pub form_said : Command → List ℕ
+form_said command = lines_said (takes_said command) (example_said command)
+
+-- what the code of the report says
+abbrev pub code_said : (code : ℕ) → Command → List ℕ
+code_said code command =
+    if code == 1 then
+    codes "The first word is to be a command: route, sweep, global, least, bound, encode, core, "
+    ++ codes "check, verify, judge, gen, trial or picture.\n" else
+    if code == 3 then codes "A number is missing or out of its range.\n" else
+    if code == 4 then clash_said command else
+    if code == 5
+    then codes "A file that this would write is one that it reads: give another PREFIX.\n" else
+    codes "The command does not take these words.\n"
+
+-- the first word names no command
+abbrev pub no_command_said : Word → List ℕ
+no_command_said name = name ++ codes " is no command. "
+
+-- what is wrong with the words behind the name of a command: which of them, where the report is of
+-- one and the form tells it, or else what the code says
+abbrev pub why_said : Command → List Word → (code : ℕ) → List ℕ
+why_said command words code =
+    if code == 2 || code == 3
+    then unwrap_or (wrong_said command begun words) (code_said code command)
+    else code_said code command
+
 -- what is wrong, what the command takes, and an example
-abbrev pub form_said : (why takes example : List ℕ) → List ℕ
-form_said why takes example =
-    why ++ (codes "Usage: gafkelam " ++ (takes ++ (codes "\nAs in: gafkelam " ++ example)))
+abbrev pub said_of : Word → Option Command → List Word → (code : ℕ) → List ℕ
+said_of name (Some command) words code = why_said command words code ++ form_said command
+said_of name None words code =
+    no_command_said name ++ (code_said 1 Route ++ form_said Route)
 
 abbrev pub usage_said : List Word → (code : ℕ) → List ℕ
-usage_said words code = let command : Command = command_in words in
-    form_said (usage_why code (clash_said command)) (takes_said command) (example_said command)
+usage_said [] code = code_said code Route ++ form_said Route
+usage_said (name ∷ words) code = said_of name (command_of name) words code
