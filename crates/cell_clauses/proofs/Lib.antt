@@ -1,0 +1,5 @@
+pub mod ClauseLemmas
+pub mod PinLemmas
+pub mod RoutedLemmas
+pub mod RowLemmas
+pub mod ValueLemmas

@@ -1,0 +1,4 @@
+pub mod Clauses
+pub mod Frames
+pub mod Models
+pub mod Places
