@@ -36,7 +36,8 @@ use Rattle.route_bound.proofs.CrossLemmas.{cell-there, few-parted}
 use Rattle.route_bound.proofs.InsideLemmas.{lies-in}
 use Rattle.route_bound.proofs.PartLemmas.{parts-within}
 use Rattle.route_bound.proofs.PigeonLemmas.{no-more}
-use Rattle.cell_clauses.specs.Clauses.{below, is_reached, is_within, meets}
+use Rattle.sat_clause.specs.Formula.{IsTrueClause}
+use Rattle.cell_clauses.specs.Clauses.{below, cell_clauses, is_reached, is_within, meets}
 use Rattle.cell_clauses.specs.Frames.{Frame, arrivals_of, driven_net, frame_of, held_net, held_nets, is_held, ordinary_net, sinks_of_number, window_arrivals}
 use Rattle.cell_clauses.specs.Models.{FewNetsHeld, RefutedHasNoRouting, RoutingsAreModels}
 use Rattle.cell_clauses.specs.Places.{pin_number}
@@ -668,6 +669,14 @@ routings-are-models placed corners width = λ tracks routes few routing. (
 
 pub refuted-has-none : (placed : PlacedNetlist) (corners : Corners) (width : ℕ)
     → RefutedHasNoRouting placed corners width
-refuted-has-none placed corners width = λ unsat tracks routes few routing.
+refuted-has-none placed corners width = λ part among unsat tracks routes few routing.
+    let f : Frame = frame_of placed corners width in
     let model = routings-are-models placed corners width tracks routes few routing in
-    unsat model.0 model.1
+    unsat model.0
+    (record {
+      one_each = model.1.one_each;
+      each_clause = all-from_In (IsTrueClause model.0) part
+          (λ clause i. In-all (IsTrueClause model.0) (cell_clauses f) clause model.1.each_clause
+          (In-contains (cell_clauses f) clause
+          (In-all (Contains (cell_clauses f)) part clause among i)));
+    })

@@ -12,8 +12,8 @@ pub fn routings_are_models()
         → RoutingsAreModels placed corners width }
 {}
 
-/// Where no values satisfy the clauses over cells of a window, no placed routing has so many tracks
-/// or fewer.
+/// Where no values satisfy the clauses over cells of a window, or some of them, no placed routing has
+/// so many tracks or fewer.
 pub fn refuted_has_no_routing()
     ensures { (placed : PlacedNetlist) (corners : Corners) (width : ℕ)
         → RefutedHasNoRouting placed corners width }
