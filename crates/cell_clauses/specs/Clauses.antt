@@ -14,13 +14,46 @@ use Rattle.route_bound.specs.Lying.{Cells, lies_in, pins_at}
 use Rattle.sat_clause.specs.Formula.{Cnf}
 use Rattle.sat_clause.specs.Literal.{Clause}
 use Rattle.cell_clauses.specs.Frames.{Frame}
-use Rattle.cell_clauses.specs.Places.{entry_place, has, lacks, pin_number, tally_place, use_place, variable_count}
+use Rattle.cell_clauses.specs.Places.{entry_place, has, lacks, pin_number, tally_at, use_at, use_place, variable_count}
 use Rattle.cell_clauses.specs.declared.window.Arrival.{Arrival}
 use Rattle.cell_clauses.specs.declared.window.WindowNet.{WindowNet}
 
 -- the numbers below n, rising
 abbrev pub below : ℕ → List ℕ
 below n = range_with_len 0 n
+
+-- of the first k of so many nets more than j use a cell, where there are so many tracks
+abbrev pub more_at : (nets cells width k c j : ℕ) → Clause
+more_at nets cells width k c j =
+    if nat_lt j width then has (tally_at nets cells width k c j) ∷ [] else []
+
+-- with net k no fewer use a cell
+abbrev pub kept_at : (nets cells width k c j : ℕ) → Clause
+kept_at nets cells width k c j =
+    lacks (tally_at nets cells width k c j) ∷ has (tally_at nets cells width (k + 1) c j) ∷ []
+
+-- and one more, if it uses that, but not more than there are tracks
+abbrev pub raised_at : (nets cells width k c j : ℕ) → Clause
+raised_at nets cells width k c j = lacks (use_at cells k c)
+    ∷ lacks (tally_at nets cells width k c j) ∷ more_at nets cells width (k + 1) c (j + 1)
+
+-- net k is counted at a cell where more than j of the nets before it use that
+abbrev pub steps_at : (nets cells width k c j : ℕ) → List Clause
+steps_at nets cells width k c j =
+    kept_at nets cells width k c j ∷ raised_at nets cells width k c j ∷ []
+
+-- it is one of more than none that use the cell, if it does
+abbrev pub first_at : (nets cells width k c : ℕ) → Clause
+first_at nets cells width k c = lacks (use_at cells k c) ∷ more_at nets cells width (k + 1) c 0
+
+-- net k is counted at a cell
+abbrev pub tallies_at : (nets cells width k c : ℕ) → List Clause
+tallies_at nets cells width k c = first_at nets cells width k c
+    ∷ flat_map (steps_at nets cells width k c) (below width)
+
+-- net k is counted at each cell
+abbrev pub counts_at : (nets cells width k : ℕ) → List Clause
+counts_at nets cells width k = flat_map (tallies_at nets cells width k) (below cells)
 
 -- the window's cell at this place is in the set
 abbrev pub is_cell_in : Frame → Cells → (c : ℕ) → Bool
@@ -87,22 +120,19 @@ support_clauses f net = flat_map (held_clauses f net) (enumerate_from 0 f.cells)
 
 -- of the first k nets more than j use the cell, where there are so many tracks
 abbrev pub more_than : Frame → (k c j : ℕ) → Clause
-more_than f k c j = if nat_lt j f.width then has (tally_place f k c j) ∷ [] else []
+more_than f k c j = more_at (length f.nets) (length f.cells) f.width k c j
 
 -- net k is counted at a cell where more than j of the nets before it use that
 abbrev pub step_clauses : Frame → (k c j : ℕ) → List Clause
-step_clauses f k c j =
-    (lacks (tally_place f k c j) ∷ has (tally_place f (k + 1) c j) ∷ [])
-    ∷ (lacks (use_place f k c) ∷ lacks (tally_place f k c j) ∷ more_than f (k + 1) c (j + 1)) ∷ []
+step_clauses f k c j = steps_at (length f.nets) (length f.cells) f.width k c j
 
 -- net k is counted at a cell
 abbrev pub tally_clauses : Frame → (k c : ℕ) → List Clause
-tally_clauses f k c = (lacks (use_place f k c) ∷ more_than f (k + 1) c 0)
-    ∷ flat_map (step_clauses f k c) (below f.width)
+tally_clauses f k c = tallies_at (length f.nets) (length f.cells) f.width k c
 
 -- of all nets no more use a cell than it has tracks
 abbrev pub count_clauses : Frame → (k : ℕ) → List Clause
-count_clauses f k = flat_map (tally_clauses f k) (below (length f.cells))
+count_clauses f k = counts_at (length f.nets) (length f.cells) f.width k
 
 -- the clauses over cells of a window
 abbrev pub cell_clauses : Frame → List Clause

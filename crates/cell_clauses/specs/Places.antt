@@ -26,13 +26,19 @@ entry_count f = length f.arrivals * pin_count f
 abbrev pub variable_count : Frame → ℕ
 variable_count f = use_count f + tally_count f + entry_count f
 
--- net k uses cell c
-abbrev pub use_place : Frame → (k c : ℕ) → ℕ
-use_place f k c = k * length f.cells + c
+-- net k uses cell c, of so many cells
+abbrev pub use_at : (cells k c : ℕ) → ℕ
+use_at cells k c = k * cells + c
 
--- of the first k nets more than j use cell c
+abbrev pub use_place : Frame → (k c : ℕ) → ℕ
+use_place f k c = use_at (length f.cells) k c
+
+-- of the first k nets more than j use cell c, of so many nets, cells and tracks
+abbrev pub tally_at : (nets cells width k c j : ℕ) → ℕ
+tally_at nets cells width k c j = nets * cells + ((k * cells + c) * width + j)
+
 abbrev pub tally_place : Frame → (k c j : ℕ) → ℕ
-tally_place f k c j = use_count f + ((k * length f.cells + c) * f.width + j)
+tally_place f k c j = tally_at (length f.nets) (length f.cells) f.width k c j
 
 -- arrival a is by the pin with this number
 abbrev pub entry_place : Frame → (a number : ℕ) → ℕ

@@ -3,7 +3,9 @@
 #![tactic(auto)]
 
 mod laws;
+mod tallies;
 mod window;
 
 pub use laws::{few_nets_held, refuted_has_no_routing, routings_are_models};
+pub use tallies::{Sizes, add_counts};
 pub use window::{Arrival, WindowNet};
