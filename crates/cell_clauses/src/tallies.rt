@@ -9,8 +9,9 @@ ghost use Rattle.sat_clause.specs.declared.limits.TheConstants.{VARIABLE_LIMIT};
 use route_encode::add_clause;
 use sat_clause::{Formula, Lit};
 
-/// How many nets, at most 65,535, and cells a window has, and how many tracks there are. The variables that say
-/// which cells nets use, and those that count them, are together 100,000,000 at most.
+/// How many nets, at most 65,535, and cells a window has, and how many tracks there are. The
+/// variables that say which cells nets use, and those that count these nets, are together at most
+/// 100,000,000.
 #[derive(Clone, Copy)]
 pub struct Sizes {
     pub nets: u32,
