@@ -1,0 +1,5 @@
+pub mod DraftLemmas
+pub mod MarkLemmas
+pub mod ModelLemmas
+pub mod ReadLemmas
+mod Rows

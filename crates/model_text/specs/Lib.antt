@@ -1,0 +1,6 @@
+pub mod Assignments
+pub mod Causes
+pub mod Drafts
+pub mod LineKinds
+pub mod Models
+pub mod ModelText
