@@ -29,12 +29,6 @@ class Architecture:
     def side_of_input(self, pin):
         return SIDES[pin % len(SIDES)]
 
-    def output_pin(self):
-        return self.inputs
-
-    def clock_pin(self):
-        return self.inputs + 1
-
     def text(self):
         pins = [f"inpin class: {INPUT_CLASS} {self.side_of_input(pin)}" for pin in range(self.inputs)]
         pins.append(f"outpin class: {OUTPUT_CLASS} {' '.join(OUTPUT_SIDES)}")

@@ -1,9 +1,7 @@
-"""The netlist, the placement and the route as the texts of VPR 4.30; `architecture` has its own."""
+"""The netlist and the placement as the texts of VPR 4.30; `architecture` has its own."""
 import os
 
-from architecture import CLOCK_CLASS, INPUT_CLASS, OUTPUT_CLASS
-
-ENDINGS = ("arch", "net", "place", "route")
+ENDINGS = ("arch", "net", "place")
 
 
 def netlist_text(design, architecture):
@@ -41,76 +39,10 @@ def placement_text(design, placement, prefix):
     return "\n".join(lines) + "\n"
 
 
-def element(kind, x, y, label, number):
-    return f"{kind:>6} ({x},{y})  {label}: {number}  \n"
-
-
-class RouteWriter:
-    """Writes nets element by element, from the driver to each sink."""
-
-    def __init__(self, design, placement, architecture, routing):
-        self.design = design
-        self.places = placement.places
-        self.architecture = architecture
-        self.routing = routing
-        self.branches = {net.name: branches for net, branches in zip(routing.nets, routing.branches)}
-
-    def text(self):
-        side = self.routing.channels.side
-        pieces = [f"Array size: {side} x {side} logic blocks.\n\nRouting:"]
-        for number, net in enumerate(self.design.nets):
-            if net.is_global:
-                pieces.append(f"\n\nNet {number} ({net.name}): global net connecting:\n\n")
-                pieces += [self.block_line(net, block) for block in net.blocks()]
-            else:
-                pieces.append(f"\n\nNet {number} ({net.name})\n\n")
-                pieces += self.elements(net)
-        return "".join(pieces) + "\n"
-
-    def block_line(self, net, block):
-        """What VPR says of a block of a global net: the class of its pin, -1 of a pad."""
-        x, y, _ = self.places[block]
-        pin_class = self.pin_class(net, block)
-        return f"Block {self.design.blocks[block].name} (#{block}) at ({x}, {y}), Pin class {pin_class}.\n"
-
-    def pin_class(self, net, block):
-        there = self.design.blocks[block]
-        if there.is_pad():
-            return -1
-        if there.output == net.name:
-            return OUTPUT_CLASS
-        return CLOCK_CLASS if there.clock == net.name else INPUT_CLASS
-
-    def elements(self, net):
-        driver = self.driver_elements(net.driver)
-        for number, branch in enumerate(self.branches[net.name]):
-            if number == 0:
-                yield from driver
-            elif branch.is_from_driver:
-                yield driver[1]
-            for cell in branch.cells:
-                yield element(*self.routing.channels.places[cell], "Track", 0)
-            yield from self.sink_elements(branch)
-
-    def driver_elements(self, block):
-        x, y, spot = self.places[block]
-        if self.design.blocks[block].is_pad():
-            return [element(kind, x, y, "Pad", spot) for kind in ("SOURCE", "OPIN")]
-        return [element("SOURCE", x, y, "Class", OUTPUT_CLASS),
-                element("OPIN", x, y, "Pin", self.architecture.output_pin())]
-
-    def sink_elements(self, branch):
-        x, y, spot = self.places[branch.block]
-        if self.design.blocks[branch.block].is_pad():
-            return [element(kind, x, y, "Pad", spot) for kind in ("IPIN", "SINK")]
-        return [element("IPIN", x, y, "Pin", branch.pin), element("SINK", x, y, "Class", INPUT_CLASS)]
-
-
-def texts_of(design, placement, architecture, routing, prefix):
-    """The four texts by the endings of their files."""
+def texts_of(design, placement, architecture, prefix):
+    """The three texts of a placement by the endings of their files."""
     texts = (architecture.text(), netlist_text(design, architecture),
-             placement_text(design, placement, prefix),
-             RouteWriter(design, placement, architecture, routing).text())
+             placement_text(design, placement, prefix))
     return dict(zip(ENDINGS, texts))
 
 
