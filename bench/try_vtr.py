@@ -29,7 +29,7 @@ from judge import Route, words_of
 TOP = os.path.dirname(os.path.dirname(os.path.abspath(__file__)))
 TOOL = os.path.join(TOP, "tools", "vtr")
 SAMPLES = os.path.join(TOP, "bench", "vtr")
-WIDTHS = {"design": 9, "fork": 3, "rotator": 9, "three": 3}
+WIDTHS = {"design": 5, "fork": 3, "rotator": 5, "three": 3}
 PADS = ["--pad-pins", "3"]
 
 # A sample, a line of it, what is changed there, and what is said of that line.
