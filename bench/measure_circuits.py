@@ -3,7 +3,7 @@
 
     measure_circuits.py FOLDER [CIRCUIT ..] [--switch PATTERN] [--boxes SHARE] [--seconds N] [--router PROGRAM]
 
-FOLDER has the files that bench/make_circuits made. Each circuit is routed with as many tracks as its
+FOLDER has the files of bench/make_circuits --cells. Each circuit is routed with as many tracks as its
 fullest cell has nets, with one more and so on, up to the first width that is routed; there is no routing
 with fewer. The rows, in Markdown, begin at the last refuted width before one that is open or routed. Each
 answer is checked: a routing by `verify`, a refutation by `check`, and that no two programs say opposite
