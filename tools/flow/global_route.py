@@ -80,14 +80,26 @@ def find_route(design, texts, search):
             status, lines, said = call(search.words(), folder)
         except OSError as error:
             raise ProgramFailure(8, [f"{program()}: {error.strerror}"]) from error
-        if status in (BEYOND, UNDECIDED):
+        answer = lines[-1] if lines else ""
+        if status in (BEYOND, UNDECIDED) and answer:
             refuse(design, search, lines)
-        if status != ROUTED:
+        if status != ROUTED or not answer.startswith("routed "):
             raise ProgramFailure(status, said or lines)
         with open(os.path.join(folder, "out.route"), encoding="utf-8", errors="surrogateescape") as file:
             text = file.read()
-    wires = sum(line.lstrip().startswith(CELLS) for line in text.splitlines())
-    return Route(text, int(lines[-1].split()[1]), bound_of(lines), wires)
+    return Route(text, int(answer.split()[1]), bound_of(lines), wires_in(text))
+
+
+def wires_in(text):
+    """How many wires the nets of a route take, each once: a branch begins with the line of one that its net has."""
+    count, taken = 0, set()
+    for line in text.splitlines():
+        if line.startswith("Net "):
+            taken = set()
+        elif line.lstrip().startswith(CELLS) and line not in taken:
+            taken.add(line)
+            count += 1
+    return count
 
 
 def bound_of(lines):
