@@ -1,7 +1,8 @@
 #!/usr/bin/env python3
 """Measures how many tracks placements need, from both sides, and beside another router.
 
-    measure_least.py FOLDER [CIRCUIT ..] [--beside PROGRAM] [--seconds N] [--kept FILE] [--router PROGRAM] [--table]
+    measure_least.py FOLDER [CIRCUIT ..] [--boxes all|half|quarter] [--beside PROGRAM] [--seconds N] [--kept FILE]
+                     [--router PROGRAM] [--table]
 
 FOLDER has the placements of bench/make_circuits, with or without routes (--cells). Each placement is taken with
 subset, Wilton and universal switch blocks, and with boxes that open all tracks, one half of them, and a quarter at
@@ -13,8 +14,9 @@ The other router goes up from the same width in turn with it. It is called as PR
 ends with 0 where it has written a routed file, which is judged too, and with another status where it found none.
 
 FILE (measured.txt) keeps a line for each run, and what stands there is not run again, so that what was stopped goes
-on. At the end, or at once with --table, the rows of all lines are printed in Markdown: the bound, the least width,
-the seconds of the run that found it, and those of all; and then geometric means.
+on. At the end, or at once with --table, what it has is printed as a table in Markdown for each kind of boxes: the
+bound, and for each kind of switch blocks the least width of this program and of the other router, in brackets the
+seconds of the run that routes, and of all; and then geometric means of ratios.
 """
 import argparse
 import itertools
@@ -147,57 +149,64 @@ def found(kept, key, router):
 
 
 def cell(came):
-    return "- | - | -" if came is None else f"{came[0]} | {came[1]:.2f} | {came[2]:.1f}"
+    return "-" if came is None else f"{came[0]} ({came[1]:.2f}, {came[2]:.1f})"
 
 
 def mean(ratios):
     return math.exp(sum(map(math.log, ratios)) / len(ratios))
 
 
+def rows_of(kept, boxes):
+    """For each circuit that is kept with these boxes its bound, and what both routers came to by switch blocks."""
+    bounds = {key[0]: answer for key, (answer, _) in kept.answers.items() if key[2:4] == (boxes, "bound")}
+    for name in sorted(bounds):
+        keys = [(name, switch, boxes) for switch in BLOCKS]
+        yield name, bounds[name], [(found(kept, key, OURS), found(kept, key, OTHER)) for key in keys]
+
+
 def print_table(kept):
-    keys = [(name, switch, boxes) for name, switch, boxes in dict.fromkeys(
-        tuple(key[:3]) for key in kept.answers) if boxes in BOXES]
-    keys.sort(key=lambda key: (key[0], list(BOXES).index(key[2]), BLOCKS.index(key[1])))
-    both = []
-    print("| circuit | boxes | blocks | bound | least | s | all, s | the other's | s | all, s |")
-    print("|---" * 10 + "|")
-    for name, switch, boxes in keys:
-        key = name, switch, boxes
-        ours, other = found(kept, key, OURS), found(kept, key, OTHER)
-        bound, _ = kept.answers[(*key, "bound", "-")]
-        print(f"| {name} | {boxes} | {switch} | {bound} | {cell(ours)} | {cell(other)} |")
-        if ours and other:
-            both.append((boxes, ours, other))
     for boxes in BOXES:
-        rows = [(ours, other) for at, ours, other in both if at == boxes]
-        if rows:
-            less = sum(ours[0] < other[0] for ours, other in rows)
-            more = sum(ours[0] > other[0] for ours, other in rows)
-            width = mean([ours[0] / other[0] for ours, other in rows])
-            seconds, whole = (mean([max(ours[at], 0.01) / max(other[at], 0.01) for ours, other in rows]) for at in (1, 2))
-            print(f"{boxes}: {len(rows)} rows, fewer tracks on {less}, more on {more}; of the other's tracks {width:.2f},"
-                  f" of its seconds {seconds:.2f}, of all {whole:.2f}")
+        pairs = []
+        print(f"\nboxes: {boxes}\n\n| circuit | bound | " + " | ".join(f"{switch} | other" for switch in BLOCKS) + " |")
+        print("|---" * (2 + 2 * len(BLOCKS)) + "|")
+        for name, bound, came in rows_of(kept, boxes):
+            print(f"| {name} | {bound} | " + " | ".join(cell(one) for both in came for one in both) + " |")
+            pairs += [both for both in came if all(both)]
+        if pairs:
+            print_means(pairs)
+
+
+def print_means(pairs):
+    less = sum(ours[0] < other[0] for ours, other in pairs)
+    more = sum(ours[0] > other[0] for ours, other in pairs)
+    width = mean([ours[0] / other[0] for ours, other in pairs])
+    one, whole = (mean([max(ours[at], 0.01) / max(other[at], 0.01) for ours, other in pairs]) for at in (1, 2))
+    print(f"\nof {len(pairs)} which both route {less} with fewer tracks, {more} with more; means of tracks {width:.2f}, of the "
+          f"seconds of the run that routes {one:.2f}, of all {whole:.2f}")
 
 
 def words():
     parser = argparse.ArgumentParser(description=__doc__, formatter_class=argparse.RawDescriptionHelpFormatter)
     parser.add_argument("folder", metavar="FOLDER")
     parser.add_argument("circuits", metavar="CIRCUIT", nargs="*")
+    parser.add_argument("--boxes", choices=BOXES, action="append")
     parser.add_argument("--beside", metavar="PROGRAM")
     parser.add_argument("--seconds", type=int, default=20, metavar="N")
     parser.add_argument("--kept", default="measured.txt", metavar="FILE")
     parser.add_argument("--router", default=BUILT, metavar="PROGRAM")
     parser.add_argument("--table", action="store_true")
-    return parser.parse_args()
+    asked = parser.parse_args()
+    asked.boxes = asked.boxes or list(BOXES)
+    return asked
 
 
 def main():
     asked = words()
     kept = Kept(asked.kept)
-    names = asked.circuits or sorted(name[:-6] for name in os.listdir(asked.folder) if name.endswith(".place"))
     if not asked.table:
+        names = asked.circuits or sorted(name[:-6] for name in os.listdir(asked.folder) if name.endswith(".place"))
         with tempfile.TemporaryDirectory() as desk:
-            for boxes, name, switch in itertools.product(BOXES, names, BLOCKS):
+            for boxes, name, switch in itertools.product(asked.boxes, names, BLOCKS):
                 measure(kept, Problem(asked, name, switch, boxes, desk))
     print_table(kept)
 
