@@ -59,8 +59,9 @@ class Kept:
         self.answers = {}
         if os.path.exists(name):
             for line in open(name):
-                *key, answer, seconds = line.split()
-                self.answers[tuple(key)] = answer, float(seconds)
+                if not line.startswith("#"):
+                    *key, answer, seconds = line.split()
+                    self.answers[tuple(key)] = answer, float(seconds)
 
     def get(self, key, run):
         """What is kept of a run, or what it says now, and its seconds."""
