@@ -6,8 +6,10 @@ mod counting;
 mod plain;
 mod trimming;
 mod way;
+mod wires;
 
 pub use counting::Counting;
 pub use plain::{BUDGET_LIMIT, Plain, Solver};
 pub use trimming::{Learner, Trimming};
 pub use way::Way;
+pub use wires::Wires;

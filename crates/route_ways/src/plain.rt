@@ -4,6 +4,7 @@ ghost use Rattle.route_ways.specs.Plain.{CanSearch, HasSearched, copies_of};
 ghost use Rattle.sat_clause.specs.declared.limits.TheConstants.{ID_LIMIT};
 
 use crate::trimming::Learner;
+use crate::wires::Wires;
 use fpga_bounds::PlacedProblem;
 use route_sweep::{Ended, Searcher};
 use sat_clause::{Formula, Log};
@@ -49,6 +50,8 @@ impl Solver {
 pub struct Plain {
     /// Who searches.
     pub solver: Solver,
+    /// What the clauses say of wires, which gives the searches their habits.
+    pub wires: Wires,
     /// How many clauses may be learned, from 1 to 100,000,000.
     pub budget: u64,
     /// Whether all learned clauses are kept. The log deletes none then.
@@ -63,22 +66,32 @@ impl Plain {
         requires fresh { log.old.steps ≡ [] }
         ensures { IfOk result (HasSearched self.now formula.now.cnf log.new.steps) }
     {
+        let habits = self.wires.habits();
         match self.solver {
             Solver::Merging => {
-                let Ok(answer) = solve_merged(alloc, formula, self.budget, self.keep, log) else {
+                let over_leaders = self.wires.habits_over_leaders();
+                let Ok(answer) = solve_merged(
+                    alloc,
+                    formula,
+                    over_leaders,
+                    habits,
+                    self.budget,
+                    self.keep,
+                    log,
+                ) else {
                     return Err(AllocError);
                 };
                 Ok(answer)
             }
             Solver::Straight => {
-                let Ok(answer) = solve(alloc, formula, self.budget, self.keep, log) else {
+                let Ok(answer) = solve(alloc, formula, habits, self.budget, self.keep, log) else {
                     return Err(AllocError);
                 };
                 Ok(answer)
             }
             Solver::Turns { members, seed } => {
                 let schedule = Schedule::Drawn { members, seed };
-                let Ok(end) = run_turns(alloc, formula, &schedule, self.budget, log) else {
+                let Ok(end) = run_turns(alloc, formula, habits, &schedule, self.budget, log) else {
                     return Err(AllocError);
                 };
                 let TurnsEnd { answer, .. } = end;

@@ -4,14 +4,29 @@ use Rattle.router_words.specs.Job.{MembersAsked}
 use Rattle.route_ways.specs.Way.{Course, Counts, Searches, Trims}
 use Rattle.route_ways.specs.declared.plain.Plain.{Plain}
 use Rattle.route_ways.specs.declared.plain.Solver.TheVariants.{Merging, Straight, Turns}
-use Rattle.router_top.specs.Subject.{CoreAsked, SearchAsked}
+use Rattle.route_ways.specs.declared.wires.Wires.{Wires}
+use Rattle.route_ways.specs.declared.wires.Wires.TheVariants.{One, Several}
+use Rattle.router_top.specs.Subject.{CoreAsked, Method, Ordered, Pinned, SearchAsked, Strictly, Within}
+
+-- a net may have several wires in a cell within a reach
+abbrev pub wires_by : Method → Wires
+wires_by (Within reach) = Several
+wires_by Strictly = One
+wires_by Pinned = One
+wires_by Ordered = One
 
 -- one search, which keeps all clauses where the words say so; or as many as they say, which do
 abbrev pub plain_by : SearchAsked → Option MembersAsked → Plain
 plain_by search None =
-    record { solver = Merging; budget = search.conflicts; keep = search.keep }
+    record {
+      solver = Merging;
+      wires = wires_by search.method;
+      budget = search.conflicts;
+      keep = search.keep;
+    }
 plain_by search (Some members) = record {
   solver = Turns members.count members.seed;
+  wires = wires_by search.method;
   budget = search.conflicts;
   keep = true;
 }
@@ -24,4 +39,5 @@ way_by search members crowd =
 
 -- `core` keeps all clauses, and its refutation is cut down
 abbrev pub core_way : CoreAsked → Course
-core_way job = Trims (record { solver = Straight; budget = job.conflicts; keep = true })
+core_way job =
+    Trims (record { solver = Straight; wires = One; budget = job.conflicts; keep = true })

@@ -6,20 +6,32 @@ ghost use Rattle.route_encode.specs.Encoding.{cnf_of};
 ghost use Rattle.route_ways.specs.Way.{course_of, serves_by};
 ghost use Rattle.router_words.specs.Job.{core_said, members_said, search_said};
 ghost use Rattle.router_top.specs.Known.{IsKnown, crowd_of};
-ghost use Rattle.router_top.specs.Ways.{core_way, plain_by, way_by};
+ghost use Rattle.router_top.specs.Ways.{core_way, plain_by, way_by, wires_by};
 ghost use Rattle.sat_clause.specs.Formula.{Cnf};
 
 use problem_facts::Facts;
-use route_ways::{Counting, Plain, Solver, Trimming, Way};
-use router_words::{CoreJob, Members, SearchJob};
+use route_ways::{Counting, Plain, Solver, Trimming, Way, Wires};
+use router_words::{CoreJob, Members, Method, SearchJob};
+
+// What the clauses of a method say of wires.
+fn wires_by(method: Method) -> Wires
+    ensures { result ≡ wires_by method }
+{
+    match method {
+        Method::Within(_) => Wires::Several,
+        Method::Strictly | Method::Pinned | Method::Ordered => Wires::One,
+    }
+}
 
 // One search; or as many as take turns, which keep all clauses.
 fn plain_by(search: &SearchJob<'_>, members: Option<Members>) -> Plain
     ensures { result ≡ plain_by (search_said search.now) (option_map members_said members) }
 {
+    let wires = wires_by(search.method);
     match members {
         None => Plain {
             solver: Solver::Merging,
+            wires,
             budget: search.conflicts,
             keep: search.keep,
         },
@@ -28,6 +40,7 @@ fn plain_by(search: &SearchJob<'_>, members: Option<Members>) -> Plain
                 members: members.count,
                 seed: members.seed,
             },
+            wires,
             budget: search.conflicts,
             keep: true,
         },
@@ -66,6 +79,7 @@ pub fn core_way(job: &CoreJob<'_>) -> Way<'static>
 {
     let rest = Plain {
         solver: Solver::Straight,
+        wires: Wires::One,
         budget: job.conflicts,
         keep: true,
     };

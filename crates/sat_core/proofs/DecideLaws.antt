@@ -278,6 +278,20 @@ values_of trail vars values read closed l within not_false =
         ap not (read n true below ∙ ap (λ (o : Option Bool). unwrap_or o false) value)
 
 -- the variable of the newest entry has a value
+-- a variable has a value where a literal of it has one
+pub variable_value : (trail : List TrailEntry) (l : Lit) → value_in trail l ≢ None →
+    value_in trail (positive (variable l)) ≢ None
+variable_value trail l some = elim (same_variable (positive (variable l)) l refl) [
+  | inl same ↦ subst (λ (x : Lit). value_in trail x ≢ None) (sym same) some
+  | inr other ↦
+      subst (λ (x : Lit). value_in trail x ≢ None) (sym other)
+      (some_value trail (negation l) (elim (value_some trail l some) [
+        | inl is ↦ inr (subst (λ (x : Lit). is_among (falses trail) x ≡ true)
+            (sym (negation-negation l)) is)
+        | inr is ↦ inl is
+      ]))
+]
+
 pub value_assumed : (trail : List TrailEntry) (e : TrailEntry)
     → value_in (e ∷ trail) (positive (variable e.lit)) ≢ None
 value_assumed trail e =

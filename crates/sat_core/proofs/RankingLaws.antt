@@ -1,9 +1,10 @@
 -- Which variables are held as the trail changes.
 use Rattle.std.proofs.Common.{inl, inr, ◌≡◌, ◌≢◌, ◌+◌, ◌-◌, ◌/◌, ◌%◌, ◌^◌, ◌<◌, ◌≤◌, ℕ, zero, suc, Bool, true, false, List, [], ◌∷◌, ◌++◌, length, set, get_or, replicate, None, refl, sym, ap, ◌∙◌, subst, arith}
+use Rattle.std.proofs.Math.Nat.{div-le_self}
 use Rattle.std.proofs.lemmas.Bool.{both_ways, cases_eq}
 use Rattle.std.proofs.lemmas.List.{get_or-map, get_or-replicate, get_or-set_other, get_or-set_same, length-replicate, length-set}
 use Rattle.sat_clause.specs.declared.literal.Lit.{Lit}
-use Rattle.sat_clause.specs.Literal.{positive}
+use Rattle.sat_clause.specs.Literal.{positive, variable}
 use Rattle.sat_clause.specs.Trail.{IsClosed}
 use Rattle.sat_order.specs.Order.{IsEmpty, IsVariable, IsWhole, OrderState, activity_of, scaled}
 use Rattle.sat_watch.specs.declared.entry.TrailEntry.{TrailEntry}
@@ -82,13 +83,13 @@ ranked_propagated {old} {new} step ranked =
     rw (step.vars, step.trail)
     (ranked_more (step.added ++ old.trail) (value_stays step.added old.trail) ranked)
 
-pub ranked_decided : (w : WatchState) (order : OrderState) (v : ℕ) → 1 ≤ v →
+pub ranked_decided : (w : WatchState) (order : OrderState) (l : Lit) → 1 ≤ variable l →
     IsRanked w.vars w.trail order →
-    IsRanked (assumed (positive v) w).vars (assumed (positive v) w).trail
-    (record order { held = set order.held (v - 1) false })
-ranked_decided w order v some ranked =
-    let e : TrailEntry = record { lit = positive v; level = suc w.level; reason = None } in
-    ranked_taken w.vars (e ∷ w.trail) order v some (value_assumed w.trail e)
+    IsRanked (assumed l w).vars (assumed l w).trail
+    (record order { held = set order.held (variable l - 1) false })
+ranked_decided w order l some ranked =
+    let e : TrailEntry = record { lit = l; level = suc w.level; reason = None } in
+    ranked_taken w.vars (e ∷ w.trail) order (variable l) some (value_assumed w.trail e)
     (ranked_more (e ∷ w.trail) (value_stays (e ∷ []) w.trail) ranked)
 
 -- a literal is decided whose variable stays held
@@ -126,6 +127,10 @@ scaled_small order v known whole small =
     let inside : v - 1 < length order.activities =
     omega (arith, known.first, known.last, whole.activities) in
     omega (arith, small, get_or-map (λ (a : ℕ). a / 2 ^ 40) order.activities (v - 1) 0 0 inside)
+
+-- a part of a number is no greater
+pub part_least : (n k : ℕ) → n / k ≤ n
+part_least n k = div-le_self n k
 
 -- FIRST ACTIVITIES
 

@@ -5,9 +5,11 @@ use Rattle.sat_order.specs.Order.{IsVariable, OrderState, activity_of, is_held}
 use Rattle.sat_watch.specs.declared.entry.TrailEntry.{TrailEntry}
 use Rattle.sat_watch.specs.Trail.{value_in}
 
--- a step is no greater than an activity may be, and the mean of lengths stays small
-pub record IsRankingStore (by average : ℕ) : Type 0 where
+-- a step is no greater than an activity may be and has some parts, and the mean of lengths stays
+-- small
+pub record IsRankingStore (by parts average : ℕ) : Type 0 where
   pub step : by ≤ 2 ^ 62
+  pub some : 1 ≤ parts
   pub mean : average ≤ 2 ^ 50
 
 -- the same variables are held

@@ -14,8 +14,8 @@ use sat_clause::{Lit, VARIABLE_LIMIT};
 use sat_watch::Watches;
 use std::alloc::{AllocError, Global};
 
-/// Decides the open variable that stands first in the ranking as true. False where each variable
-/// has a value.
+/// Decides the open variable that stands first in the ranking. False where each variable has a
+/// value.
 fn decide(ranking: &mut Ranking, watches: &mut Watches) -> bool
     requires ranked { IsRanked watches.old.vars watches.old.trail ranking.old }
     requires few { watches.old.vars ≤ VARIABLE_LIMIT }
@@ -29,7 +29,7 @@ fn decide(ranking: &mut Ranking, watches: &mut Watches) -> bool
     ensures same { result ≡ false → watches.new ≡ watches.old }
 {
     while let Some(v) = ranking.take_best() {
-        let l = Lit::positive(v);
+        let l = ranking.literal(v);
         if watches.value(l).is_none() {
             watches.assume(l);
             return true;
@@ -38,8 +38,8 @@ fn decide(ranking: &mut Ranking, watches: &mut Watches) -> bool
     false
 }
 
-/// Decides a variable as true: the first open one of those that are decided again, or else the one
-/// that stands first in the ranking. False where each variable has a value.
+/// Decides a variable: the first open one of those that are decided again, or else the one that
+/// stands first in the ranking. False where each variable has a value.
 fn decide_next(again: &mut Again, ranking: &mut Ranking, watches: &mut Watches, vars: u32) -> bool
     requires vars { vars ≡ watches.old.vars }
     requires ranked { IsRanked watches.old.vars watches.old.trail ranking.old }
@@ -60,9 +60,9 @@ fn decide_next(again: &mut Again, ranking: &mut Ranking, watches: &mut Watches, 
     decide(ranking, watches)
 }
 
-/// Decides variable after variable of the variables 1 to `vars`, each as true, first those that are
-/// decided again and then in the order of the ranking, until a clause is false, whose reference it
-/// gives, or each variable has a value.
+/// Decides variable after variable of the variables 1 to `vars`, first those that are decided again
+/// and then in the order of the ranking, until a clause is false, whose reference it gives, or each
+/// variable has a value.
 pub(crate) fn decide_on(
     again: &mut Again,
     ranking: &mut Ranking,

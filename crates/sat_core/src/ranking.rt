@@ -1,10 +1,14 @@
 //! The variables in the order in which a search decides them.
 
 ghost use Rattle.std.specs.Prelude.{◌≡◌, ◌+◌, ◌-◌, ◌^◌, ◌<◌, ◌≤◌, [], IfNone, IfOk, IfSome, false, replicate, slice_set, true};
+ghost use Rattle.sat_clause.specs.Literal.{variable};
 ghost use Rattle.sat_core.specs.Ranking.{AreDrawn, IsRanked, SameHeld, next_draw as next_draw_of};
 ghost use Rattle.sat_order.specs.Order.{IsBest, IsEmpty, IsVariable, activity_of};
 
-use sat_clause::VARIABLE_LIMIT;
+use crate::habits::{FirstOrder, Habits};
+use crate::occurrences::occurrences;
+use crate::saved::SavedValues;
+use sat_clause::{Formula, Lit, VARIABLE_LIMIT};
 use sat_order::Order;
 use std::alloc::{AllocError, Global};
 use std::marker::Model;
@@ -15,11 +19,11 @@ const MOST: u64 = 1 << 62;
 /// What a bump adds to an activity at first.
 const FIRST_STEP: u64 = 1 << 20;
 
+/// First activities by numbers and by clauses are no greater.
+const MOST_FIRST: u64 = 1 << 19;
+
 /// What activities are divided by where one would be too great.
 const SCALE: u64 = 1 << 40;
-
-/// Each conflict makes the step of a bump greater by one in so many.
-const DECAY: u64 = 19;
 
 /// The mean length of learned clauses is kept in parts of a literal, so many to one.
 const PARTS: u64 = 1 << 16;
@@ -31,14 +35,17 @@ const FIRST_MEAN: u64 = 20 * PARTS;
 const MEAN_WEIGHT: u64 = 64;
 
 /// The variables by their activity. To bump one adds a step to it, which grows from conflict to
-/// conflict, so that what was met lately counts most.
+/// conflict, so that what was met lately counts most. Beside it stands as what each is decided.
 ///
 /// Nothing but [`Ranking::new`] takes memory.
 #[derive(Drop)]
 pub(crate) struct Ranking {
     order: Order,
     step: u64,
+    // each conflict makes the step greater by one part in so many
+    parts: u64,
     mean: u64,
+    saved: SavedValues,
 }
 
 /// The draw behind one.
@@ -57,7 +64,7 @@ impl Model for Ranking {
 
     ghost view = { λ r. r.order };
 
-    ghost invariant = { λ r. IsRankingStore r.step r.mean };
+    ghost invariant = { λ r. IsRankingStore r.step r.parts r.mean };
 }
 
 /// The step by which a variable is bumped. Where it would take the activity past 2^62 all
@@ -95,19 +102,108 @@ fn draw_activities(order: &mut Order, vars: u32, seed: u32)
     }
 }
 
+/// Gives a variable this activity, where it has none. One that gets none is not bumped, so that it
+/// stays out of the heap.
+fn begin_with(order: &mut Order, v: u32, activity: u64)
+    requires variable { IsVariable order.old v }
+    requires small { activity ≤ 2 ^ 62 }
+    ensures { SameHeld order.old order.new }
+{
+    if activity == 0 {
+        return;
+    }
+    if order.activity(v) > 0 {
+        return;
+    }
+    order.bump(v, activity);
+}
+
+/// Gives the variables activities below 2^19 by their numbers, where all are 0: the greater one has
+/// the greater or the same one.
+// From the last one on down, so that none rises in the heap.
+fn prefer_last(order: &mut Order, vars: u32)
+    requires { order.old.vars ≡ vars }
+    ensures { SameHeld order.old order.new }
+{
+    for below in 0..vars {
+        let v = vars - below;
+        begin_with(order, v, u64::from(v) * MOST_FIRST / u64::from(vars));
+    }
+}
+
+/// Gives the variables activities by these counts, which stand by their numbers.
+fn prefer_counted(order: &mut Order, vars: u32, counts: &[u32])
+    requires few { vars ≤ VARIABLE_LIMIT }
+    requires vars { order.old.vars ≡ vars }
+    ensures { SameHeld order.old order.new }
+{
+    for v in 1..vars + 1 {
+        let count = counts.get(v as usize).copied().unwrap_or(0);
+        begin_with(order, v, u64::from(count).min(MOST_FIRST));
+    }
+}
+
+/// Gives each variable its first activity, where all are 0.
+fn put_first(
+    alloc: Global,
+    order: &mut Order,
+    formula: &Formula,
+    first: FirstOrder,
+) -> Result<(), AllocError>
+    requires few { formula.now.cnf.vars ≤ VARIABLE_LIMIT }
+    requires vars { order.old.vars ≡ formula.now.cnf.vars }
+    requires zero { order.old.activities ≡ replicate formula.now.cnf.vars 0 }
+    ensures { SameHeld order.old order.new }
+{
+    let vars = formula.vars();
+    match first {
+        FirstOrder::Rising => Ok(()),
+        FirstOrder::Falling => {
+            prefer_last(order, vars);
+            Ok(())
+        }
+        FirstOrder::MostClauses => {
+            let counts = occurrences(alloc, formula)?;
+            prefer_counted(order, vars, &counts);
+            Ok(())
+        }
+        FirstOrder::Drawn { seed } => {
+            draw_activities(order, vars, seed);
+            Ok(())
+        }
+    }
+}
+
+/// The step behind one more conflict, which grows by one part in so many.
+#[tactic(auto, using(crate::proofs::RankingLaws::part_least))]
+fn grown(step: u64, parts: u64) -> u64
+    requires step { step ≤ 2 ^ 62 }
+    requires parts { 1 ≤ parts }
+    ensures { result ≤ 2 ^ 62 }
+{
+    let more = step / parts;
+    (step + more).min(MOST)
+}
+
 impl Ranking {
-    /// All variables from 1 on, held with the activities that the seed draws.
-    pub(crate) fn new(alloc: Global, vars: u32, seed: u32) -> Result<Ranking, AllocError>
-        requires { vars ≤ VARIABLE_LIMIT }
-        ensures ranked { IfOk result (IsRanked vars []) }
-        ensures drawn { IfOk result (AreDrawn seed) }
+    /// The variables of a formula, held with the first activities that habits give.
+    pub(crate) fn new(
+        alloc: Global,
+        formula: &Formula,
+        habits: Habits,
+    ) -> Result<Ranking, AllocError>
+        requires { formula.now.cnf.vars ≤ VARIABLE_LIMIT }
+        ensures ranked { IfOk result (IsRanked formula.now.cnf.vars []) }
     {
+        let vars = formula.vars();
         let mut order = Order::new(alloc, vars)?;
-        draw_activities(&mut order, vars, seed);
+        put_first(alloc, &mut order, formula, habits.first)?;
         Ok(Ranking {
             order,
             step: FIRST_STEP,
+            parts: u64::from(habits.bump_parts.max(1)),
             mean: FIRST_MEAN,
+            saved: SavedValues::new(alloc, vars, habits.value)?,
         })
     }
 
@@ -122,12 +218,23 @@ impl Ranking {
         self.order.take_best()
     }
 
-    /// Holds a variable again, which changes nothing where it is held.
-    pub(crate) fn put_back(&mut self, v: u32)
-        requires { IsVariable self.old v }
-        ensures { self.new ≡ record self.old { held = slice_set self.old.held (v - 1) true } }
+    /// The literal as which a variable is decided.
+    pub(crate) fn literal(&self, v: u32) -> Lit
+        requires some { 1 ≤ v }
+        requires few { v ≤ VARIABLE_LIMIT }
+        ensures { variable result ≡ v }
     {
-        self.order.put_back(v);
+        self.saved.literal(v)
+    }
+
+    /// Holds the variable of a literal again that is true no longer.
+    pub(crate) fn put_back(&mut self, l: Lit)
+        requires { IsVariable self.old (variable l) }
+        ensures { self.new
+            ≡ record self.old { held = slice_set self.old.held (variable l - 1) true } }
+    {
+        self.saved.save(l);
+        self.order.put_back(l.variable());
     }
 
     /// Bumps a variable, held or not.
@@ -144,8 +251,7 @@ impl Ranking {
     pub(crate) fn grow_step(&mut self)
         ensures { self.new ≡ self.old }
     {
-        let step = self.step + self.step / DECAY;
-        self.step = step.min(MOST);
+        self.step = grown(self.step, self.parts);
     }
 
     /// Takes the length of a learned clause into the mean, and says whether it is not above it.

@@ -4,6 +4,7 @@ ghost use Rattle.std.specs.Prelude.{◌≡◌, ◌+◌, ◌^◌, ◌<◌, ◌≤
 ghost use Rattle.sat_core.specs.Restarts.{IsNextRestart, IsWait};
 
 use sat_order::Luby;
+use sat_watch::Watches;
 use std::marker::Model;
 
 /// A term of Luby's sequence stands for so many conflicts.
@@ -20,6 +21,8 @@ pub(crate) struct Restarts {
     next: u64,
     // how many restarts came since one began anew
     since: u32,
+    // so many literals a decision are many
+    many: u32,
 }
 
 impl Model for Restarts {
@@ -47,7 +50,7 @@ fn next_wait(terms: &mut Luby) -> u64
 
 impl Restarts {
     /// No conflict has come, nor a restart.
-    pub(crate) fn new() -> Restarts
+    pub(crate) fn new(many: u32) -> Restarts
         ensures { IsNextRestart 0 0 result }
     {
         let mut terms = Luby::new();
@@ -56,6 +59,7 @@ impl Restarts {
             terms,
             next,
             since: 0,
+            many,
         }
     }
 
@@ -76,8 +80,12 @@ impl Restarts {
         true
     }
 
-    /// Whether the restart that came last begins anew: then nothing is decided again.
-    pub(crate) fn begins_anew(&self) -> bool {
-        self.since == 0
+    /// Whether the restart that came last begins anew, so that nothing is decided again: one in
+    /// four does, and where each decision has brought many literals every one. Then few were made,
+    /// and they decide most.
+    pub(crate) fn begins_anew(&self, watches: &Watches) -> bool {
+        let literals = watches.trail().len() as u64;
+        let many = u64::from(watches.level()).saturating_mul(u64::from(self.many));
+        self.since == 0 || literals >= many
     }
 }

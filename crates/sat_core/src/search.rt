@@ -11,6 +11,7 @@ ghost use Rattle.sat_core.specs.Stands.{StandsFor};
 ghost use Rattle.sat_core.specs.Underway.{IsTurn, IsUnderway, MayFollow, MayTurn};
 
 use crate::deletions::Deletions;
+use crate::habits::Habits;
 use crate::state::SearchState;
 use crate::turn::{Turn, take_turn};
 use sat_clause::{Formula, Log};
@@ -38,25 +39,21 @@ impl Model for Search {
 }
 
 impl Search {
-    /// The search that stands for a formula and no step.
-    ///
-    /// The seed draws the activities by which variables are decided first: with 0 each is 0. With
-    /// another one that of variable `v` is the remainder of `s / 65536` by 1024, where `s` comes of
-    /// the seed by `v` times putting the remainder of `1103515245 s + 12345` by 2^31 in its place.
+    /// The search that stands for a formula and no step, with these habits.
     ///
     /// It takes time and memory linear in the variables and the literals of the clauses; for a
-    /// clause whose variables do not rise n log n steps for n literals, and with a seed other than
-    /// 0 a logarithm for each variable.
+    /// clause whose variables do not rise n log n steps for n literals, and with drawn activities a
+    /// logarithm for each variable.
     ///
     /// # Errors
     /// Where memory is short.
-    pub fn new(alloc: Global, formula: &Formula, seed: u32) -> Result<Search, AllocError>
+    pub fn new(alloc: Global, formula: &Formula, habits: Habits) -> Result<Search, AllocError>
         ensures stands { IfOk result (λ s. StandsFor s.value formula.now.cnf []) }
         ensures none_taken { IfOk result (λ s. s.taken ≡ 0) }
     {
         Ok(Search {
             alloc,
-            state: SearchState::new(alloc, formula, seed)?,
+            state: SearchState::new(alloc, formula, habits)?,
             taken: 0,
         })
     }

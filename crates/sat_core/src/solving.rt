@@ -11,6 +11,7 @@ ghost use Rattle.sat_core.specs.Underway.{HasSearched, IsUnderway};
 
 use crate::Answer;
 use crate::deletions::Deletions;
+use crate::habits::Habits;
 use crate::search::Search;
 use crate::turn::Turn;
 use sat_clause::{Formula, ID_LIMIT, Log};
@@ -68,6 +69,7 @@ fn take_turns(
 fn search_for_values(
     alloc: Global,
     formula: &Formula,
+    habits: Habits,
     budget: u64,
     keep: bool,
     log: &mut Log,
@@ -76,7 +78,7 @@ fn search_for_values(
     requires fresh { log.old.steps ≡ [] }
     ensures { HasSearched formula.now.cnf budget keep log.new.steps result }
 {
-    let mut search = Search::new(alloc, formula, 0)?;
+    let mut search = Search::new(alloc, formula, habits)?;
     take_turns(&mut search, formula, budget, keep, log)
 }
 
@@ -94,8 +96,8 @@ fn search_for_values(
 /// added since the time before, if no clause is false at level 0 and some learned clause is no
 /// reason there. One step of the log deletes those that go. The clauses of the formula stay.
 ///
-/// Of the open variables the one that conflicts met most and latest is decided, as true; after 64
-/// times the next term of Luby's sequence more conflicts the search goes back to level 0. Behind
+/// Of the open variables the one that conflicts met most and latest is decided; before there are
+/// conflicts, and as what it is decided, go by the habits. After 64 times the next term of Luby's sequence more conflicts the search goes back to level 0. Behind
 /// three such restarts of four what was decided is decided again before others, as far as it is
 /// open and until the next clause is learned, unless the trail had 100 literals a decision or more.
 /// Where a clause is false, the clause of the first unique implication point is learned: the search
@@ -110,6 +112,7 @@ fn search_for_values(
 pub fn solve(
     alloc: Global,
     formula: &Formula,
+    habits: Habits,
     budget: u64,
     keep: bool,
     log: &mut Log,
@@ -123,5 +126,5 @@ pub fn solve(
     ensures kept { IsTrue keep → deletions log.new.steps ≡ 0 }
     ensures decided { most_added keep formula.now.cnf.vars ≤ budget → IfOk result IsDecided }
 {
-    search_for_values(alloc, formula, budget, keep, log)
+    search_for_values(alloc, formula, habits, budget, keep, log)
 }

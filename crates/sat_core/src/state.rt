@@ -13,6 +13,7 @@ ghost use Rattle.sat_core.specs.Stands.{StandsFor};
 use crate::again::Again;
 use crate::clause_list::ClauseList;
 use crate::deciding::{decide_on, values};
+use crate::habits::Habits;
 use crate::forgetting::{forget_some, last_id, settle_at_start};
 use crate::inputs::{Inputs, take_inputs};
 use crate::lesson::{Findings, Lesson, find_lesson};
@@ -69,15 +70,18 @@ struct Tables {
 }
 
 impl Tables {
-    /// Those of a search that has met and decided nothing. The seed draws the first activities.
-    fn new(alloc: Global, vars: u32, seed: u32) -> Result<Tables, AllocError>
-        requires { vars ≤ VARIABLE_LIMIT }
+    /// Those of a search that has met and decided nothing.
+    fn new(alloc: Global, formula: &Formula, habits: Habits) -> Result<Tables, AllocError>
+        requires { formula.now.cnf.vars ≤ VARIABLE_LIMIT }
         ensures clean { IfOk result (λ tables. IsClean tables.findings) }
-        ensures size { IfOk result (λ tables. length tables.findings.met ≡ vars) }
-        ensures ranked { IfOk result (λ tables. IsRanked vars [] tables.ranking) }
+        ensures size { IfOk result
+            (λ tables. length tables.findings.met ≡ formula.now.cnf.vars) }
+        ensures ranked { IfOk result
+            (λ tables. IsRanked formula.now.cnf.vars [] tables.ranking) }
     {
+        let vars = formula.vars();
         let findings = Findings::new(alloc, vars)?;
-        let ranking = Ranking::new(alloc, vars, seed)?;
+        let ranking = Ranking::new(alloc, formula, habits)?;
         let again = Again::new(alloc, vars)?;
         Ok(Tables {
             findings,
@@ -88,12 +92,11 @@ impl Tables {
 }
 
 impl SearchState {
-    /// The search that has the clauses of a formula, and has decided nothing. The seed draws the
-    /// first activities.
+    /// The search that has the clauses of a formula, and has decided nothing.
     pub(crate) fn new(
         alloc: Global,
         formula: &Formula,
-        seed: u32,
+        habits: Habits,
     ) -> Result<SearchState, AllocError>
         ensures { IfOk result (λ s. StandsFor s formula.now.cnf []) }
     {
@@ -103,7 +106,7 @@ impl SearchState {
             findings,
             ranking,
             again,
-        } = Tables::new(alloc, formula.vars(), seed)?;
+        } = Tables::new(alloc, formula, habits)?;
         Ok(SearchState {
             inputs,
             added: 0,
@@ -113,7 +116,7 @@ impl SearchState {
             findings,
             ranking,
             again,
-            restarts: Restarts::new(),
+            restarts: Restarts::new(habits.many_literals),
             worth: Worth::new(alloc),
         })
     }

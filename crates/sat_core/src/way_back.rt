@@ -19,7 +19,7 @@ fn put_back_above(ranking: &mut Ranking, watches: &Watches, level: u32)
         if entry.level <= level {
             return;
         }
-        ranking.put_back(entry.lit.variable());
+        ranking.put_back(entry.lit);
         left -= 1;
     }
 }

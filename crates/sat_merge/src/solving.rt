@@ -15,7 +15,7 @@ use crate::leaders::Leaders;
 use crate::merged::merged;
 use crate::rewriting::rewrite;
 use sat_clause::{Formula, ID_LIMIT, Log, holds};
-use sat_core::{Answer, solve};
+use sat_core::{Answer, Habits, solve};
 use std::alloc::{AllocError, Global};
 
 /// The values of all variables: those of their leaders.
@@ -97,6 +97,7 @@ fn search_leaders(
     formula: &Formula,
     leaders: &Leaders,
     merged: &Formula,
+    habits: Habits,
     budget: u64,
     keep: bool,
     log: &mut Log,
@@ -112,7 +113,7 @@ fn search_leaders(
         most_added keep formula.now.cnf.vars ≤ budget → IsDecided answer)) }
 {
     let mut steps = Log::new(alloc);
-    let Ok(answer) = solve(alloc, merged, budget, keep, &mut steps) else {
+    let Ok(answer) = solve(alloc, merged, habits, budget, keep, &mut steps) else {
         return Err(AllocError);
     };
     take_answer(alloc, formula, leaders, &steps, answer, log)
@@ -123,6 +124,7 @@ fn search_leaders(
 fn search_most(
     alloc: Global,
     formula: &Formula,
+    habits: Habits,
     budget: u64,
     keep: bool,
     log: &mut Log,
@@ -145,8 +147,10 @@ fn search_most(
         return Ok(None);
     };
     let mut tried = Log::new(alloc);
-    let Some(answer) = search_leaders(alloc, formula, &leaders, &merged, budget, keep, &mut tried)?
-    else {
+    let found = search_leaders(
+        alloc, formula, &leaders, &merged, habits, budget, keep, &mut tried,
+    )?;
+    let Some(answer) = found else {
         return Ok(None);
     };
     *log = tried;
@@ -161,13 +165,15 @@ fn search_most(
 /// the rest made to clauses of theirs. The log is then made one over the formula: the same steps,
 /// whose hints lead through the clauses of two literals, each judged before it is added; and the
 /// values are tried on the formula. Where that fails, or some clause has no form over the others,
-/// the search is one through the formula itself.
+/// the search is one through the formula itself, with habits of its own.
 ///
 /// # Errors
 /// Where memory is short. What the log has by then still follows.
 pub fn solve_merged(
     alloc: Global,
     formula: &Formula,
+    over_leaders: Habits,
+    straight: Habits,
     budget: u64,
     keep: bool,
     log: &mut Log,
@@ -181,11 +187,11 @@ pub fn solve_merged(
     ensures kept { IsTrue keep → deletions log.new.steps ≡ 0 }
     ensures decided { most_added keep formula.now.cnf.vars ≤ budget → IfOk result IsDecided }
 {
-    let Ok(found) = search_most(alloc, formula, budget, keep, log) else {
+    let Ok(found) = search_most(alloc, formula, over_leaders, budget, keep, log) else {
         return Err(AllocError);
     };
     if let Some(answer) = found {
         return Ok(answer);
     }
-    solve(alloc, formula, budget, keep, log)
+    solve(alloc, formula, straight, budget, keep, log)
 }

@@ -3,7 +3,7 @@ ghost use Rattle.std.specs.Prelude.{◌≤◌, ◌+◌, IfOk, length};
 ghost use Rattle.sat_turns.specs.Schedule.{IsSchedule};
 
 use sat_clause::{Formula, Log};
-use sat_core::{Answer, solve};
+use sat_core::{Answer, DecidedValue, FirstOrder, Habits, solve};
 use sat_merge::solve_merged;
 use sat_turns::{Schedule, TurnsEnd, run_turns};
 use std::alloc::{AllocError, Global};
@@ -15,7 +15,10 @@ pub(crate) enum How {
     Forgetting,
     /// By one search, which keeps all.
     Keeping,
-    /// By one search, over the leaders where most variables follow.
+    /// By one search, which forgets, and decides the last variables first, as what they were last.
+    Lasting,
+    /// By one search, over the leaders where most variables follow, which decides those first that
+    /// stand in most clauses.
     Merging,
     /// By so many searches, of which this seed says who has the next turn.
     Drawn { members: u64, seed: u64 },
@@ -23,10 +26,28 @@ pub(crate) enum How {
     SecondFirst,
 }
 
+// The habits of a search that decides the last variables first, as what they were last.
+fn lasting() -> Habits {
+    Habits {
+        first: FirstOrder::Falling,
+        value: DecidedValue::Last,
+        ..Habits::usual()
+    }
+}
+
+// Those of a search that decides the variables first that stand in most clauses.
+fn counting() -> Habits {
+    Habits {
+        first: FirstOrder::MostClauses,
+        ..Habits::usual()
+    }
+}
+
 // What one search finds.
 fn alone(
     alloc: Global,
     formula: &Formula,
+    habits: Habits,
     budget: u64,
     keep: bool,
 ) -> Result<(Answer, Log), AllocError>
@@ -34,7 +55,7 @@ fn alone(
     requires few { length formula.now.cnf.clauses + budget ≤ 100000 }
 {
     let mut log = Log::new(alloc);
-    let answer = solve(alloc, formula, budget, keep, &mut log)?;
+    let answer = solve(alloc, formula, habits, budget, keep, &mut log)?;
     Ok((answer, log))
 }
 
@@ -44,7 +65,20 @@ fn merging(alloc: Global, formula: &Formula, budget: u64) -> Result<(Answer, Log
     requires few { length formula.now.cnf.clauses + budget ≤ 100000 }
 {
     let mut log = Log::new(alloc);
-    let answer = solve_merged(alloc, formula, budget, false, &mut log)?;
+    let over_leaders = Habits {
+        bump_parts: 9,
+        many_literals: 20,
+        ..counting()
+    };
+    let answer = solve_merged(
+        alloc,
+        formula,
+        over_leaders,
+        counting(),
+        budget,
+        false,
+        &mut log,
+    )?;
     Ok((answer, log))
 }
 
@@ -60,7 +94,14 @@ fn by_turns(
     requires schedule { IsSchedule schedule.now }
 {
     let mut log = Log::new(alloc);
-    let TurnsEnd { answer, .. } = run_turns(alloc, formula, schedule, budget, &mut log)?;
+    let TurnsEnd { answer, .. } = run_turns(
+        alloc,
+        formula,
+        Habits::usual(),
+        schedule,
+        budget,
+        &mut log,
+    )?;
     Ok((answer, log))
 }
 
@@ -85,8 +126,9 @@ pub(crate) fn found(
         return None;
     }
     match how {
-        How::Forgetting => alone(alloc, formula, budget, false).ok(),
-        How::Keeping => alone(alloc, formula, budget, true).ok(),
+        How::Forgetting => alone(alloc, formula, Habits::usual(), budget, false).ok(),
+        How::Keeping => alone(alloc, formula, Habits::usual(), budget, true).ok(),
+        How::Lasting => alone(alloc, formula, lasting(), budget, false).ok(),
         How::Merging => merging(alloc, formula, budget).ok(),
         How::Drawn { members, seed } => {
             if members < 1 || members > 8 || seed >= 1 << 31 {

@@ -26,6 +26,9 @@ fn how(line: &mut Line<'_>) -> Option<How> {
     if word.text == b"keep".as_slice() {
         return Some(How::Keeping);
     }
+    if word.text == b"last".as_slice() {
+        return Some(How::Lasting);
+    }
     if word.text == b"merge".as_slice() {
         return Some(How::Merging);
     }

@@ -4,7 +4,7 @@ ghost use Rattle.std.specs.Prelude.{◌≡◌, IfOk};
 ghost use Rattle.search_tests.specs.Clash.{clash as clash_of_two, contradiction as contradiction_of_two};
 
 use sat_clause::{Formula, Lit, Log};
-use sat_core::{Search, Turn};
+use sat_core::{Habits, Search, Turn};
 use std::alloc::{AllocError, Global};
 use std::test::Fail;
 
@@ -37,7 +37,7 @@ fn turn_behind_clash(alloc: Global, formula: &Formula, log: &mut Log) -> Result<
     requires formula { formula.now.cnf ≡ contradiction_of_two }
     requires steps { log.old.steps ≡ clash_of_two }
 {
-    let mut search = Search::new(alloc, formula, 0)?;
+    let mut search = Search::new(alloc, formula, Habits::usual())?;
     search.turn(formula, log)
 }
 

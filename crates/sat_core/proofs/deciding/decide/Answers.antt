@@ -1,19 +1,22 @@
-use Rattle.std.proofs.Common.{◌≡◌, ◌≢◌, ◌-◌, ◌∙◌, None, refl, ap, subst, sym, arith}
+use Rattle.std.proofs.Common.{◌≡◌, ◌≢◌, ◌-◌, ◌∙◌, ℕ, false, None, slice_set, refl, ap, subst, sym, arith}
 use Rattle.sat_clause.specs.Literal.{positive}
 use Rattle.sat_clause.specs.Trail.{IsClosed}
 use Rattle.sat_order.specs.Order.{OrderState}
 use Rattle.sat_watch.specs.Trail.{lits_of, value_in}
 use Rattle.sat_watch.specs.Watches.{WatchState, assumed}
-use Rattle.sat_core.specs.Ranking.{held_count}
-use Rattle.sat_core.proofs.DecideLaws.{is_none_none, is_some_some, none_is_open}
+use Rattle.sat_core.specs.Ranking.{IsRanked, held_count}
+use Rattle.sat_core.proofs.DecideLaws.{is_none_none, is_some_some, none_is_open, variable_value}
 use Rattle.sat_core.proofs.RankingLaws.{held_fewer, none_held_closed, ranked_decided, ranked_taken}
 use Rattle.sat_core.proofs.deciding.decide.Goals as goal
 
 pub loop-v-init : goal.loop-v-init
 loop-v-init c = record { ranked = c.requires.ranked; same = refl; few = omega arith }
 
-pub positive-l-requires : goal.positive-l-requires
-positive-l-requires c =
+pub literal-l-requires-clause-some : goal.literal-l-requires-clause-some
+literal-l-requires-clause-some c = c.in-Some.ensures.best.variable.first
+
+pub literal-l-requires-clause-few : goal.literal-l-requires-clause-few
+literal-l-requires-clause-few c =
     omega (
       arith,
       c.in-Some.ensures.best.variable.last,
@@ -26,24 +29,28 @@ pub value-requires : goal.value-requires
 value-requires c =
     let best = c.in-Some.ensures.best in
     record {
-      within = rw c.positive-l.ensures (
-        best.variable.first,
-        omega (arith, best.variable.last, c.loop-v.invariant.ranked.vars),
+      within = (
+        omega (arith, best.variable.first, c.literal-l.ensures),
+        omega (
+          arith,
+          best.variable.last,
+          c.loop-v.invariant.ranked.vars,
+          c.literal-l.ensures,
+        ),
       );
     }
 
 pub assume-requires-clause-within : goal.assume-requires-clause-within
 assume-requires-clause-within c =
-    let best = c.in-Some.ensures.best in
-    rw c.positive-l.ensures (
-      best.variable.first,
-      omega (arith, best.variable.last, c.loop-v.invariant.ranked.vars),
+    let best = c.in-Some.ensures.best in (
+      omega (arith, best.variable.first, c.literal-l.ensures),
+      omega (arith, best.variable.last, c.loop-v.invariant.ranked.vars, c.literal-l.ensures),
     )
 
 pub assume-requires-clause-open : goal.assume-requires-clause-open
 assume-requires-clause-open c =
     let none : c.value.result ≡ None = is_none_none c.value.result c.if-is_none.ensures in
-    none_is_open c.loop-v.watches.trail c.positive-l.result (sym c.value.ensures.value ∙ none)
+    none_is_open c.loop-v.watches.trail c.literal-l.result (sym c.value.ensures.value ∙ none)
 
 pub assume-requires-clause-empty : goal.assume-requires-clause-empty
 assume-requires-clause-empty c =
@@ -55,8 +62,8 @@ assume-requires-clause-quiet c =
 
 pub returns-then-is_none-clause-decided : goal.returns-then-is_none-clause-decided
 returns-then-is_none-clause-decided c = λ _. (
-  c.positive-l.result,
-  c.assume.ensures ∙ ap (assumed c.positive-l.result) c.loop-v.invariant.same,
+  c.literal-l.result,
+  c.assume.ensures ∙ ap (assumed c.literal-l.result) c.loop-v.invariant.same,
 )
 
 pub returns-then-is_none-clause-fewer : goal.returns-then-is_none-clause-fewer
@@ -72,18 +79,25 @@ returns-then-is_none-clause-fewer c = λ _.
 
 pub returns-then-is_none-clause-ranked : goal.returns-then-is_none-clause-ranked
 returns-then-is_none-clause-ranked c =
-    rw (c.assume.ensures, c.in-Some.ensures.taken, c.positive-l.ensures)
-    (ranked_decided c.loop-v.watches c.loop-v.ranking c.in-Some.v
-    c.in-Some.ensures.best.variable.first c.loop-v.invariant.ranked)
+    let w = assumed c.literal-l.result c.loop-v.watches in
+    let o = c.loop-v.ranking in
+    let best = c.in-Some.ensures.best in
+    rw (c.assume.ensures, c.in-Some.ensures.taken)
+    (subst (λ (v : ℕ). IsRanked w.vars w.trail
+    (record o { held = slice_set o.held (v - 1) false })) c.literal-l.ensures
+    (ranked_decided c.loop-v.watches o c.literal-l.result
+    (omega (arith, best.variable.first, c.literal-l.ensures)) c.loop-v.invariant.ranked))
 
 pub loop-v-preserved : goal.loop-v-preserved
 loop-v-preserved c =
     let trail = c.loop-v.watches.trail in
     let v = c.in-Some.v in
     let fewer = held_fewer (c.loop-v.ranking).held (v - 1) c.in-Some.ensures.best.held in
+    let l = c.literal-l.result in
     let value : value_in trail (positive v) ≢ None =
-    λ none. is_some_some c.value.result c.if-is_none.ensures (c.value.ensures.value
-    ∙ ap (value_in trail) c.positive-l.ensures ∙ none) in
+    subst (λ (w : ℕ). value_in trail (positive w) ≢ None) c.literal-l.ensures
+    (variable_value trail l (λ none. is_some_some c.value.result c.if-is_none.ensures
+    (c.value.ensures.value ∙ none))) in
     record {
       ranked = rw c.in-Some.ensures.taken
           (ranked_taken c.loop-v.watches.vars trail c.loop-v.ranking v

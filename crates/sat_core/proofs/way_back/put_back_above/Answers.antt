@@ -56,10 +56,7 @@ put_back-requires c =
     let e = c.index-trail-left.result in
     let within = All-contains (λ (x : TrailEntry). IsWithin w.vars x.lit) w.trail e told.within
     (at_contains w.trail p e (read_at items w.trail p e told.value lt c.index-trail-left.is)) in
-    rw c.variable.ensures (record {
-      first = within.0;
-      last = omega (arith, within.1, c.loop-left.invariant.back.vars);
-    })
+    record { first = within.0; last = omega (arith, within.1, c.loop-left.invariant.back.vars) }
 
 pub loop-left-preserved : goal.loop-left-preserved
 loop-left-preserved c =
@@ -79,7 +76,7 @@ loop-left-preserved c =
     let within = All-contains (λ (x : TrailEntry). IsWithin w.vars x.lit) w.trail e told.within
     (at_contains w.trail p e at) in
     record {
-      back = rw (c.put_back.ensures, c.variable.ensures)
+      back = rw c.put_back.ensures
           (put_back_one w c.loop-left.left p c.loop-left.ranking e at
           (omega (arith, c.loop-left-test.true)) within.0 within.1 c.loop-left.invariant.back);
       within = omega (arith, c.loop-left.invariant.within);

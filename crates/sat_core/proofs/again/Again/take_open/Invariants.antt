@@ -4,10 +4,10 @@ use Rattle.sat_core.proofs.again.Again.take_open.Given as goal
 
 -- each turn takes a variable
 abbrev pub decreases-again : goal.decreases-again
-decreases-again l = vec_len l.self-inside.variables - l.self-inside.next
+decreases-again l = vec_len l.self-inside.lits - l.self-inside.next
 
 abbrev pub invariant-again : goal.invariant-again
 invariant-again l = record {
-  same : l.self-inside.variables ≡ l.initial.self-inside.variables;
+  same : l.self-inside.lits ≡ l.initial.self-inside.lits;
   behind : l.initial.self-inside.next ≤ l.self-inside.next;
 }
