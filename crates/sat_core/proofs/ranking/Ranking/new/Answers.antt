@@ -1,8 +1,11 @@
-use Rattle.std.proofs.Common.{replicate}
+use Rattle.std.proofs.Common.{replicate, subst}
+use Rattle.std.proofs.Common.{ℕ, []}
+use Rattle.sat_core.specs.Ranking.{IsRanked}
 use Rattle.sat_core.proofs.RankingLaws.{ranked_held, ranked_new}
 use Rattle.sat_core.proofs.ranking.Ranking.new.Goals as goal
 
-pub returns-clause-ranked : goal.returns-clause-ranked
-returns-clause-ranked c =
-    ranked_held c.put_first.ensures.held
-    (rw c.in_ok-order.ensures (ranked_new c.args.vars (replicate c.args.vars 0)))
+pub returns : goal.returns
+returns c =
+    ranked_held c.put_first.ensures
+    (rw (c.in_ok-order.ensures, c.vars.ensures.value)
+    (ranked_new c.args.formula.now.cnf.vars (replicate c.args.formula.now.cnf.vars 0)))
