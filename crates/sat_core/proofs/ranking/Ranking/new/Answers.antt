@@ -1,6 +1,4 @@
-use Rattle.std.proofs.Common.{replicate, subst}
-use Rattle.std.proofs.Common.{ℕ, []}
-use Rattle.sat_core.specs.Ranking.{IsRanked}
+use Rattle.std.proofs.Common.{replicate}
 use Rattle.sat_core.proofs.RankingLaws.{ranked_held, ranked_new}
 use Rattle.sat_core.proofs.ranking.Ranking.new.Goals as goal
 
