@@ -3,7 +3,8 @@ use Rattle.sat_core.proofs.RankingLaws.{ranked_held, ranked_new}
 use Rattle.sat_core.proofs.ranking.Ranking.new.Goals as goal
 
 pub returns : goal.returns
-returns c =
-    ranked_held c.put_first.ensures
-    (rw (c.in_ok-order.ensures, c.vars.ensures.value)
-    (ranked_new c.args.formula.now.cnf.vars (replicate c.args.formula.now.cnf.vars 0)))
+returns c = record {
+  ranked = ranked_held c.put_first.ensures
+      (rw (c.in_ok-order.ensures, c.vars.ensures.value)
+      (ranked_new c.args.formula.now.cnf.vars (replicate c.args.formula.now.cnf.vars 0)));
+}
