@@ -196,6 +196,7 @@ impl Ranking {
         ensures ranked { IfOk result (IsRanked formula.now.cnf.vars []) }
     {
         let vars = formula.vars();
+        let saved = SavedValues::new(alloc, vars, habits.value)?;
         let mut order = Order::new(alloc, vars)?;
         put_first(alloc, &mut order, formula, habits.first)?;
         Ok(Ranking {
@@ -203,7 +204,7 @@ impl Ranking {
             step: FIRST_STEP,
             parts: u64::from(habits.bump_parts.max(1)),
             mean: FIRST_MEAN,
-            saved: SavedValues::new(alloc, vars, habits.value)?,
+            saved,
         })
     }
 
