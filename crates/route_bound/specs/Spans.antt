@@ -1,5 +1,7 @@
 -- Which straight lines of a kind a net can cross, by the places of its terminals.
-use Rattle.std.specs.Prelude.{◌≡◌, ℕ, ◌-◌, ◌<◌, ◌≤◌, ◌⊎◌, Bool, false, ◌||◌, Some, if◌then◌else◌}
+use Rattle.std.specs.Prelude.{◌≡◌, ℕ, ◌+◌, ◌-◌, ◌<◌, ◌≤◌, ◌⊎◌, nat_lt, Bool, true, false, ◌&&◌, ◌||◌, List, Some, if◌then◌else◌}
+use Rattle.std.specs.List.{list_any}
+use Rattle.std.specs.Option.{option_map_or}
 use Rattle.fpga_types.specs.Problem.{PlacedNetlist}
 use Rattle.fpga_types.specs.Terminals.{terminal_in}
 use Rattle.fpga_types.specs.declared.arch.SideSet.{SideSet}
@@ -15,6 +17,7 @@ use Rattle.route_bound.specs.declared.range.LineKind.TheVariants.{Column, Row}
 use Rattle.route_bound.specs.declared.range.Standing.{Standing}
 use Rattle.route_bound.specs.declared.reach.Reach.{Reach}
 use Rattle.route_bound.specs.declared.span.Span.{Span}
+use Rattle.route_bound.specs.declared.span.Spans.{Spans}
 
 -- the column of a place, or its row
 abbrev pub place_along : LineKind → Reach → ℕ
@@ -45,6 +48,46 @@ pub record Covers (placed : PlacedNetlist) (kind : LineKind) (pin : PinRef) (spa
   pub behind : (at : Terminal) (line : ℕ) → terminal_in placed pin ≡ Some at
       → line < line_count placed.placement.grid kind → span.high ≤ line
       → (line_standing placed kind line at).outside ≡ false
+
+-- the terminal at the pin is there and inside of the line, or outside of it
+abbrev pub is_pin_inside : PlacedNetlist → LineKind → (line : ℕ) → PinRef → Bool
+is_pin_inside placed kind line pin =
+    option_map_or (λ (at : Terminal). (line_standing placed kind line at).inside)
+    (terminal_in placed pin) false
+
+abbrev pub is_pin_outside : PlacedNetlist → LineKind → (line : ℕ) → PinRef → Bool
+is_pin_outside placed kind line pin =
+    option_map_or (λ (at : Terminal). (line_standing placed kind line at).outside)
+    (terminal_in placed pin) false
+
+-- a line behind the first of the wider span is behind that of the other too, or the terminal at the
+-- pin is inside of it; one before its last is before that of the other, or the terminal is outside
+pub record Widens (placed : PlacedNetlist) (kind : LineKind) (pin : PinRef) (span wider : Span)
+    : Type 0 where
+  pub inside : (line : ℕ) → line < line_count placed.placement.grid kind → wider.low < line
+      → (span.low < line) ⊎ (is_pin_inside placed kind line pin ≡ true)
+  pub outside : (line : ℕ) → line + 1 < wider.high
+      → (line + 1 < span.high) ⊎ (is_pin_outside placed kind line pin ≡ true)
+
+-- so is it of some of these pins
+pub record WidensByAny
+    (placed : PlacedNetlist) (kind : LineKind) (pins : List PinRef) (span wider : Span)
+    : Type 0 where
+  pub inside : (line : ℕ) → line < line_count placed.placement.grid kind → wider.low < line
+      → (span.low < line) ⊎ (list_any (is_pin_inside placed kind line) pins ≡ true)
+  pub outside : (line : ℕ) → line + 1 < wider.high
+      → (line + 1 < span.high) ⊎ (list_any (is_pin_outside placed kind line) pins ≡ true)
+
+-- the line is behind the first one beside a sink and before the last one beside the driver, or the
+-- other way round
+abbrev pub is_between : Spans → (line : ℕ) → Bool
+is_between spans line = nat_lt spans.sinks.low line && nat_lt (line + 1) spans.driver.high
+    || nat_lt spans.driver.low line && nat_lt (line + 1) spans.sinks.high
+
+-- the net crosses each such line
+abbrev pub AreBetween : PlacedNetlist → LineKind → Net → Spans → Type 0
+AreBetween placed kind net spans = (line : ℕ) → line < line_count placed.placement.grid kind
+    → is_between spans line ≡ true → crosses_line placed kind net line ≡ true
 
 -- the net crosses no line before the span, and none behind it
 abbrev pub IsOffSpan : PlacedNetlist → LineKind → Net → Span → Type 0

@@ -33,7 +33,7 @@ pub(crate) struct Crossed {
 /// straight line, and no routing of the placement has fewer tracks than it asks for, whatever the
 /// global route. Where no net crosses any line the cut is one of these, and asks for one track.
 ///
-/// Takes time for each terminal and each line that goes between the terminals of its net, and then
+/// Takes time for each terminal, for each net and line that goes between its terminals, and then
 /// for each terminal and rectangle that is looked at: at most 4,000, and at most 60 million terminals
 /// in all. Takes memory for the terminals.
 ///

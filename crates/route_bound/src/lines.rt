@@ -2,9 +2,11 @@
 ghost use Rattle.std.specs.Prelude.{◌≡◌, ℕ, ◌+◌, ◌<◌, ◌≤◌, All, get_or, length};
 ghost use Rattle.route_bound.specs.Lines.{AreCounted, IsBestLine, IsFirstGreatest, crosses_line, one_if};
 ghost use Rattle.route_bound.specs.Ranges.{line_count};
+ghost use Rattle.route_bound.specs.Spans.{AreBetween};
 
 use crate::placed::PlacedNets;
 use crate::range::{CornerRange, LineKind};
+use crate::span::Spans;
 use fpga_types::{NET_LIMIT, Net};
 
 /// The greatest number of straight lines of a kind.
@@ -13,7 +15,7 @@ const LINE_LIMIT: usize = 100;
 impl<'a> PlacedNets<'a> {
     /// The number of a straight line of a kind that most nets cross.
     ///
-    /// Takes time for each terminal and each line that goes between the terminals of its net.
+    /// Takes time for each terminal, and for each net and line that goes between its terminals.
     pub fn best_line(&self, kind: LineKind) -> u32
         requires { length self.now.netlist.nets ≤ NET_LIMIT }
         ensures { IsBestLine self.now kind result }
@@ -47,13 +49,24 @@ impl<'a> PlacedNets<'a> {
             → get_or counts.new line 0
             ≡ get_or counts.old line 0 + one_if (crosses_line self.now kind net.now line) }
     {
-        let span = self.net_span(kind, net);
-        for line in span.low..span.high.min(self.line_count(kind)) {
-            if !self.crosses_line(kind, net, line) {
+        let spans = self.net_spans(kind, net);
+        for line in spans.whole.low..spans.whole.high.min(self.line_count(kind)) {
+            if !self.crosses_between(kind, net, spans, line) {
                 continue;
             }
             counts[line as usize] += 1;
         }
+    }
+
+    /// Whether a net crosses a straight line. Its sinks are looked at for the lines alone that do not
+    /// go between them and the driver, which are four at most where each terminal touches a cell.
+    fn crosses_between(&self, kind: LineKind, net: &Net, spans: Spans, line: u32) -> bool
+        requires there { line < line_count self.now.placement.grid kind }
+        requires few { line < 100 }
+        requires between { AreBetween self.now kind net.now spans }
+        ensures { result ≡ crosses_line self.now kind net.now line }
+    {
+        spans.has_between(line) || self.crosses_line(kind, net, line)
     }
 
     /// Whether a net crosses a straight line.

@@ -7,7 +7,7 @@ pub loop-line-init : goal.loop-line-init
 loop-line-init c = record {
   size = refl;
   passed = λ line there before.
-      let off = ap one_if (c.net_span-span.ensures line there (inl before)) in omega (arith, off);
+      let off = ap one_if (c.net_spans-spans.ensures.off line there (inl before)) in omega (arith, off);
   ahead = λ line there from. refl;
 }
 
@@ -16,7 +16,7 @@ returns-clause-added c = λ line there. elim (cases_lt line c.loop-line.line) [
   | inl before ↦ c.loop-line.invariant.passed line there before
   | inr not_before ↦
       let from : c.loop-line.line ≤ line = omega (arith, not_before) in
-      let behind : c.net_span-span.result.high ≤ line =
+      let behind : c.net_spans-spans.result.whole.high ≤ line =
       omega (
         arith,
         from,
@@ -25,6 +25,6 @@ returns-clause-added c = λ line there. elim (cases_lt line c.loop-line.line) [
         there,
         c.line_count.ensures.count,
       ) in
-      let off = ap one_if (c.net_span-span.ensures line there (inr behind)) in
+      let off = ap one_if (c.net_spans-spans.ensures.off line there (inr behind)) in
       omega (arith, off, c.loop-line.invariant.ahead line there from)
 ]

@@ -1,4 +1,4 @@
-use Rattle.route_bound.proofs.SpanLemmas.{covers-more}
+use Rattle.route_bound.proofs.SpanLemmas.{covers-more, widens-more}
 use Rattle.route_bound.proofs.placed.PlacedNets.with_pins.Goals as goal
 use Rattle.std.proofs.Common.{arith}
 
@@ -12,4 +12,7 @@ loop-pin-preserved c =
       covers = covers-more c.args.self.now c.args.kind c.args.pins.now c.loop-pin.pin-index _
           c.loop-pin.wider c.with_pin-wider.result c.loop-pin-test.true was.covers
           c.with_pin-wider.ensures.covers wider.0 wider.1;
+      by = widens-more c.args.self.now c.args.kind c.args.pins.now c.loop-pin.pin-index _
+          c.args.span c.loop-pin.wider c.with_pin-wider.result c.loop-pin-test.true was.by
+          c.with_pin-wider.ensures.by;
     }
