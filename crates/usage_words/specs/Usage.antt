@@ -51,7 +51,7 @@ abbrev pub example_said : Command → List ℕ
 example_said Route = codes "route design.arch design.net design.place design.route 9 out"
 example_said Sweep = codes "sweep design.arch design.net design.place design.route 12 out"
 example_said Encode = codes "encode design.arch design.net design.place design.route 9 out"
-example_said Core = codes "core design.arch design.net design.place design.route 8 out"
+example_said Core = codes "core design.arch design.net design.place design_cells.route 8 out"
 example_said Check = codes "check out.cnf out.lrat"
 example_said Verify = codes "verify design.arch design.net design.place design.route 9 out.route"
 example_said Judge = codes "judge design.arch design.net design.place 9 out.route"

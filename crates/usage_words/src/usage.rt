@@ -183,7 +183,7 @@ fn example_said(command: Command) -> &'static str
         Command::Route => "route design.arch design.net design.place design.route 9 out",
         Command::Sweep => "sweep design.arch design.net design.place design.route 12 out",
         Command::Encode => "encode design.arch design.net design.place design.route 9 out",
-        Command::Core => "core design.arch design.net design.place design.route 8 out",
+        Command::Core => "core design.arch design.net design.place design_cells.route 8 out",
         Command::Check => "check out.cnf out.lrat",
         Command::Verify => { "verify design.arch design.net design.place design.route 9 out.route" }
         Command::Judge => "judge design.arch design.net design.place 9 out.route",
