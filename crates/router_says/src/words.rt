@@ -31,8 +31,8 @@ use code_words::{append_judged, append_limit, append_line, append_step};
 use desk_io::Desk;
 use router_top::{Outcome, TextFile, status};
 use router_words::Job;
-use usage_words::append_usage;
 use std::alloc::{AllocError, Global};
+use usage_words::append_usage;
 
 /// Appends what an outcome of a run with these words means, in lines that end with a newline:
 /// which file is meant, by the name that was given or made; what its line has, and the name of what
