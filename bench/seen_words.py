@@ -14,6 +14,7 @@ answer_help(__name__, __doc__)
 VALUED = ("--conflicts", "--reach", "--members", "--seed", "--from", "--rounds")
 FLAGS = ("--keep", "--count", "--pin", "--symmetry", "--free")
 BUDGET_LIMIT, ROUND_LIMIT, WIDTH_LIMIT, NAMED = 100_000_000, 100_000, 64, 10
+ROUNDS = 200  # at most, where the words name no number
 START_LIMIT, CROWD_LIMIT = 512, 128
 CELL_LEAD = "More nets than there are tracks want the cell "
 CROWD_LEAD = "Under subset switch blocks more nets than there are tracks share cells, each with each:"
@@ -250,7 +251,8 @@ def seen_lines(words, is_open, width, files):
 
 def unfound(words, width, rounds):
     """The lines that say that rounds have found no route of a placement, and what can be tried."""
-    tries = [f"--rounds {min(10 * rounds, ROUND_LIMIT)}"] if rounds < ROUND_LIMIT else []
+    were_all = rounds >= int(words.options.get("--rounds", ROUNDS))
+    tries = [f"--rounds {min(10 * rounds, ROUND_LIMIT)}"] if were_all and rounds < ROUND_LIMIT else []
     tries += [] if "--free" in words.options else ["--free"]
     last = "a greater width or another placement" if width < WIDTH_LIMIT else "another placement"
     return [

@@ -14,16 +14,17 @@ pub(crate) const ROOT: u32 = u32::MAX;
 pub(crate) const DRIVER: u32 = u32::MAX - 1;
 
 /// A wire: how far it is in the wave `seen` and from which wire; what it costs; in which tree it
-/// was last; how many nets take it, and what is kept of fights for it.
+/// was last; how many nets take it, and what is kept of fights for it. As there are many, each has
+/// 20 bytes.
 #[derive(Clone, Copy)]
 pub(crate) struct Spot {
-    pub dist: u64,
-    pub seen: u32,
+    pub dist: u32,
     pub from: u32,
     pub cost: u32,
-    pub tree: u32,
-    pub taken: u32,
-    pub kept: u32,
+    pub seen: u16,
+    pub tree: u16,
+    pub taken: u16,
+    pub kept: u16,
 }
 
 /// A pin: the tracks that it opens, the class that it is of; what it costs, how many nets take it,
@@ -33,23 +34,25 @@ pub(crate) struct PinSpot {
     pub opened: u64,
     pub class: u32,
     pub cost: u32,
-    pub taken: u32,
-    pub kept: u32,
+    pub taken: u16,
+    pub kept: u16,
 }
 
 /// Which class of those that the tree has to reach is nearest, and how many steps it is away.
 #[derive(Clone, Copy)]
 pub(crate) struct Near {
-    pub tree: u32,
+    pub tree: u16,
     pub class: u32,
     pub steps: u32,
 }
 
-/// A cell: where it lies, in which tree it was last, and what was found to be near.
+/// A cell: where it lies, which wave came to it last, in which tree it was last, and what was found
+/// to be near.
 #[derive(Clone, Copy)]
 pub(crate) struct CellSpot {
     pub at: Point,
-    pub tree: u32,
+    pub seen: u16,
+    pub tree: u16,
     pub near: Near,
 }
 
@@ -61,26 +64,26 @@ pub(crate) struct Field {
     pub pins: Vec<PinSpot>,
     pub cells: Vec<CellSpot>,
     /// For each class the tree that has to reach it.
-    wanted: Vec<u32>,
+    wanted: Vec<u16>,
     present: u64,
-    pub wave: u32,
-    pub tree: u32,
+    pub wave: u16,
+    pub tree: u16,
 }
 
 impl Spot {
     /// A wire that no net takes.
     const FREE: Spot = Spot {
         dist: 0,
-        seen: 0,
         from: ROOT,
         cost: WIRE as u32,
+        seen: 0,
         tree: 0,
         taken: 0,
         kept: 0,
     };
 
     /// The same, taken by so many nets.
-    fn taken_by(self, taken: u32, present: u64) -> Spot {
+    fn taken_by(self, taken: u16, present: u64) -> Spot {
         Spot {
             taken,
             cost: cost_of(WIRE, self.kept, taken, present),
@@ -101,7 +104,7 @@ impl Spot {
 
 impl PinSpot {
     /// The same, taken by so many nets.
-    fn taken_by(self, taken: u32, present: u64) -> PinSpot {
+    fn taken_by(self, taken: u16, present: u64) -> PinSpot {
         PinSpot {
             taken,
             cost: cost_of(PIN, self.kept, taken, present),
@@ -135,7 +138,7 @@ impl Field {
         })
     }
 
-    /// Gives back all that nets take and forgets all fights.
+    /// Gives back all that nets take, and forgets all fights and waves.
     pub(crate) fn clear(&mut self, present: u64) {
         self.present = present;
         for spot in self.spots.iter_mut() {
@@ -146,23 +149,31 @@ impl Field {
             *pin = pin.taken_by(0, present);
         }
         self.forget_trees();
-        self.wave = 0;
+        self.forget_waves();
     }
 
     /// Begins another wave: no wire is seen in it.
     pub(crate) fn next_wave(&mut self) {
-        if self.wave == u32::MAX {
-            for spot in self.spots.iter_mut() {
-                spot.seen = 0;
-            }
-            self.wave = 0;
+        if self.wave == u16::MAX {
+            self.forget_waves();
         }
         self.wave = self.wave.saturating_add(1);
     }
 
+    /// Takes the marks of waves from wires and cells.
+    fn forget_waves(&mut self) {
+        for spot in self.spots.iter_mut() {
+            spot.seen = 0;
+        }
+        for cell in self.cells.iter_mut() {
+            cell.seen = 0;
+        }
+        self.wave = 0;
+    }
+
     /// Begins another tree: no wire, cell or class is marked by it.
     pub(crate) fn next_tree(&mut self) {
-        if self.tree == u32::MAX {
+        if self.tree == u16::MAX {
             for spot in self.spots.iter_mut() {
                 spot.tree = 0;
             }
@@ -202,14 +213,18 @@ impl Field {
     }
 
     /// Sets how far a wire is in this wave, and from which wire.
-    pub(crate) fn see(&mut self, wire: u32, dist: u64, from: u32) {
+    pub(crate) fn see(&mut self, wire: u32, dist: u32, from: u32) {
+        let wave = self.wave;
         let place = self.place_of(wire);
         if place < self.spots.len() {
-            let wave = self.wave;
             let spot = &mut self.spots[place];
             spot.dist = dist;
             spot.seen = wave;
             spot.from = from;
+        }
+        let cell = cell_of(wire) as usize;
+        if cell < self.cells.len() {
+            self.cells[cell].seen = wave;
         }
     }
 
@@ -302,7 +317,7 @@ impl Field {
         self.give_pin(tree.leaves);
     }
 
-    fn set_wire_taken(&mut self, wire: u32, taken: u32) {
+    fn set_wire_taken(&mut self, wire: u32, taken: u16) {
         let place = self.place_of(wire);
         if place < self.spots.len() {
             self.spots[place] = self.spots[place].taken_by(taken, self.present);
@@ -409,6 +424,7 @@ fn pin_spot(board: &Board<'_>, number: u32) -> PinSpot {
 fn far_cell(at: Point) -> CellSpot {
     CellSpot {
         at,
+        seen: 0,
         tree: 0,
         near: Near {
             tree: 0,

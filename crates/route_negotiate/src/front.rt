@@ -116,7 +116,7 @@ impl Front {
     }
 
     /// The class that is nearest to a place, of those that are left.
-    fn nearest(&self, tree: u32, at: Point) -> Near {
+    fn nearest(&self, tree: u16, at: Point) -> Near {
         let mut near = Near {
             tree,
             class: u32::MAX,

@@ -23,18 +23,21 @@ enum Before {
 }
 
 /// How far a net was followed: what stands before, where its path begins and whether at the driver,
-/// the pin that the path comes to, and how often other nets take what it takes.
+/// on which track one from the driver does, the pin that the path comes to, and how often other nets
+/// take what it takes.
 #[derive(Clone, Copy)]
 struct Follower {
     before: Before,
     begin: u32,
+    track: u32,
     fresh: bool,
     pin: u32,
     shared: u64,
 }
 
-/// Makes a tree along the elements of a net, on this track from the driver on: how often other nets
-/// take what it takes. None where the track does not lead through all pins.
+/// Makes a tree along the elements of a net, whose first path leaves the driver on the tree's start
+/// track, and each later one that leaves it on the track on which that path shares least: how often
+/// other nets take what the tree takes. None where these tracks do not lead through all pins.
 pub(crate) fn follow(
     board: &Board<'_>,
     field: &mut Field,
@@ -46,12 +49,14 @@ pub(crate) fn follow(
     let mut follower = Follower {
         before: Before::End,
         begin: 0,
+        track: tree.start,
         fresh: false,
         pin: u32::MAX,
         shared: 0,
     };
-    for e in elems {
-        if !follower.go_on(board, field, tree, net, *e)? {
+    for (k, e) in elems.iter().enumerate() {
+        let ahead = &elems[k + 1..];
+        if !follower.go_on(board, field, tree, net, *e, ahead)? {
             return Ok(None);
         }
     }
@@ -59,7 +64,7 @@ pub(crate) fn follow(
 }
 
 impl Follower {
-    /// Takes the next element: whether the net can be followed so far.
+    /// Takes the next element, with those ahead of it: whether the net can be followed so far.
     fn go_on(
         &mut self,
         board: &Board<'_>,
@@ -67,10 +72,11 @@ impl Follower {
         tree: &mut Tree,
         net: usize,
         e: Elem,
+        ahead: &[Elem],
     ) -> Result<bool, AllocError> {
         match e.kind {
             ElemKind::Source => Ok(true),
-            ElemKind::Opin => Ok(self.leave(board, tree, net, e)),
+            ElemKind::Opin => Ok(self.leave(board, field, tree, net, e, ahead)),
             ElemKind::ChanX | ElemKind::ChanY => self.pass(board, field, tree, net, e),
             ElemKind::Ipin => Ok(self.enter(board, field, e)),
             ElemKind::Sink => self.end(tree),
@@ -78,10 +84,21 @@ impl Follower {
     }
 
     /// Begins a path at a pin of the driver.
-    fn leave(&mut self, board: &Board<'_>, tree: &mut Tree, net: usize, e: Elem) -> bool {
+    fn leave(
+        &mut self,
+        board: &Board<'_>,
+        field: &Field,
+        tree: &mut Tree,
+        net: usize,
+        e: Elem,
+        ahead: &[Elem],
+    ) -> bool {
         for start in board.nets.starts_of(net) {
             if is_pin(board, start.pin, e) {
                 let stays = tree.leaves == u32::MAX || tree.leaves == start.pin;
+                if !tree.is_empty() {
+                    self.track = least_track(board, field, net, start.pin, ahead);
+                }
                 tree.leaves = start.pin;
                 self.before = Before::Driver;
                 self.begin = short(tree.path.len());
@@ -105,7 +122,7 @@ impl Follower {
             return Ok(false);
         };
         let wire = match self.before {
-            Before::Driver => first_wire(board, tree, net, cell),
+            Before::Driver => first_wire(board, net, tree.leaves, cell, self.track),
             Before::Wire(last) => next_wire(board, last, cell),
             Before::End => return self.branch(board, field, tree, cell),
         };
@@ -148,15 +165,12 @@ impl Follower {
         let Before::Wire(wire) = self.before else {
             return false;
         };
-        for number in board.pins.along(cell_of(wire)) {
-            let pin = field.pin(*number);
-            if is_pin(board, *number, e) && has_track(pin.opened, track_of(wire)) {
-                self.pin = *number;
-                self.shared = self.shared.saturating_add(pin.taken as u64);
-                return true;
-            }
-        }
-        false
+        let Some(number) = entered_pin(board, field, wire, e) else {
+            return false;
+        };
+        self.pin = number;
+        self.shared = self.shared.saturating_add(field.pin(number).taken as u64);
+        true
     }
 
     /// Ends a path.
@@ -181,11 +195,65 @@ fn channel_number(board: &Board<'_>, e: Elem) -> Option<u32> {
     Some(cell_number(grid, cell))
 }
 
-/// The wire of a cell along the driver on the start track, if the pin opens it.
-fn first_wire(board: &Board<'_>, tree: &Tree, net: usize, cell: u32) -> Option<u32> {
+/// The pin that a line names, if it lies along a wire and opens it.
+fn entered_pin(board: &Board<'_>, field: &Field, wire: u32, e: Elem) -> Option<u32> {
+    for number in board.pins.along(cell_of(wire)) {
+        let opened = field.pin(*number).opened;
+        if is_pin(board, *number, e) && has_track(opened, track_of(wire)) {
+            return Some(*number);
+        }
+    }
+    None
+}
+
+/// The track on which the path ahead shares least that leaves the driver by this pin.
+fn least_track(board: &Board<'_>, field: &Field, net: usize, pin: u32, ahead: &[Elem]) -> u32 {
+    let mut least = u64::MAX;
+    let mut best = 0;
+    for track in 0..board.fabric.width {
+        if let Some(shared) = shared_on(board, field, net, pin, track, ahead)
+            && shared < least
+        {
+            least = shared;
+            best = track;
+        }
+    }
+    best
+}
+
+/// How often other nets take what the path ahead takes that leaves the driver by this pin on this
+/// track. None where the track does not lead to its end.
+fn shared_on(
+    board: &Board<'_>,
+    field: &Field,
+    net: usize,
+    pin: u32,
+    track: u32,
+    ahead: &[Elem],
+) -> Option<u64> {
+    let mut shared: u64 = 0;
+    let mut last = None;
+    for e in ahead {
+        if let Some(cell) = channel_number(board, *e) {
+            let wire = match last {
+                None => first_wire(board, net, pin, cell, track)?,
+                Some(wire) => next_wire(board, wire, cell)?,
+            };
+            shared = shared.saturating_add(field.spot(wire).taken as u64);
+            last = Some(wire);
+            continue;
+        }
+        let entered = entered_pin(board, field, last?, *e)?;
+        return Some(shared.saturating_add(field.pin(entered).taken as u64));
+    }
+    None
+}
+
+/// The wire of a cell along a pin of the driver on a track, if the pin opens it.
+fn first_wire(board: &Board<'_>, net: usize, pin: u32, cell: u32, track: u32) -> Option<u32> {
     for start in board.nets.starts_of(net) {
-        if start.pin == tree.leaves && start.cell == cell && has_track(start.opened, tree.start) {
-            return Some(wire_of(cell, tree.start));
+        if start.pin == pin && start.cell == cell && has_track(start.opened, track) {
+            return Some(wire_of(cell, track));
         }
     }
     None

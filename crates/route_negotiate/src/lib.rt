@@ -15,6 +15,7 @@ mod heap;
 mod nets;
 mod options;
 mod pins;
+mod progress;
 mod rounds;
 mod routing;
 mod row;
@@ -26,7 +27,7 @@ mod tree;
 mod wave;
 mod wires;
 
-pub use found::{Found, negotiate};
+pub use found::{Sought, negotiate};
 pub use options::{CellWires, Options, ROUND_LIMIT};
 pub use routing::{NetPaths, Path};
 pub use text::route_text;

@@ -16,7 +16,7 @@ pub(crate) struct Start {
     /// The tracks that the pin opens, a bit for each.
     pub opened: u64,
     /// What it costs to leave by this pin of the class and not by the one that the netlist names.
-    pub extra: u64,
+    pub extra: u32,
 }
 
 /// The ordinary nets of a netlist, those with most sinks first.
@@ -127,7 +127,7 @@ impl Nets {
         }
         for pin in 0..short(given.arch.pins.as_slice().len()) {
             if may_drive(given.arch, driver.pin, pin) {
-                let extra = if pin == driver.pin { 0 } else { PIN };
+                let extra = if pin == driver.pin { 0 } else { PIN as u32 };
                 let block = driver.block;
                 self.add_start(given, kind, PinRef { block, pin }, extra)?;
             }
@@ -141,7 +141,7 @@ impl Nets {
         given: Given<'_>,
         kind: BlockKind,
         driver: PinRef,
-        extra: u64,
+        extra: u32,
     ) -> Result<(), AllocError> {
         let Given { arch, width, .. } = given;
         let places = given.placement.places.as_slice();

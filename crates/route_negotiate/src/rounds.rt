@@ -1,6 +1,6 @@
 //! Rounds of routing, until no wire or pin is taken by two nets.
 
-ghost use Rattle.std.specs.Prelude.{◌≤◌, IfOk, IfSome};
+ghost use Rattle.std.specs.Prelude.{◌≤◌, IfOk};
 
 use crate::board::Board;
 use crate::costs::{FAR, PRESENT_FIRST, present_after};
@@ -9,6 +9,7 @@ use crate::front::Front;
 use crate::given::{follow, given_places};
 use crate::growth::Attempt;
 use crate::options::CellWires;
+use crate::progress::{End, Progress};
 use crate::row::{at, short};
 use crate::sites::has_track;
 use crate::start::first_start;
@@ -19,8 +20,6 @@ use std::mem::swap;
 
 /// How many rounds there are in which each net is routed again.
 const WHOLE_ROUNDS: u32 = 5;
-/// So many rounds without a gain are too many, where many nets share something.
-const STALL_MOST: u32 = 12;
 /// How many blocks round its pins a net is looked for, one after the other.
 const SLACKS: [u32; 3] = [3, 8, 10_000];
 
@@ -37,28 +36,11 @@ pub(crate) struct Search<'a> {
     whole_rounds: u32,
 }
 
-/// How far a search has come: the least excess of nets so far, and for how many rounds it was not
-/// bettered.
+/// How many rounds were made, and how they ended.
 #[derive(Clone, Copy)]
-struct Progress {
-    least: u64,
-    stall: u32,
-}
-
-impl Progress {
-    /// The same after a round with this excess.
-    fn after(self, excess: u64) -> Progress {
-        if excess.saturating_mul(100) < self.least.saturating_mul(97) {
-            return Progress {
-                least: excess,
-                stall: 0,
-            };
-        }
-        Progress {
-            least: self.least,
-            stall: self.stall.saturating_add(1),
-        }
-    }
+pub(crate) struct Made {
+    pub rounds: u32,
+    pub end: End,
 }
 
 impl<'a> Search<'a> {
@@ -83,9 +65,9 @@ impl<'a> Search<'a> {
         })
     }
 
-    /// The nets' trees.
-    pub(crate) fn trees(&self) -> &[Tree] {
-        &self.trees
+    /// The nets' trees. All else is given back.
+    pub(crate) fn into_trees(self) -> Vec<Tree> {
+        self.trees
     }
 
     /// Gives nets trees along the cells of a route, each on the start track on which it shares
@@ -126,24 +108,32 @@ impl<'a> Search<'a> {
         Ok(())
     }
 
-    /// Goes on from round to round, and begins anew where that leads nowhere: the number of rounds
-    /// until no two nets shared anything, or none where there were as many as may be.
-    pub(crate) fn run(&mut self, seed: u32, most: u32) -> Result<Option<u32>, AllocError>
-        ensures { IfOk result (λ found. IfSome found (λ rounds. rounds ≤ most)) }
+    /// Goes on from round to round, and begins anew with another order of start tracks where that
+    /// may lead further: how many rounds were made, and how they ended. A net that may have several
+    /// wires of a cell is routed from all start tracks at once, so that there is no other order.
+    pub(crate) fn run(&mut self, seed: u32, most: u32) -> Result<Made, AllocError>
+        ensures { IfOk result (λ made. made.rounds ≤ most) }
     {
         let mut left = most;
         for turn in 0..most {
             if left == 0 {
                 break;
             }
-            let (rounds, routed) = self.try_seed(seed.wrapping_add(turn), left)?;
-            left = left.saturating_sub(rounds);
-            if routed {
-                return Ok(Some(most - left));
+            let made = self.try_seed(seed.wrapping_add(turn), left)?;
+            left = left.saturating_sub(made.rounds);
+            let goes_on = matches!(made.end, End::Stalled) && self.front.is_strict;
+            if !goes_on {
+                return Ok(Made {
+                    rounds: most - left,
+                    end: made.end,
+                });
             }
             self.begin_anew();
         }
-        Ok(None)
+        Ok(Made {
+            rounds: most,
+            end: End::Spent,
+        })
     }
 
     /// Forgets all trees and fights.
@@ -155,27 +145,23 @@ impl<'a> Search<'a> {
         self.whole_rounds = WHOLE_ROUNDS;
     }
 
-    /// Goes through rounds until no two nets share anything, or there is no gain any more, or there
-    /// were so many: how many there were, and whether no two nets share anything.
-    fn try_seed(&mut self, seed: u32, most: u32) -> Result<(u32, bool), AllocError> {
-        let mut progress = Progress {
-            least: FAR,
-            stall: 0,
-        };
+    /// Goes through rounds until they end, or there were so many.
+    fn try_seed(&mut self, seed: u32, most: u32) -> Result<Made, AllocError> {
+        let mut progress = Progress::new(self.trees.len());
         for round in 0..most {
             let excess = self.round(seed, round)?;
-            let rounds = round.saturating_add(1);
-            if excess == 0 {
-                return Ok((rounds, true));
-            }
             progress = progress.after(excess);
-            if progress.stall > STALL_MOST && excess > self.trees.len() as u64 / 20 + 4 {
-                return Ok((rounds, false));
+            if let Some(end) = progress.end(excess) {
+                let rounds = round.saturating_add(1);
+                return Ok(Made { rounds, end });
             }
             let present = present_after(round, self.field.present());
             self.field.end_round(present);
         }
-        Ok((most, false))
+        Ok(Made {
+            rounds: most,
+            end: End::Spent,
+        })
     }
 
     /// Routes nets in turn: how many nets are too many behind it, over all wires and pins, with

@@ -175,9 +175,14 @@ fn paths_of(
     ensures { IfOk result
         (λ net. All (IsWire board.now.placement.now.grid width) net.wires.items) }
 {
+    let (wires, paths) = if place < trees.len() {
+        (trees[place].path.len(), trees[place].steps.len())
+    } else {
+        (0, 0)
+    };
     let mut net = NetPaths {
-        wires: Vec::new(alloc),
-        paths: Vec::new(alloc),
+        wires: Vec::with_capacity(alloc, wires)?,
+        paths: Vec::with_capacity(alloc, paths)?,
     };
     if place < trees.len() {
         add_tree(&mut net, board, width, &trees[place])?;

@@ -161,7 +161,13 @@ fn elems_of(
 ) -> Result<Vec<Elem>, AllocError>
     ensures { IfOk result (λ elems. AreElemLines grid last.old last.new elems.items) }
 {
-    let mut elems = Vec::new(alloc);
+    // Of a path there are up to four lines beside those of its wires.
+    let most = net
+        .paths
+        .len()
+        .saturating_mul(4)
+        .saturating_add(net.wires.len());
+    let mut elems = Vec::with_capacity(alloc, most)?;
     let mut begin: usize = 0;
     for path in &net.paths {
         let end = begin.saturating_add(path.length as usize);

@@ -22,7 +22,7 @@ pub(crate) struct Goal {
 #[derive(Clone, Copy)]
 struct Leaving {
     wire: u32,
-    dist: u64,
+    dist: u32,
 }
 
 /// The key of a wire in the heap: the least first, and of equal ones the first wire.
@@ -61,10 +61,11 @@ impl Front {
             if has_track(tracks, track) {
                 let wire = wire_of(start.cell, track);
                 let spot = field.spot(wire);
-                let dist = leaving.saturating_add(spot.cost as u64);
+                let dist = leaving.saturating_add(spot.cost);
                 if spot.seen != field.wave || spot.dist > dist {
                     field.see(wire, dist, DRIVER);
-                    self.heap.push(key_of(ahead.saturating_add(dist), wire))?;
+                    self.heap
+                        .push(key_of(ahead.saturating_add(dist as u64), wire))?;
                 }
             }
         }
@@ -115,7 +116,7 @@ impl Front {
         let dist = field.spot(wire).dist;
         let steps = self.steps_ahead(field, cell);
         // The wave came to this wire by a better way before.
-        if far > cost_ahead(steps).saturating_add(dist) {
+        if far > cost_ahead(steps).saturating_add(dist as u64) {
             return Ok(best);
         }
         let leaving = Leaving { wire, dist };
@@ -143,23 +144,26 @@ impl Front {
         let track = board.fabric.across(joint, track_of(leaving.wire));
         let next = wire_of(joint.cell, track);
         let spot = field.spot(next);
-        let dist = leaving.dist.saturating_add(spot.cost as u64).min(FAR);
+        let dist = leaving.dist.saturating_add(spot.cost);
         if spot.seen == field.wave && spot.dist <= dist {
             return Ok(());
         }
-        if self.is_strict && is_on_path(field, leaving.wire, joint.cell) {
+        // Where the wave did not come to the cell yet, no path of it has a wire there.
+        let may_return = self.is_strict && cell.seen == field.wave;
+        if may_return && is_on_path(field, leaving.wire, joint.cell) {
             return Ok(());
         }
         field.see(next, dist, leaving.wire);
         let ahead = cost_ahead(self.steps_ahead(field, joint.cell));
-        self.heap.push(key_of(ahead.saturating_add(dist), next))
+        self.heap
+            .push(key_of(ahead.saturating_add(dist as u64), next))
     }
 }
 
 /// What it costs to leave the driver by a pin, above the least.
-fn start_cost(field: &Field, start: Start) -> u64 {
-    let pin = field.pin(start.pin).cost as u64;
-    pin.saturating_sub(PIN).saturating_add(start.extra)
+fn start_cost(field: &Field, start: Start) -> u32 {
+    let pin = field.pin(start.pin).cost;
+    pin.saturating_sub(PIN as u32).saturating_add(start.extra)
 }
 
 /// The best path so far, or one that ends at a pin along a wire.
@@ -167,7 +171,7 @@ fn best_pin(board: &Board<'_>, field: &Field, leaving: Leaving, best: Goal) -> G
     let mut best = best;
     for number in board.pins.along(cell_of(leaving.wire)) {
         let pin = field.pin(*number);
-        let cost = leaving.dist.saturating_add(pin.cost as u64);
+        let cost = (leaving.dist as u64).saturating_add(pin.cost as u64);
         if cost < best.cost
             && field.is_wanted(pin.class)
             && has_track(pin.opened, track_of(leaving.wire))

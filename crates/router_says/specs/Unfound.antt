@@ -10,19 +10,27 @@ rounds_said width rounds =
     codes "Whether there is a route with " ++ (decimal width
     ++ (codes " tracks is open: the search found none in " ++ (decimal rounds ++ codes " rounds.")))
 
--- more rounds can be tried: ten times as many, but no more than the words take
+-- where all were made that there might be, more rounds can be tried: ten times as many, but no more
+-- than the words take
 abbrev pub try_rounds_said : (rounds : ℕ) → List ℕ
 try_rounds_said rounds = codes " --rounds " ++ (decimal rounds ++ codes ",")
 
-abbrev pub more_rounds_said : (rounds : ℕ) → List ℕ
-more_rounds_said rounds =
-    if nat_le ROUND_LIMIT rounds then [] else try_rounds_said (min (rounds * 10) ROUND_LIMIT)
+abbrev pub more_rounds_said : (most rounds : ℕ) → List ℕ
+more_rounds_said most rounds = if nat_lt rounds most then []
+    else if nat_le ROUND_LIMIT rounds then []
+    else try_rounds_said (min (rounds * 10) ROUND_LIMIT)
 
 -- the words let a net have several wires of a cell
 abbrev pub is_free : Option JobAsked → Bool
 is_free (Some (Negotiates job)) = job.free
 is_free (Some (Narrows job)) = job.free
 is_free asked = false
+
+-- how many rounds the words allow, at most
+abbrev pub rounds_asked : Option JobAsked → ℕ
+rounds_asked (Some (Negotiates job)) = job.rounds
+rounds_asked (Some (Narrows job)) = job.rounds
+rounds_asked asked = 0
 
 -- a net can be let have several wires of a cell, where it may not yet
 abbrev pub freer_said : (free : Bool) → List ℕ
@@ -35,13 +43,13 @@ wider_said width = if nat_lt width WIDTH_LIMIT then codes " a greater width or" 
 abbrev pub others_said : (free : Bool) → (width : ℕ) → List ℕ
 others_said free width = freer_said free ++ (wider_said width ++ codes " another placement.")
 
-abbrev pub tries_said : (free : Bool) → (width rounds : ℕ) → List ℕ
-tries_said free width rounds =
-    codes "\nTry" ++ (more_rounds_said rounds ++ others_said free width)
+abbrev pub tries_said : (free : Bool) → (most width rounds : ℕ) → List ℕ
+tries_said free most width rounds =
+    codes "\nTry" ++ (more_rounds_said most rounds ++ others_said free width)
 
 abbrev pub unfound_said : Option JobAsked → (width rounds : ℕ) → List ℕ
 unfound_said asked width rounds =
-    rounds_said width rounds ++ tries_said (is_free asked) width rounds
+    rounds_said width rounds ++ tries_said (is_free asked) (rounds_asked asked) width rounds
 
 -- no wires reach a sink of a net, so that there is no route
 abbrev pub no_way_said : (width : ℕ) → List ℕ

@@ -7,6 +7,7 @@ ghost use Rattle.router_says.specs.Unfound.{
   more_rounds_said,
   no_way_said,
   others_said,
+  rounds_asked,
   rounds_said,
   tries_said,
   try_rounds_said,
@@ -30,7 +31,7 @@ pub(crate) fn append_unfound(
         ≡ string_bytes out.old ++ unfound_said (asked job.entry) width rounds) }
 {
     append_rounds(out, width, rounds)?;
-    append_tries(out, is_free(job), width, rounds)?;
+    append_tries(out, is_free(job), rounds_asked(job), width, rounds)?;
     Ok(())
 }
 
@@ -47,12 +48,18 @@ pub(crate) fn append_no_way(out: &mut String, width: u32) -> Result<(), AllocErr
 }
 
 // What can be tried.
-fn append_tries(out: &mut String, free: bool, width: u32, rounds: u32) -> Result<(), AllocError>
+fn append_tries(
+    out: &mut String,
+    free: bool,
+    most: u32,
+    width: u32,
+    rounds: u32,
+) -> Result<(), AllocError>
     ensures { OnOk result
-        (string_bytes out.new ≡ string_bytes out.old ++ tries_said free width rounds) }
+        (string_bytes out.new ≡ string_bytes out.old ++ tries_said free most width rounds) }
 {
     out.push_str("\nTry")?;
-    append_more_rounds(out, rounds)?;
+    append_more_rounds(out, most, rounds)?;
     append_others(out, free, width)?;
     Ok(())
 }
@@ -79,11 +86,14 @@ fn append_rounds(out: &mut String, width: u32, rounds: u32) -> Result<(), AllocE
     )
 }
 
-// How many rounds can be tried next, if the words take more.
-fn append_more_rounds(out: &mut String, rounds: u32) -> Result<(), AllocError>
+// How many rounds can be tried next, if all that there might be were made and the words take more.
+fn append_more_rounds(out: &mut String, most: u32, rounds: u32) -> Result<(), AllocError>
     ensures { OnOk result
-        (string_bytes out.new ≡ string_bytes out.old ++ more_rounds_said rounds) }
+        (string_bytes out.new ≡ string_bytes out.old ++ more_rounds_said most rounds) }
 {
+    if rounds < most {
+        return Ok(());
+    }
     if rounds >= ROUND_LIMIT {
         return Ok(());
     }
@@ -113,6 +123,17 @@ fn is_free(job: Option<Job<'_>>) -> bool
         Some(Job::Global(job)) => job.free,
         Some(Job::Least(job)) => job.free,
         _ => false,
+    }
+}
+
+// How many rounds the words allow, at most.
+fn rounds_asked(job: Option<Job<'_>>) -> u32
+    ensures { result ≡ rounds_asked (asked job.entry) }
+{
+    match job {
+        Some(Job::Global(job)) => job.rounds,
+        Some(Job::Least(job)) => job.rounds,
+        _ => 0,
     }
 }
 

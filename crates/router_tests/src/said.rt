@@ -82,6 +82,15 @@ fn all_that_is_said(rt: HostRuntime) -> Result<(), Fail> {
             Try --rounds 2000, --free, a greater width or another placement.\n",
         ),
         (
+            GLOBAL,
+            Outcome::Unfound {
+                width: 9,
+                rounds: 40,
+            },
+            "Whether there is a route with 9 tracks is open: the search found none in 40 rounds.\n\
+            Try --free, a greater width or another placement.\n",
+        ),
+        (
             FREE,
             Outcome::Unfound {
                 width: 64,

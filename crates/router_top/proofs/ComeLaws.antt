@@ -863,7 +863,7 @@ module _ (words : List Word) (at : Scene) where
     found-came : (placed : PlacedNetlist) → HasFiles at.desk.files job placed
         → AreNetsReached placed job.width → (o : Outcome)
         → LeavesFound job placed at.shelf at.shelf_now o → Came words at o
-    found-came placed has reached o (inl (inl none, same)) = subst (Came words at) (sym none) (Told (record {
+    found-came placed has reached o (inl (inl (rounds, most, none), same)) = subst (Came words at) (sym none) (Told (record {
       fileless = tt;
       files = ap (λ (s : ShelfState). s.files) same;
       faults = ap (λ (s : ShelfState). s.faults) same;
@@ -883,13 +883,14 @@ module _ (words : List Word) (at : Scene) where
         job = job;
         asked = asked;
         width_is = refl;
-        rounds_are = refl;
+        rounds_most = most;
         placed = placed;
         files = has;
         reached = reached;
         same = ap (λ (s : ShelfState). s.files) same;
       });
-      told = inl (global-true placed has (Unfound job.width job.rounds) (inr (reached, inr refl)));
+      told = inl (global-true placed has (Unfound job.width rounds)
+          (inr (reached, inr (rounds, most, refl))));
     }))
     found-came placed has reached o (inl (inr short, same)) = spent o same (λ other is. cc) short
     found-came placed has reached o (inr (found, route, h)) = Wrote (record {
@@ -1064,17 +1065,17 @@ module _ (words : List Word) (at : Scene) where
             same = ap (λ (s : ShelfState). s.files) same;
           })
           (inl (least-true placed has (beyond_outcome cut) (cut, best, inl (inl (above, refl))))))
-      widths-came o (inl (inl (inr (within, is)), same)) = subst (Came words at) (sym is)
-          (told-cut (Unfound job.last job.rounds) same tt within (inr (record {
+      widths-came o (inl (inl (inr (within, (rounds, most, is))), same)) = subst (Came words at)
+          (sym is) (told-cut (Unfound job.last rounds) same tt within (inr (record {
             cut = cut;
             least = cut-of-least;
             width_is = refl;
-            rounds_are = refl;
+            rounds_most = most;
             within = within;
             same = ap (λ (s : ShelfState). s.files) same;
           }))
-          (inl (least-true placed has (Unfound job.last job.rounds)
-          (cut, best, inl (inr (within, refl))))))
+          (inl (least-true placed has (Unfound job.last rounds)
+          (cut, best, inl (inr (within, (rounds, most, refl)))))))
       widths-came o (inl (inr short, same)) = subst (Came words at) (sym short)
           (told-cut OutOfMemory same tt tt tt (inr refl))
       widths-came o (inr (found, is, h)) = Wrote (record {

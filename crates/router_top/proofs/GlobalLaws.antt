@@ -1,6 +1,6 @@
 -- What keeps a search for a route of a placement from its work is one thing; what is found says a
 -- routing, and two outcomes that are true of the same files agree.
-use Rattle.std.proofs.Common.{◌≡◌, ◌∙◌, ◌⊎◌, ℕ, Option, Some, None, sym, subst, inl, inr, refl, arith}
+use Rattle.std.proofs.Common.{◌≡◌, ◌∙◌, ◌⊎◌, ℕ, ◌≤◌, Option, Some, None, sym, subst, inl, inr, refl, arith}
 use Rattle.std.specs.Prelude.{not}
 use Rattle.desk_io.specs.Files.{HasRisen}
 use Rattle.fpga_problem.proofs.FileLemmas.{one-placed, placed-lack-poses}
@@ -13,7 +13,7 @@ use Rattle.route_parts.specs.Unreached.{AreNetsReached, IsFirstNet}
 use Rattle.route_parts.specs.declared.unreached.Unreached.{Unreached}
 use Rattle.route_judge.proofs.OwnEnds.{own-ends}
 use Rattle.route_judge.proofs.SaysLemmas.{says}
-use Rattle.router_top.specs.Global.{HasFiles, HasStart, IsFoundRoute, IsTrueOfFound, IsTrueOfSought, LacksFiles, LacksStart}
+use Rattle.router_top.specs.Global.{EndsUnfound, HasFiles, HasStart, IsFoundRoute, IsTrueOfFound, IsTrueOfSought, LacksFiles, LacksStart}
 use Rattle.router_top.specs.Truth.{Agrees, IsOpenBelow, IsTrueOfGlobal}
 use Rattle.router_top.specs.Subject.{DeskState, FileMap, IsHalted, IsStopped, Source, FileFault, RouteText, GlobalAsked, Word, Outcome, Routed, Unfound}
 use Rattle.router_top.specs.declared.text_file.TextFile.TheVariants.{Problem}
@@ -88,11 +88,18 @@ routing-said files job placed found has route =
     has.sound.netlist has.sound.placement) route.legal
 
 -- that none was found leaves the width of one that was found open
-open-at : (job : GlobalAsked) (a b : Outcome) → a ≡ Unfound job.width job.rounds
+open-at : (job : GlobalAsked) (a b : Outcome) → EndsUnfound job.width job.rounds a
     → b ≡ Routed job.width → IsOpenBelow a b
-open-at job a b none is =
+open-at job a b (rounds, most, none) is =
     subst (λ (o : Outcome). IsOpenBelow o b) (sym none)
-    (subst (IsOpenBelow (Unfound job.width job.rounds)) (sym is) (omega arith))
+    (subst (IsOpenBelow (Unfound job.width rounds)) (sym is) (omega arith))
+
+-- so does one after other rounds
+pub open-both : (width most : ℕ) (a b : Outcome) → EndsUnfound width most a → EndsUnfound width most b
+    → IsOpenBelow a b
+open-both width most a b (rounds, few, none) (others, few_too, is) =
+    subst (λ (o : Outcome). IsOpenBelow o b) (sym none)
+    (subst (IsOpenBelow (Unfound width rounds)) (sym is) refl)
 
 -- outcomes that are true of one placed netlist agree: they are one, or no route was found for the
 -- one and some was for the other
@@ -104,7 +111,8 @@ found-agrees job placed a b (inl (found, route, is)) (inr none) =
     inr (inr (inl (open-at job b a none is)))
 found-agrees job placed a b (inr none) (inl (found, route, is)) =
     inr (inl (open-at job a b none is))
-found-agrees job placed a b (inr none) (inr others) = inl (none ∙ sym others)
+found-agrees job placed a b (inr none) (inr others) =
+    inr (inl (open-both job.width job.rounds a b none others))
 
 -- wires reach each sink, or there is one that they do not
 not-unreached : (placed : PlacedNetlist) (width : ℕ) (first : Unreached)

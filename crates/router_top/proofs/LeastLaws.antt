@@ -8,12 +8,12 @@ use Rattle.route_bound.specs.Crossing.{IsBound}
 use Rattle.route_bound.specs.Cuts.{IsBestCut}
 use Rattle.route_bound.specs.declared.cut.Cut.{Cut}
 use Rattle.route_judge.specs.Says.{SaysRouting}
-use Rattle.router_top.specs.Global.{HasFiles}
+use Rattle.router_top.specs.Global.{EndsUnfound, HasFiles}
 use Rattle.router_top.specs.Least.{EndsOpen, IsFoundAt, IsTrueOfLeast, IsTrueOfWidths, at_width, beyond_outcome, last_asked}
 use Rattle.router_top.specs.Truth.{Agrees, AreOfOne, IsTrueOfNarrows}
 use Rattle.router_top.specs.declared.narrowing.FoundAt.{FoundAt}
 use Rattle.router_top.specs.Subject.{FileMap, LeastAsked, Outcome, Narrowed, Unfound}
-use Rattle.router_top.proofs.GlobalLaws.{lacking-agrees, lacking-has, routing-said}
+use Rattle.router_top.proofs.GlobalLaws.{lacking-agrees, lacking-has, open-both, routing-said}
 
 -- ---- the files of a job are those of each width
 
@@ -56,14 +56,14 @@ module _ (files : FileMap) (job : LeastAsked) (placed : PlacedNetlist)
   open-agree cut others a b (inl (above, is)) (inl (above_too, is_other)) =
       both a b (beyond_outcome cut) (beyond_outcome others) is is_other
       (of-one (beyond_outcome cut) (beyond_outcome others) tt)
-  open-agree cut others a b (inl (above, is)) (inr (within, is_other)) =
-      both a b (beyond_outcome cut) (Unfound job.last job.rounds) is is_other
-      (of-one (beyond_outcome cut) (Unfound job.last job.rounds) above)
-  open-agree cut others a b (inr (within, is)) (inl (above, is_other)) =
-      both a b (Unfound job.last job.rounds) (beyond_outcome others) is is_other
-      (of-one (Unfound job.last job.rounds) (beyond_outcome others) above)
-  open-agree cut others a b (inr (within, is)) (inr (within_too, is_other)) =
-      inl (is ∙ sym is_other)
+  open-agree cut others a b (inl (above, is)) (inr (within, (rounds, most, is_other))) =
+      both a b (beyond_outcome cut) (Unfound job.last rounds) is is_other
+      (of-one (beyond_outcome cut) (Unfound job.last rounds) above)
+  open-agree cut others a b (inr (within, (rounds, most, is))) (inl (above, is_other)) =
+      both a b (Unfound job.last rounds) (beyond_outcome others) is is_other
+      (of-one (Unfound job.last rounds) (beyond_outcome others) above)
+  open-agree cut others a b (inr (within, none)) (inr (within_too, none_too)) =
+      inr (inl (open-both job.last job.rounds a b none none_too))
 
   -- a cut that asks for more than were to be tried, and a route that was found
   not-beyond : (cut others : Cut) (at : FoundAt) → IsBestCut placed cut → IsBestCut placed others
@@ -80,14 +80,16 @@ module _ (files : FileMap) (job : LeastAsked) (placed : PlacedNetlist)
       open-agree cut others a b ends ends_too
   widths-agree cut others a b best best_too (inl (inl (above, is))) (inr (at, found, is_other)) =
       absurd (not-beyond cut others at best best_too found above)
-  widths-agree cut others a b best best_too (inl (inr (within, is))) (inr (at, found, is_other)) =
-      both a b (Unfound job.last job.rounds) (Narrowed others.tracks at.width) is is_other
-      (of-one (Unfound job.last job.rounds) (Narrowed others.tracks at.width) found.to)
+  widths-agree cut others a b best best_too (inl (inr (within, (rounds, most, is))))
+      (inr (at, found, is_other)) =
+      both a b (Unfound job.last rounds) (Narrowed others.tracks at.width) is is_other
+      (of-one (Unfound job.last rounds) (Narrowed others.tracks at.width) found.to)
   widths-agree cut others a b best best_too (inr (at, found, is)) (inl (inl (above, is_other))) =
       absurd (not-beyond others cut at best_too best found above)
-  widths-agree cut others a b best best_too (inr (at, found, is)) (inl (inr (within, is_other))) =
-      both a b (Narrowed cut.tracks at.width) (Unfound job.last job.rounds) is is_other
-      (of-one (Narrowed cut.tracks at.width) (Unfound job.last job.rounds) found.to)
+  widths-agree cut others a b best best_too (inr (at, found, is))
+      (inl (inr (within, (rounds, most, is_other)))) =
+      both a b (Narrowed cut.tracks at.width) (Unfound job.last rounds) is is_other
+      (of-one (Narrowed cut.tracks at.width) (Unfound job.last rounds) found.to)
   widths-agree cut others a b best best_too (inr (at, found, is)) (inr (ot, found_too, is_other)) =
       both a b (Narrowed cut.tracks at.width) (Narrowed others.tracks ot.width) is is_other
       (of-one (Narrowed cut.tracks at.width) (Narrowed others.tracks ot.width) (

@@ -8,7 +8,7 @@ use Rattle.route_bound.specs.declared.cut.Cut.{Cut}
 use Rattle.route_judge.specs.Says.{SaysRouting}
 use Rattle.route_sweep.specs.declared.found.FileSlot.TheVariants.{Route}
 use Rattle.router_top.specs.Bound.{IsShort, cut_lines}
-use Rattle.router_top.specs.Global.{HasFiles, IsFoundRoute, found_file}
+use Rattle.router_top.specs.Global.{EndsUnfound, HasFiles, IsFoundRoute, found_file}
 use Rattle.router_top.specs.Written.{AreWritten, WritesFiles}
 use Rattle.router_top.specs.declared.narrowing.FoundAt.{FoundAt}
 use Rattle.router_top.specs.Subject.{FailsToSay, FileMap, ShelfState, after_say, RouteText, job_of, GlobalAsked, LeastAsked, Narrows, Word, Outcome, Beyond, Narrowed, Unfound, WriteFault, OutOfMemory, Said, File}
@@ -47,7 +47,7 @@ beyond_outcome cut = Beyond cut.tracks cut.cells (length cut.nets)
 abbrev pub EndsOpen : LeastAsked → Cut → Outcome → Type 0
 EndsOpen job cut outcome =
     ((job.last < cut.tracks) × (outcome ≡ beyond_outcome cut))
-    ⊎ ((cut.tracks ≤ job.last) × (outcome ≡ Unfound job.last job.rounds))
+    ⊎ ((cut.tracks ≤ job.last) × EndsUnfound job.last job.rounds outcome)
 
 -- ---- what is left
 
@@ -119,13 +119,14 @@ pub record IsBeyond (words : List Word) (desk before now : Option FileMap) (trac
       → ¬ IsPlacedRouting least.placed width has
   pub same : now ≡ before
 
--- so it is, and none was found in so many rounds at any width up to the last; no file has changed
+-- so it is, and none was found at any width up to the last, in at most so many rounds at each, which
+-- are at most as many as were asked for; no file has changed
 pub record IsUnnarrowed (words : List Word) (desk before now : Option FileMap) (width rounds : ℕ)
     : Type 0 where
   pub cut : Cut
   pub least : IsCutOfLeast words desk cut
   pub width_is : width ≡ least.job.last
-  pub rounds_are : rounds ≡ least.job.rounds
+  pub rounds_most : rounds ≤ least.job.rounds
   pub within : cut.tracks ≤ width
   pub same : now ≡ before
 

@@ -125,13 +125,15 @@ IsTrueBy crowd words files outcome =
 abbrev pub IsTrueOf : List Word → Option FileMap → Outcome → Type 0
 IsTrueOf words files outcome = (crowd : List ℕ) × IsTrueBy crowd words files outcome
 
--- a search is left open, at a width that is not above the one of the other outcome
+-- a search is left open, at a width that is not above the one of the other outcome; of rounds, after
+-- how many is the search's own
 abbrev pub IsOpenBelow : Outcome → Outcome → Type 0
 IsOpenBelow (Undecided width learned) (Routed of) = width ≤ of
 IsOpenBelow (Undecided width learned) (Unroutable of) = width ≤ of
 IsOpenBelow (Undecided width learned) (Undecided of others) = (width ≤ of) × (learned ≡ others)
 IsOpenBelow (Undecided width learned) (Limit file code count) = code ≡ size_code FormulaClauses
 IsOpenBelow (Unfound width rounds) (Routed of) = width ≤ of
+IsOpenBelow (Unfound width rounds) (Unfound of others) = width ≡ of
 IsOpenBelow outcome other = ⊥
 
 -- both are bounds

@@ -27,6 +27,14 @@ struct FoundAt {
     found: RouteText,
 }
 
+/// What searches at several widths come to: the most rounds that were made at one of them, and the
+/// route that was found, if there is one.
+#[derive(Drop)]
+struct Narrowing {
+    rounds: u32,
+    at: Option<FoundAt>,
+}
+
 // The search for a route at a width.
 fn at_width<'a>(job: &LeastJob<'a>, width: u32) -> GlobalJob<'a>
     requires some { 1 ≤ width }
@@ -44,26 +52,35 @@ fn at_width<'a>(job: &LeastJob<'a>, width: u32) -> GlobalJob<'a>
 }
 
 // The first width from so many tracks up to the last at which a route is found, and that route, if
-// there is one.
+// there is one; and how many rounds were made at most.
 fn first_found(
     alloc: Global,
     job: &LeastJob<'_>,
     begun: &Begun,
     tracks: u32,
-) -> Result<Option<FoundAt>, AllocError>
+) -> Result<Narrowing, AllocError>
     requires placed { IsSoundPlaced begun.now.placed }
     requires some { 1 ≤ tracks }
-    ensures { IfOk result
-        (λ at. IfSome at (IsFoundAt (least_said job.now) begun.now.placed tracks)) }
+    ensures rounds { IfOk result (λ narrowing. narrowing.rounds ≤ job.now.rounds) }
+    ensures at { IfOk result (λ narrowing. IfSome narrowing.at
+        (IsFoundAt (least_said job.now) begun.now.placed tracks)) }
 {
+    let mut most = 0;
     for width in tracks..job.last + 1 {
         let job = at_width(job, width);
-        let found = legal_route(alloc, &job, &begun.placed, begun.start.as_ref())?;
-        if let Some(found) = found {
-            return Ok(Some(FoundAt { width, found }));
+        let searched = legal_route(alloc, &job, &begun.placed, begun.start.as_ref())?;
+        most = searched.rounds.max(most);
+        if let Some(found) = searched.route {
+            return Ok(Narrowing {
+                rounds: most,
+                at: Some(FoundAt { width, found }),
+            });
         }
     }
-    Ok(None)
+    Ok(Narrowing {
+        rounds: most,
+        at: None,
+    })
 }
 
 // Writes the file of a route that was found from so many tracks on.
@@ -109,14 +126,16 @@ fn search_widths<S: Shelf>(
             nets: cut.nets.as_slice().len() as u64,
         };
     }
-    match first_found(alloc, job, begun, tracks) {
-        Ok(Some(at)) => write_narrowed(alloc, job, tracks, &at, shelf),
-        Ok(None) => Outcome::Unfound {
+    let Ok(narrowing) = first_found(alloc, job, begun, tracks) else {
+        return Outcome::OutOfMemory;
+    };
+    let Some(at) = narrowing.at else {
+        return Outcome::Unfound {
             width: job.last,
-            rounds: job.rounds,
-        },
-        Err(_) => Outcome::OutOfMemory,
-    }
+            rounds: narrowing.rounds,
+        };
+    };
+    write_narrowed(alloc, job, tracks, &at, shelf)
 }
 
 // Says the lines of a cut, and then looks for a route.

@@ -1,5 +1,5 @@
 //! The command `global`: a search for a route of a placement together with its tracks.
-ghost use Rattle.std.specs.Prelude.{◌≡◌, ◌⊎◌, [], ◌∷◌, IfErr, IfOk, IfSome};
+ghost use Rattle.std.specs.Prelude.{◌≡◌, ◌⊎◌, ◌≤◌, [], ◌∷◌, IfErr, IfOk, IfSome};
 ghost use Rattle.std.specs.Result.{IsErrAnd};
 ghost use Rattle.fpga_problem.specs.Files.{IsSoundPlaced};
 ghost use Rattle.fpga_problem.specs.Sources.{IsStopped};
@@ -52,6 +52,13 @@ fn options_of(job: &GlobalJob<'_>) -> Options
     }
 }
 
+/// What a search comes to: how many rounds it makes, and a route, if it finds one.
+#[derive(Drop)]
+pub(crate) struct Searched {
+    pub rounds: u32,
+    pub route: Option<RouteText>,
+}
+
 // The route of the wires that a search finds, if it finds some. Nothing is known of it but that it
 // can be judged.
 fn searched_route(
@@ -59,26 +66,34 @@ fn searched_route(
     job: &GlobalJob<'_>,
     placed: &PlacedFiles,
     start: Option<&RouteText>,
-) -> Result<Option<RouteText>, AllocError>
+) -> Result<Searched, AllocError>
     requires { IsSoundPlaced placed.now }
-    ensures { IfOk result (λ route. IfSome route IsSound) }
+    ensures rounds { IfOk result (λ searched. searched.rounds ≤ job.now.rounds) }
+    ensures sound { IfOk result (λ searched. IfSome searched.route IsSound) }
 {
     let (arch, netlist, placement) = (&placed.arch, &placed.netlist, &placed.placement);
     let options = options_of(job);
-    let found = negotiate(alloc, arch, netlist, placement, job.width, options, start)?;
-    let Some(found) = found else {
-        return Ok(None);
+    let sought = negotiate(alloc, arch, netlist, placement, job.width, options, start)?;
+    let rounds = sought.rounds;
+    let Some(nets) = sought.nets else {
+        return Ok(Searched {
+            rounds,
+            route: None,
+        });
     };
-    let route = route_text(alloc, arch, netlist, placement, &found.nets)?;
-    Ok(Some(route))
+    let route = route_text(alloc, arch, netlist, placement, &nets)?;
+    Ok(Searched {
+        rounds,
+        route: Some(route),
+    })
 }
 
-// The printed form of a route.
-fn printed_form(alloc: Global, route: &RouteText) -> Result<Vec<u8>, AllocError>
-    ensures { IfOk result (λ text. text.items ≡ printed route.now) }
+// The printed form of a route, which is given back, since it may take as much memory.
+fn printed_form(alloc: Global, route: RouteText) -> Result<Vec<u8>, AllocError>
+    ensures { IfOk result (λ text. text.items ≡ printed route) }
 {
     let mut shelf = MemShelf::new(alloc, Vec::new(alloc));
-    let Ok(()) = write_file(&WholeRoute, &mut shelf, "", route) else {
+    let Ok(()) = write_file(&WholeRoute, &mut shelf, "", &route) else {
         return Err(AllocError);
     };
     let Some(text) = shelf.into_file("") else {
@@ -88,7 +103,7 @@ fn printed_form(alloc: Global, route: &RouteText) -> Result<Vec<u8>, AllocError>
 }
 
 // What the printed form of a route reads as, if it has no fault. That can be printed itself.
-fn read_back(alloc: Global, route: &RouteText) -> Result<Option<RouteText>, AllocError>
+fn read_back(alloc: Global, route: RouteText) -> Result<Option<RouteText>, AllocError>
     ensures sound { IfOk result (λ found. IfSome found IsSound) }
     ensures back { IfOk result (λ found. IfSome found ReadsBack) }
 {
@@ -128,15 +143,36 @@ pub(crate) fn legal_route(
     job: &GlobalJob<'_>,
     placed: &PlacedFiles,
     start: Option<&RouteText>,
-) -> Result<Option<RouteText>, AllocError>
+) -> Result<Searched, AllocError>
     requires { IsSoundPlaced placed.now }
+    ensures rounds { IfOk result (λ searched. searched.rounds ≤ job.now.rounds) }
+    ensures found { IfOk result
+        (λ searched. IfSome searched.route (IsFoundRoute (global_said job.now) placed.now)) }
+{
+    let Searched { rounds, route } = searched_route(alloc, job, placed, start)?;
+    let Some(route) = route else {
+        return Ok(Searched {
+            rounds,
+            route: None,
+        });
+    };
+    let route = judged_route(alloc, job, placed, route)?;
+    Ok(Searched { rounds, route })
+}
+
+// What a route is read as from its printed form, if that is judged legal.
+fn judged_route(
+    alloc: Global,
+    job: &GlobalJob<'_>,
+    placed: &PlacedFiles,
+    route: RouteText,
+) -> Result<Option<RouteText>, AllocError>
+    requires placed { IsSoundPlaced placed.now }
+    requires route { IsSound route }
     ensures { IfOk result
         (λ found. IfSome found (IsFoundRoute (global_said job.now) placed.now)) }
 {
-    let Some(route) = searched_route(alloc, job, placed, start)? else {
-        return Ok(None);
-    };
-    let Some(found) = read_back(alloc, &route)? else {
+    let Some(found) = read_back(alloc, route)? else {
         return Ok(None);
     };
     match judgement(alloc, job, placed, &found)? {
@@ -180,15 +216,17 @@ fn search_route<S: Shelf>(
     ensures { LeavesFound (global_said job.now) placed.now (S.state shelf.old)
         (S.state shelf.new) result }
 {
-    let done = Outcome::Routed { width: job.width };
-    match legal_route(alloc, job, placed, start) {
-        Ok(Some(found)) => write_found(alloc, job, &found, done, shelf),
-        Ok(None) => Outcome::Unfound {
+    let Ok(searched) = legal_route(alloc, job, placed, start) else {
+        return Outcome::OutOfMemory;
+    };
+    let Some(found) = searched.route else {
+        return Outcome::Unfound {
             width: job.width,
-            rounds: job.rounds,
-        },
-        Err(_) => Outcome::OutOfMemory,
-    }
+            rounds: searched.rounds,
+        };
+    };
+    let done = Outcome::Routed { width: job.width };
+    write_found(alloc, job, &found, done, shelf)
 }
 
 // Says the line of a net that no wires reach, and that there is no way at the width.

@@ -9,7 +9,7 @@ use Rattle.router_top.proofs.negotiating.printed_form.Goals as goal
 
 pub unreachable-requires : goal.unreachable-requires
 unreachable-requires c =
-    let text = printed c.args.route.now in
+    let text = printed c.args.route in
     let files : c.write_file.new.shelf.files ≡ insert c.new-shelf.result.files [] text =
     some_is (ap (λ (s : ShelfState). s.files) c.in-Ok.ensures.ok) in
     none_is_not_some (c.in_default-into_file.ensures ∙ ap (λ (m : FileMap). get m []) files
@@ -17,7 +17,7 @@ unreachable-requires c =
 
 pub returns : goal.returns
 returns c =
-    let text = printed c.args.route.now in
+    let text = printed c.args.route in
     let files : c.write_file.new.shelf.files ≡ insert c.new-shelf.result.files [] text =
     some_is (ap (λ (s : ShelfState). s.files) c.in-Ok.ensures.ok) in
     some_is (c.in-Some.ensures ∙ ap (λ (m : FileMap). get m []) files

@@ -1,18 +1,14 @@
 use Rattle.std.proofs.Common.{inl, inr, refl}
 use Rattle.router_top.proofs.negotiating.search_route.Goals as goal
 
-pub returns-in-Ok-Some : goal.returns-in-Ok-Some
-returns-in-Ok-Some g c = elim c.write_found.ensures [
+pub returns-in_default : goal.returns-in_default
+returns-in_default g c = inl (inr refl, refl)
+
+pub returns-in_default-2 : goal.returns-in_default-2
+returns-in_default-2 g c = inl (inl (c.in-Ok.searched.rounds, c.in-Ok.ensures.rounds, refl), refl)
+
+pub returns : goal.returns
+returns g c = elim c.write_found.ensures [
   | inl spent ↦ inl (inr spent.0, spent.1)
-  | inr wrote ↦ inr (
-    c.in-Ok-Some.found,
-    rw c.in-Ok-Some.field-0-is at c.in-Ok-Some.ensures,
-    wrote,
-  )
+  | inr wrote ↦ inr (c.in-Some.found, rw c.in-Some.is at c.in-Ok.ensures.found, wrote)
 ]
-
-pub returns-in-Ok-None : goal.returns-in-Ok-None
-returns-in-Ok-None g c = inl (inl refl, refl)
-
-pub returns-in-Err : goal.returns-in-Err
-returns-in-Err g c = inl (inr refl, refl)
