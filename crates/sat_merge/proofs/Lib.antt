@@ -1,5 +1,10 @@
+pub mod BehindLaws
 pub mod LeaderLaws
+pub mod LemmaLaws
 pub mod MergedLaws
+pub mod MovedLaws
+pub mod MovingLaws
 pub mod NeededLaws
+pub mod RenamedLaws
 pub mod RewrittenLaws
 pub mod SearchedLaws

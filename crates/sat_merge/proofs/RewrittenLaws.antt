@@ -85,7 +85,7 @@ same_push log other step last same alike =
     cc
 
 -- the first of them
-same_front : (k : ℕ) (log other : List Step) → SameSteps log other →
+pub same_front : (k : ℕ) (log other : List Step) → SameSteps log other →
     SameSteps (take k log) (take k other)
 same_front k log other same =
     sym (take-map bare k log) ∙ ap (λ (steps : List Step). take k steps) same
@@ -126,7 +126,7 @@ same_erased P along log other same each k own ids is =
     along (take k log) (take k other) ids (same_front k log other same)
     (each k own ids (there.1 ∙ ap (λ (s : Step). Some s) step))
 
-same_sparse : (log other : List Step) → SameSteps log other → Sparse other → Sparse log
+pub same_sparse : (log other : List Step) → SameSteps log other → Sparse other → Sparse log
 same_sparse log other same sparse =
     same_erased
     (λ before ids. (erase_fault (fold after [] before) ids ≡ None)
@@ -141,7 +141,7 @@ same_sparse log other same sparse =
       ),
     )) log other same sparse
 
-same_deletes : (log other : List Step) → SameSteps log other → DeletesSome other → DeletesSome log
+pub same_deletes : (log other : List Step) → SameSteps log other → DeletesSome other → DeletesSome log
 same_deletes log other same deletes =
     same_erased (λ before ids. ids ≢ []) (λ before then ids alike some. some) log other same deletes
 
@@ -154,14 +154,14 @@ numbered-bare id (Added new clause hints ∷ steps) =
 numbered-bare id (Erased own ids ∷ steps) =
     ap (λ (rest : Type 0). (1 ≤ own) × (own < id) × rest) (numbered-bare id steps)
 
-same_numbered : (id : ℕ) (log other : List Step) → SameSteps log other → AreNumbered id other →
+pub same_numbered : (id : ℕ) (log other : List Step) → SameSteps log other → AreNumbered id other →
     AreNumbered id log
 same_numbered id log other same numbered =
     subst (λ (T : Type 0). T)
     (sym (same_value (AreNumbered id) (numbered-bare id) log other same)) numbered
 
 -- no step but the last adds the empty clause
-same_ends : (log other : List Step) → SameSteps log other → EndsAtEmpty other → EndsAtEmpty log
+pub same_ends : (log other : List Step) → SameSteps log other → EndsAtEmpty other → EndsAtEmpty log
 same_ends [] other same ends = tt
 same_ends (step ∷ log) [] same ends = cc
 same_ends (step ∷ log) (there ∷ other) same ends =
@@ -203,7 +203,7 @@ ends_behind_step step log end = record {
   is = ap (λ (steps : List Step). step ∷ steps) end.is;
 }
 
-same_end : (log before : List Step) (id : ℕ) (hints : List ℤ) →
+pub same_end : (log before : List Step) (id : ℕ) (hints : List ℤ) →
     SameSteps log (before ++ Added id [] hints ∷ []) → EndsEmpty log
 same_end [] [] id hints same = cc
 same_end [] (there ∷ before) id hints same = cc

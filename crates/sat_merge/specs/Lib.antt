@@ -1,6 +1,11 @@
 pub mod Hints
+pub mod Known
 pub mod Leaders
+pub mod Lemmas
 pub mod Merging
+pub mod Moved
+pub mod Moving
 pub mod Needed
+pub mod Placing
 pub mod Rewriting
 pub mod Rewritten

@@ -4,9 +4,13 @@
 
 mod expanding;
 mod hints;
+mod known;
 mod leaders;
+mod lemmas;
 mod merged;
+mod moving;
 mod needed;
+mod places;
 mod rewriting;
 mod solving;
 

@@ -1,9 +1,12 @@
 //! The log of a search over leaders, made to one over the formula.
 
-ghost use Rattle.std.specs.Prelude.{◌≡◌, ◌+◌, ◌∷◌, ◌++◌, [], Bool, IfOk, IsTrue, All, List, length};
+ghost use Rattle.std.specs.Prelude.{◌≡◌, ◌+◌, ◌∷◌, ◌++◌, [], Bool, IfOk, IsTrue, OnOk, All, List, length};
+ghost use Rattle.sat_check.specs.Finder.{Finds};
+ghost use Rattle.sat_check.specs.LiveStore.{live_at};
 ghost use Rattle.sat_check.specs.Verdict.{step_of};
 ghost use Rattle.sat_clause.specs.Formula.{Cnf};
-ghost use Rattle.sat_clause.specs.Literal.{IsLiteral};
+ghost use Rattle.sat_clause.specs.Literal.{IsLiteral, IsWithin};
+ghost use Rattle.sat_clause.specs.Live.{Live, put as put_in};
 ghost use Rattle.sat_clause.specs.Step.{Step, Added, Erased};
 ghost use Rattle.sat_core.specs.Stands.{IsAbove};
 ghost use Rattle.sat_merge.specs.Leaders.{keeps};
@@ -24,7 +27,7 @@ fn is_above(id: i64, number: u32) -> bool
 }
 
 /// Whether all numbers are ids above this one.
-fn are_above(ids: &[i64], number: u32) -> bool
+pub(crate) fn are_above(ids: &[i64], number: u32) -> bool
     ensures { IsTrue result → All (IsAbove number) ids.now }
 {
     for id in ids {
@@ -33,6 +36,28 @@ fn are_above(ids: &[i64], number: u32) -> bool
         }
     }
     true
+}
+
+/// Adds a clause to the log and to what is live.
+pub(crate) fn log_clause(
+    live: &mut LiveClauses<'_>,
+    log: &mut Log,
+    id: u32,
+    clause: &[Lit],
+    hints: &[i64],
+) -> Result<(), AllocError>
+    requires within { All (IsWithin live.old.vars) clause.now }
+    requires literals { All IsLiteral clause.now }
+    ensures vars { live.new.vars ≡ live.old.vars }
+    ensures live { OnOk result ((clauses : Live) → Finds (live_at live.old) clauses
+        → Finds (live_at live.new) (put_in clauses id clause.now)) }
+    ensures logged { OnOk result
+        (log.new.steps ≡ log.old.steps ++ Added id clause.now hints.now ∷ []) }
+{
+    log.reserve(1, (clause.len() + hints.len()) as u64)?;
+    live.put(id, clause)?;
+    log.add(id, clause, hints);
+    Ok(())
 }
 
 /// Adds a clause to the log and to what is live, with hints over the formula, if they justify it.
@@ -61,10 +86,7 @@ fn add(
     if !writer.write(leaders, live, clause, hints)? {
         return Ok(false);
     }
-    let written = writer.hints();
-    log.reserve(1, (clause.len() + written.len()) as u64)?;
-    live.put(id, clause)?;
-    log.add(id, clause, written);
+    log_clause(live, log, id, clause, writer.hints())?;
     Ok(true)
 }
 

@@ -1,10 +1,10 @@
 //! The search as a whole.
 
-ghost use Rattle.std.specs.Prelude.{◌≡◌, ◌+◌, ◌≤◌, ℕ, Bool, [], length, IfOk, IfSome, IsNone, IsTrue, Ok, OnErr, Vec};
+ghost use Rattle.std.specs.Prelude.{◌≡◌, ◌+◌, ◌≤◌, ℕ, Bool, [], false, length, IfOk, IfSome, IsNone, IsTrue, Ok, OnErr, Vec};
 ghost use Rattle.std.specs.Global.{Global};
 ghost use Rattle.sat_clause.specs.Formula.{Cnf};
 ghost use Rattle.sat_clause.specs.Learned.{added_count, deletions};
-ghost use Rattle.sat_core.specs.declared.answer.Answer.TheVariants.{Model};
+ghost use Rattle.sat_core.specs.declared.answer.Answer.TheVariants.{Model, Refuted, Spent};
 ghost use Rattle.sat_core.specs.Answer.{IsAnswer, IsDecided, most_added};
 ghost use Rattle.sat_core.specs.SearchLog.{IsSearchLog};
 ghost use Rattle.sat_core.specs.Underway.{HasSearched};
@@ -12,6 +12,7 @@ ghost use Rattle.sat_merge.specs.Leaders.{keeps};
 ghost use Rattle.sat_merge.specs.Rewritten.{IsMerged};
 
 use crate::leaders::Leaders;
+use crate::lemmas::rewrite_refutation;
 use crate::merged::merged;
 use crate::rewriting::rewrite;
 use sat_clause::{Formula, ID_LIMIT, Log, holds};
@@ -60,34 +61,119 @@ fn try_values(
     Ok(Some(Answer::Model(all)))
 }
 
+/// Makes the log of a search over the leaders that refuted their clauses one over the formula, with
+/// lemmas; false where it has no such form, and the log is as it was.
+fn take_refutation(
+    alloc: Global,
+    formula: &Formula,
+    leaders: &Leaders,
+    merged: &Formula,
+    steps: &Log,
+    budget: u64,
+    log: &mut Log,
+) -> Result<bool, AllocError>
+    requires leaders { length leaders.now ≡ formula.now.cnf.vars + 1 }
+    requires merged { IsMerged (keeps leaders.now) formula.now.cnf merged.now.cnf }
+    ensures searched { IfOk result (λ is. IsTrue is → (keep : Bool)
+        → HasSearched merged.now.cnf budget keep steps.now.steps (Ok Refuted)
+        → HasSearched formula.now.cnf budget keep log.new.steps (Ok Refuted)) }
+    ensures same { IfOk result (λ is. is ≡ false → log.new ≡ log.old) }
+{
+    let mut refutation = Log::new(alloc);
+    if !rewrite_refutation(
+        alloc,
+        formula,
+        merged,
+        leaders,
+        steps,
+        budget,
+        &mut refutation,
+    )? {
+        return Ok(false);
+    }
+    *log = refutation;
+    Ok(true)
+}
+
+/// The answer for the formula where the clauses of the leaders are refuted. `None` says that the log
+/// has no form over it.
+fn take_refuted(
+    alloc: Global,
+    formula: &Formula,
+    leaders: &Leaders,
+    merged: &Formula,
+    steps: &Log,
+    budget: u64,
+    log: &mut Log,
+) -> Result<Option<Answer>, AllocError>
+    requires leaders { length leaders.now ≡ formula.now.cnf.vars + 1 }
+    requires merged { IsMerged (keeps leaders.now) formula.now.cnf merged.now.cnf }
+    requires fresh { log.old.steps ≡ [] }
+    ensures searched { IfOk result (λ found. IfSome found (λ now. (keep : Bool)
+        → HasSearched merged.now.cnf budget keep steps.now.steps (Ok Refuted)
+        → HasSearched formula.now.cnf budget keep log.new.steps (Ok now))) }
+    ensures decided { IfOk result (λ found. IfSome found IsDecided) }
+{
+    if take_refutation(alloc, formula, leaders, merged, steps, budget, log)? {
+        return Ok(Some(Answer::Refuted));
+    }
+    if !rewrite(alloc, formula, leaders, steps, log)? {
+        return Ok(None);
+    }
+    Ok(Some(Answer::Refuted))
+}
+
+/// The answer for the formula where the search over the leaders was left open. `None` says that the
+/// log has no form over it.
+fn take_spent(
+    alloc: Global,
+    formula: &Formula,
+    leaders: &Leaders,
+    steps: &Log,
+    log: &mut Log,
+) -> Result<Option<Answer>, AllocError>
+    requires leaders { length leaders.now ≡ formula.now.cnf.vars + 1 }
+    requires fresh { log.old.steps ≡ [] }
+    ensures searched { IfOk result (λ found. IfSome found (λ now. (merged : Cnf) → (budget : ℕ)
+        → (keep : Bool) → IsMerged (keeps leaders.now) formula.now.cnf merged
+        → HasSearched merged budget keep steps.now.steps (Ok Spent)
+        → HasSearched formula.now.cnf budget keep log.new.steps (Ok now))) }
+    ensures decided { IfOk result (λ found. IfSome found (λ now. IsDecided Spent → IsDecided now)) }
+{
+    if !rewrite(alloc, formula, leaders, steps, log)? {
+        return Ok(None);
+    }
+    Ok(Some(Answer::Spent))
+}
+
 /// The answer for the formula where one for the leaders is this. `None` says that its values do not
 /// serve for the formula, or its log has no form over it.
 fn take_answer(
     alloc: Global,
     formula: &Formula,
     leaders: &Leaders,
+    merged: &Formula,
     steps: &Log,
     answer: Answer,
+    budget: u64,
     log: &mut Log,
 ) -> Result<Option<Answer>, AllocError>
     requires leaders { length leaders.now ≡ formula.now.cnf.vars + 1 }
+    requires merged { IsMerged (keeps leaders.now) formula.now.cnf merged.now.cnf }
     requires values { (values : Vec Bool Global) → answer ≡ Model values
         → length values.items ≡ formula.now.cnf.vars }
     requires fresh { log.old.steps ≡ [] }
-    ensures searched { IfOk result (λ found. IfSome found (λ now. (merged : Cnf) → (budget : ℕ)
-        → (keep : Bool) → IsMerged (keeps leaders.now) formula.now.cnf merged
-        → HasSearched merged budget keep steps.now.steps (Ok answer)
+    ensures searched { IfOk result (λ found. IfSome found (λ now. (keep : Bool)
+        → HasSearched merged.now.cnf budget keep steps.now.steps (Ok answer)
         → HasSearched formula.now.cnf budget keep log.new.steps (Ok now))) }
     ensures decided { IfOk result (λ found. IfSome found (λ now.
         IsDecided answer → IsDecided now)) }
 {
-    if let Answer::Model(values) = &answer {
-        return try_values(alloc, formula, leaders, values);
+    match answer {
+        Answer::Model(values) => try_values(alloc, formula, leaders, &values),
+        Answer::Refuted => take_refuted(alloc, formula, leaders, merged, steps, budget, log),
+        Answer::Spent => take_spent(alloc, formula, leaders, steps, log),
     }
-    if !rewrite(alloc, formula, leaders, steps, log)? {
-        return Ok(None);
-    }
-    Ok(Some(answer))
 }
 
 /// What a search over the leaders comes to, with a log over the formula. `None` says that it does
@@ -116,7 +202,7 @@ fn search_leaders(
     let Ok(answer) = solve(alloc, merged, habits, budget, keep, &mut steps) else {
         return Err(AllocError);
     };
-    take_answer(alloc, formula, leaders, &steps, answer, log)
+    take_answer(alloc, formula, leaders, merged, &steps, answer, budget, log)
 }
 
 /// The same search, where most variables follow from others. `None` says that they do not, or some
@@ -163,9 +249,11 @@ fn search_most(
 /// Where most variables follow from others by clauses of two literals, as those of a tree of wires
 /// follow from the ones of its first wire, it searches over those others alone, with the clauses of
 /// the rest made to clauses of theirs. The log is then made one over the formula: the same steps,
-/// whose hints lead through the clauses of two literals, each judged before it is added; and the
-/// values are tried on the formula. Where that fails, or some clause has no form over the others,
-/// the search is one through the formula itself, with habits of its own.
+/// whose hints lead through the clauses of two literals, each judged before it is added. Where the
+/// clauses are refuted, lemmas come before these steps, if the budget has room for them: each merged
+/// clause that is a hint twice or more, with the way to it. Values are tried on the formula. Where
+/// that fails, or some clause has no form over the others, the search is one through the formula
+/// itself, with habits of its own.
 ///
 /// # Errors
 /// Where memory is short. What the log has by then still follows.

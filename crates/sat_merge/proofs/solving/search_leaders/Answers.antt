@@ -15,7 +15,7 @@ pub returns-clause-searched : goal.returns-clause-searched
 returns-clause-searched c =
     IfOk-weaker c.take_answer.result _ _ (λ found says.
     some_weaker _ _ found (λ now is.
-    is c.args.merged.now.cnf c.args.budget c.args.keep c.requires.merged (record {
+    is c.args.keep (record {
       answer = c.in-Ok.ensures.answer;
       logged = c.in-Ok.ensures.logged;
       within = c.in-Ok.ensures.within;
