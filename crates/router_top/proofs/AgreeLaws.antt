@@ -19,7 +19,7 @@ use Rattle.router_top.specs.Method.{HasNone, clauses_by, IsCrowdFor}
 use Rattle.router_top.specs.Placed.{IsJudgement, JudgesPlaced, ReadsRouted}
 use Rattle.router_top.specs.Search.{Search, clauses_held, core_search, route_search, sweep_of, sweep_search, clauses_at}
 use Rattle.router_top.specs.Suited.{IsLeastUnsuited, IsTrueOfSuited, IsUnsuited, Suits, is_suited, obstacle_to}
-use Rattle.router_top.specs.Truth.{Agrees, AreBounds, IsOpenBelow, IsReached, IsTrueAt, IsTrueOf, IsTrueOfEncoding, IsTrueOfJob, IsTrueOfSearch, IsTrueOfSuitedSearch, IsTrueOfWork, IsTrueOfCount, IsTrueBy}
+use Rattle.router_top.specs.Truth.{Agrees, AreBounds, IsOpenBelow, IsReached, IsTrueAt, IsTrueOfEncoding, IsTrueOfJob, IsTrueOfSearch, IsTrueOfSuitedSearch, IsTrueOfWork, IsTrueOfCount, IsTrueBy}
 use Rattle.router_top.specs.Subject.{FileMap, FileNames, IsHalted, RoutingProblem, HasFew, job_of, Blames, Bounds, CheckAsked, Checks, Encodes, Generates, JobAsked, JudgeAsked, Judges, Negotiates, RecipeAsked, Routes, Sweeps, TrialAsked, Tries, Verifies, VerifyAsked, Word, Method, Outcome, Done, NotSymmetric, Undecided, Usage, Narrows}
 use Rattle.router_top.specs.declared.outcome.Obstacle.{Obstacle}
 use Rattle.router_top.proofs.GeneratedLaws.{one-made}

@@ -1,6 +1,6 @@
 -- What keeps a search for a route of a placement from its work is one thing; what is found says a
 -- routing, and two outcomes that are true of the same files agree.
-use Rattle.std.proofs.Common.{◌≡◌, ◌∙◌, ◌⊎◌, ℕ, ◌≤◌, Option, Some, None, sym, subst, inl, inr, refl, arith}
+use Rattle.std.proofs.Common.{◌≡◌, ◌∙◌, ◌⊎◌, ℕ, Option, Some, None, sym, subst, inl, inr, refl, arith}
 use Rattle.std.specs.Prelude.{not}
 use Rattle.desk_io.specs.Files.{HasRisen}
 use Rattle.fpga_problem.proofs.FileLemmas.{one-placed, placed-lack-poses}

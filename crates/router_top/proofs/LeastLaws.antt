@@ -1,6 +1,6 @@
 -- What keeps work on what a placement needs from its end, what its widths tell of each other, and
 -- that two outcomes that are true of the same files agree.
-use Rattle.std.proofs.Common.{◌≡◌, ◌∙◌, ℕ, ◌<◌, ◌≤◌, Option, Some, sym, subst, inl, inr, arith}
+use Rattle.std.proofs.Common.{◌≡◌, ℕ, ◌<◌, ◌≤◌, Option, Some, sym, subst, inl, inr, arith}
 use Rattle.fpga_problem.proofs.FileLemmas.{one-placed}
 use Rattle.fpga_types.specs.Placed.{NetWires}
 use Rattle.fpga_types.specs.Problem.{PlacedNetlist}
@@ -8,7 +8,7 @@ use Rattle.route_bound.specs.Crossing.{IsBound}
 use Rattle.route_bound.specs.Cuts.{IsBestCut}
 use Rattle.route_bound.specs.declared.cut.Cut.{Cut}
 use Rattle.route_judge.specs.Says.{SaysRouting}
-use Rattle.router_top.specs.Global.{EndsUnfound, HasFiles}
+use Rattle.router_top.specs.Global.{HasFiles}
 use Rattle.router_top.specs.Least.{EndsOpen, IsFoundAt, IsTrueOfLeast, IsTrueOfWidths, at_width, beyond_outcome, last_asked}
 use Rattle.router_top.specs.Truth.{Agrees, AreOfOne, IsTrueOfNarrows}
 use Rattle.router_top.specs.declared.narrowing.FoundAt.{FoundAt}
