@@ -2,7 +2,7 @@
 """Reckons how many steps refute a width by counting: python3 bench/counted.py ROUTE WIDTH..
 
 Reads a global route alone and takes switch blocks to be subset ones. Prints for each width the number of steps, or that
-it is not counted out. It shares no code with the router, and is what the cases of crates/problem_rows/data/count.rows
+it is not counted out. It shares no code with the router, and is what the cases of crates/rows/data/problems/count.rows
 were worked out with."""
 import sys
 from math import comb

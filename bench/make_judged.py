@@ -6,7 +6,7 @@
 writes into FOLDER/data the architectures and designs, a routing of each by PROGRAM, and the tables `verify.rows` and
 `reach.rows`, with a line for each change; and FOLDER/judged: how the changed routing of each row is to be judged, of
 `reach.rows` within the reach and then without it; and then as a routing of the placement, with several wires of a cell
-and strictly with one. With these lines the stored output of `problem_rows` ends. They are worked out by `judge.py`.
+and strictly with one. These lines stand in the stored output of `rows`, behind those of `count.rows`. They are worked out by `judge.py`.
 Changes are drawn from a fixed seed.
 
 A row is NAME ARCH DESIGN ROUTED WIDTH FROM TO|LINE|LINE ..: in the routing ROUTED of DESIGN the lines FROM to TO,
@@ -26,7 +26,7 @@ answer_help(__name__, __doc__)
 
 HERE = os.path.dirname(os.path.abspath(__file__))
 BUILT = os.path.join(HERE, "..", "crates", "router", "out", "router")
-DESIGNS = os.path.join(HERE, "..", "crates", "problem_rows", "data")
+DESIGNS = os.path.join(HERE, "..", "crates", "rows", "data", "problems")
 # The architectures and designs that stand there and are not made here.
 GIVEN = ("branch", "global", "half", "junction", "subset", "universal", "wilton")
 SEED = 1

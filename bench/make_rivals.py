@@ -1,5 +1,5 @@
 #!/usr/bin/env python3
-"""Prints clauses, as DIMACS CNF, of nets that want the tracks of one cell: those of `search_rows`.
+"""Prints clauses, as DIMACS CNF, of nets that want the tracks of one cell: those of `searches` in `crates/rows/data`.
 
     make_rivals.py crowd NETS TRACKS
     make_rivals.py traps COUNT [CHAIN]

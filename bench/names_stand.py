@@ -35,7 +35,7 @@ ITEMS = found("src/**/*.rt", r"\b(?:fn|struct|enum|trait|type|const|mod|ghost) (
 CLAUSES = found("src/**/*.rt", r"\bensures (\w+) \{")
 VARIANTS = found("src/**/*.rt", r"(?m)^    ([A-Z]\w+)[,({ ]")
 TESTS = found("src/**/*.rt", r"#\[test\]\s+fn (\w+)")
-ROWS = {os.path.basename(path) for path in glob.glob(f"{TOP}/crates/*/data/*.rows")}
+ROWS = {os.path.basename(path) for path in glob.glob(f"{TOP}/crates/*/data/*/*.rows")}
 IN_GATE = stems("crates/*/must-fail/*.edit")
 APART = stems("bench/edits/*/*.edit")
 

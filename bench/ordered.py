@@ -3,7 +3,7 @@
 
 Reads a global route alone and takes switch blocks to be subset ones, or universal ones, and connection boxes to open
 every track. Prints the head of the CNF file and the clauses behind those without an order. It shares no code with the
-router, and is what the cases of crates/router_rows/data/symmetry.rows were worked out with."""
+router, and is what the cases of crates/rows/data/cases/symmetry.rows were worked out with."""
 import sys
 
 from crowds import Crowds

@@ -3,7 +3,7 @@
 
 Reads a global route alone and takes switch blocks to be subset ones and connection boxes to open every
 track. Prints the head of the CNF file and the clauses behind those without pins. It shares no code with
-the router, and is what the cases of crates/router_rows/data/pinned.rows were worked out with."""
+the router, and is what the cases of crates/rows/data/cases/pinned.rows were worked out with."""
 import sys
 from asked import answer_help
 

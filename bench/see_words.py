@@ -3,7 +3,7 @@
 
     see_words.py PROGRAM [--quiet] [--runs N]
 
-Runs the cases of crates/router_rows/data on files of a folder of its own, those left out in which calls fail or two
+Runs the cases of crates/rows/data/cases on files of a folder of its own, those left out in which calls fail or two
 files have one name, and prints each kind of report that came (its numbers but the code left out) with the words that
 went with it, once. Says last how many runs came out as their case asks: status, standard output, and the bytes of the
 files, where no file that was read has changed; and the words on a width without a routing, or on an open one, as
@@ -21,7 +21,7 @@ import tempfile
 
 from seen_words import words_of
 
-DATA = os.path.join(os.path.dirname(os.path.dirname(os.path.abspath(__file__))), "crates", "router_rows", "data")
+DATA = os.path.join(os.path.dirname(os.path.dirname(os.path.abspath(__file__))), "crates", "rows", "data", "cases")
 FILES = (
     "worked", "pinned", "symmetry", "count", "reach", "within", "failing_calls", "route_texts",
     "limits", "proof_texts", "resolution_logs", "routed_texts", "judged_texts", "members", "core",

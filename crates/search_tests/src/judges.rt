@@ -1,5 +1,5 @@
 //! Logs that are judged as worked out by hand, each by a checker that has its text as a whole. What
-//! is judged line by line is rows of `router_rows`.
+//! is judged line by line is rows of `rows`.
 
 use sat_check::{Verdict, check};
 use sat_clause::{Cause, Lit, Log};

@@ -1,7 +1,7 @@
 //! Tests of what the search for values is made of, and of a search that takes what others have
 //! learned: over public calls alone, so that no crate under test is proved a second time. What
-//! searches answer and log are rows of `search_rows`, and what checkers and texts come to are rows
-//! of `router_rows`, but for the checkers that have a whole log.
+//! searches answer and log, and what checkers and texts come to, are rows of `rows`, but for the
+//! checkers that have a whole log.
 #![tactic(auto)]
 
 #[cfg(test)]

@@ -1,8 +1,0 @@
-use Rattle.std.proofs.Common.{take}
-use Rattle.std.specs.Prelude.{All}
-use Rattle.router_rows.specs.Wanted.{IsMetBy}
-use Rattle.router_rows.proofs.compare.compare_files.Given as goal
-
--- the first files are as they must be
-abbrev pub invariant-loop-file : goal.invariant-loop-file
-invariant-loop-file l = All (IsMetBy l.shelf.files) (take l.file-index l.files)

@@ -1,5 +1,0 @@
-pub mod Cut
-pub mod Parts
-pub mod Played
-pub mod Series
-pub mod Wanted

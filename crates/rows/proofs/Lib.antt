@@ -1,0 +1,3 @@
+pub mod CopyLemmas
+mod HeadLemmas
+pub mod PartLemmas

@@ -1,0 +1,11 @@
+pub mod Cut
+pub mod Fitted
+pub mod Judged
+pub mod Names
+pub mod Parts
+pub mod Played
+pub mod Series
+pub mod Tracks
+pub mod Unread
+pub mod Wanted
+pub mod Width
