@@ -7,7 +7,7 @@ mod progress;
 use crate::progress::TellingShelf;
 use desk_io::{FileDesk, FileShelf};
 use router_says::{SystemErrors, append_words};
-use router_top::{Outcome, run, status};
+use router_top::{Ran, run, status};
 use std::io::IsTerminal;
 use std::process::ExitCode;
 use std::rt::{Env, Files};
@@ -39,11 +39,11 @@ fn say<R: Files + AllocGlobal + Eprint>(
     rt: &R,
     desk: &mut FileDesk<'_, R>,
     words: &[String],
-    outcome: &Outcome,
+    ran: &Ran,
     errors: SystemErrors,
 ) {
     let mut text = String::new(rt.alloc());
-    let said = append_words(rt.alloc(), desk, &mut text, words, outcome, errors);
+    let said = append_words(rt.alloc(), desk, &mut text, words, ran, errors);
     if said.is_ok() && !text.is_empty() {
         let _ = eprint!(rt; "{text}");
     }
@@ -55,12 +55,12 @@ fn main(rt: HostRuntime) -> ExitCode {
     };
     let mut desk = FileDesk::new(&rt);
     let mut shelf = TellingShelf::new(&rt, FileShelf::new(&rt), tells_progress(&rt));
-    let outcome = run(rt.alloc(), &words, &mut desk, &mut shelf);
+    let ran = run(rt.alloc(), &words, &mut desk, &mut shelf);
     let errors = SystemErrors {
         reading: desk.last_error(),
         writing: shelf.shelf().file_error(),
         saying: shelf.shelf().say_error(),
     };
-    say(&rt, &mut desk, &words, &outcome, errors);
-    ExitCode::from(status(&outcome))
+    say(&rt, &mut desk, &words, &ran, errors);
+    ExitCode::from(status(&ran.outcome))
 }

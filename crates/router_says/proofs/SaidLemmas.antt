@@ -2,6 +2,7 @@
 use Rattle.std.proofs.Common.{◌≡◌, ℕ, List, ◌++◌, Option, refl, ap, subst, ◌∙◌, append_assoc}
 use Rattle.std.specs.Prelude.{codes}
 use Rattle.desk_io.specs.DeskState.{DeskState}
+use Rattle.fpga_types.specs.Problem.{RoutingProblem}
 use Rattle.router_says.specs.AtFault.{Appends}
 use Rattle.router_says.specs.Names.{asked_in}
 use Rattle.router_says.specs.Said.{IsSaid, Says, SaysAnd}
@@ -21,11 +22,14 @@ appends-behind IsMore text old between new is more = (
 
 -- a newline behind what is said; the job that was read is what the words ask for
 pub said-whole : (before now : DeskState) (words : List Word) (errors : SystemErrors)
-    (outcome : Outcome) (asked : Option JobAsked) (old between new : List ℕ)
-    → asked ≡ asked_in words → Appends (Says before now words asked errors outcome) old between
-    → new ≡ between ++ codes "\n" → IsSaid before now words errors outcome old new
-said-whole before now words errors outcome asked old between new is says end = (
+    (problem : Option RoutingProblem) (outcome : Outcome) (asked : Option JobAsked)
+    (old between new : List ℕ)
+    → asked ≡ asked_in words
+    → Appends (Says before now words asked errors problem outcome) old between
+    → new ≡ between ++ codes "\n" → IsSaid before now words errors problem outcome old new
+said-whole before now words errors problem outcome asked old between new is says end = (
   says.0,
-  subst (λ (job : Option JobAsked). Says before now words job errors outcome says.0) is says.1,
+  subst (λ (job : Option JobAsked). Says before now words job errors problem outcome says.0) is
+      says.1,
   end ∙ ap (λ (t : List ℕ). t ++ codes "\n") says.2,
 )

@@ -4,6 +4,7 @@ use Rattle.std.specs.declared.io.ErrorKind.{ErrorKind}
 use Rattle.code_words.specs.Errors.{error_phrase}
 use Rattle.code_words.specs.Refused.{judged_said, limit_said, line_said, step_said}
 use Rattle.desk_io.specs.DeskState.{DeskState}
+use Rattle.fpga_types.specs.Problem.{RoutingProblem}
 use Rattle.fpga_types.specs.declared.limits.TheConstants.{WIDTH_LIMIT}
 use Rattle.problem_facts.specs.declared.full.Asymmetry.{Asymmetry}
 use Rattle.problem_facts.specs.declared.full.Asymmetry.TheVariants.{Inputs, Outputs, Pads, Pattern}
@@ -225,48 +226,51 @@ SaysAnd IsMore text said = (more : List ℕ) × IsMore more × (said ≡ text ++
 
 -- what is said of each outcome, up to the newline at its end: which file is meant, what is wrong
 -- there and why, and what can be tried. What is at fault in a file is named, where its code alone
--- does not tell, and of a width what is seen without a search; the files are read once more for it
-abbrev pub Says : (before now : DeskState) → List Word → Option JobAsked → SystemErrors → Outcome
-    → List ℕ → Type 0
-Says before now words asked errors (NotAccepted step cause) said =
+-- does not tell, for which it is read once more; and of a width what is seen without a search of the
+-- problem that was worked on, if one was
+abbrev pub Says : (before now : DeskState) → List Word → Option JobAsked → SystemErrors
+    → Option RoutingProblem → Outcome → List ℕ → Type 0
+Says before now words asked errors problem (NotAccepted step cause) said =
     JustSays before now (about_said asked Lrat ++ step_said step cause) said
-Says before now words asked errors (NotLegal line cause) said =
+Says before now words asked errors problem (NotLegal line cause) said =
     JustSays before now
     (about_said asked Routed
     ++ judged_said (may_have_several asked) line cause) said
-Says before now words asked errors (InputFault file line code) said =
+Says before now words asked errors problem (InputFault file line code) said =
     SaysAnd (NamesSought before now (name_of asked) line (sought_of file code))
     (about_said asked file ++ line_said line code) said
-Says before now words asked errors (Limit file code count) said =
+Says before now words asked errors problem (Limit file code count) said =
     JustSays before now (limit_place asked file ++ limit_said code count) said
-Says before now words asked errors (NotSymmetric width why) said =
+Says before now words asked errors problem (NotSymmetric width why) said =
     JustSays before now (obstacle_said width why) said
-Says before now words asked errors (Unroutable width) said =
-    SaysAnd (Sees before now asked width false) (unroutable_said asked width) said
-Says before now words asked errors (Undecided width learned) said =
-    SaysAnd (Sees before now asked width true) (undecided_said asked width learned) said
-Says before now words asked errors (Bound tracks cells nets) said =
+Says before now words asked errors problem (Unroutable width) said =
+    SaysAnd (Sees problem asked width false) (unroutable_said asked width) said × (now ≡ before)
+Says before now words asked errors problem (Undecided width learned) said =
+    SaysAnd (Sees problem asked width true) (undecided_said asked width learned) said
+    × (now ≡ before)
+Says before now words asked errors problem (Bound tracks cells nets) said =
     JustSays before now (bound_said tracks cells nets) said
-Says before now words asked errors (Narrowed tracks width) said =
+Says before now words asked errors problem (Narrowed tracks width) said =
     JustSays before now (narrowed_said tracks width) said
-Says before now words asked errors (Beyond tracks cells nets) said =
+Says before now words asked errors problem (Beyond tracks cells nets) said =
     JustSays before now (bound_said tracks cells nets) said
-Says before now words asked errors (Unfound width rounds) said =
+Says before now words asked errors problem (Unfound width rounds) said =
     JustSays before now (unfound_said asked width rounds) said
-Says before now words asked errors (NoWay width) said =
+Says before now words asked errors problem (NoWay width) said =
     JustSays before now (no_way_said width) said
-Says before now words asked errors (Usage code) said =
+Says before now words asked errors problem (Usage code) said =
     JustSays before now (usage_said words code) said
-Says before now words asked errors (ReadFault file) said =
+Says before now words asked errors problem (ReadFault file) said =
     JustSays before now (about_said asked file ++ unread_said errors.reading) said
-Says before now words asked errors (WriteFault slot) said =
+Says before now words asked errors problem (WriteFault slot) said =
     JustSays before now (unwritten_said (prefix_of asked) slot errors) said
-Says before now words asked errors OutOfMemory said =
+Says before now words asked errors problem OutOfMemory said =
     JustSays before now (memory_said (prefix_of asked)) said
-Says before now words asked errors _ said = JustSays before now [] said
+Says before now words asked errors problem _ said = JustSays before now [] said
 
 -- after what stood in a text comes what is to be said of a run with these words, and a newline
-abbrev pub IsSaid : (before now : DeskState) → List Word → SystemErrors → Outcome
-    → (old new : List ℕ) → Type 0
-IsSaid before now words errors outcome old new = (said : List ℕ)
-    × Says before now words (asked_in words) errors outcome said × (new ≡ old ++ said ++ codes "\n")
+abbrev pub IsSaid : (before now : DeskState) → List Word → SystemErrors → Option RoutingProblem
+    → Outcome → (old new : List ℕ) → Type 0
+IsSaid before now words errors problem outcome old new = (said : List ℕ)
+    × Says before now words (asked_in words) errors problem outcome said
+    × (new ≡ old ++ said ++ codes "\n")

@@ -2,15 +2,8 @@
 -- are, which net no track serves, and which option helps.
 use Rattle.std.specs.Prelude.{◌≡◌, ◌⊎◌, ℕ, ◌++◌, ◌-◌, ◌&&◌, not, Bool, true, false, nat_le, List, [], length, take, flat_map, codes, decimal, slice_get, Option, Some, None, is_some, if◌then◌else◌}
 use Rattle.std.specs.Option.{option_map_or}
-use Rattle.desk_io.specs.DeskState.{DeskState}
-use Rattle.desk_io.specs.Files.{Bytes}
-use Rattle.fpga_problem.specs.Texts.{AreFaultless, problem_said}
-use Rattle.fpga_problem.specs.declared.text_file.TextFile.TheVariants.{Architecture, Netlist, Placement, Route}
-use Rattle.fpga_text.specs.declared.fault.TextFault.{TextFault}
-use Rattle.fpga_text.specs.declared.fault.TextFault.TheVariants.{Memory}
 use Rattle.fpga_types.specs.Problem.{RoutingProblem}
 use Rattle.fpga_types.specs.Slots.{slots}
-use Rattle.fpga_types.specs.Texts.{Texts}
 use Rattle.fpga_types.specs.declared.grid.Axis.{Axis}
 use Rattle.fpga_types.specs.declared.grid.Axis.TheVariants.{X, Y}
 use Rattle.fpga_types.specs.declared.grid.Cell.{Cell as AnyCell}
@@ -26,13 +19,10 @@ use Rattle.problem_facts.specs.declared.closed_tree.ClosedTree.{ClosedTree}
 use Rattle.route_count.specs.Crowded.{IsCrowded, IsCrowding}
 use Rattle.route_count.specs.declared.crowded.Crowding.{Crowding}
 use Rattle.route_count.specs.declared.crowded.Crowding.TheVariants.{Cell, Crowd}
-use Rattle.router_says.specs.AtFault.{IsRead}
 use Rattle.router_says.specs.NameBytes.{name_said}
-use Rattle.router_says.specs.Names.{name_of, reach_of}
+use Rattle.router_says.specs.Names.{reach_of}
 use Rattle.router_says.specs.declared.seen.Hints.{Hints}
 use Rattle.route_ways.specs.Trimming.{net_name}
-use Rattle.router_top.specs.declared.text_file.TextFile.{TextFile}
-use Rattle.router_top.specs.declared.text_file.TextFile.TheVariants.{Problem}
 use Rattle.router_words.specs.Job.{JobAsked, Routes, Sweeps}
 use Rattle.router_words.specs.declared.method.Method.{Method}
 use Rattle.router_words.specs.declared.method.Method.TheVariants.{Strictly}
@@ -163,63 +153,21 @@ abbrev pub SaysSeenOf : (width : ℕ) → Hints → RoutingProblem → List ℕ 
 SaysSeenOf width hints p said =
     (crowd : List ℕ) × IsCrowd p crowd × SaysSeenBy width hints p crowd said
 
--- of texts that pose a problem, what is seen of it; of others nothing
-abbrev pub SaysSeen : (width : ℕ) → Hints → Option Texts → List ℕ → Type 0
+-- of a problem that was worked on, what is seen of it; else nothing
+abbrev pub SaysSeen : (width : ℕ) → Hints → Option RoutingProblem → List ℕ → Type 0
 SaysSeen width hints None said = said ≡ []
-SaysSeen width hints (Some texts) said =
-    ((¬ AreFaultless texts) × (said ≡ []))
-    ⊎ (AreFaultless texts × SaysSeenOf width hints (problem_said texts) said)
-
--- memory ran out
-abbrev pub is_memory : TextFault → Bool
-is_memory Memory = true
-is_memory _ = false
-
--- the bytes of the four files, where each was read
-pub record FourRead : Type 0 where
-  pub architecture : Option Bytes
-  pub netlist : Option Bytes
-  pub placement : Option Bytes
-  pub route : Option Bytes
-
--- what was read of the files with these names, one after another
-pub record AreRead (before now : DeskState) (names : TextFile → Option Bytes) (four : FourRead)
-    : Type 0 where
-  pub first : DeskState
-  pub second : DeskState
-  pub third : DeskState
-  pub first_same : first.files ≡ before.files
-  pub second_same : second.files ≡ before.files
-  pub third_same : third.files ≡ before.files
-  pub architecture : IsRead before first (names (Problem Architecture)) four.architecture
-  pub netlist : IsRead first second (names (Problem Netlist)) four.netlist
-  pub placement : IsRead second third (names (Problem Placement)) four.placement
-  pub route : IsRead third now (names (Problem Route)) four.route
-
-abbrev pub texts_by : (architecture netlist placement route : Option Bytes) → Option Texts
-texts_by (Some a) (Some n) (Some p) (Some r) =
-    Some (record { architecture = a; netlist = n; placement = p; route = r })
-texts_by _ _ _ _ = None
-
--- the four texts, where each was read
-abbrev pub texts_of : FourRead → Option Texts
-texts_of four = texts_by four.architecture four.netlist four.placement four.route
-
--- what is seen of the problem of the files, which are read once more for it
-pub record Looks (before now : DeskState) (asked : Option JobAsked) (width : ℕ)
-    (is_open : Bool) (said : List ℕ) : Type 0 where
-  pub four : FourRead
-  pub read : AreRead before now (name_of asked) four
-  pub says : SaysSeen width (hints_of asked is_open) (texts_of four) said
+SaysSeen width hints (Some p) said = SaysSeenOf width hints p said
 
 -- numbers speak of a width within the limits, and of a search without a reach
 abbrev pub is_looked_at : (width : ℕ) → Option JobAsked → Bool
 is_looked_at width asked =
     if is_some (reach_of asked) then false else nat_le 1 width && nat_le width WIDTH_LIMIT
 
--- what is said of a width that has no routing or is open, by what is seen without a search
-abbrev pub Sees : (before now : DeskState) → Option JobAsked → (width : ℕ) → (is_open : Bool)
+-- what is said of a width that has no routing or is open, by what is seen of the problem without a
+-- search
+abbrev pub Sees : Option RoutingProblem → Option JobAsked → (width : ℕ) → (is_open : Bool)
     → List ℕ → Type 0
-Sees before now asked width is_open said =
+Sees problem asked width is_open said =
     ((is_looked_at width asked ≡ false) × (said ≡ []))
-    ⊎ ((is_looked_at width asked ≡ true) × Looks before now asked width is_open said)
+    ⊎ ((is_looked_at width asked ≡ true)
+    × SaysSeen width (hints_of asked is_open) problem said)

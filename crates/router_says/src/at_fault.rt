@@ -69,7 +69,7 @@ pub(crate) fn append_at_fault<D: Desk>(
 }
 
 // The bytes of a file, if it is read.
-pub(crate) fn text_of<D: Desk>(
+fn text_of<D: Desk>(
     alloc: Global,
     desk: &mut D,
     name: Option<&str>,

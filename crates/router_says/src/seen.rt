@@ -11,7 +11,6 @@ ghost use Rattle.std.specs.Prelude.{
   false,
   flat_map,
   length,
-  option_map,
   string_bytes,
   take,
 };
@@ -21,7 +20,6 @@ ghost use Rattle.router_says.specs.AtFault.{Appends};
 ghost use Rattle.router_says.specs.Names.{asked};
 ghost use Rattle.router_says.specs.Seen as spec;
 ghost use Rattle.router_says.specs.Seen.{
-  Looks,
   SaysAlone,
   SaysSeen,
   SaysSeenBy,
@@ -34,7 +32,6 @@ ghost use Rattle.router_says.specs.Seen.{
   crowding_said,
   first_cell_said,
   hints_of,
-  is_memory,
   listed,
   net_said,
   nets_said,
@@ -42,19 +39,14 @@ ghost use Rattle.router_says.specs.Seen.{
   pin_said,
   place_said,
   slot_cell_said,
-  texts_by,
   trackless_said,
 };
 ghost use Rattle.router_says.specs.declared.seen.TheConstants.{NAME_LIMIT};
 ghost use Rattle.route_ways.specs.Trimming.{net_name};
 
-use crate::at_fault::text_of;
 use crate::name_bytes::append_name;
-use crate::names::{problem_name, reach_asked};
-use desk_io::Desk;
+use crate::names::reach_asked;
 use fpga_bounds::PlacedProblem;
-use fpga_problem::{FourTexts, TextFile, read_problem};
-use fpga_text::TextFault;
 use fpga_types::{Axis, Cell, PinAt, PinStep, RouteText, WIDTH_LIMIT};
 use problem_facts::{ClosedTree, Facts, is_exchangeable, trackless};
 use route_count::{Crowding, crowded_by};
@@ -75,23 +67,22 @@ pub(crate) struct Hints {
 
 /// Appends what is seen of a width without a search, where no reach was given: which nets want
 /// more tracks than there are, and which option helps; else a net that no track serves alone; else,
-/// where the width is open, which option may help. The files are read once more for it; a job that
-/// reads none is told nothing.
-pub(crate) fn append_seen<D: Desk>(
+/// where the width is open, which option may help. Where no problem was worked on, nothing is said.
+pub(crate) fn append_seen(
     alloc: Global,
-    desk: &mut D,
     out: &mut String,
     job: Option<Job<'_>>,
+    problem: &Option<PlacedProblem>,
     width: u32,
     is_open: bool,
 ) -> Result<(), AllocError>
-    ensures { OnOk result (Appends (Sees (D.state desk.old) (D.state desk.new) (asked job.entry)
-        width is_open) (string_bytes out.old) (string_bytes out.new)) }
+    ensures { OnOk result (Appends (Sees problem.now (asked job.entry) width is_open)
+        (string_bytes out.old) (string_bytes out.new)) }
 {
     if !is_looked_at(job, width) {
         return Ok(());
     }
-    append_looked(alloc, desk, out, job, width, is_open)
+    append_looked(alloc, out, problem, width, hints_of(job, is_open))
 }
 
 // Whether it is looked at: numbers alone say nothing of a search within a reach.
@@ -105,35 +96,22 @@ fn is_looked_at(job: Option<Job<'_>>, width: u32) -> bool
     1 <= width && width <= WIDTH_LIMIT
 }
 
-// Appends what is seen of the problem of the files.
-fn append_looked<D: Desk>(
+// Appends what is seen of the problem, if one was worked on.
+fn append_looked(
     alloc: Global,
-    desk: &mut D,
     out: &mut String,
-    job: Option<Job<'_>>,
+    problem: &Option<PlacedProblem>,
     width: u32,
-    is_open: bool,
+    hints: Hints,
 ) -> Result<(), AllocError>
     requires width { (1 ≤ width) × (width ≤ WIDTH_LIMIT) }
-    ensures { OnOk result (Appends (Looks (D.state desk.old) (D.state desk.new) (asked job.entry)
-        width is_open) (string_bytes out.old) (string_bytes out.new)) }
+    ensures { OnOk result (Appends (SaysSeen width hints problem.now) (string_bytes out.old)
+        (string_bytes out.new)) }
 {
-    let hints = hints_of(job, is_open);
-    let architecture = text_of(alloc, desk, problem_name(job, TextFile::Architecture))?;
-    let netlist = text_of(alloc, desk, problem_name(job, TextFile::Netlist))?;
-    let placement = text_of(alloc, desk, problem_name(job, TextFile::Placement))?;
-    let route = text_of(alloc, desk, problem_name(job, TextFile::Route))?;
-    append_of_files(
-        alloc,
-        out,
-        architecture,
-        netlist,
-        placement,
-        route,
-        width,
-        hints,
-    )?;
-    Ok(())
+    match problem {
+        Some(problem) => append_of_problem(alloc, out, problem, width, hints),
+        None => Ok(()),
+    }
 }
 
 // Which options may help that were not given.
@@ -198,73 +176,6 @@ fn is_strict(method: Method) -> bool
     match method {
         Method::Strictly => true,
         Method::Pinned | Method::Ordered | Method::Within(_) => false,
-    }
-}
-
-// Appends it, if each of the four files was read.
-fn append_of_files(
-    alloc: Global,
-    out: &mut String,
-    architecture: Option<Vec<u8>>,
-    netlist: Option<Vec<u8>>,
-    placement: Option<Vec<u8>>,
-    route: Option<Vec<u8>>,
-    width: u32,
-    hints: Hints,
-) -> Result<(), AllocError>
-    requires width { (1 ≤ width) × (width ≤ WIDTH_LIMIT) }
-    ensures { OnOk result (Appends (SaysSeen width hints (texts_by
-        (option_map (λ bytes. bytes.items) architecture)
-        (option_map (λ bytes. bytes.items) netlist)
-        (option_map (λ bytes. bytes.items) placement) (option_map (λ bytes. bytes.items) route)))
-        (string_bytes out.old) (string_bytes out.new)) }
-{
-    let Some(architecture) = architecture else {
-        return Ok(());
-    };
-    let Some(netlist) = netlist else {
-        return Ok(());
-    };
-    let Some(placement) = placement else {
-        return Ok(());
-    };
-    let Some(route) = route else {
-        return Ok(());
-    };
-    let texts = FourTexts {
-        architecture: &architecture,
-        netlist: &netlist,
-        placement: &placement,
-        route: &route,
-    };
-    append_of_texts(alloc, out, &texts, width, hints)
-}
-
-// Appends it of the problem that these texts pose, if they do.
-fn append_of_texts(
-    alloc: Global,
-    out: &mut String,
-    texts: &FourTexts<'_>,
-    width: u32,
-    hints: Hints,
-) -> Result<(), AllocError>
-    requires width { (1 ≤ width) × (width ≤ WIDTH_LIMIT) }
-    ensures { OnOk result (Appends (SaysSeen width hints (Some texts.now))
-        (string_bytes out.old) (string_bytes out.new)) }
-{
-    match read_problem(alloc, texts) {
-        Ok(problem) => append_of_problem(alloc, out, &problem, width, hints),
-        Err(refusal) => after_refusal(refusal.fault),
-    }
-}
-
-// Nothing is appended of texts that are refused.
-fn after_refusal(fault: TextFault) -> Result<(), AllocError>
-    ensures { OnOk result (is_memory fault ≡ false) }
-{
-    match fault {
-        TextFault::Memory => Err(AllocError),
-        TextFault::Bad { .. } | TextFault::Limit { .. } => Ok(()),
     }
 }
 

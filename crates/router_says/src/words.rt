@@ -29,7 +29,8 @@ use crate::unfound::{append_no_way, append_unfound};
 use crate::unsettled::{append_no_memory, append_undecided, append_unroutable};
 use code_words::{append_judged, append_limit, append_line, append_step};
 use desk_io::Desk;
-use router_top::{Outcome, TextFile, status};
+use fpga_bounds::PlacedProblem;
+use router_top::{Outcome, Ran, TextFile, status};
 use router_words::Job;
 use std::alloc::{AllocError, Global};
 use usage_words::append_usage;
@@ -40,8 +41,8 @@ use usage_words::append_usage;
 /// appends nothing where the run came to what was asked for and no more is to be known of that, and
 /// in each other case something.
 ///
-/// Where a code leaves one searching, or a width has no routing or is open, it reads the files of
-/// the desk once more; else none.
+/// Where a code leaves one searching, it reads the file of the desk once more; else none. Of a width
+/// that has no routing or is open it looks at the problem that the run gives back.
 ///
 /// # Errors
 /// Memory ran out; then a front part may have been appended.
@@ -50,20 +51,20 @@ pub fn append_words<D: Desk>(
     desk: &mut D,
     out: &mut String,
     words: &[String],
-    outcome: &Outcome,
+    ran: &Ran,
     errors: SystemErrors,
 ) -> Result<(), AllocError>
-    ensures quiet { IsTrue (is_quiet outcome.now) →
+    ensures quiet { IsTrue (is_quiet ran.now.outcome) →
         IsOk result × (string_bytes out.new ≡ string_bytes out.old) }
-    ensures said { OnOk result (is_quiet outcome.now ≡ false → IsSaid (D.state desk.old)
-        (D.state desk.new) (words_of words.now) errors outcome.now (string_bytes out.old)
-        (string_bytes out.new)) }
+    ensures said { OnOk result (is_quiet ran.now.outcome ≡ false → IsSaid (D.state desk.old)
+        (D.state desk.new) (words_of words.now) errors ran.now.problem ran.now.outcome
+        (string_bytes out.old) (string_bytes out.new)) }
 {
-    if is_quiet(outcome) {
+    if is_quiet(&ran.outcome) {
         return Ok(());
     }
     let job = job_in(alloc, words)?;
-    append_meaning(alloc, desk, out, words, job, outcome, errors)?;
+    append_meaning(alloc, desk, out, words, job, ran, errors)?;
     out.push_str("\n")?;
     Ok(())
 }
@@ -85,13 +86,14 @@ fn append_meaning<D: Desk>(
     out: &mut String,
     words: &[String],
     job: Option<Job<'_>>,
-    outcome: &Outcome,
+    ran: &Ran,
     errors: SystemErrors,
 ) -> Result<(), AllocError>
     ensures { OnOk result (Appends (Says (D.state desk.old) (D.state desk.new) (words_of words.now)
-        (asked job.entry) errors outcome.now) (string_bytes out.old) (string_bytes out.new)) }
+        (asked job.entry) errors ran.now.problem ran.now.outcome) (string_bytes out.old)
+        (string_bytes out.new)) }
 {
-    match *outcome {
+    match ran.outcome {
         Outcome::NotAccepted { step, cause } => append_refused_step(out, job, step, cause),
         Outcome::NotLegal { line, cause } => append_not_legal(out, job, line, cause),
         Outcome::InputFault { file, line, code } => {
@@ -99,9 +101,9 @@ fn append_meaning<D: Desk>(
         }
         Outcome::Limit { file, code, count } => append_passed_limit(out, job, file, code, count),
         Outcome::NotSymmetric { width, why } => append_obstacle(out, width, why),
-        Outcome::Unroutable { width } => append_refuted(alloc, desk, out, job, width),
+        Outcome::Unroutable { width } => append_refuted(alloc, out, job, &ran.problem, width),
         Outcome::Undecided { width, learned } => {
-            append_left_open(alloc, desk, out, job, width, learned)
+            append_left_open(alloc, out, job, &ran.problem, width, learned)
         }
         Outcome::Bound {
             tracks,
@@ -204,36 +206,36 @@ fn append_passed_limit(
 }
 
 // That no routing of a width is legal, and what is seen of it without a search.
-fn append_refuted<D: Desk>(
+fn append_refuted(
     alloc: Global,
-    desk: &mut D,
     out: &mut String,
     job: Option<Job<'_>>,
+    problem: &Option<PlacedProblem>,
     width: u32,
 ) -> Result<(), AllocError>
-    ensures { OnOk result (Appends (SaysAnd (Sees (D.state desk.old) (D.state desk.new)
-        (asked job.entry) width false) (unroutable_said (asked job.entry) width))
-        (string_bytes out.old) (string_bytes out.new)) }
+    ensures { OnOk result (Appends (SaysAnd (Sees problem.now (asked job.entry) width false)
+        (unroutable_said (asked job.entry) width)) (string_bytes out.old)
+        (string_bytes out.new)) }
 {
     append_unroutable(out, job, width)?;
-    append_seen(alloc, desk, out, job, width, false)?;
+    append_seen(alloc, out, job, problem, width, false)?;
     Ok(())
 }
 
 // That a width is open, what can be tried next, and what is seen of it without a search.
-fn append_left_open<D: Desk>(
+fn append_left_open(
     alloc: Global,
-    desk: &mut D,
     out: &mut String,
     job: Option<Job<'_>>,
+    problem: &Option<PlacedProblem>,
     width: u32,
     learned: u64,
 ) -> Result<(), AllocError>
-    ensures { OnOk result (Appends (SaysAnd (Sees (D.state desk.old) (D.state desk.new)
-        (asked job.entry) width true) (undecided_said (asked job.entry) width learned))
-        (string_bytes out.old) (string_bytes out.new)) }
+    ensures { OnOk result (Appends (SaysAnd (Sees problem.now (asked job.entry) width true)
+        (undecided_said (asked job.entry) width learned)) (string_bytes out.old)
+        (string_bytes out.new)) }
 {
     append_undecided(out, job, width, learned)?;
-    append_seen(alloc, desk, out, job, width, true)?;
+    append_seen(alloc, out, job, problem, width, true)?;
     Ok(())
 }

@@ -2,7 +2,7 @@
 use desk_io::FileDesk;
 use route_sweep::FileSlot;
 use router_says::{SystemErrors, append_words};
-use router_top::{Outcome, Slot, TextFile};
+use router_top::{Outcome, Ran, Slot, TextFile};
 use std::io::ErrorKind;
 use std::test::Fail;
 
@@ -19,12 +19,16 @@ fn said(rt: &HostRuntime, line: &str, outcome: Outcome) -> Result<String, Fail> 
         writing: Some(ErrorKind::StorageFull),
         saying: Some(ErrorKind::BrokenPipe),
     };
+    let ran = Ran {
+        outcome,
+        problem: None,
+    };
     append_words(
         rt.alloc(),
         &mut FileDesk::new(rt),
         &mut out,
         &words,
-        &outcome,
+        &ran,
         errors,
     )?;
     Ok(out)

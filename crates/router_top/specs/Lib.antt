@@ -11,6 +11,7 @@ pub mod Least
 pub mod Means
 pub mod Method
 pub mod Placed
+pub mod Posed
 pub mod Report
 pub mod Run
 pub mod Saying

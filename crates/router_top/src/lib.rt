@@ -21,6 +21,7 @@ mod narrowing;
 mod negotiating;
 mod outcome;
 mod problem_work;
+mod ran;
 mod routing;
 mod running;
 mod size_cause;
@@ -34,6 +35,7 @@ mod verifying;
 mod ways;
 
 pub use outcome::{Obstacle, Outcome, report, status};
+pub use ran::Ran;
 pub use running::run;
 pub use size_cause::SizeCause;
 pub use slot::Slot;

@@ -1,11 +1,12 @@
 //! Work on the problem that four files pose.
-ghost use Rattle.std.specs.Prelude.{◌≡◌};
-ghost use Rattle.fpga_problem.specs.Files.{names_said};
+ghost use Rattle.std.specs.Prelude.{◌≡◌, IfSome};
+ghost use Rattle.fpga_problem.specs.Files.{Poses, names_said};
 ghost use Rattle.fpga_types.specs.Given.{IsGiven};
 ghost use Rattle.router_top.specs.Report.{IsReadFault};
 ghost use Rattle.router_top.specs.Run.{LeavesWork, scene};
 
 use crate::outcome::Outcome;
+use crate::ran::Ran;
 use crate::stopping::unread_outcome;
 use crate::text_file::TextFile;
 use desk_io::{Desk, Shelf};
@@ -34,24 +35,36 @@ pub fn was_given(problem: &PlacedProblem)
     let _route = problem.route();
 }
 
-/// Reads the four files and does the work on their problem. Where they give none, nothing is
-/// written.
+/// Reads the four files and does the work on their problem, which is given back. Where they give
+/// none, nothing is written.
 pub fn work_on<D: Desk, S: Shelf, W: ProblemWork>(
     alloc: Global,
     names: &FourNames<'_>,
     work: &W,
     desk: &mut D,
     shelf: &mut S,
-) -> Outcome
+) -> Ran
     ensures leaves { LeavesWork (names_said names.now) (W.leaves work.now)
         (scene (D.state desk.old) (D.state desk.new) (S.state shelf.old) (S.state shelf.new))
-        result }
+        result.outcome }
     ensures files { (D.state desk.new).files ≡ (D.state desk.old).files }
-    ensures quiet { ¬ IsReadFault result → (D.state desk.new).faults ≡ (D.state desk.old).faults }
+    ensures quiet { ¬ IsReadFault result.outcome
+        → (D.state desk.new).faults ≡ (D.state desk.old).faults }
+    ensures posed { IfSome result.problem
+        (Poses (D.state desk.old).files (names_said names.now)) }
 {
     let problem = match read_files(alloc, desk, names) {
         Ok(problem) => problem,
-        Err(stop) => return unread_outcome(TextFile::Problem(stop.file), stop.fault),
+        Err(stop) => {
+            return Ran {
+                outcome: unread_outcome(TextFile::Problem(stop.file), stop.fault),
+                problem: None,
+            };
+        }
     };
-    work.work(alloc, &problem, shelf)
+    let outcome = work.work(alloc, &problem, shelf);
+    Ran {
+        outcome,
+        problem: Some(problem),
+    }
 }

@@ -1,8 +1,9 @@
 //! The whole work: from words and files in to files out.
-ghost use Rattle.std.specs.Prelude.{◌≡◌};
+ghost use Rattle.std.specs.Prelude.{◌≡◌, IfSome};
 ghost use Rattle.router_words.specs.Word.{words_of};
 ghost use Rattle.router_top.specs.JobFiles.{LeavesFiles};
 ghost use Rattle.router_top.specs.Means.{Means};
+ghost use Rattle.router_top.specs.Posed.{IsPosed};
 ghost use Rattle.router_top.specs.Report.{IsReadFault, unsaid};
 ghost use Rattle.router_top.specs.Run.{Leaves, Reports, Runs, scene};
 ghost use Rattle.router_top.specs.Saying.{Speaks};
@@ -16,6 +17,7 @@ use crate::narrowing::narrow_files;
 use crate::negotiating::negotiate_files;
 use crate::outcome::{Outcome, report};
 use crate::problem_work::work_on;
+use crate::ran::Ran;
 use crate::slot::Slot;
 use crate::suited::Suited;
 use crate::trying::trial;
@@ -24,13 +26,26 @@ use desk_io::{Desk, Shelf};
 use router_words::{Job, WordsFault, read_words};
 use std::alloc::Global;
 
+// What a run comes to that works on no problem.
+fn without_problem(outcome: Outcome) -> Ran
+    ensures { result ≡ record { outcome = outcome; problem = None } }
+{
+    Ran {
+        outcome,
+        problem: None,
+    }
+}
+
 // The work that the words ask for, but for the report.
-fn work<D: Desk, S: Shelf>(alloc: Global, words: &[String], desk: &mut D, shelf: &mut S) -> Outcome
+fn work<D: Desk, S: Shelf>(alloc: Global, words: &[String], desk: &mut D, shelf: &mut S) -> Ran
     ensures leaves { Leaves (words_of words.now)
         (scene (D.state desk.old) (D.state desk.new) (S.state shelf.old) (S.state shelf.new))
-        result }
+        result.outcome }
     ensures files { (D.state desk.new).files ≡ (D.state desk.old).files }
-    ensures quiet { ¬ IsReadFault result → (D.state desk.new).faults ≡ (D.state desk.old).faults }
+    ensures quiet { ¬ IsReadFault result.outcome
+        → (D.state desk.new).faults ≡ (D.state desk.old).faults }
+    ensures posed { IfSome result.problem
+        (IsPosed (D.state desk.old).files (words_of words.now)) }
 {
     match read_words(alloc, words) {
         Ok(Job::Route(job)) => {
@@ -61,16 +76,16 @@ fn work<D: Desk, S: Shelf>(alloc: Global, words: &[String], desk: &mut D, shelf:
             work_on(alloc, &job.files, &work, desk, shelf)
         }
         Ok(Job::Core(job)) => work_on(alloc, &job.files, &job, desk, shelf),
-        Ok(Job::Check(job)) => check_files(alloc, &job, desk),
-        Ok(Job::Verify(job)) => verify_file(alloc, &job, desk),
-        Ok(Job::Judge(job)) => judge_file(alloc, &job, desk),
-        Ok(Job::Bound(job)) => bound_files(alloc, &job, desk, shelf),
-        Ok(Job::Global(job)) => negotiate_files(alloc, &job, desk, shelf),
-        Ok(Job::Least(job)) => narrow_files(alloc, &job, desk, shelf),
-        Ok(Job::Gen(job)) => generate_files(alloc, &job, shelf),
-        Ok(Job::Trial(job)) => trial(alloc, &job, shelf),
-        Err(WordsFault::Refused(cause)) => Outcome::Usage { code: cause.code() },
-        Err(WordsFault::Memory) => Outcome::OutOfMemory,
+        Ok(Job::Check(job)) => without_problem(check_files(alloc, &job, desk)),
+        Ok(Job::Verify(job)) => without_problem(verify_file(alloc, &job, desk)),
+        Ok(Job::Judge(job)) => without_problem(judge_file(alloc, &job, desk)),
+        Ok(Job::Bound(job)) => without_problem(bound_files(alloc, &job, desk, shelf)),
+        Ok(Job::Global(job)) => without_problem(negotiate_files(alloc, &job, desk, shelf)),
+        Ok(Job::Least(job)) => without_problem(narrow_files(alloc, &job, desk, shelf)),
+        Ok(Job::Gen(job)) => without_problem(generate_files(alloc, &job, shelf)),
+        Ok(Job::Trial(job)) => without_problem(trial(alloc, &job, shelf)),
+        Err(WordsFault::Refused(cause)) => without_problem(Outcome::Usage { code: cause.code() }),
+        Err(WordsFault::Memory) => without_problem(Outcome::OutOfMemory),
     }
 }
 
@@ -150,23 +165,24 @@ fn say_report<S: Shelf>(shelf: &mut S, outcome: Outcome) -> Outcome
 ///
 /// After want of memory the files of a `sweep` or a `trial` are those of lower widths, and of
 /// another command there is none. The files of the desk stay in any case.
-pub fn run<D: Desk, S: Shelf>(
-    alloc: Global,
-    words: &[String],
-    desk: &mut D,
-    shelf: &mut S,
-) -> Outcome
+///
+/// The problem that `route`, `sweep`, `encode` and `core` worked on is given back with the outcome,
+/// so that more can be said of it.
+pub fn run<D: Desk, S: Shelf>(alloc: Global, words: &[String], desk: &mut D, shelf: &mut S) -> Ran
     ensures means { Means (words_of words.now) (D.state desk.old).files (S.state shelf.old).files
-        (S.state shelf.new).files result }
+        (S.state shelf.new).files result.outcome }
     ensures runs { Runs (words_of words.now) (D.state desk.old) (D.state desk.new)
-        (S.state shelf.old) (S.state shelf.new) result }
+        (S.state shelf.old) (S.state shelf.new) result.outcome }
     ensures files { LeavesFiles (words_of words.now) (D.state desk.old).files
-        (S.state shelf.old).files (S.state shelf.new).files result }
+        (S.state shelf.old).files (S.state shelf.new).files result.outcome }
     ensures says { Speaks (words_of words.now) (D.state desk.old).files (S.state shelf.old)
-        (S.state shelf.new) result }
+        (S.state shelf.new) result.outcome }
     ensures complete { IsComplete (words_of words.now) (D.state desk.old) (D.state desk.new)
-        (S.state shelf.old) (S.state shelf.new) result }
+        (S.state shelf.old) (S.state shelf.new) result.outcome }
+    ensures posed { IfSome result.problem
+        (IsPosed (D.state desk.old).files (words_of words.now)) }
 {
-    let outcome = work(alloc, words, desk, shelf);
-    say_report(shelf, outcome)
+    let Ran { outcome, problem } = work(alloc, words, desk, shelf);
+    let outcome = say_report(shelf, outcome);
+    Ran { outcome, problem }
 }

@@ -13,7 +13,7 @@ use crate::cases::series::{Failing, Series};
 use crate::cases::stop::{LineFault, RowStop};
 use crate::cases::texts::{Texts, is_of_text};
 use desk_io::{MemDesk, MemShelf};
-use router_top::{Outcome as Answer, run};
+use router_top::{Outcome as Answer, Ran, run};
 use std::alloc::Global;
 
 // Where the lines of a text go.
@@ -169,7 +169,7 @@ impl Row {
     {
         let mut desk = MemDesk::new(self.alloc, self.files.clone()?, desk_fails);
         let mut shelf = MemShelf::new(self.alloc, shelf_fails);
-        let outcome = run(self.alloc, &self.words, &mut desk, &mut shelf);
+        let Ran { outcome, .. } = run(self.alloc, &self.words, &mut desk, &mut shelf);
         Ok((outcome, shelf))
     }
 

@@ -2,4 +2,4 @@ use Rattle.router_says.proofs.SaidLemmas.{appends-behind}
 use Rattle.router_says.proofs.words.append_refuted.Goals as goal
 
 pub returns : goal.returns
-returns g c = appends-behind _ _ _ _ _ c.in_ok-append_unroutable.ensures c.in_ok-append_seen.ensures
+returns c = appends-behind _ _ _ _ _ c.in_ok-append_unroutable.ensures c.in_ok-append_seen.ensures

@@ -13,15 +13,15 @@ returns g c =
     let desk = g.D.Desk.state c.args.desk.now in
     let desk_now = g.D.Desk.state c.work-outcome.new.desk in
     let shelf = g.S.Shelf.state c.args.shelf.now in
-    let shelf_now = g.S.Shelf.state c.say_report.new.shelf in
-    let answer = c.say_report.result in
+    let shelf_now = g.S.Shelf.state c.say_report-outcome.new.shelf in
+    let answer = c.say_report-outcome.result in
     let ran : Runs words desk desk_now shelf shelf_now answer = record {
-      outcome = c.work-outcome.result;
+      outcome = c.work-outcome.result.outcome;
       between = g.S.Shelf.state c.work-outcome.new.shelf;
       leaves = c.work-outcome.ensures.leaves;
       files_stay = c.work-outcome.ensures.files;
       quiet = c.work-outcome.ensures.quiet;
-      reports = c.say_report.ensures;
+      reports = c.say_report-outcome.ensures;
     } in
     let came = leaves-came words (scene desk desk_now shelf ran.between) ran.outcome ran.leaves in
     record {
@@ -30,4 +30,5 @@ returns g c =
       files = runs-leave words desk desk_now shelf shelf_now answer ran came;
       says = runs-speak words desk desk_now shelf shelf_now answer ran came;
       complete = runs-complete words desk desk_now shelf shelf_now answer ran came;
+      posed = c.work-outcome.ensures.posed;
     }

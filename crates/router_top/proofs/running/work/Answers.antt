@@ -1,4 +1,5 @@
 use Rattle.std.proofs.Common.{inr, refl}
+use Rattle.std.proofs.lemmas.Option.{IfSome_then}
 use Rattle.router_top.proofs.running.work.Goals as goal
 
 pub returns-in-Ok-Route-clause-leaves : goal.returns-in-Ok-Route-clause-leaves
@@ -19,27 +20,27 @@ returns-in-Ok-Sweep-clause-leaves g c =
 pub returns-in-Ok-Verify-clause-leaves : goal.returns-in-Ok-Verify-clause-leaves
 returns-in-Ok-Verify-clause-leaves g c =
     let asked = rw c.in-Ok-Verify.field-0-is at c.in-Ok-Verify.ensures.answers in
-    inr (rw asked (c.verify_file.ensures.verifies, refl))
+    rw c.without_problem-in-Ok-Verify.ensures (inr (rw asked (c.verify_file.ensures.verifies, refl)))
 
 pub returns-in-Ok-Judge-clause-leaves : goal.returns-in-Ok-Judge-clause-leaves
 returns-in-Ok-Judge-clause-leaves g c =
     let asked = rw c.in-Ok-Judge.field-0-is at c.in-Ok-Judge.ensures.answers in
-    inr (rw asked (c.judge_file.ensures.judges, refl))
+    rw c.without_problem-in-Ok-Judge.ensures (inr (rw asked (c.judge_file.ensures.judges, refl)))
 
 pub returns-in-Ok-Bound-clause-leaves : goal.returns-in-Ok-Bound-clause-leaves
 returns-in-Ok-Bound-clause-leaves g c =
     let asked = rw c.in-Ok-Bound.field-0-is at c.in-Ok-Bound.ensures.answers in
-    inr (rw asked c.bound_files.ensures.bounds)
+    rw c.without_problem-in-Ok-Bound.ensures (inr (rw asked c.bound_files.ensures.bounds))
 
 pub returns-in-Ok-Gen-clause-leaves : goal.returns-in-Ok-Gen-clause-leaves
 returns-in-Ok-Gen-clause-leaves g c =
     let asked = rw c.in-Ok-Gen.field-0-is at c.in-Ok-Gen.ensures.answers in
-    inr (rw asked (c.generate_files.ensures, refl))
+    rw c.without_problem-in-Ok-Gen.ensures (inr (rw asked (c.generate_files.ensures, refl)))
 
 pub returns-in-Ok-Trial-clause-leaves : goal.returns-in-Ok-Trial-clause-leaves
 returns-in-Ok-Trial-clause-leaves g c =
     let asked = rw c.in-Ok-Trial.field-0-is at c.in-Ok-Trial.ensures.answers in
-    inr (rw asked (c.trial.ensures, refl))
+    rw c.without_problem-in-Ok-Trial.ensures (inr (rw asked (c.trial.ensures, refl)))
 
 pub returns-in-Ok-Core-clause-leaves : goal.returns-in-Ok-Core-clause-leaves
 returns-in-Ok-Core-clause-leaves g c =
@@ -49,14 +50,38 @@ returns-in-Ok-Core-clause-leaves g c =
 pub returns-in-Ok-Check-clause-leaves : goal.returns-in-Ok-Check-clause-leaves
 returns-in-Ok-Check-clause-leaves g c =
     let asked = rw c.in-Ok-Check.field-0-is at c.in-Ok-Check.ensures.answers in
-    inr (rw asked (c.check_files.ensures.checks, refl))
+    rw c.without_problem.ensures (inr (rw asked (c.check_files.ensures.checks, refl)))
 
 pub returns-in-Ok-Global-clause-leaves : goal.returns-in-Ok-Global-clause-leaves
 returns-in-Ok-Global-clause-leaves g c =
     let asked = rw c.in-Ok-Global.field-0-is at c.in-Ok-Global.ensures.answers in
-    inr (rw asked c.negotiate_files.ensures.leaves)
+    rw c.without_problem-in-Ok-Global.ensures (inr (rw asked c.negotiate_files.ensures.leaves))
 
 pub returns-in-Ok-Least-clause-leaves : goal.returns-in-Ok-Least-clause-leaves
 returns-in-Ok-Least-clause-leaves g c =
     let asked = rw c.in-Ok-Least.field-0-is at c.in-Ok-Least.ensures.answers in
-    inr (rw asked c.narrow_files.ensures.leaves)
+    rw c.without_problem-in-Ok-Least.ensures (inr (rw asked c.narrow_files.ensures.leaves))
+
+pub returns-in-Ok-Route-clause-posed : goal.returns-in-Ok-Route-clause-posed
+returns-in-Ok-Route-clause-posed g c =
+    let asked = rw c.in-Ok-Route.field-0-is at c.in-Ok-Route.ensures.answers in
+    IfSome_then c.work_on.result.problem c.work_on.ensures.posed
+    (λ p poses. (_, _, asked, refl, poses))
+
+pub returns-in-Ok-Encode-clause-posed : goal.returns-in-Ok-Encode-clause-posed
+returns-in-Ok-Encode-clause-posed g c =
+    let asked = rw c.in-Ok-Encode.field-0-is at c.in-Ok-Encode.ensures.answers in
+    IfSome_then c.work_on-in-Ok-Encode.result.problem c.work_on-in-Ok-Encode.ensures.posed
+    (λ p poses. (_, _, asked, refl, poses))
+
+pub returns-in-Ok-Sweep-clause-posed : goal.returns-in-Ok-Sweep-clause-posed
+returns-in-Ok-Sweep-clause-posed g c =
+    let asked = rw c.in-Ok-Sweep.field-0-is at c.in-Ok-Sweep.ensures.answers in
+    IfSome_then c.work_on-in-Ok-Sweep.result.problem c.work_on-in-Ok-Sweep.ensures.posed
+    (λ p poses. (_, _, asked, refl, poses))
+
+pub returns-in-Ok-Core-clause-posed : goal.returns-in-Ok-Core-clause-posed
+returns-in-Ok-Core-clause-posed g c =
+    let asked = rw c.in-Ok-Core.field-0-is at c.in-Ok-Core.ensures.answers in
+    IfSome_then c.work_on-in-Ok-Core.result.problem c.work_on-in-Ok-Core.ensures.posed
+    (λ p poses. (_, _, asked, refl, poses))
