@@ -23,7 +23,7 @@ pub enum LineKind {
 
 /// On which sides of a cut something lies; what is at the cut alone lies on both.
 #[derive(Clone, Copy)]
-pub(crate) struct Standing {
+pub struct Standing {
     pub inside: bool,
     pub outside: bool,
 }
@@ -76,7 +76,7 @@ impl CornerRange {
     }
 
     /// On which sides of the cut round these corners a cell lies.
-    pub(crate) fn standing(self, cell: Cell) -> Standing
+    pub fn standing(self, cell: Cell) -> Standing
         ensures inside { result.inside ≡ has_corner_in (corners_of self) cell }
         ensures outside { result.outside ≡ has_corner_out (corners_of self) cell }
     {

@@ -120,7 +120,7 @@ pub(crate) fn sides_by_pin(alloc: Global, pins: &[PinSpec]) -> Result<Vec<SideSe
 }
 
 /// The sides that a class has pins on which take ordinary nets.
-fn class_sides(pins: &[PinSpec], class: u32) -> SideSet
+pub(crate) fn class_sides(pins: &[PinSpec], class: u32) -> SideSet
     ensures { result ≡ spec_class_sides pins.now class }
 {
     SideSet {
