@@ -1,6 +1,11 @@
 pub mod ClauseLemmas
+pub mod ExtendLemmas
+pub mod FindingLemmas
+pub mod NearLemmas
 pub mod PinLemmas
 pub mod RoutedLemmas
-pub mod Rows
 pub mod RowLemmas
+pub mod Rows
+pub mod SizeLemmas
 pub mod ValueLemmas
+pub mod WithinLemmas

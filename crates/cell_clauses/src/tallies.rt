@@ -31,8 +31,30 @@ impl Sizes {
         self.nets * self.cells + (self.nets + 1) * self.cells * self.width
     }
 
+    /// How many clauses count the nets.
+    pub(crate) fn clause_count(self) -> u32
+        ensures { result ≡ self.nets * self.cells + self.nets * self.cells * self.width * 2 }
+    {
+        self.nets * self.cells + self.counted() * 2
+    }
+
+    /// How many literals these clauses have, at most.
+    pub(crate) fn lit_count(self) -> u64
+        ensures { result ≡ self.nets * self.cells * 2 + self.nets * self.cells * self.width * 5 }
+    {
+        u64::from(self.nets * self.cells) * 2 + u64::from(self.counted()) * 5
+    }
+
+    /// How often a net is counted at a cell and a track.
+    fn counted(self) -> u32
+        ensures value { result ≡ self.nets * self.cells * self.width }
+        ensures few { self.nets * self.cells + result ≤ VARIABLE_LIMIT }
+    {
+        self.nets * self.cells * self.width
+    }
+
     /// The variable that says that a net uses a cell, by its place from 0 on.
-    fn use_place(self, net: u32, cell: u32) -> u32
+    pub(crate) fn use_place(self, net: u32, cell: u32) -> u32
         requires net { net < self.nets }
         requires cell { cell < self.cells }
         ensures value { result ≡ use_at self.cells net cell }
@@ -56,7 +78,7 @@ impl Sizes {
 }
 
 /// The literal that says what the variable at a place does.
-fn has_lit(place: u32) -> Lit
+pub(crate) fn has_lit(place: u32) -> Lit
     requires { place < VARIABLE_LIMIT }
     ensures { result ≡ has place }
 {
@@ -66,7 +88,7 @@ fn has_lit(place: u32) -> Lit
 }
 
 /// Its negation.
-fn lacks_lit(place: u32) -> Lit
+pub(crate) fn lacks_lit(place: u32) -> Lit
     requires { place < VARIABLE_LIMIT }
     ensures { result ≡ lacks place }
 {

@@ -1,0 +1,10 @@
+-- the clauses so far were added
+use Rattle.std.specs.Prelude.{map, take}
+use Rattle.cell_clauses.specs.Adding.{Extends}
+use Rattle.cell_clauses.specs.Clauses.{enters_by}
+use Rattle.cell_clauses.specs.Held.{frame_in}
+use Rattle.cell_clauses.proofs.frame.PlacedWindow.add_by_pins.Given as goal
+
+abbrev pub invariant-loop-pin : goal.invariant-loop-pin
+invariant-loop-pin l = Extends l.initial.formula
+    (map (enters_by (frame_in l.self) (l.place, l.arrival)) (take l.pin-index l.pins)) l.formula
