@@ -1,0 +1,8 @@
+//! How many tracks no routing of a placement has, by a search through clauses over the cells of
+//! windows.
+#![tactic(auto)]
+
+mod refuting;
+mod windows;
+
+pub use refuting::{Budget, CellRefutation, LEARNED_LIMIT, refute};

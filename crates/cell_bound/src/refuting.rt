@@ -1,0 +1,193 @@
+//! Windows that are refuted.
+ghost use Rattle.std.specs.Prelude.{◌≤◌, IfOk, IfSome, length};
+ghost use Rattle.cell_bound.specs.Refutations.{IsFoundFor, IsRefuted};
+ghost use Rattle.cell_bound.specs.declared.refuting.TheConstants.{LEARNED_LIMIT};
+ghost use Rattle.fpga_types.specs.declared.limits.TheConstants.{NET_LIMIT, PIN_LIMIT, WIDTH_LIMIT};
+ghost use Rattle.route_bound.specs.Placed.{placed_netlist};
+
+use crate::windows::{first_size, last_size, square, stride};
+use cell_clauses::PlacedWindow;
+use fpga_types::{Arch, Netlist, Placement};
+use route_bound::CornerRange;
+use sat_clause::{Formula, ID_LIMIT, Log};
+use sat_core::{Answer, Habits, solve};
+use std::alloc::{AllocError, Global};
+
+/// How many clauses a search through a window may learn at the most.
+pub const LEARNED_LIMIT: u64 = 100_000_000;
+
+/// How much is looked for: how many windows of each size, about, and how many clauses the search
+/// through one learns at the most, from 1 to 100,000,000.
+#[derive(Clone, Copy)]
+pub struct Budget {
+    pub looks: u32,
+    pub learned: u64,
+    ghost some: { 1 ≤ learned },
+    ghost most: { learned ≤ LEARNED_LIMIT },
+}
+
+/// Why no routing of a placement has some number of tracks or fewer: the clauses over the cells of
+/// the window of a rectangle of corners, and a log that refutes them.
+#[derive(Drop)]
+pub struct CellRefutation {
+    pub range: CornerRange,
+    pub formula: Formula,
+    pub log: Log,
+}
+
+/// A placed netlist, lent, with a number of tracks, and how much is looked for.
+#[derive(Drop)]
+struct Looks<'a> {
+    arch: &'a Arch,
+    netlist: &'a Netlist,
+    placement: &'a Placement,
+    width: u32,
+    budget: Budget,
+    ghost few_nets: { length netlist.now.nets ≤ NET_LIMIT },
+    ghost few_pins: { length arch.now.pins ≤ PIN_LIMIT },
+    ghost some: { 1 ≤ width },
+    ghost most: { width ≤ WIDTH_LIMIT },
+}
+
+/// A refutation over cells that says that no routing of a placement has `width` tracks, from 1 to
+/// 64, or fewer: that of the first window that a search refutes. Windows are those round squares of
+/// blocks, the smallest squares first, so many of each size as the budget says, all over the array.
+/// None says nothing.
+///
+/// # Errors
+/// Where memory is short.
+pub fn refute(
+    alloc: Global,
+    arch: &Arch,
+    netlist: &Netlist,
+    placement: &Placement,
+    width: u32,
+    budget: Budget,
+) -> Result<Option<CellRefutation>, AllocError>
+    requires nets { length netlist.now.nets ≤ NET_LIMIT }
+    requires pins { length arch.now.pins ≤ PIN_LIMIT }
+    requires some { 1 ≤ width }
+    requires most { width ≤ WIDTH_LIMIT }
+    ensures { IfOk result (λ found. IfSome found
+        (IsRefuted (placed_netlist arch.now netlist.now placement.now) width)) }
+{
+    let looks = Looks {
+        arch,
+        netlist,
+        placement,
+        width,
+        budget,
+    };
+    for size in first_size()..last_size(placement.grid) + 1 {
+        let found = looks.refuted_of_size(alloc, size)?;
+        if found.is_some() {
+            return Ok(found);
+        }
+    }
+    Ok(None)
+}
+
+impl<'a> Looks<'a> {
+    /// The first window round squares of so many blocks that is refuted.
+    fn refuted_of_size(
+        &self,
+        alloc: Global,
+        size: u32,
+    ) -> Result<Option<CellRefutation>, AllocError>
+        ensures { IfOk result (λ found. IfSome found (IsRefuted
+            (placed_netlist self.now.arch.now self.now.netlist.now self.now.placement.now)
+            self.now.width)) }
+    {
+        let placement = self.placement;
+        let grid = placement.grid;
+        let stride = stride(grid, self.budget.looks);
+        for column in 0..grid.nx {
+            let found = self.refuted_in_column(alloc, size, stride, column.saturating_mul(stride))?;
+            if found.is_some() {
+                return Ok(found);
+            }
+        }
+        Ok(None)
+    }
+
+    /// The first one in a column of squares.
+    fn refuted_in_column(
+        &self,
+        alloc: Global,
+        size: u32,
+        stride: u32,
+        left: u32,
+    ) -> Result<Option<CellRefutation>, AllocError>
+        ensures { IfOk result (λ found. IfSome found (IsRefuted
+            (placed_netlist self.now.arch.now self.now.netlist.now self.now.placement.now)
+            self.now.width)) }
+    {
+        let placement = self.placement;
+        let grid = placement.grid;
+        for row in 0..grid.ny {
+            let bottom = row.saturating_mul(stride);
+            let Some(range) = square(grid, size, left, bottom) else {
+                return Ok(None);
+            };
+            let found = self.refuted_window(alloc, range)?;
+            if found.is_some() {
+                return Ok(found);
+            }
+        }
+        Ok(None)
+    }
+
+    /// What refutes the window of a rectangle, if a search does.
+    fn refuted_window(
+        &self,
+        alloc: Global,
+        range: CornerRange,
+    ) -> Result<Option<CellRefutation>, AllocError>
+        ensures { IfOk result (λ found. IfSome found (IsRefuted
+            (placed_netlist self.now.arch.now self.now.netlist.now self.now.placement.now)
+            self.now.width)) }
+    {
+        let window = PlacedWindow::of(
+            alloc,
+            self.arch,
+            self.netlist,
+            self.placement,
+            range,
+            self.width,
+        )?;
+        let Some(window) = window else {
+            return Ok(None);
+        };
+        // So few nets could all have all cells.
+        if window.net_count() <= self.width {
+            return Ok(None);
+        }
+        let formula = window.formula(alloc)?;
+        refuted_formula(alloc, range, formula, self.budget)
+    }
+}
+
+/// What refutes the formula of a rectangle's window, if a search does.
+fn refuted_formula(
+    alloc: Global,
+    range: CornerRange,
+    formula: Formula,
+    budget: Budget,
+) -> Result<Option<CellRefutation>, AllocError>
+    ensures { IfOk result (λ found. IfSome found (IsFoundFor range formula.cnf)) }
+{
+    if u64::from(ID_LIMIT - formula.len()) < budget.learned {
+        return Ok(None);
+    }
+    let habits = Habits::usual();
+    let mut log = Log::new(alloc);
+    let answer = solve(alloc, &formula, habits, budget.learned, true, &mut log)?;
+    match answer {
+        Answer::Refuted => Ok(Some(CellRefutation {
+            range,
+            formula,
+            log,
+        })),
+        Answer::Model(_) | Answer::Spent => Ok(None),
+    }
+}
