@@ -1,4 +1,5 @@
-//! The phrases, each once: what is said of a code, of a refused step and of an error of the system.
+//! The phrases, each once: what is said of a code, of a refused step, of an error of the system and
+//! of a file that is of another kind.
 
 // A line of an architecture.
 pub const ARCHITECTURE_MISSING_LINE: &str =
@@ -31,15 +32,16 @@ pub const ARCHITECTURE_REPEATED: &str = "this keyword stands on an earlier line"
 pub const ARCHITECTURE_SPARSE_SEGMENT: &str = "a segment with Frac_cb or Frac_sb that is not 1";
 
 // A line of a netlist.
-pub const NETLIST_LINE_FORM: &str = "a line of no form, or one that may not stand here";
+pub const NETLIST_LINE_FORM: &str =
+    "due are .global NETS, and .input NAME, .output NAME or .clb NAME, right below it \
+    pinlist: NETS, and below that of a .clb subblock: lines";
 
 pub const NETLIST_PIN_COUNT: &str =
     "a pinlist without exactly one word for each pin, or a pad on open";
 
 pub const NETLIST_SAME_NAME: &str = "an earlier block has this name";
 
-pub const NETLIST_DRIVERS: &str =
-    "this pinlist gives a net a second driver, or the file ends and a net has none";
+pub const NETLIST_DRIVERS: &str = "each net that is not global is to have exactly one driver";
 
 pub const NETLIST_NO_SINK: &str = "the file ends, and a net has no sink";
 
@@ -52,7 +54,9 @@ pub const NETLIST_NO_PINLIST: &str = "a block without its pinlist";
 pub const NETLIST_PAST_LIMIT: &str = "more blocks or more nets than are taken";
 
 // A line of a placement.
-pub const PLACEMENT_HEAD_FORM: &str = "a head line of another form, or none";
+pub const PLACEMENT_HEAD_FORM: &str =
+    "due first is Netlist file: NAME Architecture file: NAME, and below it \
+    Array size: X x Y logic blocks";
 
 pub const PLACEMENT_NO_NUMBER: &str =
     "a number is due here, and there is none or it is out of its range";
@@ -71,9 +75,12 @@ pub const PLACEMENT_SHARED_SPOT: &str = "an earlier block stands here";
 pub const PLACEMENT_PAST_LIMIT: &str = "an array that is larger than is taken";
 
 // A line of a route.
-pub const ROUTE_HEAD_FORM: &str = "a head line of another form, or none";
+pub const ROUTE_HEAD_FORM: &str =
+    "due first is Array size: X x Y logic blocks, and below it Routing: alone on a line";
 
-pub const ROUTE_LINE_FORM: &str = "a line of no form, or a Block line outside of a global net";
+pub const ROUTE_LINE_FORM: &str =
+    "due are Net N (NAME), below it elements as CHANX (X,Y) Track: N, and \
+    Net N (NAME): global net connecting: with Block lines below it";
 
 pub const ROUTE_NO_NUMBER: &str =
     "a number is due here, and there is none or it is out of its range";
@@ -203,6 +210,23 @@ pub const STEP_STRAY_GROUP: &str =
     "a group of hints where none is due, or for a clause that had one";
 
 pub const STEP_TOO_SHORT_GROUP: &str = "a group of hints ends, and no clause was false";
+
+// What a file is instead, by its first bytes.
+pub const FOREIGN_XML: &str =
+    "The file begins as XML does, as those of later versions of VPR: read are the texts of \
+    VPR 4.30, DIMACS and LRAT";
+
+pub const FOREIGN_LATER: &str =
+    "The file begins as those of VPR 8 and 9 do: tools/vtr makes one of VPR 4.30 of it, which is \
+    read here";
+
+pub const FOREIGN_PACKED: &str = "The file is packed with gzip, and is to be unpacked first";
+
+pub const FOREIGN_WIDE: &str =
+    "The file begins as UTF-16 does, and is to be a text of single bytes";
+
+pub const FOREIGN_MARKED: &str =
+    "The file begins with a byte order mark, which is to be taken away";
 
 // Why the system refuses a file.
 pub const ERROR_NOT_FOUND: &str = "no such file or folder";
