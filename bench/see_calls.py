@@ -7,7 +7,8 @@ The file has for each call a line of words behind `>`, as a shell takes them; be
 of standard output, if there is one; and behind `!` the first line of standard error, if there is one. Lines that
 begin with `=` make the files that calls are wrong about: each has a command of the shell. Calls of `picture` go to
 PICTURE, all others to ROUTER. They run in a folder with the examples and the files of bench/vtr, and none of them may
-change a file there or leave one. Prints each call that says something else, and last how many there are; ends with 1
+change a file there or leave one. What stands behind the code of a fault is compared with what seen_words.py reckons
+from the files. Prints each call that says something else, and last how many there are; ends with 1
 where one does. With --write the file is written anew with what is said now.
 """
 import argparse
@@ -17,6 +18,8 @@ import shutil
 import subprocess
 import sys
 import tempfile
+
+from seen_words import behind_code, shown_of
 
 HERE = os.path.dirname(os.path.abspath(__file__))
 CALLS = os.path.join(HERE, "calls", "wrong.txt")
@@ -33,14 +36,27 @@ def first_line(text):
 
 
 def said_of(asked, words):
-    """The lines that say how a call ends."""
+    """The lines that say how a call ends, and what is otherwise behind a code."""
     words = shlex.split(words)
-    program = [asked.picture, *words[1:]] if words[:1] == ["picture"] else [asked.router, *words]
+    is_picture = words[:1] == ["picture"]
+    program = [asked.picture, *words[1:]] if is_picture else [asked.router, *words]
     ended = subprocess.run(program, capture_output=True, stdin=subprocess.DEVNULL)
     lines = [f"< {ended.returncode} {first_line(ended.stdout)}".rstrip()]
     if ended.stderr:
         lines.append(f"! {first_line(ended.stderr)}")
-    return lines
+    shown = None if is_picture else shown_of(words, first_line(ended.stdout), files_of(words))
+    said = ended.stderr.decode(errors="replace").rstrip("\n")
+    return lines, [] if shown is None or behind_code(said) == shown else [f"  behind the code not {shown!r}"]
+
+
+def files_of(words):
+    """The files that words name."""
+    found = {}
+    for word in words:
+        if os.path.isfile(word):
+            with open(word, "rb") as it:
+                found[word] = it.read()
+    return found
 
 
 def calls_of(text):
@@ -91,13 +107,14 @@ def main():
                 if line.startswith("= "):
                     subprocess.run(["bash", "-c", line[2:]], check=True)
             there = standing()
-            said = said_of(asked, call[2:])
+            said, others = said_of(asked, call[2:])
             lines += [*before, call, *said]
             count += 1
             changed = sorted(name for name in {*there, *standing()} if there.get(name, "") != standing().get(name, ""))
-            if changed or said != wanted and not asked.write:
+            if changed or others or said != wanted and not asked.write:
                 wrong += 1
-                print("\n".join([call, "  wanted", *wanted, "  came", *said, *map("  changed: {}".format, changed)]))
+                came = [*said, *others, *map("  changed: {}".format, changed)]
+                print("\n".join([call, "  wanted", *wanted, "  came", *came]))
         os.chdir(HERE)
     if asked.write:
         with open(CALLS, "w") as out:

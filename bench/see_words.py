@@ -6,8 +6,8 @@
 Runs the cases of crates/rows/data/cases on files of a folder of its own, those left out in which calls fail or two
 files have one name, and prints each kind of report that came (its numbers but the code left out) with the words that
 went with it, once. Says last how many runs came out as their case asks: status, standard output, and the bytes of the
-files, where no file that was read has changed; and the words on a width without a routing, or on an open one, as
-seen_words.py reckons them from the files. That is a test of what no contract speaks of: `main` and the files of the
+files, where no file that was read has changed; and the words on a width without a routing, on an open one, and behind
+the code of a fault or the cause of a file that is not legal, as seen_words.py reckons them from the files. That is a test of what no contract speaks of: `main` and the files of the
 system. With --quiet only what came out otherwise is printed, and the last line. With --runs another number of runs
 than this counts as one that came out otherwise, so that a row which is not run is seen.
 """
@@ -19,7 +19,7 @@ import subprocess
 import sys
 import tempfile
 
-from seen_words import words_of
+from seen_words import behind_code, shown_of, words_of
 
 DATA = os.path.join(os.path.dirname(os.path.dirname(os.path.abspath(__file__))), "crates", "rows", "data", "cases")
 FILES = (
@@ -163,6 +163,9 @@ class Asked:
         wanted = words_of(self.words, report, before)
         if wanted is not None and words_in(ended) != wanted:
             yield f"words {words_in(ended)!r}, not {wanted!r}"
+        shown = shown_of(self.words, report, before)
+        if shown is not None and behind_code(words_in(ended)) != shown:
+            yield f"words {words_in(ended)!r}, behind the code not {shown!r}"
         names = {wanted.name for wanted in self.wanted}
         for name, text in before.items():
             if name not in names and left.get(name) != text:

@@ -1,8 +1,9 @@
-"""What is to be said on standard error of a width without a routing, or of one that is open, by plain lists.
+"""What is to be said on standard error of a width without a routing, of one that is open, and of a fault, by plain lists.
 
-The files that refute it, or what can be tried next; then what is seen without a search: a cell that more nets want
-than there are tracks; under subset switch blocks a crowd of nets that share cells, each with each, and are more, or
-else a net whose pins open no track in common; which option helps.
+The files that refute it, and the command that looks at all routes of the placement, or what can be tried next; then
+what is seen without a search: a cell that more nets want than there are tracks; under subset switch blocks a crowd of
+nets that share cells, each with each, and are more, or else a net whose pins open no track in common; which option
+helps. Of a fault what stands behind its code: what is at fault, by its name, or its line as it stands.
 """
 import re
 from collections import Counter
@@ -12,7 +13,7 @@ from asked import answer_help
 answer_help(__name__, __doc__)
 
 VALUED = ("--conflicts", "--reach", "--members", "--seed", "--from", "--rounds")
-FLAGS = ("--keep", "--count", "--pin", "--symmetry", "--free")
+FLAGS = ("--keep", "--count", "--pin", "--symmetry", "--free", "--strict")
 BUDGET_LIMIT, ROUND_LIMIT, WIDTH_LIMIT, NAMED = 100_000_000, 100_000, 64, 10
 ROUNDS = 200  # at most, where the words name no number
 START_LIMIT, CROWD_LIMIT = 512, 128
@@ -61,11 +62,24 @@ def unroutable(words, width):
             f"No routing with up to {width} tracks is legal{words.within}: "
             f"{prefix}.wK.lrat refutes {prefix}.wK.cnf for each width K.",
             f"To check the last: gafkelam check {prefix}.w{width}.cnf {prefix}.w{width}.lrat",
+            *elsewhere(words, width),
         ]
     return [
         f"No routing with {width} tracks is legal{words.within}: "
         f"{prefix}.lrat refutes the clauses of one, {prefix}.cnf.",
         f"To check that: gafkelam check {prefix}.cnf {prefix}.lrat",
+        *elsewhere(words, width),
+    ]
+
+
+def elsewhere(words, width):
+    """The line that says for which global route that is so, and what speaks of all of the placement."""
+    if words.command not in ("route", "sweep"):
+        return []
+    arch, net, place, route = words.plain[:4]
+    return [
+        f"This holds for the global route of {route}. To look among all of this placement: "
+        f"gafkelam least {arch} {net} {place} {width} {words.prefix}"
     ]
 
 
@@ -285,3 +299,191 @@ def words_of(given, report, files):
     is_open = found[1] == "undecided"
     first = undecided(words, width, int(found[3])) if is_open else unroutable(words, width)
     return "\n".join(first + seen_lines(words, is_open, width, files))
+
+
+# ---- faults
+
+FAULT = re.compile(r"fault: (\w+) line (\d+) code (\d+)|not legal: line (\d+) cause (\d+)")
+KEYWORDS = (
+    "io_rat chan_width_io chan_width_x chan_width_y inpin outpin switch_block_type Fc_type Fc_output Fc_input Fc_pad "
+    "segment"
+).split()
+BLOCKS = {".input": 0, ".output": 1, ".clb": 2}
+FOREIGN = (
+    ((b"\x1f\x8b",), "The file is packed with gzip, and is to be unpacked first."),
+    ((b"\xff\xfe", b"\xfe\xff"), "The file begins as UTF-16 does, and is to be a text of single bytes."),
+    ((b"\xef\xbb\xbf",), "The file begins with a byte order mark, which is to be taken away."),
+    (
+        (b"<",),
+        "The file begins as XML does, as those of later versions of VPR: read are the texts of VPR 4.30, DIMACS and "
+        "LRAT.",
+    ),
+    (
+        (b"Netlist_File:", b"Placement_File:"),
+        "The file begins as those of VPR 8 and 9 do: tools/vtr makes one of VPR 4.30 of it, which is read here.",
+    ),
+)
+WORD_LIMIT, BYTE_LIMIT = 7, 60
+
+
+def file_names(words):
+    """The names that the words give, by the kinds that reports name."""
+    plain = words.plain
+    if words.command == "check":
+        return dict(zip(("cnf", "lrat"), plain))
+    named = dict(zip(("architecture", "netlist", "placement"), plain))
+    if words.command in ("route", "sweep", "encode", "core", "verify"):
+        named["route"] = plain[3]
+    if "--from" in words.options:
+        named["route"] = words.options["--from"]
+    if words.command in ("verify", "judge"):
+        named["routed"] = plain[-1]
+    return named
+
+
+class NumberedLines:
+    """The words of each line of a file that has some, by its number."""
+
+    def __init__(self, text, kind):
+        parts = text.decode("latin-1").split("\n")
+        begun = None
+        self.words = {}
+        for number, part in enumerate(parts[:-1] if parts[-1] == "" else parts, 1):
+            if kind not in ("cnf", "lrat"):
+                part = part.split("#")[0]
+            goes_on = kind in ("architecture", "netlist") and part.rstrip(" \t\r").endswith("\\")
+            if goes_on:
+                part = part.rstrip(" \t\r")[:-1]
+            words = [word for word in re.split("[ \t\r]+", part) if word]
+            at = number if begun is None else begun
+            self.words[at] = self.words.get(at, []) + words
+            begun = at if goes_on else None
+        self.words = {number: words for number, words in self.words.items() if words}
+
+    def quoted(self, number, behind=0):
+        """The words of a line, of many the first and of a long one the front."""
+        words = self.words[number][behind:]
+        cut = [said_name(word) if len(word) <= BYTE_LIMIT else said_name(word[:BYTE_LIMIT]) + ".." for word in words]
+        return "".join(f" {word}" for word in cut[:WORD_LIMIT]) + (" .." if len(cut) > WORD_LIMIT else "")
+
+    def line_as_it_stands(self, number, in_net):
+        if number not in self.words:
+            return ""
+        nets = [at for at, words in self.words.items() if words[0] == "Net" and at <= number] if in_net else []
+        net = f", of Net{self.quoted(nets[-1], 1)}" if nets and nets[-1] != number else ""
+        return f":{self.quoted(number)}{net}"
+
+
+class Pins:
+    """The nets on the pins of a netlist: for each pinlist its line and, for each pin, its number, its kind and its net."""
+
+    def __init__(self, netlist, arch=None):
+        self.globals, self.blocks, self.lists = {"open"}, [], []
+        kinds = [words for words in arch.words.values() if words[0] in ("inpin", "outpin")] if arch else []
+        begun = None
+        for number, words in netlist.words.items():
+            if words[0] == ".global":
+                self.globals |= set(words[1:])
+            if words[0] == "pinlist:":
+                pins = {".input": [["outpin"]], ".output": [["inpin"]]}.get(begun, kinds)
+                self.lists.append((number, words[1:], list(zip(range(len(pins)), pins, words[1:]))))
+            begun = words[0] if words[0] in BLOCKS else None
+            self.blocks += [(BLOCKS[words[0]], name) for name in words[1:]] if begun else []
+
+    def ordinary(self, number):
+        """The ordinary nets of the pinlist on a line, with their pins."""
+        return [use for at, _, uses in self.lists if at == number for use in uses if use[2] not in self.globals]
+
+    def of_kind(self, kind):
+        """The ordinary nets on pins of a kind, in order."""
+        return [net for _, _, uses in self.lists for _, pin, net in uses if pin[0] == kind and net not in self.globals]
+
+    def driver_words(self):
+        driven, seen = self.of_kind("outpin"), set()
+        for net in driven:
+            if net in seen:
+                return f": net {said_name(net)} has a second one here"
+            seen.add(net)
+        return net_words([net for net in self.of_kind("inpin") if net not in seen], " has none")
+
+    def sinkless_words(self):
+        ended = set(self.of_kind("inpin"))
+        return net_words([net for net in self.of_kind("outpin") if net not in ended])
+
+    def global_pin_words(self, number):
+        found = [(pin, net) for pin, kind, net in self.ordinary(number) if "global" in kind[3:4]]
+        return f": net {said_name(found[0][1])}, pin {found[0][0]}" if found else ""
+
+    def shared_class_words(self, number):
+        uses = self.ordinary(number)
+        for i, (pin, kind, net) in enumerate(uses):
+            for other, kind_of_other, other_net in uses[i + 1 :]:
+                if net == other_net and class_of(kind) == class_of(kind_of_other):
+                    return f": net {said_name(net)}, pins {pin} and {other}"
+        return ""
+
+    def unplaced_words(self, placement):
+        placed = {words[0] for words in list(placement.words.values())[2:]}
+        left = [name for _, name in sorted(self.blocks, key=lambda block: block[0]) if name not in placed]
+        return f": block {said_name(left[0])}" if left else ""
+
+    def lineless_words(self, route):
+        nets = {net_on(words) for words in route.words.values() if words[0] == "Net"}
+        named = [net for _, words, _ in self.lists for net in words]
+        return net_words([net for net in named if net not in nets and net not in self.globals])
+
+
+def net_words(nets, end=""):
+    return f": net {said_name(nets[0])}{end}" if nets else ""
+
+
+def class_of(kind):
+    return int(kind[2])
+
+
+def net_on(words):
+    """The net of a Net line: behind the name of a global one stands a colon."""
+    return words[2][1:-1] if len(words) == 3 else words[2][1:-2]
+
+
+def shown_of(given, report, files):
+    """What is to stand behind the code of a fault, or behind a cause; None of another report."""
+    found = FAULT.fullmatch(report)
+    if not found:
+        return None
+    words, judged = Words(given), found[1] is None
+    kind, line = ("routed", int(found[4])) if judged else (found[1], int(found[2]))
+    code = int(found[5] if judged else found[3])
+    names = file_names(words)
+
+    def lines(kind):
+        return NumberedLines(files[names[kind]], kind)
+
+    def pins():
+        return Pins(lines("netlist"), lines("architecture"))
+
+    own = lines(kind)
+    of_names = {
+        204: lambda: pins().driver_words(),
+        205: lambda: pins().sinkless_words(),
+        206: lambda: pins().global_pin_words(line),
+        207: lambda: pins().shared_class_words(line),
+        305: lambda: Pins(lines("netlist")).unplaced_words(own),
+        502: lambda: Pins(lines("netlist")).lineless_words(own),
+    }
+    if code in of_names:
+        return of_names[code]()
+    if judged and line not in own.words:
+        return Pins(lines("netlist")).lineless_words(own)
+    for fronts, sentence in FOREIGN:
+        if not judged and files[names[kind]].startswith(fronts):
+            return f"\n{sentence}"
+    if code == 101:
+        begun = {words[0] for words in own.words.values()}
+        return "".join(f", no {word}" for word in KEYWORDS if word not in begun)
+    return own.line_as_it_stands(line, kind in ("route", "routed"))
+
+
+def behind_code(said):
+    """What stands behind the code or the cause in what was said."""
+    return re.split(r" \((?:code|cause) \d+\)", said, maxsplit=1)[-1]

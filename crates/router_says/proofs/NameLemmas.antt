@@ -1,29 +1,24 @@
--- What two files say of a pinlist, read one after the other.
+-- What two files say, read one after the other.
 use Rattle.std.proofs.Common.{◌≡◌, ℕ, List, ◌++◌, Option, refl, subst}
 use Rattle.desk_io.specs.DeskState.{DeskState}
 use Rattle.desk_io.specs.Files.{Bytes}
-use Rattle.fpga_problem.specs.declared.text_file.TextFile.TheVariants.{Architecture, Netlist}
-use Rattle.router_says.specs.AtFault.{Appends, IsRead, NamesNet, both_said}
-use Rattle.router_says.specs.declared.at_fault.Sought.{Sought}
-use Rattle.router_top.specs.declared.text_file.TextFile.{TextFile}
-use Rattle.router_top.specs.declared.text_file.TextFile.TheVariants.{Problem}
+use Rattle.router_says.specs.AtFault.{Appends, IsRead, SaidByTwo, said_by_both}
 
-pub names-net : (before between now : DeskState) (names : TextFile → Option Bytes)
-    (sought : Sought) (line : ℕ) (a n arch text : Option Bytes) (old new : List ℕ) →
-    a ≡ names (Problem Architecture) → n ≡ names (Problem Netlist) → between.files ≡ before.files →
-    IsRead before between a arch → IsRead between now n text →
-    new ≡ old ++ both_said sought arch text line →
-    Appends (NamesNet before now names sought line) old new
-names-net before between now names sought line a n arch text old new is_a is_n same first second
-    said = (
-      both_said sought arch text line,
+pub said-by-two : (before between now : DeskState) (first second : Option Bytes)
+    (said_by : Bytes → Bytes → List ℕ) (a b one other : Option Bytes) (old new : List ℕ) →
+    a ≡ first → b ≡ second → between.files ≡ before.files → IsRead before between a one →
+    IsRead between now b other → new ≡ old ++ said_by_both said_by one other →
+    Appends (SaidByTwo before now first second said_by) old new
+said-by-two before between now first second said_by a b one other old new is_a is_b same one_read
+    other_read said = (
+      said_by_both said_by one other,
       record {
         between = between;
         same = same;
-        arch = arch;
-        text = text;
-        arch_read = subst (λ (name : Option Bytes). IsRead before between name arch) is_a first;
-        text_read = subst (λ (name : Option Bytes). IsRead between now name text) is_n second;
+        one = one;
+        other = other;
+        one_read = subst (λ (name : Option Bytes). IsRead before between name one) is_a one_read;
+        other_read = subst (λ (name : Option Bytes). IsRead between now name other) is_b other_read;
         is = refl;
       },
       said,

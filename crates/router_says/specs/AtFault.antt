@@ -1,47 +1,43 @@
--- What is at fault where a line and a code alone leave one searching, by its name.
-use Rattle.std.specs.Prelude.{◌≡◌, ◌≤◌, ◌⊎◌, ℕ, ◌+◌, ◌==◌, ◌&&◌, Bool, List, [], ◌∷◌, ◌++◌, codes, bytes_eq, decimal, drop, find, flat_map, is_none, length, option_and_then, slice_get, Option, Some, None, option_map, if◌then◌else◌}
+-- What is said of a fault in a file behind its line and its code: what is at fault, by its name, or
+-- the line as it stands. The files are read once more for it.
+use Rattle.std.specs.Prelude.{◌≡◌, ◌≤◌, ◌⊎◌, ℕ, ◌+◌, ◌==◌, ◌&&◌, Bool, List, [], ◌∷◌, ◌++◌, codes, bytes_eq, decimal, drop, find, flat_map, is_none, is_some, length, Option, Some, None, option_map, if◌then◌else◌}
 use Rattle.std.specs.List.{list_any}
 use Rattle.std.specs.Option.{option_map_or, option_or}
+use Rattle.code_words.specs.Foreign.{foreign_phrase}
 use Rattle.desk_io.specs.DeskState.{DeskState}
 use Rattle.desk_io.specs.Files.{Bytes, RisesByOne}
 use Rattle.desk_io.specs.Reading.{IsWhole}
+use Rattle.fault_names.specs.Ends.{driver_said, no_line_said, no_place_said, no_sink_said}
+use Rattle.fault_names.specs.LinesBy.{has_line, line_with}
+use Rattle.fault_names.specs.NameBytes.{name_said}
+use Rattle.fault_names.specs.Quoted.{line_quoted, route_line_quoted}
 use Rattle.fpga_arch.specs.Codes.{arch_faults}
 use Rattle.fpga_arch.specs.Keywords.{keyword_word, keywords}
 use Rattle.fpga_arch.specs.Value.{arch_value}
 use Rattle.fpga_arch.specs.declared.keyword.Keyword.{Keyword}
 use Rattle.fpga_net.specs.Uses.{is_open}
-use Rattle.fpga_problem.specs.declared.text_file.TextFile.TheVariants.{Architecture, Netlist, Placement}
+use Rattle.fpga_problem.specs.declared.text_file.TextFile.TheVariants.{Architecture, Netlist, Placement, Route}
+use Rattle.fpga_route.specs.Codes.{route_faults}
+use Rattle.fpga_route.specs.Value.{route_value}
 use Rattle.fpga_text.specs.FirstFault.{first_fault}
 use Rattle.fpga_text.specs.Said.{begins, has_text}
 use Rattle.fpga_text.specs.Words.{TextLine, Words, text_lines}
 use Rattle.fpga_text.specs.declared.style.Style.{Style}
-use Rattle.fpga_text.specs.declared.style.Style.TheVariants.{Hash, Joined}
+use Rattle.fpga_text.specs.declared.style.Style.TheVariants.{Hash, Joined, Plain}
 use Rattle.fpga_types.specs.declared.arch.Arch.{Arch}
 use Rattle.fpga_types.specs.declared.arch.PinSpec.{PinSpec}
-use Rattle.router_says.specs.NameBytes.{name_said}
+use Rattle.fpga_types.specs.declared.route.RouteText.{RouteText}
 use Rattle.router_says.specs.declared.at_fault.Sought.{Sought}
-use Rattle.router_says.specs.declared.at_fault.Sought.TheVariants.{Keywords, Block, GlobalPin, SharedClass}
+use Rattle.router_says.specs.declared.at_fault.Sought.TheVariants.{Drivers, GlobalPin, Keywords, NoLine, NoPlace, NoSink, Routed as RoutedLine, SharedClass, Standing}
 use Rattle.router_says.specs.declared.pin_use.PinUse.{PinUse}
 use Rattle.fpga_problem.specs.Sources.{IsLonger}
 use Rattle.fpga_problem.specs.declared.source.TheConstants.{TEXT_BYTES}
 use Rattle.router_top.specs.declared.text_file.TextFile.{TextFile}
-use Rattle.router_top.specs.declared.text_file.TextFile.TheVariants.{Problem}
+use Rattle.router_top.specs.declared.text_file.TextFile.TheVariants.{Problem, Routed}
 
 -- behind a text comes one that is so
 abbrev pub Appends : (List ℕ → Type 0) → (old new : List ℕ) → Type 0
 Appends is old new = (named : List ℕ) × is named × (new ≡ old ++ named)
-
--- ---- lines
-
--- the line with this number, if it has words
-abbrev pub line_with : Style → Bytes → (number : ℕ) → Option TextLine
-line_with style text number =
-    find (λ (line : TextLine). line.number == number) (text_lines style text)
-
--- a line begins with this word
-abbrev pub has_line : Bytes → (word : Bytes) → Bool
-has_line text word =
-    list_any (λ (line : TextLine). begins word line.words) (text_lines Joined text)
 
 -- ---- the keywords that have no line
 
@@ -50,12 +46,6 @@ keyword_said text keyword = if has_line text keyword then [] else codes ", no " 
 
 abbrev pub missing_said : Bytes → List ℕ
 missing_said text = flat_map (λ (k : Keyword). keyword_said text (keyword_word k)) keywords
-
--- ---- the block of a line
-
-abbrev pub block_said : Bytes → (number : ℕ) → List ℕ
-block_said text number = option_map_or (λ name. codes ": " ++ name_said name)
-    (option_and_then (λ (line : TextLine). slice_get line.words 0) (line_with Hash text number)) []
 
 -- ---- the nets of a pinlist
 
@@ -127,15 +117,80 @@ use_at_fault _ uses = []
 abbrev pub arch_in : Bytes → Option Arch
 arch_in text = if is_none (first_fault (arch_faults text)) then Some (arch_value text) else None
 
--- ---- what is said of a fault
+-- ---- what the texts say of a fault
+
+-- the route that a text says, if it has no fault
+abbrev pub route_in : Bytes → Option RouteText
+route_in text = if is_none (first_fault (route_faults text)) then Some (route_value text) else None
 
 -- what is sought where this code is told of this file
-abbrev pub sought_of : TextFile → (code : ℕ) → Option Sought
-sought_of (Problem Architecture) code = if code == 101 then Some Keywords else None
+abbrev pub sought_of : TextFile → (code : ℕ) → Sought
+sought_of (Problem Architecture) code = if code == 101 then Keywords else Standing
 sought_of (Problem Netlist) code =
-    if code == 206 then Some GlobalPin else if code == 207 then Some SharedClass else None
-sought_of (Problem Placement) code = if code == 303 then Some Block else None
-sought_of file code = None
+    if code == 204 then Drivers else if code == 205 then NoSink else
+    if code == 206 then GlobalPin else if code == 207 then SharedClass else Standing
+sought_of (Problem Placement) code = if code == 305 then NoPlace else Standing
+sought_of (Problem Route) code = if code == 502 then NoLine else Standing
+sought_of file code = Standing
+
+-- how a file is cut into lines
+abbrev pub style_of : TextFile → Style
+style_of (Problem Architecture) = Joined
+style_of (Problem Netlist) = Joined
+style_of (Problem Placement) = Hash
+style_of (Problem Route) = Hash
+style_of Routed = Hash
+style_of file = Plain
+
+-- a line of a file as it stands; of a route, in which net too
+abbrev pub standing_said : TextFile → Bytes → (line : ℕ) → List ℕ
+standing_said (Problem Route) text line = route_line_quoted text line
+standing_said Routed text line = route_line_quoted text line
+standing_said file text line = line_quoted (style_of file) text line
+
+-- what a file is instead
+abbrev pub foreign_said : (phrase : List ℕ) → List ℕ
+foreign_said phrase = codes "\n" ++ (phrase ++ codes ".")
+
+-- what the text of the file alone says: the keywords that have no line, or the line
+abbrev pub own_said : TextFile → Sought → (line : ℕ) → Bytes → List ℕ
+own_said file Keywords line text = missing_said text
+own_said file sought line text = standing_said file text line
+
+-- so where its first bytes do not tell that it is another file
+abbrev pub file_shown : TextFile → Sought → (line : ℕ) → Bytes → List ℕ
+file_shown file sought line text =
+    option_map_or foreign_said (foreign_phrase text) (own_said file sought line text)
+
+-- what an architecture and a netlist say: of the nets at this pinlist, or at the end
+abbrev pub pins_said : Sought → (line : ℕ) → List PinSpec → Bytes → List ℕ
+pins_said Drivers line pins text = driver_said pins text
+pins_said NoSink line pins text = no_sink_said pins text
+pins_said sought line pins text = use_at_fault sought (uses_at text pins line)
+
+abbrev pub nets_said : Sought → (line : ℕ) → (arch text : Bytes) → List ℕ
+nets_said sought line arch text =
+    option_map_or (λ (a : Arch). pins_said sought line a.pins text) (arch_in arch) []
+
+-- what a netlist and a route say: which net has no line
+abbrev pub lineless_said : (text route : Bytes) → List ℕ
+lineless_said text route =
+    option_map_or (λ (r : RouteText). no_line_said text r.nets) (route_in route) []
+
+-- what a netlist and a routed file say: the line, or at the end which net has none
+abbrev pub judged_shown : (line : ℕ) → (text routed : Bytes) → List ℕ
+judged_shown line text routed =
+    if is_some (line_with Hash routed line) then route_line_quoted routed line
+    else lineless_said text routed
+
+-- what two texts say
+abbrev pub both_shown : Sought → (line : ℕ) → (first second : Bytes) → List ℕ
+both_shown NoPlace line text place = no_place_said text place
+both_shown NoLine line text route = lineless_said text route
+both_shown RoutedLine line text routed = judged_shown line text routed
+both_shown sought line arch text = nets_said sought line arch text
+
+-- ---- what is read for it
 
 -- what was read of the file with this name is all that stands there; or nothing was read: there is
 -- no name, the desk failed, or the file is too long
@@ -146,43 +201,40 @@ IsRead before now (Some name) (Some text) =
 IsRead before now (Some name) None =
     RisesByOne before.faults now.faults ⊎ IsLonger before.files name TEXT_BYTES
 
--- of a text that was read, which keywords have no line
-abbrev pub NamesKeywords : (before now : DeskState) → (names : TextFile → Option Bytes)
-    → List ℕ → Type 0
-NamesKeywords before now names named = (text : Option Bytes)
-    × IsRead before now (names (Problem Architecture)) text
-    × (named ≡ option_map_or missing_said text [])
+-- what is said by the text of the file with this name, if it was read
+abbrev pub SaidByOne : (before now : DeskState) → (name : Option Bytes)
+    → (said_by : Bytes → List ℕ) → List ℕ → Type 0
+SaidByOne before now name said_by said = (text : Option Bytes) × IsRead before now name text
+    × (said ≡ option_map_or said_by text [])
 
--- the block of a line
-abbrev pub NamesBlock : (before now : DeskState) → (names : TextFile → Option Bytes)
-    → (line : ℕ) → List ℕ → Type 0
-NamesBlock before now names line named = (text : Option Bytes)
-    × IsRead before now (names (Problem Placement)) text
-    × (named ≡ option_map_or (λ text. block_said text line) text [])
+-- by those of the files with these names, if both were read, one after the other
+abbrev pub said_by_both : (said_by : Bytes → Bytes → List ℕ) → (first second : Option Bytes)
+    → List ℕ
+said_by_both said_by first second =
+    option_map_or (λ a. option_map_or (λ b. said_by a b) second []) first []
 
--- the net and the pins of a pinlist, by the architecture and the netlist
-abbrev pub pinlist_said : Sought → (arch text : Bytes) → (line : ℕ) → List ℕ
-pinlist_said sought arch text line =
-    option_map_or (λ (a : Arch). use_at_fault sought (uses_at text a.pins line)) (arch_in arch) []
-
-abbrev pub both_said : Sought → (arch text : Option Bytes) → (line : ℕ) → List ℕ
-both_said sought arch text line = option_map_or
-    (λ a. option_map_or (λ t. pinlist_said sought a t line) text []) arch []
-
-pub record NamesNet (before now : DeskState) (names : TextFile → Option Bytes) (sought : Sought)
-    (line : ℕ) (named : List ℕ) : Type 0 where
+pub record SaidByTwo (before now : DeskState) (first second : Option Bytes)
+    (said_by : Bytes → Bytes → List ℕ) (said : List ℕ) : Type 0 where
   pub between : DeskState
   pub same : between.files ≡ before.files
-  pub arch : Option Bytes
-  pub text : Option Bytes
-  pub arch_read : IsRead before between (names (Problem Architecture)) arch
-  pub text_read : IsRead between now (names (Problem Netlist)) text
-  pub is : named ≡ both_said sought arch text line
+  pub one : Option Bytes
+  pub other : Option Bytes
+  pub one_read : IsRead before between first one
+  pub other_read : IsRead between now second other
+  pub is : said ≡ said_by_both said_by one other
 
--- what is at fault is named where it is sought, and nothing else is said
-abbrev pub NamesSought : (before now : DeskState) → (names : TextFile → Option Bytes)
-    → (line : ℕ) → Option Sought → List ℕ → Type 0
-NamesSought before now names line (Some Keywords) named = NamesKeywords before now names named
-NamesSought before now names line (Some Block) named = NamesBlock before now names line named
-NamesSought before now names line (Some sought) named = NamesNet before now names sought line named
-NamesSought before now names line None named = named ≡ []
+-- what is said of what is sought, at this line of a file
+abbrev pub Shows : (before now : DeskState) → (names : TextFile → Option Bytes) → TextFile
+    → (line : ℕ) → Sought → List ℕ → Type 0
+Shows before now names file line Keywords said =
+    SaidByOne before now (names file) (file_shown file Keywords line) said
+Shows before now names file line Standing said =
+    SaidByOne before now (names file) (file_shown file Standing line) said
+Shows before now names file line NoPlace said = SaidByTwo before now
+    (names (Problem Netlist)) (names (Problem Placement)) (both_shown NoPlace line) said
+Shows before now names file line NoLine said = SaidByTwo before now
+    (names (Problem Netlist)) (names (Problem Route)) (both_shown NoLine line) said
+Shows before now names file line RoutedLine said = SaidByTwo before now
+    (names (Problem Netlist)) (names Routed) (both_shown RoutedLine line) said
+Shows before now names file line sought said = SaidByTwo before now
+    (names (Problem Architecture)) (names (Problem Netlist)) (both_shown sought line) said

@@ -1,6 +1,5 @@
 pub mod Quiet
 pub mod Names
-pub mod NameBytes
 pub mod AtFault
 pub mod Seen
 pub mod Unfound

@@ -1,17 +1,19 @@
 -- What is said of an outcome that was not asked for, or of which there is more to say.
-use Rattle.std.specs.Prelude.{◌≡◌, ℕ, ◌++◌, ◌*◌, Bool, List, [], codes, decimal, false, min, nat_le, nat_lt, Option, Some, None, true, unwrap_or, if◌then◌else◌}
+use Rattle.std.specs.Prelude.{◌≡◌, ℕ, ◌++◌, ◌*◌, List, [], codes, decimal, false, min, nat_le, nat_lt, Option, Some, None, true, if◌then◌else◌}
 use Rattle.std.specs.declared.io.ErrorKind.{ErrorKind}
 use Rattle.code_words.specs.Errors.{error_phrase}
 use Rattle.code_words.specs.Refused.{judged_said, limit_said, line_said, step_said}
 use Rattle.desk_io.specs.DeskState.{DeskState}
+use Rattle.fpga_problem.specs.Files.{FileNames}
 use Rattle.fpga_types.specs.Problem.{RoutingProblem}
 use Rattle.fpga_types.specs.declared.limits.TheConstants.{WIDTH_LIMIT}
 use Rattle.problem_facts.specs.declared.full.Asymmetry.{Asymmetry}
 use Rattle.problem_facts.specs.declared.full.Asymmetry.TheVariants.{Inputs, Outputs, Pads, Pattern}
 use Rattle.route_sweep.specs.Names.{numbered_prefix}
-use Rattle.router_says.specs.AtFault.{NamesSought, sought_of}
+use Rattle.router_says.specs.AtFault.{Shows, sought_of}
 use Rattle.router_says.specs.Names.{asked_in, file_said, may_have_several, name_of, prefix_of, reach_of}
 use Rattle.router_says.specs.Seen.{Sees}
+use Rattle.router_says.specs.declared.at_fault.Sought.TheVariants.{Routed as RoutedLine}
 use Rattle.router_says.specs.Unfound.{no_way_said, unfound_said}
 use Rattle.usage_words.specs.Usage.{usage_said}
 use Rattle.router_says.specs.declared.faults.SystemErrors.{SystemErrors}
@@ -24,7 +26,7 @@ use Rattle.router_top.specs.declared.slot.Slot.{Slot as SlotOf}
 use Rattle.router_top.specs.declared.slot.Slot.TheVariants.{Said as SaidSlot}
 use Rattle.router_top.specs.declared.text_file.TextFile.{TextFile}
 use Rattle.router_top.specs.declared.text_file.TextFile.TheVariants.{Lrat, Routed}
-use Rattle.router_words.specs.Job.{JobAsked}
+use Rattle.router_words.specs.Job.{JobAsked, Routes, Sweeps}
 use Rattle.router_words.specs.Word.{Word}
 use Rattle.router_words.specs.declared.limits.TheConstants.{BUDGET_LIMIT}
 
@@ -106,8 +108,23 @@ abbrev pub unroutable_by : Option Prefix → (reach : Option ℕ) → (width : �
 unroutable_by prefix reach width =
     claim_said (up_to_said prefix) width ++ (reach_said reach ++ refuted_said prefix width)
 
+-- that is so of the global route that was given; of all routes of the placement another command
+-- speaks
+abbrev pub elsewhere_by : FileNames → (prefix : List ℕ) → (width : ℕ) → List ℕ
+elsewhere_by files prefix width =
+    codes "\nThis holds for the global route of " ++ (files.route
+    ++ (codes ". To look among all of this placement: gafkelam least " ++ (files.architecture
+    ++ (codes " " ++ (files.netlist ++ (codes " " ++ (files.placement ++ (codes " "
+    ++ (decimal width ++ (codes " " ++ prefix))))))))))
+
+abbrev pub elsewhere_said : Option JobAsked → (width : ℕ) → List ℕ
+elsewhere_said (Some (Routes ask)) width = elsewhere_by ask.files ask.search.prefix width
+elsewhere_said (Some (Sweeps ask)) width = elsewhere_by ask.files ask.search.prefix width
+elsewhere_said asked width = []
+
 abbrev pub unroutable_said : Option JobAsked → (width : ℕ) → List ℕ
-unroutable_said asked width = unroutable_by (prefix_of asked) (reach_of asked) width
+unroutable_said asked width =
+    unroutable_by (prefix_of asked) (reach_of asked) width ++ elsewhere_said asked width
 
 -- the budget that can be tried next: ten times as much, but no more than the words take
 abbrev pub more_said : (budget : ℕ) → List ℕ
@@ -225,19 +242,18 @@ abbrev pub SaysAnd : (IsMore : List ℕ → Type 0) → (text said : List ℕ) �
 SaysAnd IsMore text said = (more : List ℕ) × IsMore more × (said ≡ text ++ more)
 
 -- what is said of each outcome, up to the newline at its end: which file is meant, what is wrong
--- there and why, and what can be tried. What is at fault in a file is named, where its code alone
--- does not tell, for which it is read once more; and of a width what is seen without a search of the
--- problem that was worked on, if one was
+-- there and why, and what can be tried. What is at fault in a file is named, or its line stands
+-- there, for which it is read once more; and of a width it is told what is seen without a search of
+-- the problem that was worked on, if one was
 abbrev pub Says : (before now : DeskState) → List Word → Option JobAsked → SystemErrors
     → Option RoutingProblem → Outcome → List ℕ → Type 0
 Says before now words asked errors problem (NotAccepted step cause) said =
     JustSays before now (about_said asked Lrat ++ step_said step cause) said
 Says before now words asked errors problem (NotLegal line cause) said =
-    JustSays before now
-    (about_said asked Routed
-    ++ judged_said (may_have_several asked) line cause) said
+    SaysAnd (Shows before now (name_of asked) Routed line RoutedLine)
+    (about_said asked Routed ++ judged_said (may_have_several asked) line cause) said
 Says before now words asked errors problem (InputFault file line code) said =
-    SaysAnd (NamesSought before now (name_of asked) line (sought_of file code))
+    SaysAnd (Shows before now (name_of asked) file line (sought_of file code))
     (about_said asked file ++ line_said line code) said
 Says before now words asked errors problem (Limit file code count) said =
     JustSays before now (limit_place asked file ++ limit_said code count) said

@@ -19,7 +19,7 @@ use Rattle.problem_facts.specs.declared.closed_tree.ClosedTree.{ClosedTree}
 use Rattle.route_count.specs.Crowded.{IsCrowded, IsCrowding}
 use Rattle.route_count.specs.declared.crowded.Crowding.{Crowding}
 use Rattle.route_count.specs.declared.crowded.Crowding.TheVariants.{Cell, Crowd}
-use Rattle.router_says.specs.NameBytes.{name_said}
+use Rattle.fault_names.specs.NameBytes.{name_said}
 use Rattle.router_says.specs.Names.{reach_of}
 use Rattle.router_says.specs.declared.seen.Hints.{Hints}
 use Rattle.route_ways.specs.Trimming.{net_name}

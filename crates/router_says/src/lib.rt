@@ -4,9 +4,7 @@
 mod at_fault;
 mod bounds;
 mod faults;
-mod line_of;
 mod missing;
-mod name_bytes;
 mod names;
 mod pin_use;
 mod refused;

@@ -2,7 +2,7 @@
 ghost use Rattle.std.specs.Prelude.{◌≡◌, ◌++◌, OnOk, codes, string_bytes};
 ghost use Rattle.router_says.specs.AtFault.{keyword_said, missing_said};
 
-use crate::line_of::has_line;
+use fault_names::has_line;
 use std::alloc::AllocError;
 
 /// Appends the keywords of an architecture that have no line in this text.

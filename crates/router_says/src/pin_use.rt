@@ -5,7 +5,7 @@ ghost use Rattle.router_says.specs.AtFault as spec;
 ghost use Rattle.router_says.specs.AtFault.{first_pair, global_pin_said, is_made_global, is_on_global_pin, ordinary_uses, pair_said, same_class, use_here, use_said};
 ghost use Rattle.fpga_text.specs.Said.{has_text};
 
-use crate::name_bytes::append_name;
+use fault_names::append_name;
 use fpga_text::{Line, Lines, Style, is_text};
 use fpga_types::PinSpec;
 use std::alloc::{AllocError, Global};

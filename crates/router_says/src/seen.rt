@@ -44,8 +44,8 @@ ghost use Rattle.router_says.specs.Seen.{
 ghost use Rattle.router_says.specs.declared.seen.TheConstants.{NAME_LIMIT};
 ghost use Rattle.route_ways.specs.Trimming.{net_name};
 
-use crate::name_bytes::append_name;
 use crate::names::reach_asked;
+use fault_names::append_name;
 use fpga_bounds::PlacedProblem;
 use fpga_types::{Axis, Cell, PinAt, PinStep, RouteText, WIDTH_LIMIT};
 use problem_facts::{ClosedTree, Facts, is_exchangeable, trackless};

@@ -12,12 +12,15 @@ ghost use Rattle.std.specs.Prelude.{
   option_map,
   string_bytes,
 };
+ghost use Rattle.fpga_problem.specs.Files.{names_said};
 ghost use Rattle.route_sweep.specs.Names.{numbered_prefix};
 ghost use Rattle.router_says.specs.Names.{asked, prefix_of, prefix_said};
 ghost use Rattle.router_says.specs.Said.{
   budget_said,
   check_each_said,
   claim_said,
+  elsewhere_by,
+  elsewhere_said,
   greater_said,
   hand_each_said,
   memory_said,
@@ -36,11 +39,12 @@ ghost use Rattle.router_says.specs.Said.{
 ghost use Rattle.router_words.specs.declared.limits.TheConstants.{BUDGET_LIMIT};
 
 use crate::names::{Written, files_written, reach_asked};
+use fpga_problem::FourNames;
 use fpga_types::WIDTH_LIMIT;
 use router_words::{BUDGET_LIMIT, Job};
 use std::alloc::AllocError;
 
-/// Appends that no routing of this width is legal, and what shows it.
+/// Appends that no routing of this width is legal, what shows it, and of which global route.
 pub(crate) fn append_unroutable(
     out: &mut String,
     job: Option<Job<'_>>,
@@ -49,7 +53,41 @@ pub(crate) fn append_unroutable(
     ensures { OnOk result (string_bytes out.new
         ≡ string_bytes out.old ++ unroutable_said (asked job.entry) width) }
 {
-    append_refutation(out, files_written(job), reach_asked(job), width)
+    append_refutation(out, files_written(job), reach_asked(job), width)?;
+    append_elsewhere(out, job, width)
+}
+
+// Appends that this is so of the global route that was given, and what speaks of all routes of the
+// placement.
+fn append_elsewhere(out: &mut String, job: Option<Job<'_>>, width: u32) -> Result<(), AllocError>
+    ensures { OnOk result (string_bytes out.new
+        ≡ string_bytes out.old ++ elsewhere_said (asked job.entry) width) }
+{
+    match job {
+        Some(Job::Route(job)) => append_beside(out, job.files, job.search.prefix, width),
+        Some(Job::Sweep(job)) => append_beside(out, job.files, job.search.prefix, width),
+        _ => Ok(()),
+    }
+}
+
+fn append_beside(
+    out: &mut String,
+    files: FourNames<'_>,
+    prefix: &str,
+    width: u32,
+) -> Result<(), AllocError>
+    ensures { OnOk result (string_bytes out.new
+        ≡ string_bytes out.old ++ elsewhere_by (names_said files.entry) prefix.now width) }
+{
+    let route = files.route;
+    let architecture = files.architecture;
+    let netlist = files.netlist;
+    let placement = files.placement;
+    write!(
+        out,
+        "\nThis holds for the global route of {route}. To look among all of this placement: \
+         gafkelam least {architecture} {netlist} {placement} {width} {prefix}"
+    )
 }
 
 fn append_refutation(

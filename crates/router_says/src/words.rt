@@ -2,7 +2,7 @@
 ghost use Rattle.std.specs.Prelude.{◌≡◌, ◌++◌, IsOk, IsTrue, OnOk, false, string_bytes, true, unwrap_or};
 ghost use Rattle.std.specs.Option.{option_copied};
 ghost use Rattle.code_words.specs.Refused.{judged_said, limit_said, line_said, step_said};
-ghost use Rattle.router_says.specs.AtFault.{Appends, NamesSought, sought_of};
+ghost use Rattle.router_says.specs.AtFault.{Appends, Shows, sought_of};
 ghost use Rattle.router_says.specs.Names.{asked, may_have_several, name_of};
 ghost use Rattle.router_says.specs.Quiet.{is_quiet};
 ghost use Rattle.router_says.specs.Said.{
@@ -15,10 +15,11 @@ ghost use Rattle.router_says.specs.Said.{
   unroutable_said,
 };
 ghost use Rattle.router_says.specs.Seen.{Sees};
+ghost use Rattle.router_says.specs.declared.at_fault.Sought.TheVariants.{Routed as RoutedLine};
 ghost use Rattle.router_top.specs.declared.text_file.TextFile.TheVariants.{Lrat, Routed};
 ghost use Rattle.router_words.specs.Word.{words_of};
 
-use crate::at_fault::append_at_fault;
+use crate::at_fault::{append_at_fault, append_judged_line};
 use crate::bounds::{append_bound, append_narrowed};
 use crate::faults::{SystemErrors, append_unread, append_unwritten};
 use crate::names::{job_in, may_have_several};
@@ -37,12 +38,12 @@ use usage_words::append_usage;
 
 /// Appends what an outcome of a run with these words means, in lines that end with a newline:
 /// which file is meant, by the name that was given or made; what its line has, and the name of what
-/// is at fault there; of a fault the reason that the system gave last; what can be tried next. It
-/// appends nothing where the run came to what was asked for and no more is to be known of that, and
-/// in each other case something.
+/// is at fault there, or the line as it stands; of a fault the reason that the system gave last;
+/// what can be tried next. It appends nothing where the run came to what was asked for and no more
+/// is to be known of that, and in each other case something.
 ///
-/// Where a code leaves one searching, it reads the file of the desk once more; else none. Of a width
-/// that has no routing or is open it looks at the problem that the run gives back.
+/// Where a file has a fault or is not legal, it reads the files of the desk once more; else none. Of
+/// a width that has no routing or is open it looks at the problem that the run gives back.
 ///
 /// # Errors
 /// Memory ran out; then a front part may have been appended.
@@ -95,7 +96,9 @@ fn append_meaning<D: Desk>(
 {
     match ran.outcome {
         Outcome::NotAccepted { step, cause } => append_refused_step(out, job, step, cause),
-        Outcome::NotLegal { line, cause } => append_not_legal(out, job, line, cause),
+        Outcome::NotLegal { line, cause } => {
+            append_not_legal(alloc, desk, out, job, line, cause)
+        }
         Outcome::InputFault { file, line, code } => {
             append_bad_line(alloc, desk, out, job, file, line, code)
         }
@@ -140,8 +143,28 @@ fn append_refused_step(
     append_step(out, step, code)
 }
 
+// Which line of the routed file is bad, why, the line as it stands and in which net.
+fn append_not_legal<D: Desk>(
+    alloc: Global,
+    desk: &mut D,
+    out: &mut String,
+    job: Option<Job<'_>>,
+    line: u64,
+    code: u32,
+) -> Result<(), AllocError>
+    ensures { OnOk result (Appends (SaysAnd (Shows (D.state desk.old) (D.state desk.new)
+        (name_of (asked job.entry)) Routed line RoutedLine)
+        (about_said (asked job.entry) Routed
+        ++ judged_said (may_have_several (asked job.entry)) line code))
+        (string_bytes out.old) (string_bytes out.new)) }
+{
+    append_judged_of(out, job, line, code)?;
+    append_judged_line(alloc, desk, out, job, line)?;
+    Ok(())
+}
+
 // Which line of the routed file is bad, and why.
-fn append_not_legal(
+fn append_judged_of(
     out: &mut String,
     job: Option<Job<'_>>,
     line: u64,
@@ -155,7 +178,7 @@ fn append_not_legal(
     append_judged(out, may_have_several(job), line, code)
 }
 
-// Which line is bad, why, and the name of what is at fault there, where the code does not tell.
+// Which line is bad, why, and what is at fault there, by its name or as the line stands.
 fn append_bad_line<D: Desk>(
     alloc: Global,
     desk: &mut D,
@@ -165,8 +188,8 @@ fn append_bad_line<D: Desk>(
     line: u64,
     code: u32,
 ) -> Result<(), AllocError>
-    ensures { OnOk result (Appends (SaysAnd (NamesSought (D.state desk.old) (D.state desk.new)
-        (name_of (asked job.entry)) line (sought_of file code))
+    ensures { OnOk result (Appends (SaysAnd (Shows (D.state desk.old) (D.state desk.new)
+        (name_of (asked job.entry)) file line (sought_of file code))
         (about_said (asked job.entry) file ++ line_said line code))
         (string_bytes out.old) (string_bytes out.new)) }
 {

@@ -1,0 +1,3 @@
+mod NameListLemmas
+mod PinNetLemmas
+mod QuotedLemmas
