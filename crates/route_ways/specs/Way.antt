@@ -14,10 +14,11 @@ use Rattle.route_ways.specs.Plain.{CanSearch, IsLeftOpen, IsRefuted, copies_of}
 use Rattle.route_ways.specs.Trimming.{IsCutDown}
 use Rattle.route_ways.specs.declared.plain.Plain.{Plain}
 use Rattle.route_ways.specs.declared.way.Way.{Way}
-use Rattle.route_ways.specs.declared.way.Way.TheVariants.{Alone, Counted, Cut}
+use Rattle.route_ways.specs.declared.way.Way.TheVariants.{Alone, Counted, Cut, Negotiated}
 
 -- a way, with no more of what is known of the problem than the crowd that it counts: a search, one
--- behind counting, or one whose refutations are cut down
+-- behind counting, or one whose refutations are cut down. Negotiation refutes nothing and leaves
+-- nothing open, so that a search behind it is a search
 pub data Course : Type 0 where
   Searches : Plain → Course
   Counts : Plain → (crowd : List ℕ) → Course
@@ -27,6 +28,7 @@ pub data Course : Type 0 where
 abbrev pub course_of : Way → Course
 course_of (Alone plain) = Searches plain
 course_of (Counted counting) = Counts counting.rest counting.facts.now.crowd
+course_of (Negotiated negotiating) = Searches negotiating.rest
 course_of (Cut trimming) = Trims trimming.rest
 
 -- the search in it
@@ -56,6 +58,7 @@ serves_by (Alone plain) p width formula = CanSearch plain
 serves_by (Counted counting) p width formula =
     AreFactsOf p counting.facts.now × IsBegunBy formula (cnf_of width p)
     × CanSearch counting.rest
+serves_by (Negotiated negotiating) p width formula = CanSearch negotiating.rest
 serves_by (Cut trimming) p width formula = (formula ≡ cnf_of width p) × CanSearch trimming.rest
 
 -- the log refutes the formula so, and this is said before the report

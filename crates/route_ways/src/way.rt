@@ -1,5 +1,6 @@
 //! The ways that words can ask for.
 use crate::counting::Counting;
+use crate::negotiating::Negotiating;
 use crate::plain::Plain;
 use crate::trimming::Trimming;
 use fpga_bounds::PlacedProblem;
@@ -14,6 +15,8 @@ pub enum Way<'a> {
     Alone { plain: Plain },
     /// Counting in front of a search.
     Counted { counting: Counting<'a, Plain> },
+    /// Negotiation in front of a search.
+    Negotiated { negotiating: Negotiating<Plain> },
     /// A search whose refutations are cut down.
     Cut { trimming: Trimming<Plain> },
 }
@@ -33,6 +36,7 @@ impl<'a> Searcher for Way<'a> {
         match self {
             Way::Alone { plain } => plain.copy_count(),
             Way::Counted { counting } => counting.copy_count(),
+            Way::Negotiated { negotiating } => negotiating.copy_count(),
             Way::Cut { trimming } => trimming.copy_count(),
         }
     }
@@ -47,6 +51,7 @@ impl<'a> Searcher for Way<'a> {
         match *self {
             Way::Alone { plain } => plain.search(alloc, problem, width, formula),
             Way::Counted { counting } => counting.search(alloc, problem, width, formula),
+            Way::Negotiated { negotiating } => negotiating.search(alloc, problem, width, formula),
             Way::Cut { trimming } => trimming.search(alloc, problem, width, formula),
         }
     }
