@@ -20,7 +20,7 @@ import subprocess
 import sys
 import tempfile
 
-from fail_files import JOBS, THREE, TOP, Row, missing
+from fail_files import JOBS, MODEL, THREE, TOP, Row, missing
 
 # Counts the calls after `main` has begun, and gives a null pointer at those that are refused.
 SCRIPT = """
@@ -169,6 +169,7 @@ def main():
         first = Row(router, fresh())
         first.run(["route", *THREE, "2", "proof"])
         proof = {e: first.held()[f"proof.{e}"] for e in ("cnf", "lrat")}
+        proof["model"] = MODEL
         print("| command | allocations | what comes |\n|---|---|---|")
         for job, job_words, order in JOBS:
             if asked.job is None or asked.job in job:

@@ -25,6 +25,8 @@ import tempfile
 
 TOP = os.path.dirname(os.path.dirname(os.path.abspath(__file__)))
 THREE = ["three.arch", "three.net", "three.place", "three.route"]
+# Of the clauses of THREE with three tracks: each net has its own.
+MODEL = b"v 1 -2 -3 -4 5 -6 -7 -8 9 0\n"
 NOBODY = 65534
 SECONDS = 60
 
@@ -304,6 +306,13 @@ def simple_rows(table, router, fresh):
     one("an input whose name is no text", no_text, 8, b"", b"")
     one("a prefix that is no text", ["route", *THREE, "3", b"o\xff"], 8, b"", b"")
     one(
+        "a model that is not there",
+        ["decode", *THREE, "3", "no.model", "out"],
+        5,
+        b"read fault: model\n",
+        unread("model", "no.model", no_such),
+    )
+    one(
         "an empty name",
         ["route", "", *THREE[1:], "3", "out"],
         5,
@@ -418,6 +427,7 @@ JOBS = [
         ["out.w1.cnf", "out.w1.lrat", "out.w2.cnf", "out.w2.lrat", "out.route"],
     ),
     ("encode", ["encode", *THREE, "2", "out"], ["out.cnf"]),
+    ("decode", ["decode", *THREE, "3", "three.model", "out"], ["out.route"]),
     ("global", ["global", *THREE[:3], "3", "out", "--from", THREE[3]], ["out.route"]),
     ("bound", ["bound", *THREE[:3]], []),
     ("least", ["least", *THREE[:3], "3", "out", "--from", THREE[3]], ["out.route"]),
@@ -546,6 +556,7 @@ def main():
         first = Row(router, fresh())
         first.run(["route", *THREE, "2", "proof"])
         proof = {e: first.held()[f"proof.{e}"] for e in ("cnf", "lrat")}
+        proof["model"] = MODEL
         table = Table(asked.rows, asked.plain)
         table.show("| what fails | status | said | what has changed |\n|---|---|---|---|")
         kinds = [simple_rows, output_rows]

@@ -25,7 +25,7 @@ DATA = os.path.join(os.path.dirname(os.path.dirname(os.path.abspath(__file__))),
 FILES = (
     "worked", "pinned", "symmetry", "count", "reach", "within", "failing_calls", "route_texts",
     "limits", "proof_texts", "resolution_logs", "routed_texts", "judged_texts", "members", "core",
-    "bound", "global", "least",
+    "bound", "global", "least", "decode",
 )  # in the order of the program of rows: a file cites parts of those before it
 ESCAPES = {"n": b"\n", "t": b"\t", "r": b"\r", "0": b"\0", "\\": b"\\"}
 
@@ -190,7 +190,7 @@ def files_in(folder):
 
 def kind_of(report):
     """A report without its numbers but codes."""
-    kind = re.sub(r"\b(line|count|step) \d+", r"\1 _", report)
+    kind = re.sub(r"\b(line|count|step|clause) \d+", r"\1 _", report)
     kind = re.sub(r"^(routed|unroutable|undecided|bound|no way) \d+( after \d+)?", r"\1 _\2", kind)
     return re.sub(r"after \d+", "after _", kind)
 

@@ -3,7 +3,7 @@ _gafkelam() {
     local word=${COMP_WORDS[COMP_CWORD]} command=${COMP_WORDS[1]}
     COMPREPLY=()
     if [ "$COMP_CWORD" -eq 1 ]; then
-        mapfile -t COMPREPLY < <(compgen -W "route sweep global least bound core encode check verify judge gen trial picture help --help --version" -- "$word")
+        mapfile -t COMPREPLY < <(compgen -W "route sweep global least bound core encode decode check verify judge gen trial picture help --help --version" -- "$word")
         return
     fi
     local options=--help
@@ -12,7 +12,7 @@ _gafkelam() {
     sweep) options="--conflicts --keep --count --pin --symmetry --reach --help" ;;
     core) options="--conflicts --help" ;;
     trial) options="--conflicts --keep --count --reach --help" ;;
-    encode) options="--pin --symmetry --reach --help" ;;
+    encode | decode) options="--pin --symmetry --reach --help" ;;
     global | least) options="--free --from --rounds --help" ;;
     verify | picture) options="--reach --help" ;;
     judge) options="--strict --help" ;;
@@ -22,7 +22,7 @@ _gafkelam() {
         return
     fi
     case $command:$COMP_CWORD in
-    gen:[234] | trial:[2345] | global:[56] | least:[56] | *:6) return ;;
+    gen:[234] | trial:[2345] | global:[56] | least:[56] | decode:[68] | *:6) return ;;
     esac
     compopt -o filenames 2>/dev/null
     mapfile -t COMPREPLY < <(compgen -f -- "$word")

@@ -29,15 +29,18 @@ is_log_code code = is_from 701 705 code
 abbrev pub is_judge_code : ℕ → Bool
 is_judge_code code = is_from 801 808 code
 
+abbrev pub is_model_code : ℕ → Bool
+is_model_code code = is_from 1001 1006 code
+
 abbrev pub is_size_code : ℕ → Bool
-is_size_code code = code == 901 || code == 903 || code == 904 || is_from 911 917 code
+is_size_code code = code == 901 || code == 903 || code == 904 || is_from 911 918 code
 
 -- whether a number is a code of a reader, of the fit, of the judge or of a size
 abbrev pub is_code : ℕ → Bool
 is_code code =
     is_architecture_code code || is_netlist_code code || is_placement_code code
     || is_route_code code || is_fit_code code || is_clause_code code || is_log_code code
-    || is_judge_code code || is_size_code code
+    || is_judge_code code || is_model_code code || is_size_code code
 
 -- whether a number is a cause for which a step of a log is refused
 abbrev pub is_refusal_cause : ℕ → Bool

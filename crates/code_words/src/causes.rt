@@ -8,6 +8,7 @@ ghost use Rattle.code_words.specs.Causes.{
   fit_phrase,
   judge_phrase,
   log_phrase,
+  model_phrase,
   netlist_phrase,
   placement_phrase,
   route_phrase,
@@ -21,6 +22,7 @@ ghost use Rattle.code_words.specs.Codes.{
   is_fit_code,
   is_judge_code,
   is_log_code,
+  is_model_code,
   is_netlist_code,
   is_placement_code,
   is_route_code,
@@ -46,6 +48,7 @@ pub fn cause(code: u32) -> Option<&'static str>
         6 => clause_cause(code),
         7 => log_cause(code),
         8 => judge_cause(code),
+        10 => model_cause(code),
         _ => size_cause(code),
     }
 }
@@ -211,6 +214,22 @@ pub fn cause_within_reach(code: u32) -> Option<&'static str>
     }
 }
 
+fn model_cause(code: u32) -> Option<&'static str>
+    ensures says { option_copied result ≡ model_phrase code }
+    ensures there { is_some result ≡ is_model_code code }
+    ensures phrase { IfSome result (λ words. IsTrue (is_phrase words.now)) }
+{
+    match code {
+        1001 => Some(MODEL_NONE_FOUND),
+        1002 => Some(MODEL_NUMBER),
+        1003 => Some(MODEL_BEHIND_END),
+        1004 => Some(MODEL_VARIABLE),
+        1005 => Some(MODEL_BOTH_WAYS),
+        1006 => Some(MODEL_NO_END),
+        _ => None,
+    }
+}
+
 fn size_cause(code: u32) -> Option<&'static str>
     ensures says { option_copied result ≡ size_phrase code }
     ensures there { is_some result ≡ is_size_code code }
@@ -220,7 +239,7 @@ fn size_cause(code: u32) -> Option<&'static str>
         901 => Some(SIZE_FORMULA_CLAUSES),
         903 => Some(SIZE_GENERATED_NETS),
         904 => Some(SIZE_CLAUSES_OF_TURNS),
-        911..=917 => Some(FILE_SIZE),
+        911..=918 => Some(FILE_SIZE),
         _ => None,
     }
 }

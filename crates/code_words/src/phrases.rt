@@ -183,6 +183,19 @@ pub const SIZE_GENERATED_NETS: &str = "there are more nets than blocks to drive 
 pub const SIZE_CLAUSES_OF_TURNS: &str =
     "the searches that take turns have more clauses together than are held";
 
+// What is wrong with a line of a model.
+pub const MODEL_NONE_FOUND: &str = "the solver has found no model";
+
+pub const MODEL_NUMBER: &str = "a number is due and is none";
+
+pub const MODEL_BEHIND_END: &str = "a number stands behind the 0 that ends the model";
+
+pub const MODEL_VARIABLE: &str = "a literal of a variable that the clauses don't have";
+
+pub const MODEL_BOTH_WAYS: &str = "a literal and its negation are both said to be true";
+
+pub const MODEL_NO_END: &str = "the file ends, and no 0 has ended the model";
+
 pub const FILE_SIZE: &str = "the file has more bytes than are read";
 
 // What a code says otherwise where a routed file is judged within a reach.

@@ -5,6 +5,7 @@ mod RouteCodes
 mod SizeCodes
 mod FitCodes
 mod ClauseCodes
+mod ModelCodes
 mod NameLemmas
 mod SaidLemmas
 mod SeenLemmas

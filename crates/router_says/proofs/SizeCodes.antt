@@ -5,7 +5,7 @@ use Rattle.fpga_problem.specs.declared.text_file.TextFile.TheVariants.{Architect
 use Rattle.router_top.specs.SizeCauses.{size_code}
 use Rattle.router_top.specs.declared.size_cause.SizeCause.{SizeCause}
 use Rattle.router_top.specs.declared.size_cause.SizeCause.TheVariants.{FormulaClauses, GeneratedNets, ClausesOfTurns, FileBytes}
-use Rattle.router_top.specs.declared.text_file.TextFile.TheVariants.{Cnf, Lrat, Problem, Routed}
+use Rattle.router_top.specs.declared.text_file.TextFile.TheVariants.{Cnf, Lrat, Model, Problem, Routed}
 
 pub size-codes_are_said : (c : SizeCause) → is_code (size_code c) ≡ true
 size-codes_are_said FormulaClauses = refl
@@ -18,3 +18,4 @@ size-codes_are_said (FileBytes (Problem Route)) = refl
 size-codes_are_said (FileBytes Cnf) = refl
 size-codes_are_said (FileBytes Lrat) = refl
 size-codes_are_said (FileBytes Routed) = refl
+size-codes_are_said (FileBytes Model) = refl

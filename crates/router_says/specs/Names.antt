@@ -7,9 +7,9 @@ use Rattle.router_says.specs.declared.names.Written.{Written}
 use Rattle.router_says.specs.declared.names.Written.TheVariants.{Each, One}
 use Rattle.router_top.specs.SlotNames.{OfEach, OfOne, Prefix, prefix_given}
 use Rattle.router_top.specs.declared.text_file.TextFile.{TextFile}
-use Rattle.router_top.specs.declared.text_file.TextFile.TheVariants.{Cnf, Lrat, Problem, Routed}
+use Rattle.router_top.specs.declared.text_file.TextFile.TheVariants.{Cnf, Lrat, Model, Problem, Routed}
 use Rattle.router_words.specs.Command.{job_of}
-use Rattle.router_words.specs.Job.{CheckAsked, JobAsked, JudgeAsked, VerifyAsked, Routes, Sweeps, Encodes, Blames, Bounds, Checks, Judges, Narrows, Negotiates, Verifies, Generates, Tries, job_said}
+use Rattle.router_words.specs.Job.{CheckAsked, DecodeAsked, JobAsked, JudgeAsked, VerifyAsked, Routes, Sweeps, Decodes, Encodes, Blames, Bounds, Checks, Judges, Narrows, Negotiates, Verifies, Generates, Tries, job_said}
 use Rattle.router_words.specs.Word.{Word}
 use Rattle.router_words.specs.declared.fault.Refusal.{Refusal}
 use Rattle.router_words.specs.declared.job.Job.{Job}
@@ -37,6 +37,11 @@ abbrev pub name_of_five : VerifyAsked → TextFile → Option Word
 name_of_five ask Routed = Some ask.routed
 name_of_five ask file = name_of_four ask.files file
 
+-- the name of the model, or among those of the problem
+abbrev pub name_of_decoded : DecodeAsked → TextFile → Option Word
+name_of_decoded ask Model = Some ask.model
+name_of_decoded ask file = name_of_four ask.files file
+
 -- the name among those of a placed netlist's three files
 abbrev pub name_of_three : PlacedNames → TextFile → Option Word
 name_of_three files (Problem Architecture) = Some files.architecture
@@ -61,6 +66,7 @@ name_given (Sweeps ask) file = name_of_four ask.files file
 name_given (Encodes ask) file = name_of_four ask.files file
 name_given (Blames ask) file = name_of_four ask.files file
 name_given (Checks ask) file = name_of_two ask file
+name_given (Decodes ask) file = name_of_decoded ask file
 name_given (Verifies ask) file = name_of_five ask file
 name_given (Judges ask) file = name_of_judged ask file
 name_given (Bounds ask) file = name_of_three ask.files file
@@ -95,6 +101,7 @@ abbrev pub reach_given : JobAsked → Option ℕ
 reach_given (Routes ask) = reach_by ask.search.method
 reach_given (Sweeps ask) = reach_by ask.search.method
 reach_given (Encodes ask) = reach_by ask.method
+reach_given (Decodes ask) = reach_by ask.method
 reach_given (Verifies ask) = ask.reach
 reach_given (Tries ask) = reach_by ask.search.method
 reach_given _ = None

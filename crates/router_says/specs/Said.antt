@@ -21,11 +21,11 @@ use Rattle.router_top.specs.SlotNames.{OfEach, OfOne, Prefix, slot_name}
 use Rattle.router_top.specs.declared.outcome.Obstacle.{Obstacle}
 use Rattle.router_top.specs.declared.outcome.Obstacle.TheVariants.{Order, Pins}
 use Rattle.router_top.specs.declared.outcome.Outcome.{Outcome}
-use Rattle.router_top.specs.declared.outcome.Outcome.TheVariants.{Bound, NotAccepted, NotLegal, NotSymmetric, InputFault, Limit, ReadFault, Undecided, Unroutable, WriteFault, Usage, OutOfMemory, Unfound, NoWay, Narrowed, Beyond}
+use Rattle.router_top.specs.declared.outcome.Outcome.TheVariants.{Bound, NotAccepted, NotLegal, NotModel, NotSymmetric, InputFault, Limit, ReadFault, Undecided, Unroutable, WriteFault, Usage, OutOfMemory, Unfound, NoWay, Narrowed, Beyond}
 use Rattle.router_top.specs.declared.slot.Slot.{Slot as SlotOf}
 use Rattle.router_top.specs.declared.slot.Slot.TheVariants.{Said as SaidSlot}
 use Rattle.router_top.specs.declared.text_file.TextFile.{TextFile}
-use Rattle.router_top.specs.declared.text_file.TextFile.TheVariants.{Lrat, Routed}
+use Rattle.router_top.specs.declared.text_file.TextFile.TheVariants.{Lrat, Model, Routed}
 use Rattle.router_words.specs.Job.{JobAsked, Routes, Sweeps}
 use Rattle.router_words.specs.Word.{Word}
 use Rattle.router_words.specs.declared.limits.TheConstants.{BUDGET_LIMIT}
@@ -33,6 +33,13 @@ use Rattle.router_words.specs.declared.limits.TheConstants.{BUDGET_LIMIT}
 -- what is said first: the file that is meant, by the name that the words give
 abbrev pub about_said : Option JobAsked → TextFile → List ℕ
 about_said asked file = file_said file (name_of asked file)
+
+-- the clause that a model leaves unsatisfied, and of which clauses it is one
+abbrev pub unmet_said : (clause : ℕ) → List ℕ
+unmet_said clause =
+    codes ": clause " ++ (decimal clause
+    ++ (codes " has none of its literals; so it is no model of the clauses that encode writes of "
+    ++ codes "these files at this width with the same options"))
 
 -- the file that holds what passes its limit, if one does
 abbrev pub limit_place : Option JobAsked → Option TextFile → List ℕ
@@ -252,6 +259,8 @@ Says before now words asked errors problem (NotAccepted step cause) said =
 Says before now words asked errors problem (NotLegal line cause) said =
     SaysAnd (Shows before now (name_of asked) Routed line RoutedLine)
     (about_said asked Routed ++ judged_said (may_have_several asked) line cause) said
+Says before now words asked errors problem (NotModel clause) said =
+    JustSays before now (about_said asked Model ++ unmet_said clause) said
 Says before now words asked errors problem (InputFault file line code) said =
     SaysAnd (Shows before now (name_of asked) file line (sought_of file code))
     (about_said asked file ++ line_said line code) said

@@ -8,6 +8,7 @@ ghost use Rattle.router_says.specs.Names.{
   may_have_several,
   name_of,
   name_of_begun,
+  name_of_decoded,
   name_of_five,
   name_of_four,
   name_of_judged,
@@ -19,12 +20,12 @@ ghost use Rattle.router_says.specs.Names.{
   reach_of as reach_of_job,
 };
 ghost use Rattle.router_top.specs.declared.text_file.TextFile.TheVariants.{Problem};
-ghost use Rattle.router_words.specs.Job.{check_said, judge_said, verify_said};
+ghost use Rattle.router_words.specs.Job.{check_said, decode_said, judge_said, verify_said};
 ghost use Rattle.router_words.specs.Word.{words_of};
 
 use fpga_problem::{FourNames, TextFile as ProblemFile, ThreeNames};
 use router_top::TextFile;
-use router_words::{CheckJob, Job, JudgeJob, Method, VerifyJob, WordsFault, read_words};
+use router_words::{CheckJob, DecodeJob, Job, JudgeJob, Method, VerifyJob, WordsFault, read_words};
 use std::alloc::{AllocError, Global};
 
 /// The job that the words ask for, if they ask for one.
@@ -49,6 +50,7 @@ pub(crate) fn given_name<'a>(job: Option<Job<'a>>, file: TextFile) -> Option<&'a
         Job::Route(job) => name_of_four(job.files, file),
         Job::Sweep(job) => name_of_four(job.files, file),
         Job::Encode(job) => name_of_four(job.files, file),
+        Job::Decode(job) => name_of_decoded(job, file),
         Job::Core(job) => name_of_four(job.files, file),
         Job::Check(job) => name_of_two(job, file),
         Job::Verify(job) => name_of_five(job, file),
@@ -75,7 +77,7 @@ fn name_of_four<'a>(files: FourNames<'a>, file: TextFile) -> Option<&'a str>
         TextFile::Problem(ProblemFile::Netlist) => Some(files.netlist),
         TextFile::Problem(ProblemFile::Placement) => Some(files.placement),
         TextFile::Problem(ProblemFile::Route) => Some(files.route),
-        TextFile::Cnf | TextFile::Lrat | TextFile::Routed => None,
+        TextFile::Cnf | TextFile::Lrat | TextFile::Routed | TextFile::Model => None,
     }
 }
 
@@ -85,7 +87,7 @@ fn name_of_two<'a>(job: CheckJob<'a>, file: TextFile) -> Option<&'a str>
     match file {
         TextFile::Cnf => Some(job.cnf),
         TextFile::Lrat => Some(job.lrat),
-        TextFile::Problem(_) | TextFile::Routed => None,
+        TextFile::Problem(_) | TextFile::Routed | TextFile::Model => None,
     }
 }
 
@@ -94,7 +96,20 @@ fn name_of_five<'a>(job: VerifyJob<'a>, file: TextFile) -> Option<&'a str>
 {
     match file {
         TextFile::Routed => Some(job.routed),
-        TextFile::Problem(_) | TextFile::Cnf | TextFile::Lrat => name_of_four(job.files, file),
+        TextFile::Problem(_) | TextFile::Cnf | TextFile::Lrat | TextFile::Model => {
+            name_of_four(job.files, file)
+        }
+    }
+}
+
+fn name_of_decoded<'a>(job: DecodeJob<'a>, file: TextFile) -> Option<&'a str>
+    ensures { option_copied result ≡ name_of_decoded (decode_said job.entry) file }
+{
+    match file {
+        TextFile::Model => Some(job.model),
+        TextFile::Problem(_) | TextFile::Cnf | TextFile::Lrat | TextFile::Routed => {
+            name_of_four(job.files, file)
+        }
     }
 }
 
@@ -105,8 +120,11 @@ fn name_of_three<'a>(files: ThreeNames<'a>, file: TextFile) -> Option<&'a str>
         TextFile::Problem(ProblemFile::Architecture) => Some(files.architecture),
         TextFile::Problem(ProblemFile::Netlist) => Some(files.netlist),
         TextFile::Problem(ProblemFile::Placement) => Some(files.placement),
-        TextFile::Problem(ProblemFile::Route) | TextFile::Cnf | TextFile::Lrat | TextFile::Routed =>
-            None,
+        TextFile::Problem(ProblemFile::Route)
+        | TextFile::Cnf
+        | TextFile::Lrat
+        | TextFile::Routed
+        | TextFile::Model => None,
     }
 }
 
@@ -115,7 +133,9 @@ fn name_of_judged<'a>(job: JudgeJob<'a>, file: TextFile) -> Option<&'a str>
 {
     match file {
         TextFile::Routed => Some(job.routed),
-        TextFile::Problem(_) | TextFile::Cnf | TextFile::Lrat => name_of_three(job.files, file),
+        TextFile::Problem(_) | TextFile::Cnf | TextFile::Lrat | TextFile::Model => {
+            name_of_three(job.files, file)
+        }
     }
 }
 
@@ -153,6 +173,7 @@ pub(crate) fn files_written(job: Option<Job<'_>>) -> Option<Written<'_>>
         Job::Route(job) => Some(Written::One(job.search.prefix)),
         Job::Core(job) => Some(Written::One(job.prefix)),
         Job::Encode(job) => Some(Written::One(job.prefix)),
+        Job::Decode(job) => Some(Written::One(job.prefix)),
         Job::Global(job) => Some(Written::One(job.prefix)),
         Job::Least(job) => Some(Written::One(job.prefix)),
         Job::Gen(job) => Some(Written::One(job.prefix)),
@@ -173,6 +194,7 @@ pub(crate) fn reach_asked(job: Option<Job<'_>>) -> Option<u32>
         Job::Route(job) => reach_by(job.search.method),
         Job::Sweep(job) => reach_by(job.search.method),
         Job::Encode(job) => reach_by(job.method),
+        Job::Decode(job) => reach_by(job.method),
         Job::Verify(job) => job.reach,
         Job::Trial(job) => reach_by(job.search.method),
         Job::Core(_)

@@ -1,7 +1,7 @@
 //! Words for what is wrong in a file.
 ghost use Rattle.std.specs.Prelude.{◌≡◌, ◌++◌, OnOk, string_bytes};
 ghost use Rattle.router_says.specs.Names.{asked, file_said, name_of};
-ghost use Rattle.router_says.specs.Said.{limit_place};
+ghost use Rattle.router_says.specs.Said.{limit_place, unmet_said};
 
 use crate::names::given_name;
 use router_top::TextFile;
@@ -22,6 +22,17 @@ pub(crate) fn append_limit_place(
     };
     append_file(out, job, file)?;
     out.push_str(": ")
+}
+
+/// Appends which clause has no literal of a model.
+pub(crate) fn append_unmet(out: &mut String, clause: u32) -> Result<(), AllocError>
+    ensures { OnOk result (string_bytes out.new ≡ string_bytes out.old ++ unmet_said clause) }
+{
+    write!(
+        out,
+        ": clause {clause} has none of its literals; so it is no model of the clauses that encode \
+         writes of these files at this width with the same options"
+    )
 }
 
 /// Appends the kind of a file, and the name that was given for it.

@@ -135,6 +135,7 @@ fn may_count(job: Option<Job<'_>>) -> bool
         Job::Route(job) => !job.search.count,
         Job::Sweep(job) => !job.search.count,
         Job::Encode(_)
+        | Job::Decode(_)
         | Job::Core(_)
         | Job::Check(_)
         | Job::Verify(_)
@@ -158,6 +159,7 @@ fn may_order(job: Option<Job<'_>>) -> bool
         Job::Route(job) => is_strict(job.search.method),
         Job::Sweep(job) => is_strict(job.search.method),
         Job::Encode(_)
+        | Job::Decode(_)
         | Job::Core(_)
         | Job::Check(_)
         | Job::Verify(_)

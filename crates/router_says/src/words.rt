@@ -12,18 +12,19 @@ ghost use Rattle.router_says.specs.Said.{
   about_said,
   limit_place,
   undecided_said,
+  unmet_said,
   unroutable_said,
 };
 ghost use Rattle.router_says.specs.Seen.{Sees};
 ghost use Rattle.router_says.specs.declared.at_fault.Sought.TheVariants.{Routed as RoutedLine};
-ghost use Rattle.router_top.specs.declared.text_file.TextFile.TheVariants.{Lrat, Routed};
+ghost use Rattle.router_top.specs.declared.text_file.TextFile.TheVariants.{Lrat, Model, Routed};
 ghost use Rattle.router_words.specs.Word.{words_of};
 
 use crate::at_fault::{append_at_fault, append_judged_line};
 use crate::bounds::{append_bound, append_narrowed};
 use crate::faults::{SystemErrors, append_unread, append_unwritten};
 use crate::names::{job_in, may_have_several};
-use crate::refused::{append_file, append_limit_place};
+use crate::refused::{append_file, append_limit_place, append_unmet};
 use crate::seen::append_seen;
 use crate::symmetry::append_obstacle;
 use crate::unfound::{append_no_way, append_unfound};
@@ -99,6 +100,7 @@ fn append_meaning<D: Desk>(
         Outcome::NotLegal { line, cause } => {
             append_not_legal(alloc, desk, out, job, line, cause)
         }
+        Outcome::NotModel { clause } => append_no_model(out, job, clause),
         Outcome::InputFault { file, line, code } => {
             append_bad_line(alloc, desk, out, job, file, line, code)
         }
@@ -161,6 +163,15 @@ fn append_not_legal<D: Desk>(
     append_judged_of(out, job, line, code)?;
     append_judged_line(alloc, desk, out, job, line)?;
     Ok(())
+}
+
+// Which clause the model leaves unsatisfied.
+fn append_no_model(out: &mut String, job: Option<Job<'_>>, clause: u32) -> Result<(), AllocError>
+    ensures { OnOk result (string_bytes out.new
+        ≡ string_bytes out.old ++ (about_said (asked job.entry) Model ++ unmet_said clause)) }
+{
+    append_file(out, job, TextFile::Model)?;
+    append_unmet(out, clause)
 }
 
 // Which line of the routed file is bad, and why.

@@ -14,13 +14,14 @@ use Rattle.router_words.specs.Refusal.{code_of}
 use Rattle.router_words.specs.declared.fault.Refusal.{Refusal}
 use Rattle.router_top.specs.Bound.{IsTrueOfCut, bound_outcome}
 use Rattle.router_top.specs.Check.{ChecksTo, JudgesTo, VerifiesTo}
+use Rattle.router_top.specs.Decode.{IsTrueOfModel}
 use Rattle.router_top.specs.Generated.{IsTooLarge, Makes, HasRoom, IsTooMany}
 use Rattle.router_top.specs.Method.{HasNone, clauses_by, IsCrowdFor}
 use Rattle.router_top.specs.Placed.{IsJudgement, JudgesPlaced, ReadsRouted}
 use Rattle.router_top.specs.Search.{Search, clauses_held, core_search, route_search, sweep_of, sweep_search, clauses_at}
 use Rattle.router_top.specs.Suited.{IsLeastUnsuited, IsTrueOfSuited, IsUnsuited, Suits, is_suited, obstacle_to}
-use Rattle.router_top.specs.Truth.{Agrees, AreBounds, IsOpenBelow, IsReached, IsTrueAt, IsTrueOfEncoding, IsTrueOfJob, IsTrueOfSearch, IsTrueOfSuitedSearch, IsTrueOfWork, IsTrueOfCount, IsTrueBy}
-use Rattle.router_top.specs.Subject.{FileMap, FileNames, IsHalted, RoutingProblem, HasFew, job_of, Blames, Bounds, CheckAsked, Checks, Encodes, Generates, JobAsked, JudgeAsked, Judges, Negotiates, RecipeAsked, Routes, Sweeps, TrialAsked, Tries, Verifies, VerifyAsked, Word, Method, Outcome, Done, NotSymmetric, Undecided, Usage, Narrows}
+use Rattle.router_top.specs.Truth.{Agrees, AreBounds, IsOpenBelow, IsReached, IsTrueAt, IsTrueOfDecoding, IsTrueOfEncoding, IsTrueOfJob, IsTrueOfSearch, IsTrueOfSuitedSearch, IsTrueOfWork, IsTrueOfCount, IsTrueBy}
+use Rattle.router_top.specs.Subject.{FileMap, FileNames, IsHalted, RoutingProblem, HasFew, job_of, Blames, Bounds, CheckAsked, Checks, Decodes, Encodes, Generates, JobAsked, JudgeAsked, Judges, Negotiates, RecipeAsked, Routes, Sweeps, TrialAsked, Tries, Verifies, VerifyAsked, Word, Method, Outcome, Done, NotSymmetric, Undecided, Usage, Narrows}
 use Rattle.router_top.specs.declared.outcome.Obstacle.{Obstacle}
 use Rattle.router_top.proofs.GeneratedLaws.{one-made}
 use Rattle.router_top.proofs.PlacedLaws.{placed-agrees}
@@ -311,6 +312,18 @@ job-agrees crowd (Encodes job) files a b h g =
     (λ s t. counts-agree FormulaClauses
     (length (clauses_by job.method crowd job.width p).clauses)
     (λ said. said ≡ Done) a b s.1 t.1 (λ e f. inl (e ∙ sym f))))
+job-agrees crowd (Decodes job) files a b h g =
+    work-agrees files job.files (IsTrueOfDecoding job crowd (Some files)) a b h g
+    (λ p u v. suited-agrees job.method job.width job.width p
+    (λ said. IsCrowdFor job.method false crowd p × IsTrueOfCount FormulaClauses
+    (length (clauses_by job.method crowd job.width p).clauses)
+    (IsTrueOfModel (IsHalted (Some files)) (Some files) job
+    (clauses_by job.method crowd job.width p) said) said) a b u v
+    (λ s t. counts-agree FormulaClauses
+    (length (clauses_by job.method crowd job.width p).clauses)
+    (IsTrueOfModel (IsHalted (Some files)) (Some files) job
+    (clauses_by job.method crowd job.width p)) a b s.1 t.1
+    (λ h g. inl (reads-alike files h g (λ literals is other. is ∙ sym other)))))
 job-agrees crowd (Blames job) files a b h g =
     work-agrees files job.files (IsTrueOfSearch (core_search job)) a b h g
     (λ p u v. search-agrees (core_search job) p (inl refl) a b u v)

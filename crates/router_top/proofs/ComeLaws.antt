@@ -6,11 +6,13 @@ use Rattle.std.proofs.Common.{◌≡◌, ◌∙◌, ◌⊎◌, ℕ, ◌+◌, ◌
 use Rattle.desk_io.specs.Files.{HasRisen}
 use Rattle.desk_io.proofs.FileLemmas.{has_risen}
 use Rattle.fpga_problem.proofs.SourceLemmas.{calm-reads}
+use Rattle.fpga_problem.specs.Sources.{Reads, Stops, StopsAt}
 use Rattle.fpga_problem.specs.Files.{PosesPlaced}
 use Rattle.fpga_types.specs.Given.{IsGiven}
 use Rattle.fpga_types.specs.Problem.{PlacedNetlist}
 use Rattle.fpga_types.specs.declared.limits.TheConstants.{WIDTH_LIMIT}
 use Rattle.fpga_route.specs.Printed.{printed}
+use Rattle.fpga_route.proofs.ReadBackLemmas.{reads_back}
 use Rattle.route_bound.specs.Crossing.{IsBound}
 use Rattle.route_bound.specs.Cuts.{IsBestCut}
 use Rattle.route_bound.specs.declared.cut.Cut.{Cut as BestCut}
@@ -29,6 +31,9 @@ use Rattle.route_judge.specs.Judged.{placed_judged}
 use Rattle.route_verify.specs.Reach.{judged_by}
 use Rattle.route_verify.specs.declared.judgement.Judgement.{Judgement as Judged}
 use Rattle.route_verify.specs.declared.judgement.Judgement.TheVariants.{Legal as IsLegal, NotLegal as IsNotLegal}
+use Rattle.model_text.specs.ModelText.{model_said}
+use Rattle.model_text.specs.Models.{first_unmet}
+use Rattle.sat_clause.specs.declared.literal.Lit.{Lit}
 use Rattle.sat_clause.specs.Judge.{Judgement, Accepted as IsAccepted, Refused as IsRefused}
 use Rattle.sat_clause.specs.Step.{HaveLiterals}
 use Rattle.sat_clause.specs.declared.limits.TheConstants.{CLAUSE_LIMIT}
@@ -43,6 +48,7 @@ use Rattle.router_top.specs.declared.size_cause.SizeCause.TheVariants.{FormulaCl
 use Rattle.router_top.specs.Bound.{BoundsTo, IsBounded, IsTrueOfCut, SaysCut, bound_outcome, cut_lines, net_line}
 use Rattle.router_top.specs.Check.{JudgesTo, ChecksTo, cnf_source, judgement_outcome, lrat_source, VerifiesTo, judged_outcome}
 use Rattle.router_top.specs.Comes.{ComesTo, lower_files}
+use Rattle.router_top.specs.Decode.{DecodeLeaves, DecodesProblem, IsTrueOfModel, LeavesClauses, LeavesJudged, LeavesModel, LeavesRouting, ReadsModel, decoded_file, decoded_outcome, model_source}
 use Rattle.router_top.specs.Generated.{PosesNone, generated_files, texts_of}
 use Rattle.router_top.specs.Global.{HasFiles, IsNoWay, IsTrueOfSought, IsWaylessLine, IsWithoutWay, LeavesFound, LeavesSought, SaysNet, found_file}
 use Rattle.router_top.specs.Least.{AreLeastLines, IsCutOfLeast, IsNarrowing, IsOfCut, IsTrueOfLeast, LeavesCut, LeavesWidths, at_width, beyond_outcome, last_asked}
@@ -50,18 +56,18 @@ use Rattle.router_top.specs.JobFiles.{IsClimb, LeavesWhole}
 use Rattle.router_top.specs.Means.{IsJudged, IsJudgedPlaced, Means}
 use Rattle.router_top.specs.Method.{IsRoutingBy, clauses_by, IsCrowdFor}
 use Rattle.router_top.specs.Placed.{IsJudgement, IsTrueJudgement, JudgesPlaced, ReadsRouted}
-use Rattle.router_top.specs.Report.{climbed_outcome, found_outcome, written_outcome}
+use Rattle.router_top.specs.Report.{climbed_outcome, found_outcome, unread_outcome, written_outcome}
 use Rattle.router_top.specs.Suited.{LeavesPrepared, EncodeLeaves, IsUnsuited, LeavesSuited, RouteLeaves, Suits, SweepLeaves}
 use Rattle.router_top.specs.Run.{Leaves, LeavesJob, LeavesPlaced, LeavesWork, Scene, TriesGenerated, WritesGenerated, LeavesGlobal, LeavesLeast}
 use Rattle.router_top.specs.Saying.{more_said, AreCutLines, AreNetLines, IsOfBound, IsUnroutable, Leads}
 use Rattle.router_top.specs.Search.{files_of, route_search, search_asked, sweep_of, sweep_search, Search, core_search, lower_widths, proof_files, route_file, HasCrowd, clauses_at}
 use Rattle.router_top.specs.Work.{trial_line, Encodes, LeavesRoute, Sweeps, WritesClauses, clauses_file, Finds}
-use Rattle.router_top.specs.Truth.{IsTrueOf, IsTrueOfEncoding, IsTrueOfJob, IsTrueOfSearch, IsTrueOfSuitedSearch, IsTrueOfWork}
+use Rattle.router_top.specs.Truth.{IsTrueOf, IsTrueOfCount, IsTrueOfDecoding, IsTrueOfEncoding, IsTrueOfJob, IsTrueOfSearch, IsTrueOfSuitedSearch, IsTrueOfWork}
 use Rattle.router_top.specs.Written.{JobFile, WritesFiles, job_file, with_files, AreWritten}
 use Rattle.router_top.specs.Core.{LeavesCore, SaysBlamed, SaysLead}
 use Rattle.router_top.specs.Headline.{IsRefuted}
-use Rattle.router_top.specs.Subject.{Bytes, FileMap, ShelfState, after_say, FileNames, Poses, IsHalted, IsStopped, Says, RoutingProblem, RouteText, Cnf, Step, job_of, BoundAsked, Bounds, CheckAsked, Checks, EncodeAsked, Encodes as EncodesJob, GenAsked, Generates, JobAsked, JudgeAsked, Judges, Negotiates, RouteAsked, Routes, SweepAsked, Sweeps as SweepsJob, TrialAsked, Tries as TriesJob, Verifies, VerifyAsked, Blames, CoreAsked, Word, Method, Outcome, Bound, Done, Usage, WriteFault, OutOfMemory, Unroutable, Limit, File, GlobalAsked, LeastAsked, Narrows, Narrowed, Beyond, Unfound, NoWay, Slot, Routed as IsRoutedAt}
-use Rattle.router_top.specs.declared.text_file.TextFile.TheVariants.{Cnf as CnfFile, Lrat, Routed}
+use Rattle.router_top.specs.Subject.{Bytes, FileMap, ShelfState, after_say, FileNames, Poses, IsHalted, IsStopped, Says, RoutingProblem, RouteText, HasFew, Cnf, Step, job_of, BoundAsked, Bounds, CheckAsked, Checks, DecodeAsked, Decodes as DecodesJob, EncodeAsked, Encodes as EncodesJob, GenAsked, Generates, JobAsked, JudgeAsked, Judges, Negotiates, RouteAsked, Routes, SweepAsked, Sweeps as SweepsJob, TrialAsked, Tries as TriesJob, Verifies, VerifyAsked, Blames, CoreAsked, Word, Method, Outcome, Bound, Done, Usage, WriteFault, OutOfMemory, Unroutable, Limit, File, GlobalAsked, LeastAsked, Narrows, Narrowed, Beyond, Unfound, NoWay, Slot, Routed as IsRoutedAt}
+use Rattle.router_top.specs.declared.text_file.TextFile.TheVariants.{Cnf as CnfFile, Lrat, Model as ModelFile, Routed}
 use Rattle.router_top.proofs.Came.{Came, Cut, HasCome, Idle, IsSpared, NeedsNoFile, Searched, Told, Wrote, ended_with}
 use Rattle.router_top.proofs.ClimbLaws.{climbed-calm, climbed-logs, climbed-outcome, climbed-said}
 use Rattle.router_top.proofs.GeneratedLaws.{made-poses, problem-apart}
@@ -72,10 +78,11 @@ use Rattle.router_top.proofs.LiteralLaws.{log_literals}
 use Rattle.router_top.proofs.NameLaws.{proof-apart, proofs-then-proof, proofs-then-route, route-apart}
 use Rattle.router_top.proofs.PlacedLaws.{calm-placed, placed-lacks-hold}
 use Rattle.router_top.proofs.SaidLaws.{finds-silent, more-none}
-use Rattle.router_top.proofs.StopLaws.{HoldsOfStops, IsSpent, calm-lack, lacks-hold, reads-hold, unsuited-holds}
+use Rattle.router_top.proofs.StopLaws.{HoldsOfStops, IsSpent, calm-lack, lacks-hold, reads-hold, unread-holds, unsuited-holds}
 use Rattle.router_top.proofs.ServeLaws.{crowd-said, one-copy}
 use Rattle.router_top.proofs.WrittenLaws.{AreApart}
 use Rattle.router_top.proofs.MeansLaws.{refuted-there}
+use Rattle.router_top.proofs.MethodLaws.{routing-printable}
 
 less-itself : (n : ℕ) → n - n ≡ 0
 less-itself n = omega arith
@@ -643,6 +650,151 @@ module _ (words : List Word) (at : Scene) where
         absurd (omega (arith, h.0.0, h.0.1, h.0.2))
     written-came (Err Memory) o is h = spent o h.1 (λ other is. cc) is
 
+  -- ---- the route of a model
+
+  module _ (job : DecodeAsked) (asked : job_of words ≡ Ok (DecodesJob job)) (p : RoutingProblem)
+      (poses : Poses at.desk.files job.files p)
+      (suits : Suits job.method job.width job.width p) where
+    module _ (given : IsGiven p) (narrow : job.width ≤ WIDTH_LIMIT) (crowd : List ℕ)
+        (known : IsCrowdFor job.method false crowd p) where
+      abbrev asked-clauses : Cnf
+      asked-clauses = clauses_by job.method crowd job.width p
+
+      decode-true : (o : Outcome)
+          → IsTrueOfCount FormulaClauses (length asked-clauses.clauses)
+          (IsTrueOfModel (IsHalted at.desk.files) at.desk.files job asked-clauses o) o
+          → IsTrueOf words at.desk.files o
+      decode-true o h = true-by (DecodesJob job) asked crowd o
+          (inr (p, poses, inr (suits, (known, h))))
+
+      module _ (few : HasFew asked-clauses) (literals : List Lit)
+          (says : Says at.desk.files (model_source job.model asked-clauses.vars) model_said literals)
+        where
+          abbrev model-read : ReadsModel words at.desk.files
+          model-read = record {
+            job = job;
+            asked = asked;
+            p = p;
+            poses = poses;
+            crowd = crowd;
+            known = known;
+            few = few;
+            literals = literals;
+            says = says;
+          }
+
+          routing-came : first_unmet literals asked-clauses.clauses ≡ None → (o : Outcome)
+              → LeavesRouting job (IsRoutingBy job.method job.width p) at.shelf at.shelf_now o
+              → Came words at o
+          routing-came met o (inl (short, same)) = spent o same (λ other is. cc) short
+          routing-came met o (inr (found, routing, h)) = Wrote (record {
+            done = IsRoutedAt job.width;
+            is_done = tt;
+            between = at.shelf;
+            begun = refl;
+            calm = refl;
+            lead = [];
+            said = sym (more-none at.shelf.said);
+            files = decoded_file job found ∷ [];
+            of = inr (inr (inr (inr (inr (inl (record {
+              job = job;
+              asked = asked;
+              p = p;
+              poses = poses;
+              found = found;
+              routing = routing;
+              order = refl;
+            }))))));
+            apart = (tt, tt);
+            heard = (tt, tt);
+            writes = h;
+            leads = inr (
+              refl,
+              record {
+                no_trial = λ other is. cc;
+                no_nets = λ other is unroutable. cc;
+                no_cut = λ other is bound. cc;
+                no_span = λ other is narrowing. cc;
+                no_net = λ other is way. cc;
+              },
+            );
+            means = λ done written. inr (inr (record {
+              model = model-read;
+              width_is = refl;
+              met = met;
+              found = found;
+              routing = routing;
+              reads_back = reads_back found (routing-printable job.method job.width p found
+                  poses.route.text given poses.fits narrow
+                  (poses.route.faultless, poses.route.says) routing);
+              written = written;
+            }));
+            told = decode-true (IsRoutedAt job.width)
+                (inr (few, Reads literals says (sym (ap (decoded_outcome job.width) met))));
+          })
+
+          judged-came : (o : Outcome)
+              → LeavesJudged job asked-clauses (IsRoutingBy job.method job.width p) literals at.shelf
+              at.shelf_now o
+              → Came words at o
+          judged-came o (inl (clause, first, is, same)) = idle o same (λ other is_trial. cc)
+              (subst Spares (sym is) (
+                tt,
+                record {
+                  model = model-read;
+                  first = first;
+                  same = ap (λ (s : ShelfState). s.files) same;
+                },
+              ))
+              (λ calm. inl (decode-true o (inr (
+                few,
+                Reads literals says (is ∙ sym (ap (decoded_outcome job.width) first)),
+              ))))
+          judged-came o (inr (met, h)) = routing-came met o h
+
+      -- a model that was not read is kept from it by what its file holds, or memory ran out
+      calm-model : (o : Outcome) → ¬ HasRisen at.desk.faults at.desk_now.faults
+          → StopsAt (IsStopped at.desk at.desk_now) (model_source job.model asked-clauses.vars)
+          (unread_outcome ModelFile) o
+          → IsTrueOfModel (IsHalted at.desk.files) at.desk.files job asked-clauses o ⊎ IsSpent o
+      calm-model o calm stop =
+          let not_read : IsTrueOfModel (IsStopped at.desk at.desk_now) at.desk.files job
+          asked-clauses o = Stops stop in
+          calm-reads at.desk at.desk_now IsSpent calm refl (λ literals. inl) not_read
+
+      model-came : HasFew asked-clauses → (o : Outcome)
+          → LeavesModel (IsStopped at.desk at.desk_now) at.desk.files job asked-clauses
+          (IsRoutingBy job.method job.width p) at.shelf at.shelf_now o
+          → Came words at o
+      model-came few o (inl (stop, same)) = idle o same (λ other is. cc)
+          (subst Spares (sym stop.tells) (unread-holds Spares stops-spare ModelFile stop.fault))
+          (λ calm. elim (calm-model o calm stop) [
+            | inl told ↦ inl (decode-true o (inr (few, told)))
+            | inr short ↦ inr short
+          ])
+      model-came few o (inr (literals, says, h)) = judged-came few literals says o h
+
+      clauses-came : (o : Outcome)
+          → LeavesClauses (IsStopped at.desk at.desk_now) at.desk.files job asked-clauses
+          (IsRoutingBy job.method job.width p) at.shelf at.shelf_now o
+          → Came words at o
+      clauses-came o (inl (TooManyClauses count, unbuilt, is, same)) =
+          idle o same (λ other is_trial. cc) (subst Spares (sym is) (tt, tt))
+          (λ calm. inl (decode-true o (inl (
+            subst (λ (n : ℕ). CLAUSE_LIMIT < n) unbuilt.0 unbuilt.1,
+            is ∙ ap (Limit None (size_code FormulaClauses)) unbuilt.0,
+          ))))
+      clauses-came o (inl (TooManyHeld count, unbuilt, is, same)) =
+          absurd (omega (arith, unbuilt.0, unbuilt.1, unbuilt.2))
+      clauses-came o (inl (Memory, unbuilt, is, same)) = spent o same (λ other is_trial. cc) is
+      clauses-came o (inl (Fault slot, unbuilt, is, same)) = absurd unbuilt
+      clauses-came o (inr (few, h)) = model-came few o h
+
+    decoded-came : (o : Outcome)
+        → DecodesProblem (IsStopped at.desk at.desk_now) at.desk.files job p at.shelf at.shelf_now o
+        → Came words at o
+    decoded-came o did = clauses-came did.given did.narrow did.crowd did.known o did.left
+
   -- ---- the check of a log
 
   module _ (job : CheckAsked) (asked : job_of words ≡ Ok (Checks job)) where
@@ -925,7 +1077,7 @@ module _ (words : List Word) (at : Scene) where
               at.shelf_now o h;
         },
       );
-      means = λ done written. inr (record {
+      means = λ done written. inr (inl (record {
         job = job;
         asked = asked;
         width_is = refl;
@@ -935,7 +1087,7 @@ module _ (words : List Word) (at : Scene) where
         route = route;
         says = routing-said at.desk.files job placed found has route;
         written = written;
-      });
+      }));
       told = global-true placed has (IsRoutedAt job.width)
           (inr (reached, inl (found, route, refl)));
     })
@@ -1256,6 +1408,17 @@ module _ (words : List Word) (at : Scene) where
       (λ suits. prepared-came job.method false (Encodes job) p o (λ other is. cc)
       (λ did. written-came job asked p poses suits did.crowd did.known did.came o did.is
       did.writes))) h
+  job-came (DecodesJob job) o asked h =
+      work-came (DecodesJob job) asked job.files (IsTrueOfDecoding job [] at.desk.files)
+      (DecodeLeaves (IsStopped at.desk at.desk_now) at.desk.files job) o (λ told. told)
+      (λ other is. cc)
+      (λ p poses. suited-came (DecodesJob job) asked job.method job.width job.width
+      (LeavesPrepared job.method false
+      (DecodesProblem (IsStopped at.desk at.desk_now) at.desk.files job)) p o
+      (λ unsuited. inr (p, poses, inl unsuited)) (λ other is. cc)
+      (λ suits. prepared-came job.method false
+      (DecodesProblem (IsStopped at.desk at.desk_now) at.desk.files job) p o (λ other is. cc)
+      (decoded-came job asked p poses suits o))) h
   job-came (Blames job) o asked h =
       work-came (Blames job) asked job.files (IsTrueOfSearch (core_search job)) (LeavesCore job) o
       (λ told. told) (λ other is. cc)

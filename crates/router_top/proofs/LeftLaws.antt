@@ -27,7 +27,7 @@ use Rattle.router_top.specs.Report.{found_outcome, unsaid}
 use Rattle.router_top.specs.Run.{Runs, Scene, scene}
 use Rattle.router_top.specs.Search.{proof_files, route_file, clauses_at}
 use Rattle.router_top.specs.Work.{Finds}
-use Rattle.router_top.specs.Subject.{DeskState, Bytes, FileMap, ShelfState, HasFew, Cnf, Step, Word, Outcome, InputFault, Limit, NotSymmetric, ReadFault, Unroutable, Usage, WriteFault, Slot, Said, File, Done, Routed, Unfound, NoWay, Narrowed, Beyond}
+use Rattle.router_top.specs.Subject.{DeskState, Bytes, FileMap, ShelfState, HasFew, Cnf, Step, Word, Outcome, InputFault, Limit, NotSymmetric, ReadFault, Unroutable, Usage, WriteFault, Slot, Said, File, Done, Routed, Unfound, NoWay, NotModel, Narrowed, Beyond}
 use Rattle.router_top.proofs.Came.{AreHeard, Came, Cut, HasCome, HasWritten, Idle, IsHeard, IsSpared, NeedsNoFile, Searched, Told, Wrote, ended_with, IsDone}
 use Rattle.router_top.proofs.GeneratedLaws.{files-after}
 use Rattle.router_top.proofs.SlotNameLaws.{part-named}
@@ -164,7 +164,7 @@ module _ (words : List Word) (desk before : Option FileMap) where
   }
 
   pub none-left : (now : Option FileMap) → now ≡ before → LeavesWhole words desk before now
-  none-left now same = whole-left [] (inr (inr (inr (inr (inr refl))))) tt now same
+  none-left now same = whole-left [] (inr (inr (inr (inr (inr (inr refl)))))) tt now same
 
   -- a file behind others was begun
   part-left : (files : List JobFile) → AreFilesOf words desk files → AreApart files
@@ -227,6 +227,7 @@ module _ (words : List Word) (desk before : Option FileMap) where
   idle-left now (NotSymmetric width why) fileless same = same
   idle-left now (Unfound width rounds) fileless same = same
   idle-left now (NoWay width) fileless same = same
+  idle-left now (NotModel clause) fileless same = same
   idle-left now (Beyond tracks cells nets) fileless same = same
   idle-left now (Limit file code count) fileless same = inl same
   idle-left now o fileless same = none-left now same
@@ -471,6 +472,7 @@ module _ (words : List Word) (desk before now : Option FileMap) where
   unsaid-left (NotSymmetric width why) h = none-left words desk before now h
   unsaid-left (Unfound width rounds) h = none-left words desk before now h
   unsaid-left (NoWay width) h = none-left words desk before now h
+  unsaid-left (NotModel clause) h = none-left words desk before now h
   unsaid-left (Beyond tracks cells nets) h = none-left words desk before now h
   unsaid-left (Limit file code count) (inl same) = none-left words desk before now same
   unsaid-left (Limit file code count) (inr h) = h.2

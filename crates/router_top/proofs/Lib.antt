@@ -3,6 +3,7 @@ mod Came
 mod ClimbLaws
 mod ComeLaws
 mod CompleteLaws
+mod DecodeLaws
 mod EndLaws
 mod GeneratedLaws
 mod GlobalLaws

@@ -8,7 +8,7 @@ use Rattle.route_sweep.specs.declared.found.FileSlot.TheVariants.{Route, Clauses
 use Rattle.sat_clause.specs.Step.{Step}
 use Rattle.router_words.specs.Command.{job_of}
 use Rattle.fpga_problem.specs.Files.{FileNames, names_behind}
-use Rattle.router_words.specs.Job.{JobAsked, LeastAsked, Routes, Sweeps, Encodes, Blames, Bounds, Checks, Judges, Narrows, Negotiates, Verifies, Generates, Tries}
+use Rattle.router_words.specs.Job.{JobAsked, LeastAsked, Routes, Sweeps, Decodes, Encodes, Blames, Bounds, Checks, Judges, Narrows, Negotiates, Verifies, Generates, Tries}
 use Rattle.router_words.specs.Word.{Word}
 use Rattle.router_top.specs.Comes.{lower_files}
 use Rattle.router_top.specs.JobFiles.{AreFilesOf, AreFound, AreSearched, IsNamed}
@@ -36,6 +36,7 @@ search-names (Blames ask) search is = subst (λ (s : Search). HasNames (Blames a
 search-names (Tries ask) search is = subst (λ (s : Search). HasNames (Tries ask) s) (some_is is)
     (record { route = refl; clauses = λ k. refl; log = λ k. refl })
 search-names (Encodes ask) search is = cc
+search-names (Decodes ask) search is = cc
 search-names (Checks ask) search is = cc
 search-names (Verifies ask) search is = cc
 search-names (Judges ask) search is = cc
@@ -127,7 +128,9 @@ module _ (words : List Word) where
       let job : LeastAsked = h.least.job in
       subst AreNamed (sym h.order)
       (by-job (Narrows job) h.least.asked (File Route) (job.prefix ++ codes ".route") refl, tt)
-  files-named desk files (inr (inr (inr (inr (inr none))))) = subst AreNamed (sym none) tt
+  files-named desk files (inr (inr (inr (inr (inr (inl h)))))) = subst AreNamed (sym h.order)
+      (by-job (Decodes h.job) h.asked (File Route) (h.job.prefix ++ codes ".route") refl, tt)
+  files-named desk files (inr (inr (inr (inr (inr (inr none)))))) = subst AreNamed (sym none) tt
 
   -- so has the file that was being written
   pub part-named : (desk : Option FileMap) (files : List JobFile) → AreFilesOf words desk files

@@ -6,6 +6,7 @@ use Rattle.desk_io.specs.Changes.{OnlyChanges, held}
 use Rattle.desk_io.specs.Reading.{IsWhole}
 use Rattle.fpga_types.specs.Problem.{PlacedNetlist}
 use Rattle.router_top.specs.Comes.{ComesTo, lower_files, EndsSearch}
+use Rattle.router_top.specs.Decode.{decoded_file}
 use Rattle.router_top.specs.Generated.{HasRoom, generated_files}
 use Rattle.router_top.specs.Global.{HasFiles, IsFoundRoute, found_file}
 use Rattle.route_bound.specs.declared.cut.Cut.{Cut}
@@ -18,7 +19,7 @@ use Rattle.router_top.specs.SlotNames.{name_written}
 use Rattle.router_top.specs.declared.size_cause.SizeCause.TheVariants.{FormulaClauses}
 use Rattle.router_top.specs.Work.{clauses_file}
 use Rattle.router_top.specs.Written.{AreWritten, JobFile, with_file}
-use Rattle.router_top.specs.Subject.{FileMap, Poses, RoutingProblem, RouteText, HasFew, Step, job_of, EncodeAsked, Encodes, GenAsked, Generates, GlobalAsked, Negotiates, JobAsked, SweepAsked, Sweeps, TrialAsked, Tries, Word, Outcome, InputFault, Limit, NotSymmetric, Unfound, NoWay, Beyond, Usage, ReadFault, WriteFault, Slot, Said}
+use Rattle.router_top.specs.Subject.{FileMap, Poses, RoutingProblem, RouteText, HasFew, Step, job_of, DecodeAsked, Decodes, EncodeAsked, Encodes, GenAsked, Generates, GlobalAsked, Negotiates, JobAsked, SweepAsked, Sweeps, TrialAsked, Tries, Word, Outcome, InputFault, Limit, NotSymmetric, Unfound, NoWay, NotModel, Beyond, Usage, ReadFault, WriteFault, Slot, Said}
 
 -- ---- the files of each job
 
@@ -86,12 +87,24 @@ pub record AreNarrowed (words : List Word) (desk : Option FileMap) (files : List
   pub found : IsFoundAt least.job least.placed cut.tracks at
   pub order : files ≡ found_file (at_width least.job at.width) at.found ∷ []
 
+-- of `decode`: the route of a model
+pub record AreDecoded (words : List Word) (desk : Option FileMap) (files : List JobFile)
+    : Type 0 where
+  pub job : DecodeAsked
+  pub asked : job_of words ≡ Ok (Decodes job)
+  pub p : RoutingProblem
+  pub poses : Poses desk job.files p
+  pub found : RouteText
+  pub routing : IsRoutingBy job.method job.width p found
+  pub order : files ≡ decoded_file job found ∷ []
+
 -- the files that the words ask for, in the order in which they are written; none where the work
 -- does not come to a file
 abbrev pub AreFilesOf : List Word → (desk : Option FileMap) → List JobFile → Type 0
 AreFilesOf words desk files =
     AreSearched words desk files ⊎ AreEncoded words desk files ⊎ AreGenerated words files
-    ⊎ AreNegotiated words desk files ⊎ AreNarrowed words desk files ⊎ (files ≡ [])
+    ⊎ AreNegotiated words desk files ⊎ AreNarrowed words desk files ⊎ AreDecoded words desk files
+    ⊎ (files ≡ [])
 
 -- ---- what is left of them
 
@@ -135,9 +148,10 @@ IsClimb words =
 
 -- what is left of the files, by the answer: nothing is written where the words are not taken, where
 -- a file is not read or is refused, where tracks are not alike as the method asks, where rounds have
--- found no route, no wires reach a sink or a cut asks for more tracks than were to be tried, and
--- where a limit is passed, but for that of the clauses in a climb; a fault of a file leaves a part;
--- and after each other answer the files that were begun are whole
+-- found no route, no wires reach a sink, a model leaves a clause unsatisfied or a cut asks for more
+-- tracks than were to be tried, and where a limit is passed, but for that of the clauses in a
+-- climb; a fault of a file leaves a part; and after each other answer the files that were begun are
+-- whole
 abbrev pub LeavesFiles : List Word → (desk before now : Option FileMap) → Outcome → Type 0
 LeavesFiles words desk before now (Usage code) = now ≡ before
 LeavesFiles words desk before now (ReadFault file) = now ≡ before
@@ -145,6 +159,7 @@ LeavesFiles words desk before now (InputFault file line code) = now ≡ before
 LeavesFiles words desk before now (NotSymmetric width why) = now ≡ before
 LeavesFiles words desk before now (Unfound width rounds) = now ≡ before
 LeavesFiles words desk before now (NoWay width) = now ≡ before
+LeavesFiles words desk before now (NotModel clause) = now ≡ before
 LeavesFiles words desk before now (Beyond tracks cells nets) = now ≡ before
 LeavesFiles words desk before now (Limit file code count) =
     (now ≡ before)

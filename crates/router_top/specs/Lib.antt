@@ -2,6 +2,7 @@ pub mod Bound
 pub mod Check
 pub mod Comes
 pub mod Core
+pub mod Decode
 pub mod Generated
 pub mod Global
 pub mod Headline

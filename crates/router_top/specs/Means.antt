@@ -13,6 +13,7 @@ use Rattle.sat_text.specs.CnfText.{ReadsCnf, cnf_said}
 use Rattle.sat_text.specs.LratText.{lrat_said}
 use Rattle.router_top.specs.Bound.{IsBounded}
 use Rattle.router_top.specs.Check.{cnf_source, lrat_source}
+use Rattle.router_top.specs.Decode.{IsDecoded, IsNoModel}
 use Rattle.router_top.specs.Generated.{HasRoom, generated_files}
 use Rattle.router_top.specs.Global.{IsNegotiated, IsUnfound, IsWithoutWay}
 use Rattle.router_top.specs.Headline.{IsLeftOpen, IsRefuted, IsRouted}
@@ -21,7 +22,7 @@ use Rattle.router_top.specs.Method.{clauses_by, IsCrowdFor}
 use Rattle.router_top.specs.Placed.{SaysIfLegal}
 use Rattle.router_top.specs.Work.{clauses_file}
 use Rattle.router_top.specs.Written.{AreWritten}
-use Rattle.router_top.specs.Subject.{FileMap, Poses, Says, route_source, RoutingProblem, RouteText, HasFew, Cnf, Step, job_of, CheckAsked, Checks, EncodeAsked, Encodes, GenAsked, Generates, JudgeAsked, Judges, VerifyAsked, Verifies, Word, Outcome, Accepted, Bound, Done, LegalRoute, NotLegal, Routed, Undecided, Unroutable, Unfound, NoWay, Narrowed, Beyond}
+use Rattle.router_top.specs.Subject.{FileMap, Poses, Says, route_source, RoutingProblem, RouteText, HasFew, Cnf, Step, job_of, CheckAsked, Checks, EncodeAsked, Encodes, GenAsked, Generates, JudgeAsked, Judges, VerifyAsked, Verifies, Word, Outcome, Accepted, Bound, Done, LegalRoute, NotLegal, NotModel, Routed, Undecided, Unroutable, Unfound, NoWay, Narrowed, Beyond}
 
 -- the words ask for the clauses, and one file alone was written: those of the problem, by a crowd
 -- of it if they go by one
@@ -93,6 +94,7 @@ IsJudgedSo words desk judgement =
 abbrev pub Means : List Word → (desk before now : Option FileMap) → Outcome → Type 0
 Means words desk before now (Routed width) =
     IsRouted words desk before now width ⊎ IsNegotiated words desk before now width
+    ⊎ IsDecoded words desk before now width
 Means words desk before now (Unroutable width) = IsRefuted words desk before now width
 Means words desk before now (Undecided width learned) =
     IsLeftOpen words desk before now width learned
@@ -107,6 +109,7 @@ Means words desk before now (Beyond tracks cells nets) =
     IsBeyond words desk before now tracks cells nets
 Means words desk before now Done =
     IsEncoded words desk before now ⊎ IsGenerated words before now
+Means words desk before now (NotModel clause) = IsNoModel words desk before now clause
 Means words desk before now Accepted = IsProved words desk
 Means words desk before now LegalRoute = IsJudgedSo words desk IsLegal
 Means words desk before now (NotLegal line cause) = IsJudgedSo words desk (IsNotLegal line cause)

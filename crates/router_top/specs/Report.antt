@@ -14,18 +14,19 @@ use Rattle.route_sweep.specs.declared.found.Found.{Found}
 use Rattle.route_sweep.specs.declared.found.Found.TheVariants.{Routed as IsRouted, Refuted, Spent}
 use Rattle.route_sweep.specs.declared.found.Stop.{Stop}
 use Rattle.route_sweep.specs.declared.found.Stop.TheVariants.{Fault, TooManyClauses, TooManyHeld, Memory}
-use Rattle.router_top.specs.Subject.{Outcome, Routed, Unroutable, Undecided, Bound, Done, Accepted, NotAccepted, LegalRoute, NotLegal, InputFault, Limit, NotSymmetric, Usage, ReadFault, WriteFault, OutOfMemory, Slot, Said, File, FileMap, FileNames, Source, FileFault, Unfound, NoWay, Narrowed, Beyond}
+use Rattle.router_top.specs.Subject.{Outcome, Routed, Unroutable, Undecided, Bound, Done, Accepted, NotAccepted, NotModel, LegalRoute, NotLegal, InputFault, Limit, NotSymmetric, Usage, ReadFault, WriteFault, OutOfMemory, Slot, Said, File, FileMap, FileNames, Source, FileFault, Unfound, NoWay, Narrowed, Beyond}
 use Rattle.router_top.specs.SizeCauses.{size_code}
 use Rattle.router_top.specs.declared.size_cause.SizeCause.TheVariants.{ClausesOfTurns, FileBytes, FormulaClauses}
 use Rattle.router_top.specs.declared.text_file.TheConstants.{PROOF_BYTES}
 use Rattle.router_top.specs.declared.text_file.TextFile.{TextFile}
-use Rattle.router_top.specs.declared.text_file.TextFile.TheVariants.{Cnf, Lrat, Problem, Routed}
+use Rattle.router_top.specs.declared.text_file.TextFile.TheVariants.{Cnf, Lrat, Model, Problem, Routed}
 use Rattle.router_top.specs.declared.slot.Slot.TheVariants.{Architecture, Netlist, Placement, GlobalRoute}
 
 -- how many bytes a file may have
 abbrev pub byte_limit : TextFile → ℕ
 byte_limit Cnf = PROOF_BYTES
 byte_limit Lrat = PROOF_BYTES
+byte_limit Model = PROOF_BYTES
 byte_limit file = TEXT_BYTES
 
 -- the word for a file in a report
@@ -37,6 +38,7 @@ file_word (Problem Route) = codes "route"
 file_word Cnf = codes "cnf"
 file_word Lrat = codes "lrat"
 file_word Routed = codes "routed"
+file_word Model = codes "model"
 
 -- the number by which reports name it
 abbrev pub number_of : Slot → ℕ
@@ -60,6 +62,7 @@ status_of (Beyond tracks cells nets) = 1
 status_of Done = 0
 status_of Accepted = 0
 status_of (NotAccepted step cause) = 1
+status_of (NotModel clause) = 1
 status_of LegalRoute = 0
 status_of (NotLegal line cause) = 1
 status_of (InputFault file line code) = 3
@@ -87,6 +90,7 @@ report_of Done = codes "done"
 report_of Accepted = codes "accepted"
 report_of (NotAccepted step cause) =
     codes "not accepted: step " ++ decimal step ++ codes " cause " ++ decimal cause
+report_of (NotModel clause) = codes "not a model: clause " ++ decimal clause
 report_of LegalRoute = codes "legal"
 report_of (NotLegal line cause) =
     codes "not legal: line " ++ decimal line ++ codes " cause " ++ decimal cause

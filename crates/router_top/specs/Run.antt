@@ -7,6 +7,7 @@ use Rattle.fpga_types.specs.Problem.{PlacedNetlist}
 use Rattle.router_top.specs.Bound.{BoundsTo}
 use Rattle.router_top.specs.Check.{ChecksTo, VerifiesTo}
 use Rattle.router_top.specs.Core.{LeavesCore}
+use Rattle.router_top.specs.Decode.{DecodeLeaves}
 use Rattle.router_top.specs.Written.{WritesFiles}
 use Rattle.router_top.specs.Global.{HasFiles, LacksFiles, LeavesSought}
 use Rattle.router_top.specs.Generated.{HasRoom, Makes, MakesNone, PosesNone, generated_files}
@@ -15,7 +16,7 @@ use Rattle.router_top.specs.Placed.{GivesNoPlaced, IsTrueJudgement, JudgesPlaced
 use Rattle.router_top.specs.Report.{GivesNone, IsReadFault, line_of, unsaid}
 use Rattle.router_top.specs.Suited.{EncodeLeaves, RouteLeaves, SweepLeaves}
 use Rattle.router_top.specs.Work.{Tries}
-use Rattle.router_top.specs.Subject.{DeskState, FailsToSay, ShelfState, after_say, FileNames, Poses, IsStopped, RoutingProblem, job_of, Blames, Bounds, Checks, Encodes as EncodesJob, GenAsked, Generates, GlobalAsked, JobAsked, Judges, LeastAsked, Narrows, Negotiates, Routes, Sweeps as SweepsJob, TrialAsked, Tries as TriesJob, Verifies, Word, Outcome, Usage, OutOfMemory, Done}
+use Rattle.router_top.specs.Subject.{DeskState, FailsToSay, ShelfState, after_say, FileNames, Poses, IsStopped, RoutingProblem, job_of, Blames, Bounds, Checks, Decodes as DecodesJob, Encodes as EncodesJob, GenAsked, Generates, GlobalAsked, JobAsked, Judges, LeastAsked, Narrows, Negotiates, Routes, Sweeps as SweepsJob, TrialAsked, Tries as TriesJob, Verifies, Word, Outcome, Usage, OutOfMemory, Done}
 
 -- the desk and the shelf before the work and after it
 pub record Scene : Type 0 where
@@ -86,6 +87,8 @@ abbrev pub LeavesJob : JobAsked → Scene → Outcome → Type 0
 LeavesJob (Routes job) at outcome = LeavesWork job.files (RouteLeaves job) at outcome
 LeavesJob (SweepsJob job) at outcome = LeavesWork job.files (SweepLeaves job) at outcome
 LeavesJob (EncodesJob job) at outcome = LeavesWork job.files (EncodeLeaves job) at outcome
+LeavesJob (DecodesJob job) at outcome =
+    LeavesWork job.files (DecodeLeaves (IsStopped at.desk at.desk_now) at.desk.files job) at outcome
 LeavesJob (Blames job) at outcome = LeavesWork job.files (LeavesCore job) at outcome
 LeavesJob (Checks job) at outcome =
     ChecksTo (IsStopped at.desk at.desk_now) at.desk.files job outcome

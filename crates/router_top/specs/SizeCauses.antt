@@ -4,7 +4,7 @@ use Rattle.fpga_problem.specs.declared.text_file.TextFile.TheVariants.{Architect
 use Rattle.router_top.specs.declared.size_cause.SizeCause.{SizeCause}
 use Rattle.router_top.specs.declared.size_cause.SizeCause.TheVariants.{FormulaClauses, GeneratedNets, ClausesOfTurns, FileBytes}
 use Rattle.router_top.specs.declared.text_file.TextFile.{TextFile}
-use Rattle.router_top.specs.declared.text_file.TextFile.TheVariants.{Cnf, Lrat, Problem, Routed}
+use Rattle.router_top.specs.declared.text_file.TextFile.TheVariants.{Cnf, Lrat, Model, Problem, Routed}
 
 -- the number of a file among those of all commands
 abbrev pub file_number : TextFile → ℕ
@@ -15,6 +15,7 @@ file_number (Problem Route) = 4
 file_number Cnf = 5
 file_number Lrat = 6
 file_number Routed = 7
+file_number Model = 8
 
 -- the code of a cause
 abbrev pub size_code : SizeCause → ℕ

@@ -5,7 +5,7 @@ use Rattle.route_sweep.specs.Names.{numbered_prefix}
 use Rattle.route_sweep.specs.declared.found.FileSlot.TheVariants.{Route, Clauses, Log}
 use Rattle.router_top.specs.declared.slot.Slot.{Slot}
 use Rattle.router_top.specs.declared.slot.Slot.TheVariants.{Said, File, Architecture, Netlist, Placement, GlobalRoute}
-use Rattle.router_words.specs.Job.{JobAsked, Routes, Sweeps, Encodes, Blames, Generates, Narrows, Negotiates, Tries}
+use Rattle.router_words.specs.Job.{JobAsked, Routes, Sweeps, Decodes, Encodes, Blames, Generates, Narrows, Negotiates, Tries}
 use Rattle.router_words.specs.Word.{Word}
 
 -- what a job begins the names of the files with that it writes: one set of them, or a climb, which
@@ -18,6 +18,7 @@ abbrev pub prefix_given : JobAsked → Option Prefix
 prefix_given (Routes job) = Some (OfOne job.search.prefix)
 prefix_given (Blames job) = Some (OfOne job.prefix)
 prefix_given (Encodes job) = Some (OfOne job.prefix)
+prefix_given (Decodes job) = Some (OfOne job.prefix)
 prefix_given (Negotiates job) = Some (OfOne job.prefix)
 prefix_given (Narrows job) = Some (OfOne job.prefix)
 prefix_given (Generates job) = Some (OfOne job.prefix)

@@ -12,11 +12,11 @@ pub use Rattle.route_sweep.specs.Found.{HasFew}
 pub use Rattle.sat_clause.specs.Formula.{Cnf}
 pub use Rattle.sat_clause.specs.Step.{Step}
 pub use Rattle.router_words.specs.Command.{job_of}
-pub use Rattle.router_words.specs.Job.{BoundAsked, CheckAsked, CoreAsked, EncodeAsked, GenAsked, GlobalAsked, JobAsked, JudgeAsked, LeastAsked, RecipeAsked, RouteAsked, SearchAsked, SweepAsked, TrialAsked, VerifyAsked, Blames, Bounds, Checks, Encodes, Generates, Judges, Narrows, Negotiates, Routes, Sweeps, Tries, Verifies}
+pub use Rattle.router_words.specs.Job.{BoundAsked, CheckAsked, CoreAsked, DecodeAsked, EncodeAsked, GenAsked, GlobalAsked, JobAsked, JudgeAsked, LeastAsked, RecipeAsked, RouteAsked, SearchAsked, SweepAsked, TrialAsked, VerifyAsked, Blames, Bounds, Checks, Decodes, Encodes, Generates, Judges, Narrows, Negotiates, Routes, Sweeps, Tries, Verifies}
 pub use Rattle.router_words.specs.Word.{Word}
 pub use Rattle.router_words.specs.declared.method.Method.{Method}
 pub use Rattle.router_words.specs.declared.method.Method.TheVariants.{Ordered, Pinned, Strictly, Within}
 pub use Rattle.router_top.specs.declared.outcome.Outcome.{Outcome}
-pub use Rattle.router_top.specs.declared.outcome.Outcome.TheVariants.{Routed, Unroutable, Undecided, Bound, Done, Accepted, NotAccepted, LegalRoute, NotLegal, InputFault, Limit, NotSymmetric, Usage, ReadFault, WriteFault, OutOfMemory, Unfound, NoWay, Narrowed, Beyond}
+pub use Rattle.router_top.specs.declared.outcome.Outcome.TheVariants.{Routed, Unroutable, Undecided, Bound, Done, Accepted, NotAccepted, NotModel, LegalRoute, NotLegal, InputFault, Limit, NotSymmetric, Usage, ReadFault, WriteFault, OutOfMemory, Unfound, NoWay, Narrowed, Beyond}
 pub use Rattle.router_top.specs.declared.slot.Slot.{Slot}
 pub use Rattle.router_top.specs.declared.slot.Slot.TheVariants.{Said, File}

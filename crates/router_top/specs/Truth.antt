@@ -10,6 +10,7 @@ use Rattle.router_top.specs.SizeCauses.{size_code}
 use Rattle.router_top.specs.declared.size_cause.SizeCause.TheVariants.{FormulaClauses, ClausesOfTurns}
 use Rattle.router_top.specs.Bound.{IsTrueOfCut}
 use Rattle.router_top.specs.Check.{ChecksTo, VerifiesTo}
+use Rattle.router_top.specs.Decode.{IsTrueOfModel}
 use Rattle.router_top.specs.Generated.{HasRoom, IsTooLarge, IsTooMany, Makes}
 use Rattle.router_top.specs.Global.{HasFiles, IsTrueOfSought, LacksFiles}
 use Rattle.router_top.specs.Least.{IsTrueOfLeast, last_asked}
@@ -18,7 +19,7 @@ use Rattle.router_top.specs.Placed.{IsJudgement, JudgesPlaced, WorksOnPlaced}
 use Rattle.router_top.specs.Report.{GivesNone}
 use Rattle.router_top.specs.Search.{Search, HasCrowd, clauses_at, clauses_held, core_search, route_search, sweep_of, sweep_search}
 use Rattle.router_top.specs.Suited.{IsTrueOfSuited}
-use Rattle.router_top.specs.Subject.{DeskState, FileMap, ShelfState, FileNames, Poses, IsHalted, RoutingProblem, HasFew, job_of, Blames, Bounds, Checks, EncodeAsked, Encodes, Generates, JobAsked, Judges, LeastAsked, Narrows, Negotiates, Routes, Sweeps, Tries, Verifies, Word, Outcome, Routed, Unroutable, Undecided, Bound, Done, Limit, Usage, OutOfMemory, GlobalAsked, Unfound, Narrowed, Beyond}
+use Rattle.router_top.specs.Subject.{DeskState, FileMap, ShelfState, FileNames, Poses, IsHalted, RoutingProblem, HasFew, job_of, Blames, Bounds, Checks, DecodeAsked, Decodes, EncodeAsked, Encodes, Generates, JobAsked, Judges, LeastAsked, Narrows, Negotiates, Routes, Sweeps, Tries, Verifies, Word, Outcome, Routed, Unroutable, Undecided, Bound, Done, Limit, Usage, OutOfMemory, GlobalAsked, Unfound, Narrowed, Beyond}
 use Rattle.router_top.specs.declared.size_cause.SizeCause.{SizeCause}
 
 -- so many clauses are more than may be built, as this cause says, and the outcome has their number;
@@ -69,6 +70,18 @@ IsTrueOfEncoding job crowd p outcome =
     × IsTrueOfCount FormulaClauses (length (clauses_by job.method crowd job.width p).clauses)
     (outcome ≡ Done) outcome) outcome
 
+-- the method does not suit the problem at the width, and the outcome says so; or it does, and of its
+-- clauses, by a crowd of the problem if they go by one, there are too many, or this is true of the
+-- model that the files hold
+abbrev pub IsTrueOfDecoding : DecodeAsked → (crowd : List ℕ) → Option FileMap → RoutingProblem
+    → Outcome → Type 0
+IsTrueOfDecoding job crowd files p outcome =
+    IsTrueOfSuited job.method job.width job.width p
+    (IsCrowdFor job.method false crowd p
+    × IsTrueOfCount FormulaClauses (length (clauses_by job.method crowd job.width p).clauses)
+    (IsTrueOfModel (IsHalted files) files job (clauses_by job.method crowd job.width p) outcome)
+    outcome) outcome
+
 -- the four files give no problem, and the outcome says why; or they pose one, of which it is true
 abbrev pub IsTrueOfWork : FileNames → (RoutingProblem → Outcome → Type 0) → Option FileMap
     → Outcome → Type 0
@@ -98,6 +111,8 @@ IsTrueOfJob crowd (Sweeps job) files outcome =
     IsTrueOfWork job.files (IsTrueOfSuitedSearch (sweep_search job crowd)) files outcome
 IsTrueOfJob crowd (Encodes job) files outcome =
     IsTrueOfWork job.files (IsTrueOfEncoding job crowd) files outcome
+IsTrueOfJob crowd (Decodes job) files outcome =
+    IsTrueOfWork job.files (IsTrueOfDecoding job crowd files) files outcome
 IsTrueOfJob crowd (Blames job) files outcome =
     IsTrueOfWork job.files (IsTrueOfSearch (core_search job)) files outcome
 IsTrueOfJob crowd (Checks job) files outcome = ChecksTo (IsHalted files) files job outcome

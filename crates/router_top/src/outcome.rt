@@ -76,6 +76,11 @@ pub enum Outcome {
         step: u64,
         cause: u32,
     },
+    /// The model has no literal of the clause with this number, counted from 1, and one of each
+    /// clause before it.
+    NotModel {
+        clause: u32,
+    },
     /// The routed file is a legal routing of the problem.
     LegalRoute,
     /// The routed file is no legal routing: this is its first line with a cause against it, and the
@@ -136,6 +141,7 @@ pub fn status(outcome: &Outcome) -> u8
         | Outcome::NoWay { .. }
         | Outcome::Beyond { .. }
         | Outcome::NotAccepted { .. }
+        | Outcome::NotModel { .. }
         | Outcome::NotLegal { .. } => 1,
         Outcome::Undecided { .. } | Outcome::Unfound { .. } => 2,
         Outcome::InputFault { .. } | Outcome::Limit { .. } | Outcome::NotSymmetric { .. } => 3,
@@ -174,6 +180,9 @@ pub fn report(outcome: &Outcome) -> ArrayString<LINE_ROOM>
         Outcome::NotAccepted { step, cause } => {
             push_count(&mut line, "not accepted: step ", step);
             push_count(&mut line, " cause ", cause as u64);
+        }
+        Outcome::NotModel { clause } => {
+            push_count(&mut line, "not a model: clause ", clause as u64)
         }
         Outcome::LegalRoute => line.push_str("legal"),
         Outcome::NotLegal { line: at, cause } => {

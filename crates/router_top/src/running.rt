@@ -11,6 +11,7 @@ ghost use Rattle.router_top.specs.Truth.{IsComplete};
 
 use crate::bounding::bound_files;
 use crate::checking::check_files;
+use crate::decoding::decode_files;
 use crate::generating::generate_files;
 use crate::judging::judge_file;
 use crate::narrowing::narrow_files;
@@ -75,6 +76,7 @@ fn work<D: Desk, S: Shelf>(alloc: Global, words: &[String], desk: &mut D, shelf:
             };
             work_on(alloc, &job.files, &work, desk, shelf)
         }
+        Ok(Job::Decode(job)) => without_problem(decode_files(alloc, &job, desk, shelf)),
         Ok(Job::Core(job)) => work_on(alloc, &job.files, &job, desk, shelf),
         Ok(Job::Check(job)) => without_problem(check_files(alloc, &job, desk)),
         Ok(Job::Verify(job)) => without_problem(verify_file(alloc, &job, desk)),
@@ -120,21 +122,24 @@ fn say_report<S: Shelf>(shelf: &mut S, outcome: Outcome) -> Outcome
 /// read and taken apart before the next is opened, the routed file of `verify` once the four before
 /// it fit, that of `judge` behind its three, and the first refusal ends the work.
 ///
+/// `decode` reads a model of the clauses that `encode` writes behind the four files. Where each
+/// clause has a literal of it, it writes PREFIX.route, and else it names the first that has none.
+///
 /// `core` writes what `route` does, but a refutation is cut down to what it needs. It then says a
 /// line `net NAME` for each net that the refutation blames: these have no legal routing by
 /// themselves.
 ///
-/// Where `--pin` is given to `route`, `sweep` or `encode`, the nets of one most crowded cell are
-/// given their tracks beforehand, and where `--symmetry` is, the trees of a crowd come to the
-/// tracks or to pairs of them in their order. That changes no answer. For pins all tracks are to be
-/// alike, and for that order they or their pairs are to be free to change places, at WIDTH or at
-/// each width up to MAX: if not, the outcome is `NotSymmetric` with the least such width and
-/// nothing is written.
+/// Where `--pin` is given to `route`, `sweep`, `encode` or `decode`, the nets of one most crowded
+/// cell are given their tracks beforehand, and where `--symmetry` is, the trees of a crowd come to
+/// the tracks or to pairs of them in their order. That changes no answer of a search. For pins all
+/// tracks are to be alike, and for that order they or their pairs are to be free to change places,
+/// at WIDTH or at each width up to MAX: if not, the outcome is `NotSymmetric` with the least such
+/// width and nothing is written.
 ///
-/// Where `--reach` is given to `route`, `sweep`, `trial` or `encode`, a routing is one in which a
-/// net may take several wires of its cells and reaches each sink within so many joins; the clauses
-/// say that there is one, and PREFIX.route has a tree of wires for each net. Where it is given to
-/// `verify`, the routed file is judged as such a routing.
+/// Where `--reach` is given to `route`, `sweep`, `trial`, `encode` or `decode`, a routing is one in
+/// which a net may take several wires of its cells and reaches each sink within so many joins; the
+/// clauses say that there is one, and PREFIX.route has a tree of wires for each net. Where it is
+/// given to `verify`, the routed file is judged as such a routing.
 ///
 /// `judge` asks of a routed file whether it is a routing of the placement, with no cells given
 /// beforehand: one wire of a cell alone for each net where `--strict` is given, and else several.

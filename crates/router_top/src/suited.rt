@@ -66,7 +66,12 @@ fn to_order(why: Option<Asymmetry>) -> Option<Obstacle>
 
 // What the run comes to where the method does not suit the problem at some of these widths, with
 // the least such width.
-fn unsuited(problem: &PlacedProblem, method: Method, first: u32, last: u32) -> Option<Outcome>
+pub(crate) fn unsuited(
+    problem: &PlacedProblem,
+    method: Method,
+    first: u32,
+    last: u32,
+) -> Option<Outcome>
     requires widths { (1 ≤ first) × (last ≤ WIDTH_LIMIT) }
     ensures unsuited { IfSome result (IsUnsuited method first last problem.now) }
     ensures suits { IsNone result → Suits method first last problem.now }

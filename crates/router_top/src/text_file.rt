@@ -5,7 +5,7 @@ ghost use Rattle.router_top.specs.SizeCauses.{file_number};
 
 use fpga_problem::{TEXT_BYTES, TextFile as ProblemFile};
 
-/// How many bytes a CNF or an LRAT file may have.
+/// How many bytes a CNF file, an LRAT file or a model may have.
 pub const PROOF_BYTES: u64 = 2_147_483_648;
 
 /// A file that a command reads.
@@ -16,6 +16,7 @@ pub enum TextFile {
     Cnf,
     Lrat,
     Routed,
+    Model,
 }
 
 impl TextFile {
@@ -31,6 +32,7 @@ impl TextFile {
             TextFile::Cnf => 5,
             TextFile::Lrat => 6,
             TextFile::Routed => 7,
+            TextFile::Model => 8,
         }
     }
 
@@ -39,7 +41,7 @@ impl TextFile {
         ensures { result ≡ byte_limit self }
     {
         match self {
-            TextFile::Cnf | TextFile::Lrat => PROOF_BYTES,
+            TextFile::Cnf | TextFile::Lrat | TextFile::Model => PROOF_BYTES,
             TextFile::Problem(_) | TextFile::Routed => TEXT_BYTES,
         }
     }
@@ -57,6 +59,7 @@ impl TextFile {
             TextFile::Cnf => "cnf",
             TextFile::Lrat => "lrat",
             TextFile::Routed => "routed",
+            TextFile::Model => "model",
         }
     }
 }

@@ -5,7 +5,7 @@ use Rattle.std.specs.Prelude.{Result, Ok, Err, None, Some}
 use Rattle.clap.proofs.OnLiterals.{clap_on_literals}
 use Rattle.fpga_problem.specs.Files.{FileNames, PlacedNames}
 use Rattle.router_words.specs.Command.{job_of}
-use Rattle.router_words.specs.Job.{Blames, Bounds, Checks, Encodes, Generates, JobAsked, Judges, Narrows, Negotiates, Routes, SearchAsked, Sweeps, Tries, Verifies}
+use Rattle.router_words.specs.Job.{Blames, Bounds, Checks, Decodes, Encodes, Generates, JobAsked, Judges, Narrows, Negotiates, Routes, SearchAsked, Sweeps, Tries, Verifies}
 use Rattle.router_words.specs.Word.{Word}
 use Rattle.router_words.specs.declared.fault.Refusal.{Refusal}
 use Rattle.router_words.specs.declared.fault.Refusal.TheVariants.{Clash, Command, Form, Number, Overwriting}
@@ -319,6 +319,31 @@ reach_too_far = refl
 pub pins_and_reaches : encode (codes "--pin" ∷ codes "--reach=2" ∷ []) ≡ Err Clash
 unfolding clap_on_literals
 pins_and_reaches = refl
+
+-- `decode a n p r 5 m out` and more words
+abbrev decode : List Word → Asked
+decode more = job_of (codes "decode" ∷ codes "a" ∷ codes "n" ∷ codes "p" ∷ codes "r"
+    ∷ codes "5" ∷ codes "m" ∷ codes "out" ∷ more)
+
+pub decodes : decode (codes "--symmetry" ∷ [])
+    ≡ Ok (Decodes (record {
+      files = four_files;
+      width = 5;
+      model = codes "m";
+      prefix = codes "out";
+      method = Ordered;
+    }))
+unfolding clap_on_literals
+decodes = refl
+
+pub decodes_two_ways : decode (codes "--pin" ∷ codes "--symmetry" ∷ []) ≡ Err Clash
+unfolding clap_on_literals
+decodes_two_ways = refl
+
+pub decodes_over_the_model : job_of (codes "decode" ∷ codes "a" ∷ codes "n" ∷ codes "p" ∷ codes "r"
+    ∷ codes "5" ∷ codes "m.route" ∷ codes "m" ∷ []) ≡ Err Overwriting
+unfolding clap_on_literals
+decodes_over_the_model = refl
 
 -- `core a n p r 5 out` and more words
 abbrev core : List Word → Asked

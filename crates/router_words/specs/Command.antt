@@ -6,15 +6,15 @@ use Rattle.clap.specs.Words.{App, Row, first_of, matches_of}
 use Rattle.fpga_text.specs.Numbers.{whole_number_of}
 use Rattle.fpga_types.specs.declared.limits.TheConstants.{REACH_LIMIT, SIDE_LIMIT, WIDTH_LIMIT}
 use Rattle.fpga_problem.specs.Files.{FileNames, PlacedNames}
-use Rattle.router_words.specs.Form.{bound_form, check_form, core_form, encode_form, gen_form, global_form, judge_form, least_form, route_form, sweep_form, trial_form, verify_form}
+use Rattle.router_words.specs.Form.{bound_form, check_form, core_form, decode_form, encode_form, gen_form, global_form, judge_form, least_form, route_form, sweep_form, trial_form, verify_form}
 use Rattle.router_words.specs.Near.{has_one_track}
-use Rattle.router_words.specs.Job.{Blames, Bounds, Checks, Encodes, Generates, JobAsked, Judges, MembersAsked, Narrows, Negotiates, RecipeAsked, Routes, SearchAsked, Sweeps, Tries, Verifies, job_said}
+use Rattle.router_words.specs.Job.{Blames, Bounds, Checks, Decodes, Encodes, Generates, JobAsked, Judges, MembersAsked, Narrows, Negotiates, RecipeAsked, Routes, SearchAsked, Sweeps, Tries, Verifies, job_said}
 use Rattle.router_words.specs.Overwriting.{overwrites}
 use Rattle.router_words.specs.Results.{and_then, map_ok}
 use Rattle.router_words.specs.Taken.{HasRequired, is_taken}
 use Rattle.router_words.specs.Word.{Word}
 use Rattle.router_words.specs.declared.command_name.CommandName.{CommandName}
-use Rattle.router_words.specs.declared.command_name.CommandName.TheVariants.{Bound, Check, Core, Encode, Gen, Global, Judge, Least, Route, Sweep, Trial, Verify}
+use Rattle.router_words.specs.declared.command_name.CommandName.TheVariants.{Bound, Check, Core, Decode, Encode, Gen, Global, Judge, Least, Route, Sweep, Trial, Verify}
 use Rattle.router_words.specs.declared.fault.Refusal.{Refusal}
 use Rattle.router_words.specs.declared.fault.Refusal.TheVariants.{Clash, Command, Form, Number, Overwriting}
 use Rattle.router_words.specs.declared.fault.WordsFault.{WordsFault}
@@ -206,6 +206,19 @@ encode_asked rows =
       method = method_asked reach rows;
     }))))
 
+-- what `decode` is asked for: pinned tracks, tracks in order and a reach exclude each other
+abbrev pub decode_asked : List Row → Result JobAsked Refusal
+decode_asked rows =
+    and_then (width_asked rows) (λ width.
+    and_then (reach_asked rows) (λ reach.
+    if has_two_methods rows then Err Clash else Ok (Decodes (record {
+      files = files_asked rows;
+      width = width;
+      model = word_in (codes "model") rows;
+      prefix = word_in (codes "prefix") rows;
+      method = method_asked reach rows;
+    }))))
+
 -- what `core` is asked for
 abbrev pub core_asked : List Row → Result JobAsked Refusal
 core_asked rows =
@@ -299,6 +312,9 @@ sweep_row = record { name = codes "sweep"; form = sweep_form; job = sweep_asked 
 abbrev pub encode_row : CommandRow
 encode_row = record { name = codes "encode"; form = encode_form; job = encode_asked }
 
+abbrev pub decode_row : CommandRow
+decode_row = record { name = codes "decode"; form = decode_form; job = decode_asked }
+
 abbrev pub core_row : CommandRow
 core_row = record { name = codes "core"; form = core_form; job = core_asked }
 
@@ -331,6 +347,7 @@ abbrev pub row_of : CommandName → CommandRow
 row_of Route = route_row
 row_of Sweep = sweep_row
 row_of Encode = encode_row
+row_of Decode = decode_row
 row_of Core = core_row
 row_of Check = check_row
 row_of Verify = verify_row
@@ -343,7 +360,7 @@ row_of Trial = trial_row
 
 abbrev pub commands : List CommandRow
 commands =
-    route_row ∷ sweep_row ∷ encode_row ∷ core_row ∷ check_row ∷ verify_row ∷ judge_row
+    route_row ∷ sweep_row ∷ encode_row ∷ decode_row ∷ core_row ∷ check_row ∷ verify_row ∷ judge_row
     ∷ bound_row ∷ global_row ∷ least_row ∷ gen_row ∷ trial_row ∷ []
 
 -- ---- the job of words

@@ -92,6 +92,13 @@ encode_form =
     with_option (codes "reach")
     (with_symmetry (with_width_and_prefix (with_files (empty_form (codes "encode")))))
 
+-- ARCH NET PLACE ROUTE WIDTH MODEL PREFIX [--pin] [--symmetry] [--reach L]
+abbrev pub decode_form : App
+decode_form =
+    with_option (codes "reach")
+    (with_symmetry (with_word (codes "prefix") (with_word (codes "model")
+    (with_word (codes "width") (with_files (empty_form (codes "decode")))))))
+
 -- ARCH NET PLACE ROUTE WIDTH PREFIX [--conflicts N]
 abbrev pub core_form : App
 core_form =

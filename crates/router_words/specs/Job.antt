@@ -5,11 +5,12 @@ use Rattle.router_words.specs.Word.{Word}
 use Rattle.router_words.specs.declared.job.BoundJob.{BoundJob}
 use Rattle.router_words.specs.declared.job.CheckJob.{CheckJob}
 use Rattle.router_words.specs.declared.job.CoreJob.{CoreJob}
+use Rattle.router_words.specs.declared.job.DecodeJob.{DecodeJob}
 use Rattle.router_words.specs.declared.job.EncodeJob.{EncodeJob}
 use Rattle.router_words.specs.declared.job.GenJob.{GenJob}
 use Rattle.router_words.specs.declared.job.GlobalJob.{GlobalJob}
 use Rattle.router_words.specs.declared.job.Job.{Job}
-use Rattle.router_words.specs.declared.job.Job.TheVariants.{Bound, Check, Core, Encode, Gen, Global, Judge, Least, Route, Sweep, Trial, Verify}
+use Rattle.router_words.specs.declared.job.Job.TheVariants.{Bound, Check, Core, Decode, Encode, Gen, Global, Judge, Least, Route, Sweep, Trial, Verify}
 use Rattle.router_words.specs.declared.job.JudgeJob.{JudgeJob}
 use Rattle.router_words.specs.declared.job.LeastJob.{LeastJob}
 use Rattle.router_words.specs.declared.job.Members.{Members}
@@ -55,6 +56,15 @@ pub record SweepAsked : Type 0 where
 pub record EncodeAsked : Type 0 where
   pub files : FileNames
   pub width : ℕ
+  pub prefix : Word
+  pub method : Method
+
+-- to make a route of a model: the files, the width, the name of the file with the model, what the
+-- name of the written file begins with, and how routings are said by the clauses that it satisfies
+pub record DecodeAsked : Type 0 where
+  pub files : FileNames
+  pub width : ℕ
+  pub model : Word
   pub prefix : Word
   pub method : Method
 
@@ -138,6 +148,7 @@ pub data JobAsked : Type 0 where
   Routes : RouteAsked → JobAsked
   Sweeps : SweepAsked → JobAsked
   Encodes : EncodeAsked → JobAsked
+  Decodes : DecodeAsked → JobAsked
   Blames : CoreAsked → JobAsked
   Checks : CheckAsked → JobAsked
   Verifies : VerifyAsked → JobAsked
@@ -177,6 +188,15 @@ abbrev pub encode_said : EncodeJob → EncodeAsked
 encode_said job = record {
   files = names_said job.files;
   width = job.width;
+  prefix = job.prefix.now;
+  method = job.method;
+}
+
+abbrev pub decode_said : DecodeJob → DecodeAsked
+decode_said job = record {
+  files = names_said job.files;
+  width = job.width;
+  model = job.model.now;
   prefix = job.prefix.now;
   method = job.method;
 }
@@ -244,6 +264,7 @@ abbrev pub job_said : Job → JobAsked
 job_said (Route job) = Routes (route_said job)
 job_said (Sweep job) = Sweeps (sweep_said job)
 job_said (Encode job) = Encodes (encode_said job)
+job_said (Decode job) = Decodes (decode_said job)
 job_said (Core job) = Blames (core_said job)
 job_said (Check job) = Checks (check_said job)
 job_said (Verify job) = Verifies (verify_said job)

@@ -3,7 +3,7 @@ use Rattle.std.specs.Prelude.{ℕ, ◌++◌, Bool, false, ◌||◌, List, [], �
 use Rattle.std.specs.List.{list_any, range_with_len}
 use Rattle.std.specs.Option.{option_map_or}
 use Rattle.fpga_problem.specs.Files.{FileNames, PlacedNames}
-use Rattle.router_words.specs.Job.{Blames, Encodes, JobAsked, Narrows, Negotiates, Routes, Sweeps}
+use Rattle.router_words.specs.Job.{Blames, Decodes, Encodes, JobAsked, Narrows, Negotiates, Routes, Sweeps}
 use Rattle.router_words.specs.Word.{Word}
 
 -- the names of the files of a problem, and of a placed netlist
@@ -44,12 +44,18 @@ abbrev pub route_overwrites : (files : PlacedNames) → (from : Option Word) →
 route_overwrites files from prefix = is_named (three_names files) prefix (codes ".route")
     || option_map_or (λ start. is_named (start ∷ []) prefix (codes ".route")) from false
 
+-- the route that is made of a model has the name of a file of its problem, or of the model
+abbrev pub model_overwrites : (files : FileNames) → (model prefix : Word) → Bool
+model_overwrites files model prefix = is_named (four_names files) prefix (codes ".route")
+    || is_named (model ∷ []) prefix (codes ".route")
+
 -- a file that the job may write has the name of one that it reads
 abbrev pub overwrites : JobAsked → Bool
 overwrites (Routes job) = search_overwrites (four_names job.files) job.search.prefix
 overwrites (Sweeps job) =
     climb_overwrites (four_names job.files) job.search.prefix job.search.width
 overwrites (Encodes job) = is_named (four_names job.files) job.prefix (codes ".cnf")
+overwrites (Decodes job) = model_overwrites job.files job.model job.prefix
 overwrites (Blames job) = search_overwrites (four_names job.files) job.prefix
 overwrites (Negotiates job) = route_overwrites job.files job.from job.prefix
 overwrites (Narrows job) = route_overwrites job.files job.from job.prefix

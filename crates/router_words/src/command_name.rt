@@ -8,12 +8,13 @@ ghost use Rattle.router_words.specs.Taken.{HasRequired};
 
 use crate::fault::Refusal;
 use crate::form::{
-    bound_command, check_command, core_command, encode_command, gen_command, global_command,
-    judge_command, least_command, route_command, search_command, trial_command, verify_command,
+    bound_command, check_command, core_command, decode_command, encode_command, gen_command,
+    global_command, judge_command, least_command, route_command, search_command, trial_command,
+    verify_command,
 };
 use crate::from_matches::{
-    bound_job, check_job, core_job, encode_job, gen_job, global_job, judge_job, least_job,
-    route_job, sweep_job, trial_job, verify_job,
+    bound_job, check_job, core_job, decode_job, encode_job, gen_job, global_job, judge_job,
+    least_job, route_job, sweep_job, trial_job, verify_job,
 };
 use crate::job::Job;
 use clap::{ArgMatches, Command};
@@ -25,6 +26,7 @@ pub enum CommandName {
     Route,
     Sweep,
     Encode,
+    Decode,
     Core,
     Check,
     Verify,
@@ -49,6 +51,9 @@ impl CommandName {
         }
         if word == "encode" {
             return Some(CommandName::Encode);
+        }
+        if word == "decode" {
+            return Some(CommandName::Decode);
         }
         if word == "core" {
             return Some(CommandName::Core);
@@ -88,6 +93,7 @@ impl CommandName {
             CommandName::Route => route_command(alloc),
             CommandName::Sweep => search_command(alloc, "sweep"),
             CommandName::Encode => encode_command(alloc),
+            CommandName::Decode => decode_command(alloc),
             CommandName::Core => core_command(alloc),
             CommandName::Check => check_command(alloc),
             CommandName::Verify => verify_command(alloc),
@@ -109,6 +115,7 @@ impl CommandName {
             CommandName::Route => route_job(matches),
             CommandName::Sweep => sweep_job(matches),
             CommandName::Encode => encode_job(matches),
+            CommandName::Decode => decode_job(matches),
             CommandName::Core => core_job(matches),
             CommandName::Check => check_job(matches),
             CommandName::Verify => verify_job(matches),

@@ -1,7 +1,7 @@
 //! The forms of the commands, as `clap` has them.
 ghost use Rattle.std.specs.Prelude.{◌≡◌, IfOk, codes};
 ghost use Rattle.clap.specs.Words.{app_of, rule_of};
-ghost use Rattle.router_words.specs.Form.{bound_form, check_form, core_form, empty_form, encode_form, gen_form, global_form, judge_form, least_form, route_form, search_form, trial_form, verify_form, with_effort, with_files, with_flag, with_negotiation, with_option, with_placed, with_recipe, with_search, with_symmetry, with_width_and_prefix, with_word};
+ghost use Rattle.router_words.specs.Form.{bound_form, check_form, core_form, decode_form, empty_form, encode_form, gen_form, global_form, judge_form, least_form, route_form, search_form, trial_form, verify_form, with_effort, with_files, with_flag, with_negotiation, with_option, with_placed, with_recipe, with_search, with_symmetry, with_width_and_prefix, with_word};
 
 use clap::{Arg, ArgAction, Command};
 use std::alloc::{AllocError, Global};
@@ -135,6 +135,18 @@ pub fn encode_command<'a>(alloc: Global) -> Result<Command<'a>, AllocError>
 {
     let command = add_files(alloc, named(alloc, "encode"))?;
     let command = add_width_and_prefix(alloc, command)?;
+    let command = add_symmetry(alloc, command)?;
+    add_option(alloc, command, "reach")
+}
+
+/// ARCH NET PLACE ROUTE WIDTH MODEL PREFIX [--pin] [--symmetry] [--reach L]
+pub fn decode_command<'a>(alloc: Global) -> Result<Command<'a>, AllocError>
+    ensures { IfOk result (λ c. app_of c ≡ decode_form) }
+{
+    let problem = add_files(alloc, named(alloc, "decode"))?;
+    let command = add_word(alloc, problem, "width")?;
+    let command = add_word(alloc, command, "model")?;
+    let command = add_word(alloc, command, "prefix")?;
     let command = add_symmetry(alloc, command)?;
     add_option(alloc, command, "reach")
 }

@@ -3,8 +3,8 @@ ghost use Rattle.std.specs.Prelude.{◌≡◌, ◌≤◌, IfOk, IfSome, codes, i
 ghost use Rattle.clap.specs.Words.{first_of, found_of, rows_of};
 ghost use Rattle.fpga_problem.specs.Files.{names_said, placed_names_said};
 ghost use Rattle.fpga_types.specs.declared.limits.TheConstants.{REACH_LIMIT, WIDTH_LIMIT};
-ghost use Rattle.router_words.specs.Command.{bound_asked, check_asked, conflicts_asked, core_asked, encode_asked, files_asked, gen_asked, global_asked, judge_asked, members_asked, members_with, method_asked, method_within, number_if_any, number_within, has_clash, has_two_methods, least_asked, placed_asked, reach_asked, recipe_asked, rounds_asked, route_asked, search_asked, search_by_method, sweep_asked, trial_asked, verify_asked, width_asked, word_in};
-ghost use Rattle.router_words.specs.Form.{bound_form, check_form, core_form, encode_form, gen_form, global_form, judge_form, least_form, route_form, sweep_form, trial_form, verify_form};
+ghost use Rattle.router_words.specs.Command.{bound_asked, check_asked, conflicts_asked, core_asked, decode_asked, encode_asked, files_asked, gen_asked, global_asked, judge_asked, members_asked, members_with, method_asked, method_within, number_if_any, number_within, has_clash, has_two_methods, least_asked, placed_asked, reach_asked, recipe_asked, rounds_asked, route_asked, search_asked, search_by_method, sweep_asked, trial_asked, verify_asked, width_asked, word_in};
+ghost use Rattle.router_words.specs.Form.{bound_form, check_form, core_form, decode_form, encode_form, gen_form, global_form, judge_form, least_form, route_form, sweep_form, trial_form, verify_form};
 ghost use Rattle.router_words.specs.Job.{job_said, members_said, recipe_said, search_said};
 ghost use Rattle.router_words.specs.Near.{IsNear, has_one_track};
 ghost use Rattle.router_words.specs.Results.{map_ok};
@@ -13,8 +13,8 @@ ghost use Rattle.router_words.specs.declared.limits.TheConstants.{BUDGET_LIMIT, 
 
 use crate::fault::Refusal;
 use crate::job::{
-    BoundJob, CheckJob, CoreJob, EncodeJob, GenJob, GlobalJob, Job, JudgeJob, LeastJob, Members,
-    Recipe, RouteJob, SearchJob, SweepJob, TrialJob, VerifyJob,
+    BoundJob, CheckJob, CoreJob, DecodeJob, EncodeJob, GenJob, GlobalJob, Job, JudgeJob, LeastJob,
+    Members, Recipe, RouteJob, SearchJob, SweepJob, TrialJob, VerifyJob,
 };
 use crate::limits::{
     BUDGET_DEFAULT, BUDGET_LIMIT, GENERATED_NETS_LIMIT, MEMBER_LIMIT, ROUND_DEFAULT, ROUND_LIMIT,
@@ -284,6 +284,25 @@ pub fn encode_job<'a>(matches: &ArgMatches<'a>) -> Result<Job<'a>, Refusal>
     Ok(Job::Encode(EncodeJob {
         files: file_names(matches),
         width,
+        prefix: required_word(matches, "prefix"),
+        method: method(matches, reach),
+    }))
+}
+
+/// What `decode` is asked for, or why its words ask for nothing.
+pub fn decode_job<'a>(matches: &ArgMatches<'a>) -> Result<Job<'a>, Refusal>
+    requires { HasRequired decode_form (rows_of (found_of matches.now)) }
+    ensures { map_ok job_said result ≡ decode_asked (rows_of (found_of matches.now)) }
+{
+    let width = width(matches)?;
+    let reach = reach(matches)?;
+    if has_two_methods(matches) {
+        return Err(Refusal::Clash);
+    }
+    Ok(Job::Decode(DecodeJob {
+        files: file_names(matches),
+        width,
+        model: required_word(matches, "model"),
         prefix: required_word(matches, "prefix"),
         method: method(matches, reach),
     }))

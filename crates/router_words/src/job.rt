@@ -75,6 +75,23 @@ pub struct EncodeJob<'a> {
     ghost near: { IsNear method } by { Prim.hlevel props },
 }
 
+/// To make a route of a model of the clauses of a routing.
+#[derive(Clone, Copy)]
+pub struct DecodeJob<'a> {
+    /// The files of the problem.
+    pub files: FourNames<'a>,
+    /// How many tracks each channel has, from 1 to 64.
+    pub width: u32,
+    /// The name of the file with the model.
+    pub model: &'a str,
+    /// What the name of the file that is written begins with.
+    pub prefix: &'a str,
+    /// How routings are said by the clauses that the model satisfies.
+    pub method: Method,
+    ghost in_range: { (1 ≤ width) × (width ≤ WIDTH_LIMIT) },
+    ghost near: { IsNear method } by { Prim.hlevel props },
+}
+
 /// To look for a routing, or else for the nets that stand against each other.
 #[derive(Clone, Copy)]
 pub struct CoreJob<'a> {
@@ -216,6 +233,8 @@ pub enum Job<'a> {
     Sweep(SweepJob<'a>),
     /// The clauses of a routing.
     Encode(EncodeJob<'a>),
+    /// The route that a model of such clauses stands for.
+    Decode(DecodeJob<'a>),
     /// A routing, or else the nets that stand against each other.
     Core(CoreJob<'a>),
     /// Whether a log refutes the clauses of a file.

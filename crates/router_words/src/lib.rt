@@ -5,6 +5,7 @@
 //! | `route` | FILES WIDTH PREFIX | METHOD, SEARCH, `--members K`, `--seed S` |
 //! | `sweep` | FILES MAX PREFIX | METHOD, SEARCH |
 //! | `encode` | FILES WIDTH PREFIX | METHOD |
+//! | `decode` | FILES WIDTH MODEL PREFIX | METHOD |
 //! | `core` | FILES WIDTH PREFIX | `--conflicts N` |
 //! | `check` | CNF LRAT | |
 //! | `verify` | FILES WIDTH ROUTED | `--reach L` |
@@ -53,8 +54,8 @@ mod read;
 
 pub use fault::{Refusal, WordsFault};
 pub use job::{
-    BoundJob, CheckJob, CoreJob, EncodeJob, GenJob, GlobalJob, Job, JudgeJob, LeastJob, Members,
-    Recipe, RouteJob, SearchJob, SweepJob, TrialJob, VerifyJob,
+    BoundJob, CheckJob, CoreJob, DecodeJob, EncodeJob, GenJob, GlobalJob, Job, JudgeJob, LeastJob,
+    Members, Recipe, RouteJob, SearchJob, SweepJob, TrialJob, VerifyJob,
 };
 pub use limits::{
     BUDGET_DEFAULT, BUDGET_LIMIT, GENERATED_NETS_LIMIT, MEMBER_LIMIT, ROUND_DEFAULT, ROUND_LIMIT,

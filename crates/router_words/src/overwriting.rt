@@ -23,6 +23,7 @@ pub fn overwrites(alloc: Global, job: &Job<'_>) -> Result<bool, AllocError>
             job.search.width,
         ),
         Job::Encode(job) => is_named(alloc, &four_names(job.files), job.prefix, ".cnf"),
+        Job::Decode(job) => model_overwrites(alloc, job.files, job.model, job.prefix),
         Job::Core(job) => search_overwrites(alloc, &four_names(job.files), job.prefix),
         Job::Global(job) => route_overwrites(alloc, job.files, job.from, job.prefix),
         Job::Least(job) => route_overwrites(alloc, job.files, job.from, job.prefix),
@@ -125,6 +126,23 @@ fn climb_overwrites(
         }
     }
     Ok(false)
+}
+
+// Whether the route that is made of a model would be written over a file of its problem, or over the
+// model.
+fn model_overwrites(
+    alloc: Global,
+    files: FourNames<'_>,
+    model: &str,
+    prefix: &str,
+) -> Result<bool, AllocError>
+    ensures { IfOk result (λ is. is
+        ≡ spec.model_overwrites (names_said files.entry) model.now prefix.now) }
+{
+    Ok(
+        is_named(alloc, &four_names(files), prefix, ".route")?
+            || is_named(alloc, &[model], prefix, ".route")?,
+    )
 }
 
 // Whether the route of a placement that is looked for would be written over one of its files, or

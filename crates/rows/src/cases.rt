@@ -18,7 +18,7 @@ use desk_io::Desk;
 use std::alloc::Global;
 
 // The files of cases. The first says how they are written.
-const FILES: [&str; 18] = [
+const FILES: [&str; 19] = [
     "cases/worked.rows",
     "cases/pinned.rows",
     "cases/symmetry.rows",
@@ -37,6 +37,7 @@ const FILES: [&str; 18] = [
     "cases/bound.rows",
     "cases/global.rows",
     "cases/least.rows",
+    "cases/decode.rows",
 ];
 
 /// Prints each case that comes otherwise than its lines say, and last how many come as they say.

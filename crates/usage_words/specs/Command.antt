@@ -3,9 +3,9 @@ use Rattle.std.specs.Prelude.{ℕ, Bool, ◌||◌, ◌==◌, List, Option, None,
 use Rattle.usage_words.specs.Item.{option_named}
 use Rattle.usage_words.specs.Word.{Word}
 use Rattle.usage_words.specs.declared.command.Command.{Command}
-use Rattle.usage_words.specs.declared.command.Command.TheVariants.{Bound, Check, Core, Encode, Gen, Global, Judge, Least, Route, Sweep, Trial, Verify}
+use Rattle.usage_words.specs.declared.command.Command.TheVariants.{Bound, Check, Core, Decode, Encode, Gen, Global, Judge, Least, Route, Sweep, Trial, Verify}
 use Rattle.usage_words.specs.declared.item.Item.{Item}
-use Rattle.usage_words.specs.declared.item.Item.TheVariants.{Arch, Cnf, Conflicts, From, Lrat, Max, MemberSeed, Members, Net, Nets, Nx, Place, Prefix, Reach, Rounds, Route as RouteFile, Routed, Seed, Width}
+use Rattle.usage_words.specs.declared.item.Item.TheVariants.{Arch, Cnf, Conflicts, From, Lrat, Max, MemberSeed, Members, Model, Net, Nets, Nx, Place, Prefix, Reach, Rounds, Route as RouteFile, Routed, Seed, Width}
 
 -- the command that a word names, if it names one
 abbrev pub command_of : Word → Option Command
@@ -13,6 +13,7 @@ command_of name =
     if bytes_eq name (codes "route") then Some Route else
     if bytes_eq name (codes "sweep") then Some Sweep else
     if bytes_eq name (codes "encode") then Some Encode else
+    if bytes_eq name (codes "decode") then Some Decode else
     if bytes_eq name (codes "core") then Some Core else
     if bytes_eq name (codes "check") then Some Check else
     if bytes_eq name (codes "verify") then Some Verify else
@@ -27,6 +28,7 @@ abbrev pub name_of : Command → List ℕ
 name_of Route = codes "route"
 name_of Sweep = codes "sweep"
 name_of Encode = codes "encode"
+name_of Decode = codes "decode"
 name_of Core = codes "core"
 name_of Check = codes "check"
 name_of Verify = codes "verify"
@@ -71,6 +73,9 @@ abbrev pub word_of : Command → ℕ → Option Item
 word_of Route number = on_problem number Width
 word_of Sweep number = on_problem number Max
 word_of Encode number = on_problem number Width
+word_of Decode number =
+    if number == 5 then Some Model else
+    if number == 6 then Some Prefix else on_problem number Width
 word_of Core number = on_problem number Width
 word_of Check number =
     if number == 0 then Some Cnf else
@@ -96,6 +101,7 @@ has_option Trial Conflicts = true
 has_option Route Reach = true
 has_option Sweep Reach = true
 has_option Encode Reach = true
+has_option Decode Reach = true
 has_option Verify Reach = true
 has_option Trial Reach = true
 has_option Route Members = true
@@ -123,6 +129,7 @@ has_flag Route word =
 has_flag Sweep word =
     is_symmetry word || bytes_eq word (codes "--keep") || bytes_eq word (codes "--count")
 has_flag Encode word = is_symmetry word
+has_flag Decode word = is_symmetry word
 has_flag Trial word = bytes_eq word (codes "--keep") || bytes_eq word (codes "--count")
 has_flag Judge word = bytes_eq word (codes "--strict")
 has_flag Global word = bytes_eq word (codes "--free")

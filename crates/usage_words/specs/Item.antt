@@ -4,7 +4,7 @@ use Rattle.std.specs.Option.{option_map_or}
 use Rattle.fpga_text.specs.Numbers.{whole_number_of}
 use Rattle.usage_words.specs.Word.{Word}
 use Rattle.usage_words.specs.declared.item.Item.{Item}
-use Rattle.usage_words.specs.declared.item.Item.TheVariants.{Arch, Cnf, Conflicts, From, Lrat, Max, MemberSeed, Members, Net, Nets, Nx, Place, Prefix, Reach, Rounds, Route, Routed, Seed, Width}
+use Rattle.usage_words.specs.declared.item.Item.TheVariants.{Arch, Cnf, Conflicts, From, Lrat, Max, Model, MemberSeed, Members, Net, Nets, Nx, Place, Prefix, Reach, Rounds, Route, Routed, Seed, Width}
 use Rattle.usage_words.specs.declared.item.Range.{Range}
 
 -- the option with a value that a word names
@@ -29,6 +29,7 @@ name_of Prefix = codes "PREFIX"
 name_of Routed = codes "ROUTED"
 name_of Cnf = codes "CNF"
 name_of Lrat = codes "LRAT"
+name_of Model = codes "MODEL"
 name_of Seed = codes "SEED"
 name_of Nx = codes "NX"
 name_of Nets = codes "NETS"

@@ -4,11 +4,12 @@ use Rattle.usage_words.specs.Command.{command_of}
 use Rattle.usage_words.specs.Word.{Word}
 use Rattle.usage_words.specs.Wrong.{begun, wrong_said}
 use Rattle.usage_words.specs.declared.command.Command.{Command}
-use Rattle.usage_words.specs.declared.command.Command.TheVariants.{Route, Sweep, Encode, Core, Check, Verify, Judge, Bound, Global, Least, Gen, Trial}
+use Rattle.usage_words.specs.declared.command.Command.TheVariants.{Route, Sweep, Encode, Decode, Core, Check, Verify, Judge, Bound, Global, Least, Gen, Trial}
 
 -- which options of a command exclude each other, or need another
 abbrev pub clash_said : Command → List ℕ
 clash_said Encode = codes "--pin, --symmetry and --reach exclude one another.\n"
+clash_said Decode = codes "--pin, --symmetry and --reach exclude one another.\n"
 clash_said Sweep =
     codes "--pin, --symmetry and --reach exclude one another, and so do --count and --reach.\n"
 clash_said Trial = codes "--count and --reach exclude each other.\n"
@@ -28,6 +29,9 @@ takes_said Sweep =
 takes_said Encode =
     codes "encode ARCH NET PLACE ROUTE WIDTH PREFIX [--pin | --symmetry | --reach L], WIDTH and "
     ++ codes "L from 1 to 64"
+takes_said Decode =
+    codes "decode ARCH NET PLACE ROUTE WIDTH MODEL PREFIX [--pin | --symmetry | --reach L], "
+    ++ codes "WIDTH and L from 1 to 64"
 takes_said Core =
     codes "core ARCH NET PLACE ROUTE WIDTH PREFIX [--conflicts N], WIDTH from 1 to 64"
 takes_said Check = codes "check CNF LRAT"
@@ -51,6 +55,8 @@ abbrev pub example_said : Command → List ℕ
 example_said Route = codes "route design.arch design.net design.place design.route 9 out"
 example_said Sweep = codes "sweep design.arch design.net design.place design.route 12 out"
 example_said Encode = codes "encode design.arch design.net design.place design.route 9 out"
+example_said Decode =
+    codes "decode design.arch design.net design.place design.route 9 out.model out"
 example_said Core = codes "core design.arch design.net design.place design_cells.route 8 out"
 example_said Check = codes "check out.cnf out.lrat"
 example_said Verify = codes "verify design.arch design.net design.place design.route 9 out.route"
@@ -73,8 +79,8 @@ form_said command = lines_said (takes_said command) (example_said command)
 abbrev pub code_said : (code : ℕ) → Command → List ℕ
 code_said code command =
     if code == 1 then
-    codes "The first word is to be a command: route, sweep, global, least, bound, encode, core, "
-    ++ codes "check, verify, judge, gen, trial or picture.\n" else
+    codes "The first word is to be a command: route, sweep, global, least, bound, encode, decode, "
+    ++ codes "core, check, verify, judge, gen, trial or picture.\n" else
     if code == 3 then codes "A number is missing or out of its range.\n" else
     if code == 4 then clash_said command else
     if code == 5

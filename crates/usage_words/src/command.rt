@@ -11,6 +11,7 @@ pub(crate) enum Command {
     Route,
     Sweep,
     Encode,
+    Decode,
     Core,
     Check,
     Verify,
@@ -34,6 +35,9 @@ pub(crate) fn command_of(name: &str) -> Option<Command>
     }
     if name == "encode" {
         return Some(Command::Encode);
+    }
+    if name == "decode" {
+        return Some(Command::Decode);
     }
     if name == "core" {
         return Some(Command::Core);
@@ -74,6 +78,7 @@ impl Command {
             Command::Route => "route",
             Command::Sweep => "sweep",
             Command::Encode => "encode",
+            Command::Decode => "decode",
             Command::Core => "core",
             Command::Check => "check",
             Command::Verify => "verify",
@@ -89,11 +94,16 @@ impl Command {
     /// What the word with this number behind its name says, counted from 0 and without options.
     pub(crate) fn word(self, number: u32) -> Option<Item>
         ensures is { result ≡ spec.word_of self number }
-        ensures few { IfSome result (λ _. number ≤ 5) }
+        ensures few { IfSome result (λ _. number ≤ 6) }
     {
         match self {
             Command::Route | Command::Encode | Command::Core => on_problem(number, Item::Width),
             Command::Sweep => on_problem(number, Item::Max),
+            Command::Decode => match number {
+                5 => Some(Item::Model),
+                6 => Some(Item::Prefix),
+                _ => on_problem(number, Item::Width),
+            },
             Command::Verify => match number {
                 5 => Some(Item::Routed),
                 _ => on_problem(number, Item::Width),
@@ -145,7 +155,12 @@ impl Command {
             }
             Item::Reach => matches!(
                 self,
-                Command::Route | Command::Sweep | Command::Encode | Command::Verify | Command::Trial
+                Command::Route
+                    | Command::Sweep
+                    | Command::Encode
+                    | Command::Decode
+                    | Command::Verify
+                    | Command::Trial
             ),
             Item::Members | Item::MemberSeed => matches!(self, Command::Route),
             Item::From | Item::Rounds => matches!(self, Command::Global | Command::Least),
@@ -161,7 +176,7 @@ impl Command {
             Command::Route | Command::Sweep => {
                 is_symmetry(word) || word == "--keep" || word == "--count"
             }
-            Command::Encode => is_symmetry(word),
+            Command::Encode | Command::Decode => is_symmetry(word),
             Command::Trial => word == "--keep" || word == "--count",
             Command::Judge => word == "--strict",
             Command::Global | Command::Least => word == "--free",
@@ -181,7 +196,7 @@ fn is_symmetry(word: &str) -> bool
 // ARCH NET PLACE
 fn placed(number: u32) -> Option<Item>
     ensures is { result ≡ spec.placed number }
-    ensures few { IfSome result (λ _. number ≤ 5) }
+    ensures few { IfSome result (λ _. number ≤ 6) }
 {
     match number {
         0 => Some(Item::Arch),
@@ -194,7 +209,7 @@ fn placed(number: u32) -> Option<Item>
 // ARCH NET PLACE WIDTH PREFIX, or with MAX
 fn on_placement(number: u32, width: Item) -> Option<Item>
     ensures is { result ≡ spec.on_placement number width }
-    ensures few { IfSome result (λ _. number ≤ 5) }
+    ensures few { IfSome result (λ _. number ≤ 6) }
 {
     match number {
         3 => Some(width),
@@ -206,7 +221,7 @@ fn on_placement(number: u32, width: Item) -> Option<Item>
 // ARCH NET PLACE ROUTE WIDTH PREFIX, or with MAX
 fn on_problem(number: u32, width: Item) -> Option<Item>
     ensures is { result ≡ spec.on_problem number width }
-    ensures few { IfSome result (λ _. number ≤ 5) }
+    ensures few { IfSome result (λ _. number ≤ 6) }
 {
     match number {
         3 => Some(Item::Route),
@@ -219,7 +234,7 @@ fn on_problem(number: u32, width: Item) -> Option<Item>
 // SEED NX NETS
 fn recipe(number: u32) -> Option<Item>
     ensures is { result ≡ spec.recipe number }
-    ensures few { IfSome result (λ _. number ≤ 5) }
+    ensures few { IfSome result (λ _. number ≤ 6) }
 {
     match number {
         0 => Some(Item::Seed),

@@ -17,6 +17,7 @@ pub(crate) enum Item {
     Routed,
     Cnf,
     Lrat,
+    Model,
     Seed,
     Nx,
     Nets,
@@ -76,6 +77,7 @@ impl Item {
             Item::Routed => "ROUTED",
             Item::Cnf => "CNF",
             Item::Lrat => "LRAT",
+            Item::Model => "MODEL",
             Item::Seed => "SEED",
             Item::Nx => "NX",
             Item::Nets => "NETS",
@@ -108,6 +110,7 @@ impl Item {
             | Item::Routed
             | Item::Cnf
             | Item::Lrat
+            | Item::Model
             | Item::From => None,
         }
     }

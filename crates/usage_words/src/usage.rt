@@ -97,8 +97,8 @@ fn code_said(code: u32, command: Command) -> &'static str
 {
     match code {
         1 => {
-            "The first word is to be a command: route, sweep, global, least, bound, encode, core, \
-             check, verify, judge, gen, trial or picture.\n"
+            "The first word is to be a command: route, sweep, global, least, bound, encode, \
+             decode, core, check, verify, judge, gen, trial or picture.\n"
         }
         3 => "A number is missing or out of its range.\n",
         4 => clash_said(command),
@@ -112,7 +112,9 @@ fn clash_said(command: Command) -> &'static str
     ensures { result.now ≡ clash_said command }
 {
     match command {
-        Command::Encode => "--pin, --symmetry and --reach exclude one another.\n",
+        Command::Encode | Command::Decode => {
+            "--pin, --symmetry and --reach exclude one another.\n"
+        }
         Command::Sweep => {
             "--pin, --symmetry and --reach exclude one another, and so do --count and --reach.\n"
         }
@@ -150,6 +152,10 @@ fn takes_said(command: Command) -> &'static str
             "encode ARCH NET PLACE ROUTE WIDTH PREFIX [--pin | --symmetry | --reach L], WIDTH and \
              L from 1 to 64"
         }
+        Command::Decode => {
+            "decode ARCH NET PLACE ROUTE WIDTH MODEL PREFIX [--pin | --symmetry | --reach L], \
+             WIDTH and L from 1 to 64"
+        }
         Command::Core => {
             "core ARCH NET PLACE ROUTE WIDTH PREFIX [--conflicts N], WIDTH from 1 to 64"
         }
@@ -183,6 +189,9 @@ fn example_said(command: Command) -> &'static str
         Command::Route => "route design.arch design.net design.place design.route 9 out",
         Command::Sweep => "sweep design.arch design.net design.place design.route 12 out",
         Command::Encode => "encode design.arch design.net design.place design.route 9 out",
+        Command::Decode => {
+            "decode design.arch design.net design.place design.route 9 out.model out"
+        }
         Command::Core => "core design.arch design.net design.place design_cells.route 8 out",
         Command::Check => "check out.cnf out.lrat",
         Command::Verify => { "verify design.arch design.net design.place design.route 9 out.route" }

@@ -12,6 +12,11 @@ returns-in-Ok-Encode-clause-leaves g c =
     let asked = rw c.in-Ok-Encode.field-0-is at c.in-Ok-Encode.ensures.answers in
     inr (rw asked c.work_on-in-Ok-Encode.ensures.leaves)
 
+pub returns-in-Ok-Decode-clause-leaves : goal.returns-in-Ok-Decode-clause-leaves
+returns-in-Ok-Decode-clause-leaves g c =
+    let asked = rw c.in-Ok-Decode.field-0-is at c.in-Ok-Decode.ensures.answers in
+    rw c.without_problem.ensures (inr (rw asked c.decode_files.ensures.leaves))
+
 pub returns-in-Ok-Sweep-clause-leaves : goal.returns-in-Ok-Sweep-clause-leaves
 returns-in-Ok-Sweep-clause-leaves g c =
     let asked = rw c.in-Ok-Sweep.field-0-is at c.in-Ok-Sweep.ensures.answers in
@@ -50,7 +55,7 @@ returns-in-Ok-Core-clause-leaves g c =
 pub returns-in-Ok-Check-clause-leaves : goal.returns-in-Ok-Check-clause-leaves
 returns-in-Ok-Check-clause-leaves g c =
     let asked = rw c.in-Ok-Check.field-0-is at c.in-Ok-Check.ensures.answers in
-    rw c.without_problem.ensures (inr (rw asked (c.check_files.ensures.checks, refl)))
+    rw c.without_problem-in-Ok-Check.ensures (inr (rw asked (c.check_files.ensures.checks, refl)))
 
 pub returns-in-Ok-Global-clause-leaves : goal.returns-in-Ok-Global-clause-leaves
 returns-in-Ok-Global-clause-leaves g c =

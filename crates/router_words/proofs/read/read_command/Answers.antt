@@ -10,7 +10,7 @@ use Rattle.router_words.specs.Results.{and_then}
 use Rattle.router_words.specs.Taken.{HasRequired, IsTaken, Takes}
 use Rattle.router_words.specs.Word.{Word, words_of}
 use Rattle.router_words.specs.declared.command_name.CommandName.{CommandName}
-use Rattle.router_words.specs.declared.command_name.CommandName.TheVariants.{Bound, Check, Core, Encode, Gen, Global, Judge, Least, Route, Sweep, Trial, Verify}
+use Rattle.router_words.specs.declared.command_name.CommandName.TheVariants.{Bound, Check, Core, Decode, Encode, Gen, Global, Judge, Least, Route, Sweep, Trial, Verify}
 use Rattle.router_words.specs.declared.fault.Refusal.{Refusal}
 use Rattle.router_words.specs.declared.fault.Refusal.TheVariants.{Command}
 use Rattle.router_words.specs.declared.fault.WordsFault.{WordsFault}
@@ -22,6 +22,7 @@ unfolding clap_on_literals
 forms Route = refl
 forms Sweep = refl
 forms Encode = refl
+forms Decode = refl
 forms Core = refl
 forms Check = refl
 forms Verify = refl
