@@ -6,7 +6,7 @@ pub returns : goal.returns
 returns c =
     let same = same_map c.args.self.now.files.items c.in_ok-clone.field-0.items
     c.in_ok-clone.ensures.cases.0 in (
-      desk_state c.run.new.desk,
+      desk_state c.run-outcome.new.desk,
       rw (c.deref.ensures.value, c.new-desk.ensures, same, c.new-shelf.ensures)
-          at c.run.ensures.runs,
+          at c.run-outcome.ensures.runs,
     )
