@@ -15,8 +15,8 @@ pub(crate) struct Held {
     pub kept: u16,
 }
 
-/// A wire of the net in hand: how far it is in the wave `seen`, and over how many joins; from which
-/// wire; and in which tree it was last.
+/// A wire of the net in hand: how far the wave of the tree `seen` came to it, and over how many
+/// joins; from which wire; and in which tree it was last.
 #[derive(Clone, Copy)]
 pub(crate) struct Step {
     pub dist: u32,
@@ -40,7 +40,6 @@ pub(crate) struct OwnField {
     held: Vec<Held>,
     steps: Vec<Step>,
     present: u64,
-    pub wave: u32,
     pub tree: u32,
 }
 
@@ -94,7 +93,6 @@ impl OwnField {
             held: vec![in alloc; Held::FREE; wires_of(cells, width)]?,
             steps: vec![in alloc; Step::UNSEEN; wires_of(slots, width)]?,
             present: 0,
-            wave: 0,
             tree: 0,
         })
     }
@@ -105,27 +103,13 @@ impl OwnField {
         self.held.fill(Held::FREE);
     }
 
-    /// Begins another wave.
-    pub(crate) fn next_wave(&mut self) {
-        if self.wave == u32::MAX {
-            self.forget();
-        }
-        self.wave = self.wave.saturating_add(1);
-    }
-
-    /// Begins another tree: no wire is in it.
+    /// Begins another tree, and its wave: no wire is in them.
     pub(crate) fn next_tree(&mut self) {
         if self.tree == u32::MAX {
-            self.forget();
+            self.steps.fill(Step::UNSEEN);
+            self.tree = 0;
         }
         self.tree = self.tree.saturating_add(1);
-    }
-
-    /// Takes all marks.
-    fn forget(&mut self) {
-        self.steps.fill(Step::UNSEEN);
-        self.wave = 0;
-        self.tree = 0;
     }
 
     /// A wire of the net in hand, or one that no wave came to.
@@ -140,7 +124,7 @@ impl OwnField {
 
     /// Lets the wave come to a wire of the net in hand.
     pub(crate) fn see(&mut self, wire: u32, from: u32, dist: u32, joins: u32) {
-        let seen = self.wave;
+        let seen = self.tree;
         let place = wire as usize;
         if place < self.steps.len() {
             let tree = self.steps[place].tree;

@@ -24,8 +24,7 @@ pub(crate) struct OwnWave {
     heap: Heap,
     /// The wires of the tree.
     pub grown: Vec<Grown>,
-    /// The wires that pins of the driver open.
-    begins: Vec<u32>,
+    /// The path that is to be put into the tree, the last wire first.
     path: Vec<u32>,
     /// For each slot of the net in hand that was last in each cell.
     slots: Vec<u32>,
@@ -36,8 +35,6 @@ pub(crate) struct OwnWave {
     price: Price,
     /// How many joins there may be from the driver to a wire.
     reach: u32,
-    /// How many wires waves have left.
-    pub work: u64,
 }
 
 /// A wire that the wave leaves, how far it is, and over how many joins.
@@ -65,7 +62,6 @@ impl OwnWave {
         Ok(OwnWave {
             heap: Heap::new(alloc),
             grown: Vec::new(alloc),
-            begins: Vec::new(alloc),
             path: Vec::new(alloc),
             slots: vec![in alloc; 0; cells as usize]?,
             reached: vec![in alloc; 0; sinks as usize]?,
@@ -78,7 +74,6 @@ impl OwnWave {
             left: 0,
             price: Price::Wires,
             reach,
-            work: 0,
         })
     }
 
@@ -91,29 +86,25 @@ impl OwnWave {
         net: OwnNet,
         price: Price,
     ) -> Result<bool, AllocError> {
-        self.begin(nets, field, net, price, fabric.width)?;
+        self.begin(nets, field, net, price);
+        self.enter(nets, field, fabric.width)?;
         for _ in net.sinks_from..net.sinks_to {
             if self.left == 0 {
                 break;
             }
-            self.enter(nets, field, fabric.width)?;
             let Some(last) = self.spread(fabric, nets, field)? else {
                 return Ok(false);
             };
-            self.join(nets, field, last, fabric.width)?;
+            if !self.follow_back(field, last)? {
+                return Ok(false);
+            }
+            self.join(nets, field, fabric.width)?;
         }
         Ok(self.left == 0)
     }
 
     /// Begins the tree of a net.
-    fn begin(
-        &mut self,
-        nets: &OwnNets,
-        field: &mut OwnField,
-        net: OwnNet,
-        price: Price,
-        width: u32,
-    ) -> Result<(), AllocError> {
+    fn begin(&mut self, nets: &OwnNets, field: &mut OwnField, net: OwnNet, price: Price) {
         field.next_tree();
         if field.tree == 1 {
             self.reached.fill(0);
@@ -122,18 +113,10 @@ impl OwnWave {
         self.price = price;
         self.left = net.sinks_to.saturating_sub(net.sinks_from);
         self.grown.clear();
-        self.begins.clear();
+        self.heap.clear();
         for slot in net.slots_from..net.slots_to {
             put(&mut self.slots, nets.cell(slot) as usize, slot);
-            let opened = nets.starts(slot);
-            for track in 0..width {
-                if has_track(opened, track) {
-                    let wire = self.wire_of(slot, track, width);
-                    self.begins.push(wire)?;
-                }
-            }
         }
-        Ok(())
     }
 
     /// The number of a wire among those of the net in hand.
@@ -159,31 +142,22 @@ impl OwnWave {
         }
     }
 
-    /// Begins a wave at the tree and at the driver.
+    /// Lets the wave begin at the wires that pins of the driver open.
     fn enter(
         &mut self,
         nets: &OwnNets,
         field: &mut OwnField,
         width: u32,
     ) -> Result<(), AllocError> {
-        field.next_wave();
-        self.heap.clear();
-        for k in 0..self.grown.len() {
-            let Grown { wire, joins } = self.grown[k];
-            let dist = match self.price {
-                Price::Wires => 0,
-                Price::Joins => joins.saturating_add(1),
-            };
-            field.see(wire, BEGIN, dist, joins);
-            self.heap.push(key_of(dist, wire))?;
-        }
-        for k in 0..self.begins.len() {
-            let wire = at(&self.begins, k);
-            if !field.is_grown(wire) {
-                let cell = nets.cell(self.slot_of(wire, width));
-                let dist = self.cost(field, cell, track_of(wire, width));
-                field.see(wire, BEGIN, dist, 0);
-                self.heap.push(key_of(dist, wire))?;
+        for slot in self.net.slots_from..self.net.slots_to {
+            let opened = nets.starts(slot);
+            for track in 0..width {
+                if has_track(opened, track) {
+                    let wire = self.wire_of(slot, track, width);
+                    let dist = self.cost(field, nets.cell(slot), track);
+                    field.see(wire, BEGIN, dist, 0);
+                    self.heap.push(key_of(dist, wire))?;
+                }
             }
         }
         Ok(())
@@ -206,7 +180,6 @@ impl OwnWave {
             if key >> 24 > step.dist as u64 {
                 continue;
             }
-            self.work = self.work.saturating_add(1);
             let slot = self.slot_of(wire, fabric.width);
             let track = track_of(wire, fabric.width);
             if self.opens_sink(nets, field, slot, track) {
@@ -248,7 +221,7 @@ impl OwnWave {
         let cost = self.cost(field, joint.cell, track);
         let dist = leaving.dist.saturating_add(cost);
         let step = field.step(wire);
-        if step.tree == field.tree || step.seen == field.wave && step.dist <= dist {
+        if step.tree == field.tree || step.seen == field.tree && step.dist <= dist {
             return Ok(());
         }
         field.see(wire, leaving.wire, dist, leaving.joins);
@@ -272,30 +245,42 @@ impl OwnWave {
         place < self.reached.len() && self.reached[place] != field.tree
     }
 
-    /// Puts the path to a wire into the tree, and takes off what is left the sinks along it.
-    fn join(
-        &mut self,
-        nets: &OwnNets,
-        field: &mut OwnField,
-        last: u32,
-        width: u32,
-    ) -> Result<(), AllocError> {
+    /// Makes the path that of the wave to a wire, the last wire first: whether it is within the
+    /// reach.
+    fn follow_back(&mut self, field: &OwnField, last: u32) -> Result<bool, AllocError> {
         self.path.clear();
         let mut wire = last;
         for _ in 0..=self.reach {
             self.path.push(wire)?;
-            wire = field.step(wire).from;
-            if wire == BEGIN {
-                break;
+            let from = field.step(wire).from;
+            if from == BEGIN {
+                let joins = field.step(wire).joins as usize;
+                return Ok(joins.saturating_add(self.path.len()) <= self.reach as usize + 1);
             }
+            wire = from;
         }
+        Ok(false)
+    }
+
+    /// Puts the path into the tree, so that the wave goes on from it, and takes off what is left
+    /// the sinks along it.
+    fn join(&mut self, nets: &OwnNets, field: &mut OwnField, width: u32) -> Result<(), AllocError> {
+        let mut joins: u32 = 0;
         for k in (0..self.path.len()).rev() {
             let wire = at(&self.path, k);
-            if !field.is_grown(wire) {
-                let joins = field.step(wire).joins;
+            if field.is_grown(wire) {
+                joins = field.step(wire).joins;
+            } else {
+                let dist = match self.price {
+                    Price::Wires => 0,
+                    Price::Joins => joins.saturating_add(1),
+                };
+                field.see(wire, BEGIN, dist, joins);
                 field.grow(wire);
                 self.grown.push(Grown { wire, joins })?;
+                self.heap.push(key_of(dist, wire))?;
             }
+            joins = joins.saturating_add(1);
             self.reach_sinks(nets, field, wire, width);
         }
         Ok(())
