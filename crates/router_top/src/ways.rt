@@ -10,7 +10,7 @@ ghost use Rattle.router_top.specs.Ways.{core_way, plain_by, way_by, wires_by};
 ghost use Rattle.sat_clause.specs.Formula.{Cnf};
 
 use problem_facts::Facts;
-use route_ways::{Counting, Plain, Solver, Trimming, Way, Wires};
+use route_ways::{Counting, Negotiating, Plain, Solver, Trimming, Way, Wires};
 use router_words::{CoreJob, Members, Method, SearchJob};
 
 // What the clauses of a method say of wires.
@@ -49,7 +49,7 @@ fn plain_by(search: &SearchJob<'_>, members: Option<Members>) -> Plain
 
 /// The way in which a search is to be done, by one or by as many as take turns. Where it counts, it
 /// does so by the facts of its problem, and the clauses are to begin with those of
-/// [`Strict`](route_encode::Strict).
+/// [`Strict`](route_encode::Strict). Within a reach it negotiates first.
 pub fn way_by<'a>(
     search: &SearchJob<'_>,
     members: Option<Members>,
@@ -68,6 +68,10 @@ pub fn way_by<'a>(
         let Some(facts) = known else { unreachable!() };
         let counting = Counting { rest: plain, facts };
         return Way::Counted { counting };
+    }
+    if let Method::Within(reach) = search.method {
+        let negotiating = Negotiating { rest: plain, reach };
+        return Way::Negotiated { negotiating };
     }
     Way::Alone { plain }
 }
