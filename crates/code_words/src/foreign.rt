@@ -7,8 +7,8 @@ ghost use Rattle.code_words.specs.Phrases.{is_phrase};
 use crate::phrases::*;
 
 /// What a file is instead of a text of VPR 4.30, DIMACS or LRAT, where its first bytes tell: XML, a
-/// placement or a route of VPR 8 or 9, packed by gzip, in UTF-16, or behind a byte order mark. It is
-/// a phrase of printable ASCII on one line, with no stop at its end.
+/// placement or a route of VPR 8 or 9, packed by gzip, in UTF-16, or behind a byte order mark. It
+/// is a phrase of printable ASCII on one line, with no stop at its end.
 pub fn foreign_kind(text: &[u8]) -> Option<&'static str>
     ensures says { option_copied result ≡ spec.foreign_phrase text.now }
     ensures phrase { IfSome result (λ words. IsTrue (is_phrase words.now)) }

@@ -1,5 +1,5 @@
-//! What the codes of reports and the errors of the system mean, in words, and what a file is instead
-//! of the one that is due. `docs/FORMATS.md` has where each code holds.
+//! What the codes of reports and the errors of the system mean, in words, and what a file is
+//! instead of the one that is due. `docs/FORMATS.md` has where each code holds.
 #![tactic(auto)]
 
 mod causes;

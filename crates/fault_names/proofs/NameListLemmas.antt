@@ -23,7 +23,8 @@ apart-next others held names i d is_held found holds inside is holds_here so_far
     sym step ∙ so_far
 
 -- what was found of names and others is what these are found to have
-pub looked : {E : Type 0} (result : Result (Option (Bor Bytes)) E) (ns os names others : List Bytes) →
+pub looked : {E : Type 0} (result : Result (Option (Bor Bytes)) E)
+    (ns os names others : List Bytes) →
     ns ≡ names → os ≡ others →
     IfOk result (λ found. option_map (λ name. name.now) found ≡ first_apart os ns) →
     IfOk result (λ found. option_map (λ name. name.now) found ≡ first_apart others names)

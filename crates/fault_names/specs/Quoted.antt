@@ -25,7 +25,8 @@ quoted words =
 -- the words of the line with this number
 abbrev pub line_quoted : Style → Bytes → (number : ℕ) → List ℕ
 line_quoted style text number =
-    option_map_or (λ (line : TextLine). codes ":" ++ quoted line.words) (line_with style text number) []
+    option_map_or (λ (line : TextLine). codes ":" ++ quoted line.words)
+    (line_with style text number) []
 
 -- the line that begins the net in which a line stands, where it is another one
 abbrev pub net_quoted : Bytes → (number at : ℕ) → List ℕ

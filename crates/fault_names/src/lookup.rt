@@ -1,4 +1,5 @@
-//! Names that are looked for among others, along a tree: in a time by the logarithm of their number.
+//! Names that are looked for among others, along a tree: a look-up takes a time by the logarithm of
+//! their number.
 ghost use Rattle.std.specs.Prelude.{◌≡◌, [], IfOk, is_some, option_map};
 ghost use Rattle.fpga_types.specs.Names.{number_in};
 ghost use Rattle.fault_names.specs.Lookups as spec;

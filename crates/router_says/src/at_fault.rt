@@ -1,5 +1,5 @@
-//! What is said of a fault in a file behind its line and its code: what is at fault, by its name, or
-//! the line as it stands.
+//! What is said of a fault in a file behind its line and its code: what is at fault, by its name,
+//! or the line as it stands.
 ghost use Rattle.std.specs.Prelude.{◌≡◌, ◌++◌, IfOk, OnOk, List, ℕ, option_map, string_bytes};
 ghost use Rattle.std.specs.Option.{option_copied};
 ghost use Rattle.router_says.specs.AtFault as spec;
