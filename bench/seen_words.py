@@ -332,8 +332,10 @@ def file_names(words):
     if words.command == "check":
         return dict(zip(("cnf", "lrat"), plain))
     named = dict(zip(("architecture", "netlist", "placement"), plain))
-    if words.command in ("route", "sweep", "encode", "core", "verify"):
+    if words.command in ("route", "sweep", "encode", "decode", "core", "verify"):
         named["route"] = plain[3]
+    if words.command == "decode":
+        named["model"] = plain[5]
     if "--from" in words.options:
         named["route"] = words.options["--from"]
     if words.command in ("verify", "judge"):
@@ -349,7 +351,7 @@ class NumberedLines:
         begun = None
         self.words = {}
         for number, part in enumerate(parts[:-1] if parts[-1] == "" else parts, 1):
-            if kind not in ("cnf", "lrat"):
+            if kind not in ("cnf", "lrat", "model"):
                 part = part.split("#")[0]
             goes_on = kind in ("architecture", "netlist") and part.rstrip(" \t\r").endswith("\\")
             if goes_on:
