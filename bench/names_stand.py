@@ -55,7 +55,7 @@ def stands(name):
 
 
 # What is named beside the sources: words of the gate, and commands.
-PLAIN = {"must-fail", "clap", "main", "core", "gen", "encode", "check", "rt"}
+PLAIN = {"must-fail", "clap", "main", "core", "gen", "encode", "check", "rt", "sweep"}
 
 
 def turning(text):
