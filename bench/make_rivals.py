@@ -3,14 +3,18 @@
 
     make_rivals.py crowd NETS TRACKS
     make_rivals.py traps COUNT [CHAIN]
+    make_rivals.py guarded COUNT NETS TRACKS
     make_rivals.py rows NETS TRACKS LENGTH VARIABLES
 
 A crowd has a variable for each track of each net: each net has a track and no two, and no track has two nets. A trap
 is a crowd of eight nets that want seven tracks, unless a literal is true that is false where the first variable of the
 trap is true. Nothing but this literal leads out of it early, and no conflict meets the first variable. Behind the traps
-stands a chain of so many variables, which the first of each trap makes true, one by the other. In rows the variable of
-each track of each net is followed by so many others, one by the other, and two nets on a track are rivals by some of
-these, or by the first ones, and on the first track once more by others; there are so many variables in all.
+stands a chain of so many variables, which the first of each trap makes true, one by the other. A guarded crowd stands
+behind guards: so many times two nets want one track where the first variable and one other are true, and two where the
+first and two others are, unless the second variable is true; and first of all two where the first two variables are. In
+rows the variable of each track of each net is followed by so many others, one by the other, and two nets on a track are
+rivals by some of these, or by the first ones, and on the first track once more by others; there are so many variables
+in all.
 """
 import sys
 from asked import answer_help
@@ -40,6 +44,18 @@ def traps(count, chain=0):
     return clauses
 
 
+def guarded(count, nets, tracks):
+    """The clauses of guards that one conflict each refutes, and of a crowd behind them."""
+    clauses = crowd(2, 1, 2, [-1, -2])
+    behind = 4
+    for _ in range(count):
+        for more in (1, 2):
+            others = [-variable for variable in range(behind + 1, behind + more + 1)]
+            clauses += crowd(2, 1, behind + more, [-1, 2] + others)
+            behind += more + 2
+    return clauses + crowd(nets, tracks, behind, [])
+
+
 def rows(nets, tracks, length, variables):
     """The clauses of rivals by the variables that follow those of a crowd, and one that holds the last variable."""
     leaders = nets * tracks
@@ -64,7 +80,7 @@ def rows(nets, tracks, length, variables):
 def main():
     kind, *numbers = sys.argv[1:]
     numbers = [int(number) for number in numbers]
-    makers = {"crowd": lambda *of: crowd(*of, 0, []), "traps": traps, "rows": rows}
+    makers = {"crowd": lambda *of: crowd(*of, 0, []), "traps": traps, "guarded": guarded, "rows": rows}
     clauses = makers[kind](*numbers)
     variables = max(abs(literal) for clause in clauses for literal in clause)
     print(f"p cnf {variables} {len(clauses)}")

@@ -122,7 +122,7 @@ pub(crate) fn found(
     how: How,
     budget: u64,
 ) -> Option<(Answer, Log)> {
-    if formula.len() > 1000 || budget < 1 || budget > 10_000 {
+    if formula.len() > 2000 || budget < 1 || budget > 50_000 {
         return None;
     }
     match how {
