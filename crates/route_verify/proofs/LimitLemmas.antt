@@ -53,9 +53,16 @@ by-table g reach n at =
     (this-or-rest (is_past_reach_by reach at) n 808 None tt)))))))
 
 module _ (reach : Option ℕ) (width : ℕ) (p : RoutingProblem) where
-  line-is : (line : RouteLine) → IsCause (line_cause_by reach width p line)
+  pub line-is : (line : RouteLine) → IsCause (line_cause_by reach width p line)
   line-is line = subst IsCause (table-is reach width p line)
       (by-table (graph_of width p) reach (line_number line) (reach_line p line))
+
+  pub array-is : (found : RouteText) → IsCause (array_cause p found)
+  array-is found = none-or-this (same_size p.placement.grid found.grid) found.grid_line 807
+
+  pub end-is : (found : RouteText) → IsCause (end_cause p found)
+  end-is found =
+      this-or-rest (lacks_net (record p { route = found })) (found.lines + 1) 806 None tt
 
   lines-are : (lines : List RouteLine)
       → IsCause (first_fault (map (line_cause_by reach width p) lines))
@@ -68,13 +75,12 @@ module _ (reach : Option ℕ) (width : ℕ) (p : RoutingProblem) where
   first-is-cause found =
       let lines : List (Option TextFault) = map (line_cause_by reach width p)
       (route_lines found) in
-      let end : IsCause (end_cause p found) = this-or-rest
-      (lacks_net (record p { route = found })) (found.lines + 1) 806 None tt in
       let behind : IsCause (option_or (first_fault lines) (option_or (end_cause p found) None)) =
       first-or-later (first_fault lines) (option_or (end_cause p found) None)
-      (lines-are (route_lines found)) (first-or-later (end_cause p found) None end tt) in
+      (lines-are (route_lines found)) (first-or-later (end_cause p found) None (end-is found) tt)
+      in
       first-or-later (array_cause p found) _
-      (none-or-this (same_size p.placement.grid found.grid) found.grid_line 807)
+      (array-is found)
       (subst IsCause (sym (first_fault-append lines (end_cause p found ∷ []))) behind)
 
 -- legal exactly where there is none

@@ -1,6 +1,7 @@
 //! What the nets of a routed file are judged by, and the cause against a Net line.
-ghost use Rattle.std.specs.Prelude.{◌≡◌, ◌<◌, ◌==◌, ◌&&◌, not, [], false, length, slice_index_or, IfOk, Some};
+ghost use Rattle.std.specs.Prelude.{◌≡◌, ◌<◌, ◌==◌, ◌&&◌, not, [], false, length, slice_index_or, take, IfOk, Some};
 ghost use Rattle.std.specs.List.{list_all};
+ghost use Rattle.fpga_bounds.specs.LineRules.{IsElemAt, line_here};
 ghost use Rattle.fpga_bounds.specs.NetTable.{number_named};
 ghost use Rattle.fpga_types.specs.Fits.{has_sink, is_known};
 ghost use Rattle.fpga_types.specs.Terminals.{sinks_named};
@@ -11,13 +12,14 @@ ghost use Rattle.route_verify.specs.Reach.{line_cause_by};
 
 use crate::cause::Cause;
 use crate::depths::LineDepths;
+use crate::ends::NameEnds;
 use crate::kept::Kept;
 use crate::line::ElemLine;
 use crate::rules::Rules;
 use crate::traces::Traces;
 use crate::wires::{add_wires, is_on};
 use crate::wiring::Wiring;
-use fpga_bounds::{Design, ElemAt, LineRules, NetEnds, NetTable, agree, is_bare};
+use fpga_bounds::{Design, ElemAt, LineRules, NetTable, agree, is_bare};
 use fpga_text::{Coded, TextFault};
 use fpga_types::RouteNet;
 use std::alloc::{AllocError, Global};
@@ -79,15 +81,8 @@ impl<'a> Judge<'a> {
         self.design
     }
 
-    /// The rules for the lines of the net, which has this number in the netlist.
-    fn rules(
-        &self,
-        alloc: Global,
-        number: usize,
-        net: &'a RouteNet,
-    ) -> Result<Rules<'a>, AllocError>
-        requires named { number_named self.now.problem.netlist.nets net.now.name ≡ Some number }
-        requires within { number < length self.now.problem.netlist.nets }
+    /// The rules for the lines of the net.
+    pub(crate) fn rules(&self, alloc: Global, net: &'a RouteNet) -> Result<Rules<'a>, AllocError>
         ensures { IfOk result (λ rules. rules ≡ record {
           problem = self.now.problem;
           name = net.now.name;
@@ -96,12 +91,12 @@ impl<'a> Judge<'a> {
         }) }
     {
         let name = net.name.bytes.as_slice();
-        let ends = NetEnds::of(alloc, self.design, name, &self.names.as_slice()[number])?;
+        let ends = NameEnds::of(alloc, self.design, &self.names, name)?;
         Rules::of(alloc, self.wiring, self.reach, &self.traces, ends, name)
     }
 
     /// Whether the Net line has the form of the net with this number, which has its name.
-    fn is_known(&self, number: usize, net: &RouteNet) -> bool
+    pub(crate) fn is_known(&self, number: usize, net: &RouteNet) -> bool
         requires named { number_named self.now.problem.netlist.nets net.now.name ≡ Some number }
         requires within { number < length self.now.problem.netlist.nets }
         ensures { result ≡ is_known self.now.problem net.now.name net.now.global }
@@ -142,7 +137,7 @@ impl<'a> LineRules<'a> for Judge<'a> {
         let Some(number) = self.names().number_of(net.name.bytes.as_slice()) else {
             return Err(Cause::Unfit.at(net.line));
         };
-        let Ok(rules) = self.rules(alloc, number, net) else {
+        let Ok(rules) = self.rules(alloc, net) else {
             return Err(TextFault::Memory);
         };
         let known = self.is_known(number, net);
@@ -161,17 +156,10 @@ impl<'a> LineRules<'a> for Judge<'a> {
         kept: &mut Kept,
         at: ElemAt<'_>,
     ) -> Result<(), TextFault> {
-        let elem = at.context.elem;
-        let line = ElemLine {
-            route: at.context,
-            wire_again: is_on(&kept.wires, elem),
-            wire_taken: is_on(&kept.taken, elem),
-            depth: kept.depths.last_but_one(),
-        };
-        if let Some(fault) = rules.cause(line, at.seen) {
+        if let Some(fault) = cause_at(rules, kept, at) {
             return Err(fault);
         }
-        let Ok(()) = kept.add_line(elem) else {
+        let Ok(()) = kept.add_line(at.context.elem) else {
             return Err(TextFault::Memory);
         };
         Ok(())
@@ -187,6 +175,25 @@ impl<'a> LineRules<'a> for Judge<'a> {
     }
 }
 
+/// The least cause against an element line of the net with these rules, if there is one, by what is
+/// kept of the lines before it.
+pub(crate) fn cause_at(rules: &Rules, kept: &Kept, at: ElemAt<'_>) -> Option<TextFault>
+    requires net { rules.now.name ≡ at.net.now.name }
+    requires here { IsElemAt at }
+    requires kept { HasKept kept.now at.earlier.now (take at.position at.net.now.elems) }
+    ensures { result
+        ≡ line_cause_by rules.now.reach rules.now.width rules.now.problem (line_here at.entry) }
+{
+    let elem = at.context.elem;
+    let line = ElemLine {
+        route: at.context,
+        wire_again: is_on(&kept.wires, elem),
+        wire_taken: is_on(&kept.taken, elem),
+        depth: kept.depths.last_but_one(),
+    };
+    rules.cause(line, at.seen)
+}
+
 /// Whether the net with this number is marked.
 fn is_marked(marks: &[bool], number: usize) -> bool
     requires { number < length marks.now }
@@ -196,7 +203,7 @@ fn is_marked(marks: &[bool], number: usize) -> bool
 }
 
 /// Whether the net is ordinary and has no element, though it has a sink.
-fn is_lacking(alloc: Global, rules: &Rules, net: &RouteNet) -> bool
+pub(crate) fn is_lacking(alloc: Global, rules: &Rules, net: &RouteNet) -> bool
     ensures { result ≡ (not net.now.global && length net.now.elems == 0
         && not (list_all (has_sink []) (sinks_named rules.now.problem rules.now.name))) }
 {

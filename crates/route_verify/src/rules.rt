@@ -9,10 +9,11 @@ ghost use Rattle.route_verify.specs.Lines.{is_stray_in};
 ghost use Rattle.route_verify.specs.Reach.{line_cause_by};
 ghost use Rattle.route_verify.specs.Rules.{IsLineOf, net_of};
 
+use crate::ends::NameEnds;
 use crate::line::{ElemLine, LineContext, line_cause};
 use crate::traces::Traces;
 use crate::wiring::Wiring;
-use fpga_bounds::{ElemContext, ElemKey, NetEnds, ProblemContext, has_elem};
+use fpga_bounds::{ElemContext, ElemKey, ProblemContext, has_elem};
 use fpga_text::TextFault;
 use fpga_types::Elem;
 use std::alloc::{AllocError, Global};
@@ -25,7 +26,7 @@ use std::marker::Model;
 pub(crate) struct Rules<'a> {
     wiring: &'a Wiring<'a>,
     reach: Option<u32>,
-    ends: NetEnds<'a>,
+    ends: NameEnds<'a>,
     trace: BTreeSet<ElemKey>,
 }
 
@@ -52,7 +53,7 @@ impl<'a> Rules<'a> {
         wiring: &'a Wiring<'a>,
         reach: Option<u32>,
         traces: &Traces<'a>,
-        ends: NetEnds<'a>,
+        ends: NameEnds<'a>,
         name: &'a [u8],
     ) -> Result<Rules<'a>, AllocError>
         requires fabric { wiring.now ≡ graph_of wiring.now.width ends.problem }

@@ -1,4 +1,4 @@
-//! The nets of a global route by their names.
+//! The nets of a route by their names.
 ghost use Rattle.std.specs.Prelude.{◌≡◌, ◌<◌, IfOk, IfSome, OnOk, length};
 ghost use Rattle.route_verify.specs.Lines.{trace_named};
 ghost use Rattle.route_verify.specs.Traces.{GainsElems, HasElems, trace_number};
@@ -9,7 +9,7 @@ use std::alloc::{AllocError, Global};
 use std::collections::{BTreeMap, BTreeSet};
 use std::marker::Model;
 
-/// The nets of a global route, which are found by name. Of two with one name the first is found.
+/// The nets of a route, which are found by name. Of two with one name the first is found.
 #[derive(Drop)]
 pub(crate) struct Traces<'a> {
     nets: &'a [RouteNet],
@@ -41,14 +41,14 @@ impl<'a> Traces<'a> {
     }
 
     /// The nets, by position.
-    fn as_slice(&self) -> &'a [RouteNet]
+    pub(crate) fn as_slice(&self) -> &'a [RouteNet]
         ensures { result.now ≡ self.now }
     {
         self.nets
     }
 
     /// The position of the first net with this name.
-    fn number_of(&self, name: &'a [u8]) -> Option<usize>
+    pub(crate) fn number_of(&self, name: &'a [u8]) -> Option<usize>
         ensures number { result ≡ trace_number self.now name.now }
         ensures within { IfSome result (λ number. number < length self.now) }
     {
