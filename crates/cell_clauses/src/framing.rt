@@ -1,6 +1,6 @@
 //! Windows of a placed netlist, made.
-ghost use Rattle.std.specs.Prelude.{◌≡◌, ◌+◌, ◌<◌, ◌≤◌, IfOk, IfSome, length};
-ghost use Rattle.cell_clauses.specs.Counted.{AreSizes};
+ghost use Rattle.std.specs.Prelude.{◌≡◌, ◌↔◌, ◌+◌, ◌<◌, ◌≤◌, IfOk, IfSome, IsNone, length};
+ghost use Rattle.cell_clauses.specs.Counted.{AreSizes, AreTooMany, IsTooLarge, variables_of};
 ghost use Rattle.cell_clauses.specs.Frames.{frame_of};
 ghost use Rattle.cell_clauses.specs.Held.{frame_in};
 ghost use Rattle.cell_clauses.specs.Places.{entry_place as place_of_entry, variable_count as count_of};
@@ -31,8 +31,8 @@ pub const WINDOW_VARIABLES: u64 = 2_000_000;
 
 impl<'a> PlacedWindow<'a> {
     /// The window of a rectangle of corners of a placed netlist with `width` tracks, from 1 to 64.
-    /// None where it has more than 4,096 nets, 8,192 cells, 8,192 sinks of its nets or 2,000,000
-    /// variables.
+    /// None exactly where it has more than 4,096 nets, 8,192 cells, 8,192 sinks of its nets or
+    /// 2,000,000 variables.
     ///
     /// Takes time for each cell of the array and for each pin of the netlist.
     ///
@@ -50,7 +50,9 @@ impl<'a> PlacedWindow<'a> {
         requires pins { length arch.now.pins ≤ PIN_LIMIT }
         requires some { 1 ≤ width }
         requires most { width ≤ WIDTH_LIMIT }
-        ensures { IfOk result (λ found. IfSome found (λ window. frame_in window ≡ frame_of
+        ensures window { IfOk result (λ found. IfSome found (λ window. frame_in window ≡ frame_of
+            (placed_netlist arch.now netlist.now placement.now) (corners_of range) width)) }
+        ensures none { IfOk result (λ found. IsNone found ↔ IsTooLarge (frame_of
             (placed_netlist arch.now netlist.now placement.now) (corners_of range) width)) }
     {
         let placed = Placed {
@@ -108,15 +110,23 @@ impl<'a> PlacedWindow<'a> {
     }
 }
 
-/// The sizes of a window with so many nets, cells, sinks and pins of a logic block, unless it is too
-/// large.
+/// The sizes of a window with so many nets, cells, sinks and pins of a logic block; none exactly
+/// where it is too large.
 fn sizes_of(nets: usize, cells: usize, arrivals: usize, pins: usize, width: u32) -> Option<Sizes>
     requires pins { pins ≤ PIN_LIMIT }
     requires some { 1 ≤ width }
     requires most { width ≤ WIDTH_LIMIT }
-    ensures { IfSome result (AreSizes nets cells arrivals pins width) }
+    ensures sizes { IfSome result (AreSizes nets cells arrivals pins width) }
+    ensures none { IsNone result
+        ↔ AreTooMany nets cells arrivals (variables_of nets cells arrivals pins width) }
 {
-    if nets > WINDOW_NETS || cells > WINDOW_CELLS || arrivals > WINDOW_SINKS {
+    if nets > WINDOW_NETS {
+        return None;
+    }
+    if cells > WINDOW_CELLS {
+        return None;
+    }
+    if arrivals > WINDOW_SINKS {
         return None;
     }
     let uses = nets as u64 * cells as u64;

@@ -12,8 +12,8 @@ invariant_of-result c =
     ap length c.as_slice-pins.ensures in
     record {
       few_pins = c.requires.pins;
-      nets_are = omega (arith, c.in-Some.ensures.nets_are);
-      cells_are = omega (arith, c.in-Some.ensures.cells_are);
+      nets_are = omega (arith, c.in-Some.ensures.sizes.nets_are);
+      cells_are = omega (arith, c.in-Some.ensures.sizes.cells_are);
       come_to = subst (λ (nets : List WindowNet).
           All (λ (a : Arrival). a.net < length nets) c.in_ok-arrivals.arrivals.items)
           c.as_slice.ensures.value c.in_ok-arrivals.ensures.low;
@@ -21,5 +21,5 @@ invariant_of-result c =
           + n * (length c.args.arch.now.pins + 1) ≤ VARIABLE_LIMIT) there
           (subst (λ (n : ℕ). sizes.nets * sizes.cells
           + (sizes.nets + 1) * sizes.cells * sizes.width + c.len-4.result * (n + 1)
-          ≤ VARIABLE_LIMIT) pins c.in-Some.ensures.few);
+          ≤ VARIABLE_LIMIT) pins c.in-Some.ensures.sizes.few);
     }
