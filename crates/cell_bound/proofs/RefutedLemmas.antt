@@ -21,6 +21,7 @@ is-refuted placed range width formula found e of =
     record {
       formula = of.formula_is ∙ e
           ∙ ap (λ (r : CornerRange). cell_cnf (frame_of placed (corners_of r) width)) (sym of.range_is);
+      few = of.few;
       accepts = of.accepts;
       none = refuted-has-none placed (corners_of range) width (cell_clauses f)
           (all-from_In (Contains (cell_clauses f)) (cell_clauses f)

@@ -9,14 +9,14 @@ use crate::windows::{first_size, last_size, square, stride};
 use cell_clauses::PlacedWindow;
 use fpga_types::{Arch, Netlist, Placement};
 use route_bound::CornerRange;
-use sat_clause::{Formula, ID_LIMIT, Log};
+use sat_clause::{CLAUSE_LIMIT, Formula, Log};
 use sat_core::{Answer, Habits, solve};
 use std::alloc::{AllocError, Global};
 
 /// How many clauses a search through a window may learn at the most.
 pub const LEARNED_LIMIT: u64 = 100_000_000;
 
-/// How much is looked for: how many windows of each size, about, and how many clauses the search
+/// How much is looked for: how many windows at the most, from 4 on, and how many clauses the search
 /// through one learns at the most, from 1 to 100,000,000.
 #[derive(Clone, Copy)]
 pub struct Budget {
@@ -51,8 +51,8 @@ struct Looks<'a> {
 
 /// A refutation over cells that says that no routing of a placement has `width` tracks, from 1 to
 /// 64, or fewer: that of the first window that a search refutes. Windows are those round squares of
-/// blocks, the smallest squares first, so many of each size as the budget says, all over the array.
-/// None says nothing.
+/// two by two to five by five blocks, the smallest squares first, as many of each size, all over the
+/// array. None says nothing.
 ///
 /// # Errors
 /// Where memory is short.
@@ -167,7 +167,8 @@ impl<'a> Looks<'a> {
     }
 }
 
-/// What refutes the formula of a rectangle's window, if a search does.
+/// What refutes the formula of a rectangle's window, if it has no more clauses than may be read and a
+/// search does.
 fn refuted_formula(
     alloc: Global,
     range: CornerRange,
@@ -176,7 +177,7 @@ fn refuted_formula(
 ) -> Result<Option<CellRefutation>, AllocError>
     ensures { IfOk result (λ found. IfSome found (IsFoundFor range formula.cnf)) }
 {
-    if u64::from(ID_LIMIT - formula.len()) < budget.learned {
+    if u64::from(formula.len()) > CLAUSE_LIMIT {
         return Ok(None);
     }
     let habits = Habits::usual();

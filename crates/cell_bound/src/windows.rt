@@ -7,23 +7,29 @@ use route_bound::CornerRange;
 /// The greatest square.
 const SIZE_LIMIT: u32 = 5;
 
+/// How many sizes of squares there are.
+const SIZES: u32 = 4;
+
 /// How many blocks the side of the smallest square has.
 pub(crate) fn first_size() -> u32 {
     2
 }
 
-/// How many blocks the side of the greatest square of an array has.
+/// How many blocks the side of the greatest square of an array has: no more than the array, but where
+/// that is smaller than the smallest square.
 pub(crate) fn last_size(grid: Grid) -> u32
     ensures { result ≤ SIZE_LIMIT }
 {
-    grid.nx.max(grid.ny).min(SIZE_LIMIT)
+    grid.nx.max(grid.ny).max(first_size()).min(SIZE_LIMIT)
 }
 
-/// How many blocks on the next square stands, where there are to be about so many of them.
+/// How many blocks on the next square of a size stands, where there are to be so many windows of all
+/// sizes at the most; one of each size there is in any case.
 pub(crate) fn stride(grid: Grid, looks: u32) -> u32 {
     let Grid { nx, ny } = grid;
+    let most = looks / SIZES;
     for stride in 1..101 {
-        if (nx / stride + 1) * (ny / stride + 1) <= looks {
+        if ((nx + stride - 1) / stride) * ((ny + stride - 1) / stride) <= most {
             return stride;
         }
     }

@@ -21,7 +21,7 @@ returns c =
     let window : frame_in c.in-Some.window ≡ frame_of placed (corners_of range) width =
     subst (λ (o : Option PlacedWindow).
     IfSome o (λ w. frame_in w ≡ frame_of placed (corners_of range) width)) c.in-Some.is
-    c.in_ok-window.ensures in
+    c.in_ok-window.ensures.window in
     let formula : c.in_ok-formula.formula.cnf
     ≡ cell_cnf (frame_of placed (corners_of range) width) =
     c.in_ok-formula.ensures ∙ ap cell_cnf window in
