@@ -15,19 +15,17 @@ use Rattle.sat_turns.specs.Schedule.{IsSchedule}
 use Rattle.sat_turns.specs.declared.schedule.Schedule.TheVariants.{Drawn}
 use Rattle.route_ways.specs.declared.plain.Plain.{Plain}
 use Rattle.route_ways.specs.declared.plain.Solver.{Solver}
-use Rattle.route_ways.specs.declared.plain.Solver.TheVariants.{Merging, Straight, Turns}
+use Rattle.route_ways.specs.declared.plain.Solver.TheVariants.{Merging, Turns}
 use Rattle.route_ways.specs.declared.plain.TheConstants.{BUDGET_LIMIT}
 
 -- how many copies of the clauses are held: each search has one
 abbrev pub copies_of : Solver → ℕ
 copies_of Merging = 1
-copies_of Straight = 1
 copies_of (Turns members seed) = members
 
 -- those that take turns are few enough, and the seed goes with them
 abbrev pub CanTurn : Solver → Type 0
 CanTurn Merging = ⊤
-CanTurn Straight = ⊤
 CanTurn (Turns members seed) = IsSchedule (Drawn members seed)
 
 -- so, and the budget is in its range

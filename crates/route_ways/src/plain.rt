@@ -8,7 +8,7 @@ use crate::wires::Wires;
 use fpga_bounds::PlacedProblem;
 use route_sweep::{Ended, Searcher};
 use sat_clause::{Formula, Log};
-use sat_core::{Answer, solve};
+use sat_core::Answer;
 use sat_merge::solve_merged;
 use sat_turns::{Schedule, TurnsEnd, run_turns};
 use std::alloc::{AllocError, Global};
@@ -21,8 +21,6 @@ pub const BUDGET_LIMIT: u64 = 100_000_000;
 pub enum Solver {
     /// One search, over the variables from which others follow.
     Merging,
-    /// One search, over all variables.
-    Straight,
     /// Several searches that take turns over one log, in an order that is drawn. They delete no
     /// clause from it.
     Turns {
@@ -39,7 +37,7 @@ impl Solver {
         ensures { result ≡ copies_of self }
     {
         match self {
-            Solver::Merging | Solver::Straight => 1,
+            Solver::Merging => 1,
             Solver::Turns { members, .. } => members,
         }
     }
@@ -79,12 +77,6 @@ impl Plain {
                     self.keep,
                     log,
                 ) else {
-                    return Err(AllocError);
-                };
-                Ok(answer)
-            }
-            Solver::Straight => {
-                let Ok(answer) = solve(alloc, formula, habits, self.budget, self.keep, log) else {
                     return Err(AllocError);
                 };
                 Ok(answer)

@@ -4,7 +4,7 @@
 
 mod progress;
 
-use crate::progress::TellingShelf;
+use crate::progress::ProgressShelf;
 use desk_io::{FileDesk, FileShelf};
 use router_says::{SystemErrors, append_words};
 use router_top::{Ran, run, status};
@@ -54,7 +54,7 @@ fn main(rt: HostRuntime) -> ExitCode {
         return ExitCode::from(NO_WORDS);
     };
     let mut desk = FileDesk::new(&rt);
-    let mut shelf = TellingShelf::new(&rt, FileShelf::new(&rt), tells_progress(&rt));
+    let mut shelf = ProgressShelf::new(&rt, FileShelf::new(&rt), tells_progress(&rt));
     let ran = run(rt.alloc(), &words, &mut desk, &mut shelf);
     let errors = SystemErrors {
         reading: desk.last_error(),

@@ -149,13 +149,13 @@ impl<'a, R: AllocGlobal + Clock + Eprint> Teller<'a, R> {
 /// A shelf that writes what the shelf in it writes and fails where that fails; and that says on
 /// standard error, where it is to, which width's files are begun or done.
 #[derive(Drop)]
-pub struct TellingShelf<'a, R, S> {
+pub struct ProgressShelf<'a, R, S> {
     shelf: S,
     teller: Option<Teller<'a, R>>,
 }
 
-impl<'a, R: AllocGlobal + Clock + Eprint, S: Shelf> TellingShelf<'a, R, S> {
-    pub fn new(rt: &'a R, shelf: S, tells: bool) -> TellingShelf<'a, R, S> {
+impl<'a, R: AllocGlobal + Clock + Eprint, S: Shelf> ProgressShelf<'a, R, S> {
+    pub fn new(rt: &'a R, shelf: S, tells: bool) -> ProgressShelf<'a, R, S> {
         let teller = if tells {
             Some(Teller {
                 rt,
@@ -167,7 +167,7 @@ impl<'a, R: AllocGlobal + Clock + Eprint, S: Shelf> TellingShelf<'a, R, S> {
         } else {
             None
         };
-        TellingShelf { shelf, teller }
+        ProgressShelf { shelf, teller }
     }
 
     /// The shelf in it.
@@ -176,7 +176,7 @@ impl<'a, R: AllocGlobal + Clock + Eprint, S: Shelf> TellingShelf<'a, R, S> {
     }
 }
 
-impl<'a, R: AllocGlobal + Clock + Eprint, S: Shelf> Shelf for TellingShelf<'a, R, S> {
+impl<'a, R: AllocGlobal + Clock + Eprint, S: Shelf> Shelf for ProgressShelf<'a, R, S> {
     ghost state = { λ t. S.state t.shelf };
 
     fn create(&mut self, name: &str) -> Result<(), Failed> {

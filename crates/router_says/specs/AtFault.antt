@@ -223,18 +223,25 @@ pub record SaidByTwo (before now : DeskState) (first second : Option Bytes)
   pub other_read : IsRead between now second other
   pub is : said ≡ said_by_both said_by one other
 
+-- the two files whose texts say what is sought, where the file alone does not
+abbrev pub two_files : Sought → Option (TextFile × TextFile)
+two_files Keywords = None
+two_files Standing = None
+two_files NoPlace = Some (Problem Netlist, Problem Placement)
+two_files NoLine = Some (Problem Netlist, Problem Route)
+two_files RoutedLine = Some (Problem Netlist, Routed)
+two_files sought = Some (Problem Architecture, Problem Netlist)
+
+-- what is said by the file alone, or by two
+abbrev pub ShowsBy : (before now : DeskState) → (names : TextFile → Option Bytes) → TextFile
+    → (line : ℕ) → Sought → Option (TextFile × TextFile) → List ℕ → Type 0
+ShowsBy before now names file line sought None said =
+    SaidByOne before now (names file) (file_shown file sought line) said
+ShowsBy before now names file line sought (Some two) said =
+    SaidByTwo before now (names two.0) (names two.1) (both_shown sought line) said
+
 -- what is said of what is sought, at this line of a file
 abbrev pub Shows : (before now : DeskState) → (names : TextFile → Option Bytes) → TextFile
     → (line : ℕ) → Sought → List ℕ → Type 0
-Shows before now names file line Keywords said =
-    SaidByOne before now (names file) (file_shown file Keywords line) said
-Shows before now names file line Standing said =
-    SaidByOne before now (names file) (file_shown file Standing line) said
-Shows before now names file line NoPlace said = SaidByTwo before now
-    (names (Problem Netlist)) (names (Problem Placement)) (both_shown NoPlace line) said
-Shows before now names file line NoLine said = SaidByTwo before now
-    (names (Problem Netlist)) (names (Problem Route)) (both_shown NoLine line) said
-Shows before now names file line RoutedLine said = SaidByTwo before now
-    (names (Problem Netlist)) (names Routed) (both_shown RoutedLine line) said
-Shows before now names file line sought said = SaidByTwo before now
-    (names (Problem Architecture)) (names (Problem Netlist)) (both_shown sought line) said
+Shows before now names file line sought said =
+    ShowsBy before now names file line sought (two_files sought) said

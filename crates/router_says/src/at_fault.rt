@@ -121,80 +121,27 @@ fn append_sought<D: Desk>(
         (name_of (asked job.entry)) file line sought) (string_bytes out.old)
         (string_bytes out.new)) }
 {
-    let architecture = TextFile::Problem(ProblemFile::Architecture);
+    match two_files(sought) {
+        None => append_of_one(alloc, desk, out, job, file, line, sought),
+        Some((first, second)) => {
+            append_of_two(alloc, desk, out, job, first, second, line, sought)
+        }
+    }
+}
+
+// The two files whose texts say what is sought, where the file alone does not.
+fn two_files(sought: Sought) -> Option<(TextFile, TextFile)>
+    ensures { result ≡ spec.two_files sought }
+{
     let netlist = TextFile::Problem(ProblemFile::Netlist);
-    let placement = TextFile::Problem(ProblemFile::Placement);
-    let route = TextFile::Problem(ProblemFile::Route);
-    let routed = TextFile::Routed;
     match sought {
-        Sought::Standing => append_of_one(alloc, desk, out, job, file, line, Sought::Standing),
-        Sought::Keywords => append_of_one(alloc, desk, out, job, file, line, Sought::Keywords),
-        Sought::Drivers => {
-            append_of_two(
-                alloc,
-                desk,
-                out,
-                job,
-                architecture,
-                netlist,
-                line,
-                Sought::Drivers,
-            )
+        Sought::Standing | Sought::Keywords => None,
+        Sought::Drivers | Sought::NoSink | Sought::GlobalPin | Sought::SharedClass => {
+            Some((TextFile::Problem(ProblemFile::Architecture), netlist))
         }
-        Sought::NoSink => {
-            append_of_two(
-                alloc,
-                desk,
-                out,
-                job,
-                architecture,
-                netlist,
-                line,
-                Sought::NoSink,
-            )
-        }
-        Sought::GlobalPin => {
-            append_of_two(
-                alloc,
-                desk,
-                out,
-                job,
-                architecture,
-                netlist,
-                line,
-                Sought::GlobalPin,
-            )
-        }
-        Sought::SharedClass => {
-            append_of_two(
-                alloc,
-                desk,
-                out,
-                job,
-                architecture,
-                netlist,
-                line,
-                Sought::SharedClass,
-            )
-        }
-        Sought::NoPlace => {
-            append_of_two(
-                alloc,
-                desk,
-                out,
-                job,
-                netlist,
-                placement,
-                line,
-                Sought::NoPlace,
-            )
-        }
-        Sought::NoLine => {
-            append_of_two(alloc, desk, out, job, netlist, route, line, Sought::NoLine)
-        }
-        Sought::Routed => {
-            append_of_two(alloc, desk, out, job, netlist, routed, line, Sought::Routed)
-        }
+        Sought::NoPlace => Some((netlist, TextFile::Problem(ProblemFile::Placement))),
+        Sought::NoLine => Some((netlist, TextFile::Problem(ProblemFile::Route))),
+        Sought::Routed => Some((netlist, TextFile::Routed)),
     }
 }
 

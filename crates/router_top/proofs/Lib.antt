@@ -16,6 +16,7 @@ mod MeansLaws
 mod MethodLaws
 mod NameLaws
 mod PlacedLaws
+mod PosedLaws
 mod PreparedLaws
 mod SaidLaws
 mod ServeLaws

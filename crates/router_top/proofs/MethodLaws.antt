@@ -7,7 +7,7 @@ use Rattle.fpga_types.specs.Fits.{Fits}
 use Rattle.fpga_types.specs.Given.{IsGiven}
 use Rattle.fpga_types.specs.Legal.{tracks_of}
 use Rattle.fpga_types.specs.declared.limits.TheConstants.{WIDTH_LIMIT}
-use Rattle.route_crowd.proofs.ClauseLemmas.{unsat_unroutable as unsat-ordered}
+use Rattle.route_ordered.proofs.ClauseLemmas.{unsat_unroutable as unsat-ordered}
 use Rattle.route_encode.specs.Good.{IsRoutingOf}
 use Rattle.route_encode.proofs.ProblemExactness.{unsat-says-unroutable}
 use Rattle.route_reach.specs.Trees.{wires_of}
@@ -15,7 +15,7 @@ use Rattle.route_reach.proofs.PrintLemmas.{routes-read-back}
 use Rattle.route_reach.proofs.ProblemExactness.{unsat-says-unreachable}
 use Rattle.route_reach.proofs.RouteLemmas.{routes-say-reached}
 use Rattle.route_reach.proofs.StrictLemmas.{reach-covers-strict}
-use Rattle.route_symmetry.proofs.EncodeLemmas.{unsat_unroutable}
+use Rattle.route_pinned.proofs.EncodeLemmas.{unsat_unroutable}
 use Rattle.sat_clause.specs.Formula.{IsUnsat}
 use Rattle.router_top.specs.Method.{CoversStrict, HasNone, HasOne, IsCrowdFor, IsRoutingBy, clauses_by}
 use Rattle.router_top.specs.Subject.{Bytes, RoutingProblem, RouteText, Method, Ordered, Pinned, Strictly, Within}

@@ -5,10 +5,10 @@ use Rattle.std.proofs.lemmas.List.{append-nil}
 use Rattle.problem_facts.specs.Full.{is_symmetric}
 use Rattle.problem_facts.specs.Groups.{is_exchangeable}
 use Rattle.route_count.specs.Begun.{IsBegunBy}
-use Rattle.route_crowd.specs.Precedence.{ordered_cnf, precedence, slots_among}
-use Rattle.route_crowd.proofs.CrowdSlots.{among-crowd}
+use Rattle.route_ordered.specs.Ordered.{ordered_cnf, precedence, slots_among}
+use Rattle.route_ordered.proofs.CrowdSlots.{among-crowd}
 use Rattle.route_encode.specs.Encoding.{cnf_of}
-use Rattle.route_symmetry.specs.Pinned.{pin_clauses}
+use Rattle.route_pinned.specs.Pinned.{pin_clauses}
 use Rattle.router_words.specs.Near.{has_one_track}
 use Rattle.router_top.specs.Method.{IsCrowdFor, IsRoutingBy, clauses_by}
 use Rattle.router_top.specs.Suited.{IsEncoderOf, clauses_along}

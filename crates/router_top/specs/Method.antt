@@ -3,7 +3,7 @@
 use Rattle.std.specs.Prelude.{◌≡◌, ℕ, ◌≤◌, Bool, true, List, ⊤}
 use Rattle.fpga_types.specs.declared.grid.Wire.{Wire}
 use Rattle.problem_facts.specs.Crowd.{IsCrowd}
-use Rattle.route_crowd.specs.Precedence.{ordered_cnf}
+use Rattle.route_ordered.specs.Ordered.{ordered_cnf}
 use Rattle.route_encode.specs.Encoding.{cnf_of}
 use Rattle.route_encode.specs.Exact.{IsLegalRouting, IsUnroutableAt}
 use Rattle.route_encode.specs.Good.{IsRoutingOf}
@@ -11,7 +11,7 @@ use Rattle.route_reach.specs.Encoding.{reach_cnf}
 use Rattle.route_reach.specs.Good.{IsReachRoute}
 use Rattle.route_reach.specs.Reach.{IsReachLegal}
 use Rattle.route_reach.specs.TraceDepth.{trace_depth}
-use Rattle.route_symmetry.specs.Pinned.{pinned_cnf}
+use Rattle.route_pinned.specs.Pinned.{pinned_cnf}
 use Rattle.router_top.specs.Subject.{RoutingProblem, RouteText, Cnf, Method, Ordered, Pinned, Strictly, Within}
 
 -- the clauses that say a routing of the problem at a width; tracks are kept in the order of this

@@ -3,7 +3,7 @@
 use Rattle.std.specs.Prelude.{◌≡◌, ◌⊎◌, ℕ, List, ◌<◌, ◌≤◌, Bool, true, false, Option, Some, None, option_map}
 use Rattle.problem_facts.specs.Full.{asymmetry_of, is_symmetric}
 use Rattle.problem_facts.specs.Groups.{is_exchangeable, obstacle_of}
-use Rattle.route_crowd.specs.Precedence.{ordered_cnf, slots_among}
+use Rattle.route_ordered.specs.Ordered.{ordered_cnf, slots_among}
 use Rattle.router_top.specs.Method.{clauses_by, goes_by_crowd}
 use Rattle.router_top.specs.Work.{Encodes, LeavesRoute, Sweeps}
 use Rattle.router_top.specs.Subject.{ShelfState, RoutingProblem, Cnf, EncodeAsked, RouteAsked, SweepAsked, Method, Ordered, Pinned, Strictly, Within, Outcome, OutOfMemory, NotSymmetric}

@@ -3,7 +3,7 @@ use Rattle.std.specs.Prelude.{ℕ, List, Option, None, Some, true, if◌then◌e
 use Rattle.router_words.specs.Job.{MembersAsked}
 use Rattle.route_ways.specs.Way.{Course, Counts, Searches, Trims}
 use Rattle.route_ways.specs.declared.plain.Plain.{Plain}
-use Rattle.route_ways.specs.declared.plain.Solver.TheVariants.{Merging, Straight, Turns}
+use Rattle.route_ways.specs.declared.plain.Solver.TheVariants.{Merging, Turns}
 use Rattle.route_ways.specs.declared.wires.Wires.{Wires}
 use Rattle.route_ways.specs.declared.wires.Wires.TheVariants.{One, Several}
 use Rattle.router_top.specs.Subject.{CoreAsked, Method, Ordered, Pinned, SearchAsked, Strictly, Within}
@@ -40,4 +40,4 @@ way_by search members crowd =
 -- `core` keeps all clauses, and its refutation is cut down
 abbrev pub core_way : CoreAsked → Course
 core_way job =
-    Trims (record { solver = Straight; wires = One; budget = job.conflicts; keep = true })
+    Trims (record { solver = Merging; wires = One; budget = job.conflicts; keep = true })

@@ -2,7 +2,7 @@
 ghost use Rattle.std.proofs.Props.{props};
 ghost use Rattle.router_words.specs.Near.{IsNear};
 
-use route_crowd::Precedence;
+use route_ordered::Ordered;
 use router_words::Method;
 
 /// The encoder of the method that a job has chosen.
@@ -12,6 +12,6 @@ pub struct Chosen {
     pub method: Method,
     /// The row of slots that is kept in order, where the method does so. It is found once, for all
     /// widths.
-    pub order: Precedence,
+    pub order: Ordered,
     ghost near: { IsNear method } by { Prim.hlevel props },
 }

@@ -4,17 +4,17 @@ ghost use Rattle.router_words.specs.Near.{IsNear};
 ghost use Rattle.router_top.specs.Known.{crowd_of};
 ghost use Rattle.router_top.specs.Method.{IsRoutingBy};
 ghost use Rattle.router_top.specs.Suited.{IsEncoderOf, clauses_along};
-ghost use Rattle.router_words.specs.declared.method.Method.TheVariants.{Ordered};
+ghost use Rattle.router_words.specs.declared.method.Method.TheVariants.{Ordered as OrderedMethod};
 
 use crate::chosen::Chosen;
 use arrayvec::ArrayVec;
 use fpga_bounds::PlacedProblem;
 use fpga_types::RouteText;
 use problem_facts::Facts;
-use route_crowd::Precedence;
 use route_encode::{Encoder, Strict};
+use route_ordered::Ordered;
+use route_pinned::Pinned;
 use route_reach::Reach;
-use route_symmetry::Pinned;
 use router_words::Method;
 use sat_clause::Formula;
 use std::alloc::{AllocError, Global};
@@ -24,13 +24,13 @@ impl Chosen {
     /// be kept in the order of a crowd. Takes no memory.
     pub fn of(method: Method, known: &Option<Facts>) -> Chosen
         requires near { IsNear method }
-        requires known { method ≡ Ordered → IsSome known.now }
+        requires known { method ≡ OrderedMethod → IsSome known.now }
         ensures { IsEncoderOf method (crowd_of known.now) result }
     {
         match method {
             Method::Ordered => {
                 let Some(facts) = known else { unreachable!() };
-                let order = Precedence::of_crowd(facts);
+                let order = Ordered::of_crowd(facts);
                 Chosen { method, order }
             }
             Method::Strictly | Method::Pinned | Method::Within(_) => {
@@ -44,7 +44,7 @@ impl Chosen {
         requires near { IsNear method }
         ensures { result.method ≡ method }
     {
-        let order = Precedence {
+        let order = Ordered {
             row: ArrayVec::new(),
         };
         Chosen { method, order }

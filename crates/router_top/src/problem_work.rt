@@ -1,7 +1,8 @@
 //! Work on the problem that four files pose.
-ghost use Rattle.std.specs.Prelude.{◌≡◌, IfSome};
+ghost use Rattle.std.specs.Prelude.{◌≡◌, IfSome, IsNone};
 ghost use Rattle.fpga_problem.specs.Files.{Poses, names_said};
 ghost use Rattle.fpga_types.specs.Given.{IsGiven};
+ghost use Rattle.router_top.specs.Posed.{EndsWithoutProblem};
 ghost use Rattle.router_top.specs.Report.{IsReadFault};
 ghost use Rattle.router_top.specs.Run.{LeavesWork, scene};
 
@@ -52,6 +53,7 @@ pub fn work_on<D: Desk, S: Shelf, W: ProblemWork>(
         → (D.state desk.new).faults ≡ (D.state desk.old).faults }
     ensures posed { IfSome result.problem
         (Poses (D.state desk.old).files (names_said names.now)) }
+    ensures lacks { IsNone result.problem → EndsWithoutProblem result.outcome }
 {
     let problem = match read_files(alloc, desk, names) {
         Ok(problem) => problem,

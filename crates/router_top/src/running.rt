@@ -1,9 +1,9 @@
 //! The whole work: from words and files in to files out.
-ghost use Rattle.std.specs.Prelude.{◌≡◌, IfSome};
+ghost use Rattle.std.specs.Prelude.{◌≡◌, IfSome, IsNone};
 ghost use Rattle.router_words.specs.Word.{words_of};
 ghost use Rattle.router_top.specs.JobFiles.{LeavesFiles};
 ghost use Rattle.router_top.specs.Means.{Means};
-ghost use Rattle.router_top.specs.Posed.{IsPosed};
+ghost use Rattle.router_top.specs.Posed.{IsPosed, LacksProblem};
 ghost use Rattle.router_top.specs.Report.{IsReadFault, unsaid};
 ghost use Rattle.router_top.specs.Run.{Leaves, Reports, Runs, scene};
 ghost use Rattle.router_top.specs.Saying.{Speaks};
@@ -47,6 +47,7 @@ fn work<D: Desk, S: Shelf>(alloc: Global, words: &[String], desk: &mut D, shelf:
         → (D.state desk.new).faults ≡ (D.state desk.old).faults }
     ensures posed { IfSome result.problem
         (IsPosed (D.state desk.old).files (words_of words.now)) }
+    ensures lacks { IsNone result.problem → LacksProblem (words_of words.now) result.outcome }
 {
     match read_words(alloc, words) {
         Ok(Job::Route(job)) => {
@@ -172,7 +173,8 @@ fn say_report<S: Shelf>(shelf: &mut S, outcome: Outcome) -> Outcome
 /// another command there is none. The files of the desk stay in any case.
 ///
 /// The problem that `route`, `sweep`, `encode` and `core` worked on is given back with the outcome,
-/// so that more can be said of it.
+/// so that more can be said of it. They give none only where their files pose none, or memory is too
+/// short.
 pub fn run<D: Desk, S: Shelf>(alloc: Global, words: &[String], desk: &mut D, shelf: &mut S) -> Ran
     ensures means { Means (words_of words.now) (D.state desk.old).files (S.state shelf.old).files
         (S.state shelf.new).files result.outcome }
@@ -186,6 +188,8 @@ pub fn run<D: Desk, S: Shelf>(alloc: Global, words: &[String], desk: &mut D, she
         (S.state shelf.old) (S.state shelf.new) result.outcome }
     ensures posed { IfSome result.problem
         (IsPosed (D.state desk.old).files (words_of words.now)) }
+    ensures unposed { IsNone result.problem
+        → LacksProblem (words_of words.now) result.outcome }
 {
     let Ran { outcome, problem } = work(alloc, words, desk, shelf);
     let outcome = say_report(shelf, outcome);

@@ -82,7 +82,7 @@ pub fn core_way(job: &CoreJob<'_>) -> Way<'static>
     ensures serves { (p : RoutingProblem) (width : ℕ) → serves_by result p width (cnf_of width p) }
 {
     let rest = Plain {
-        solver: Solver::Straight,
+        solver: Solver::Merging,
         wires: Wires::One,
         budget: job.conflicts,
         keep: true,

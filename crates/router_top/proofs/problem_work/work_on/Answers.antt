@@ -1,5 +1,7 @@
-use Rattle.std.proofs.Common.{inl, refl}
+use Rattle.std.proofs.Common.{inl, refl, subst, sym}
 use Rattle.router_top.specs.declared.text_file.TextFile.TheVariants.{Problem}
+use Rattle.router_top.specs.Posed.{EndsWithoutProblem}
+use Rattle.router_top.proofs.PosedLaws.{unread-ends}
 use Rattle.router_top.proofs.StopLaws.{desk-fault}
 use Rattle.router_top.proofs.problem_work.work_on.Goals as goal
 
@@ -11,3 +13,7 @@ pub returns-in-Err-clause-quiet : goal.returns-in-Err-clause-quiet
 returns-in-Err-clause-quiet g c told =
     c.in-Err.ensures.quiet (λ fails. told (desk-fault (Problem c.in-Err.stop.file)
     c.in-Err.stop.fault c.unread_outcome.result c.unread_outcome.ensures fails))
+
+pub returns-in-Err-clause-lacks : goal.returns-in-Err-clause-lacks
+returns-in-Err-clause-lacks g c none = subst EndsWithoutProblem (sym c.unread_outcome.ensures)
+    (unread-ends (Problem c.in-Err.stop.file) c.in-Err.stop.fault)

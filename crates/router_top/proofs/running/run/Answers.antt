@@ -4,6 +4,7 @@ use Rattle.router_top.proofs.ComeLaws.{leaves-came}
 use Rattle.router_top.proofs.CompleteLaws.{runs-complete}
 use Rattle.router_top.proofs.LeftLaws.{runs-leave}
 use Rattle.router_top.proofs.MeansLaws.{runs-mean}
+use Rattle.router_top.proofs.PosedLaws.{reported-lacks}
 use Rattle.router_top.proofs.SaidLaws.{runs-speak}
 use Rattle.router_top.proofs.running.run.Goals as goal
 
@@ -31,4 +32,6 @@ returns g c =
       says = runs-speak words desk desk_now shelf shelf_now answer ran came;
       complete = runs-complete words desk desk_now shelf shelf_now answer ran came;
       posed = c.work-outcome.ensures.posed;
+      unposed = λ none. reported-lacks words ran.between ran.outcome shelf_now answer
+          c.say_report-outcome.ensures (c.work-outcome.ensures.lacks none);
     }

@@ -1,5 +1,7 @@
 use Rattle.std.proofs.Common.{inr, refl}
 use Rattle.std.proofs.lemmas.Option.{IfSome_then}
+use Rattle.router_words.specs.Word.{words_of}
+use Rattle.router_top.proofs.PosedLaws.{lacks-none}
 use Rattle.router_top.proofs.running.work.Goals as goal
 
 pub returns-in-Ok-Route-clause-leaves : goal.returns-in-Ok-Route-clause-leaves
@@ -90,3 +92,60 @@ returns-in-Ok-Core-clause-posed g c =
     let asked = rw c.in-Ok-Core.field-0-is at c.in-Ok-Core.ensures.answers in
     IfSome_then c.work_on-in-Ok-Core.result.problem c.work_on-in-Ok-Core.ensures.posed
     (λ p poses. (_, _, asked, refl, poses))
+
+pub returns-in-Ok-Route-clause-lacks : goal.returns-in-Ok-Route-clause-lacks
+returns-in-Ok-Route-clause-lacks g c none = λ job names said has. c.work_on.ensures.lacks none
+
+pub returns-in-Ok-Encode-clause-lacks : goal.returns-in-Ok-Encode-clause-lacks
+returns-in-Ok-Encode-clause-lacks g c none = λ job names said has. c.work_on-in-Ok-Encode.ensures.lacks none
+
+pub returns-in-Ok-Sweep-clause-lacks : goal.returns-in-Ok-Sweep-clause-lacks
+returns-in-Ok-Sweep-clause-lacks g c none = λ job names said has. c.work_on-in-Ok-Sweep.ensures.lacks none
+
+pub returns-in-Ok-Core-clause-lacks : goal.returns-in-Ok-Core-clause-lacks
+returns-in-Ok-Core-clause-lacks g c none = λ job names said has. c.work_on-in-Ok-Core.ensures.lacks none
+
+pub returns-in-Ok-Decode-clause-lacks : goal.returns-in-Ok-Decode-clause-lacks
+returns-in-Ok-Decode-clause-lacks g c none =
+    let asked = rw c.in-Ok-Decode.field-0-is at c.in-Ok-Decode.ensures.answers in
+    lacks-none (words_of c.args.words.now) _ _ asked refl
+
+pub returns-in-Ok-Verify-clause-lacks : goal.returns-in-Ok-Verify-clause-lacks
+returns-in-Ok-Verify-clause-lacks g c none =
+    let asked = rw c.in-Ok-Verify.field-0-is at c.in-Ok-Verify.ensures.answers in
+    lacks-none (words_of c.args.words.now) _ _ asked refl
+
+pub returns-in-Ok-Judge-clause-lacks : goal.returns-in-Ok-Judge-clause-lacks
+returns-in-Ok-Judge-clause-lacks g c none =
+    let asked = rw c.in-Ok-Judge.field-0-is at c.in-Ok-Judge.ensures.answers in
+    lacks-none (words_of c.args.words.now) _ _ asked refl
+
+pub returns-in-Ok-Bound-clause-lacks : goal.returns-in-Ok-Bound-clause-lacks
+returns-in-Ok-Bound-clause-lacks g c none =
+    let asked = rw c.in-Ok-Bound.field-0-is at c.in-Ok-Bound.ensures.answers in
+    lacks-none (words_of c.args.words.now) _ _ asked refl
+
+pub returns-in-Ok-Gen-clause-lacks : goal.returns-in-Ok-Gen-clause-lacks
+returns-in-Ok-Gen-clause-lacks g c none =
+    let asked = rw c.in-Ok-Gen.field-0-is at c.in-Ok-Gen.ensures.answers in
+    lacks-none (words_of c.args.words.now) _ _ asked refl
+
+pub returns-in-Ok-Trial-clause-lacks : goal.returns-in-Ok-Trial-clause-lacks
+returns-in-Ok-Trial-clause-lacks g c none =
+    let asked = rw c.in-Ok-Trial.field-0-is at c.in-Ok-Trial.ensures.answers in
+    lacks-none (words_of c.args.words.now) _ _ asked refl
+
+pub returns-in-Ok-Check-clause-lacks : goal.returns-in-Ok-Check-clause-lacks
+returns-in-Ok-Check-clause-lacks g c none =
+    let asked = rw c.in-Ok-Check.field-0-is at c.in-Ok-Check.ensures.answers in
+    lacks-none (words_of c.args.words.now) _ _ asked refl
+
+pub returns-in-Ok-Global-clause-lacks : goal.returns-in-Ok-Global-clause-lacks
+returns-in-Ok-Global-clause-lacks g c none =
+    let asked = rw c.in-Ok-Global.field-0-is at c.in-Ok-Global.ensures.answers in
+    lacks-none (words_of c.args.words.now) _ _ asked refl
+
+pub returns-in-Ok-Least-clause-lacks : goal.returns-in-Ok-Least-clause-lacks
+returns-in-Ok-Least-clause-lacks g c none =
+    let asked = rw c.in-Ok-Least.field-0-is at c.in-Ok-Least.ensures.answers in
+    lacks-none (words_of c.args.words.now) _ _ asked refl

@@ -1,5 +1,0 @@
-use Rattle.route_crowd.proofs.ClauseLemmas.{clauses_say}
-use Rattle.route_crowd.proofs.laws.clauses_say_order.Goals as goal
-
-pub returns : goal.returns
-returns c = clauses_say
