@@ -1,5 +1,5 @@
 -- Which runs give no problem back.
-use Rattle.std.proofs.Common.{◌≡◌, List, Option, None, Ok, inl, inr, subst, sym}
+use Rattle.std.proofs.Common.{◌≡◌, List, Option, None, Ok, inl, inr, refl, subst, sym}
 use Rattle.fpga_problem.specs.declared.unread.FileFault.{FileFault}
 use Rattle.fpga_problem.specs.declared.unread.FileFault.TheVariants.{Desk, Text, TooLong}
 use Rattle.fpga_text.specs.declared.fault.TextFault.TheVariants.{Bad, Limit as PastLimit, Memory as NoMemory}
@@ -13,9 +13,9 @@ use Rattle.router_top.specs.declared.text_file.TextFile.{TextFile}
 pub unread-ends : (file : TextFile) (fault : FileFault)
     → EndsWithoutProblem (unread_outcome file fault)
 unread-ends file Desk = tt
-unread-ends file TooLong = tt
+unread-ends file TooLong = refl
 unread-ends file (Text (Bad line code)) = tt
-unread-ends file (Text (PastLimit code count)) = tt
+unread-ends file (Text (PastLimit code count)) = refl
 unread-ends file (Text NoMemory) = tt
 
 -- so does a report that was not said

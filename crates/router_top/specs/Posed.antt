@@ -1,5 +1,5 @@
 -- The problem that a run works on.
-use Rattle.std.specs.Prelude.{◌≡◌, ⊤, ⊥, IsSome, List, Option, None, Some, Ok}
+use Rattle.std.specs.Prelude.{◌≡◌, ⊤, IsSome, List, Option, None, Some, Ok}
 use Rattle.desk_io.specs.Files.{FileMap}
 use Rattle.router_top.specs.Subject.{Blames, Encodes, FileNames, InputFault, JobAsked, Limit, OutOfMemory, Outcome, Poses, ReadFault, RoutingProblem, Routes, Sweeps, Word, WriteFault, job_of}
 
