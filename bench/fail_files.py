@@ -3,9 +3,10 @@
 
 Each row is a run in a folder of its own: its status, what it says, and what stands then. A row is
 wrong where one of these is otherwise than it must be, or its words on standard error are, or where
-a file has changed that is not of the job. Then each call of the system that a command makes on
-files is refused alone, one number after the other, and all from a number on; and interrupted,
-after which the run must go on.
+a file has changed that is not of the job. Some runs are on a system that moves one byte a call,
+interrupts each second one and fails late (`slow_system.py`). Then each call of the system that a
+command makes on files is refused alone, one number after the other, and all from a number on; and
+interrupted, after which the run must go on.
 
     bench/fail_files.py [--router PATH] [--rows WORD] [--plain] [--count N]
 
@@ -16,12 +17,16 @@ runs as another user the rows on permissions. The last line counts the rows; wit
 number of right ones than this is a failure.
 """
 import argparse
+import errno
 import os
+import platform
 import shutil
 import stat
 import subprocess
 import sys
 import tempfile
+
+from slow_system import run_slowly
 
 TOP = os.path.dirname(os.path.dirname(os.path.abspath(__file__)))
 THREE = ["three.arch", "three.net", "three.place", "three.route"]
@@ -199,6 +204,15 @@ def simple_rows(table, router, fresh):
 
         return make
 
+    def lines_behind(name, size):
+        """Empty lines behind a file, up to so many bytes."""
+
+        def make(row):
+            with open(row.path(name), "ab") as it:
+                it.write(b"\n" * (size - it.tell()))
+
+        return make
+
     route = ["route", *THREE, "3", "out"]
     lacks = b"read fault: netlist\n"
 
@@ -295,6 +309,39 @@ def simple_rows(table, router, fresh):
         b"write fault: slot 1\n",
         unwritten("no/out.route", no_such),
     )
+    if os.path.exists("/dev/full"):
+        one(
+            "a full device in place of an output",
+            route,
+            6,
+            b"write fault: slot 1\n",
+            unwritten("out.route", "no space is left"),
+            prepare=lambda row: os.symlink("/dev/full", row.path("out.route")),
+        )
+    one(
+        "an input in a folder that is not there",
+        with_netlist("no/three.net"),
+        5,
+        lacks,
+        unread("netlist", "no/three.net", no_such),
+    )
+    one(
+        "an input of as many bytes as are read",
+        route,
+        0,
+        b"routed 3\n",
+        b"",
+        ["out.route"],
+        prepare=lines_behind("three.net", 67_108_864),
+    )
+    one(
+        "an input of one byte too many",
+        route,
+        3,
+        b"limit: code 912 count 67108865\n",
+        b"netlist file three.net: the file has more bytes than are read: 67108865 (code 912)\n",
+        prepare=lines_behind("three.net", 67_108_865),
+    )
     one(
         "a prefix that is too long",
         ["gen", "1", "3", "2", "p" * 300],
@@ -342,6 +389,59 @@ def output_rows(table, router, fresh):
     if os.path.exists("/dev/full"):
         with open("/dev/full", "wb") as it:
             one("a full device as standard output", "no space is left", stdout=it)
+
+
+def whole_rows(table, router, fresh):
+    """Names that a run can write, whatever stood there."""
+    route = ["route", *THREE, "3", "out"]
+    name = "a longer file in place of an output"
+    if table.takes(name):
+        ample, row = Row(router, fresh()), Row(router, fresh())
+        good = ample.run(route)
+        with open(row.path("out.route"), "wb") as it:
+            it.write(b"old\n" * 20_000)
+        came = row.run(route)
+        faults = compare(row, *came, *good, ["out.route"], ample.words)
+        if row.held() != ample.held():
+            faults.append("out.route is not that of a run where no file stood")
+        table.add(name, faults, *came, ", ".join(row.changed()))
+
+
+def slow_rows(table, router, fresh):
+    """What is moved byte by byte, and interrupted, comes whole; and what fails late is a fault."""
+
+    def one(name, tracks, wanted=None, told=b"", changed=("out.route",), **refused):
+        """Without a wanted status and report the run comes to what one on a fast system comes to."""
+        if not table.takes(name):
+            return
+        words = ["route", *THREE, tracks, "out"]
+        ample, row = Row(router, fresh()), Row(router, fresh())
+        good = ample.run(words)
+        row.before = row.held()
+        try:
+            status, said, row.words = run_slowly([router, *words], row.folder, **refused)
+        except OSError as why:
+            table.leave_out(name, why)
+            return
+        faults = compare(row, status, said, *(wanted or good), changed, told or ample.words)
+        if wanted is None and row.held() != ample.held():
+            faults.append("the files are not those of a run on a fast system")
+        table.add(name, faults, status, said, ", ".join(row.changed()) or "all as before")
+
+    if platform.machine() != "x86_64":
+        table.leave_out("a slow system", "this is no x86-64")
+        return
+    other, fault = "the system gave another error", (6, b"write fault: slot 1\n")
+    one("one byte a call, each second one interrupted", "3")
+    one("the same with clauses and a log", "2", changed=("out.cnf", "out.lrat"))
+    lacks = unread("architecture", "three.arch", other)
+    one("a read that fails behind three", "3", (5, b"read fault: architecture\n"), lacks, (), reads=3)
+    one("a disk that fails late", "3", fault, unwritten("out.route", other), sync=errno.EIO)
+    full = unwritten("out.route", "no space is left")
+    one("a disk that is full late", "3", fault, full, sync=errno.ENOSPC)
+    one("a file that has no disk", "3", sync=errno.EINVAL)
+    unsaid = unwritten("standard output", other)
+    one("standard output that fails", "3", (6, b""), unsaid, output=errno.EIO)
 
 
 def is_front(part, whole):
@@ -559,7 +659,7 @@ def main():
         proof["model"] = MODEL
         table = Table(asked.rows, asked.plain)
         table.show("| what fails | status | said | what has changed |\n|---|---|---|---|")
-        kinds = [simple_rows, output_rows]
+        kinds = [simple_rows, whole_rows, output_rows, slow_rows]
         if not asked.plain:
             kinds += [disk_rows, short_rows, call_rows]
         for kind in kinds:
