@@ -1,9 +1,9 @@
 #!/usr/bin/env python3
 """Reckons how many steps refute a width by counting: python3 bench/counted.py ROUTE WIDTH..
 
-Reads a global route alone and takes switch blocks to be subset ones. Prints for each width the number of steps, or that
-it is not counted out. It shares no code with the router, and is what the cases of crates/rows/data/problems/count.rows
-were worked out with."""
+Reads a global route alone and takes switch blocks to be subset ones. Prints for each width the number of steps, and of
+the clauses that they delete, or that it is not counted out. It shares no code with the router, and is what the cases of
+crates/rows/data/problems/count.rows were worked out with."""
 import sys
 from math import comb
 
@@ -47,20 +47,29 @@ class Ways:
 
 
 def steps(crowds, crowd, width):
+    """How many steps there are, and how many of them delete: behind each level but the last, and behind the ways."""
     if any(width < len(trees) for trees in crowds.cells.values()):
-        return counting_down(width)
+        return counting_down(width), width - 1
     if len(crowd) <= width:
         return None
     led = len(Ways(crowds).on_the_way(crowd[: width + 1]))
-    return counting_down(width) + (width * led + 1 if led else 0)
+    return (counting_down(width) + width * led + 1, width) if led else (counting_down(width), width - 1)
+
+
+def said(crowds, crowd, width):
+    found = steps(crowds, crowd, width)
+    if found is None:
+        return "not counted out"
+    count, deletions = found
+    # What stays are two slots on one track, as three clauses, and the empty clause.
+    return f"{count} steps, {count - deletions - 4} clauses deleted"
 
 
 def main():
     crowds = Crowds(sys.argv[1])
     crowd = crowds.crowd()
     for width in map(int, sys.argv[2:]):
-        count = steps(crowds, crowd, width)
-        print(f"{width}: {'not counted out' if count is None else f'{count} steps'}")
+        print(f"{width}: {said(crowds, crowd, width)}")
 
 
 main()

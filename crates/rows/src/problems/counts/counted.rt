@@ -9,10 +9,23 @@ use fpga_types::WIDTH_LIMIT;
 use problem_facts::Facts;
 use route_count::counted_out;
 use route_encode::{Encoder, Strict};
-use sat_clause::CLAUSE_LIMIT;
+use sat_clause::{CLAUSE_LIMIT, Log};
 use std::alloc::Global;
 
-/// Prints how many steps refute the clauses of the problem, or that they are not counted out.
+// How many clauses a log deletes.
+fn deleted_count(log: &Log) -> u64 {
+    let mut count = 0u64;
+    for k in 0..log.len() {
+        let step = log.step(k);
+        if step.erase {
+            count = count.saturating_add(step.hints.len() as u64);
+        }
+    }
+    count
+}
+
+/// Prints how many steps refute the clauses of the problem, and how many clauses they delete, or
+/// that they are not counted out.
 pub(crate) fn print_counted(
     rt: &impl Print,
     alloc: Global,
@@ -34,7 +47,8 @@ pub(crate) fn print_counted(
         return Ok(());
     };
     let steps = log.len();
+    let deleted = deleted_count(&log);
     drop(log);
-    println!(rt; "{width}: {steps} steps")?;
+    println!(rt; "{width}: {steps} steps, {deleted} clauses deleted")?;
     Ok(())
 }
