@@ -1,9 +1,11 @@
 mod CountLemmas
 mod CrowdLemmas
 mod CutLemmas
+mod LabelLemmas
 mod LaneLemmas
 mod NameLemmas
 mod NeedLemmas
 mod PartLemmas
 mod PictureLemmas
+mod RulerLemmas
 mod WireLemmas

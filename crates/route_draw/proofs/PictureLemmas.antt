@@ -10,19 +10,26 @@ use Rattle.fpga_types.specs.declared.route.Elem.{Elem}
 use Rattle.fpga_types.specs.declared.route.RouteNet.{RouteNet}
 use Rattle.route_draw.specs.Blamed.{Blame, mark_of}
 use Rattle.route_draw.specs.Caption.{AreCounts, IsKey, blamed_counted, counted, global_count, line_opening}
+use Rattle.route_draw.specs.Colour.{colour_of}
 use Rattle.route_draw.specs.Crowded.{AddsMarks, AreCrowded, AreMarks}
 use Rattle.route_draw.specs.Cut.{CutSaid}
+use Rattle.route_draw.specs.Label.{IsLabelled}
 use Rattle.route_draw.specs.Needs.{AreNeeds}
 use Rattle.route_draw.specs.Parts.{Adds, AreParts}
 use Rattle.route_draw.specs.Picture.{IsBlock, IsBody, IsCutIf, IsGlobal, IsGlobalIf, IsPictureOf, IsRouted, IsRoutedUnless, block_class, group}
+use Rattle.route_draw.specs.Ruler.{AreRulers}
 use Rattle.route_draw.specs.Wires.{AreLanes, AreWires, LanesOf, Layout}
 
-pub block-added : (block : Block) (class name drawn old new : List ℕ) →
-    class ≡ block_class block.kind → name ≡ block.name →
+pub block-added : (block : Block) (class name drawn made old new : List ℕ) →
+    class ≡ block_class block.kind → name ≡ block.name → drawn ≡ made → IsLabelled block.name made →
     new ≡ old ++ group [] class [] name drawn → Adds (IsBlock block) old new
-block-added block class name drawn old new kind named added = record {
+block-added block class name drawn made old new kind named is labelled added = record {
   part = group [] class [] name drawn;
-  is_part = (drawn, ap₂ (λ (c n : List ℕ). group [] c [] n drawn) kind named);
+  is_part = (
+    drawn,
+    subst (IsLabelled block.name) (sym is) labelled,
+    ap₂ (λ (c n : List ℕ). group [] c [] n drawn) kind named,
+  );
   added = added;
 }
 
@@ -41,24 +48,27 @@ global-added blame net mark name drawn old new global named marked added = recor
 }
 
 pub net-added : (layout : Layout) (blame : Blame) (net : RouteNet) (elems : List Elem)
-    (mark colour name drawn made old new : List ℕ) → net.global ≡ false → name ≡ net.name →
-    elems ≡ net.elems → mark ≡ mark_of blame name → drawn ≡ made → AreWires layout elems made →
+    (number : ℕ) (mark colour name drawn made old new : List ℕ) → net.global ≡ false →
+    name ≡ net.name → elems ≡ net.elems → mark ≡ mark_of blame name → colour ≡ colour_of number →
+    drawn ≡ made → AreWires layout elems made →
     new ≡ old ++ group mark (codes "n\" stroke=\"") colour name drawn →
     Adds (IsRouted layout blame net) old new
-net-added layout blame net elems mark colour name drawn made old new other named lined marked is
-    wires added =
+net-added layout blame net elems number mark colour name drawn made old new other named lined marked
+    coloured is wires added =
     record {
       part = group mark (codes "n\" stroke=\"") colour name drawn;
       is_part = subst
           (λ (b : Bool). IsRoutedUnless b layout (mark_of blame net.name) net
           (group mark (codes "n\" stroke=\"") colour name drawn)) (sym other) (
-            colour,
+            number,
             (
               drawn,
               subst (λ (t : List ℕ). AreWires layout net.elems t) (sym is)
                   (subst (λ (es : List Elem). AreWires layout es made) lined wires),
               ap₂ (λ (m n : List ℕ). group m (codes "n\" stroke=\"") colour n drawn)
-                  (marked ∙ ap (mark_of blame) named) named,
+                  (marked ∙ ap (mark_of blame) named) named
+                  ∙ ap (λ (c : List ℕ). group (mark_of blame net.name) (codes "n\" stroke=\"") c
+                  net.name drawn) coloured,
             ),
           );
       added = added;
@@ -121,32 +131,35 @@ body-added problem layout blame blocks globals nets old a b new all_blocks all_g
     }
 
 pub picture-made : (problem : RoutingProblem) (layout : Layout) (blame : Blame)
-    (shown : Option CutSaid) (head marks key : List ℕ) (s s0 s1 s2 s3 s4 s5 s6 : List ℕ) →
+    (shown : Option CutSaid) (head marks key : List ℕ) (s s0 s1 s2 s3 s4 s5 s6 s7 : List ℕ) →
     AreCrowded layout marks key → s ≡ codes "<svg " ++ head →
     Adds (IsCutIf layout.grid shown) s s0 → Adds (IsBody problem layout blame) s0 s1 →
-    s2 ≡ s1 ++ marks → s3 ≡ s2 ++ codes "</g>\n" →
-    Adds (AreCounts problem layout.width blame) s3 s4 → s5 ≡ s4 ++ key →
-    s6 ≡ s5 ++ codes "</svg>\n" → IsPictureOf problem layout blame shown s6
-picture-made problem layout blame shown head marks key s s0 s1 s2 s3 s4 s5 s6 crowded e cut body e2
-    e3 line e5 e6 =
+    s2 ≡ s1 ++ marks → s3 ≡ s2 ++ codes "</g>\n" → Adds (AreRulers layout.grid) s3 s4 →
+    Adds (AreCounts problem layout.width blame) s4 s5 → s6 ≡ s5 ++ key →
+    s7 ≡ s6 ++ codes "</svg>\n" → IsPictureOf problem layout blame shown s7
+picture-made problem layout blame shown head marks key s s0 s1 s2 s3 s4 s5 s6 s7 crowded e cut body
+    e2 e3 rulers line e6 e7 =
     record {
       head = head;
       cut = cut.part;
       body = body.part;
       marks = marks;
+      rulers = rulers.part;
       line = line.part;
       key = key;
       is_cut = cut.is_part;
       is_body = body.is_part;
       are_crowded = crowded;
+      are_rulers = rulers.is_part;
       are_counts = line.is_part;
-      text_is = e6 ∙ ap (λ (t : List ℕ). t ++ codes "</svg>\n")
-          (e5 ∙ ap (λ (t : List ℕ). t ++ key)
+      text_is = e7 ∙ ap (λ (t : List ℕ). t ++ codes "</svg>\n")
+          (e6 ∙ ap (λ (t : List ℕ). t ++ key)
           (line.added ∙ ap (λ (t : List ℕ). t ++ line.part)
+          (rulers.added ∙ ap (λ (t : List ℕ). t ++ rulers.part)
           (e3 ∙ ap (λ (t : List ℕ). t ++ codes "</g>\n")
           (e2 ∙ ap (λ (t : List ℕ). t ++ marks)
           (body.added ∙ ap (λ (t : List ℕ). t ++ body.part)
-          (cut.added ∙ ap (λ (t : List ℕ). t ++ cut.part) e))))));
+          (cut.added ∙ ap (λ (t : List ℕ). t ++ cut.part) e)))))));
     }
 
 -- the marks on the cells of a route, by a table of what they want, and the key to them

@@ -6,7 +6,7 @@ use Rattle.route_draw.specs.Blamed.{Blame}
 
 -- what a line of the caption begins with
 abbrev pub line_opening : (y : ℕ) → List ℕ
-line_opening y = codes "<text class=\"k\" x=\"0\" y=\"" ++ decimal y ++ codes "\">"
+line_opening y = codes "<text class=\"k\" x=\"180\" y=\"" ++ decimal y ++ codes "\">"
 
 -- so many nets, some of them global, and so many blocks and tracks
 abbrev pub counted : (nets globals blocks width : ℕ) → List ℕ

@@ -7,6 +7,7 @@ use Rattle.fpga_types.specs.Size.{Size}
 use Rattle.fpga_types.specs.declared.grid.Axis.{Axis}
 use Rattle.fpga_types.specs.declared.grid.Axis.TheVariants.{X, Y}
 use Rattle.fpga_types.specs.declared.grid.Cell.{Cell}
+use Rattle.route_draw.specs.Area.{area}
 use Rattle.route_draw.specs.Caption.{IsKey}
 use Rattle.route_draw.specs.Parts.{Adds, AreParts}
 use Rattle.route_draw.specs.Wires.{Layout}
@@ -31,11 +32,12 @@ abbrev pub mark_title : Cell → (want width : ℕ) → List ℕ
 mark_title cell want width =
     place_said (kind_of cell.axis) cell.x cell.y ++ wanted_said want width
 
--- of a cell that wants so many tracks: a red mark with its title if it is crowded, and else nothing
+-- of a cell that wants so many tracks: a red mark over it with its title if it is crowded, and else
+-- nothing
 abbrev pub IsMarkIf : Bool → Cell → (want width : ℕ) → List ℕ → Type 0
 IsMarkIf true cell want width text =
-    (drawn : List ℕ)
-    × (text ≡ codes "<path class=\"x\" d=\"" ++ drawn ++ mark_title cell want width)
+    text ≡ codes "<path class=\"x\" d=\"" ++ area cell.axis cell.x cell.y
+    ++ mark_title cell want width
 IsMarkIf false cell want width text = text ≡ []
 
 -- a cell is crowded: it wants more tracks than there are

@@ -1,17 +1,15 @@
 -- Which cells are those of a cut, and what is drawn over them.
-use Rattle.std.specs.Prelude.{◌≡◌, ℕ, ◌+◌, ◌*◌, Bool, true, false, List, [], ◌++◌, Option, codes, decimal, option_map}
+use Rattle.std.specs.Prelude.{◌≡◌, ℕ, Bool, true, false, List, [], ◌++◌, Option, codes, option_map}
 use Rattle.fpga_text.specs.Bytes.{Bytes}
 use Rattle.fpga_types.specs.Size.{Size}
-use Rattle.fpga_types.specs.declared.grid.Axis.{Axis}
-use Rattle.fpga_types.specs.declared.grid.Axis.TheVariants.{X, Y}
 use Rattle.fpga_types.specs.declared.grid.Cell.{Cell}
 use Rattle.route_bound.specs.Corners.{is_cut_cell}
 use Rattle.route_bound.specs.Ranges.{corners_of}
 use Rattle.route_bound.specs.declared.range.CornerRange.{CornerRange}
+use Rattle.route_draw.specs.Area.{area}
 use Rattle.route_draw.specs.Crowded.{AreFirstCells}
 use Rattle.route_draw.specs.Parts.{AreParts}
 use Rattle.route_draw.specs.declared.cut.ShownCut.{ShownCut}
-use Rattle.route_draw.specs.declared.scale.TheConstants.{BLOCK, CHANNEL, TILE}
 
 -- a cut that is to be shown: the rectangle of corners round which it goes, and the line that says it
 pub record CutSaid : Type 0 where
@@ -20,17 +18,6 @@ pub record CutSaid : Type 0 where
 
 abbrev pub cut_of : Option ShownCut → Option CutSaid
 cut_of cut = option_map (λ (c : ShownCut). record { range = c.range; line = c.line.now }) cut
-
--- a rectangle from its lower left corner on
-abbrev pub rectangle : (x y width height : ℕ) → List ℕ
-rectangle x y width height =
-    codes "M" ++ (decimal x ++ (codes " " ++ (decimal y ++ (codes "h" ++ (decimal width
-    ++ (codes "v" ++ (decimal height ++ (codes "h-" ++ (decimal width ++ codes "z")))))))))
-
--- that of a cell: as long as the block beside it, and as wide as its channel
-abbrev pub area : Axis → (x y : ℕ) → List ℕ
-area X x y = rectangle (x * TILE) (y * TILE + BLOCK) BLOCK CHANNEL
-area Y x y = rectangle (x * TILE + BLOCK) (y * TILE) CHANNEL BLOCK
 
 -- of a cell of the array: a band over it if it is one of the cut, and else nothing
 abbrev pub IsBandIf : Bool → Cell → List ℕ → Type 0

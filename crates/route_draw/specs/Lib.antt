@@ -1,9 +1,13 @@
+pub mod Area
 pub mod Blamed
 pub mod Caption
+pub mod Colour
 pub mod Crowded
 pub mod Cut
 pub mod Escape
+pub mod Label
 pub mod Needs
 pub mod Parts
 pub mod Picture
+pub mod Ruler
 pub mod Wires

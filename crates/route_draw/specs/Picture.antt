@@ -11,11 +11,14 @@ use Rattle.fpga_types.specs.declared.route.RouteNet.{RouteNet}
 use Rattle.fpga_types.specs.declared.route.RouteText.{RouteText}
 use Rattle.route_draw.specs.Blamed.{Blame, mark_of}
 use Rattle.route_draw.specs.Caption.{AreCounts}
+use Rattle.route_draw.specs.Colour.{colour_of}
 use Rattle.route_draw.specs.Crowded.{AreCrowded}
 use Rattle.route_draw.specs.Cut.{AreBands, CutSaid}
 use Rattle.route_draw.specs.Escape.{escaped}
+use Rattle.route_draw.specs.Label.{IsLabelled}
 use Rattle.route_draw.specs.Needs.{has_tracks}
 use Rattle.route_draw.specs.Parts.{AreParts}
+use Rattle.route_draw.specs.Ruler.{AreRulers}
 use Rattle.route_draw.specs.Wires.{AreWires, Layout, layout_of}
 
 -- what stands before the name of a group, and what stands behind it
@@ -38,10 +41,12 @@ block_class Logic = codes "l"
 block_class Input = codes "i"
 block_class Output = codes "o"
 
--- a block: a group of its class with its name
+-- a block: a group of its class with its whole name, and in it a rectangle with the name as it is
+-- shown there
 abbrev pub IsBlock : Block → List ℕ → Type 0
 IsBlock block text =
-    (drawn : List ℕ) × (text ≡ group [] (block_class block.kind) [] block.name drawn)
+    (drawn : List ℕ) × IsLabelled block.name drawn
+    × (text ≡ group [] (block_class block.kind) [] block.name drawn)
 
 -- of a net of the netlist: a group with its mark and name if it is global, and else nothing
 abbrev pub IsGlobalIf : Bool → (mark name : List ℕ) → List ℕ → Type 0
@@ -52,13 +57,13 @@ IsGlobalIf false mark name text = text ≡ []
 abbrev pub IsGlobal : Blame → Net → List ℕ → Type 0
 IsGlobal blame net text = IsGlobalIf net.global (mark_of blame net.name) net.name text
 
--- of a net of the route: nothing if it is global, and else a group in a colour with its mark and
--- name, in which its wires stand
+-- of a net of the route: nothing if it is global, and else a group in the colour of a number with
+-- its mark and name, in which its wires stand
 abbrev pub IsRoutedUnless : Bool → Layout → (mark : List ℕ) → RouteNet → List ℕ → Type 0
 IsRoutedUnless true layout mark net text = text ≡ []
 IsRoutedUnless false layout mark net text =
-    (colour : List ℕ) × ((drawn : List ℕ) × AreWires layout net.elems drawn
-    × (text ≡ group mark (codes "n\" stroke=\"") colour net.name drawn))
+    (number : ℕ) × ((drawn : List ℕ) × AreWires layout net.elems drawn
+    × (text ≡ group mark (codes "n\" stroke=\"") (colour_of number) net.name drawn))
 
 abbrev pub IsRouted : Layout → Blame → RouteNet → List ℕ → Type 0
 IsRouted layout blame net text =
@@ -85,21 +90,24 @@ IsCutIf grid (Some cut) text =
 
 -- a picture of a problem, whose wires stand so in the channels: one element of SVG from its start
 -- to its end, with the cells of a cut if one is shown, all blocks and nets, a mark on each crowded
--- cell and on no other, and below them the counts and a key
+-- cell and on no other, beside them the numbers of columns and rows, and below them the counts and
+-- a key
 pub record IsPictureOf (problem : RoutingProblem) (layout : Layout) (blame : Blame)
     (shown : Option CutSaid) (text : List ℕ) : Type 0 where
   pub head : List ℕ
   pub cut : List ℕ
   pub body : List ℕ
   pub marks : List ℕ
+  pub rulers : List ℕ
   pub line : List ℕ
   pub key : List ℕ
   pub is_cut : IsCutIf layout.grid shown cut
   pub is_body : IsBody problem layout blame body
   pub are_crowded : AreCrowded layout marks key
+  pub are_rulers : AreRulers layout.grid rulers
   pub are_counts : AreCounts problem layout.width blame line
-  pub text_is : text ≡ codes "<svg " ++ head ++ cut ++ body ++ marks ++ codes "</g>\n" ++ line
-      ++ key ++ codes "</svg>\n"
+  pub text_is : text ≡ codes "<svg " ++ head ++ cut ++ body ++ marks ++ codes "</g>\n"
+      ++ rulers ++ line ++ key ++ codes "</svg>\n"
 
 -- a picture of a problem and its route, with so many tracks in each channel, and of a cut if one is
 -- shown

@@ -1,25 +1,18 @@
 //! The blocks of a placement, and the global nets that connect them.
-ghost use Rattle.std.specs.Prelude.{◌≡◌, OnOk, string_bytes};
+ghost use Rattle.std.specs.Prelude.{◌≡◌, IfOk, OnOk, string_bytes};
 ghost use Rattle.route_draw.specs.Blamed.{blame_of};
+ghost use Rattle.route_draw.specs.Label.{IsLabelled};
 ghost use Rattle.route_draw.specs.Parts.{Adds, AreParts};
 ghost use Rattle.route_draw.specs.Picture.{IsBlock, IsGlobal, block_class};
 
 use crate::emphasis::Emphasis;
-use crate::escape::append_escaped;
 use crate::group::{Label, append_group};
-use crate::path::{append_dot, append_rectangle};
+use crate::label::{Area, append_label, append_shape};
+use crate::path::append_dot;
 use crate::scale::{BLOCK, PAD, Point, block_start};
 use fpga_bounds::PlacedProblem;
 use fpga_types::{Block, BlockKind, Grid, Net, PinRef, Place};
 use std::alloc::{AllocError, Global};
-
-/// A rectangle that a block is drawn as.
-#[derive(Clone, Copy)]
-struct Area {
-    at: Point,
-    width: u64,
-    height: u64,
-}
 
 /// Appends the blocks, each at its place and by its kind.
 pub(crate) fn append_blocks(
@@ -71,39 +64,23 @@ fn block_class(kind: BlockKind) -> &'static str
     }
 }
 
-// The rectangle of the block with this number at its place, and the name in a logic block.
+// The rectangle of the block with this number at its place, and the name in it.
 fn block_drawn(
     alloc: Global,
     problem: &PlacedProblem,
     block: &Block,
     number: usize,
-) -> Result<String, AllocError> {
+) -> Result<String, AllocError>
+    ensures { IfOk result (λ drawn. IsLabelled block.now.name (string_bytes drawn)) }
+{
     let mut out = String::new(alloc);
     let Some(place) = problem.placement().places.as_slice().get(number) else {
         return Ok(out);
     };
-    let Area { at, width, height } = block_area(problem, block.kind, *place);
-    out.push_str("<path d=\"")?;
-    append_rectangle(&mut out, at, width, height)?;
-    out.push_str("\"/>")?;
-    if let BlockKind::Logic = block.kind {
-        let name = block.name.bytes.as_slice();
-        append_label(&mut out, at.moved(BLOCK / 2, BLOCK / 2 - 40), name)?;
-    }
+    let area = block_area(problem, block.kind, *place);
+    append_shape(&mut out, area)?;
+    append_label(&mut out, alloc, area, block.name.bytes.as_slice())?;
     Ok(out)
-}
-
-// A text around a point of a block, so small that it has room there.
-fn append_label(out: &mut String, at: Point, name: &[u8]) -> Result<(), AllocError> {
-    let size = (700 / (name.len() as u64).max(1)).clamp(30, 150);
-    let Point { x, y } = at;
-    write!(
-        out,
-        "<text font-size=\"{size}\" transform=\"matrix(1 0 0 -1 {x} {y})\">"
-    )?;
-    append_escaped(out, name)?;
-    out.push_str("</text>")?;
-    Ok(())
 }
 
 // A logic block is as large as its place; a pad is a part of it, at the side that looks into the
@@ -214,7 +191,7 @@ fn global_net_drawn(
     Ok(out)
 }
 
-// A dot on the block that has the pin: in a corner of a logic block, in the middle of a pad.
+// A dot on the block that has the pin, in a corner of it.
 fn append_block_dot(
     out: &mut String,
     problem: &PlacedProblem,
@@ -230,7 +207,7 @@ fn append_block_dot(
     let Area { at, width, height } = block_area(problem, block.kind, *place);
     let parts = match block.kind {
         BlockKind::Logic => 10,
-        BlockKind::Input | BlockKind::Output => 2,
+        BlockKind::Input | BlockKind::Output => 6,
     };
     append_dot(out, at.moved(width / parts, height / parts))
 }

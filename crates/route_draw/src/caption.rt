@@ -6,8 +6,7 @@ ghost use Rattle.route_draw.specs.Caption.{AreCounts, IsKey, blamed_counted, bla
 ghost use Rattle.route_draw.specs.Parts.{Adds};
 
 use crate::emphasis::{Emphasis, NetNames};
-use crate::head::letter_size;
-use crate::scale::side;
+use crate::head::caption_line;
 use fpga_bounds::PlacedProblem;
 use fpga_types::{Grid, Net};
 use std::alloc::{AllocError, Global};
@@ -24,7 +23,7 @@ pub(crate) fn append_counts<'a>(
 {
     let netlist = problem.netlist();
     let nets = netlist.nets.as_slice();
-    append_text(out, first_line(problem.route().grid))?;
+    append_text(out, caption_line(problem.route().grid, 0))?;
     append_counted(
         out,
         nets.len(),
@@ -103,24 +102,13 @@ fn blamed_one<'a>(net: &'a Net, names: &NetNames<'a>) -> usize
     0
 }
 
-// Where the first line stands.
-fn first_line(grid: Grid) -> u64 {
-    side(grid.ny).saturating_add(letter_size(grid).saturating_mul(2))
-}
-
 /// What stands below the counts: a key to the colours, and how many cells are crowded, if some are.
 pub(crate) fn key(alloc: Global, grid: Grid, crowded: u32) -> Result<String, AllocError>
     ensures { IfOk result (λ text. IsKey crowded (string_bytes text)) }
 {
-    let size = letter_size(grid);
-    let first = first_line(grid);
     let mut out = String::new(alloc);
-    append_key(&mut out, first.saturating_add(size.saturating_mul(3) / 2))?;
-    append_crowd(
-        &mut out,
-        first.saturating_add(size.saturating_mul(3)),
-        crowded,
-    )?;
+    append_key(&mut out, caption_line(grid, 1))?;
+    append_crowd(&mut out, caption_line(grid, 2), crowded)?;
     Ok(out)
 }
 
@@ -161,5 +149,5 @@ fn append_crowded_cells(out: &mut String, crowded: u32) -> Result<(), AllocError
 fn append_text(out: &mut String, y: u64) -> Result<(), AllocError>
     ensures { OnOk result (string_bytes out.new ≡ string_bytes out.old ++ line_opening y) }
 {
-    write!(out, "<text class=\"k\" x=\"0\" y=\"{y}\">")
+    write!(out, "<text class=\"k\" x=\"180\" y=\"{y}\">")
 }

@@ -2,8 +2,8 @@
 ghost use Rattle.std.specs.Prelude.{◌≡◌, ◌+◌, ◌*◌, ◌++◌, IfOk, OnOk, ℕ, codes, decimal, if◌then◌else◌, nat_lt, string_bytes};
 ghost use Rattle.fpga_types.specs.CellNumbers.{cell_count};
 ghost use Rattle.fpga_types.specs.declared.grid.Cell.{Cell as AnyCell};
+ghost use Rattle.route_draw.specs.Area.{area};
 ghost use Rattle.route_draw.specs.Crowded.{AddsMarks, IsMarkIf, kind_of, mark_title, place_said, wanted_said};
-ghost use Rattle.route_draw.specs.Cut.{area};
 ghost use Rattle.route_draw.specs.Needs.{AreNeeds};
 ghost use Rattle.route_draw.specs.Parts.{Adds};
 ghost use Rattle.route_draw.specs.declared.scale.TheConstants.{BLOCK, TILE};
@@ -12,13 +12,12 @@ use crate::needs::{cell_count, need_at};
 use crate::path::append_rectangle;
 use crate::scale::{BLOCK, CHANNEL, Point, block_start, channel_start};
 use fpga_types::{Axis, Cell, Grid, cell_of};
-use std::alloc::{AllocError, Global};
+use std::alloc::AllocError;
 
 /// Appends a mark on each cell of the array that wants more tracks than there are, and answers how
 /// many these are. The table has what each cell wants.
 pub(crate) fn append_crowded(
     out: &mut String,
-    alloc: Global,
     grid: Grid,
     needs: &[u64],
     width: u32,
@@ -31,20 +30,14 @@ pub(crate) fn append_crowded(
     for number in 0..cell_count(grid) {
         let cell = cell_of(grid, number);
         let want = need_at(needs, grid, cell);
-        crowded += append_if_crowded(out, alloc, cell, want, width)?;
+        crowded += append_if_crowded(out, cell, want, width)?;
     }
     Ok(crowded)
 }
 
 // Appends a mark on a cell that wants so many tracks, if it is crowded, and answers how many marks
 // these are.
-fn append_if_crowded(
-    out: &mut String,
-    alloc: Global,
-    cell: Cell,
-    want: u64,
-    width: u32,
-) -> Result<u32, AllocError>
+fn append_if_crowded(out: &mut String, cell: Cell, want: u64, width: u32) -> Result<u32, AllocError>
     ensures count { IfOk result (λ marks. marks ≡ (if nat_lt width want then 1 else 0)) }
     ensures added { OnOk result (Adds (IsMarkIf (nat_lt width want) cell want width)
         (string_bytes out.old) (string_bytes out.new)) }
@@ -52,24 +45,18 @@ fn append_if_crowded(
     if want <= width as u64 {
         return Ok(0);
     }
-    let drawn = cell_drawn(alloc, cell)?;
-    append_mark(out, cell, drawn.as_str(), want, width)?;
+    append_mark(out, cell, want, width)?;
     Ok(1)
 }
 
-// Appends a mark on a cell, with this drawn.
-fn append_mark(
-    out: &mut String,
-    cell: Cell,
-    drawn: &str,
-    want: u64,
-    width: u32,
-) -> Result<(), AllocError>
+// Appends a mark on a cell.
+fn append_mark(out: &mut String, cell: Cell, want: u64, width: u32) -> Result<(), AllocError>
     ensures { OnOk result (string_bytes out.new ≡ string_bytes out.old
-        ++ (codes "<path class=\"x\" d=\"" ++ drawn.now ++ mark_title cell want width)) }
+        ++ (codes "<path class=\"x\" d=\"" ++ area cell.axis cell.x cell.y
+        ++ mark_title cell want width)) }
 {
     out.push_str("<path class=\"x\" d=\"")?;
-    out.push_str(drawn)?;
+    append_cell(out, cell)?;
     append_place(out, kind_of(cell.axis), cell.x, cell.y)?;
     append_wanted(out, want, width)?;
     Ok(())
@@ -98,13 +85,6 @@ fn kind_of(axis: Axis) -> &'static str
         Axis::X => "CHANX",
         Axis::Y => "CHANY",
     }
-}
-
-// The rectangle of a cell.
-fn cell_drawn(alloc: Global, cell: Cell) -> Result<String, AllocError> {
-    let mut out = String::new(alloc);
-    append_cell(&mut out, cell)?;
-    Ok(out)
 }
 
 /// Appends the rectangle of a cell.

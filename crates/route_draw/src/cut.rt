@@ -3,7 +3,8 @@ ghost use Rattle.std.specs.Prelude.{◌≡◌, ◌++◌, IfOk, OnOk, codes, stri
 ghost use Rattle.fpga_types.specs.CellNumbers.{cell_count};
 ghost use Rattle.route_bound.specs.Corners.{far_corner as far, is_cut_cell as cut_cell, near_corner as near};
 ghost use Rattle.route_bound.specs.Ranges.{corners_of, is_between as between};
-ghost use Rattle.route_draw.specs.Cut.{AreBands, IsBand, area, cut_of};
+ghost use Rattle.route_draw.specs.Area.{area};
+ghost use Rattle.route_draw.specs.Cut.{AreBands, IsBand, cut_of};
 ghost use Rattle.route_draw.specs.Parts.{Adds};
 ghost use Rattle.route_draw.specs.Picture.{IsCutIf};
 

@@ -1,6 +1,7 @@
 //! The nets of a route.
-ghost use Rattle.std.specs.Prelude.{IfOk, OnOk, string_bytes};
+ghost use Rattle.std.specs.Prelude.{◌≡◌, IfOk, OnOk, string_bytes};
 ghost use Rattle.route_draw.specs.Blamed.{blame_of};
+ghost use Rattle.route_draw.specs.Colour.{colour_of};
 ghost use Rattle.route_draw.specs.Parts.{Adds, AreParts};
 ghost use Rattle.route_draw.specs.Picture.{IsRouted};
 ghost use Rattle.route_draw.specs.Wires.{AreLanes, AreWires, Layout};
@@ -69,7 +70,9 @@ fn append_net<'a>(
 }
 
 // The colour of a net.
-fn colour(alloc: Global, number: u32) -> Result<String, AllocError> {
+fn colour(alloc: Global, number: u32) -> Result<String, AllocError>
+    ensures { IfOk result (λ colour. string_bytes colour ≡ colour_of number) }
+{
     let mut out = String::new(alloc);
     append_colour(&mut out, number)?;
     Ok(out)

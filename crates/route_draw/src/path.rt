@@ -1,6 +1,6 @@
 //! Parts of the data of a path of SVG. Each begins with a move, so that they stand in any order.
 ghost use Rattle.std.specs.Prelude.{◌≡◌, ◌++◌, OnOk, codes, decimal, string_bytes};
-ghost use Rattle.route_draw.specs.Cut.{rectangle};
+ghost use Rattle.route_draw.specs.Area.{rectangle};
 
 use crate::scale::Point;
 use std::alloc::AllocError;

@@ -13,15 +13,14 @@ use crate::caption::{append_counts, key};
 use crate::crowded::append_crowded;
 use crate::cut::{ShownCut, append_cut};
 use crate::emphasis::Emphasis;
-use crate::head::append_head;
+use crate::head::{append_head, below, beside, far_corner};
 use crate::lanes::Lanes;
 use crate::nets::append_nets;
+use crate::ruler::append_rulers;
+use crate::scale::Point;
 use fpga_bounds::PlacedProblem;
 use fpga_types::{Grid, RouteText};
 use std::alloc::{AllocError, Global};
-
-// How many lines the caption has room for.
-const LINES: u64 = 5;
 
 /// The picture of a problem and its route, where each channel has `width` tracks.
 ///
@@ -95,22 +94,26 @@ fn draw_route<'a>(
         (blame_of emphasis.now) (cut_of cut.entry) (string_bytes text)) }
 {
     let marks = crowded_marks(alloc, route, lanes, width)?;
-    let mut out = front(alloc, route.grid, width)?;
+    let far = far_corner(route.grid, problem.placement().places.as_slice());
+    let mut out = front(alloc, route.grid, width, far, marks.lines)?;
     append_cut(&mut out, alloc, route.grid, cut)?;
     append_body(&mut out, alloc, problem, route, lanes, emphasis)?;
     out.push_str(marks.text.as_str())?;
     out.push_str("</g>\n")?;
+    append_rulers(&mut out, route.grid, below(route.grid), beside(route.grid))?;
     append_counts(&mut out, problem, width, emphasis)?;
     out.push_str(marks.key.as_str())?;
     out.push_str("</svg>\n")?;
     Ok(out)
 }
 
-// The marks on crowded cells, and the key, which says how many these are.
+// The marks on crowded cells, the key, which says how many these are, and how many lines the
+// caption has with it.
 #[derive(Drop)]
 struct Marks {
     text: String,
     key: String,
+    lines: u64,
 }
 
 fn crowded_marks(
@@ -126,16 +129,23 @@ fn crowded_marks(
 {
     let grid = route.grid;
     let mut text = String::new(alloc);
-    let crowded = append_crowded(&mut text, alloc, grid, lanes.needs(), width)?;
+    let crowded = append_crowded(&mut text, grid, lanes.needs(), width)?;
     let key = key(alloc, grid, crowded)?;
-    Ok(Marks { text, key })
+    let lines = if crowded == 0 { 2 } else { 3 };
+    Ok(Marks { text, key, lines })
 }
 
 // What stands before the blocks.
-fn front(alloc: Global, grid: Grid, width: u32) -> Result<String, AllocError>
+fn front(
+    alloc: Global,
+    grid: Grid,
+    width: u32,
+    far: Point,
+    lines: u64,
+) -> Result<String, AllocError>
     ensures { IfOk result (λ text. (head : List ℕ) × (string_bytes text ≡ codes "<svg " ++ head)) }
 {
-    let head = head(alloc, grid, width)?;
+    let head = head(alloc, grid, width, far, lines)?;
     let mut out = String::new(alloc);
     append_front(&mut out, head.as_str())?;
     Ok(out)
@@ -150,9 +160,15 @@ fn append_front(out: &mut String, head: &str) -> Result<(), AllocError>
 }
 
 // The head behind its first word, and the array.
-fn head(alloc: Global, grid: Grid, width: u32) -> Result<String, AllocError> {
+fn head(
+    alloc: Global,
+    grid: Grid,
+    width: u32,
+    far: Point,
+    lines: u64,
+) -> Result<String, AllocError> {
     let mut out = String::new(alloc);
-    append_head(&mut out, grid, width, LINES)?;
+    append_head(&mut out, grid, width, far, lines)?;
     append_array(&mut out, grid, width)?;
     Ok(out)
 }

@@ -14,7 +14,7 @@ pub(crate) const BLOCK: u64 = 480;
 pub(crate) const CHANNEL: u64 = 520;
 
 /// How deep a pad is.
-pub(crate) const PAD: u64 = 190;
+pub(crate) const PAD: u64 = 300;
 
 /// A point of the picture.
 #[derive(Clone, Copy)]

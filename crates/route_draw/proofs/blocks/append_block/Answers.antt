@@ -6,7 +6,7 @@ use Rattle.route_draw.proofs.blocks.append_block.Goals as goal
 
 pub returns : goal.returns
 returns c =
-    block-added c.args.block.now _ _ _ _ _
+    block-added c.args.block.now _ _ _ _ _ _
     (c.block_class-class.ensures ∙ ap (λ (b : Block). block_class b.kind) c.block.view_is)
     (c.as_slice-name.ensures ∙ ap (λ (b : Block). b.name) c.block.view_is)
-    c.in_ok-append_group.ensures
+    c.as_str.ensures.value c.in_ok-drawn.ensures c.in_ok-append_group.ensures
