@@ -14,7 +14,8 @@ _gafkelam() {
     trial) options="--conflicts --keep --count --reach --help" ;;
     encode | decode) options="--pin --symmetry --reach --help" ;;
     global | least) options="--free --from --rounds --help" ;;
-    verify | picture) options="--reach --help" ;;
+    verify) options="--reach --help" ;;
+    picture) options="--reach --html --help" ;;
     judge) options="--strict --help" ;;
     esac
     if [ "${word:0:1}" = - ]; then

@@ -1,5 +1,6 @@
 mod BlameLemmas
 mod CutLemmas
 mod DrawnLemmas
+mod PageLemmas
 mod SaidLemmas
 mod WordLemmas

@@ -17,6 +17,7 @@ use Rattle.route_draw.specs.Picture.{IsPicture, IsRoutedPicture}
 use Rattle.route_picture.specs.Blame.{NamesNetsIf, NamesOthersIf, blame_said}
 use Rattle.route_picture.specs.Cut.{cut_said}
 use Rattle.route_picture.specs.Files.{AreTexts, GivenTexts, IsUnread}
+use Rattle.route_picture.specs.Page.{asks_page, picture_words, printed_as}
 use Rattle.route_picture.specs.Words.{Asked, RoutedAsked, asked}
 use Rattle.route_picture.specs.declared.stop.Stop.{Stop}
 use Rattle.route_picture.specs.declared.stop.Stop.TheVariants.{BadRouted, Faulty, Illegal, Memory, Unprinted, Usage}
@@ -97,35 +98,35 @@ IsUndrawn ask limit before now stop =
     ⊎ AreMisnamed ask limit before.files stop ⊎ IsMisrouted ask limit before.files stop
     ⊎ (stop ≡ Memory)
 
--- the picture that the words ask for was said, and nothing else
+-- the picture that the words ask for was said, itself or in a page as they ask, and nothing else
 pub record IsPrinted (words : List Bytes) (limit : ℕ) (files : Option FileMap)
     (before now : ShelfState) : Type 0 where
   pub ask : Asked
-  pub asks : asked words ≡ Some ask
+  pub asks : asked (picture_words words) ≡ Some ask
   pub picture : Bytes
   pub drawn : IsDrawn ask limit files picture
-  pub said : now ≡ after_say before picture
+  pub said : now ≡ after_say before (printed_as (asks_page words) picture)
 
 -- the words ask for no picture
 pub record IsUnasked (words : List Bytes) (stop : Stop) : Type 0 where
-  pub none : asked words ≡ None
+  pub none : asked (picture_words words) ≡ None
   pub usage : stop ≡ Usage
 
 -- the picture that the words ask for is not drawn
 pub record IsUnmade (words : List Bytes) (limit : ℕ) (before now : DeskState) (stop : Stop) :
     Type 0 where
   pub ask : Asked
-  pub asks : asked words ≡ Some ask
+  pub asks : asked (picture_words words) ≡ Some ask
   pub undrawn : IsUndrawn ask limit before now stop
 
 -- the picture that the words ask for was not taken to its end
 pub record IsUnsaid (words : List Bytes) (limit : ℕ) (files : Option FileMap)
     (before now : ShelfState) (stop : Stop) : Type 0 where
   pub ask : Asked
-  pub asks : asked words ≡ Some ask
+  pub asks : asked (picture_words words) ≡ Some ask
   pub picture : Bytes
   pub drawn : IsDrawn ask limit files picture
-  pub fails : FailsToSay before picture now
+  pub fails : FailsToSay before (printed_as (asks_page words) picture) now
   pub unprinted : stop ≡ Unprinted
 
 -- why nothing is printed, and that nothing is; or that the picture was not taken to its end

@@ -6,6 +6,7 @@ use Rattle.fpga_text.specs.Bytes.{Bytes}
 use Rattle.fpga_text.specs.declared.fault.TextFault.{TextFault}
 use Rattle.fpga_text.specs.declared.fault.TextFault.TheVariants.{Bad, Limit, Memory as NoMemory}
 use Rattle.route_picture.specs.Files.{name_of}
+use Rattle.route_picture.specs.Page.{picture_words}
 use Rattle.route_picture.specs.Words.{asked}
 use Rattle.route_picture.specs.declared.given_file.GivenFile.{GivenFile}
 use Rattle.route_picture.specs.declared.given_file.GivenFile.TheVariants.{Text, Names, Routed}
@@ -23,7 +24,7 @@ kind_of Routed = codes "routed"
 
 -- the name that words give for a file
 abbrev pub name_in : List Bytes → GivenFile → Option Bytes
-name_in words file = option_and_then (λ ask. name_of ask file) (asked words)
+name_in words file = option_and_then (λ ask. name_of ask file) (asked (picture_words words))
 
 -- the kind of a file, and the name that was given for it
 abbrev pub file_said : GivenFile → Option Bytes → List ℕ
@@ -64,8 +65,8 @@ memory_said = codes "Memory ran out, so that nothing was drawn."
 abbrev pub usage_said : List ℕ
 usage_said =
     codes "The command does not take these words.\n"
-    ++ (codes "Usage: gafkelam picture ARCH NET PLACE ROUTE WIDTH [NAMES | ROUTED --reach L], "
-    ++ (codes "WIDTH and L from 1 to 64\n"
+    ++ (codes "Usage: gafkelam picture ARCH NET PLACE ROUTE WIDTH [NAMES | ROUTED --reach L] "
+    ++ (codes "[--html], WIDTH and L from 1 to 64\n"
     ++ codes "As in: gafkelam picture design.arch design.net design.place out.route 9 > out.svg"))
 
 -- what is wrong with a text of a file

@@ -14,9 +14,10 @@ use crate::blame::emphasis;
 use crate::cut::shown_cut;
 use crate::file_texts::FileTexts;
 use crate::given_file::GivenFile;
+use crate::page::printed;
 use crate::shown::shown;
 use crate::stop::Stop;
-use crate::words::{FourNames, Words, read_words};
+use crate::words::{FourNames, PageWords, Words, page_words, read_words};
 use desk_io::{Desk, ReadStop, Shelf, read_file};
 use fpga_bounds::PlacedProblem;
 use fpga_problem::{TEXT_BYTES, TextFile, read_problem};
@@ -37,6 +38,7 @@ pub(crate) fn print_picture<D: Desk, S: Shelf>(
     ensures stopped { IfErr result (IsStopped (map string_bytes words.entry.now) TEXT_BYTES
         (D.state desk.old) (D.state desk.new) (S.state shelf.old) (S.state shelf.new)) }
 {
+    let PageWords { words, page } = page_words(words);
     let words = match read_words(words) {
         Ok(words) => words,
         Err(stop) => return Err(stop),
@@ -45,7 +47,11 @@ pub(crate) fn print_picture<D: Desk, S: Shelf>(
         Ok(picture) => picture,
         Err(stop) => return Err(stop),
     };
-    let Ok(()) = shelf.say(picture.as_bytes()) else {
+    let text = match printed(alloc, page, picture) {
+        Ok(text) => text,
+        Err(stop) => return Err(stop),
+    };
+    let Ok(()) = shelf.say(text.as_bytes()) else {
         return Err(Stop::Unprinted);
     };
     Ok(())

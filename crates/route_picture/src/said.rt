@@ -18,8 +18,8 @@ ghost use Rattle.route_picture.specs.Said.{
 
 use crate::given_file::GivenFile;
 use crate::stop::Stop;
-use crate::words::read_words;
-use code_words::{append_judged, append_limit, append_line};
+use crate::words::{page_words, read_words};
+use code_words::{append_judged, append_limit, append_line, system_error};
 use fpga_problem::TextFile;
 use fpga_text::TextFault;
 use std::alloc::{AllocError, Global};
@@ -115,7 +115,7 @@ fn kind_of(file: GivenFile) -> &'static str
 fn given_name(words: &[String], file: GivenFile) -> Option<&str>
     ensures { option_copied result ≡ name_in (map string_bytes words.entry.now) file }
 {
-    let Ok(words) = read_words(words) else {
+    let Ok(words) = read_words(page_words(words).words) else {
         return None;
     };
     words.name(file)
@@ -192,7 +192,10 @@ fn unread<R: Files + AllocGlobal>(rt: &R, name: Option<&str>) -> Result<String, 
     };
     match first_byte(rt, name) {
         Ok(()) => text.push_str(": it could not be read to its end")?,
-        Err(error) => write!(text, ": it can't be read: {error}")?,
+        Err(error) => {
+            text.push_str(": it can't be read: ")?;
+            text.push_str(system_error(error.kind()))?;
+        }
     }
     Ok(text)
 }
@@ -222,6 +225,6 @@ const UNPRINTED: &str = "Standard output takes no more of the picture.";
 const MEMORY: &str = "Memory ran out, so that nothing was drawn.";
 
 const USAGE: &str = "The command does not take these words.\n\
-    Usage: gafkelam picture ARCH NET PLACE ROUTE WIDTH [NAMES | ROUTED --reach L], \
-    WIDTH and L from 1 to 64\n\
+    Usage: gafkelam picture ARCH NET PLACE ROUTE WIDTH [NAMES | ROUTED --reach L] \
+    [--html], WIDTH and L from 1 to 64\n\
     As in: gafkelam picture design.arch design.net design.place out.route 9 > out.svg";

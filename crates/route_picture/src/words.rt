@@ -2,6 +2,7 @@
 ghost use Rattle.std.specs.Prelude.{◌≡◌, ◌≤◌, IfOk, IfSome, map, option_map, string_bytes};
 ghost use Rattle.std.specs.Option.{option_copied};
 ghost use Rattle.route_picture.specs.Files.{name_of};
+ghost use Rattle.route_picture.specs.Page.{asks_page, is_html, picture_words};
 ghost use Rattle.route_picture.specs.Words.{AnswersWords, RoutedAsked, asked, asked_of, number_said, routed_of, routed_said, words_said};
 
 use crate::given_file::GivenFile;
@@ -74,7 +75,39 @@ pub(crate) fn given_words(rt: &(impl Env + AllocGlobal)) -> io::Result<Vec<Strin
     Ok(words)
 }
 
-/// What the words ask for.
+/// The words that ask for a picture, and whether it is to stand in a page.
+#[derive(Clone, Copy)]
+pub(crate) struct PageWords<'a> {
+    pub(crate) words: &'a [String],
+    pub(crate) page: bool,
+}
+
+/// Takes `--html` from the end of the words, if it is there.
+pub(crate) fn page_words(words: &[String]) -> PageWords<'_>
+    ensures words { map string_bytes result.words.now
+        ≡ picture_words (map string_bytes words.entry.now) }
+    ensures page { result.page ≡ asks_page (map string_bytes words.entry.now) }
+{
+    let plain = PageWords { words, page: false };
+    let Some((last, front)) = words.split_last() else {
+        return plain;
+    };
+    if !is_html(last) {
+        return plain;
+    }
+    PageWords {
+        words: front,
+        page: true,
+    }
+}
+
+fn is_html(word: &String) -> bool
+    ensures { result ≡ is_html (string_bytes word.now) }
+{
+    word.as_bytes() == b"--html".as_slice()
+}
+
+/// What the words ask for, without `--html` at their end.
 pub(crate) fn read_words(words: &[String]) -> Result<Words<'_>, Stop>
     ensures asked { AnswersWords (asked (map string_bytes words.entry.now)) result }
     ensures width { IfOk result (λ words. (1 ≤ words.width) × (words.width ≤ WIDTH_LIMIT)) }
