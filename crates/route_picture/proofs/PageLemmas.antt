@@ -1,5 +1,5 @@
 -- Words of which the last may ask for a page.
-use Rattle.std.proofs.Common.{◌≡◌, ℕ, Bool, true, false, List, [], ◌∷◌, ◌++◌, length, map, ap, refl, string_bytes, sym, ◌∙◌, String, arith}
+use Rattle.std.proofs.Common.{◌≡◌, Bool, true, false, List, [], ◌∷◌, ◌++◌, length, map, ap, refl, string_bytes, sym, ◌∙◌, String, arith}
 use Rattle.std.specs.Global.{Global}
 use Rattle.std.proofs.lemmas.List.{map-append}
 use Rattle.fpga_text.specs.Bytes.{Bytes}

@@ -1,5 +1,5 @@
 -- How a picture is printed.
-use Rattle.std.specs.Prelude.{ℕ, Bool, true, false, List, [], ◌∷◌, ◌++◌, bytes_eq, codes, if◌then◌else◌}
+use Rattle.std.specs.Prelude.{Bool, true, false, List, [], ◌∷◌, ◌++◌, bytes_eq, codes, if◌then◌else◌}
 use Rattle.fpga_text.specs.Bytes.{Bytes}
 use Rattle.route_picture.specs.declared.page.TheConstants.{HEAD, TAIL}
 
