@@ -8,6 +8,9 @@ import errno
 import os
 import signal
 import tempfile
+from asked import answer_help
+
+answer_help(__name__, __doc__)
 
 TRACE_ME, GET_REGISTERS, SET_REGISTERS, TO_NEXT_CALL, SET_OPTIONS = 0, 12, 13, 24, 0x4200
 # Stops at calls are told from signals, and no program outlives this one.
