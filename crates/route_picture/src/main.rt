@@ -2,8 +2,9 @@
 //!
 //! It is called as `route_picture ARCH NET PLACE ROUTE WIDTH [NAMES | ROUTED --reach L]
 //! [--html]`, where WIDTH and L are whole numbers from 1 to 64, and as `gafkelam picture` with the
-//! same words. With `--html` a page is printed: a head, the very SVG, and a script. The nets that the lines `net NAME` of NAMES name, as `core` says them, are drawn bold, and the
-//! others pale; where a line says a cut, as `bound` does, a band lies over each of its cells. Of
+//! same words. With `--html` a page is printed: a head, the very SVG, and a script. The nets that
+//! the lines `net NAME` of NAMES name, as `core` says them, are drawn bold, and the others pale;
+//! where a line says a cut, as `bound` does, a band lies over each of its cells. Of
 //! ROUTED its routing is drawn, in which a net may have several wires of a cell: it has to be legal
 //! at WIDTH within L joins. Where no picture is printed, it says why on standard error.
 //!
