@@ -58,11 +58,13 @@ def guarded(count, nets, tracks):
 
 def rows(nets, tracks, length, variables):
     """The clauses of rivals by the variables that follow those of a crowd, and one that holds the last variable."""
-    leaders = nets * tracks
+    representatives = nets * tracks
 
     def at(net, track, place):
-        leader = net * tracks + track + 1
-        return leader if place % (length + 1) == 0 else leaders + (leader - 1) * length + place % (length + 1)
+        representative = net * tracks + track + 1
+        if place % (length + 1) == 0:
+            return representative
+        return representatives + (representative - 1) * length + place % (length + 1)
 
     clauses = [[at(net, track, 0) for track in range(tracks)] for net in range(nets)]
     for net in range(nets):

@@ -25,7 +25,7 @@ FOUR = [f"p.{ending}" for ending in ("arch", "net", "place", "route")]
 WAYS = {
     "members": {
         "one, keeps": ("--keep",),
-        "one, forgets": (),
+        "one, deletes": (),
         "2 members": ("--members", "2"),
         "4 members": ("--members", "4"),
         "8 members": ("--members", "8"),

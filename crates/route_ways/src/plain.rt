@@ -67,11 +67,11 @@ impl Plain {
         let habits = self.wires.habits();
         match self.solver {
             Solver::Merging => {
-                let over_leaders = self.wires.habits_over_leaders();
+                let over_representatives = self.wires.habits_over_representatives();
                 let Ok(answer) = solve_merged(
                     alloc,
                     formula,
-                    over_leaders,
+                    over_representatives,
                     habits,
                     self.budget,
                     self.keep,

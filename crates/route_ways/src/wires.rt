@@ -28,8 +28,9 @@ impl Wires {
         }
     }
 
-    /// Those of a search over leaders alone, which has fewer variables to decide and to bump.
-    pub(crate) fn habits_over_leaders(self) -> Habits {
+    /// Those of a search over representatives alone, which has fewer variables to decide and to
+    /// bump.
+    pub(crate) fn habits_over_representatives(self) -> Habits {
         Habits {
             bump_parts: 9,
             many_literals: 20,

@@ -7,7 +7,7 @@ use Rattle.sat_clause.specs.declared.literal.Lit.{Lit}
 use Rattle.sat_clause.specs.Literal.{Clause, negation}
 use Rattle.sat_arena.specs.declared.clause_ref.ClauseRef.{ClauseRef}
 use Rattle.sat_watch.specs.declared.entry.TrailEntry.{TrailEntry}
-use Rattle.sat_watch.specs.Levels.{due_without}
+use Rattle.sat_watch.specs.Levels.{pending_without}
 use Rattle.sat_watch.specs.Trail.{value_in}
 use Rattle.sat_watch.specs.Watched.{IsReason, is_false, true_at}
 use Rattle.sat_watch.specs.Watches.{Attached, Attaches, HasOneOpen, HasOneTrue, HasTwoFree, AreInPlace, WatchState, implied, is_attached, lits_at}
@@ -118,10 +118,10 @@ module _ {old new : WatchState} {lits : Clause} {id : ℕ} {c : ClauseRef}
   pub now_leveled : IsLeveled old → IsLeveled new
   now_leveled leveled = leveled_any old new now_trail now_level leveled
 
--- behind the implied literal of a due clause none is due
-pub implied_due : (s : WatchState) (l : Lit) (c : ClauseRef) → s.due ≡ Some c
-    → (implied l c s).due ≡ None
-implied_due s l c due = ap (due_without c) due ∙ rw (eq-eqb c.word c.word refl) refl
+-- behind the implied literal of a pending clause none is pending
+pub implied_pending : (s : WatchState) (l : Lit) (c : ClauseRef) → s.pending ≡ Some c
+    → (implied l c s).pending ≡ None
+implied_pending s l c pending = ap (pending_without c) pending ∙ rw (eq-eqb c.word c.word refl) refl
 
 -- AT LEVEL 0
 
@@ -138,7 +138,7 @@ module _ {old new : WatchState} {lits : Clause} {id : ℕ} {c : ClauseRef}
     vars = now_vars does stand;
     level = now_level does stand ∙ level;
     leveled = now_leveled does stand leveled;
-    due = does.not_due case;
+    pending = does.not_pending case;
     values = λ m some. rw (now_trail does stand) some;
   }
 
@@ -153,7 +153,7 @@ module _ {old new : WatchState} {lits : Clause} {id : ℕ} {c : ClauseRef}
     vars = now_vars does stand;
     level = now_level does stand ∙ level;
     leveled = leveled_implied new l c (now_leveled does stand leveled);
-    due = implied_due new l c (does.due case);
+    pending = implied_pending new l c (does.pending case);
     values = λ m some.
         let e : TrailEntry = record { lit = l; level = new.level; reason = Some c } in
         value_stays (e ∷ []) new.trail m (rw (now_trail does stand) some);

@@ -178,7 +178,7 @@ leveled_added old new added trail level all leveled =
 pub goes_propagated : {old new : WatchState} → Propagates old new → GoesOn old new
 goes_propagated {old} {new} step = record {
   vars = step.vars;
-  due = step.due;
+  pending = step.pending;
   clauses = step.clauses;
   leveled = leveled_added old new step.added step.trail step.level step.added_level;
 }
@@ -193,7 +193,7 @@ leveled_assumed s l leveled = record {
 pub goes_assumed : {old s : WatchState} (l : Lit) → GoesOn old s → GoesOn old (assumed l s)
 goes_assumed {old} {s} l goes = record {
   vars = goes.vars;
-  due = goes.due;
+  pending = goes.pending;
   clauses = goes.clauses;
   leveled = λ leveled. leveled_assumed s l (goes.leveled leveled);
 }
@@ -215,10 +215,10 @@ same_refl ks = record {
   holders = λ l. refl;
 }
 
-pub goes_refl : (s : WatchState) → s.due ≡ None → GoesOn s s
-goes_refl s due = record {
+pub goes_refl : (s : WatchState) → s.pending ≡ None → GoesOn s s
+goes_refl s pending = record {
   vars = refl;
-  due = due;
+  pending = pending;
   clauses = same_refl s.clauses;
   leveled =
       λ leveled. leveled;
@@ -227,7 +227,7 @@ goes_refl s due = record {
 pub goes_then : {a b c : WatchState} → GoesOn a b → GoesOn b c → GoesOn a c
 goes_then {a} {b} {c} first second = record {
   vars = second.vars ∙ first.vars;
-  due = second.due;
+  pending = second.pending;
   clauses = record {
     count = second.clauses.count ∙ first.clauses.count;
     places = λ stand. second.clauses.places (first.clauses.places stand);

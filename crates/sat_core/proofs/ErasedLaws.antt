@@ -14,7 +14,7 @@ use Rattle.sat_clause.specs.Step.{Step, Added, Erased}
 use Rattle.sat_clause.proofs.LiveLaws.{clause_at-without, inputs_at}
 use Rattle.sat_clause.specs.Learned.{AreAddedFrom, EachAdded, EachErased, IsFresh, IsSimple, SameLiterals, Sparse, added_count, added_since, deletions}
 use Rattle.sat_core.specs.Deletions.{AreDeletions, DeletionState}
-use Rattle.sat_core.specs.Forget.{Forgets, IsNamed}
+use Rattle.sat_core.specs.Delete.{Deletes, IsNamed}
 use Rattle.sat_core.specs.Kept.{AreKept, HasOnce, is_always_true}
 use Rattle.sat_core.specs.SearchLog.{AreNumbered, DeletesSome}
 use Rattle.sat_core.specs.Stands.{IsAbove, IsOpenLog, SearchValue, StandsFor, live_after}
@@ -234,22 +234,22 @@ added_count-erase (Added n c h ∷ log) own ids = ap suc (added_count-erase log 
 added_count-erase (Erased n others ∷ log) own ids = added_count-erase log own ids
 
 module _ {search new : SearchValue} {formula : Cnf} {log : List Step} {ids : List ℤ} (own : ℕ)
-    (stands : StandsFor search formula log) (forgets : Forgets search new ids) where
+    (stands : StandsFor search formula log) (deletes : Deletes search new ids) where
   named_live : All (IsNamed (live_after formula log)) ids
   named_live k d within =
-      let c = forgets.named k d within in
+      let c = deletes.named k d within in
       let x = named_kept search.clauses (live_after formula log) stands.clauses.are_live
       (get_or ids k d) c.0 c.1 in
       (x.0, x.1)
 
   over : All (IsAbove (length formula.clauses)) ids
   over k d within =
-      subst (λ (m : ℕ). IsAbove m (get_or ids k d)) stands.inputs (forgets.added k d within)
+      subst (λ (m : ℕ). IsAbove m (get_or ids k d)) stands.inputs (deletes.added k d within)
 
   pub open_erased : IsOpenLog formula log → IsOpenLog formula (log ++ Erased own ids ∷ [])
   open_erased is = record {
     good = good_behind (inputs formula) log (Erased own ids ∷ []) is.good
-        (different_erased (live_after formula log) ids named_live forgets.apart, tt);
+        (different_erased (live_after formula log) ids named_live deletes.apart, tt);
     none_empty = All-push (λ (step : Step). is_empty_clause step ≡ false) log (Erased own ids)
         is.none_empty refl;
     numbered = added_from_erase (suc (length formula.clauses)) own log ids is.numbered;
@@ -267,18 +267,18 @@ module _ {search new : SearchValue} {formula : Cnf} {log : List Step} {ids : Lis
       let good : erase_fault (fold after [] log) ids ≡ None =
       different_erased (fold after [] log) ids
       (λ k d within. named_above m (fold after [] log) (live_after formula log) same
-      (get_or ids k d) (over k d within) (named_live k d within)) forgets.apart in
+      (get_or ids k d) (over k d within) (named_live k d within)) deletes.apart in
       each_erased_erase (λ before them. (erase_fault (fold after [] before) them ≡ None)
       × (1000 * suc (deletions before) ≤ added_since 0 before)) log own ids sparse (good, late)
 
   pub stands_erased : StandsFor new formula (log ++ Erased own ids ∷ [])
   stands_erased = record {
-    vars = forgets.same_vars ∙ stands.vars;
-    inputs = forgets.same_inputs ∙ stands.inputs;
-    added = forgets.same_added ∙ stands.added ∙ sym (added_count-erase log own ids);
+    vars = deletes.same_vars ∙ stands.vars;
+    inputs = deletes.same_inputs ∙ stands.inputs;
+    added = deletes.same_added ∙ stands.added ∙ sym (added_count-erase log own ids);
     clauses = rw (live_after-push formula log (Erased own ids))
         (kept_alike (erase search.clauses ids) new.clauses (erase (live_after formula log) ids)
-        (erase (live_after formula log) ids) forgets.clauses (λ n. refl)
+        (erase (live_after formula log) ids) deletes.clauses (λ n. refl)
         (kept_erase search.clauses (live_after formula log) ids stands.clauses));
   }
 

@@ -23,18 +23,18 @@ use Rattle.sat_watch.proofs.PlaceLemmas.{place_entry}
 use Rattle.sat_core.specs.Analysis.{HasCurrent, IsAt, IsFalsePlace, IsKnown, IsReasonPlace, reason_lits}
 use Rattle.sat_core.specs.Kept.{HasOnce}
 use Rattle.sat_core.specs.ClauseList.{ClauseListState}
-use Rattle.sat_core.specs.Levels.{AreAccounted, AreNeeded, Assigned, IsAccounted, IsAsserting, IsDerived, IsFalseFrom, IsMarked, IsSettledTrail, StandsInReason, level_of, marked_ids}
+use Rattle.sat_core.specs.Levels.{AreAccounted, AreNeeded, Assigned, IsAccounted, IsAsserting, IsDerived, IsFalseFrom, IsMarked, IsPropagatedTrail, StandsInReason, level_of, marked_ids}
 use Rattle.sat_core.specs.Marks.{IsMet, IsUsed, MarkState}
 use Rattle.sat_core.specs.Reading.{IsFound}
-use Rattle.sat_core.specs.SearchStore.{EndsAsserting, IsLesson, IsSearchStore, assigned, assigned_in, live_of, search_value}
+use Rattle.sat_core.specs.SearchStore.{EndsAsserting, IsLearnedClause, IsSearchStore, assigned, assigned_in, live_of, search_value}
 use Rattle.sat_core.proofs.AttachLaws.{contains_assigned}
 use Rattle.sat_core.proofs.DistinctLaws.{pairs_push}
 use Rattle.sat_core.proofs.KeptLaws.{none_zero}
-use Rattle.sat_core.proofs.LessonLaws.{asserting_is_fresh, derived_follows}
+use Rattle.sat_core.proofs.LearnedLaws.{asserting_is_fresh, derived_follows}
 use Rattle.sat_core.proofs.ReadingLemmas.{hints_in_order, marks_of, other_place}
 use Rattle.sat_core.proofs.RelevantLaws.{derived_relevant}
 use Rattle.sat_core.proofs.SameLaws.{same_itself}
-use Rattle.sat_core.proofs.SearchLaws.{settled_trail}
+use Rattle.sat_core.proofs.SearchLaws.{propagated_trail}
 use Rattle.sat_core.proofs.TrailPlaces.{IsCaused, at_cases, at_contains, at_newest, at_older, at_one, at_within, caused_at, false_placed, level_most, place_negates, reason_below}
 use Rattle.sat_core.proofs.UseLaws.{analysis_on}
 use Rattle.sat_core.proofs.WatchLaws.{lit_cases, single_found, value_found}
@@ -107,7 +107,7 @@ take_front (y ∷ ys) (suc k) (suc n) x lt at = take_front ys k n x (omega (arit
 module _ {i a t id back : ℕ} {s : ClauseListState} {w : WatchState} {lits clause : Clause}
     {hints : List ℤ} (store : IsSearchStore i a t s w) (once : IsOnce w.trail)
     (within : AreWithin w.vars w.trail) (levels : HasLevels w.clauses w.level w.trail)
-    (holds : IsSettledTrail (s.clauses ++ live_of w.clauses) w.vars
+    (holds : IsPropagatedTrail (s.clauses ++ live_of w.clauses) w.vars
     (assigned_in w.clauses w.trail)) (found : IsFound w lits id clause hints back) where
   abbrev entries : List Assigned
   entries = assigned_in w.clauses w.trail
@@ -129,19 +129,20 @@ module _ {i a t id back : ℕ} {s : ClauseListState} {w : WatchState} {lits clau
       × (negation e.lit ≡ l) × IsMet m p × (IsUsed m p → ⊥)
   literal_from l has = by (zero_or w.level)
     where
-      lower_from : Contains (found.lesson).lower l → (p : ℕ) × (e : TrailEntry)
+      lower_from : Contains (found.learned_clause).lower l → (p : ℕ) × (e : TrailEntry)
           × IsAt w.trail p e × (negation e.lit ≡ l) × IsMet m p × (IsUsed m p → ⊥)
       lower_from in_lower =
-          let q = (found.lesson).learned.inside l in_lower in
+          let q = (found.learned_clause).learned.inside l in_lower in
           (q.0, q.1, q.4, q.5, found.marks.met q.0 q.2, q.3.0)
 
       by : (w.level ≡ 0) ⊎ (1 ≤ w.level) → (p : ℕ) × (e : TrailEntry) × IsAt w.trail p e
           × (negation e.lit ≡ l) × IsMet m p × (IsUsed m p → ⊥)
-      by (inl none) = lower_from (subst (λ (c : Clause). Contains c l) (found.lesson.zero none) has)
+      by (inl none) =
+          lower_from (subst (λ (c : Clause). Contains c l) (found.learned_clause.zero none) has)
       by (inr some) =
-          let ends = found.lesson.more some in
+          let ends = found.learned_clause.more some in
           let point = found.analysed.current some in
-          elim (Contains-push_cases (found.lesson).lower (negation (ends.0).lit) l
+          elim (Contains-push_cases (found.learned_clause).lower (negation (ends.0).lit) l
           (subst (λ (c : Clause). Contains c l) ends.2 has)) [
             | inl lower ↦ lower_from lower
             | inr here ↦ (found.point, ends.0, ends.1, here, point.met, point.kept)
@@ -163,19 +164,19 @@ module _ {i a t id back : ℕ} {s : ClauseListState} {w : WatchState} {lits clau
           by_place : 1 ≤ w.level → (p ≡ found.point) ⊎ (p ≢ found.point) →
               Contains clause (negation e.lit)
           by_place some (inl here) =
-              let ends = found.lesson.more some in
+              let ends = found.learned_clause.more some in
               let one : ends.0 ≡ e = at_one w.trail p ends.0 e
               (subst (λ (n : ℕ). IsAt w.trail n ends.0) (sym here) ends.1) at in
               subst (λ (c : Clause). Contains c (negation e.lit)) (sym ends.2)
-              (subst (λ (x : TrailEntry). Contains ((found.lesson).lower ++ negation (ends.0).lit
-              ∷ []) (negation x.lit)) one
-              (Contains-push (found.lesson).lower (negation (ends.0).lit)))
+              (subst (λ (x : TrailEntry). Contains ((found.learned_clause).lower
+              ++ negation (ends.0).lit ∷ []) (negation x.lit)) one
+              (Contains-push (found.learned_clause).lower (negation (ends.0).lit)))
           by_place some (inr other) =
-              let ends = found.lesson.more some in
+              let ends = found.learned_clause.more some in
               subst (λ (c : Clause). Contains c (negation e.lit)) (sym ends.2)
-              (Contains-append_left (found.lesson).lower (negation (ends.0).lit ∷ [])
-              (negation e.lit)
-              ((found.lesson).learned.whole p e (found.marks.listed p met) (unused, other) at))
+              (Contains-append_left (found.learned_clause).lower (negation (ends.0).lit ∷ [])
+              (negation e.lit) ((found.learned_clause).learned.whole p e
+              (found.marks.listed p met) (unused, other) at))
 
       by : (b : Bool) → get_or (found.s).used p false ≡ b →
           IsUsed m p ⊎ Contains clause (negation e.lit)
@@ -402,7 +403,7 @@ module _ {i a t id back : ℕ} {s : ClauseListState} {w : WatchState} {lits clau
 
     hints_are : hints ≡ marked_ids entries marks ++ pos id ∷ []
     hints_are =
-        found.lesson.hints_are ∙ ap (λ (ids : List ℤ). ids ++ pos id ∷ [])
+        found.learned_clause.hints_are ∙ ap (λ (ids : List ℤ). ids ++ pos id ∷ [])
         (sym (hints_in_order w m found.marks found.rising
         (All-weaker (Contains m.places) (λ (p : ℕ). p < length w.trail)
         (λ p has. on p (found.marks.met p has)) m.places (All-contains_itself m.places))))
@@ -432,8 +433,8 @@ module _ {i a t id back : ℕ} {s : ClauseListState} {w : WatchState} {lits clau
 
     module _ (some : 1 ≤ w.level) where
       ends : (e : TrailEntry) × IsAt w.trail found.point e
-          × (clause ≡ (found.lesson).lower ++ negation e.lit ∷ [])
-      ends = found.lesson.more some
+          × (clause ≡ (found.learned_clause).lower ++ negation e.lit ∷ [])
+      ends = found.learned_clause.more some
 
       abbrev first : Lit
       first = negation (ends.0).lit
@@ -462,60 +463,60 @@ module _ {i a t id back : ℕ} {s : ClauseListState} {w : WatchState} {lits clau
       asserts : IsAsserting entries (level_of entries) back first clause
       asserts = record {
         has = subst (λ (c : Clause). Contains c first) (sym ends.2)
-            (Contains-push (found.lesson).lower first);
+            (Contains-push (found.learned_clause).lower first);
         last = subst (λ (n : ℕ). IsFalseFrom entries n first) first_current
             (false_from found.point ends.0 ends.1);
         below = elim (zero_or back) [
           | inl none ↦ omega (arith, none, some, current)
           | inr one ↦
-              let q = (found.lesson).learned.highest one in
+              let q = (found.learned_clause).learned.highest one in
               let level = lower_level q.0 q.1 (found.marks.met q.0 q.2) q.3.0 q.3.1 q.4 in
               omega (arith, level.1, q.5, current)
         ];
         lower = All-weaker (Contains clause) (λ l. (l ≡ first) ⊎ ((j : ℕ) × (1 ≤ j) × (j ≤ back)
             × IsFalseFrom entries j l))
-            (λ l has. elim (Contains-push_cases (found.lesson).lower first l
+            (λ l has. elim (Contains-push_cases (found.learned_clause).lower first l
             (subst (λ (c : Clause). Contains c l) ends.2 has)) [
               | inl in_lower ↦
-                  let q = (found.lesson).learned.inside l in_lower in
+                  let q = (found.learned_clause).learned.inside l in_lower in
                   let level = lower_level q.0 q.1 (found.marks.met q.0 q.2) q.3.0 q.3.1 q.4 in
                   inr (
                     (q.1).level,
                     level.0,
-                    (found.lesson).learned.most q.0 q.1 q.2 q.3 q.4,
+                    (found.learned_clause).learned.most q.0 q.1 q.2 q.3 q.4,
                     subst (IsFalseFrom entries (q.1).level) q.5 (false_from q.0 q.1 q.4),
                   )
               | inr here ↦ inl (sym here)
             ]) clause (All-contains_itself clause);
         highest = λ one.
-            let q = (found.lesson).learned.highest one in (
+            let q = (found.learned_clause).learned.highest one in (
               negation (q.1).lit,
               subst (λ (c : Clause). Contains c (negation (q.1).lit)) (sym ends.2)
-                  (Contains-append_left (found.lesson).lower (first ∷ []) (negation (q.1).lit)
-                  ((found.lesson).learned.whole q.0 q.1 q.2 q.3 q.4)),
+                  (Contains-append_left (found.learned_clause).lower (first ∷ [])
+                  (negation (q.1).lit) ((found.learned_clause).learned.whole q.0 q.1 q.2 q.3 q.4)),
               subst (λ (n : ℕ). IsFalseFrom entries n (negation (q.1).lit)) q.5
                   (false_from q.0 q.1 q.4),
             );
       }
 
       pub ends_asserting : EndsAsserting entries back clause
-      ends_asserting = ((found.lesson).lower, first, ends.2, asserts)
+      ends_asserting = ((found.learned_clause).lower, first, ends.2, asserts)
 
       pub fresh : IsFresh clauses clause
       fresh = asserting_is_fresh clauses entries (level_of entries) back first clause holds.once
-          asserts holds.settled
+          asserts holds.propagated
 
       once_with : HasOnce clause
       once_with = subst HasOnce (sym ends.2)
-          (pairs_push (λ (b c : Lit). variable b ≢ variable c) (found.lesson).lower first
-          (found.lesson).learned.once
-          (All-weaker (Contains (found.lesson).lower) (λ (l : Lit). variable l ≢ variable first)
-          (λ l has eq.
-          let q = (found.lesson).learned.inside l has in
+          (pairs_push (λ (b c : Lit). variable b ≢ variable c) (found.learned_clause).lower first
+          (found.learned_clause).learned.once
+          (All-weaker (Contains (found.learned_clause).lower)
+          (λ (l : Lit). variable l ≢ variable first) (λ l has eq.
+          let q = (found.learned_clause).learned.inside l has in
           other_place w.trail q.0 found.point q.1 ends.0 once q.4 ends.1 q.3.1
           (sym (variable_negation (q.1).lit) ∙ ap variable q.5 ∙ eq
-          ∙ variable_negation (ends.0).lit)) (found.lesson).lower
-          (All-contains_itself (found.lesson).lower)))
+          ∙ variable_negation (ends.0).lit)) (found.learned_clause).lower
+          (All-contains_itself (found.learned_clause).lower)))
 
     -- at level 0 nothing is left
     pub none_left : w.level ≡ 0 → clause ≡ []
@@ -545,8 +546,8 @@ module _ {i a t id back : ℕ} {s : ClauseListState} {w : WatchState} {lits clau
       once = once_all;
     }
 
-    pub lesson_found : IsLesson (search_value i a s w) clause hints back
-    lesson_found = record {
+    pub learned_found : IsLearnedClause (search_value i a s w) clause hints back
+    learned_found = record {
       none = λ zero_level. none_left (store.leveled.current ∙ zero_level);
       asserts = λ some. ends_asserting (omega (arith, some, store.leveled.current));
       derived = (id, x, marks, at, hints_are, derived);
@@ -563,27 +564,27 @@ module _ {i a t id back : ℕ} {s : ClauseListState} {w : WatchState} {lits clau
     }
 
 -- a single clause that is false
-pub single_lesson : {i a t id back : ℕ} {s : ClauseListState} {w : WatchState}
+pub single_learned : {i a t id back : ℕ} {s : ClauseListState} {w : WatchState}
     {lits clause : Clause} {hints : List ℤ} → IsSearchStore i a t s w →
     IsFound w lits id clause hints back → clause_at s.clauses id ≡ Some lits →
-    AreFalse w.trail lits → IsLesson (search_value i a s w) clause hints back
-single_lesson {id} {s} {w} {lits} store found at false_all =
+    AreFalse w.trail lits → IsLearnedClause (search_value i a s w) clause hints back
+single_learned {id} {s} {w} {lits} store found at false_all =
     let known = found.analysed.known in
-    lesson_found store known.once known.within known.levels
-    (settled_trail store known.once known.within known.levels known.settled) found lits
+    learned_found store known.once known.within known.levels
+    (propagated_trail store known.once known.within known.levels known.propagated) found lits
     (single_found s.clauses w.clauses id lits at) (same_itself lits) false_all
 
 -- an attached one
-pub attached_lesson : {i a t back : ℕ} {s : ClauseListState} {w : WatchState} {clause : Clause}
+pub attached_learned : {i a t back : ℕ} {s : ClauseListState} {w : WatchState} {clause : Clause}
     {hints : List ℤ} → IsSearchStore i a t s w → (c : ClauseRef) → is_attached w.clauses c ≡ true →
     AreFalse w.trail (lits_at w.clauses c) →
     IsFound w (lits_at w.clauses c) (id_at w.clauses c) clause hints back →
-    IsLesson (search_value i a s w) clause hints back
-attached_lesson store c attached false_all found =
+    IsLearnedClause (search_value i a s w) clause hints back
+attached_learned store c attached false_all found =
     let known = found.analysed.known in
     let x = value_found store.keeps c attached in
-    lesson_found store known.once known.within known.levels
-    (settled_trail store known.once known.within known.levels known.settled) found x.0 x.1 x.2
+    learned_found store known.once known.within known.levels
+    (propagated_trail store known.once known.within known.levels known.propagated) found x.0 x.1 x.2
     false_all
 
 -- A FALSE CLAUSE
@@ -628,8 +629,9 @@ pub current_literal : (w : WatchState) (c : ClauseRef) → is_attached w.clauses
 current_literal w c attached false_all known some =
     elim (find_open (falses (upto (w.level - 1) w.trail)) (lits_at w.clauses c)) [
       | inl all ↦
-          absurd ((known.settled.below (w.level - 1) (omega (arith, some)) c attached).no_conflict
-          (all_conflict (falses (upto (w.level - 1) w.trail)) (lits_at w.clauses c) all))
+          absurd ((known.propagated.below (w.level - 1) (omega (arith, some)) c
+          attached).no_conflict (all_conflict (falses (upto (w.level - 1) w.trail))
+          (lits_at w.clauses c) all))
       | inr (l, has, out) ↦
           let is = All-contains (λ (n : Lit). is_false w.trail n ≡ true) (lits_at w.clauses c) l
           false_all has in

@@ -101,7 +101,7 @@ module _ (m : ℕ) (s : ClauseListState) (w : WatchState) (lits : Clause) (id : 
             taken_are = λ k n x lt at. absurd (omega (arith, lt));
             waiting = inr (now_level does stand ∙ level);
             leveled = now_leveled does stand store.leveled;
-            none_due = does.not_due (inl two);
+            none_pending = does.not_pending (inl two);
           };
           vars = vars;
           trail = now_trail does stand;
@@ -133,7 +133,7 @@ module _ (m : ℕ) (s : ClauseListState) (w : WatchState) (lits : Clause) (id : 
         taken_are = λ k n x lt at. absurd (omega (arith, lt));
         waiting = inr level;
         leveled = store.leveled;
-        none_due = store.none_due;
+        none_pending = store.none_pending;
       };
       vars = refl;
       trail = refl;
@@ -295,7 +295,7 @@ module _ {formula : Cnf} {picks : ℕ → Clause → Bool} {s : ClauseListState}
   may_keep few simple = record {
     simple = simple;
     none_true = taken.none_true;
-    quiet = taken.store.none_due;
+    quiet = taken.store.none_pending;
     same_vars = taken.store.same_vars;
     few_vars = rw taken.store.same_vars taken.store.few_vars;
     few = let most = taken.store.few_ids in omega (arith, few, most);
@@ -318,7 +318,7 @@ pub taken_none : (formula : Cnf) (picks : ℕ → Clause → Bool) (w : WatchSta
       trail = [];
       queued = 0;
       level = 0;
-      due = None;
+      pending = None;
     } → HasTaken formula picks (no_singles formula) w
 taken_none formula picks w none few few_vars is = rw is (record {
   store = record {
@@ -338,7 +338,7 @@ taken_none formula picks w none few few_vars is = rw is (record {
     taken_are = λ k n x lt at. absurd (omega (arith, lt));
     waiting = inr refl;
     leveled = record { levels = tt; current = refl };
-    none_due = refl;
+    none_pending = refl;
   };
   vars = refl;
   none_true = refl;

@@ -1,4 +1,4 @@
--- The way back behind a lesson, and what one more clause makes of a search.
+-- The way back to learn a clause, and what one more clause makes of a search.
 use Rattle.std.specs.Prelude.{max, nat_le, unwrap_or}
 use Rattle.std.proofs.Common.{inl, inr, ◌≡◌, ◌≢◌, ◌<◌, ◌≤◌, ◌+◌, ◌-◌, ℕ, zero, suc, add-one, ℤ, true, List, [], ◌∷◌, ◌++◌, length, Option, None, Some, slice_get, get_or, Contains, refl, sym, ap, ◌∙◌, subst, arith}
 use Rattle.std.proofs.Math.Nat.{le-max_left, le-max_right}
@@ -26,12 +26,12 @@ use Rattle.sat_watch.proofs.LevelLemmas.{true_level}
 use Rattle.sat_core.specs.ClauseList.{ClauseListState}
 use Rattle.sat_core.specs.Levels.{Assigned, IsAsserting, level_of, lits_of, made_false, up_to}
 use Rattle.sat_core.specs.Ranking.{IsRanked}
-use Rattle.sat_core.specs.SearchStore.{EndsAsserting, IsLesson, IsLeveled, IsSearchStore, Learns, SameKept, assigned, assigned_in, live_of, search_value}
+use Rattle.sat_core.specs.SearchStore.{EndsAsserting, IsLearnedClause, IsLeveled, IsSearchStore, Learns, SameKept, assigned, assigned_in, live_of, search_value}
 use Rattle.sat_core.specs.Stands.{SearchValue}
-use Rattle.sat_core.proofs.AttachLaws.{contains_assigned, implied_due, now_attached, now_clauses, now_leveled, now_reason, now_trail, now_vars, true_entry, true_none}
+use Rattle.sat_core.proofs.AttachLaws.{contains_assigned, implied_pending, now_attached, now_clauses, now_leveled, now_reason, now_trail, now_vars, true_entry, true_none}
 use Rattle.sat_core.proofs.AttachedLaws.{same_permuted, simple_permuted}
 use Rattle.sat_core.proofs.DecideLaws.{leveled_implied, value_stays}
-use Rattle.sat_core.proofs.LessonLaws.{all_false_or, first_is_open}
+use Rattle.sat_core.proofs.LearnedLaws.{all_false_or, first_is_open}
 use Rattle.sat_core.proofs.LevelLaws.{in_made_false, none_above, only_entry}
 use Rattle.sat_core.proofs.RankingLaws.{ranked_more}
 use Rattle.sat_core.proofs.SameLaws.{same_back}
@@ -85,28 +85,28 @@ has_last (x ∷ xs) some none =
 
 -- THE WAY BACK
 
--- a lesson is learned: it went back, and attaches the clause
+-- a clause is learned: it went back, and attaches the clause
 module _ {i a t back : ℕ} {s : ClauseListState} {w after : WatchState} {value : SearchValue}
     {clause : Clause} {hints : List ℤ} (store : IsSearchStore i a t s w)
-    (view : search_value i a s w ≡ value) (known : IsLesson value clause hints back)
+    (view : search_value i a s w ≡ value) (known : IsLearnedClause value clause hints back)
     (some : clause ≢ []) (goes : after ≡ gone_back back w) where
-  lesson : IsLesson (search_value i a s w) clause hints back
-  lesson = subst (λ (v : SearchValue). IsLesson v clause hints back) (sym view) known
+  learned : IsLearnedClause (search_value i a s w) clause hints back
+  learned = subst (λ (v : SearchValue). IsLearnedClause v clause hints back) (sym view) known
 
   abbrev entries : List Assigned
   entries = assigned_in w.clauses w.trail
 
   abbrev gone : WatchState
-  gone = record w { trail = upto back w.trail; queued = 0; level = back; due = None }
+  gone = record w { trail = upto back w.trail; queued = 0; level = back; pending = None }
 
   begun : 1 ≤ level_of entries
   begun = elim (cases_eq (level_of entries) 0) [
-    | inl none ↦ absurd (some (lesson.none none))
+    | inl none ↦ absurd (some (learned.none none))
     | inr other ↦ omega (arith, other)
   ]
 
   ending : EndsAsserting entries back clause
-  ending = lesson.asserts begun
+  ending = learned.asserts begun
 
   abbrev first : Lit
   first = ending.1
@@ -152,7 +152,7 @@ module _ {i a t back : ℕ} {s : ClauseListState} {w after : WatchState} {value 
   first_open =
       subst (λ (ls : List Lit). IsOpenOn ls first) (ap lits_of gone_trail
       ∙ lits_in w.clauses gone.trail)
-      (first_is_open (s.clauses ++ live_of w.clauses) w.vars entries back first clause lesson.trail
+      (first_is_open (s.clauses ++ live_of w.clauses) w.vars entries back first clause learned.trail
       asserts)
 
   abbrev set_gone : List Lit
@@ -167,7 +167,7 @@ module _ {i a t back : ℕ} {s : ClauseListState} {w after : WatchState} {value 
   others_false m has other =
       elim (All-contains (IsFalseOr set_gone first) clause m
       (all_false_or (s.clauses ++ live_of w.clauses) entries
-      (level_of entries) back first clause lesson.trail.once asserts back (omega arith)) has) [
+      (level_of entries) back first clause learned.trail.once asserts back (omega arith)) has) [
         | inl is ↦ falses_gone m is
         | inr same ↦ absurd (other same)
       ]
@@ -212,7 +212,7 @@ module _ {i a t back : ℕ} {s : ClauseListState} {w after : WatchState} {value 
       (All-contains_itself entries)) e_in in
       let lit_is : (e.0).lit ≡ f.lit = e.2 ∙ ap negation (sym high.2.2) ∙ negation-negation f.lit in
       let one_entry : assigned w.clauses e.0 ≡ f =
-      only_entry entries lesson.trail.once (assigned w.clauses e.0) f e_all high.2.1
+      only_entry entries learned.trail.once (assigned w.clauses e.0) f e_all high.2.1
       (ap variable lit_is) in
       let n_is : at.0 ≡ back = sym e.3 ∙ ap (λ (x : Assigned). x.level) one_entry ∙ level in
       let most = highest_least gone.trail clause l high.1 in
@@ -240,7 +240,7 @@ module _ {i a t back : ℕ} {s : ClauseListState} {w after : WatchState} {value 
   learn_may = rw after_is (inr (inr one_open))
 
   pub learn_simple : IsSimple after.vars clause
-  learn_simple = rw vars_back lesson.simple
+  learn_simple = rw vars_back learned.simple
 
   -- WITH THE CLAUSE
 
@@ -257,7 +257,7 @@ module _ {i a t back : ℕ} {s : ClauseListState} {w after : WatchState} {value 
     learn_inside =
         let has : Contains clause first = asserts.has in
         rw (now_vars does store.keeps.stand, l_is)
-        (All-contains (IsWithin w.vars) clause first lesson.simple.within has)
+        (All-contains (IsWithin w.vars) clause first learned.simple.within has)
 
     pub learn_open : IsOpenOn (watch_lits now.trail) l
     learn_open = rw (now_trail does store.keeps.stand, l_is) first_open
@@ -275,11 +275,11 @@ module _ {i a t back : ℕ} {s : ClauseListState} {w after : WatchState} {value 
 
     pub store_learned : suc (i + a) ≤ 4294967295 → IsSearchStore i (a + 1) t s (implied l c now)
     store_learned few =
-        rw add-one (store_attached does.order c does.same does.place store_gone next lesson.simple
+        rw add-one (store_attached does.order c does.same does.place store_gone next learned.simple
         (implied l c now) (omega (arith, few)) (now_clauses does store.keeps.stand)
         (now_vars does store.keeps.stand) (inl all_taken)
         (leveled_implied now l c (now_leveled does store.keeps.stand gone_leveled))
-        (implied_due now l c (does.due one_open)))
+        (implied_pending now l c (does.pending one_open)))
 
     pub ranked_learned : {order : OrderState} → IsRanked after.vars after.trail order →
         IsRanked now.vars (implied l c now).trail order
@@ -297,10 +297,10 @@ module _ {i a t back : ℕ} {s : ClauseListState} {w after : WatchState} {value 
       added = refl;
       order = does.order;
       same = same_back clause does.order (same_permuted clause does.order does.same);
-      once = (simple_permuted w.vars clause does.order does.same lesson.simple).once;
+      once = (simple_permuted w.vars clause does.order does.same learned.simple).once;
       clauses = λ n.
           ap (λ (j : ℕ). clause_at (put (s.clauses ++ live_of w.clauses) j does.order) n) (sym next)
-          ∙ attached_alike does.order c does.same does.place store_gone next lesson.simple n
+          ∙ attached_alike does.order c does.same does.place store_gone next learned.simple n
           ∙ ap (λ (ks : List Attached). clause_at (s.clauses ++ live_of ks) n) (sym
           (now_clauses does store.keeps.stand));
     })

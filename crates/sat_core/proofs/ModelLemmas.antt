@@ -1,4 +1,4 @@
--- Where the clauses are settled and each literal is false or true, the values satisfy them.
+-- Where the clauses are propagated and each literal is false or true, the values satisfy them.
 use Rattle.std.proofs.Common.{inl, inr, ◌≡◌, ◌⊎◌, ℕ, suc, Bool, true, false, List, [], ◌∷◌, Any, All, refl, arith}
 use Rattle.std.specs.Prelude.{IfOk, IsTrue, OnErr, Result, Ok, Err}
 use Rattle.std.proofs.lemmas.List.Elements.{All-head, All-tail, All-cons, All-nil}

@@ -10,7 +10,7 @@ use Rattle.sat_clause.specs.Live.{Live, clause_at}
 use Rattle.sat_clause.specs.Rup.{Reads, reading_of}
 use Rattle.sat_clause.specs.Trail.{IsOnce, IsOpen}
 use Rattle.sat_core.specs.Levels.{AreAccounted, AreCaused, AreNeeded, Assigned, HasCause, IsDerived, IsMarked, StandsInReason, lits_of, made_false, marked_ids, marked_reason}
-use Rattle.sat_core.proofs.LessonLaws.{known_by, marked_later, named_is, reason_reads}
+use Rattle.sat_core.proofs.LearnedLaws.{known_by, marked_later, named_is, reason_reads}
 
 any-cons : {X : Type 0} (P : X → Type 0) (x : X) (xs : List X) → Any P xs → Any P (x ∷ xs)
 any-cons P x xs (k, y, within, at, is) = (suc k, y, omega (arith, within), at, is)

@@ -17,11 +17,11 @@ use Rattle.sat_order.specs.Order.{OrderState}
 use Rattle.sat_watch.specs.declared.entry.TrailEntry.{TrailEntry}
 use Rattle.sat_watch.specs.Levels.{upto}
 use Rattle.sat_watch.specs.Trail.{AreWithin, IsOnce}
-use Rattle.sat_watch.specs.Watches.{Attached, HasLevels, IsSettledAt, IsSettledState, WatchState, gone_back, id_at, is_attached, words_in}
+use Rattle.sat_watch.specs.Watches.{Attached, HasLevels, IsPropagatedAt, IsPropagatedState, WatchState, gone_back, id_at, is_attached, words_in}
 use Rattle.sat_core.specs.ClauseList.{ClauseListState}
 use Rattle.sat_core.specs.Deciding.{AreValuesOf, GoesOn}
 use Rattle.sat_core.specs.Kept.{AreAmong, AreBelow, HasOnce, SameLive}
-use Rattle.sat_core.specs.Levels.{AreLevels, AreSettled, Assigned, IsSettledTrail, level_of, lits_of, made_false, up_to}
+use Rattle.sat_core.specs.Levels.{AreLevels, ArePropagated, Assigned, IsPropagatedTrail, level_of, lits_of, made_false, up_to}
 use Rattle.sat_core.specs.Marks.{IsReady, MarkState}
 use Rattle.sat_core.specs.Ranking.{IsRanked, SameHeld}
 use Rattle.sat_core.specs.SearchStore.{AreTaken, AreTrue, IsKeeping, IsLeveled, IsSearchStore, IsSearching, Learns, SameKept, assigned, assigned_in, live_of, search_value}
@@ -33,7 +33,7 @@ use Rattle.sat_core.proofs.LevelLaws.{level_back, levels_back}
 use Rattle.sat_core.proofs.ModelLemmas.{quiet_is_true}
 use Rattle.sat_core.proofs.RankingLaws.{ranked_held}
 use Rattle.sat_core.proofs.SameLaws.{same_back, same_itself, same_then}
-use Rattle.sat_core.proofs.WatchLaws.{among_same, caused_here, falses_in, keeping_same, lits_in, same_among, settled_here, settled_in, single_found, up_to_in, value_added, value_again, value_found, value_origin}
+use Rattle.sat_core.proofs.WatchLaws.{among_same, caused_here, falses_in, keeping_same, lits_in, same_among, propagated_here, propagated_in, single_found, up_to_in, value_added, value_again, value_found, value_origin}
 
 -- IDS
 
@@ -106,9 +106,9 @@ module _ {i a t id : ℕ} {s : ClauseListState} {w : WatchState} {lits : Clause}
     -- the store of any state with these clauses
     pub store_attached : (after : WatchState) → i + suc a ≤ 4294967295 →
         after.clauses ≡ w.clauses ++ entry ∷ [] → after.vars ≡ w.vars →
-        (t ≡ length s.clauses) ⊎ (after.level ≡ 0) → IsLeveled after → after.due ≡ None
+        (t ≡ length s.clauses) ⊎ (after.level ≡ 0) → IsLeveled after → after.pending ≡ None
         → IsSearchStore i (suc a) t s after
-    store_attached after few clauses vars waiting leveled due = record {
+    store_attached after few clauses vars waiting leveled pending = record {
       few_ids = few;
       few = omega (arith, store.few);
       few_vars = rw vars store.few_vars;
@@ -121,7 +121,7 @@ module _ {i a t id : ℕ} {s : ClauseListState} {w : WatchState} {lits : Clause}
       taken_are = rw clauses attached_taken;
       waiting = waiting;
       leveled = leveled;
-      none_due = due;
+      none_pending = pending;
     }
 
 -- A CLAUSE IS LAID ASIDE
@@ -191,7 +191,7 @@ module _ {i a t id : ℕ} {s : ClauseListState} {w : WatchState} (lits : Clause)
     taken_are = aside_taken;
     waiting = inr level;
     leveled = store.leveled;
-    none_due = store.none_due;
+    none_pending = store.none_pending;
   }
 
   pub learns_aside : Learns (search_value i a s w) (search_value i (suc a) aside w) lits
@@ -295,7 +295,7 @@ module _ {i a t id : ℕ} {s : ClauseListState} {w now : WatchState} {lits : Cla
     taken_are = rw taken.clauses taken_all;
     waiting = inr taken.level;
     leveled = taken.leveled;
-    none_due = taken.due;
+    none_pending = taken.pending;
   }
 
   pub kept_taken : SameKept (search_value i a s w) (search_value i a s now)
@@ -316,7 +316,7 @@ module _ {i a t id : ℕ} {s : ClauseListState} {w now : WatchState} {lits : Cla
   pub store_foreign : i + suc a ≤ 4294967295 → IsSearchStore i (suc a) t s now
   store_foreign few =
       store_attached taken.order taken.place taken.same taken.behind store next simple now few
-      taken.clauses taken.vars (inr taken.level) taken.leveled taken.due
+      taken.clauses taken.vars (inr taken.level) taken.leveled taken.pending
 
   pub learns_foreign : Learns (search_value i a s w) (search_value i (suc a) s now) lits
   learns_foreign = record {
@@ -363,7 +363,7 @@ module _ {i a t : ℕ} {s : ClauseListState} {w now : WatchState} (store : IsSea
         (d.0, goes.clauses.attached d.0 ∙ d.1, goes.clauses.ids d.0 ∙ d.2);
     waiting = waiting;
     leveled = goes.leveled store.leveled;
-    none_due = goes.due;
+    none_pending = goes.pending;
   }
 
   pub kept_decided : SameKept (search_value i a s w) (search_value i a s now)
@@ -376,18 +376,18 @@ module _ {i a t : ℕ} {s : ClauseListState} {w now : WatchState} (store : IsSea
     once = λ n x at. store_once store_decided n x at;
   }
 
-  pub settled_now : t ≡ length s.clauses → IsSettledAt now now.level
-      → AreSettled (s.clauses ++ live_of now.clauses) (made_false
+  pub propagated_now : t ≡ length s.clauses → IsPropagatedAt now now.level
+      → ArePropagated (s.clauses ++ live_of now.clauses) (made_false
       (assigned_in now.clauses now.trail))
-  settled_now all settled = settled_here s.clauses t now store_decided.keeps
-      store_decided.taken_are all store_decided.leveled settled
+  propagated_now all propagated = propagated_here s.clauses t now store_decided.keeps
+      store_decided.taken_are all store_decided.leveled propagated
 
 -- AT A LOWER LEVEL
 
 module _ {i a t : ℕ} {s : ClauseListState} {w : WatchState} (j : ℕ)
     (store : IsSearchStore i a t s w) (low : j ≤ w.level) where
   abbrev lower : WatchState
-  lower = record w { trail = upto j w.trail; queued = 0; level = j; due = None }
+  lower = record w { trail = upto j w.trail; queued = 0; level = j; pending = None }
 
   lower_trail : up_to j (assigned_in w.clauses w.trail) ≡ assigned_in w.clauses lower.trail
   lower_trail = up_to_in w.clauses j w.trail
@@ -415,7 +415,7 @@ module _ {i a t : ℕ} {s : ClauseListState} {w : WatchState} (j : ℕ)
     taken_are = store.taken_are;
     waiting = waiting;
     leveled = lower_leveled;
-    none_due = refl;
+    none_pending = refl;
   }
 
   pub kept_lower : SameKept (search_value i a s w) (search_value i a s lower)
@@ -428,7 +428,12 @@ module _ {i a t : ℕ} {s : ClauseListState} {w : WatchState} (store : IsSearchS
   store_begun = by (nat_lt 0 w.level)
     where
       by : (b : Bool) → IsSearchStore i a t s
-          (if b then record w { trail = upto 0 w.trail; queued = 0; level = 0; due = None } else w)
+          (if b then record w {
+            trail = upto 0 w.trail;
+            queued = 0;
+            level = 0;
+            pending = None;
+          } else w)
       by true = store_lower 0 store (omega arith) (inr refl)
       by false = store
 
@@ -436,35 +441,40 @@ module _ {i a t : ℕ} {s : ClauseListState} {w : WatchState} (store : IsSearchS
   kept_begun = by (nat_lt 0 w.level)
     where
       by : (b : Bool) → SameKept (search_value i a s w) (search_value i a s
-          (if b then record w { trail = upto 0 w.trail; queued = 0; level = 0; due = None } else w))
+          (if b then record w {
+            trail = upto 0 w.trail;
+            queued = 0;
+            level = 0;
+            pending = None;
+          } else w))
       by true = kept_lower 0 store (omega arith)
       by false = kept_refl store
 
 -- and the clauses have been propagated there
 module _ {i a t : ℕ} {s : ClauseListState} {w now : WatchState} (store : IsSearchStore i a t s w)
     (goes : GoesOn (gone_back 0 w) now) (level : now.level ≡ 0) where
-  pub store_settled : IsSearchStore i a t s now
-  store_settled = store_decided (store_begun store) goes (inr level)
+  pub store_propagated : IsSearchStore i a t s now
+  store_propagated = store_decided (store_begun store) goes (inr level)
 
-  pub kept_settled : SameKept (search_value i a s w) (search_value i a s now)
-  kept_settled =
+  pub kept_propagated : SameKept (search_value i a s w) (search_value i a s now)
+  kept_propagated =
       kept_then (kept_begun store) (kept_decided (store_begun store) goes (inr level))
 
 -- WHAT IS LEARNED
 
--- a trail by ids is one of settled levels
-pub settled_trail : {i a t : ℕ} {s : ClauseListState} {w : WatchState} → IsSearchStore i a t s w
+-- a trail by ids is one of propagated levels
+pub propagated_trail : {i a t : ℕ} {s : ClauseListState} {w : WatchState} → IsSearchStore i a t s w
     → IsOnce w.trail → AreWithin w.vars w.trail →
-    HasLevels w.clauses w.level w.trail → IsSettledState w
-    → IsSettledTrail (s.clauses ++ live_of w.clauses) w.vars (assigned_in w.clauses w.trail)
-settled_trail {t} {s} {w} store once within levels settled = record {
+    HasLevels w.clauses w.level w.trail → IsPropagatedState w
+    → IsPropagatedTrail (s.clauses ++ live_of w.clauses) w.vars (assigned_in w.clauses w.trail)
+propagated_trail {t} {s} {w} store once within levels propagated = record {
   once = rw (lits_in w.clauses w.trail) once;
   within = all_in w.trail within;
   caused = caused_here w.vars w.level s.clauses w.clauses w.trail store.keeps levels once;
   levels = store.leveled.levels;
-  settled = λ j below. elim store.waiting [
-    | inl all ↦ settled_in s.clauses t w store.keeps store.taken_are all j (settled.below j (omega
-        (arith, below, store.leveled.current)))
+  propagated = λ j below. elim store.waiting [
+    | inl all ↦ propagated_in s.clauses t w store.keeps store.taken_are all j
+        (propagated.below j (omega (arith, below, store.leveled.current)))
     | inr low ↦ absurd (omega (arith, below, store.leveled.current, low))
   ];
 }
@@ -478,20 +488,20 @@ settled_trail {t} {s} {w} store once within levels settled = record {
         (assigned_in w.clauses older) (All-head P e older all) (all_in older
         (All-tail P e older all))
 
--- values that make true what is not false make the clauses true where they are settled
+-- values that make true what is not false make the clauses true where they are propagated
 pub true_values : (i a : ℕ) (s : ClauseListState) (w : WatchState) (values : List Bool)
     → length values ≡ w.vars → AreValuesOf w.trail w.vars values →
-    AreSettled (s.clauses ++ live_of w.clauses) (made_false (assigned_in w.clauses w.trail))
+    ArePropagated (s.clauses ++ live_of w.clauses) (made_false (assigned_in w.clauses w.trail))
     → IsClosed w.vars (lits_of (assigned_in w.clauses w.trail)) →
     AreTrue (search_value i a s w) values
-true_values i a s w values many truth settled closed = record {
+true_values i a s w values many truth propagated closed = record {
   many = many;
   each = λ id c at within.
       quiet_is_true w.vars values (made_false (assigned_in w.clauses w.trail)) c
       (λ l inside not_false. truth (subst (IsClosed w.vars)
       (lits_in w.clauses w.trail) closed) l inside
       (subst (λ (set : List Lit). is_among set l ≡ false) (falses_in w.clauses w.trail) not_false))
-      (subst (λ (n : ℕ). All (IsWithin n) c) many within) (settled id c at);
+      (subst (λ (n : ℕ). All (IsWithin n) c) many within) (propagated id c at);
 }
 
 -- WITH THE MARKS AND THE VARIABLES

@@ -16,14 +16,14 @@ use Rattle.sat_core.specs.declared.answer.Answer.{Answer}
 use Rattle.sat_core.specs.declared.answer.Answer.TheVariants.{Refuted}
 use Rattle.sat_core.specs.Answer.{IsAnswer, SpendsAll}
 use Rattle.sat_core.specs.Deletions.{AreDeletions, DeletionState}
-use Rattle.sat_core.specs.Forget.{HasForgotten}
+use Rattle.sat_core.specs.Delete.{HasDeleted}
 use Rattle.sat_core.specs.Kept.{AreKept, SameLive}
 use Rattle.sat_core.specs.SearchLog.{AreNumbered, DeletesSome, EndsAtEmpty}
-use Rattle.sat_core.specs.SearchStore.{AreTrue, IsLesson, Learns, SameKept}
+use Rattle.sat_core.specs.SearchStore.{AreTrue, IsLearnedClause, Learns, SameKept}
 use Rattle.sat_core.specs.Stands.{AreGood, IsOpenLog, SearchAt, SearchValue, StandsAt, StandsFor, at_end, live_after, next_id}
 use Rattle.sat_core.specs.Underway.{AddsRelevant, HasLearned, HasModel, HasRefuted, HasSearched, IsUnderway, MayFollow, MayTurn}
 use Rattle.sat_core.proofs.EarlierLaw.{hints_are_earlier}
-use Rattle.sat_core.proofs.ForgetLaws.{whether}
+use Rattle.sat_core.proofs.DeleteLaws.{whether}
 use Rattle.sat_core.proofs.ErasedLaws.{added_count-erase, deletes_erase, deletions_added, deletions_erase, each_added_erase, numbered_erase, open_erased, sparse_erased, stands_erased}
 use Rattle.sat_core.proofs.KeptLaws.{fresh_kept, kept_alike, kept_put, kept_same, model_kept, relevant_kept, rup_kept}
 use Rattle.sat_core.proofs.LogLemmas.{added_count-push, added_from_push, deletes_push, deletions-push, each_added_push, ends_behind, good_accepted, good_behind, good_so_far, inputs_live, live_after-push, none_at_end, not_empty_step, numbered_push, spares_push, sparse_push, sparse_without}
@@ -110,27 +110,27 @@ module _ {search : SearchValue} {formula : Cnf} {log : List Step}
   next_is = omega (arith, stands.inputs, stands.added)
 
   pub turn_adds : {id back : ℕ} {clause : Clause} {hints : List ℤ} {now : List Step} →
-      id ≡ suc (search.inputs + search.added) → IsLesson search clause hints back →
+      id ≡ suc (search.inputs + search.added) → IsLearnedClause search clause hints back →
       now ≡ log ++ Added id clause hints ∷ [] → AddsRelevant formula log now clause
-  turn_adds {clause} {hints} is lesson step = record {
+  turn_adds {clause} {hints} is learned step = record {
     hints = hints;
     step = step ∙ ap (λ (n : ℕ). log ++ Added n clause hints ∷ []) (is ∙ next_is);
     good = rup_kept search.clauses (live_after formula log) stands.clauses.are_live clause hints
-        lesson.follows;
+        learned.follows;
     relevant = relevant_kept search.clauses (live_after formula log) stands.clauses.are_live clause
-        hints lesson.relevant;
+        hints learned.relevant;
   }
 
   open_next : (id : ℕ) (clause : Clause) (hints : List ℤ) (back : ℕ) → id ≡ next_id formula log →
-      IsLesson search clause hints back → clause ≢ [] →
+      IsLearnedClause search clause hints back → clause ≢ [] →
       rup (live_after formula log) clause hints ≡ None →
       IsOpenLog formula (log ++ Added id clause hints ∷ [])
-  open_next id clause hints back is lesson some good =
+  open_next id clause hints back is learned some good =
       let live : Live = live_after formula log in
       let simple : IsSimple formula.vars clause = subst (λ (n : ℕ). IsSimple n clause)
-      stands.vars lesson.simple in
+      stands.vars learned.simple in
       let fresh : IsFresh live clause = fresh_kept search.clauses live stands.clauses
-      formula.vars clause simple (lesson.fresh some) in
+      formula.vars clause simple (learned.fresh some) in
       record {
         good = good_behind (inputs formula) log (Added id clause hints ∷ []) open_log.good
             (good, tt);
@@ -146,14 +146,14 @@ module _ {search : SearchValue} {formula : Cnf} {log : List Step}
   -- one more learned clause
   pub turn_learned : {new : SearchValue} {id back : ℕ} {clause : Clause} {hints : List ℤ}
       {now : List Step} → id ≡ suc (search.inputs + search.added) →
-      IsLesson search clause hints back → clause ≢ [] → Learns search new clause →
+      IsLearnedClause search clause hints back → clause ≢ [] → Learns search new clause →
       now ≡ log ++ Added id clause hints ∷ [] → HasLearned (at_end new now) formula log now
-  turn_learned {new} {id} {back} {clause} {hints} {now} is lesson some learns step =
-      let adds = turn_adds is lesson step in
+  turn_learned {new} {id} {back} {clause} {hints} {now} is learned some learns step =
+      let adds = turn_adds is learned step in
       let opens : IsOpenLog formula now = subst (IsOpenLog formula) (sym step)
-      (open_next id clause hints back (is ∙ next_is) lesson some
+      (open_next id clause hints back (is ∙ next_is) learned some
       (rup_kept search.clauses (live_after formula log) stands.clauses.are_live clause hints
-      lesson.follows)) in
+      learned.follows)) in
       record {
         clause = clause;
         some = some;
@@ -169,11 +169,11 @@ module _ {search : SearchValue} {formula : Cnf} {log : List Step}
 
   -- the empty clause
   pub turn_refuted : {id back : ℕ} {clause : Clause} {hints : List ℤ} {now : List Step} →
-      id ≡ suc (search.inputs + search.added) → IsLesson search clause hints back → clause ≡ [] →
-      now ≡ log ++ Added id clause hints ∷ [] → HasRefuted formula log now
-  turn_refuted {now} is lesson none step =
+      id ≡ suc (search.inputs + search.added) → IsLearnedClause search clause hints back →
+      clause ≡ [] → now ≡ log ++ Added id clause hints ∷ [] → HasRefuted formula log now
+  turn_refuted {now} is learned none step =
       let adds : AddsRelevant formula log now [] = subst (AddsRelevant formula log now) none
-      (turn_adds is lesson step) in
+      (turn_adds is learned step) in
       let last = Added (next_id formula log) [] adds.hints in
       let good : AreGood (inputs formula) (log ++ last ∷ []) = good_behind (inputs formula) log
       (last ∷ []) open_log.good (adds.good, tt) in
@@ -198,50 +198,50 @@ module _ {search : SearchValue} {formula : Cnf} {log : List Step}
 
 -- A DELETION
 
-none_added_forgot : {old new : SearchValue} {log now : List Step} → HasForgotten old new log now →
+none_added_deleted : {old new : SearchValue} {log now : List Step} → HasDeleted old new log now →
     added_count now ≡ added_count log
-none_added_forgot {old} {log} forgot =
-    ap added_count forgot.step ∙ added_count-erase log (old.inputs + old.added) forgot.ids
+none_added_deleted {old} {log} deleted =
+    ap added_count deleted.step ∙ added_count-erase log (old.inputs + old.added) deleted.ids
 
 module _ {value new : SearchValue} {formula : Cnf} {log now : List Step}
-    (before : StandsFor value formula log) (forgot : HasForgotten value new log now) where
+    (before : StandsFor value formula log) (deleted : HasDeleted value new log now) where
   abbrev own : ℕ
   own = value.inputs + value.added
 
-  stands_settled : StandsFor forgot.settled formula log
-  stands_settled = stands_along forgot.same before
+  stands_propagated : StandsFor deleted.propagated formula log
+  stands_propagated = stands_along deleted.same before
 
-  pub follow_forgot : MayFollow (at_end new now) formula now
-  follow_forgot =
-      subst (λ (l : List Step). MayFollow (at_end new l) formula l) (sym forgot.step)
-      (follow_end (stands_erased own stands_settled forgot.forgets))
+  pub follow_deleted : MayFollow (at_end new now) formula now
+  follow_deleted =
+      subst (λ (l : List Step). MayFollow (at_end new l) formula l) (sym deleted.step)
+      (follow_end (stands_erased own stands_propagated deleted.deletes))
 
-  pub open_forgot : IsOpenLog formula log → IsOpenLog formula now
-  open_forgot is =
-      subst (IsOpenLog formula) (sym forgot.step)
-      (open_erased own stands_settled forgot.forgets is)
+  pub open_deleted : IsOpenLog formula log → IsOpenLog formula now
+  open_deleted is =
+      subst (IsOpenLog formula) (sym deleted.step)
+      (open_erased own stands_propagated deleted.deletes is)
 
--- a search that has taken all steps forgets clauses at any time, or does not
+-- a search that has taken all steps deletes clauses at any time, or does not
 module _ (search : SearchAt) (log : List Step) (all : search.taken ≡ length log)
     (new : SearchAt) (now : List Step) (all_now : new.taken ≡ length now)
     (result : Result Bool AllocError)
-    (forgotten : result ≡ Ok true → HasForgotten search.value new.value log now)
+    (has_deleted : result ≡ Ok true → HasDeleted search.value new.value log now)
     (same : result ≢ Ok true → SameKept search.value new.value)
     (same_log : result ≢ Ok true → now ≡ log) where
   pub may_after : (formula : Cnf) → MayTurn search formula log → MayTurn new formula now
   may_after formula may = whether result
       (λ is_so.
-      let forgot = forgotten is_so in
+      let deleted = has_deleted is_so in
       let before = stands_all search formula log may.follows.stands all in
       let follows : MayFollow new formula now =
       subst (λ (n : ℕ). MayFollow (record { taken = n; value = new.value }) formula now)
-      (sym all_now) (follow_forgot before forgot) in
+      (sym all_now) (follow_deleted before deleted) in
       record {
         follows = follows;
         open_log =
-            open_forgot before forgot may.open_log;
+            open_deleted before deleted may.open_log;
         few = subst (λ (n : ℕ). suc (length formula.clauses + n) ≤ 4294967295)
-            (sym (none_added_forgot forgot)) may.few;
+            (sym (none_added_deleted deleted)) may.few;
       })
       (λ is_not.
       let kept = same_log is_not in
@@ -256,7 +256,7 @@ module _ (search : SearchAt) (log : List Step) (all : search.taken ≡ length lo
 
   pub none_added_after : added_count now ≡ added_count log
   none_added_after = whether result
-      (λ is_so. none_added_forgot (forgotten is_so)) (λ is_not. ap added_count (same_log is_not))
+      (λ is_so. none_added_deleted (has_deleted is_so)) (λ is_not. ap added_count (same_log is_not))
 
 -- UNDER WAY
 
@@ -342,23 +342,23 @@ module _ {search : SearchAt} {formula : Cnf} {log : List Step}
         ap added_count adds.step ∙ added_count-push log id clause adds.hints,
       )
 
-  -- learned clauses are forgotten when the log may have another deletion
-  pub underway_forgot : {new : SearchValue} {now : List Step} {d : DeletionState} →
+  -- learned clauses are deleted when the log may have another deletion
+  pub underway_deleted : {new : SearchValue} {now : List Step} {d : DeletionState} →
       AreDeletions log d → d.added + 1000 * suc d.count ≤ search.value.added →
-      HasForgotten search.value new log now →
+      HasDeleted search.value new log now →
       IsUnderway (at_end new now) formula now
       × AreDeletions now (record { count = suc d.count; added = search.value.added })
       × (added_count now ≡ added_count log)
-  underway_forgot {new} {now} {d} are due forgot =
+  underway_deleted {new} {now} {d} are due deleted =
       let before = stands_all search formula log on.stands on.all_taken in
-      let stands = stands_along forgot.same before in
+      let stands = stands_along deleted.same before in
       let m : ℕ = length formula.clauses in
       let own : ℕ = search.value.inputs + search.value.added in
-      let ids : List ℤ = forgot.ids in
+      let ids : List ℤ = deleted.ids in
       let more : List Step = log ++ Erased own ids ∷ [] in
       let late : 1000 * suc (deletions log) ≤ added_since 0 log =
       omega (arith, are.count, are.added, due, before.added) in
-      let follows = follow_forgot before forgot in
+      let follows = follow_deleted before deleted in
       let numbered : AreNumbered (suc m) more = numbered_erase (suc m) own log ids on.numbered
       (omega (arith, due)) (omega (arith, before.inputs, before.added)) in
       let then : AreDeletions more (record { count = suc d.count; added = search.value.added }) =
@@ -367,19 +367,19 @@ module _ {search : SearchAt} {formula : Cnf} {log : List Step}
         record {
           stands = follows.stands;
           all_taken = refl;
-          open_log = open_forgot before forgot on.open_log;
-          numbered = subst (AreNumbered (suc m)) (sym forgot.step) numbered;
-          relevant = subst (Relevant formula) (sym forgot.step)
+          open_log = open_deleted before deleted on.open_log;
+          numbered = subst (AreNumbered (suc m)) (sym deleted.step) numbered;
+          relevant = subst (Relevant formula) (sym deleted.step)
               (each_added_erase IsRelevant formula log own ids on.relevant);
-          sparse = subst Sparse (sym forgot.step)
-              (sparse_erased own stands forgot.forgets on.sparse late);
-          deletes = subst DeletesSome (sym forgot.step)
-              (deletes_erase log own ids on.deletes forgot.some);
+          sparse = subst Sparse (sym deleted.step)
+              (sparse_erased own stands deleted.deletes on.sparse late);
+          deletes = subst DeletesSome (sym deleted.step)
+              (deletes_erase log own ids on.deletes deleted.some);
         },
         subst (λ (l : List Step).
             AreDeletions l (record { count = suc d.count; added = search.value.added }))
-            (sym forgot.step) then,
-        none_added_forgot forgot,
+            (sym deleted.step) then,
+        none_added_deleted deleted,
       )
 
   pub searched : {budget : ℕ} {keep : Bool} {result : Result Answer AllocError} →

@@ -1,4 +1,4 @@
--- What a search over watches knows by ids: its clauses, its trail, and that they are settled.
+-- What a search over watches knows by ids: its clauses, its trail, and that they are propagated.
 use Rattle.std.specs.Prelude.{nat_le, option_map}
 use Rattle.std.proofs.Common.{inl, inr, ◌⊎◌, ◌≡◌, ◌≢◌, ◌==◌, ℕ, Bool, true, false, cond, List, [], ◌∷◌, ◌++◌, length, reverse, Option, None, Some, Contains, refl, sym, ap, ◌∙◌, subst, arith}
 use Rattle.std.specs.Ordering.{int_eq}
@@ -21,9 +21,9 @@ use Rattle.sat_watch.specs.declared.entry.TrailEntry.{TrailEntry}
 use Rattle.sat_watch.specs.Levels.{upto}
 use Rattle.sat_watch.specs.Trail.{IsOnce, falses, lits_of as watch_lits}
 use Rattle.sat_watch.specs.Watched.{IsReason}
-use Rattle.sat_watch.specs.Watches.{Attached, HasCause, HasLevels, IsSettledAt, SameClauses, WatchState, id_at, is_attached, lits_at}
+use Rattle.sat_watch.specs.Watches.{Attached, HasCause, HasLevels, IsPropagatedAt, SameClauses, WatchState, id_at, is_attached, lits_at}
 use Rattle.sat_core.specs.Kept.{AreAmong, SameLive}
-use Rattle.sat_core.specs.Levels.{AreCaused, AreSettled, Assigned, HasCause as HasCauseById, IsSettledAt as IsSettledAtById, lits_of, made_false, up_to}
+use Rattle.sat_core.specs.Levels.{AreCaused, ArePropagated, Assigned, HasCause as HasCauseById, IsPropagatedAt as IsPropagatedAtById, lits_of, made_false, up_to}
 use Rattle.sat_core.specs.SearchStore.{AreTaken, IsKeeping, IsLeveled, assigned, assigned_in, live_of}
 use Rattle.sat_core.proofs.AttachedLaws.{found, origin, same_permuted, simple_permuted}
 use Rattle.sat_core.proofs.LevelLaws.{up_to_current}
@@ -222,7 +222,7 @@ caused_in vars level singles ks (e ∷ older) keeps levels once =
         (lits_at ks c) x.2) reads in
         (rw (x.1, falses_in ks older) reads_x, deeper level cause.2)
 
--- settled where all single clauses are attached
+-- propagated where all single clauses are attached
 module _ (singles : Live) (taken : ℕ) (w : WatchState) (keeps : IsKeeping w.vars singles w.clauses)
     (all : AreTaken taken singles w.clauses) (whole : taken ≡ length singles) where
   attached_for : (id : ℕ) (x : Clause) → clause_at (singles ++ live_of w.clauses) id ≡ Some x →
@@ -247,21 +247,21 @@ module _ (singles : Live) (taken : ℕ) (w : WatchState) (keeps : IsKeeping w.va
         )
       ]
 
-  pub settled_in : (j : ℕ) → IsSettledAt w j
-      → IsSettledAtById (singles ++ live_of w.clauses) (assigned_in w.clauses w.trail) j
-  settled_in j settled id x at =
+  pub propagated_in : (j : ℕ) → IsPropagatedAt w j
+      → IsPropagatedAtById (singles ++ live_of w.clauses) (assigned_in w.clauses w.trail) j
+  propagated_in j propagated id x at =
       let c = attached_for id x at in
       let quiet : IsQuiet (reading_of (falses (upto j w.trail)) x) =
-      same_quiet (falses (upto j w.trail)) (lits_at w.clauses c.0) x c.2 (settled c.0 c.1) in
+      same_quiet (falses (upto j w.trail)) (lits_at w.clauses c.0) x c.2 (propagated c.0 c.1) in
       rw (up_to_in w.clauses j w.trail, falses_in w.clauses (upto j w.trail)) quiet
 
-  pub settled_here : IsLeveled w → IsSettledAt w w.level
-      → AreSettled (singles ++ live_of w.clauses) (made_false (assigned_in w.clauses w.trail))
-  settled_here leveled settled =
-      subst (λ (t : List Assigned). AreSettled (singles ++ live_of w.clauses) (made_false t))
+  pub propagated_here : IsLeveled w → IsPropagatedAt w w.level
+      → ArePropagated (singles ++ live_of w.clauses) (made_false (assigned_in w.clauses w.trail))
+  propagated_here leveled propagated =
+      subst (λ (t : List Assigned). ArePropagated (singles ++ live_of w.clauses) (made_false t))
       (up_to_current w.level (assigned_in w.clauses w.trail) leveled.levels (omega
       (arith, leveled.current)))
-      (settled_in w.level settled)
+      (propagated_in w.level propagated)
 
 pub caused_here : (vars level : ℕ) (singles : Live) (ks : List Attached) (trail : List TrailEntry)
     → IsKeeping vars singles ks → HasLevels ks level trail → IsOnce trail →

@@ -52,7 +52,7 @@ value_back j w e inside low = by (nat_lt j w.level)
       trail = upto j w.trail;
       queued = 0;
       level = j;
-      due = None;
+      pending = None;
     } else w).trail (positive (variable e.lit)) ≢ None
     by true = entry_value (upto j w.trail) e (contains_upto j w.trail e inside low)
     by false = entry_value w.trail e inside
@@ -64,21 +64,21 @@ vars_back j w = by (nat_lt j w.level)
       trail = upto j w.trail;
       queued = 0;
       level = j;
-      due = None;
+      pending = None;
     } else w).vars ≡ w.vars
     by true = refl
     by false = refl
 
--- where none is due none is due behind the way back
-pub due_start : (w : WatchState) → w.due ≡ None → (gone_back 0 w).due ≡ None
-due_start w none = by (nat_lt 0 w.level)
+-- where none is pending none is pending behind the way back
+pub pending_start : (w : WatchState) → w.pending ≡ None → (gone_back 0 w).pending ≡ None
+pending_start w none = by (nat_lt 0 w.level)
   where
     by : (b : Bool) → (if b then record w {
       trail = upto 0 w.trail;
       queued = 0;
       level = 0;
-      due = None;
-    } else w).due ≡ None
+      pending = None;
+    } else w).pending ≡ None
     by true = refl
     by false = none
 

@@ -7,7 +7,7 @@ use Rattle.sat_arena.specs.declared.clause_ref.ClauseRef.{ClauseRef}
 use Rattle.sat_watch.specs.declared.entry.TrailEntry.{TrailEntry}
 use Rattle.sat_watch.specs.Trail.{AreWithin, IsOnce, place_in}
 use Rattle.sat_watch.specs.Watched.{is_false}
-use Rattle.sat_watch.specs.Watches.{Attached, HasLevels, IsSettledState, WatchState, lits_at}
+use Rattle.sat_watch.specs.Watches.{Attached, HasLevels, IsPropagatedState, WatchState, lits_at}
 use Rattle.sat_core.specs.Marks.{IsMet, IsUsed, MarkState, Meets, with_used}
 
 -- the entry stands at the place, the oldest at 0
@@ -89,7 +89,7 @@ pub record IsKnown (w : WatchState) : Type 0 where
   pub once : IsOnce w.trail
   pub within : AreWithin w.vars w.trail
   pub levels : HasLevels w.clauses w.level w.trail
-  pub settled : IsSettledState w
+  pub propagated : IsPropagatedState w
 
 -- an analysis goes on: what it kept it keeps, and there are as many marks
 pub record GoesOn (w : WatchState) (old new : MarkState) : Type 0 where

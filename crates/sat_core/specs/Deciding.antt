@@ -15,10 +15,11 @@ use Rattle.sat_core.specs.SearchStore.{IsLeveled}
 abbrev pub HaveValues : List TrailEntry → ℕ → Type 0
 HaveValues trail n = (k : ℕ) → 1 ≤ k → k < n → value_in trail (positive k) ≢ None
 
--- the clauses are the same as sets, the levels are still those of the decisions, and none is due
+-- the clauses are the same as sets, the levels are still those of the decisions, and none is
+-- pending
 pub record GoesOn (old new : WatchState) : Type 0 where
   pub vars : new.vars ≡ old.vars
-  pub due : new.due ≡ None
+  pub pending : new.pending ≡ None
   pub clauses : SameClauses old.clauses new.clauses
   pub leveled : IsLeveled old → IsLeveled new
 

@@ -53,7 +53,7 @@ pub record MayKeep
     (singles : ClauseListState) (watches : WatchState) (lits : Clause) (id : ℕ) : Type 0 where
   pub simple : IsSimple watches.vars lits
   pub none_true : watches.trail ≡ []
-  pub quiet : watches.due ≡ None
+  pub quiet : watches.pending ≡ None
   pub same_vars : singles.vars ≡ watches.vars
   pub few_vars : singles.vars ≤ VARIABLE_LIMIT
   pub few : length singles.clauses < ID_LIMIT

@@ -1,4 +1,4 @@
--- A trail by levels: what is false at a level, where clauses are settled there, why each entry
+-- A trail by levels: what is false at a level, where clauses are propagated there, why each entry
 -- stands, and what follows where a clause is false.
 use Rattle.std.specs.Prelude.{◌≡◌, ◌⊎◌, ℕ, suc, ◌<◌, ◌≤◌, nat_le, ℤ, pos, ⊤, Bool, true, false, List, [], ◌∷◌, ◌++◌, filter, map, slice_get, take, Option, None, Some, All, Contains}
 use Rattle.sat_clause.specs.declared.literal.Lit.{Lit}
@@ -29,17 +29,17 @@ abbrev pub up_to : ℕ → List Assigned → List Assigned
 up_to j trail = filter (λ e. nat_le e.level j) trail
 
 -- where these literals are false, no clause is false and none makes a literal true
-abbrev pub AreSettled : Live → List Lit → Type 0
-AreSettled clauses set = (id : ℕ) (c : Clause) → clause_at clauses id ≡ Some c →
+abbrev pub ArePropagated : Live → List Lit → Type 0
+ArePropagated clauses set = (id : ℕ) (c : Clause) → clause_at clauses id ≡ Some c →
     IsQuiet (reading_of set c)
 
--- the clauses are settled where only the entries of level at most j are read
-abbrev pub IsSettledAt : Live → List Assigned → ℕ → Type 0
-IsSettledAt clauses trail j = AreSettled clauses (made_false (up_to j trail))
+-- the clauses are propagated where only the entries of level at most j are read
+abbrev pub IsPropagatedAt : Live → List Assigned → ℕ → Type 0
+IsPropagatedAt clauses trail j = ArePropagated clauses (made_false (up_to j trail))
 
--- the clauses are settled at each level below this one
-abbrev pub IsSettledBelow : Live → List Assigned → ℕ → Type 0
-IsSettledBelow clauses trail level = (j : ℕ) → j < level → IsSettledAt clauses trail j
+-- the clauses are propagated at each level below this one
+abbrev pub IsPropagatedBelow : Live → List Assigned → ℕ → Type 0
+IsPropagatedBelow clauses trail level = (j : ℕ) → j < level → IsPropagatedAt clauses trail j
 
 -- why an entry stands: it was decided, or it is the one literal that its reason leaves open where
 -- the older ones are true
@@ -68,14 +68,14 @@ AreLevels [] = ⊤
 AreLevels (e ∷ older) = (e.level ≡ level_of (e ∷ older)) × AreLevels older
 
 -- what holds of a trail between two steps of a search: its entries are of the variables 1 to n,
--- each of another one, by levels and each with its cause, and the clauses are settled below the
+-- each of another one, by levels and each with its cause, and the clauses are propagated below the
 -- current level
-pub record IsSettledTrail (clauses : Live) (vars : ℕ) (trail : List Assigned) : Type 0 where
+pub record IsPropagatedTrail (clauses : Live) (vars : ℕ) (trail : List Assigned) : Type 0 where
   pub once : IsOnce (lits_of trail)
   pub within : All (λ e. IsWithin vars e.lit) trail
   pub caused : AreCaused clauses trail
   pub levels : AreLevels trail
-  pub settled : IsSettledBelow clauses trail (level_of trail)
+  pub propagated : IsPropagatedBelow clauses trail (level_of trail)
 
 -- the literal is false, and became so at this level
 abbrev pub IsFalseFrom : List Assigned → ℕ → Lit → Type 0

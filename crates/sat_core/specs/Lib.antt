@@ -3,8 +3,8 @@ pub mod Answer
 pub mod ClauseList
 pub mod Deciding
 pub mod Deletions
-pub mod Doomed
-pub mod Forget
+pub mod Deletable
+pub mod Delete
 pub mod Implied
 pub mod Inputs
 pub mod Kept

@@ -45,7 +45,7 @@ EndsIn trail front place clause = (e : TrailEntry) × IsAt trail place e
     × (clause ≡ front ++ negation e.lit ∷ [])
 
 -- what is learned by these marks
-pub record HasLesson
+pub record HasLearnedClause
     (w : WatchState) (s : MarkState) (point id : ℕ) (clause : Clause) (hints : List ℤ) (back : ℕ)
     : Type 0 where
   pub lower : Clause
@@ -63,4 +63,4 @@ pub record IsFound
   pub marks : AreMarks s
   pub rising : AllPairs (λ a b. a < b) s.places
   pub analysed : IsAnalysed w conflict s point
-  pub lesson : HasLesson w s point id clause hints back
+  pub learned_clause : HasLearnedClause w s point id clause hints back

@@ -13,7 +13,7 @@ use Rattle.sat_watch.specs.Watches.{Attached, AreInPlace, WatchState, id_at, is_
 use Rattle.sat_core.specs.ClauseList.{ClauseListState}
 use Rattle.sat_core.specs.Kept.{AreAmong, AreBelow, HasOnce, SameLive}
 use Rattle.sat_core.specs.Marks.{IsReady, MarkState}
-use Rattle.sat_core.specs.Levels.{AreLevels, AreSettled, Assigned, IsAsserting, IsDerived, IsSettledTrail, level_of, made_false, marked_ids}
+use Rattle.sat_core.specs.Levels.{AreLevels, ArePropagated, Assigned, IsAsserting, IsDerived, IsPropagatedTrail, level_of, made_false, marked_ids}
 use Rattle.sat_core.specs.Ranking.{IsRanked}
 use Rattle.sat_core.specs.Stands.{SearchValue}
 use Rattle.sat_order.specs.Order.{OrderState}
@@ -62,7 +62,7 @@ AreTaken taken singles clauses = (k id : ℕ) (x : Clause) → k < taken →
     (c : ClauseRef) × (is_attached clauses c ≡ true) × (id_at clauses c ≡ id)
 
 -- the clauses are those of the inputs and of added clauses; until all that were laid aside are
--- attached nothing is decided, and none is due
+-- attached nothing is decided, and none is pending
 pub record IsSearchStore
     (inputs added taken : ℕ) (singles : ClauseListState) (watches : WatchState) : Type 0 where
   pub few_ids : inputs + added ≤ ID_LIMIT
@@ -76,7 +76,7 @@ pub record IsSearchStore
   pub taken_are : AreTaken taken singles.clauses watches.clauses
   pub waiting : (taken ≡ length singles.clauses) ⊎ (watches.level ≡ 0)
   pub leveled : IsLeveled watches
-  pub none_due : watches.due ≡ None
+  pub none_pending : watches.pending ≡ None
 
 -- and no mark is set, and each variable that is not held has a value
 pub record IsSearching
@@ -97,8 +97,8 @@ pub record SameKept (old new : SearchValue) : Type 0 where
   pub once : (id : ℕ) (c : Clause) → clause_at new.clauses id ≡ Some c → HasOnce c
 
 -- no clause is false and none makes a literal true
-abbrev pub IsSettledState : SearchValue → Type 0
-IsSettledState search = AreSettled search.clauses (made_false search.trail)
+abbrev pub IsPropagatedState : SearchValue → Type 0
+IsPropagatedState search = ArePropagated search.clauses (made_false search.trail)
 
 -- there is a value for each variable, and they make each clause true that is of these variables
 pub record AreTrue (search : SearchValue) (values : List Bool) : Type 0 where
@@ -121,17 +121,18 @@ HasDerivation search clause hints = (id : ℕ) × (conflict : Clause) × (marks 
 
 -- at level 0 the clause is empty, and else it is asserting, with the way back to the highest level
 -- of its other literals; it is derived, the hints justify it and are needed, and it is new
-pub record IsLesson (search : SearchValue) (clause : Clause) (hints : List ℤ) (back : ℕ) : Type 0
-  where
-    pub none : level_of search.trail ≡ 0 → clause ≡ []
-    pub asserts : 1 ≤ level_of search.trail → EndsAsserting search.trail back clause
-    pub derived : HasDerivation search clause hints
-    pub simple : IsSimple search.vars clause
-    pub literals : All IsLiteral clause
-    pub follows : rup search.clauses clause hints ≡ None
-    pub relevant : IsRelevant search.clauses clause hints
-    pub fresh : clause ≢ [] → IsFresh search.clauses clause
-    pub trail : IsSettledTrail search.clauses search.vars search.trail
+pub record IsLearnedClause
+    (search : SearchValue) (clause : Clause) (hints : List ℤ) (back : ℕ)
+    : Type 0 where
+  pub none : level_of search.trail ≡ 0 → clause ≡ []
+  pub asserts : 1 ≤ level_of search.trail → EndsAsserting search.trail back clause
+  pub derived : HasDerivation search clause hints
+  pub simple : IsSimple search.vars clause
+  pub literals : All IsLiteral clause
+  pub follows : rup search.clauses clause hints ≡ None
+  pub relevant : IsRelevant search.clauses clause hints
+  pub fresh : clause ≢ [] → IsFresh search.clauses clause
+  pub trail : IsPropagatedTrail search.clauses search.vars search.trail
 
 -- one more clause is kept, in some order of its literals, under the next id
 pub record Learns (old new : SearchValue) (clause : Clause) : Type 0 where

@@ -24,7 +24,7 @@ IsStanding watches lits (Unit l) = IsUnit watches lits l
 IsStanding watches lits Free = HasTwoFree watches.trail lits ⊎ HasOneTrue watches.trail lits
 
 -- the clause is attached behind the others, what has a value keeps one, and nothing is decided or
--- due
+-- pending
 pub record IsTaken (old new : WatchState) (lits : Clause) (id : ℕ) : Type 0 where
   pub place : ClauseRef
   pub behind : place.word ≡ words_in old.clauses
@@ -35,5 +35,5 @@ pub record IsTaken (old new : WatchState) (lits : Clause) (id : ℕ) : Type 0 wh
   pub vars : new.vars ≡ old.vars
   pub level : new.level ≡ 0
   pub leveled : IsLeveled new
-  pub due : new.due ≡ None
+  pub pending : new.pending ≡ None
   pub values : (l : Lit) → value_in old.trail l ≢ None → value_in new.trail l ≢ None

@@ -1,14 +1,14 @@
-//! Which learned clauses a search forgets.
+//! Which learned clauses a search deletes.
 
 ghost use Rattle.std.specs.Prelude.{◌≡◌, ◌<◌, [], All, AllPairs, IfOk, length, reverse, true};
 ghost use Rattle.sat_clause.specs.Literal.{IsWithin};
 ghost use Rattle.sat_arena.specs.declared.clause_ref.ClauseRef.{ClauseRef};
-ghost use Rattle.sat_watch.specs.Forget.{IsNoReason};
+ghost use Rattle.sat_watch.specs.Delete.{IsNoReason};
 ghost use Rattle.sat_watch.specs.Trail.{IsOnce};
 ghost use Rattle.sat_watch.specs.Watches.{HasLevels, id_at, is_attached};
-ghost use Rattle.sat_core.specs.Doomed.{ArePartOf, IsForgettable, are_same, forgettable, is_reason as is_reason_of, is_forgettable as is_forgettable_by, reason_in, refs_of};
+ghost use Rattle.sat_core.specs.Deletable.{ArePartOf, IsDeletable, are_same, deletable, is_reason as is_reason_of, is_deletable as is_deletable_by, reason_in, refs_of};
 
-use crate::worth::Worth;
+use crate::clause_activity::ClauseActivity;
 use sat_arena::ClauseRef;
 use sat_clause::Lit;
 use sat_watch::{TrailEntry, Watches};
@@ -20,10 +20,10 @@ const FIRST_STAY: u64 = 1000;
 /// And so many more at each one that follows.
 const MORE_STAY: u64 = 100;
 
-/// What a clause is worth. Of two that are worth the same the later one counts more.
+/// How active a clause is. Of two of the same activity the later one counts more.
 #[derive(Clone, Copy, Debug, PartialEq, Eq, PartialOrd, Ord)]
 struct Rank {
-    worth: u64,
+    activity: u64,
     id: u32,
 }
 
@@ -38,7 +38,7 @@ enum Kind {
     Long,
 }
 
-/// A clause that may be forgotten.
+/// A clause that may be deleted.
 #[derive(Clone, Copy, Debug)]
 pub(crate) struct Candidate {
     pub(crate) clause: ClauseRef,
@@ -79,13 +79,13 @@ fn is_reason(watches: &Watches, trail: &[TrailEntry], c: ClauseRef) -> bool
     false
 }
 
-/// Whether a clause may be forgotten: it has an id above this one and is no reason on the trail.
-fn is_forgettable(watches: &Watches, trail: &[TrailEntry], above: u32, c: ClauseRef) -> bool
+/// Whether a clause may be deleted: it has an id above this one and is no reason on the trail.
+fn is_deletable(watches: &Watches, trail: &[TrailEntry], above: u32, c: ClauseRef) -> bool
     requires trail { reverse trail.now ≡ watches.now.trail }
     requires once { IsOnce watches.now.trail }
     requires levels { HasLevels watches.now.clauses watches.now.level watches.now.trail }
     requires attached { is_attached watches.now.clauses c ≡ true }
-    ensures { result ≡ is_forgettable_by watches.now above c }
+    ensures { result ≡ is_deletable_by watches.now above c }
 {
     watches.id(c) > above && !is_reason(watches, trail, c)
 }
@@ -103,7 +103,7 @@ fn is_satisfied(watches: &Watches, lits: &[Lit]) -> bool
 }
 
 /// A clause with what speaks for it.
-fn candidate_of(watches: &Watches, worth: &Worth, c: ClauseRef) -> Candidate
+fn candidate_of(watches: &Watches, activity: &ClauseActivity, c: ClauseRef) -> Candidate
     requires { is_attached watches.now.clauses c ≡ true }
     ensures { result.clause ≡ c }
 {
@@ -116,32 +116,32 @@ fn candidate_of(watches: &Watches, worth: &Worth, c: ClauseRef) -> Candidate
         Kind::Long
     };
     let id = watches.id(c);
-    let worth = worth.of(id);
+    let activity = activity.of(id);
     Candidate {
         clause: c,
         kind,
-        rank: Rank { worth, id },
+        rank: Rank { activity, id },
     }
 }
 
-/// The clauses that may be forgotten, in the order of the arena. Each clause of the arena costs a
+/// The clauses that may be deleted, in the order of the arena. Each clause of the arena costs a
 /// look at its head.
 fn find_candidates(
     alloc: Global,
     watches: &Watches,
-    worth: &Worth,
+    activity: &ClauseActivity,
     above: u32,
 ) -> Result<Vec<Candidate>, AllocError>
-    ensures all { IfOk result (λ found. refs_of found.items ≡ forgettable watches.now above) }
-    ensures rising { AllPairs (λ a b. a.word < b.word) (forgettable watches.now above) }
+    ensures all { IfOk result (λ found. refs_of found.items ≡ deletable watches.now above) }
+    ensures rising { AllPairs (λ a b. a.word < b.word) (deletable watches.now above) }
     ensures levels { HasLevels watches.now.clauses watches.now.level watches.now.trail }
 {
     let trail = watches.trail();
     let mut found = Vec::new(alloc);
     let mut next = watches.first();
     while let Some(c) = next {
-        if is_forgettable(watches, trail, above, c) {
-            found.push(candidate_of(watches, worth, c))?;
+        if is_deletable(watches, trail, above, c) {
+            found.push(candidate_of(watches, activity, c))?;
         }
         next = watches.behind(c);
     }
@@ -188,19 +188,19 @@ fn those_that_go(
     candidates: &[Candidate],
     least: Option<Rank>,
 ) -> Result<Vec<ClauseRef>, AllocError>
-    ensures { IfOk result (λ doomed. ArePartOf doomed.items (refs_of candidates.now)) }
+    ensures { IfOk result (λ deleted. ArePartOf deleted.items (refs_of candidates.now)) }
 {
-    let mut doomed = Vec::new(alloc);
+    let mut deleted = Vec::new(alloc);
     for candidate in candidates {
         if goes(candidate, least) {
-            doomed.push(candidate.clause)?;
+            deleted.push(candidate.clause)?;
         }
     }
-    Ok(doomed)
+    Ok(deleted)
 }
 
 /// The index of the candidate of least rank.
-fn least_worthy(candidates: &[Candidate]) -> usize
+fn least_active(candidates: &[Candidate]) -> usize
     requires { 0 < length candidates.now }
     ensures { result < length candidates.now }
 {
@@ -215,15 +215,15 @@ fn least_worthy(candidates: &[Candidate]) -> usize
 
 /// The candidate of least rank alone, if there is one.
 fn one_that_goes(alloc: Global, candidates: &[Candidate]) -> Result<Vec<ClauseRef>, AllocError>
-    ensures part { IfOk result (λ doomed. ArePartOf doomed.items (refs_of candidates.now)) }
-    ensures none { IfOk result (λ doomed. doomed.items ≡ [] → refs_of candidates.now ≡ []) }
+    ensures part { IfOk result (λ deleted. ArePartOf deleted.items (refs_of candidates.now)) }
+    ensures none { IfOk result (λ deleted. deleted.items ≡ [] → refs_of candidates.now ≡ []) }
 {
-    let mut doomed = Vec::new(alloc);
+    let mut deleted = Vec::new(alloc);
     if candidates.is_empty() {
-        return Ok(doomed);
+        return Ok(deleted);
     }
-    doomed.push(candidates[least_worthy(candidates)].clause)?;
-    Ok(doomed)
+    deleted.push(candidates[least_active(candidates)].clause)?;
+    Ok(deleted)
 }
 
 /// Those of the candidates that go where so many long ones stay; one at least if there is one.
@@ -233,45 +233,45 @@ fn choose_among(
     stay: u64,
 ) -> Result<Vec<ClauseRef>, AllocError>
     requires { 0 < stay }
-    ensures part { IfOk result (λ doomed. ArePartOf doomed.items (refs_of candidates.now)) }
-    ensures none { IfOk result (λ doomed. doomed.items ≡ [] → refs_of candidates.now ≡ []) }
+    ensures part { IfOk result (λ deleted. ArePartOf deleted.items (refs_of candidates.now)) }
+    ensures none { IfOk result (λ deleted. deleted.items ≡ [] → refs_of candidates.now ≡ []) }
 {
     let least = least_to_stay(alloc, candidates, stay)?;
-    let doomed = those_that_go(alloc, candidates, least)?;
-    if !doomed.is_empty() {
-        return Ok(doomed);
+    let deleted = those_that_go(alloc, candidates, least)?;
+    if !deleted.is_empty() {
+        return Ok(deleted);
     }
     one_that_goes(alloc, candidates)
 }
 
-/// The clauses that a deletion forgets, at level 0, where so many deletions are done: of those with
-/// an id above this one that are no reasons.
+/// The clauses that a deletion takes out, at level 0, where so many deletions are done: of those
+/// with an id above this one that are no reasons.
 ///
 /// A clause with a true literal goes. Of the others with three or more literals those go that are
-/// worth least, so that 1000 and 100 more for each deletion stay. Where none would go so, the one
-/// clause goes that is worth least. It costs a look at each clause of the arena, and for those that
-/// may go a look at their literals and a sort.
+/// least active, so that 1000 and 100 more for each deletion stay. Where none would go so, the one
+/// clause goes that is least active. It costs a look at each clause of the arena, and for those
+/// that may go a look at their literals and a sort.
 ///
 /// # Errors
 /// Where memory is short.
-pub(crate) fn choose_doomed(
+pub(crate) fn choose_deleted(
     alloc: Global,
     watches: &Watches,
-    worth: &Worth,
+    activity: &ClauseActivity,
     above: u32,
     done: u32,
 ) -> Result<Vec<ClauseRef>, AllocError>
     ensures attached { IfOk result
-        (λ doomed. All (λ c. is_attached watches.now.clauses c ≡ true) doomed.items) }
+        (λ deleted. All (λ c. is_attached watches.now.clauses c ≡ true) deleted.items) }
     ensures learned { IfOk result
-        (λ doomed. All (λ c. above < id_at watches.now.clauses c) doomed.items) }
-    ensures no_reason { IfOk result (λ doomed. All (IsNoReason watches.now.trail) doomed.items) }
-    ensures apart { IfOk result (λ doomed. AllPairs (λ a b. a.word < b.word) doomed.items) }
+        (λ deleted. All (λ c. above < id_at watches.now.clauses c) deleted.items) }
+    ensures no_reason { IfOk result (λ deleted. All (IsNoReason watches.now.trail) deleted.items) }
+    ensures apart { IfOk result (λ deleted. AllPairs (λ a b. a.word < b.word) deleted.items) }
     ensures none { IfOk result
-        (λ doomed. doomed.items ≡ [] → (c : ClauseRef) → ¬ IsForgettable watches.now above c) }
+        (λ deleted. deleted.items ≡ [] → (c : ClauseRef) → ¬ IsDeletable watches.now above c) }
     ensures levels { HasLevels watches.now.clauses watches.now.level watches.now.trail }
 {
-    let candidates = find_candidates(alloc, watches, worth, above)?;
+    let candidates = find_candidates(alloc, watches, activity, above)?;
     let stay = FIRST_STAY + MORE_STAY * u64::from(done);
     choose_among(alloc, &candidates, stay)
 }

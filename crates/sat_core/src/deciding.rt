@@ -5,7 +5,7 @@ ghost use Rattle.sat_clause.specs.Trail.{IsClosed};
 ghost use Rattle.sat_core.specs.Deciding.{AreValuesOf, GoesOn, IsDecided, IsFalse};
 ghost use Rattle.sat_core.specs.Ranking.{IsRanked, held_count};
 ghost use Rattle.sat_watch.specs.Trail.{lits_of};
-ghost use Rattle.sat_watch.specs.Watches.{IsSettledAt};
+ghost use Rattle.sat_watch.specs.Watches.{IsPropagatedAt};
 
 use crate::again::Again;
 use crate::ranking::Ranking;
@@ -20,7 +20,7 @@ fn decide(ranking: &mut Ranking, watches: &mut Watches) -> bool
     requires ranked { IsRanked watches.old.vars watches.old.trail ranking.old }
     requires few { watches.old.vars ≤ VARIABLE_LIMIT }
     requires empty { watches.old.queued ≡ 0 }
-    requires quiet { watches.old.due ≡ None }
+    requires quiet { watches.old.pending ≡ None }
     ensures decided { result ≡ true → IsDecided watches.old watches.new }
     ensures fewer { result ≡ true
         → held_count ranking.new.held < held_count ranking.old.held }
@@ -45,7 +45,7 @@ fn decide_next(again: &mut Again, ranking: &mut Ranking, watches: &mut Watches, 
     requires ranked { IsRanked watches.old.vars watches.old.trail ranking.old }
     requires few { watches.old.vars ≤ VARIABLE_LIMIT }
     requires empty { watches.old.queued ≡ 0 }
-    requires quiet { watches.old.due ≡ None }
+    requires quiet { watches.old.pending ≡ None }
     ensures decided { result ≡ true → IsDecided watches.old watches.new }
     ensures fewer { result ≡ true
         → held_count ranking.new.held + again.new < held_count ranking.old.held + again.old }
@@ -72,16 +72,16 @@ pub(crate) fn decide_on(
     requires vars { vars ≡ watches.old.vars }
     requires ranked { IsRanked watches.old.vars watches.old.trail ranking.old }
     requires few { watches.old.vars ≤ VARIABLE_LIMIT }
-    requires quiet { watches.old.due ≡ None }
+    requires quiet { watches.old.pending ≡ None }
     ensures ranked { IsRanked watches.new.vars watches.new.trail ranking.new }
     ensures goes { GoesOn watches.old watches.new }
     ensures conflict { IfSome result (IsFalse watches.new) }
-    ensures settled { IfNone result (IsSettledAt watches.new watches.new.level) }
+    ensures propagated { IfNone result (IsPropagatedAt watches.new watches.new.level) }
     ensures closed { IfNone result (IsClosed watches.new.vars (lits_of watches.new.trail)) }
 {
-    let mut looks = 0;
+    let mut visits = 0;
     loop {
-        if let Some(c) = watches.propagate(&mut looks) {
+        if let Some(c) = watches.propagate(&mut visits) {
             return Some(c);
         }
         if !decide_next(again, ranking, watches, vars) {

@@ -4,7 +4,7 @@ ghost use Rattle.std.specs.Prelude.{◌≡◌, ◌≢◌, ◌<◌, ◌≤◌, �
 ghost use Rattle.sat_clause.specs.Formula.{Cnf};
 ghost use Rattle.sat_clause.specs.Learned.{added_count};
 ghost use Rattle.sat_core.specs.Deletions.{AreDeletions};
-ghost use Rattle.sat_core.specs.Forget.{HasForgotten};
+ghost use Rattle.sat_core.specs.Delete.{HasDeleted};
 ghost use Rattle.sat_core.specs.Levels.{level_of};
 ghost use Rattle.sat_core.specs.SearchStore.{SameKept};
 ghost use Rattle.sat_core.specs.Stands.{StandsFor};
@@ -144,16 +144,16 @@ impl Search {
         Ok(turn)
     }
 
-    /// Forgets learned clauses between two turns, and logs that they are deleted: at level 0, if
+    /// Deletes learned clauses between two turns, and logs the deletion: at level 0, if
     /// no clause is false there and some learned clause is no reason. Whether there is one. So many
     /// deletions came before. It has taken all steps of the log, and takes this one too.
     ///
     /// # Errors
     /// Where memory is short. The log is then as it was, and the search goes on from here.
-    pub(crate) fn forget(&mut self, log: &mut Log, done: u32) -> Result<bool, AllocError>
+    pub(crate) fn delete(&mut self, log: &mut Log, done: u32) -> Result<bool, AllocError>
         requires { self.old.taken ≡ length log.old.steps }
-        ensures forgotten { result ≡ Ok true
-            → HasForgotten self.old.value self.new.value log.old.steps log.new.steps }
+        ensures deleted { result ≡ Ok true
+            → HasDeleted self.old.value self.new.value log.old.steps log.new.steps }
         ensures same { result ≢ Ok true → SameKept self.old.value self.new.value }
         ensures same_log { result ≢ Ok true → log.new.steps ≡ log.old.steps }
         ensures all { self.new.taken ≡ length log.new.steps }
@@ -161,18 +161,18 @@ impl Search {
             → MayTurn self.new formula log.new.steps }
         ensures none_added { added_count log.new.steps ≡ added_count log.old.steps }
     {
-        let gone = self.state.forget(self.alloc, log, done)?;
+        let gone = self.state.delete(self.alloc, log, done)?;
         self.taken = log.len();
         Ok(gone)
     }
 
-    /// Forgets learned clauses between two turns where a restart is due and the log may have
+    /// Deletes learned clauses between two turns where a restart is due and the log may have
     /// another deletion. The log is its own, with these deletions; it has taken all steps, and
     /// stands for all of them afterwards.
     ///
     /// # Errors
     /// Where memory is short. The log is then as it was, and the search goes on from here.
-    pub(crate) fn forget_where_due(
+    pub(crate) fn delete_where_due(
         &mut self,
         log: &mut Log,
         deletions: &mut Deletions,
@@ -191,7 +191,7 @@ impl Search {
         if !self.state.is_restart_due() {
             return Ok(());
         }
-        if !self.forget(log, deletions.count())? {
+        if !self.delete(log, deletions.count())? {
             return Ok(());
         }
         deletions.push(added);

@@ -17,8 +17,8 @@ use crate::turn::Turn;
 use sat_clause::{Formula, ID_LIMIT, Log};
 use std::alloc::{AllocError, Global};
 
-/// Forgets clauses between two turns where that is due, unless all are to be kept.
-fn forget_unless(
+/// Deletes clauses between two turns where that is due, unless all are to be kept.
+fn delete_unless(
     keep: bool,
     search: &mut Search,
     log: &mut Log,
@@ -35,10 +35,10 @@ fn forget_unless(
     if keep {
         return Ok(());
     }
-    search.forget_where_due(log, deletions)
+    search.delete_where_due(log, deletions)
 }
 
-/// Takes at most so many turns of a search that has taken none, and forgets clauses between them
+/// Takes at most so many turns of a search that has taken none, and deletes clauses between them
 /// unless all are to be kept.
 fn take_turns(
     search: &mut Search,
@@ -55,7 +55,7 @@ fn take_turns(
 {
     let mut deletions = Deletions::new();
     for _ in 0..budget {
-        forget_unless(keep, search, log, &mut deletions)?;
+        delete_unless(keep, search, log, &mut deletions)?;
         match search.turn(formula, log)? {
             Turn::Learned => {}
             Turn::Model(values) => return Ok(Answer::Model(values)),
@@ -65,7 +65,7 @@ fn take_turns(
     Ok(Answer::Spent)
 }
 
-/// The search for values that satisfy a formula, which forgets clauses unless all are to be kept.
+/// The search for values that satisfy a formula, which deletes clauses unless all are to be kept.
 fn search_for_values(
     alloc: Global,
     formula: &Formula,
@@ -92,20 +92,20 @@ fn search_for_values(
 /// it always comes to values or to a refutation, and without `keep` with one of
 /// 3^v (3^v / 1000 + 1).
 ///
-/// Without `keep` learned clauses are forgotten at a restart, for the k-th time once 1000 k were
+/// Without `keep` learned clauses are deleted at a restart, for the k-th time once 1000 k were
 /// added since the time before, if no clause is false at level 0 and some learned clause is no
 /// reason there. One step of the log deletes those that go. The clauses of the formula stay.
 ///
 /// Of the open variables the one that conflicts met most and latest is decided; before there are
-/// conflicts, and as what it is decided, go by the habits. After 64 times the next term of Luby's sequence more conflicts the search goes back to level 0. Behind
-/// three such restarts of four what was decided is decided again before others, as far as it is
-/// open and until the next clause is learned, unless the trail had 100 literals a decision or more.
-/// Where a clause is false, the clause of the first unique implication point is learned: the search
-/// goes back to the highest level of its other literals, and it makes the last one true there.
-/// The analysis costs what it meets: the entries of the trail from the newest down to that point,
-/// the literals of the reasons that it uses, whose places are sorted, and those of the reasons that
-/// it looks into for literals that the others imply. A clause is kept twice, for the search and in
-/// the log.
+/// conflicts, and as what it is decided, go by the habits. After 64 times the next term of Luby's
+/// sequence more conflicts the search goes back to level 0. Behind three such restarts of four what
+/// was decided is decided again before others, as far as it is open and until the next clause is
+/// learned, unless the trail had 100 literals a decision or more. Where a clause is false, the
+/// clause of the first unique implication point is learned: the search goes back to the highest
+/// level of its other literals, and it makes the last one true there. The analysis costs what it
+/// meets: the entries of the trail from the newest down to that point, the literals of the reasons
+/// that it uses, whose places are sorted, and those of the reasons that it looks into for literals
+/// that the others imply. A clause is kept twice, for the search and in the log.
 ///
 /// # Errors
 /// Where memory is short. What the log has by then still follows.

@@ -80,7 +80,7 @@ pub(crate) fn attach_at_start(
     requires level { watches.old.level ≡ 0 }
     requires leveled { IsLeveled watches.old }
     requires stand { AreInPlace 0 watches.old.clauses }
-    requires quiet { watches.old.due ≡ None }
+    requires quiet { watches.old.pending ≡ None }
     ensures attached { result ≡ Ok true → IsTaken watches.old watches.new lits.now id }
     ensures is_false { result ≡ Ok false → AreFalse watches.old.trail lits.now }
     ensures same { result ≡ Ok false → watches.new ≡ watches.old }

@@ -3,25 +3,25 @@
 ghost use Rattle.std.specs.Prelude.{◌≡◌, ◌≢◌, ◌<◌, ◌≤◌, ◌+◌, suc, length, [], IfNone, IfOk, IfSome, Ok, OnErr, OnOk, true};
 ghost use Rattle.sat_clause.specs.Learned.{IsSimple};
 ghost use Rattle.sat_clause.specs.Trail.{IsClosed};
-ghost use Rattle.sat_core.specs.Forget.{HasForgotten};
+ghost use Rattle.sat_core.specs.Delete.{HasDeleted};
 ghost use Rattle.sat_core.specs.Levels.{level_of, lits_of};
 ghost use Rattle.sat_core.specs.Marks.{IsClean};
 ghost use Rattle.sat_core.specs.Ranking.{IsRanked};
-ghost use Rattle.sat_core.specs.SearchStore.{AreTrue, IsLesson, IsSettledState, Learns, SameKept};
+ghost use Rattle.sat_core.specs.SearchStore.{AreTrue, IsLearnedClause, IsPropagatedState, Learns, SameKept};
 ghost use Rattle.sat_core.specs.Stands.{StandsFor};
 
 use crate::again::Again;
+use crate::clause_activity::ClauseActivity;
 use crate::clause_list::ClauseList;
 use crate::deciding::{decide_on, values};
-use crate::forgetting::{forget_some, last_id, settle_at_start};
+use crate::deleting::{delete_some, last_id, propagate_at_start};
 use crate::habits::Habits;
 use crate::inputs::{Inputs, take_inputs};
-use crate::lesson::{Findings, Lesson, find_lesson};
+use crate::learned::{Findings, LearnedClause, find_learned};
 use crate::ranking::Ranking;
 use crate::restarts::Restarts;
 use crate::start::attach_at_start;
 use crate::way_back::go_back;
-use crate::worth::Worth;
 use sat_clause::{Formula, ID_LIMIT, Lit, Log, VARIABLE_LIMIT};
 use sat_watch::Watches;
 use std::alloc::{AllocError, Global};
@@ -45,7 +45,7 @@ pub(crate) struct SearchState {
     ranking: Ranking,
     again: Again,
     restarts: Restarts,
-    worth: Worth,
+    activity: ClauseActivity,
 }
 
 impl Model for SearchState {
@@ -117,7 +117,7 @@ impl SearchState {
             ranking,
             again,
             restarts: Restarts::new(habits.many_literals),
-            worth: Worth::new(alloc),
+            activity: ClauseActivity::new(alloc),
         })
     }
 
@@ -149,12 +149,12 @@ impl SearchState {
     }
 
     /// Goes back to level 0 and propagates there. A clause that is then false stays so until the
-    /// next lesson is drawn from it.
+    /// next learned clause is drawn from it.
     pub(crate) fn start_anew(&mut self)
         ensures same { SameKept self.old self.new }
         ensures level { level_of self.new.trail ≡ 0 }
     {
-        settle_at_start(&mut self.ranking, &mut self.watches);
+        propagate_at_start(&mut self.ranking, &mut self.watches);
     }
 
     /// Whether a restart is due. Then the next one is looked ahead to.
@@ -164,34 +164,34 @@ impl SearchState {
         self.restarts.is_due(self.added)
     }
 
-    /// Goes back to level 0 and propagates there. If no clause is false then it forgets clauses
-    /// that were added and are no reasons, and logs that they are deleted. Whether there is one. So
+    /// Goes back to level 0 and propagates there. If no clause is false then it deletes clauses
+    /// that were added and are no reasons, and logs the deletion. Whether there is one. So
     /// many deletions came before. A clause that was laid aside stays, and so do those that were
     /// added before it.
     ///
     /// # Errors
     /// Where memory is short; the clauses are then the same.
-    pub(crate) fn forget(
+    pub(crate) fn delete(
         &mut self,
         alloc: Global,
         log: &mut Log,
         done: u32,
     ) -> Result<bool, AllocError>
-        ensures forgotten { result ≡ Ok true
-            → HasForgotten self.old self.new log.old.steps log.new.steps }
+        ensures deleted { result ≡ Ok true
+            → HasDeleted self.old self.new log.old.steps log.new.steps }
         ensures same { result ≢ Ok true → SameKept self.old self.new }
         ensures same_log { result ≢ Ok true → log.new.steps ≡ log.old.steps }
     {
         self.again.keep(&self.restarts, &self.watches);
-        if !settle_at_start(&mut self.ranking, &mut self.watches) {
+        if !propagate_at_start(&mut self.ranking, &mut self.watches) {
             return Ok(false);
         }
         let above = last_id(&self.aside, self.inputs);
         let own = self.inputs + self.added;
-        forget_some(
+        delete_some(
             alloc,
             &mut self.watches,
-            &mut self.worth,
+            &mut self.activity,
             log,
             above,
             done,
@@ -200,7 +200,7 @@ impl SearchState {
     }
 
     /// Takes a clause that another search learned under the next id, at level 0. It is laid aside
-    /// where it is false there, so that the next lesson is drawn from it.
+    /// where it is false there, so that the next learned clause is drawn from it.
     ///
     /// # Errors
     /// Where memory is short; nothing changes.
@@ -213,7 +213,7 @@ impl SearchState {
         ensures err { OnErr result (self.new ≡ self.old) }
     {
         let id = self.next_id();
-        self.worth.insert(id)?;
+        self.activity.insert(id)?;
         if attach_at_start(&mut self.watches, lits, id)? {
             self.added += 1;
             return Ok(());
@@ -224,19 +224,22 @@ impl SearchState {
     }
 
     /// Attaches the clauses that were laid aside, and then decides variable after variable, until a
-    /// clause is false, of which it gives a lesson, or each variable has a value.
-    pub(crate) fn next_lesson(&mut self, alloc: Global) -> Result<Option<Lesson>, AllocError>
+    /// clause is false, of which it gives the learned one, or each variable has a value.
+    pub(crate) fn next_learned(
+        &mut self,
+        alloc: Global,
+    ) -> Result<Option<LearnedClause>, AllocError>
         ensures same { SameKept self.old self.new }
-        ensures lesson { IfOk result (λ found. IfSome found (λ lesson. IsLesson self.new
-            lesson.clause.items lesson.hints.items lesson.back)) }
-        ensures settled { IfOk result (λ found. IfNone found (IsSettledState self.new)) }
+        ensures learned { IfOk result (λ found. IfSome found (λ learned. IsLearnedClause self.new
+            learned.clause.items learned.hints.items learned.back)) }
+        ensures propagated { IfOk result (λ found. IfNone found (IsPropagatedState self.new)) }
         ensures closed { IfOk result (λ found.
             IfNone found (IsClosed self.new.vars (lits_of self.new.trail))) }
     {
         while self.attached < self.aside.len() {
             let waiting = self.aside.get(self.attached);
             if !attach_at_start(&mut self.watches, waiting.lits, waiting.id)? {
-                let lesson = find_lesson(
+                let learned = find_learned(
                     alloc,
                     &mut self.ranking,
                     &mut self.findings,
@@ -244,7 +247,7 @@ impl SearchState {
                     waiting.lits,
                     waiting.id,
                 )?;
-                return Ok(Some(lesson));
+                return Ok(Some(learned));
             }
             self.attached += 1;
         }
@@ -254,7 +257,7 @@ impl SearchState {
         };
         let id = self.watches.id(c);
         let lits = self.watches.lits(c);
-        let lesson = find_lesson(
+        let learned = find_learned(
             alloc,
             &mut self.ranking,
             &mut self.findings,
@@ -262,52 +265,52 @@ impl SearchState {
             lits,
             id,
         )?;
-        Ok(Some(lesson))
+        Ok(Some(learned))
     }
 
     /// The value of each of the variables 1 to `vars`, which are those of the search, where each
-    /// has one and the clauses are settled.
+    /// has one and the clauses are propagated.
     pub(crate) fn model(&self, alloc: Global, vars: u32) -> Result<Vec<bool>, AllocError>
         requires vars { vars ≡ self.now.vars }
         requires few { vars ≤ VARIABLE_LIMIT }
-        requires settled { IsSettledState self.now }
+        requires propagated { IsPropagatedState self.now }
         requires closed { IsClosed self.now.vars (lits_of self.now.trail) }
         ensures { IfOk result (λ values. AreTrue self.now values.items) }
     {
         values(alloc, &self.watches, vars)
     }
 
-    /// Learns the clause of a lesson, which is not empty, under the next id: it goes back to the
+    /// Takes a learned clause, which is not empty, under the next id: it goes back to the
     /// highest level of its literals but the last, which the clause makes true there.
     ///
     /// # Errors
     /// Where memory is short; the clauses are then the same.
-    pub(crate) fn learn(&mut self, lesson: &Lesson) -> Result<(), AllocError>
-        requires lesson { IsLesson self.old lesson.now.clause.items lesson.now.hints.items
-            lesson.now.back }
-        requires some { lesson.now.clause.items ≢ [] }
+    pub(crate) fn learn(&mut self, learned: &LearnedClause) -> Result<(), AllocError>
+        requires learned { IsLearnedClause self.old learned.now.clause.items learned.now.hints.items
+            learned.now.back }
+        requires some { learned.now.clause.items ≢ [] }
         requires few { self.old.inputs + self.old.added < ID_LIMIT }
-        ensures ok { OnOk result (Learns self.old self.new lesson.now.clause.items) }
+        ensures ok { OnOk result (Learns self.old self.new learned.now.clause.items) }
         ensures err { OnErr result (SameKept self.old self.new) }
     {
         let id = self.next_id();
-        let Some(last) = lesson.clause.last() else {
+        let Some(last) = learned.clause.last() else {
             unreachable!();
         };
-        self.worth.insert(id)?;
+        self.activity.insert(id)?;
         self.again.clear();
-        go_back(&mut self.ranking, &mut self.watches, lesson.back);
-        let c = self.watches.attach(&lesson.clause, id)?;
+        go_back(&mut self.ranking, &mut self.watches, learned.back);
+        let c = self.watches.attach(&learned.clause, id)?;
         self.watches.imply(*last, c);
-        self.worth.bump_all(&lesson.hints);
+        self.activity.bump_all(&learned.hints);
         self.added += 1;
         Ok(())
     }
 
-    /// Takes a lesson that is no longer needed, whose room the next one takes.
-    pub(crate) fn reuse(&mut self, lesson: Lesson)
+    /// Takes a learned clause that is no longer needed, whose room the next one takes.
+    pub(crate) fn reuse(&mut self, learned: LearnedClause)
         ensures { self.new ≡ self.old }
     {
-        self.findings.reuse(lesson);
+        self.findings.reuse(learned);
     }
 }

@@ -40,19 +40,19 @@ pub(crate) fn take_turn(
     ensures same { OnErr result (SameKept search.old search.new) }
 {
     search.restart_where_due();
-    let Some(lesson) = search.next_lesson(alloc)? else {
+    let Some(learned) = search.next_learned(alloc)? else {
         let values = search.model(alloc, formula.vars())?;
         return Ok(Turn::Model(values));
     };
-    let numbers = lesson.clause.len() as u64 + lesson.hints.len() as u64;
+    let numbers = learned.clause.len() as u64 + learned.hints.len() as u64;
     log.reserve(1, numbers)?;
     let id = search.next_id();
-    if lesson.clause.is_empty() {
-        log.add(id, &lesson.clause, &lesson.hints);
+    if learned.clause.is_empty() {
+        log.add(id, &learned.clause, &learned.hints);
         return Ok(Turn::Refuted);
     }
-    search.learn(&lesson)?;
-    log.add(id, &lesson.clause, &lesson.hints);
-    search.reuse(lesson);
+    search.learn(&learned)?;
+    log.add(id, &learned.clause, &learned.hints);
+    search.reuse(learned);
     Ok(Turn::Learned)
 }

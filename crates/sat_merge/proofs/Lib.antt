@@ -1,5 +1,5 @@
 pub mod BehindLaws
-pub mod LeaderLaws
+pub mod RepresentativeLaws
 pub mod LemmaLaws
 pub mod MergedLaws
 pub mod MovedLaws

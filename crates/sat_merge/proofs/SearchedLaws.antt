@@ -1,4 +1,5 @@
--- What the log of a search through the leaders becomes step by step, and what it says at its end.
+-- What the log of a search through the representatives becomes step by step, and what it says at
+-- its end.
 use Rattle.std.proofs.Common.{◌≡◌, ◌≢◌, ◌∙◌, ℕ, ℤ, Bool, List, [], ◌∷◌, ◌++◌, length, Option, None, Some, All, refl, arith}
 use Rattle.std.specs.Prelude.{IfSome, Ok, Vec}
 use Rattle.std.specs.Global.{Global}

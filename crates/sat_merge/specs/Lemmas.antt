@@ -1,4 +1,5 @@
--- Lemmas: clauses that merged ones are, logged before what a search through the merged ones learned.
+-- Lemmas: clauses that merged ones are, logged before what a search through the merged ones
+-- learned.
 use Rattle.std.specs.Prelude.{◌≡◌, suc, Bool, List, length}
 use Rattle.sat_clause.specs.declared.literal.Lit.{Lit}
 use Rattle.sat_clause.specs.Formula.{Cnf}

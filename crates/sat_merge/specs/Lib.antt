@@ -1,6 +1,6 @@
 pub mod Hints
 pub mod Known
-pub mod Leaders
+pub mod Representatives
 pub mod Lemmas
 pub mod Merging
 pub mod Moved

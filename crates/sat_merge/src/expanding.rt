@@ -1,9 +1,9 @@
-//! The hints of a step over the leaders, made to hints over the formula.
+//! The hints of a step over the representatives, made to hints over the formula.
 
 ghost use Rattle.std.specs.Prelude.{◌≡◌, ◌≤◌, All, IfSome};
 ghost use Rattle.sat_clause.specs.Literal.{IsWithin};
 
-use crate::leaders::Leaders;
+use crate::representatives::Representatives;
 use sat_check::{FalseSet, LiveClauses};
 use sat_clause::{FalseLiterals, LITERAL_LIMIT, Lit};
 use std::alloc::{AllocError, Global};
@@ -31,9 +31,9 @@ fn set_value(falses: &mut FalseSet, variable: u32, value: bool) -> Result<(), Al
     falses.put(if value { l.negation() } else { l })
 }
 
-/// The hints that make a follower true whose leader is true, from the leader on.
+/// The hints that make an implied variable true whose representative is true, from that one on.
 fn go_down(
-    leaders: &Leaders,
+    representatives: &Representatives,
     variable: u32,
     falses: &mut FalseSet,
     path: &mut Vec<u32>,
@@ -44,29 +44,29 @@ fn go_down(
 {
     path.clear();
     let mut at = variable;
-    for _ in 0..leaders.steps(variable) {
+    for _ in 0..representatives.steps(variable) {
         if has_value(falses, at, true) {
             break;
         }
-        let Some(follower) = leaders.get(at) else {
+        let Some(implied) = representatives.get(at) else {
             break;
         };
         path.push(at)?;
-        at = follower.before;
+        at = implied.before;
     }
     while let Some(next) = path.pop() {
-        let Some(follower) = leaders.get(next) else {
+        let Some(implied) = representatives.get(next) else {
             break;
         };
-        hints.push(follower.by as i64)?;
+        hints.push(implied.by as i64)?;
         set_value(falses, next, true)?;
     }
     Ok(())
 }
 
-/// The hints that make what a false follower follows from false, up to its leader.
+/// The hints that make what implies a false variable false, up to its representative.
 fn go_up(
-    leaders: &Leaders,
+    representatives: &Representatives,
     variable: u32,
     falses: &mut FalseSet,
     hints: &mut Vec<i64>,
@@ -75,23 +75,23 @@ fn go_up(
     ensures { falses.new.size ≡ falses.old.size }
 {
     let mut at = variable;
-    for _ in 0..leaders.steps(variable) {
-        let Some(follower) = leaders.get(at) else {
+    for _ in 0..representatives.steps(variable) {
+        let Some(implied) = representatives.get(at) else {
             break;
         };
-        at = follower.before;
+        at = implied.before;
         if has_value(falses, at, false) {
             break;
         }
-        hints.push(follower.by as i64)?;
+        hints.push(implied.by as i64)?;
         set_value(falses, at, false)?;
     }
     Ok(())
 }
 
-/// Makes the negation of a follower false where its leader is true.
+/// Makes the negation of an implied variable false where its representative is true.
 fn reach(
-    leaders: &Leaders,
+    representatives: &Representatives,
     l: Lit,
     falses: &mut FalseSet,
     path: &mut Vec<u32>,
@@ -101,14 +101,17 @@ fn reach(
     ensures { falses.new.size ≡ falses.old.size }
 {
     let variable = l.variable();
-    if l.is_positive() || leaders.leads(variable) || has_value(falses, variable, true) {
+    if l.is_positive()
+        || representatives.is_representative(variable)
+        || has_value(falses, variable, true)
+    {
         return Ok(());
     }
-    let Some(leader) = leaders.leader(variable) else {
+    let Some(representative) = representatives.representative(variable) else {
         return Ok(());
     };
-    if has_value(falses, leader, true) {
-        return go_down(leaders, variable, falses, path, hints);
+    if has_value(falses, representative, true) {
+        return go_down(representatives, variable, falses, path, hints);
     }
     Ok(())
 }
@@ -128,7 +131,7 @@ fn open_literal(falses: &FalseSet, clause: &[Lit]) -> Option<Lit>
 
 /// Makes the first literal of a clause that is not false true, and what follows from that.
 fn make_open_true(
-    leaders: &Leaders,
+    representatives: &Representatives,
     clause: &[Lit],
     falses: &mut FalseSet,
     hints: &mut Vec<i64>,
@@ -144,12 +147,12 @@ fn make_open_true(
     if l.is_positive() {
         return Ok(());
     }
-    go_up(leaders, l.variable(), falses, hints)
+    go_up(representatives, l.variable(), falses, hints)
 }
 
-/// One hint more, behind those that make the negations of followers in its clause false.
+/// One hint more, behind those that make the negations of implied variables in its clause false.
 fn expand_hint(
-    leaders: &Leaders,
+    representatives: &Representatives,
     clause: &[Lit],
     hint: i64,
     falses: &mut FalseSet,
@@ -161,16 +164,16 @@ fn expand_hint(
     ensures { falses.new.size ≡ falses.old.size }
 {
     for l in clause {
-        reach(leaders, *l, falses, path, hints)?;
+        reach(representatives, *l, falses, path, hints)?;
     }
     hints.push(hint)?;
-    make_open_true(leaders, clause, falses, hints)
+    make_open_true(representatives, clause, falses, hints)
 }
 
-/// The hints over the formula that lead where these lead over the leaders, from the literals of a
-/// clause as the false ones. Nothing is promised of them: they are judged behind.
+/// The hints over the formula that lead where these lead over the representatives, from the
+/// literals of a clause as the false ones. Nothing is promised of them: they are judged behind.
 pub(crate) fn expand(
-    leaders: &Leaders,
+    representatives: &Representatives,
     live: &LiveClauses<'_>,
     clause: &[Lit],
     old: &[i64],
@@ -190,7 +193,7 @@ pub(crate) fn expand(
         let Some(named) = live.named(*hint) else {
             continue;
         };
-        expand_hint(leaders, named, *hint, falses, path, hints)?;
+        expand_hint(representatives, named, *hint, falses, path, hints)?;
     }
     Ok(())
 }

@@ -8,8 +8,8 @@ ghost use Rattle.sat_clause.specs.Live.{Live};
 ghost use Rattle.sat_merge.specs.Rewritten.{IsJustified};
 
 use crate::expanding::expand;
-use crate::leaders::Leaders;
 use crate::needed::are_needed;
+use crate::representatives::Representatives;
 use sat_check::{FalseSet, LiveClauses};
 use sat_clause::{LITERAL_LIMIT, Lit};
 use std::alloc::{AllocError, Global};
@@ -57,11 +57,11 @@ impl HintWriter {
         &self.hints
     }
 
-    /// Writes hints of a clause over the formula for its hints over the leaders, and says whether
-    /// they justify it and are all needed.
+    /// Writes hints of a clause over the formula for its hints over the representatives, and says
+    /// whether they justify it and are all needed.
     pub(crate) fn write(
         &mut self,
-        leaders: &Leaders,
+        representatives: &Representatives,
         live: &LiveClauses<'_>,
         clause: &[Lit],
         old: &[i64],
@@ -74,7 +74,7 @@ impl HintWriter {
             → IsJustified clauses clause.now self.new.hints) }
     {
         let expanded = expand(
-            leaders,
+            representatives,
             live,
             clause,
             old,

@@ -13,42 +13,42 @@ ghost use Rattle.sat_core.specs.Stands.{live_after};
 ghost use Rattle.sat_core.specs.Underway.{HasSearched};
 ghost use Rattle.sat_core.specs.declared.answer.Answer.TheVariants.{Refuted};
 ghost use Rattle.sat_merge.specs.Known.{AreNoted};
-ghost use Rattle.sat_merge.specs.Leaders.{keeps};
+ghost use Rattle.sat_merge.specs.Representatives.{keeps};
 ghost use Rattle.sat_merge.specs.Lemmas.{AreLemmas};
 ghost use Rattle.sat_merge.specs.Placing.{AddsLemma, AreTaken};
 ghost use Rattle.sat_merge.specs.Rewritten.{AreKept, IsMerged};
 
 use crate::hints::HintWriter;
 use crate::known::KnownPairs;
-use crate::leaders::Leaders;
 use crate::moving::{added, move_steps};
 use crate::places::Places;
+use crate::representatives::Representatives;
 use crate::rewriting::log_clause;
 use sat_check::LiveClauses;
 use sat_clause::{Formula, Lit, Log};
 use std::alloc::{AllocError, Global};
 
 /// Whether the number is that of an input whose literals are kept.
-fn is_kept_input(formula: &Formula, leaders: &Leaders, input: u32) -> bool
+fn is_kept_input(formula: &Formula, representatives: &Representatives, input: u32) -> bool
     ensures { IsTrue result → (own : Clause) × (1 ≤ input)
         × (slice_get formula.now.cnf.clauses (input - 1) ≡ Some own)
-        × AreKept (keeps leaders.now) own }
+        × AreKept (keeps representatives.now) own }
 {
     let vars = formula.vars();
     if vars == 0 || input == 0 || input > formula.len() {
         return false;
     }
-    leaders.are_kept(formula.clause(input - 1))
+    representatives.are_kept(formula.clause(input - 1))
 }
 
 /// Gives an input its own id, if its literals are kept.
-fn place_own(formula: &Formula, leaders: &Leaders, places: &mut Places, input: u32)
+fn place_own(formula: &Formula, representatives: &Representatives, places: &mut Places, input: u32)
     ensures { (merged : Cnf) → (log : List Step)
-        → IsMerged (keeps leaders.now) formula.now.cnf merged
-        → AreLemmas (keeps leaders.now) formula.now.cnf merged places.old log
-        → AreLemmas (keeps leaders.now) formula.now.cnf merged places.new log }
+        → IsMerged (keeps representatives.now) formula.now.cnf merged
+        → AreLemmas (keeps representatives.now) formula.now.cnf merged places.old log
+        → AreLemmas (keeps representatives.now) formula.now.cnf merged places.new log }
 {
-    if !is_kept_input(formula, leaders, input) {
+    if !is_kept_input(formula, representatives, input) {
         return;
     }
     if input > places.inputs() {
@@ -66,9 +66,9 @@ fn are_same(one: &[Lit], other: &[Lit]) -> bool
 
 /// Gives an input the id of another one that was merged to the same clause, if that one has one.
 fn place_twin(merged: &Formula, places: &mut Places, input: u32, other: u32)
-    ensures { (leads : Lit → Bool) → (formula : Cnf) → (log : List Step)
-        → AreLemmas leads formula merged.now.cnf places.old log
-        → AreLemmas leads formula merged.now.cnf places.new log }
+    ensures { (is_representative : Lit → Bool) → (formula : Cnf) → (log : List Step)
+        → AreLemmas is_representative formula merged.now.cnf places.old log
+        → AreLemmas is_representative formula merged.now.cnf places.new log }
 {
     let count = merged.len();
     if input == 0 || input > count || other == 0 || other > count {
@@ -94,17 +94,17 @@ fn place_twin(merged: &Formula, places: &mut Places, input: u32, other: u32)
 fn place_found(
     formula: &Formula,
     merged: &Formula,
-    leaders: &Leaders,
+    representatives: &Representatives,
     known: &KnownPairs,
     places: &mut Places,
     input: u32,
 )
     ensures { (log : List Step)
-        → IsMerged (keeps leaders.now) formula.now.cnf merged.now.cnf
-        → AreLemmas (keeps leaders.now) formula.now.cnf merged.now.cnf places.old log
-        → AreLemmas (keeps leaders.now) formula.now.cnf merged.now.cnf places.new log }
+        → IsMerged (keeps representatives.now) formula.now.cnf merged.now.cnf
+        → AreLemmas (keeps representatives.now) formula.now.cnf merged.now.cnf places.old log
+        → AreLemmas (keeps representatives.now) formula.now.cnf merged.now.cnf places.new log }
 {
-    place_own(formula, leaders, places, input);
+    place_own(formula, representatives, places, input);
     if places.of(input) != 0 {
         return;
     }
@@ -114,7 +114,7 @@ fn place_found(
     let Some(other) = known.twin(merged.clause(input - 1)) else {
         return;
     };
-    place_own(formula, leaders, places, other);
+    place_own(formula, representatives, places, other);
     place_twin(merged, places, input, other);
 }
 
@@ -138,7 +138,7 @@ fn is_once(clause: &[Lit]) -> bool
 
 /// Logs a clause that an input was merged to, with the way to it.
 fn log_lemma(
-    leaders: &Leaders,
+    representatives: &Representatives,
     live: &mut LiveClauses<'_>,
     writer: &mut HintWriter,
     log: &mut Log,
@@ -147,21 +147,21 @@ fn log_lemma(
     clause: &[Lit],
 ) -> Result<bool, AllocError>
     requires literals { All IsLiteral clause.now }
-    requires leaders { length leaders.now ≡ live.old.vars + 1 }
+    requires representatives { length representatives.now ≡ live.old.vars + 1 }
     requires vars { writer.old.vars ≡ live.old.vars }
     ensures live { live.new.vars ≡ live.old.vars }
     ensures vars { writer.new.vars ≡ writer.old.vars }
     ensures within { IfOk result (λ is. IsTrue is → All (IsWithin live.old.vars) clause.now) }
     ensures added { IfOk result (λ is. IsTrue is → (formula : Cnf)
         → Finds (live_at live.old) (live_after formula log.old.steps)
-        → AddsLemma (keeps leaders.now) formula live.new log.old.steps log.new.steps id
+        → AddsLemma (keeps representatives.now) formula live.new log.old.steps log.new.steps id
         clause.now) }
 {
-    if !leaders.are_kept(clause) {
+    if !representatives.are_kept(clause) {
         return Ok(false);
     }
     let hint = [input as i64];
-    if !writer.write(leaders, live, clause, &hint)? {
+    if !writer.write(representatives, live, clause, &hint)? {
         return Ok(false);
     }
     log_clause(live, log, id, clause, writer.hints())?;
@@ -170,7 +170,7 @@ fn log_lemma(
 
 /// Takes the merged clause of an input as a lemma; false where it may not be new.
 fn take_new(
-    leaders: &Leaders,
+    representatives: &Representatives,
     live: &mut LiveClauses<'_>,
     writer: &mut HintWriter,
     known: &mut KnownPairs,
@@ -180,15 +180,16 @@ fn take_new(
     clause: &[Lit],
 ) -> Result<bool, AllocError>
     requires literals { All IsLiteral clause.now }
-    requires leaders { length leaders.now ≡ live.old.vars + 1 }
+    requires representatives { length representatives.now ≡ live.old.vars + 1 }
     requires vars { writer.old.vars ≡ live.old.vars }
     ensures live { live.new.vars ≡ live.old.vars }
     ensures vars { writer.new.vars ≡ writer.old.vars }
     ensures taken { IfOk result (λ is. IsTrue is → (formula : Cnf) → (merged : Cnf)
         → formula.vars ≡ live.old.vars
         → clause_at (inputs_of merged) input ≡ Some clause.now
-        → AreTaken (keeps leaders.now) formula merged places.old known.old live.old log.old.steps
-        → AreTaken (keeps leaders.now) formula merged places.new known.new live.new
+        → AreTaken (keeps representatives.now) formula merged places.old known.old live.old
+        log.old.steps
+        → AreTaken (keeps representatives.now) formula merged places.new known.new live.new
         log.new.steps) }
 {
     if !is_once(clause) {
@@ -203,7 +204,7 @@ fn take_new(
     let Some(id) = places.next_id() else {
         return Ok(false);
     };
-    if !log_lemma(leaders, live, writer, log, id, input, clause)? {
+    if !log_lemma(representatives, live, writer, log, id, input, clause)? {
         return Ok(false);
     }
     if !known.note(clause, input)? {
@@ -218,7 +219,7 @@ fn take_new(
 fn take(
     formula: &Formula,
     merged: &Formula,
-    leaders: &Leaders,
+    representatives: &Representatives,
     live: &mut LiveClauses<'_>,
     writer: &mut HintWriter,
     known: &mut KnownPairs,
@@ -226,18 +227,18 @@ fn take(
     log: &mut Log,
     input: u32,
 ) -> Result<bool, AllocError>
-    requires leaders { length leaders.now ≡ live.old.vars + 1 }
+    requires representatives { length representatives.now ≡ live.old.vars + 1 }
     requires vars { writer.old.vars ≡ live.old.vars }
     ensures live { live.new.vars ≡ live.old.vars }
     ensures vars { writer.new.vars ≡ writer.old.vars }
     ensures taken { IfOk result (λ is. IsTrue is → formula.now.cnf.vars ≡ live.old.vars
-        → IsMerged (keeps leaders.now) formula.now.cnf merged.now.cnf
-        → AreTaken (keeps leaders.now) formula.now.cnf merged.now.cnf places.old known.old live.old
-        log.old.steps
-        → AreTaken (keeps leaders.now) formula.now.cnf merged.now.cnf places.new known.new live.new
-        log.new.steps) }
+        → IsMerged (keeps representatives.now) formula.now.cnf merged.now.cnf
+        → AreTaken (keeps representatives.now) formula.now.cnf merged.now.cnf places.old known.old
+        live.old log.old.steps
+        → AreTaken (keeps representatives.now) formula.now.cnf merged.now.cnf places.new known.new
+        live.new log.new.steps) }
 {
-    place_found(formula, merged, leaders, known, places, input);
+    place_found(formula, merged, representatives, known, places, input);
     if places.of(input) != 0 {
         return Ok(true);
     }
@@ -246,7 +247,7 @@ fn take(
         return Ok(false);
     }
     take_new(
-        leaders,
+        representatives,
         live,
         writer,
         known,
@@ -261,7 +262,7 @@ fn take(
 fn take_all(
     formula: &Formula,
     merged: &Formula,
-    leaders: &Leaders,
+    representatives: &Representatives,
     live: &mut LiveClauses<'_>,
     writer: &mut HintWriter,
     known: &mut KnownPairs,
@@ -269,20 +270,28 @@ fn take_all(
     log: &mut Log,
     often: &[u32],
 ) -> Result<bool, AllocError>
-    requires leaders { length leaders.now ≡ live.old.vars + 1 }
+    requires representatives { length representatives.now ≡ live.old.vars + 1 }
     requires vars { writer.old.vars ≡ live.old.vars }
     ensures live { live.new.vars ≡ live.old.vars }
     ensures vars { writer.new.vars ≡ writer.old.vars }
     ensures taken { IfOk result (λ is. IsTrue is → formula.now.cnf.vars ≡ live.old.vars
-        → IsMerged (keeps leaders.now) formula.now.cnf merged.now.cnf
-        → AreTaken (keeps leaders.now) formula.now.cnf merged.now.cnf places.old known.old live.old
-        log.old.steps
-        → AreTaken (keeps leaders.now) formula.now.cnf merged.now.cnf places.new known.new live.new
-        log.new.steps) }
+        → IsMerged (keeps representatives.now) formula.now.cnf merged.now.cnf
+        → AreTaken (keeps representatives.now) formula.now.cnf merged.now.cnf places.old known.old
+        live.old log.old.steps
+        → AreTaken (keeps representatives.now) formula.now.cnf merged.now.cnf places.new known.new
+        live.new log.new.steps) }
 {
     for input in often {
         if !take(
-            formula, merged, leaders, live, writer, known, places, log, *input,
+            formula,
+            merged,
+            representatives,
+            live,
+            writer,
+            known,
+            places,
+            log,
+            *input,
         )? {
             return Ok(false);
         }
@@ -294,18 +303,18 @@ fn take_all(
 fn place_all(
     formula: &Formula,
     merged: &Formula,
-    leaders: &Leaders,
+    representatives: &Representatives,
     known: &KnownPairs,
     places: &mut Places,
     once: &[u32],
 )
     ensures { (log : List Step)
-        → IsMerged (keeps leaders.now) formula.now.cnf merged.now.cnf
-        → AreLemmas (keeps leaders.now) formula.now.cnf merged.now.cnf places.old log
-        → AreLemmas (keeps leaders.now) formula.now.cnf merged.now.cnf places.new log }
+        → IsMerged (keeps representatives.now) formula.now.cnf merged.now.cnf
+        → AreLemmas (keeps representatives.now) formula.now.cnf merged.now.cnf places.old log
+        → AreLemmas (keeps representatives.now) formula.now.cnf merged.now.cnf places.new log }
 {
     for input in once {
-        place_found(formula, merged, leaders, known, places, *input);
+        place_found(formula, merged, representatives, known, places, *input);
     }
 }
 
@@ -388,8 +397,14 @@ fn used_inputs(alloc: Global, inputs: u32, steps: &Log) -> Result<Uses, AllocErr
 }
 
 /// Marks the variables of the merged clause of an input, unless that was kept.
-fn mark(formula: &Formula, merged: &Formula, leaders: &Leaders, input: u32, wanted: &mut [bool]) {
-    if input == 0 || input > merged.len() || is_kept_input(formula, leaders, input) {
+fn mark(
+    formula: &Formula,
+    merged: &Formula,
+    representatives: &Representatives,
+    input: u32,
+    wanted: &mut [bool],
+) {
+    if input == 0 || input > merged.len() || is_kept_input(formula, representatives, input) {
         return;
     }
     for l in merged.clause(input - 1) {
@@ -404,12 +419,12 @@ fn mark(formula: &Formula, merged: &Formula, leaders: &Leaders, input: u32, want
 fn mark_all(
     formula: &Formula,
     merged: &Formula,
-    leaders: &Leaders,
+    representatives: &Representatives,
     inputs: &[u32],
     wanted: &mut [bool],
 ) {
     for input in inputs {
-        mark(formula, merged, leaders, *input, wanted);
+        mark(formula, merged, representatives, *input, wanted);
     }
 }
 
@@ -419,15 +434,15 @@ fn known_pairs(
     alloc: Global,
     formula: &Formula,
     merged: &Formula,
-    leaders: &Leaders,
+    representatives: &Representatives,
     uses: &Uses,
 ) -> Result<Option<KnownPairs>, AllocError>
     ensures { IfOk result (λ found. IfSome found (λ known. (keeps : Lit → Bool)
         → AreNoted keeps known (inputs_of formula.now.cnf))) }
 {
     let mut wanted = vec![in alloc; false; formula.vars() as usize + 1]?;
-    mark_all(formula, merged, leaders, &uses.once, &mut wanted);
-    mark_all(formula, merged, leaders, &uses.often, &mut wanted);
+    mark_all(formula, merged, representatives, &uses.once, &mut wanted);
+    mark_all(formula, merged, representatives, &uses.often, &mut wanted);
     KnownPairs::of(alloc, formula, wanted)
 }
 
@@ -438,34 +453,34 @@ fn write_lemmas(
     alloc: Global,
     formula: &Formula,
     merged: &Formula,
-    leaders: &Leaders,
+    representatives: &Representatives,
     live: &mut LiveClauses<'_>,
     writer: &mut HintWriter,
     steps: &Log,
     log: &mut Log,
 ) -> Result<Option<Places>, AllocError>
     requires fresh { log.old.steps ≡ [] }
-    requires leaders { length leaders.now ≡ live.old.vars + 1 }
+    requires representatives { length representatives.now ≡ live.old.vars + 1 }
     requires vars { writer.old.vars ≡ live.old.vars }
     requires same { formula.now.cnf.vars ≡ live.old.vars }
     requires found { Finds (live_at live.old) (inputs_of formula.now.cnf) }
-    requires merged { IsMerged (keeps leaders.now) formula.now.cnf merged.now.cnf }
+    requires merged { IsMerged (keeps representatives.now) formula.now.cnf merged.now.cnf }
     ensures live { live.new.vars ≡ live.old.vars }
     ensures vars { writer.new.vars ≡ writer.old.vars }
-    ensures lemmas { IfOk result (λ found. IfSome found (λ places.
-        AreLemmas (keeps leaders.now) formula.now.cnf merged.now.cnf places log.new.steps)) }
+    ensures lemmas { IfOk result (λ found. IfSome found (λ places. AreLemmas
+        (keeps representatives.now) formula.now.cnf merged.now.cnf places log.new.steps)) }
     ensures found { IfOk result (λ found. IfSome found (λ places.
         Finds (live_at live.new) (live_after formula.now.cnf log.new.steps))) }
 {
     let uses = used_inputs(alloc, formula.len(), steps)?;
-    let Some(mut known) = known_pairs(alloc, formula, merged, leaders, &uses)? else {
+    let Some(mut known) = known_pairs(alloc, formula, merged, representatives, &uses)? else {
         return Ok(None);
     };
     let mut places = Places::new(alloc, formula.len())?;
     if !take_all(
         formula,
         merged,
-        leaders,
+        representatives,
         live,
         writer,
         &mut known,
@@ -475,7 +490,14 @@ fn write_lemmas(
     )? {
         return Ok(None);
     }
-    place_all(formula, merged, leaders, &known, &mut places, &uses.once);
+    place_all(
+        formula,
+        merged,
+        representatives,
+        &known,
+        &mut places,
+        &uses.once,
+    );
     Ok(Some(places))
 }
 
@@ -486,14 +508,14 @@ pub(crate) fn rewrite_refutation(
     alloc: Global,
     formula: &Formula,
     merged: &Formula,
-    leaders: &Leaders,
+    representatives: &Representatives,
     steps: &Log,
     budget: u64,
     log: &mut Log,
 ) -> Result<bool, AllocError>
     requires fresh { log.old.steps ≡ [] }
-    requires leaders { length leaders.now ≡ formula.now.cnf.vars + 1 }
-    requires merged { IsMerged (keeps leaders.now) formula.now.cnf merged.now.cnf }
+    requires representatives { length representatives.now ≡ formula.now.cnf.vars + 1 }
+    requires merged { IsMerged (keeps representatives.now) formula.now.cnf merged.now.cnf }
     ensures { IfOk result (λ is. IsTrue is → (keep : Bool)
         → HasSearched merged.now.cnf budget keep steps.now.steps (Ok Refuted)
         → HasSearched formula.now.cnf budget keep log.new.steps (Ok Refuted)) }
@@ -504,7 +526,7 @@ pub(crate) fn rewrite_refutation(
         alloc,
         formula,
         merged,
-        leaders,
+        representatives,
         &mut live,
         &mut writer,
         steps,
@@ -521,7 +543,15 @@ pub(crate) fn rewrite_refutation(
     if learned > budget - lemmas {
         return Ok(false);
     }
-    if !move_steps(alloc, leaders, &places, &mut live, &mut writer, steps, log)? {
+    if !move_steps(
+        alloc,
+        representatives,
+        &places,
+        &mut live,
+        &mut writer,
+        steps,
+        log,
+    )? {
         return Ok(false);
     }
     Ok(true)

@@ -5,12 +5,12 @@
 mod expanding;
 mod hints;
 mod known;
-mod leaders;
 mod lemmas;
 mod merged;
 mod moving;
 mod needed;
 mod places;
+mod representatives;
 mod rewriting;
 mod solving;
 

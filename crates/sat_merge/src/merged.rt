@@ -1,38 +1,39 @@
-//! The formula in which the variables that follow stand as their leaders.
+//! The formula in which the implied variables stand as their representatives.
 
 ghost use Rattle.std.specs.Prelude.{◌≡◌, ◌+◌, ◌∷◌, ◌++◌, ◌<◌, ◌≤◌, ℕ, [], IfOk, IfSome, OnOk, IsTrue, All, length};
 ghost use Rattle.sat_clause.specs.Literal.{IsLiteral, IsWithin, variable as variable_of};
-ghost use Rattle.sat_merge.specs.Leaders.{keeps};
+ghost use Rattle.sat_merge.specs.Representatives.{keeps};
 ghost use Rattle.sat_merge.specs.Rewritten.{AreKept, IsMerged};
 
-use crate::leaders::Leaders;
+use crate::representatives::Representatives;
 use sat_clause::{Formula, ID_LIMIT, LITERAL_LIMIT, Lit, VARIABLE_LIMIT};
 use std::alloc::{AllocError, Global};
 
 /// The id of the first clause of three or more literals in which a variable stands without a
 /// negation, 0 where there is none.
-fn choice_of(leaders: &Leaders, variable: u32) -> u32 {
-    let Some(follower) = leaders.get(variable) else {
+fn choice_of(representatives: &Representatives, variable: u32) -> u32 {
+    let Some(implied) = representatives.get(variable) else {
         return 0;
     };
-    follower.choice
+    implied.choice
 }
 
-/// Whether the clause is that by which one of its variables follows.
-fn is_step(leaders: &Leaders, clause: &[Lit], id: u32) -> bool {
+/// Whether the clause is that by which one of its variables is implied.
+fn is_step(representatives: &Representatives, clause: &[Lit], id: u32) -> bool {
     for l in clause {
-        let Some(follower) = leaders.get(l.variable()) else {
+        let Some(implied) = representatives.get(l.variable()) else {
             return false;
         };
-        if follower.by == id {
+        if implied.by == id {
             return true;
         }
     }
     false
 }
 
-/// Whether the clause forbids two followers of one choice, as another one forbids their leaders.
-fn is_rivalry(leaders: &Leaders, clause: &[Lit]) -> bool {
+/// Whether the clause forbids two implied variables of one choice, as another one forbids their
+/// representatives.
+fn is_rivalry(representatives: &Representatives, clause: &[Lit]) -> bool {
     if clause.len() != 2 {
         return false;
     }
@@ -41,21 +42,21 @@ fn is_rivalry(leaders: &Leaders, clause: &[Lit]) -> bool {
     if first.is_positive() || second.is_positive() {
         return false;
     }
-    let choice = choice_of(leaders, first.variable());
+    let choice = choice_of(representatives, first.variable());
     choice != 0
-        && choice == choice_of(leaders, second.variable())
-        && !leaders.leads(first.variable())
-        && !leaders.leads(second.variable())
+        && choice == choice_of(representatives, second.variable())
+        && !representatives.is_representative(first.variable())
+        && !representatives.is_representative(second.variable())
 }
 
-/// Whether the clause is a choice among followers whose leaders are of one choice.
-fn is_choice(leaders: &Leaders, clause: &[Lit]) -> bool {
+/// Whether the clause is a choice among implied variables whose representatives are of one choice.
+fn is_choice(representatives: &Representatives, clause: &[Lit]) -> bool {
     let mut choice = 0;
     for l in clause {
-        let Some(follower) = leaders.get(l.variable()) else {
+        let Some(implied) = representatives.get(l.variable()) else {
             return false;
         };
-        let own = choice_of(leaders, follower.leader);
+        let own = choice_of(representatives, implied.representative);
         if !l.is_positive() || own == 0 || (choice != 0 && choice != own) {
             return false;
         }
@@ -64,9 +65,11 @@ fn is_choice(leaders: &Leaders, clause: &[Lit]) -> bool {
     true
 }
 
-/// Whether the clauses of the leaders say already what the clause says.
-fn is_said(leaders: &Leaders, clause: &[Lit], id: u32) -> bool {
-    is_step(leaders, clause, id) || is_rivalry(leaders, clause) || is_choice(leaders, clause)
+/// Whether the clauses of the representatives say already what the clause says.
+fn is_said(representatives: &Representatives, clause: &[Lit], id: u32) -> bool {
+    is_step(representatives, clause, id)
+        || is_rivalry(representatives, clause)
+        || is_choice(representatives, clause)
 }
 
 /// The literal of a variable, negated or not.
@@ -82,40 +85,45 @@ fn literal_of(variable: u32, is_positive: bool) -> Lit
     l.negation()
 }
 
-/// The literal with the leader of its variable, if one that follows is negated, and none of the
-/// others is of that leader.
-fn led_literal(leaders: &Leaders, l: Lit, others: &[Lit]) -> Option<Lit>
-    requires { length leaders.now ≤ LITERAL_LIMIT + 1 }
-    ensures { IfSome result (λ led.
-        (1 ≤ variable_of led) × (variable_of led < length leaders.now)) }
+/// The literal with the representative of its variable, if an implied one is negated, and none of
+/// the others is of that representative.
+fn represented_literal(representatives: &Representatives, l: Lit, others: &[Lit]) -> Option<Lit>
+    requires { length representatives.now ≤ LITERAL_LIMIT + 1 }
+    ensures { IfSome result (λ represented.
+        (1 ≤ variable_of represented) × (variable_of represented < length representatives.now)) }
 {
-    let Some(leader) = leaders.leader(l.variable()) else {
+    let Some(representative) = representatives.representative(l.variable()) else {
         return None;
     };
-    if l.is_positive() && leader != l.variable() {
+    if l.is_positive() && representative != l.variable() {
         return None;
     }
-    if others.iter().any(|m| m.variable() == leader) {
+    if others.iter().any(|m| m.variable() == representative) {
         return None;
     }
-    Some(literal_of(leader, l.is_positive()))
+    Some(literal_of(representative, l.is_positive()))
 }
 
-/// The clause of one or two literals with the leaders of their variables, if all that follow are
-/// negated, and no variable comes twice.
-fn put_leaders(leaders: &Leaders, clause: &[Lit], image: &mut Vec<Lit>) -> Result<bool, AllocError>
-    requires { length leaders.now ≤ LITERAL_LIMIT + 1 }
-    ensures { (vars : ℕ) → length leaders.now ≡ vars + 1 → All (IsWithin vars) image.new.items }
+/// The clause of one or two literals with the representatives of their variables, if all that are
+/// implied are negated, and no variable comes twice.
+fn put_representatives(
+    representatives: &Representatives,
+    clause: &[Lit],
+    image: &mut Vec<Lit>,
+) -> Result<bool, AllocError>
+    requires { length representatives.now ≤ LITERAL_LIMIT + 1 }
+    ensures { (vars : ℕ) → length representatives.now ≡ vars + 1
+        → All (IsWithin vars) image.new.items }
 {
     image.clear();
     if clause.len() > 2 {
         return Ok(false);
     }
     for l in clause {
-        let Some(led) = led_literal(leaders, *l, image) else {
+        let Some(represented) = represented_literal(representatives, *l, image) else {
             return Ok(false);
         };
-        image.push(led)?;
+        image.push(represented)?;
     }
     Ok(true)
 }
@@ -134,23 +142,24 @@ fn put_nothing(clause: &[Lit], image: &mut Vec<Lit>) -> Result<(), AllocError>
     Ok(())
 }
 
-/// The clause that stands for one with an id that has followers; false, where there is none.
+/// The clause that stands for one with an id that has implied variables; false, where there is
+/// none.
 fn put_image(
-    leaders: &Leaders,
+    representatives: &Representatives,
     clause: &[Lit],
     id: u32,
     image: &mut Vec<Lit>,
 ) -> Result<bool, AllocError>
-    requires small { length leaders.now ≤ LITERAL_LIMIT + 1 }
+    requires small { length representatives.now ≤ LITERAL_LIMIT + 1 }
     requires literals { All IsLiteral clause.now }
-    ensures { (vars : ℕ) → length leaders.now ≡ vars + 1 → All (IsWithin vars) clause.now
+    ensures { (vars : ℕ) → length representatives.now ≡ vars + 1 → All (IsWithin vars) clause.now
         → All (IsWithin vars) image.new.items }
 {
-    if is_said(leaders, clause, id) {
+    if is_said(representatives, clause, id) {
         put_nothing(clause, image)?;
         return Ok(true);
     }
-    put_leaders(leaders, clause, image)
+    put_representatives(representatives, clause, image)
 }
 
 /// Adds a clause to a formula.
@@ -167,27 +176,27 @@ fn add(formula: &mut Formula, clause: &[Lit]) -> Result<(), AllocError>
     Ok(())
 }
 
-/// The formula over the leaders: as many clauses, of which those that have no follower stay. `None`
-/// says that some clause has no form over the leaders.
+/// The formula over the representatives: as many clauses, of which those that have no implied
+/// variable stay. `None` says that some clause has no form over the representatives.
 pub(crate) fn merged(
     alloc: Global,
     formula: &Formula,
-    leaders: &Leaders,
+    representatives: &Representatives,
 ) -> Result<Option<Formula>, AllocError>
-    requires { length leaders.now ≡ formula.now.cnf.vars + 1 }
+    requires { length representatives.now ≡ formula.now.cnf.vars + 1 }
     ensures { IfOk result (λ found. IfSome found (λ merged.
-        IsMerged (keeps leaders.now) formula.now.cnf merged.cnf)) }
+        IsMerged (keeps representatives.now) formula.now.cnf merged.cnf)) }
 {
     let mut merged = Formula::new(alloc);
     merged.reserve(formula.vars(), 0, 0)?;
     let mut image = Vec::new(alloc);
     for at in 0..formula.len() {
         let clause = formula.clause(at);
-        if leaders.are_kept(clause) {
+        if representatives.are_kept(clause) {
             add(&mut merged, clause)?;
             continue;
         }
-        if !put_image(leaders, clause, at + 1, &mut image)? {
+        if !put_image(representatives, clause, at + 1, &mut image)? {
             return Ok(None);
         }
         add(&mut merged, &image)?;

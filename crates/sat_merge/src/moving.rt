@@ -9,13 +9,13 @@ ghost use Rattle.sat_clause.specs.Learned.{added_count};
 ghost use Rattle.sat_clause.specs.Literal.{IsLiteral};
 ghost use Rattle.sat_clause.specs.Step.{Step, Added, Erased};
 ghost use Rattle.sat_core.specs.Stands.{live_after};
-ghost use Rattle.sat_merge.specs.Leaders.{keeps};
+ghost use Rattle.sat_merge.specs.Representatives.{keeps};
 ghost use Rattle.sat_merge.specs.Moved.{HasPlace, moved_id};
 ghost use Rattle.sat_merge.specs.Moving.{IsMoving};
 
 use crate::hints::HintWriter;
-use crate::leaders::Leaders;
 use crate::places::Places;
+use crate::representatives::Representatives;
 use crate::rewriting::{are_above, log_clause};
 use sat_check::LiveClauses;
 use sat_clause::{Lit, Log, StepView};
@@ -53,7 +53,7 @@ fn mix_ids(places: &Places, ids: &[i64], numbers: &mut Vec<i64>) -> Result<(), A
 /// Adds the clause of a step under its id behind the lemmas, by the same hints, or by others where
 /// one of them has no id there.
 fn add(
-    leaders: &Leaders,
+    representatives: &Representatives,
     places: &Places,
     live: &mut LiveClauses<'_>,
     writer: &mut HintWriter,
@@ -64,16 +64,17 @@ fn add(
     hints: &[i64],
 ) -> Result<bool, AllocError>
     requires literals { All IsLiteral clause.now }
-    requires leaders { length leaders.now ≡ live.old.vars + 1 }
+    requires representatives { length representatives.now ≡ live.old.vars + 1 }
     requires vars { writer.old.vars ≡ live.old.vars }
     ensures live { live.new.vars ≡ live.old.vars }
     ensures vars { writer.new.vars ≡ writer.old.vars }
     ensures moved { IfOk result (λ is. IsTrue is → (formula : Cnf) → (lemmas steps : List Step)
-        → IsMoving (keeps leaders.now) formula places.now lemmas steps live.old log.old.steps
-        → IsMoving (keeps leaders.now) formula places.now lemmas
+        → IsMoving (keeps representatives.now) formula places.now lemmas steps live.old
+        log.old.steps
+        → IsMoving (keeps representatives.now) formula places.now lemmas
         (steps ++ Added id clause.now hints.now ∷ []) live.new log.new.steps) }
 {
-    if id <= places.inputs() || !leaders.are_kept(clause) {
+    if id <= places.inputs() || !representatives.are_kept(clause) {
         return Ok(false);
     }
     let Some(now) = places.behind(id) else {
@@ -84,7 +85,7 @@ fn add(
         return Ok(true);
     }
     mix_ids(places, hints, numbers)?;
-    if !writer.write(leaders, live, clause, numbers)? {
+    if !writer.write(representatives, live, clause, numbers)? {
         return Ok(false);
     }
     log_clause(live, log, now, clause, writer.hints())?;
@@ -126,7 +127,7 @@ fn erase(
 
 /// Takes one more step.
 fn take(
-    leaders: &Leaders,
+    representatives: &Representatives,
     places: &Places,
     live: &mut LiveClauses<'_>,
     writer: &mut HintWriter,
@@ -135,45 +136,54 @@ fn take(
     step: StepView<'_>,
 ) -> Result<bool, AllocError>
     requires literals { All IsLiteral step.lits.now }
-    requires leaders { length leaders.now ≡ live.old.vars + 1 }
+    requires representatives { length representatives.now ≡ live.old.vars + 1 }
     requires vars { writer.old.vars ≡ live.old.vars }
     ensures live { live.new.vars ≡ live.old.vars }
     ensures vars { writer.new.vars ≡ writer.old.vars }
     ensures moved { IfOk result (λ is. IsTrue is → (formula : Cnf) → (lemmas steps : List Step)
-        → IsMoving (keeps leaders.now) formula places.now lemmas steps live.old log.old.steps
-        → IsMoving (keeps leaders.now) formula places.now lemmas (steps ++ step_of step.entry ∷ [])
-        live.new log.new.steps) }
+        → IsMoving (keeps representatives.now) formula places.now lemmas steps live.old
+        log.old.steps
+        → IsMoving (keeps representatives.now) formula places.now lemmas
+        (steps ++ step_of step.entry ∷ []) live.new log.new.steps) }
 {
     if step.erase {
         return erase(places, live, numbers, log, step.id, step.hints);
     }
     add(
-        leaders, places, live, writer, numbers, log, step.id, step.lits, step.hints,
+        representatives,
+        places,
+        live,
+        writer,
+        numbers,
+        log,
+        step.id,
+        step.lits,
+        step.hints,
     )
 }
 
-/// Logs the steps of a search over leaders behind lemmas, under other ids. False where one can't
-/// stand there.
+/// Logs the steps of a search over representatives behind lemmas, under other ids. False where one
+/// can't stand there.
 pub(crate) fn move_steps(
     alloc: Global,
-    leaders: &Leaders,
+    representatives: &Representatives,
     places: &Places,
     live: &mut LiveClauses<'_>,
     writer: &mut HintWriter,
     steps: &Log,
     log: &mut Log,
 ) -> Result<bool, AllocError>
-    requires leaders { length leaders.now ≡ live.old.vars + 1 }
+    requires representatives { length representatives.now ≡ live.old.vars + 1 }
     requires vars { writer.old.vars ≡ live.old.vars }
     ensures { IfOk result (λ is. IsTrue is → (formula : Cnf)
         → Finds (live_at live.old) (live_after formula log.old.steps)
-        → IsMoving (keeps leaders.now) formula places.now log.old.steps steps.now.steps live.new
-        log.new.steps) }
+        → IsMoving (keeps representatives.now) formula places.now log.old.steps steps.now.steps
+        live.new log.new.steps) }
 {
     let mut numbers = Vec::new(alloc);
     for at in 0..steps.len() {
         if !take(
-            leaders,
+            representatives,
             places,
             live,
             writer,

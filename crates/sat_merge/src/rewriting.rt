@@ -1,4 +1,4 @@
-//! The log of a search over leaders, made to one over the formula.
+//! The log of a search over representatives, made to one over the formula.
 
 ghost use Rattle.std.specs.Prelude.{◌≡◌, ◌+◌, ◌∷◌, ◌++◌, [], Bool, IfOk, IsTrue, OnOk, All, List, length};
 ghost use Rattle.sat_check.specs.Finder.{Finds};
@@ -9,12 +9,12 @@ ghost use Rattle.sat_clause.specs.Literal.{IsLiteral, IsWithin};
 ghost use Rattle.sat_clause.specs.Live.{Live, put as put_in};
 ghost use Rattle.sat_clause.specs.Step.{Step, Added, Erased};
 ghost use Rattle.sat_core.specs.Stands.{IsAbove};
-ghost use Rattle.sat_merge.specs.Leaders.{keeps};
+ghost use Rattle.sat_merge.specs.Representatives.{keeps};
 ghost use Rattle.sat_merge.specs.Rewriting.{IsRewriting};
 ghost use Rattle.sat_merge.specs.Rewritten.{IsRewritten};
 
 use crate::hints::HintWriter;
-use crate::leaders::Leaders;
+use crate::representatives::Representatives;
 use sat_check::LiveClauses;
 use sat_clause::{Formula, Lit, Log, StepView};
 use std::alloc::{AllocError, Global};
@@ -62,7 +62,7 @@ pub(crate) fn log_clause(
 
 /// Adds a clause to the log and to what is live, with hints over the formula, if they justify it.
 fn add(
-    leaders: &Leaders,
+    representatives: &Representatives,
     live: &mut LiveClauses<'_>,
     writer: &mut HintWriter,
     log: &mut Log,
@@ -71,19 +71,19 @@ fn add(
     hints: &[i64],
 ) -> Result<bool, AllocError>
     requires literals { All IsLiteral clause.now }
-    requires leaders { length leaders.now ≡ live.old.vars + 1 }
+    requires representatives { length representatives.now ≡ live.old.vars + 1 }
     requires vars { writer.old.vars ≡ live.old.vars }
     ensures live { live.new.vars ≡ live.old.vars }
     ensures vars { writer.new.vars ≡ writer.old.vars }
     ensures added { IfOk result (λ is. IsTrue is → (formula : Cnf) → (steps : List Step)
-        → IsRewriting (keeps leaders.now) formula steps live.old log.old.steps
-        → IsRewriting (keeps leaders.now) formula
+        → IsRewriting (keeps representatives.now) formula steps live.old log.old.steps
+        → IsRewriting (keeps representatives.now) formula
         (steps ++ Added id clause.now hints.now ∷ []) live.new log.new.steps) }
 {
-    if !leaders.are_kept(clause) {
+    if !representatives.are_kept(clause) {
         return Ok(false);
     }
-    if !writer.write(leaders, live, clause, hints)? {
+    if !writer.write(representatives, live, clause, hints)? {
         return Ok(false);
     }
     log_clause(live, log, id, clause, writer.hints())?;
@@ -115,9 +115,9 @@ fn erase(
     Ok(true)
 }
 
-/// Takes one more step of the log of the search over leaders.
+/// Takes one more step of the log of the search over representatives.
 fn take(
-    leaders: &Leaders,
+    representatives: &Representatives,
     live: &mut LiveClauses<'_>,
     writer: &mut HintWriter,
     log: &mut Log,
@@ -125,41 +125,49 @@ fn take(
     step: StepView<'_>,
 ) -> Result<bool, AllocError>
     requires literals { All IsLiteral step.lits.now }
-    requires leaders { length leaders.now ≡ live.old.vars + 1 }
+    requires representatives { length representatives.now ≡ live.old.vars + 1 }
     requires vars { writer.old.vars ≡ live.old.vars }
     ensures live { live.new.vars ≡ live.old.vars }
     ensures vars { writer.new.vars ≡ writer.old.vars }
     ensures taken { IfOk result (λ is. IsTrue is → (formula : Cnf) → (steps : List Step)
         → length formula.clauses ≡ inputs
-        → IsRewriting (keeps leaders.now) formula steps live.old log.old.steps
-        → IsRewriting (keeps leaders.now) formula (steps ++ step_of step.entry ∷ []) live.new
-        log.new.steps) }
+        → IsRewriting (keeps representatives.now) formula steps live.old log.old.steps
+        → IsRewriting (keeps representatives.now) formula (steps ++ step_of step.entry ∷ [])
+        live.new log.new.steps) }
 {
     if step.erase {
         return erase(live, log, inputs, step.id, step.hints);
     }
-    add(leaders, live, writer, log, step.id, step.lits, step.hints)
+    add(
+        representatives,
+        live,
+        writer,
+        log,
+        step.id,
+        step.lits,
+        step.hints,
+    )
 }
 
-/// Makes the log of a search over leaders one over the formula: the same steps with other hints,
-/// each of which is judged. The log has no step before.
+/// Makes the log of a search over representatives one over the formula: the same steps with other
+/// hints, each of which is judged. The log has no step before.
 pub(crate) fn rewrite(
     alloc: Global,
     formula: &Formula,
-    leaders: &Leaders,
+    representatives: &Representatives,
     steps: &Log,
     log: &mut Log,
 ) -> Result<bool, AllocError>
     requires fresh { log.old.steps ≡ [] }
-    requires leaders { length leaders.now ≡ formula.now.cnf.vars + 1 }
+    requires representatives { length representatives.now ≡ formula.now.cnf.vars + 1 }
     ensures { IfOk result (λ is. IsTrue is
-        → IsRewritten (keeps leaders.now) formula.now.cnf steps.now.steps log.new.steps) }
+        → IsRewritten (keeps representatives.now) formula.now.cnf steps.now.steps log.new.steps) }
 {
     let mut live = LiveClauses::inputs(alloc, formula)?;
     let mut writer = HintWriter::new(alloc, formula.vars())?;
     for at in 0..steps.len() {
         if !take(
-            leaders,
+            representatives,
             &mut live,
             &mut writer,
             log,

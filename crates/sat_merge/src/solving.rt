@@ -8,32 +8,32 @@ ghost use Rattle.sat_core.specs.declared.answer.Answer.TheVariants.{Model, Refut
 ghost use Rattle.sat_core.specs.Answer.{IsAnswer, IsDecided, most_added};
 ghost use Rattle.sat_core.specs.SearchLog.{IsSearchLog};
 ghost use Rattle.sat_core.specs.Underway.{HasSearched};
-ghost use Rattle.sat_merge.specs.Leaders.{keeps};
+ghost use Rattle.sat_merge.specs.Representatives.{keeps};
 ghost use Rattle.sat_merge.specs.Rewritten.{IsMerged};
 
-use crate::leaders::Leaders;
 use crate::lemmas::rewrite_refutation;
 use crate::merged::merged;
+use crate::representatives::Representatives;
 use crate::rewriting::rewrite;
 use sat_clause::{Formula, ID_LIMIT, Log, holds};
 use sat_core::{Answer, Habits, solve};
 use std::alloc::{AllocError, Global};
 
-/// The values of all variables: those of their leaders.
+/// The values of all variables: those of their representatives.
 fn spread(
     alloc: Global,
     formula: &Formula,
-    leaders: &Leaders,
+    representatives: &Representatives,
     values: &[bool],
 ) -> Result<Vec<bool>, AllocError>
-    requires leaders { length leaders.now ≡ formula.now.cnf.vars + 1 }
+    requires representatives { length representatives.now ≡ formula.now.cnf.vars + 1 }
     requires values { length values.now ≡ formula.now.cnf.vars }
     ensures { IfOk result (λ all. length all.items ≡ formula.now.cnf.vars) }
 {
     let mut all = Vec::new(alloc);
     for at in 0..formula.vars() {
-        let value = match leaders.leader(at + 1) {
-            Some(leader) => values[leader as usize - 1],
+        let value = match representatives.representative(at + 1) {
+            Some(representative) => values[representative as usize - 1],
             None => false,
         };
         all.push(value)?;
@@ -41,39 +41,40 @@ fn spread(
     Ok(all)
 }
 
-/// The answer that values of the leaders are. `None` says that they do not serve for the formula.
+/// The answer that values of the representatives are. `None` says that they do not serve for the
+/// formula.
 fn try_values(
     alloc: Global,
     formula: &Formula,
-    leaders: &Leaders,
+    representatives: &Representatives,
     values: &[bool],
 ) -> Result<Option<Answer>, AllocError>
-    requires leaders { length leaders.now ≡ formula.now.cnf.vars + 1 }
+    requires representatives { length representatives.now ≡ formula.now.cnf.vars + 1 }
     requires values { length values.now ≡ formula.now.cnf.vars }
     ensures searched { IfOk result (λ found. IfSome found (λ answer. (budget : ℕ) → (keep : Bool)
         → HasSearched formula.now.cnf budget keep [] (Ok answer))) }
     ensures decided { IfOk result (λ found. IfSome found IsDecided) }
 {
-    let all = spread(alloc, formula, leaders, values)?;
+    let all = spread(alloc, formula, representatives, values)?;
     if !holds(&all, formula) {
         return Ok(None);
     }
     Ok(Some(Answer::Model(all)))
 }
 
-/// Makes the log of a search over the leaders that refuted their clauses one over the formula, with
-/// lemmas; false where it has no such form, and the log is as it was.
+/// Makes the log of a search over the representatives that refuted their clauses one over the
+/// formula, with lemmas; false where it has no such form, and the log is as it was.
 fn take_refutation(
     alloc: Global,
     formula: &Formula,
-    leaders: &Leaders,
+    representatives: &Representatives,
     merged: &Formula,
     steps: &Log,
     budget: u64,
     log: &mut Log,
 ) -> Result<bool, AllocError>
-    requires leaders { length leaders.now ≡ formula.now.cnf.vars + 1 }
-    requires merged { IsMerged (keeps leaders.now) formula.now.cnf merged.now.cnf }
+    requires representatives { length representatives.now ≡ formula.now.cnf.vars + 1 }
+    requires merged { IsMerged (keeps representatives.now) formula.now.cnf merged.now.cnf }
     ensures searched { IfOk result (λ is. IsTrue is → (keep : Bool)
         → HasSearched merged.now.cnf budget keep steps.now.steps (Ok Refuted)
         → HasSearched formula.now.cnf budget keep log.new.steps (Ok Refuted)) }
@@ -84,7 +85,7 @@ fn take_refutation(
         alloc,
         formula,
         merged,
-        leaders,
+        representatives,
         steps,
         budget,
         &mut refutation,
@@ -95,71 +96,71 @@ fn take_refutation(
     Ok(true)
 }
 
-/// The answer for the formula where the clauses of the leaders are refuted. `None` says that the log
-/// has no form over it.
+/// The answer for the formula where the clauses of the representatives are refuted. `None` says
+/// that the log has no form over it.
 fn take_refuted(
     alloc: Global,
     formula: &Formula,
-    leaders: &Leaders,
+    representatives: &Representatives,
     merged: &Formula,
     steps: &Log,
     budget: u64,
     log: &mut Log,
 ) -> Result<Option<Answer>, AllocError>
-    requires leaders { length leaders.now ≡ formula.now.cnf.vars + 1 }
-    requires merged { IsMerged (keeps leaders.now) formula.now.cnf merged.now.cnf }
+    requires representatives { length representatives.now ≡ formula.now.cnf.vars + 1 }
+    requires merged { IsMerged (keeps representatives.now) formula.now.cnf merged.now.cnf }
     requires fresh { log.old.steps ≡ [] }
     ensures searched { IfOk result (λ found. IfSome found (λ now. (keep : Bool)
         → HasSearched merged.now.cnf budget keep steps.now.steps (Ok Refuted)
         → HasSearched formula.now.cnf budget keep log.new.steps (Ok now))) }
     ensures decided { IfOk result (λ found. IfSome found IsDecided) }
 {
-    if take_refutation(alloc, formula, leaders, merged, steps, budget, log)? {
+    if take_refutation(alloc, formula, representatives, merged, steps, budget, log)? {
         return Ok(Some(Answer::Refuted));
     }
-    if !rewrite(alloc, formula, leaders, steps, log)? {
+    if !rewrite(alloc, formula, representatives, steps, log)? {
         return Ok(None);
     }
     Ok(Some(Answer::Refuted))
 }
 
-/// The answer for the formula where the search over the leaders was left open. `None` says that the
-/// log has no form over it.
+/// The answer for the formula where the search over the representatives was left open. `None` says
+/// that the log has no form over it.
 fn take_spent(
     alloc: Global,
     formula: &Formula,
-    leaders: &Leaders,
+    representatives: &Representatives,
     steps: &Log,
     log: &mut Log,
 ) -> Result<Option<Answer>, AllocError>
-    requires leaders { length leaders.now ≡ formula.now.cnf.vars + 1 }
+    requires representatives { length representatives.now ≡ formula.now.cnf.vars + 1 }
     requires fresh { log.old.steps ≡ [] }
     ensures searched { IfOk result (λ found. IfSome found (λ now. (merged : Cnf) → (budget : ℕ)
-        → (keep : Bool) → IsMerged (keeps leaders.now) formula.now.cnf merged
+        → (keep : Bool) → IsMerged (keeps representatives.now) formula.now.cnf merged
         → HasSearched merged budget keep steps.now.steps (Ok Spent)
         → HasSearched formula.now.cnf budget keep log.new.steps (Ok now))) }
     ensures decided { IfOk result (λ found. IfSome found (λ now. IsDecided Spent → IsDecided now)) }
 {
-    if !rewrite(alloc, formula, leaders, steps, log)? {
+    if !rewrite(alloc, formula, representatives, steps, log)? {
         return Ok(None);
     }
     Ok(Some(Answer::Spent))
 }
 
-/// The answer for the formula where one for the leaders is this. `None` says that its values do not
-/// serve for the formula, or its log has no form over it.
+/// The answer for the formula where one for the representatives is this. `None` says that its
+/// values do not serve for the formula, or its log has no form over it.
 fn take_answer(
     alloc: Global,
     formula: &Formula,
-    leaders: &Leaders,
+    representatives: &Representatives,
     merged: &Formula,
     steps: &Log,
     answer: Answer,
     budget: u64,
     log: &mut Log,
 ) -> Result<Option<Answer>, AllocError>
-    requires leaders { length leaders.now ≡ formula.now.cnf.vars + 1 }
-    requires merged { IsMerged (keeps leaders.now) formula.now.cnf merged.now.cnf }
+    requires representatives { length representatives.now ≡ formula.now.cnf.vars + 1 }
+    requires merged { IsMerged (keeps representatives.now) formula.now.cnf merged.now.cnf }
     requires values { (values : Vec Bool Global) → answer ≡ Model values
         → length values.items ≡ formula.now.cnf.vars }
     requires fresh { log.old.steps ≡ [] }
@@ -170,26 +171,34 @@ fn take_answer(
         IsDecided answer → IsDecided now)) }
 {
     match answer {
-        Answer::Model(values) => try_values(alloc, formula, leaders, &values),
-        Answer::Refuted => take_refuted(alloc, formula, leaders, merged, steps, budget, log),
-        Answer::Spent => take_spent(alloc, formula, leaders, steps, log),
+        Answer::Model(values) => try_values(alloc, formula, representatives, &values),
+        Answer::Refuted => take_refuted(
+            alloc,
+            formula,
+            representatives,
+            merged,
+            steps,
+            budget,
+            log,
+        ),
+        Answer::Spent => take_spent(alloc, formula, representatives, steps, log),
     }
 }
 
-/// What a search over the leaders comes to, with a log over the formula. `None` says that it does
-/// not serve for that.
-fn search_leaders(
+/// What a search over the representatives comes to, with a log over the formula. `None` says that
+/// it does not serve for that.
+fn search_representatives(
     alloc: Global,
     formula: &Formula,
-    leaders: &Leaders,
+    representatives: &Representatives,
     merged: &Formula,
     habits: Habits,
     budget: u64,
     keep: bool,
     log: &mut Log,
 ) -> Result<Option<Answer>, AllocError>
-    requires leaders { length leaders.now ≡ formula.now.cnf.vars + 1 }
-    requires merged { IsMerged (keeps leaders.now) formula.now.cnf merged.now.cnf }
+    requires representatives { length representatives.now ≡ formula.now.cnf.vars + 1 }
+    requires merged { IsMerged (keeps representatives.now) formula.now.cnf merged.now.cnf }
     requires budget { 1 ≤ budget }
     requires ids { length formula.now.cnf.clauses + budget ≤ ID_LIMIT }
     requires fresh { log.old.steps ≡ [] }
@@ -202,11 +211,21 @@ fn search_leaders(
     let Ok(answer) = solve(alloc, merged, habits, budget, keep, &mut steps) else {
         return Err(AllocError);
     };
-    take_answer(alloc, formula, leaders, merged, &steps, answer, budget, log)
+    take_answer(
+        alloc,
+        formula,
+        representatives,
+        merged,
+        &steps,
+        answer,
+        budget,
+        log,
+    )
 }
 
 /// The same search, where most variables follow from others. `None` says that they do not, or some
-/// clause has no form over the leaders, or the answer does not serve; the log has no step then.
+/// clause has no form over the representatives, or the answer does not serve; the log has no step
+/// then.
 fn search_most(
     alloc: Global,
     formula: &Formula,
@@ -225,16 +244,23 @@ fn search_most(
     ensures none { IfOk result (λ found. IsNone found → log.new.steps ≡ []) }
     ensures err { OnErr result (log.new.steps ≡ []) }
 {
-    let leaders = Leaders::of(alloc, formula)?;
-    if !leaders.are_most() {
+    let representatives = Representatives::of(alloc, formula)?;
+    if !representatives.are_most() {
         return Ok(None);
     }
-    let Some(merged) = merged(alloc, formula, &leaders)? else {
+    let Some(merged) = merged(alloc, formula, &representatives)? else {
         return Ok(None);
     };
     let mut tried = Log::new(alloc);
-    let found = search_leaders(
-        alloc, formula, &leaders, &merged, habits, budget, keep, &mut tried,
+    let found = search_representatives(
+        alloc,
+        formula,
+        &representatives,
+        &merged,
+        habits,
+        budget,
+        keep,
+        &mut tried,
     )?;
     let Some(answer) = found else {
         return Ok(None);
@@ -250,17 +276,17 @@ fn search_most(
 /// follow from the ones of its first wire, it searches over those others alone, with the clauses of
 /// the rest made to clauses of theirs. The log is then made one over the formula: the same steps,
 /// whose hints lead through the clauses of two literals, each judged before it is added. Where the
-/// clauses are refuted, lemmas come before these steps, if the budget has room for them: each merged
-/// clause that is a hint twice or more, with the way to it. Values are tried on the formula. Where
-/// that fails, or some clause has no form over the others, the search is one through the formula
-/// itself, with habits of its own.
+/// clauses are refuted, lemmas come before these steps, if the budget has room for them: each
+/// merged clause that is a hint twice or more, with the way to it. Values are tried on the formula.
+/// Where that fails, or some clause has no form over the others, the search is one through the
+/// formula itself, with habits of its own.
 ///
 /// # Errors
 /// Where memory is short. What the log has by then still follows.
 pub fn solve_merged(
     alloc: Global,
     formula: &Formula,
-    over_leaders: Habits,
+    over_representatives: Habits,
     straight: Habits,
     budget: u64,
     keep: bool,
@@ -275,7 +301,7 @@ pub fn solve_merged(
     ensures kept { IsTrue keep → deletions log.new.steps ≡ 0 }
     ensures decided { most_added keep formula.now.cnf.vars ≤ budget → IfOk result IsDecided }
 {
-    let Ok(found) = search_most(alloc, formula, over_leaders, budget, keep, log) else {
+    let Ok(found) = search_most(alloc, formula, over_representatives, budget, keep, log) else {
         return Err(AllocError);
     };
     if let Some(answer) = found {

@@ -7,12 +7,12 @@ use Rattle.sat_arena.specs.Store.{Stored, is_held, stored_at}
 use Rattle.sat_watch.specs.declared.entry.TrailEntry.{TrailEntry}
 use Rattle.sat_watch.specs.Trail.{IsOnce}
 use Rattle.sat_watch.specs.Chains.{watch_of}
-use Rattle.sat_watch.specs.Levels.{AreLeveled, IsDueAt, IsLeveledBy, IsWatchStore, IsWatched}
+use Rattle.sat_watch.specs.Levels.{AreLeveled, IsPendingAt, IsLeveledBy, IsWatchStore, IsWatched}
 use Rattle.sat_watch.specs.Watched.{IsReason, is_false, other_of, true_at}
 use Rattle.sat_watch.proofs.AttachLemmas.{held_push_other, push_other, push_same}
 use Rattle.sat_watch.proofs.LevelLemmas.{drop_true, not_both, true_is_false}
 use Rattle.sat_arena.proofs.StoreLaws.{same_or_other}
-use Rattle.sat_watch.proofs.SettledLemmas.{drop_level}
+use Rattle.sat_watch.proofs.PropagatedLemmas.{drop_level}
 use Rattle.sat_clause.proofs.LiteralLaws.{negation-negation}
 use Rattle.sat_watch.proofs.TrailLemmas.{never}
 
@@ -56,7 +56,7 @@ module _ (ks : List Stored) (k : Stored) (fresh : is_held ks k.place ≡ false) 
         few = h.few;
         leveled = leveled_push level entries h.leveled;
         current = h.current;
-        due_is = tt;
+        pending_is = tt;
         watched = λ c held ne. elim (same_or_other c k.place) [
           | inl same ↦ subst (λ r. IsWatched (drop q entries) entries
               (stored_at (ks ++ k ∷ []) r).lits) (sym same.1)
@@ -66,16 +66,16 @@ module _ (ks : List Stored) (k : Stored) (fresh : is_held ks k.place ≡ false) 
         ];
       }
 
-      -- a clause that is due is attached
-      pub store_due : is_held (ks ++ k ∷ []) k.place ≡ true → IsDueAt entries level k.lits →
+      -- a clause that is pending is attached
+      pub store_pending : is_held (ks ++ k ∷ []) k.place ≡ true → IsPendingAt entries level k.lits →
           IsWatchStore (ks ++ k ∷ []) entries q level (Some k.place)
-      store_due held d = record {
+      store_pending held d = record {
         few = h.few;
         leveled = leveled_push level entries h.leveled;
         current = h.current;
-        due_is = (
+        pending_is = (
           held,
-          subst (λ (x : Stored). IsDueAt entries level x.lits) (sym (push_same ks k fresh))
+          subst (λ (x : Stored). IsPendingAt entries level x.lits) (sym (push_same ks k fresh))
               d,
         );
         watched = λ c c_held ne. elim (same_or_other c k.place) [
@@ -143,7 +143,7 @@ pub one_open : (entries : List TrailEntry) (level : ℕ) (a : Lit) (ls : Clause)
     All (λ m. is_false entries m ≡ true) ls →
     ((b : Lit) → watch_of (a ∷ ls) 1 ≡ Some b → true_at entries (negation b) ≡ Some level) →
     (ls ≡ [] → level ≡ 0) →
-    IsDueAt entries level (a ∷ ls)
+    IsPendingAt entries level (a ∷ ls)
 one_open entries level a ls not_true not_false others second alone = record {
   some = λ e. cc;
   alone = λ x is. alone cc;

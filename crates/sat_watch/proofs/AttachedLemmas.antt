@@ -12,12 +12,12 @@ use Rattle.sat_arena.specs.Store.{Stored, is_held, size_all}
 use Rattle.sat_watch.specs.declared.entry.TrailEntry.{TrailEntry}
 use Rattle.sat_watch.specs.Chains.{AreChained, ChainsState, lit_at, watch_of}
 use Rattle.sat_watch.specs.Choice.{FreeSays, IsAhead, IsAttachedAs, IsTrueAt}
-use Rattle.sat_watch.specs.Levels.{IsDueAt, IsWatchStore, IsWatched}
+use Rattle.sat_watch.specs.Levels.{IsPendingAt, IsWatchStore, IsWatched}
 use Rattle.sat_watch.specs.Trail.{IsOnce, TrailState}
 use Rattle.sat_watch.specs.Watched.{AreWhole, is_false, true_at}
 use Rattle.sat_watch.specs.Watches.{Attached, Attaches, HasOneOpen, HasOneTrue, HasTwoFree, IsOnlyOne, IsWatches, MayAttach, WatchState, attached, highest, watch_state, words_in}
 use Rattle.sat_arena.proofs.StoreLaws.{push_held}
-use Rattle.sat_watch.proofs.AttachStoreLemmas.{one_open, one_true, store_attached, store_due, two_free, unit_true}
+use Rattle.sat_watch.proofs.AttachStoreLemmas.{one_open, one_true, store_attached, store_pending, two_free, unit_true}
 use Rattle.sat_watch.proofs.ChoiceLemmas.{at_contains, contained_at, free_level, other_at, single_highest}
 use Rattle.sat_watch.proofs.FewLemmas.{simple_few}
 use Rattle.sat_watch.proofs.LevelLemmas.{true_is_false, true_level}
@@ -46,14 +46,14 @@ true_watched n q entries (x ∷ y ∷ ls) m high simple once some is le second a
     one_true q entries x y ls m high (simple.within 0 x (omega arith)).0 once is
     (second (omega arith)) le
 
-due_watched : (n : ℕ) (entries : List TrailEntry) (level : ℕ) (order : Clause) → IsSimple n order →
-    1 ≤ length order → true_at entries (lit_at order 0) ≡ None →
+pending_watched : (n : ℕ) (entries : List TrailEntry) (level : ℕ) (order : Clause) →
+    IsSimple n order → 1 ≤ length order → true_at entries (lit_at order 0) ≡ None →
     true_at entries (negation (lit_at order 0)) ≡ None →
     ((m : Lit) → Contains order m → m ≢ lit_at order 0 → is_false entries m ≡ true) →
     (2 ≤ length order → true_at entries (negation (lit_at order 1)) ≡ Some level) →
-    (length order < 2 → level ≡ 0) → IsDueAt entries level order
-due_watched n entries level [] simple some nt nf others second alone = absurd (omega arith)
-due_watched n entries level (x ∷ ls) simple some nt nf others second alone =
+    (length order < 2 → level ≡ 0) → IsPendingAt entries level order
+pending_watched n entries level [] simple some nt nf others second alone = absurd (omega arith)
+pending_watched n entries level (x ∷ ls) simple some nt nf others second alone =
     one_open entries level x ls nt nf
     (λ k d lk. others (slice_index_or ls k d)
     (suc k, omega arith, default_free ls k (slice_index_or ls k d) d lk)
@@ -76,9 +76,10 @@ words_same (k ∷ ks) = ap (λ n. length k.lits + 6 + n) (words_same ks)
 module _ {c c' : ChainsState} {lits : Clause} {id i j : ℕ} {r : ClauseRef} (t : TrailState)
     (q level : ℕ) (a : IsAhead c c' lits id i j r) where
   -- what contracts see of it
-  pub added_state : {now due' : Option ClauseRef} (due : Option ClauseRef) → now ≡ due' →
-      IsAttachedAs (watch_state c t q level due) (watch_state c' t q level now) lits id due' r
-  added_state due is_due = record {
+  pub added_state : {now pending' : Option ClauseRef} (pending : Option ClauseRef) →
+      now ≡ pending' → IsAttachedAs (watch_state c t q level pending)
+      (watch_state c' t q level now) lits id pending' r
+  added_state pending is_pending = record {
     place = ap (λ (x : ClauseRef). x.word) a.added.place ∙ words_same c.clauses;
     order = a.order;
     same = a.same;
@@ -90,7 +91,7 @@ module _ {c c' : ChainsState} {lits : Clause} {id i j : ℕ} {r : ClauseRef} (t 
               t.entries;
           queued = q;
           level = level;
-          due = is_due x;
+          pending = is_pending x;
         };
   }
     where
@@ -112,8 +113,8 @@ module _ {c c' : ChainsState} {lits : Clause} {id i j : ℕ} {r : ClauseRef} (t 
   fresh : is_held c.clauses a.added.clause.place ≡ false
   fresh = subst (λ x. is_held c.clauses x ≡ false) (sym a.added.last.place) a.added.last.fresh
 
-  module _ {due : Option ClauseRef} (chained : AreChained c') (given : IsWatches c t q level due)
-      (none : due ≡ None) where
+  module _ {pending : Option ClauseRef} (chained : AreChained c')
+      (given : IsWatches c t q level pending) (none : pending ≡ None) where
     h : IsWatches c t q level None
     h = subst (IsWatches c t q level) none given
 
@@ -124,7 +125,7 @@ module _ {c c' : ChainsState} {lits : Clause} {id i j : ℕ} {r : ClauseRef} (t 
       trail = h.whole.trail;
     }
 
-    left_alone : IsWatched (drop q t.entries) t.entries a.order → IsWatches c' t q level due
+    left_alone : IsWatched (drop q t.entries) t.entries a.order → IsWatches c' t q level pending
     left_alone w = subst (IsWatches c' t q level) (sym none) (record {
       whole = whole_now;
       store = subst (λ ks. IsWatchStore ks t.entries q level None) (sym a.added.last.is)
@@ -133,7 +134,7 @@ module _ {c c' : ChainsState} {lits : Clause} {id i j : ℕ} {r : ClauseRef} (t 
     })
 
     pub free_watches : 2 ≤ length lits → is_false t.entries (lit_at lits i) ≡ false →
-        is_false t.entries (lit_at lits j) ≡ false → IsWatches c' t q level due
+        is_false t.entries (lit_at lits j) ≡ false → IsWatches c' t q level pending
     free_watches two free_i free_j =
         left_alone (free_watched q t.entries a.order (omega (arith, long))
         (subst (λ l. is_false t.entries l ≡ false) (sym a.first) free_i)
@@ -142,7 +143,7 @@ module _ {c c' : ChainsState} {lits : Clause} {id i j : ℕ} {r : ClauseRef} (t 
     pub true_watches : i < length lits →
         is_false t.entries (lit_at lits i) ≡ false → IsTrueAt t.entries lits i →
         (2 ≤ length lits → true_at t.entries (negation (lit_at lits j)) ≡ Some
-        (highest t.entries lits)) → IsWatches c' t q level due
+        (highest t.entries lits)) → IsWatches c' t q level pending
     true_watches li free is second =
         left_alone (true_watched c.vars q t.entries a.order is.0 (highest t.entries lits) a.simple
         h.whole.trail.once (omega (arith, long))
@@ -152,13 +153,13 @@ module _ {c c' : ChainsState} {lits : Clause} {id i j : ℕ} {r : ClauseRef} (t 
         (sym (a.second two')) (second two'))
         (λ one. single_highest t.entries lits i (omega (arith, long)) li free))
 
-    pub due_watches : i < length lits → IsOnlyOne t.entries lits (lit_at lits i) →
+    pub pending_watches : i < length lits → IsOnlyOne t.entries lits (lit_at lits i) →
         true_at t.entries (lit_at lits i) ≡ None → level ≡ highest t.entries lits →
         (2 ≤ length lits → true_at t.entries (negation (lit_at lits j)) ≡ Some
         (highest t.entries lits)) → IsWatches c' t q level (Some r)
-    due_watches li only is at second =
-        let due_now : IsDueAt t.entries level a.order =
-        due_watched c.vars t.entries level a.order a.simple (omega (arith, long))
+    pending_watches li only is at second =
+        let pending_now : IsPendingAt t.entries level a.order =
+        pending_watched c.vars t.entries level a.order a.simple (omega (arith, long))
         (subst (λ l. true_at t.entries l ≡ None) (sym a.first) is)
         (subst (λ l. true_at t.entries (negation l) ≡ None) (sym a.first)
         (free_level t.entries (lit_at lits i) only.1))
@@ -174,9 +175,9 @@ module _ {c c' : ChainsState} {lits : Clause} {id i j : ℕ} {r : ClauseRef} (t 
           store =
               subst (λ (p : List Stored × ClauseRef). IsWatchStore p.0 t.entries q level (Some p.1))
               (λ x. (sym a.added.last.is x, a.added.last.place x))
-              (store_due c.clauses a.added.clause fresh t.entries q level h.store
+              (store_pending c.clauses a.added.clause fresh t.entries q level h.store
               (push_held c.clauses a.added.clause)
-              (subst (λ ls. IsDueAt t.entries level ls) (sym a.added.lits) due_now));
+              (subst (λ ls. IsPendingAt t.entries level ls) (sym a.added.lits) pending_now));
         }
 
 -- the first literal that is not false stands at this position
@@ -307,33 +308,33 @@ module _ {s : WatchState} {lits : Clause} {i : ℕ} (first : HasFree s lits i) w
     open_alone not_true other =
         elim other [ inl two ↦ not_two two | inr is ↦ open_not_true not_true is ]
 
--- the clause is due in the third case, and not in the first two
-module _ {old new : WatchState} {lits : Clause} {id : ℕ} {due : Option ClauseRef} {c : ClauseRef}
-    (a : IsAttachedAs old new lits id due c) where
-  due_is : new.due ≡ due
-  due_is = ap (λ (s : WatchState). s.due) a.is
+-- the clause is pending in the third case, and not in the first two
+module _ {old new : WatchState} {lits : Clause} {id : ℕ} {pending : Option ClauseRef}
+    {c : ClauseRef} (a : IsAttachedAs old new lits id pending c) where
+  pending_is : new.pending ≡ pending
+  pending_is = ap (λ (s : WatchState). s.pending) a.is
 
-  pub attaches : (HasOneOpen old.trail old.level lits → due ≡ Some c) →
-      (HasTwoFree old.trail lits ⊎ HasOneTrue old.trail lits → due ≡ None) →
+  pub attaches : (HasOneOpen old.trail old.level lits → pending ≡ Some c) →
+      (HasTwoFree old.trail lits ⊎ HasOneTrue old.trail lits → pending ≡ None) →
       Attaches old new lits id c
-  attaches open_due other_not = record {
+  attaches open_pending other_not = record {
     place = a.place;
     order = a.order;
     same = a.same;
     is =
         a.is ∙ (λ x. record old {
           clauses = old.clauses ++ record { place = c; id = id; lits = a.order } ∷ [];
-          due =
-              sym due_is x;
+          pending =
+              sym pending_is x;
         });
-    due = λ h. due_is ∙ open_due h;
-    not_due = λ h. due_is ∙ other_not h;
+    pending = λ h. pending_is ∙ open_pending h;
+    not_pending = λ h. pending_is ∙ other_not h;
   }
 
 -- a clause of the watches' variables has not too many literals
-module _ {c : ChainsState} {t : TrailState} {q level : ℕ} {due : Option ClauseRef}
+module _ {c : ChainsState} {t : TrailState} {q level : ℕ} {pending : Option ClauseRef}
     {s : WatchState} {lits : Clause} where
-  pub few_lits : IsWatches c t q level due → watch_state c t q level due ≡ s →
+  pub few_lits : IsWatches c t q level pending → watch_state c t q level pending ≡ s →
       IsSimple s.vars lits → length lits ≤ LITERAL_LIMIT
   few_lits h view simple =
       let few = simple_few c.vars lits (subst (λ (x : WatchState). IsSimple x.vars lits) (sym view)

@@ -1,4 +1,4 @@
--- What the watches know after a way back, and that each level is settled.
+-- What the watches know after a way back, and that each level is propagated.
 use Rattle.std.proofs.Common.{◌≡◌, ◌≢◌, ℕ, zero, suc, ◌<◌, ◌≤◌, true, false, ◌⊎◌, inl, inr, List, [], ◌∷◌, length, drop, slice_index_or, Option, None, Some, refl, sym, ap, ◌∙◌, subst, arith}
 use Rattle.std.specs.Prelude.{nat_le}
 use Rattle.std.proofs.lemmas.Bool.Decides.{leb_tells}
@@ -12,13 +12,13 @@ use Rattle.sat_arena.specs.Store.{Stored, is_held, stored_at}
 use Rattle.sat_watch.specs.declared.entry.TrailEntry.{TrailEntry}
 use Rattle.sat_watch.specs.Trail.{AreWithin, IsOnce, IsOpen, IsTrail, TrailState, falses, lits_of}
 use Rattle.sat_watch.specs.Chains.{watch_of}
-use Rattle.sat_watch.specs.Levels.{AreLeveled, IsDueAt, IsLeveledBy, IsWatchStore, IsWatched, MayBeDue, upto}
+use Rattle.sat_watch.specs.Levels.{AreLeveled, IsPendingAt, IsLeveledBy, IsWatchStore, IsWatched, MayBePending, upto}
 use Rattle.sat_watch.specs.Trail.{fallen}
 use Rattle.sat_clause.specs.Settled.{IsQuiet}
 use Rattle.sat_watch.specs.Watched.{true_at}
 use Rattle.sat_watch.proofs.LevelLemmas.{true_stays}
 use Rattle.sat_arena.proofs.StoreLaws.{same_or_other}
-use Rattle.sat_watch.proofs.SettledLemmas.{watched_is_quiet}
+use Rattle.sat_watch.proofs.PropagatedLemmas.{watched_is_quiet}
 use Rattle.sat_watch.proofs.WatchLemmas.{lit_tells}
 
 le_tells : (a b : ℕ) → ((nat_le a b ≡ true) × (a ≤ b)) ⊎ ((nat_le a b ≡ false) × (b < a))
@@ -130,9 +130,9 @@ taken_true (suc q) j (e ∷ older) l n above le few is = elim (lit_tells e.lit l
       (rw other.0 at is)
 ]
 
-module _ (ks : List Stored) (entries : List TrailEntry) (q level : ℕ) (due : Option ClauseRef)
+module _ (ks : List Stored) (entries : List TrailEntry) (q level : ℕ) (pending : Option ClauseRef)
     (j : ℕ)
-    (h : IsWatchStore ks entries q level due) (once : IsOnce entries) (lower : j < level) where
+    (h : IsWatchStore ks entries q level pending) (once : IsOnce entries) (lower : j < level) where
   watched_back : (lits : Clause) → IsWatched (drop q entries) entries lits →
       IsWatched (upto j entries) (upto j entries) lits
   watched_back lits w = record {
@@ -147,9 +147,9 @@ module _ (ks : List Stored) (entries : List TrailEntry) (q level : ℕ) (due : O
         (g.0, upto_true j entries o g.0 g.1 (omega arith), g.2);
   }
 
-  due_back : (lits : Clause) → IsDueAt entries level lits →
+  pending_back : (lits : Clause) → IsPendingAt entries level lits →
       IsWatched (upto j entries) (upto j entries) lits
-  due_back lits d = record {
+  pending_back lits d = record {
     some = d.some;
     alone = λ a is. let at_zero = d.alone a is in absurd (omega arith);
     guarded = λ v l o n lt at at_o is.
@@ -172,37 +172,37 @@ module _ (ks : List Stored) (entries : List TrailEntry) (q level : ℕ) (due : O
     few = omega arith;
     leveled = leveled_upto ks level j entries h.leveled (omega arith);
     current = λ k d lt. absurd (omega arith);
-    watched = λ c held ne. by_due due refl c held;
-    due_is = tt;
+    watched = λ c held ne. by_pending pending refl c held;
+    pending_is = tt;
   }
     where
-      by_due : (o : Option ClauseRef) → due ≡ o → (c : ClauseRef) → is_held ks c ≡ true →
+      by_pending : (o : Option ClauseRef) → pending ≡ o → (c : ClauseRef) → is_held ks c ≡ true →
           IsWatched (upto j entries) (upto j entries) (stored_at ks c).lits
-      by_due None e c held =
+      by_pending None e c held =
           watched_back (stored_at ks c).lits
           (h.watched c held (λ x. let clash : None ≡ Some c = sym e ∙ x in cc))
-      by_due (Some b) e c held = elim (same_or_other b c) [
+      by_pending (Some b) e c held = elim (same_or_other b c) [
         | inr other ↦ watched_back (stored_at ks c).lits
             (h.watched c held (λ x. other.1 (let y : Some b ≡ Some c = sym e ∙ x in cc)))
-        | inl same ↦ due_back (stored_at ks c).lits
-            (subst (λ x. IsDueAt entries level (stored_at ks x).lits) same.1
-            (subst (MayBeDue ks entries level) e h.due_is).1)
+        | inl same ↦ pending_back (stored_at ks c).lits
+            (subst (λ x. IsPendingAt entries level (stored_at ks x).lits) same.1
+            (subst (MayBePending ks entries level) e h.pending_is).1)
       ]
 
-  -- each lower level is settled
-  pub settled_below : (n : ℕ) (c : ClauseRef) → is_held ks c ≡ true →
+  -- each lower level is propagated
+  pub propagated_below : (n : ℕ) (c : ClauseRef) → is_held ks c ≡ true →
       IsSimple n (stored_at ks c).lits →
       IsQuiet (reading_of (falses (upto j entries)) (stored_at ks c).lits)
-  settled_below n c held simple =
+  propagated_below n c held simple =
       watched_is_quiet n (upto j entries) (stored_at ks c).lits simple (upto_once j entries once)
       (store_back.watched c held (λ x. let clash : None ≡ Some c = x in cc))
 
--- the current level is settled where nothing is queued or due
-pub settled_now : (n : ℕ) (ks : List Stored) (entries : List TrailEntry) (level : ℕ) →
+-- the current level is propagated where nothing is queued or pending
+pub propagated_now : (n : ℕ) (ks : List Stored) (entries : List TrailEntry) (level : ℕ) →
     IsWatchStore ks entries 0 level None → IsOnce entries →
     (c : ClauseRef) → is_held ks c ≡ true → IsSimple n (stored_at ks c).lits →
     IsQuiet (reading_of (falses (upto level entries)) (stored_at ks c).lits)
-settled_now n ks entries level h once c held simple =
+propagated_now n ks entries level h once c held simple =
     rw (upto_all ks level level entries h.leveled (omega arith))
     (watched_is_quiet n entries (stored_at ks c).lits simple once
     (h.watched c held (λ x. let clash : None ≡ Some c = x in cc)))

@@ -288,7 +288,7 @@ module _ (ks new : List Stored) (entries now : List TrailEntry) (q level : ℕ) 
             (stored_at new c).lits once_now some is_f_false
             (λ l n is. drop_true q entries l n is) (go.lits c)
             (h.watched c (sym (go.held c) ∙ held) ne));
-        due_is = tt;
+        pending_is = tt;
       })
 
   pub store_taken : (p : ℕ) (t : TrailEntry) → q ≡ suc p → slice_index_or entries p t ≡ t →
@@ -317,5 +317,5 @@ module _ (ks new : List Stored) (entries now : List TrailEntry) (q level : ℕ) 
             arith))
             leveled_now
             (subst (λ x. OtherIsTrue x (stored_at new c).lits f) grown.is (is_true c)));
-        due_is = tt;
+        pending_is = tt;
       })

@@ -5,14 +5,14 @@ pub mod BackLemmas
 pub mod ChainLemmas
 pub mod ChoiceLemmas
 pub mod FewLemmas
-pub mod ForgetLemmas
+pub mod DeleteLemmas
 pub mod GoesLemmas
 pub mod LevelLemmas
 pub mod PathLemmas
 pub mod PlaceLemmas
 pub mod ReasonLemmas
 pub mod RelinkLemmas
-pub mod SettledLemmas
+pub mod PropagatedLemmas
 pub mod StoreLemmas
 pub mod StoredLemmas
 pub mod TableLemmas

@@ -12,7 +12,7 @@ use Rattle.sat_arena.specs.Store.{Stored, is_held, stored_at}
 use Rattle.sat_arena.proofs.StoreLaws.{same_or_other}
 use Rattle.sat_watch.specs.declared.entry.TrailEntry.{TrailEntry}
 use Rattle.sat_watch.specs.Chains.{is_in}
-use Rattle.sat_watch.specs.Forget.{IsNoReason, entry_moved, reason_moved}
+use Rattle.sat_watch.specs.Delete.{IsNoReason, entry_moved, reason_moved}
 use Rattle.sat_watch.specs.Levels.{AreLeveled, IsLeveledBy, IsWatchStore, IsWatched}
 use Rattle.sat_watch.specs.Trail.{AreWithin, IsTrail, TrailState, lits_of, place_in}
 use Rattle.sat_watch.specs.TrailStore.{ArePlacesOf, AreTold, IsTrailStore, trail_state, truth_by, truth_in}
@@ -176,7 +176,7 @@ module _ (to : ClauseRef → Option ClauseRef) where
           subst (IsWatched (moved_all entries) (moved_all entries)) (sym from.2)
           (watched_moved entries (stored_at ks from.0).lits
           (h.watched from.0 from.1 (λ x. let clash : None ≡ Some from.0 = x in cc)));
-      due_is = tt;
+      pending_is = tt;
     }
 
 -- what is no reason is none of the entries' reasons

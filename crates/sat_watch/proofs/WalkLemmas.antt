@@ -60,11 +60,11 @@ watched_held ks c v f at = by_test (is_held ks c) refl where
       let clash : None ≡ Some f =
       sym (ap (λ (k : Stored). watch_of k.lits v) (not_held ks c e)) ∙ at in cc
 
-pub walk_begins : (entries : List TrailEntry) (level : ℕ) (f : Lit) (s : ChainsState) (looks : ℕ)
+pub walk_begins : (entries : List TrailEntry) (level : ℕ) (f : Lit) (s : ChainsState) (visits : ℕ)
     (next : Option ClauseRef) →
     IsChained s.vars s.clauses s.heads → IsWithin s.vars f → next ≡ head_of s f →
-    IsWalking entries level f s.clauses looks s entries None next looks
-walk_begins entries level f s looks next chained within is =
+    IsWalking entries level f s.clauses visits s entries None next visits
+walk_begins entries level f s visits next chained within is =
     let chain = chained.chains f within in
     let few = few_refs (λ k. is_among k.lits f) s.clauses chain.refs chain.is.once (λ d there.
     let goes = path_goes_on (next_on s.clauses f) (head_of s f) None chain.refs d
@@ -86,8 +86,8 @@ walk_begins entries level f s looks next chained within is =
     }
 
 module _ {base : List TrailEntry} {level : ℕ} {f : Lit} {old : List Stored} {start : ℕ}
-    {s : ChainsState} {entries : List TrailEntry} {before next : Option ClauseRef} {looks : ℕ}
-    (w : IsWalking base level f old start s entries before next looks) where
+    {s : ChainsState} {entries : List TrailEntry} {before next : Option ClauseRef} {visits : ℕ}
+    (w : IsWalking base level f old start s entries before next visits) where
   module _ {c : ClauseRef} (is : next ≡ Some c) where
     cursor_here : IsCursor (next_on s.clauses f) (head_of s f) w.kept w.rest
         before (Some c)
@@ -106,14 +106,14 @@ module _ {base : List TrailEntry} {level : ℕ} {f : Lit} {old : List Stored} {s
         subst (λ l. IsCursor (next_on s.clauses f) (head_of s f) w.kept l before
         (Some c)) first.1 cursor_here
 
-    -- with the look at this clause they are still few
-    pub few_here : looks + 1 ≤ start + holders f old
+    -- with the visit of this clause they are still few
+    pub few_here : visits + 1 ≤ start + holders f old
     few_here =
         let few = w.few in let long : length w.rest ≡ suc (length first.0) = ap length first.1 in
         omega arith
 
     -- so the counter does not run over
-    pub counts_here : length s.clauses < 2 ^ 63 → looks + 1 ≤ start + 2 ^ 63
+    pub counts_here : length s.clauses < 2 ^ 63 → visits + 1 ≤ start + 2 ^ 63
     counts_here few =
         let least = few_here in let count = w.goes.count in
         let most = counted_most (λ k. is_among k.lits f) old in omega arith
@@ -141,7 +141,7 @@ module _ {base : List TrailEntry} {level : ℕ} {f : Lit} {old : List Stored} {s
           subst (λ r. IsCursor (next_on s.clauses f) (head_of s f) w.kept (r ∷ first.0)
           before (Some r)) (sym same) cursor_first
 
-      pub walks_on : IsWalking base level f old start new now last after (looks + 1)
+      pub walks_on : IsWalking base level f old start new now last after (visits + 1)
       walks_on =
           let moved = visited.cursor w.kept first.0 here in
           let few = w.few in let each = w.each in let more = moved.more in
@@ -187,13 +187,13 @@ module _ {base : List TrailEntry} {level : ℕ} {f : Lit} {old : List Stored} {s
     rest_long : length w.rest ≡ length os
     rest_long = ap length rest_is ∙ tail_length s.clauses f next os cs None tail
 
-    -- with the looks at its clauses they are still few
-    pub tail_few : looks + length os ≤ start + holders f old
+    -- with the visits of its clauses they are still few
+    pub tail_few : visits + length os ≤ start + holders f old
     tail_few = let few = w.few in let long = rest_long in omega arith
 
     -- each clause that watches f was counted, or is in the tail
     pub tail_counts : IsChained s.vars s.clauses s.heads →
-        start + watchers f s.clauses ≤ looks + length os
+        start + watchers f s.clauses ≤ visits + length os
     tail_counts chained =
         let each = w.each in let long = rest_long in
         let few = few_passing (λ k. is_watched k.lits f) 0 s.clauses (w.kept ++ w.rest)
@@ -235,7 +235,7 @@ module _ {base : List TrailEntry} {level : ℕ} {f : Lit} {old : List Stored} {s
 
   -- each clause that still watches f was counted
   pub walk_counts : next ≡ None → IsChained s.vars s.clauses s.heads →
-      start + watchers f s.clauses ≤ looks
+      start + watchers f s.clauses ≤ visits
   walk_counts is chained =
       let each = w.each in
       let few = few_passing (λ k. is_watched k.lits f) 0 s.clauses w.kept chained.placed

@@ -13,9 +13,9 @@ use Rattle.std.proofs.Math.Seq.{drop-append-add}
 use Rattle.sat_watch.specs.Levels.{AreLeveled, IsLeveledBy, IsWatchStore}
 use Rattle.sat_watch.specs.Trail.{IsOpen, TrailState, falses}
 use Rattle.sat_watch.proofs.FewLemmas.{longer_trail}
-use Rattle.sat_watch.proofs.BackLemmas.{settled_below, settled_now}
+use Rattle.sat_watch.proofs.BackLemmas.{propagated_below, propagated_now}
 use Rattle.sat_watch.specs.Watched.{AreImplied, AreWhole, Goes, HasCounted, IsReason, LitsGo, OtherIsTrue, is_false}
-use Rattle.sat_watch.specs.Watches.{AreInPlace, Attached, attached_behind, first_attached, HasCause, HasLevels, HasLooked, IsSettledState, IsWatches, IsWithinLooks, count_of, holder_count, holder_sum, left_queued, taken_between, Propagates, SameClauses, WatchState, attached, id_at, is_attached, lits_at, watch_state, watcher_count, watcher_sum}
+use Rattle.sat_watch.specs.Watches.{AreInPlace, Attached, attached_behind, first_attached, HasCause, HasLevels, HasVisited, IsPropagatedState, IsWatches, IsWithinVisits, count_of, holder_count, holder_sum, left_queued, taken_between, Propagates, SameClauses, WatchState, attached, id_at, is_attached, lits_at, watch_state, watcher_count, watcher_sum}
 use Rattle.sat_arena.proofs.StoreLaws.{same_or_other}
 use Rattle.sat_watch.proofs.LevelLemmas.{store_stopped, store_taken}
 use Rattle.sat_watch.proofs.StoredLemmas.{behind_at, default_free, head_at, held_behind}
@@ -115,19 +115,19 @@ same_clauses base level f ks new entries now placed go = record {
   holders = λ l. holders_attached l new ∙ (go.holders_same l ∙ sym (holders_attached l ks));
 }
 
--- where something is queued and nothing is due
-pub record AtQueue (c : ChainsState) (t : TrailState) (q level : ℕ) (due : Option ClauseRef) :
+-- where something is queued and nothing is pending
+pub record AtQueue (c : ChainsState) (t : TrailState) (q level : ℕ) (pending : Option ClauseRef) :
     Type 0 where
-  pub none : due ≡ None
+  pub none : pending ≡ None
   pub some : 1 ≤ q
   pub few : q ≤ length t.entries
   pub store : IsWatchStore c.clauses t.entries q level None
 
-pub at_queue : {c : ChainsState} {t : TrailState} {q level : ℕ} {due : Option ClauseRef}
-    {s : WatchState} → IsWatches c t q level due → watch_state c t q level due ≡ s →
-    s.due ≡ None → 1 ≤ s.queued → AtQueue c t q level due
+pub at_queue : {c : ChainsState} {t : TrailState} {q level : ℕ} {pending : Option ClauseRef}
+    {s : WatchState} → IsWatches c t q level pending → watch_state c t q level pending ≡ s →
+    s.pending ≡ None → 1 ≤ s.queued → AtQueue c t q level pending
 at_queue h view quiet some =
-    let none = ap (λ (x : WatchState). x.due) view ∙ quiet in
+    let none = ap (λ (x : WatchState). x.pending) view ∙ quiet in
     record {
       none = none;
       some = subst (λ (x : WatchState). 1 ≤ x.queued) (sym view) some;
@@ -143,9 +143,9 @@ one_taken added old p t n m lt is en em =
     rw (en, em, drop-append-add added old p, drop-cons old p t lt, is) refl
 
 -- one step of propagation: the negation of the oldest queued entry was walked, and n were added
-pub record IsStep (c c' : ChainsState) (t t' : TrailState) (q level : ℕ) (due : Option ClauseRef)
-    (f : Lit) (e : TrailEntry) (n : ℕ) : Type 0 where
-  pub queue : AtQueue c t q level due
+pub record IsStep (c c' : ChainsState) (t t' : TrailState) (q level : ℕ)
+    (pending : Option ClauseRef) (f : Lit) (e : TrailEntry) (n : ℕ) : Type 0 where
+  pub queue : AtQueue c t q level pending
   pub entry : slice_index_or t.entries (q - 1) e ≡ e
   pub literal : f ≡ negation e.lit
   pub some : 1 ≤ variable f
@@ -154,17 +154,17 @@ pub record IsStep (c c' : ChainsState) (t t' : TrailState) (q level : ℕ) (due 
   pub goes : Goes t.entries level f c.clauses c'.clauses t.entries t'.entries
   pub more : n ≡ length goes.grows.added
 
-module _ {c c' : ChainsState} {t t' : TrailState} {q level : ℕ} {due : Option ClauseRef} {f : Lit}
-    {e : TrailEntry} {n : ℕ} (step : IsStep c c' t t' q level due f e n) where
+module _ {c c' : ChainsState} {t t' : TrailState} {q level : ℕ} {pending : Option ClauseRef}
+    {f : Lit} {e : TrailEntry} {n : ℕ} (step : IsStep c c' t t' q level pending f e n) where
   abbrev added : List TrailEntry
   added = step.goes.grows.added
 
   pub step_propagates : (q' : ℕ) →
-      Propagates (watch_state c t q level due) (watch_state c' t' q' level due)
+      Propagates (watch_state c t q level pending) (watch_state c' t' q' level pending)
   step_propagates q' = record {
     vars = step.vars;
     level = refl;
-    due = step.queue.none;
+    pending = step.queue.none;
     clauses =
         same_clauses t.entries level f c.clauses c'.clauses t.entries t'.entries
         step.whole.chained.placed step.goes;
@@ -175,10 +175,11 @@ module _ {c c' : ChainsState} {t t' : TrailState} {q level : ℕ} {due : Option 
 
   -- what it takes from the queue
   step_taken : (q' : ℕ) (result : Option ClauseRef) →
-      left_queued (watch_state c' t' q' level due) result ≡ q + n - 1 →
-      taken_between (watch_state c t q level due) (watch_state c' t' q' level due) result ≡ e ∷ []
+      left_queued (watch_state c' t' q' level pending) result ≡ q + n - 1 →
+      taken_between (watch_state c t q level pending) (watch_state c' t' q' level pending) result
+      ≡ e ∷ []
   step_taken q' result left_is =
-      let left_now = left_queued (watch_state c' t' q' level due) result in
+      let left_now = left_queued (watch_state c' t' q' level pending) result in
       let some = step.queue.some in let few = step.queue.few in let more = step.more in
       let long = ap length step.goes.grows.is ∙ length-append added t.entries in
       let left : left_now ≡ length added + (q - 1) = omega (arith, left_is, more, some) in
@@ -189,23 +190,23 @@ module _ {c c' : ChainsState} {t t' : TrailState} {q level : ℕ} {due : Option 
       ∙ one_taken added t.entries (q - 1) e left_now
       ((length t'.entries - left_now) - (length t.entries - q)) (omega arith) step.entry left count
 
-  -- its looks
-  pub step_looks : (q' : ℕ) (result : Option ClauseRef) (before after : ℕ) →
-      left_queued (watch_state c' t' q' level due) result ≡ q + n - 1 →
+  -- its visits
+  pub step_visits : (q' : ℕ) (result : Option ClauseRef) (before after : ℕ) →
+      left_queued (watch_state c' t' q' level pending) result ≡ q + n - 1 →
       after ≤ before + holders f c.clauses →
-      IsWithinLooks (watch_state c t q level due) (watch_state c' t' q' level due) result before
-      after
-  step_looks q' result before after left le =
+      IsWithinVisits (watch_state c t q level pending) (watch_state c' t' q' level pending) result
+      before after
+  step_visits q' result before after left le =
       let one = step_taken q' result left in
       let same : holder_count (negation e.lit) (map attached c.clauses) ≡ holders f c.clauses =
       holders_attached (negation e.lit) c.clauses ∙ ap (λ l. holders l c.clauses)
       (sym step.literal) in
       rw one (omega arith)
 
-  -- those that still watch the literal were looked at
+  -- those that still watch the literal were visited
   pub step_each : (q' before after : ℕ) → q' ≡ q + n - 1 →
       HasCounted before (watchers f c'.clauses) after →
-      HasLooked (watch_state c t q level due) (watch_state c' t' q' level due) before after
+      HasVisited (watch_state c t q level pending) (watch_state c' t' q' level pending) before after
   step_each q' before after left each =
       let one = step_taken q' None left in
       let same : watcher_sum (map attached c'.clauses) (e ∷ []) ≡ watchers f c'.clauses =
@@ -220,13 +221,13 @@ module _ {c c' : ChainsState} {t t' : TrailState} {q level : ℕ} {due : Option 
       rw step.literal (at_false t.entries (q - 1) e (omega arith) step.entry)
 
   stays : (q' : ℕ) → IsWatchStore c'.clauses t'.entries q' level None →
-      IsWatches c' t' q' level due
+      IsWatches c' t' q' level pending
   stays q' store = record {
     whole = step.whole;
     store = subst (IsWatchStore c'.clauses t'.entries q' level) (sym step.queue.none) store;
   }
 
-  pub step_stopped : IsWatches c' t' (q + n) level due
+  pub step_stopped : IsWatches c' t' (q + n) level pending
   step_stopped =
       let count : length added + q ≡ q + n = let more = step.more in omega arith in
       stays (q + n) (subst (λ m. IsWatchStore c'.clauses t'.entries m level None) count
@@ -235,7 +236,7 @@ module _ {c c' : ChainsState} {t t' : TrailState} {q level : ℕ} {due : Option 
 
   -- and where none was
   pub step_ended : ((r : ClauseRef) → OtherIsTrue t'.entries (stored_at c'.clauses r).lits f) →
-      IsWatches c' t' (q + n - 1) level due
+      IsWatches c' t' (q + n - 1) level pending
   step_ended is_true =
       let more = step.more in let some = step.queue.some in
       let before : q ≡ suc (q - 1) = omega arith in
@@ -314,28 +315,28 @@ watchers_fall base f l out at (k ∷ ks) (n ∷ new) placed placed' same go =
       by_old false was = rw (is, was) rest
 
 -- so it is in a step
-module _ {c c' : ChainsState} {t t' : TrailState} {q level : ℕ} {due : Option ClauseRef} {f : Lit}
-    {e : TrailEntry} {n : ℕ} (step : IsStep c c' t t' q level due f e n) where
+module _ {c c' : ChainsState} {t t' : TrailState} {q level : ℕ} {pending : Option ClauseRef}
+    {f : Lit} {e : TrailEntry} {n : ℕ} (step : IsStep c c' t t' q level pending f e n) where
   pub step_fewer : ArePlaced 0 c.clauses → (l : Lit) → is_false t.entries l ≡ true →
       watcher_count l (map attached c'.clauses) ≤ watcher_count l (map attached c.clauses)
   step_fewer placed l out = rw (watchers_attached l c.clauses, watchers_attached l c'.clauses)
       (watchers_fall t.entries f l out 0 c.clauses c'.clauses placed step.whole.chained.placed
       step.goes.count (λ r held. step.goes.lits r))
 
--- each lower level is settled, and the current one where nothing is queued or due
-pub state_settled : (c : ChainsState) (t : TrailState) (q level : ℕ) (due : Option ClauseRef) →
-    IsWatches c t q level due → IsSettledState (watch_state c t q level due)
-state_settled c t q level due h =
+-- each lower level is propagated, and the current one where nothing is queued or pending
+pub state_propagated : (c : ChainsState) (t : TrailState) (q level : ℕ)
+    (pending : Option ClauseRef) → IsWatches c t q level pending → IsPropagatedState (watch_state c t q level pending)
+state_propagated c t q level pending h =
     let once = h.whole.trail.once in let simple = h.whole.chained.simple in
     record {
       below = λ j lt r is.
           let held = sym (attached_held c.clauses r) ∙ is in
           rw (attached_lits c.clauses r)
-          (settled_below c.clauses t.entries q level due j h.store once lt c.vars r held
+          (propagated_below c.clauses t.entries q level pending j h.store once lt c.vars r held
           (simple r held));
       here = λ none quiet r is.
           let held = sym (attached_held c.clauses r) ∙ is in
-          rw (attached_lits c.clauses r) (settled_now c.vars c.clauses t.entries level
+          rw (attached_lits c.clauses r) (propagated_now c.vars c.clauses t.entries level
           (subst (λ (p : ℕ × Option ClauseRef). IsWatchStore c.clauses t.entries p.0 level p.1)
           (λ x. (none x, quiet x)) h.store) once r held (simple r held));
     }
@@ -362,11 +363,11 @@ same_trans a b c x y = record {
   lits = λ r. IsPermutation-trans (lits_at a r) (lits_at b r) (lits_at c r) (x.lits r) (y.lits r);
 }
 
-pub propagates_refl : (s : WatchState) → s.due ≡ None → Propagates s s
+pub propagates_refl : (s : WatchState) → s.pending ≡ None → Propagates s s
 propagates_refl s none = record {
   vars = refl;
   level = refl;
-  due = none;
+  pending = none;
   clauses = same_refl s.clauses;
   added = [];
   trail = refl;
@@ -377,7 +378,7 @@ pub propagates_trans : (a b c : WatchState) → Propagates a b → Propagates b 
 propagates_trans a b c x y = record {
   vars = y.vars ∙ x.vars;
   level = y.level ∙ x.level;
-  due = y.due;
+  pending = y.pending;
   clauses = same_trans a.clauses b.clauses c.clauses x.clauses y.clauses;
   added = y.added ++ x.added;
   trail = y.trail ∙ (ap (λ t. y.added ++ t) x.trail ∙ sym (append_assoc y.added x.added a.trail));
@@ -396,14 +397,14 @@ empty_store ks entries none empty = rw (none, empty) (record {
   leveled = refl;
   current = λ k d lt. absurd (omega arith);
   watched = λ c held ne. let clash : false ≡ true = held in cc;
-  due_is = tt;
+  pending_is = tt;
 })
 
 no_entry : TrailEntry
 no_entry = record { lit = lit (pos 0); level = 0; reason = None }
 
-pub looks_none : (s : WatchState) (l : ℕ) → IsWithinLooks s s None l l
-looks_none s l =
+pub visits_none : (s : WatchState) (l : ℕ) → IsWithinVisits s s None l l
+visits_none s l =
     let none : (length s.trail - s.queued) - (length s.trail - s.queued) ≡ 0 = omega arith in
     rw none (omega arith)
 
@@ -439,15 +440,15 @@ is_taken a s b result added some few grown front later =
       whole = λ x. take (more x) (begins x);
     }
 
--- the looks of a step are added to those before it
-pub looks_on : (a s b : WatchState) (result : Option ClauseRef) (added : List TrailEntry)
+-- the visits of a step are added to those before it
+pub visits_on : (a s b : WatchState) (result : Option ClauseRef) (added : List TrailEntry)
     (start l l' : ℕ) → SameClauses a.clauses s.clauses → 1 ≤ s.queued → s.queued ≤ length s.trail →
     b.trail ≡ added ++ s.trail →
     length b.trail + s.queued ≡ length s.trail + left_queued b result + 1 →
     length a.trail - a.queued ≤ length s.trail - s.queued →
-    IsWithinLooks a s None start l → IsWithinLooks s b result l l' →
-    IsWithinLooks a b result start l'
-looks_on a s b result added start l l' same some few grown front later le le' =
+    IsWithinVisits a s None start l → IsWithinVisits s b result l l' →
+    IsWithinVisits a b result start l'
+visits_on a s b result added start l l' same some few grown front later le le' =
     let taken = is_taken a s b result added some few grown front later in
     let as_many = same.holders (negation taken.entry.lit) in
     let now : l' ≤ l + holder_sum s.clauses (taken.entry ∷ []) =
@@ -477,19 +478,19 @@ sums_fall ks new entries (e ∷ xs) fewer out =
     let rest = sums_fall ks new entries xs fewer (All-tail Out e xs out) in
     omega arith
 
-pub each_none : (s : WatchState) (l : ℕ) → HasLooked s s l l
+pub each_none : (s : WatchState) (l : ℕ) → HasVisited s s l l
 each_none s l =
     let none : (length s.trail - s.queued) - (length s.trail - s.queued) ≡ 0 = omega arith in
     rw none (omega arith)
 
--- what still watches was looked at in a step or before it
+-- what still watches was visited in a step or before it
 pub each_on : (a s b : WatchState) (added : List TrailEntry) (start l l' : ℕ) →
     1 ≤ s.queued → s.queued ≤ length s.trail → b.trail ≡ added ++ s.trail →
     length b.trail + s.queued ≡ length s.trail + b.queued + 1 →
     length a.trail - a.queued ≤ length s.trail - s.queued →
     ((m : Lit) → is_false s.trail m ≡ true →
     watcher_count m b.clauses ≤ watcher_count m s.clauses) →
-    HasLooked a s start l → HasLooked s b l l' → HasLooked a b start l'
+    HasVisited a s start l → HasVisited s b l l' → HasVisited a b start l'
 each_on a s b added start l l' some few grown front later fewer each each' =
     let taken = is_taken a s b None added some few grown front later in
     let fall = sums_fall s.clauses b.clauses s.trail (taken_between a s None) fewer (all_out a s) in

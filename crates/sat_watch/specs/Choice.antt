@@ -36,15 +36,16 @@ pub record IsAhead (old new : ChainsState) (lits : Clause) (id i j : ℕ) (c : C
     pub first : lit_at order 0 ≡ lit_at lits i
     pub second : 2 ≤ length lits → lit_at order 1 ≡ lit_at lits j
 
--- the clause is attached behind the others, in some order of its literals, and this one is then due
-pub record IsAttachedAs (old new : WatchState) (lits : Clause) (id : ℕ) (due : Option ClauseRef)
+-- the clause is attached behind the others, in some order of its literals, and this one is then
+-- pending
+pub record IsAttachedAs (old new : WatchState) (lits : Clause) (id : ℕ) (pending : Option ClauseRef)
     (c : ClauseRef) : Type 0 where
   pub place : c.word ≡ words_in old.clauses
   pub order : Clause
   pub same : IsPermutation lits order
   pub is : new ≡ record old {
     clauses = old.clauses ++ record { place = c; id = id; lits = order } ∷ [];
-    due = due;
+    pending = pending;
   }
 
 -- the literal at a position is true, at a level not above the highest of the others

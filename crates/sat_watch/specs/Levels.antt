@@ -1,4 +1,4 @@
--- The levels of a trail, why its entries stand, and when the clauses are settled.
+-- The levels of a trail, why its entries stand, and when the clauses are propagated.
 use Rattle.std.specs.Prelude.{◌≡◌, ◌≢◌, ℕ, suc, ◌<◌, ◌≤◌, true, if◌then◌else◌, nat_le, ◌==◌, ⊤, List, [], ◌∷◌, length, drop, slice_index_or, Option, None, Some, All}
 use Rattle.sat_clause.specs.declared.literal.Lit.{Lit}
 use Rattle.sat_clause.specs.Literal.{Clause, negation}
@@ -38,9 +38,9 @@ pub record IsWatched (taken entries : List TrailEntry) (lits : Clause) : Type 0 
       watch_of lits (other_of which) ≡ Some o → true_at taken (negation l) ≡ Some n →
       (m : ℕ) × (true_at entries o ≡ Some m) × (m ≤ n)
 
--- a clause that is due: all literals but the first are false, the second since the current level,
--- and the first is not read below that level; a clause of one literal is due at level 0
-pub record IsDueAt (entries : List TrailEntry) (level : ℕ) (lits : Clause) : Type 0 where
+-- a clause that is pending: all literals but the first are false, the second since the current
+-- level, and the first is not read below that level; a clause of one literal is pending at level 0
+pub record IsPendingAt (entries : List TrailEntry) (level : ℕ) (lits : Clause) : Type 0 where
   pub some : lits ≢ []
   pub alone : (a : Lit) → lits ≡ a ∷ [] → level ≡ 0
   pub others : (a : Lit) (ls : Clause) → lits ≡ a ∷ ls → All (λ m. is_false entries m ≡ true) ls
@@ -49,26 +49,26 @@ pub record IsDueAt (entries : List TrailEntry) (level : ℕ) (lits : Clause) : T
   pub first_false : (a : Lit) (n : ℕ) → watch_of lits 0 ≡ Some a →
       true_at entries (negation a) ≡ Some n → n ≡ level
 
--- at most one clause is due
-abbrev pub MayBeDue : List Stored → List TrailEntry → ℕ → Option ClauseRef → Type 0
-MayBeDue clauses entries level None = ⊤
-MayBeDue clauses entries level (Some c) =
-    (is_held clauses c ≡ true) × IsDueAt entries level (stored_at clauses c).lits
+-- at most one clause is pending
+abbrev pub MayBePending : List Stored → List TrailEntry → ℕ → Option ClauseRef → Type 0
+MayBePending clauses entries level None = ⊤
+MayBePending clauses entries level (Some c) =
+    (is_held clauses c ≡ true) × IsPendingAt entries level (stored_at clauses c).lits
 
 -- what the watches know, where so many entries, the newest, are queued: the trail's levels and
--- reasons, that what is queued is of the current level, and that each clause but the due one can be
--- left alone
+-- reasons, that what is queued is of the current level, and that each clause but the pending one
+-- can be left alone
 pub record IsWatchStore
-    (clauses : List Stored) (entries : List TrailEntry) (queued level : ℕ) (due : Option ClauseRef)
-    : Type 0 where
+    (clauses : List Stored) (entries : List TrailEntry) (queued level : ℕ)
+    (pending : Option ClauseRef) : Type 0 where
   pub few : queued ≤ length entries
   pub leveled : AreLeveled clauses level entries
   pub current : (k : ℕ) (d : TrailEntry) → k < queued → (slice_index_or entries k d).level ≡ level
-  pub watched : (c : ClauseRef) → is_held clauses c ≡ true → due ≢ Some c →
+  pub watched : (c : ClauseRef) → is_held clauses c ≡ true → pending ≢ Some c →
       IsWatched (drop queued entries) entries (stored_at clauses c).lits
-  pub due_is : MayBeDue clauses entries level due
+  pub pending_is : MayBePending clauses entries level pending
 
--- what is due, once a clause has made a literal true
-abbrev pub due_without : ClauseRef → Option ClauseRef → Option ClauseRef
-due_without r None = None
-due_without r (Some c) = if r.word == c.word then None else Some c
+-- what is pending, once a clause has made a literal true
+abbrev pub pending_without : ClauseRef → Option ClauseRef → Option ClauseRef
+pending_without r None = None
+pending_without r (Some c) = if r.word == c.word then None else Some c

@@ -1,6 +1,6 @@
 pub mod Chains
 pub mod Choice
-pub mod Forget
+pub mod Delete
 pub mod Levels
 pub mod MaybeClause
 pub mod Relinking

@@ -140,8 +140,8 @@ pub record IsVisited
 -- a walk along the chain of f, which is false: the clauses that are kept have their other watch
 -- true
 pub record IsWalking
-    (base : List TrailEntry) (level : ℕ) (f : Lit) (old : List Stored) (looks_before : ℕ)
-    (now : ChainsState) (entries : List TrailEntry) (before next : Option ClauseRef) (looks : ℕ)
+    (base : List TrailEntry) (level : ℕ) (f : Lit) (old : List Stored) (visits_before : ℕ)
+    (now : ChainsState) (entries : List TrailEntry) (before next : Option ClauseRef) (visits : ℕ)
     : Type 0 where
   pub kept : List ClauseRef
   pub rest : List ClauseRef
@@ -149,8 +149,8 @@ pub record IsWalking
   pub kept_true : (d : ClauseRef) → is_in kept d ≡ true →
       OtherIsTrue entries (stored_at now.clauses d).lits f
   pub goes : Goes base level f old now.clauses base entries
-  pub few : looks + length rest ≤ looks_before + holders f old
-  pub each : looks_before + length kept ≤ looks
+  pub few : visits + length rest ≤ visits_before + holders f old
+  pub each : visits_before + length kept ≤ visits
 
 -- a counter was raised by as many as these at least, as far as it goes
 abbrev pub HasCounted : (before many after : ℕ) → Type 0

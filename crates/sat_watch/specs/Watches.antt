@@ -1,5 +1,5 @@
 -- What contracts see of watches: the clauses with their ids, the trail, what is queued and what is
--- due.
+-- pending.
 use Rattle.std.specs.Prelude.{◌≡◌, ◌≢◌, ℕ, suc, ◌+◌, ◌-◌, ◌<◌, ◌≤◌, ◌==◌, nat_lt, Bool, true, false, if◌then◌else◌, ⊤, ◌⊎◌, List, [], ◌∷◌, ◌++◌, length, map, drop, take, Option, None, Some, is_some, All, IsPermutation, Contains, max, unwrap_or}
 use Rattle.sat_clause.specs.declared.literal.Lit.{Lit}
 use Rattle.sat_clause.specs.Literal.{Clause, is_among, negation}
@@ -7,7 +7,7 @@ use Rattle.sat_clause.specs.Rup.{reading_of}
 use Rattle.sat_arena.specs.declared.clause_ref.ClauseRef.{ClauseRef}
 use Rattle.sat_arena.specs.Store.{Stored}
 use Rattle.sat_watch.specs.declared.entry.TrailEntry.{TrailEntry}
-use Rattle.sat_watch.specs.Levels.{IsWatchStore, due_without, upto}
+use Rattle.sat_watch.specs.Levels.{IsWatchStore, pending_without, upto}
 use Rattle.sat_clause.specs.Settled.{IsQuiet}
 use Rattle.sat_watch.specs.Chains.{ChainsState, is_watched}
 use Rattle.sat_watch.specs.Trail.{TrailState, falses}
@@ -23,14 +23,14 @@ abbrev pub attached : Stored → Attached
 attached k = record { place = k.place; id = k.id; lits = k.lits }
 
 -- the variables, the clauses in the order of their references, the trail, the newest entry first,
--- how many of its newest entries are queued, the current level, and the clause that is due
+-- how many of its newest entries are queued, the current level, and the clause that is pending
 pub record WatchState : Type 0 where
   pub vars : ℕ
   pub clauses : List Attached
   pub trail : List TrailEntry
   pub queued : ℕ
   pub level : ℕ
-  pub due : Option ClauseRef
+  pub pending : Option ClauseRef
 
 -- one of the clauses has this reference
 abbrev pub is_attached : List Attached → ClauseRef → Bool
@@ -63,14 +63,15 @@ AreInPlace at [] = ⊤
 AreInPlace at (k ∷ ks) = (k.place.word ≡ at) × AreInPlace (at + (length k.lits + 6)) ks
 
 -- at level j no clause is false, and none has one open literal and all others false
-abbrev pub IsSettledAt : WatchState → ℕ → Type 0
-IsSettledAt s j = (c : ClauseRef) → is_attached s.clauses c ≡ true →
+abbrev pub IsPropagatedAt : WatchState → ℕ → Type 0
+IsPropagatedAt s j = (c : ClauseRef) → is_attached s.clauses c ≡ true →
     IsQuiet (reading_of (falses (upto j s.trail)) (lits_at s.clauses c))
 
--- each level below the current one is settled, and the current one where nothing is queued or due
-pub record IsSettledState (s : WatchState) : Type 0 where
-  pub below : (j : ℕ) → j < s.level → IsSettledAt s j
-  pub here : s.queued ≡ 0 → s.due ≡ None → IsSettledAt s s.level
+-- each level below the current one is propagated, and the current one where nothing is queued or
+-- pending
+pub record IsPropagatedState (s : WatchState) : Type 0 where
+  pub below : (j : ℕ) → j < s.level → IsPropagatedAt s j
+  pub here : s.queued ≡ 0 → s.pending ≡ None → IsPropagatedAt s s.level
 
 -- a level begins with this literal
 abbrev pub assumed : Lit → WatchState → WatchState
@@ -85,14 +86,18 @@ abbrev pub implied : Lit → ClauseRef → WatchState → WatchState
 implied l r s = record s {
   trail = record { lit = l; level = s.level; reason = Some r } ∷ s.trail;
   queued = suc s.queued;
-  due = due_without r s.due;
+  pending = pending_without r s.pending;
 }
 
--- the levels above this one are dropped, with what is queued and due
+-- the levels above this one are dropped, with what is queued and pending
 abbrev pub gone_back : ℕ → WatchState → WatchState
 gone_back j s =
-    if nat_lt j s.level then record s { trail = upto j s.trail; queued = 0; level = j; due = None }
-    else s
+    if nat_lt j s.level then record s {
+      trail = upto j s.trail;
+      queued = 0;
+      level = j;
+      pending = None;
+    } else s
 
 -- how many of the clauses pass the test
 abbrev pub count_of : (Clause → Bool) → List Attached → ℕ
@@ -121,7 +126,7 @@ pub record SameClauses (old new : List Attached) : Type 0 where
 pub record Propagates (old new : WatchState) : Type 0 where
   pub vars : new.vars ≡ old.vars
   pub level : new.level ≡ old.level
-  pub due : new.due ≡ None
+  pub pending : new.pending ≡ None
   pub clauses : SameClauses old.clauses new.clauses
   pub added : List TrailEntry
   pub trail : new.trail ≡ added ++ old.trail
@@ -149,15 +154,15 @@ abbrev pub watcher_sum : List Attached → List TrailEntry → ℕ
 watcher_sum ks [] = 0
 watcher_sum ks (e ∷ es) = watcher_count (negation e.lit) ks + watcher_sum ks es
 
--- the looks in a call that finds no false clause are at least the clauses that still watch the
+-- the visits in a call that finds no false clause are at least the clauses that still watch the
 -- negations of the literals taken, as far as the counter goes
-abbrev pub HasLooked : WatchState → WatchState → ℕ → ℕ → Type 0
-HasLooked old new before after =
+abbrev pub HasVisited : WatchState → WatchState → ℕ → ℕ → Type 0
+HasVisited old new before after =
     HasCounted before (watcher_sum new.clauses (taken_between old new None)) after
 
--- the looks in one call are at most the clauses that hold the negations of the literals taken
-abbrev pub IsWithinLooks : WatchState → WatchState → Option ClauseRef → ℕ → ℕ → Type 0
-IsWithinLooks old new result before after =
+-- the visits in one call are at most the clauses that hold the negations of the literals taken
+abbrev pub IsWithinVisits : WatchState → WatchState → Option ClauseRef → ℕ → ℕ → Type 0
+IsWithinVisits old new result before after =
     after ≤ before + holder_sum old.clauses (taken_between old new result)
 
 -- an entry without a reason begins its level; one with a reason is in it, and its others are false
@@ -210,32 +215,32 @@ abbrev pub words_in : List Attached → ℕ
 words_in [] = 0
 words_in (k ∷ ks) = length k.lits + 6 + words_in ks
 
--- the clause is attached behind the others, in some order of its literals, and is due in the third
--- case
+-- the clause is attached behind the others, in some order of its literals, and is pending in the
+-- third case
 pub record Attaches (old new : WatchState) (lits : Clause) (id : ℕ) (c : ClauseRef) : Type 0 where
   pub place : c.word ≡ words_in old.clauses
   pub order : Clause
   pub same : IsPermutation lits order
   pub is : new ≡ record old {
     clauses = old.clauses ++ record { place = c; id = id; lits = order } ∷ [];
-    due = new.due;
+    pending = new.pending;
   }
-  pub due : HasOneOpen old.trail old.level lits → new.due ≡ Some c
-  pub not_due : HasTwoFree old.trail lits ⊎ HasOneTrue old.trail lits → new.due ≡ None
+  pub pending : HasOneOpen old.trail old.level lits → new.pending ≡ Some c
+  pub not_pending : HasTwoFree old.trail lits ⊎ HasOneTrue old.trail lits → new.pending ≡ None
 
 -- the view
 abbrev pub watch_state : ChainsState → TrailState → ℕ → ℕ → Option ClauseRef → WatchState
-watch_state c t queued level due = record {
+watch_state c t queued level pending = record {
   vars = c.vars;
   clauses = map attached c.clauses;
   trail = t.entries;
   queued = queued;
   level = level;
-  due = due;
+  pending = pending;
 }
 
 -- what the watches know of their chains and their trail
 pub record IsWatches (c : ChainsState) (t : TrailState) (queued level : ℕ)
-    (due : Option ClauseRef) : Type 0 where
+    (pending : Option ClauseRef) : Type 0 where
   pub whole : AreWhole c t
-  pub store : IsWatchStore c.clauses t.entries queued level due
+  pub store : IsWatchStore c.clauses t.entries queued level pending

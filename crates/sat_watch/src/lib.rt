@@ -14,7 +14,7 @@
 //! walk goes over a tail without a look into the clauses. The chain still leads over them.
 //!
 //! A clause of one literal stands in no chain; it may be attached where that literal is true or
-//! becomes true at level 0. Clauses that are no reasons can be forgotten at level 0: the others
+//! becomes true at level 0. Clauses that are no reasons can be deleted at level 0: the others
 //! close up in the arena, and all chains are made anew.
 #![tactic(auto)]
 

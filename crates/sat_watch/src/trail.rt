@@ -3,7 +3,7 @@
 ghost use Rattle.std.specs.Prelude.{◌≡◌, ◌≢◌, ◌+◌, ◌*◌, ◌≤◌, ◌∷◌, [], ℕ, length, drop, map, reverse, slice_index_or, slice_set, true, false, ◌<◌, IfNone, IfOk, IfSome, None, Some};
 ghost use Rattle.sat_clause.specs.Literal.{IsLiteral, IsWithin, is_among, negation};
 ghost use Rattle.sat_arena.specs.Compact.{AreRising, moved_by};
-ghost use Rattle.sat_watch.specs.Forget.{entry_moved};
+ghost use Rattle.sat_watch.specs.Delete.{entry_moved};
 ghost use Rattle.sat_watch.specs.Relinking.{AreNear};
 ghost use Rattle.sat_watch.specs.Trail.{IsOpen, fallen, falses, place_in, value_in};
 ghost use Rattle.sat_watch.specs.TrailStore.{place_of};

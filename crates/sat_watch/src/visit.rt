@@ -127,7 +127,7 @@ fn walk_tail(
     level: u32,
     others: &[Lit],
     words: &[u32],
-    looks: &mut u64,
+    visits: &mut u64,
 ) -> Option<ClauseRef>
     requires whole { AreWhole chains.now trail.old }
     requires is_false { is_false trail.old.entries f ≡ true }
@@ -140,29 +140,29 @@ fn walk_tail(
     ensures held { IfSome result (λ c. is_held chains.now.clauses c ≡ true) }
     ensures stopped { IfSome result
         (λ c. AreFalse trail.new.entries (literals chains.now.clauses c)) }
-    ensures looks { looks.new ≤ looks.old + length others.now }
-    ensures counted { looks.old ≤ looks.new }
-    ensures each { IfNone result (HasCounted looks.old (length others.now) looks.new) }
+    ensures visits { visits.new ≤ visits.old + length others.now }
+    ensures counted { visits.old ≤ visits.new }
+    ensures each { IfNone result (HasCounted visits.old (length others.now) visits.new) }
 {
     for i in 0..others.len() {
         if !visit_pair(chains, trail, f, level, others, words, i) {
-            *looks = looks.saturating_add(i as u64 + 1);
+            *visits = visits.saturating_add(i as u64 + 1);
             return Some(clause_in(words, i));
         }
     }
-    *looks = looks.saturating_add(others.len() as u64);
+    *visits = visits.saturating_add(others.len() as u64);
     None
 }
 
 /// Walks along the chain of `f`, which is false. Gives a clause that is false, or none; then the
 /// other watched literal of each clause that still watches `f` is true, and each of these was
-/// looked at.
+/// visited.
 pub(crate) fn walk(
     chains: &mut Chains,
     trail: &mut Trail,
     f: Lit,
     level: u32,
-    looks: &mut u64,
+    visits: &mut u64,
 ) -> Option<ClauseRef>
     requires whole { AreWhole chains.old trail.old }
     requires within { IsWithin chains.old.vars f }
@@ -175,29 +175,29 @@ pub(crate) fn walk(
     ensures held { IfSome result (λ c. is_held chains.new.clauses c ≡ true) }
     ensures stopped { IfSome result
         (λ c. AreFalse trail.new.entries (literals chains.new.clauses c)) }
-    ensures looks { looks.new ≤ looks.old + holders f chains.old.clauses }
-    ensures counted { looks.old ≤ looks.new }
+    ensures visits { visits.new ≤ visits.old + holders f chains.old.clauses }
+    ensures counted { visits.old ≤ visits.new }
     ensures each { IfNone result
-        (HasCounted looks.old (watchers f chains.new.clauses) looks.new) }
+        (HasCounted visits.old (watchers f chains.new.clauses) visits.new) }
 {
     let mut walked: u64 = 0;
     let mut before = MaybeClause::none();
     let mut next = chains.head(f);
     while let Some(clause) = next {
         if let Some((others, words)) = chains.tail_from(f, clause) {
-            *looks = looks.saturating_add(walked);
-            return walk_tail(chains, trail, f, level, others, words, looks);
+            *visits = visits.saturating_add(walked);
+            return walk_tail(chains, trail, f, level, others, words, visits);
         }
         let at = chains.place(clause, f);
         let after = chains.after(at);
         walked += 1;
         let Some(last) = visit_clause(chains, trail, f, level, before, at, after) else {
-            *looks = looks.saturating_add(walked);
+            *visits = visits.saturating_add(walked);
             return Some(clause);
         };
         before = last;
         next = after;
     }
-    *looks = looks.saturating_add(walked);
+    *visits = visits.saturating_add(walked);
     None
 }

@@ -6,11 +6,11 @@ ghost use Rattle.sat_clause.specs.Learned.{IsSimple};
 ghost use Rattle.sat_clause.specs.Literal.{IsWithin};
 ghost use Rattle.sat_watch.specs.Chains.{lit_at};
 ghost use Rattle.sat_watch.specs.Choice.{IsAttachedAs, IsTrueAt};
-ghost use Rattle.sat_watch.specs.Forget.{IsNoReason, OthersMove, OthersStay, forgotten};
-ghost use Rattle.sat_watch.specs.Levels.{due_without as due_without_of};
+ghost use Rattle.sat_watch.specs.Delete.{IsNoReason, OthersMove, OthersStay, deleted};
+ghost use Rattle.sat_watch.specs.Levels.{pending_without as pending_without_of};
 ghost use Rattle.sat_watch.specs.Trail.{AreWithin, IsOpen, IsOnce, place_in, value_in};
 ghost use Rattle.sat_watch.specs.Watched.{IsReason, is_false, true_at, AreFalse};
-ghost use Rattle.sat_watch.specs.Watches.{AreInPlace, Attaches, HasLevels, HasLooked, IsOnlyOne, MayAttach, highest, IsSettledAt, IsSettledState, IsWithinLooks, Propagates, assumed, attached_behind, first_attached, gone_back, id_at, implied, is_attached, left_queued, lits_at, watcher_count};
+ghost use Rattle.sat_watch.specs.Watches.{AreInPlace, Attaches, HasLevels, HasVisited, IsOnlyOne, MayAttach, highest, IsPropagatedAt, IsPropagatedState, IsWithinVisits, Propagates, assumed, attached_behind, first_attached, gone_back, id_at, implied, is_attached, left_queued, lits_at, watcher_count};
 
 use crate::chains::Chains;
 use crate::choice::{free_position, highest_position};
@@ -26,19 +26,19 @@ use std::marker::Model;
 /// Clauses with their watch chains, and the *trail* of the literals that are true.
 ///
 /// Decisions are counted by *levels*. The newest entries of the trail are *queued*: the chains of
-/// their negations are not walked yet. One clause may be *due*: it was attached where it makes a
-/// literal true, and [`Watches::imply`] comes next to do so. At each level below the current one
-/// the clauses are *settled*, that is, none is false and none has one open literal and all others
-/// false; and so they are at the current level, where nothing is queued or due.
+/// their negations are not walked yet. One clause may be *pending*: it was attached where it makes
+/// a literal true, and [`Watches::imply`] comes next to do so. At each level below the current one
+/// the clauses are *propagated*, that is, none is false and none has one open literal and all
+/// others false; and so they are at the current level, where nothing is queued or pending.
 ///
-/// Only [`Watches::new`], [`Watches::attach`] and [`Watches::forget`] take memory.
+/// Only [`Watches::new`], [`Watches::attach`] and [`Watches::delete`] take memory.
 #[derive(Drop)]
 pub struct Watches {
     chains: Chains,
     trail: Trail,
     queued: u32,
     level: u32,
-    due: Option<ClauseRef>,
+    pending: Option<ClauseRef>,
 }
 
 impl Model for Watches {
@@ -46,16 +46,16 @@ impl Model for Watches {
 
     ghost Value = { WatchState };
 
-    ghost view = { λ w. watch_state w.chains w.trail w.queued w.level w.due };
+    ghost view = { λ w. watch_state w.chains w.trail w.queued w.level w.pending };
 
-    ghost invariant = { λ w. IsWatches w.chains w.trail w.queued w.level w.due };
+    ghost invariant = { λ w. IsWatches w.chains w.trail w.queued w.level w.pending };
 }
 
-/// What is due once a clause has made a literal true.
-fn due_without(reason: ClauseRef, due: Option<ClauseRef>) -> Option<ClauseRef>
-    ensures { result ≡ due_without_of reason due }
+/// What is pending once a clause has made a literal true.
+fn pending_without(reason: ClauseRef, pending: Option<ClauseRef>) -> Option<ClauseRef>
+    ensures { result ≡ pending_without_of reason pending }
 {
-    let Some(c) = due else {
+    let Some(c) = pending else {
         return None;
     };
     if reason.word == c.word {
@@ -79,7 +79,7 @@ impl Watches {
           trail = [];
           queued = 0;
           level = 0;
-          due = None;
+          pending = None;
         }) }
     {
         let chains = Chains::new(alloc, arena, vars)?;
@@ -89,7 +89,7 @@ impl Watches {
             trail,
             queued: 0,
             level: 0,
-            due: None,
+            pending: None,
         })
     }
 
@@ -116,7 +116,7 @@ impl Watches {
     /// The current level: how many decisions stand on the trail.
     pub fn level(&self) -> u32
         ensures value { result ≡ self.now.level }
-        ensures settled { IsSettledState self.now }
+        ensures propagated { IsPropagatedState self.now }
     {
         self.level
     }
@@ -181,7 +181,7 @@ impl Watches {
     ) -> Result<ClauseRef, AllocError>
         requires simple { IsSimple self.old.vars lits.now }
         requires few { length lits.now ≤ LITERAL_LIMIT }
-        requires quiet { self.old.due ≡ None }
+        requires quiet { self.old.pending ≡ None }
         requires i { i < length lits.now }
         requires j { j < length lits.now }
         requires other { j ≢ i }
@@ -198,7 +198,7 @@ impl Watches {
     fn attach_true(&mut self, lits: &[Lit], id: u32, i: u32) -> Result<ClauseRef, AllocError>
         requires simple { IsSimple self.old.vars lits.now }
         requires few { length lits.now ≤ LITERAL_LIMIT }
-        requires quiet { self.old.due ≡ None }
+        requires quiet { self.old.pending ≡ None }
         requires i { i < length lits.now }
         requires only { IsOnlyOne self.old.trail lits.now (lit_at lits.now i) }
         requires is_true { IsTrueAt self.old.trail lits.now i }
@@ -211,11 +211,11 @@ impl Watches {
     }
 
     /// Attaches a clause whose literal at position `i` is open, and whose others are false, the
-    /// newest since the current level. The clause is due.
-    fn attach_due(&mut self, lits: &[Lit], id: u32, i: u32) -> Result<ClauseRef, AllocError>
+    /// newest since the current level. The clause is pending.
+    fn attach_pending(&mut self, lits: &[Lit], id: u32, i: u32) -> Result<ClauseRef, AllocError>
         requires simple { IsSimple self.old.vars lits.now }
         requires few { length lits.now ≤ LITERAL_LIMIT }
-        requires quiet { self.old.due ≡ None }
+        requires quiet { self.old.pending ≡ None }
         requires i { i < length lits.now }
         requires only { IsOnlyOne self.old.trail lits.now (lit_at lits.now i) }
         requires is_open { true_at self.old.trail (lit_at lits.now i) ≡ None }
@@ -225,7 +225,7 @@ impl Watches {
     {
         let j = highest_position(&self.trail, lits, i);
         let c = self.chains.add_ahead(lits, id, i, j)?;
-        self.due = Some(c);
+        self.pending = Some(c);
         Ok(c)
     }
 
@@ -234,14 +234,14 @@ impl Watches {
     ///
     /// Two of its literals are not false; or one alone, which is true at a level not above the
     /// highest of the others; or one alone, which is open, and the current level is the highest of
-    /// the others. Without others that highest level is 0. In the last case the clause is due. It
-    /// costs a few loads a literal, beside the room in the arena.
+    /// the others. Without others that highest level is 0. In the last case the clause is pending.
+    /// It costs a few loads a literal, beside the room in the arena.
     ///
     /// # Errors
     /// Where there is no memory for the clause; nothing has changed then.
     pub fn attach(&mut self, lits: &[Lit], id: u32) -> Result<ClauseRef, AllocError>
         requires simple { IsSimple self.old.vars lits.now }
-        requires quiet { self.old.due ≡ None }
+        requires quiet { self.old.pending ≡ None }
         requires may { MayAttach self.old lits.now }
         ensures ok { IfOk result (λ c. Attaches self.old self.new lits.now id c) }
         ensures err { OnErr result (self.new ≡ self.old) }
@@ -255,16 +255,16 @@ impl Watches {
         if self.trail.is_false(lits[i as usize].negation()) {
             return self.attach_true(lits, id, i);
         }
-        self.attach_due(lits, id, i)
+        self.attach_pending(lits, id, i)
     }
 
-    /// Decides an open literal: a level begins with it, and it is queued. Nothing is queued or due
-    /// before. It takes constant time.
+    /// Decides an open literal: a level begins with it, and it is queued. Nothing is queued or
+    /// pending before. It takes constant time.
     pub fn assume(&mut self, l: Lit)
         requires within { IsWithin self.old.vars l }
         requires open { IsOpen self.old.trail l }
         requires empty { self.old.queued ≡ 0 }
-        requires quiet { self.old.due ≡ None }
+        requires quiet { self.old.pending ≡ None }
         ensures { self.new ≡ assumed l self.old }
     {
         self.trail.push(TrailEntry {
@@ -277,7 +277,8 @@ impl Watches {
     }
 
     /// Makes an open literal true at the current level, by a clause whose other literals are false,
-    /// and queues it. Where that clause was due, none is due any more. It takes constant time.
+    /// and queues it. Where that clause was pending, none is pending any more. It takes constant
+    /// time.
     pub fn imply(&mut self, l: Lit, reason: ClauseRef)
         requires within { IsWithin self.old.vars l }
         requires open { IsOpen self.old.trail l }
@@ -291,10 +292,10 @@ impl Watches {
             reason: self.chains.as_reason(reason),
         });
         self.queued += 1;
-        self.due = due_without(reason, self.due);
+        self.pending = pending_without(reason, self.pending);
     }
 
-    /// Drops the entries of levels above this one, with what is queued and due. Nothing changes
+    /// Drops the entries of levels above this one, with what is queued and pending. Nothing changes
     /// where the current level is not above. It costs a few stores for each entry that is dropped.
     pub fn back_to(&mut self, level: u32)
         ensures { self.new ≡ gone_back level self.old }
@@ -305,11 +306,11 @@ impl Watches {
         self.trail.fall_to(level);
         self.queued = 0;
         self.level = level;
-        self.due = None;
+        self.pending = None;
     }
 
-    /// Takes these clauses out, at level 0, where nothing is queued or due and none of them is a
-    /// reason. The list may name a clause twice.
+    /// Takes these clauses out, at level 0, where nothing is queued or pending and none of them is
+    /// a reason. The list may name a clause twice.
     ///
     /// The others close up in their order, each with its id and its literals: the first has the
     /// reference 0, and each next one stands behind the literals of the one before and 6 words. The
@@ -319,13 +320,13 @@ impl Watches {
     /// # Errors
     /// Where there is no memory for a pair of references of each clause that stays; nothing has
     /// changed then.
-    pub fn forget(&mut self, alloc: Global, clauses: &[ClauseRef]) -> Result<(), AllocError>
+    pub fn delete(&mut self, alloc: Global, clauses: &[ClauseRef]) -> Result<(), AllocError>
         requires level { self.old.level ≡ 0 }
         requires empty { self.old.queued ≡ 0 }
-        requires quiet { self.old.due ≡ None }
+        requires quiet { self.old.pending ≡ None }
         requires attached { All (λ c. is_attached self.old.clauses c ≡ true) clauses.now }
         requires no_reason { All (IsNoReason self.old.trail) clauses.now }
-        ensures ok { OnOk result (self.new ≡ forgotten clauses.now self.old) }
+        ensures ok { OnOk result (self.new ≡ deleted clauses.now self.old) }
         ensures others { OnOk result (OthersMove clauses.now self.old.clauses self.new.clauses) }
         ensures left { OnOk result (OthersStay clauses.now self.old.clauses self.new.clauses) }
         ensures err { OnErr result (self.new ≡ self.old) }
@@ -348,16 +349,16 @@ impl Watches {
 
     /// Takes the oldest literal from the queue and walks along the chain of its negation. Gives a
     /// clause that is false; the literal then stays queued.
-    fn take_queued(&mut self, looks: &mut u64) -> Option<ClauseRef>
+    fn take_queued(&mut self, visits: &mut u64) -> Option<ClauseRef>
         requires some { 1 ≤ self.old.queued }
-        requires quiet { self.old.due ≡ None }
+        requires quiet { self.old.pending ≡ None }
         ensures propagates { Propagates self.old self.new }
         ensures attached { IfSome result (λ c. is_attached self.new.clauses c ≡ true) }
         ensures stopped { IfSome result
             (λ c. AreFalse self.new.trail (lits_at self.new.clauses c)) }
-        ensures looks { IsWithinLooks self.old self.new result looks.old looks.new }
-        ensures counted { looks.old ≤ looks.new }
-        ensures each { IfNone result (HasLooked self.old self.new looks.old looks.new) }
+        ensures visits { IsWithinVisits self.old self.new result visits.old visits.new }
+        ensures counted { visits.old ≤ visits.new }
+        ensures each { IfNone result (HasVisited self.old self.new visits.old visits.new) }
         ensures fewer { (l : Lit) → is_false self.old.trail l ≡ true
             → watcher_count l self.new.clauses ≤ watcher_count l self.old.clauses }
         ensures front { length self.new.trail + self.old.queued
@@ -372,7 +373,7 @@ impl Watches {
             &mut self.trail,
             entry.lit.negation(),
             self.level,
-            looks,
+            visits,
         );
         let queued = self.queued + (self.trail.len() - before);
         if let Some(c) = found {
@@ -383,39 +384,40 @@ impl Watches {
         None
     }
 
-    /// Whether a literal is queued. Where none is, and no clause is due, the clauses are settled.
+    /// Whether a literal is queued. Where none is, and no clause is pending, the clauses are
+    /// propagated.
     fn has_queued(&self) -> bool
         ensures some { result ≡ true → 1 ≤ self.now.queued }
         ensures none { result ≡ false → self.now.queued ≡ 0 }
         ensures queue { self.now.queued ≤ length self.now.trail }
-        ensures settled { result ≡ false → self.now.due ≡ None
-            → IsSettledAt self.now self.now.level }
+        ensures propagated { result ≡ false → self.now.pending ≡ None
+            → IsPropagatedAt self.now self.now.level }
     {
         self.queued > 0
     }
 
     /// Makes true what the clauses make true, until one of them is false, which it gives, or none
-    /// makes a literal true any more. No clause is due before.
+    /// makes a literal true any more. No clause is pending before.
     ///
-    /// Each look at a clause adds one to `looks`, up to 2^64 - 1. For each literal that is taken
-    /// from the queue there are at most as many looks as clauses hold its negation, and, where no
-    /// clause is false, at least as many as still watch it; a look costs the literals of the clause
-    /// at most. A literal whose walk ends in a false clause stays queued, and [`Watches::back_to`]
-    /// drops it.
-    pub fn propagate(&mut self, looks: &mut u64) -> Option<ClauseRef>
-        requires quiet { self.old.due ≡ None }
+    /// Each visit of a clause adds one to `visits`, up to 2^64 - 1. For each literal that is taken
+    /// from the queue there are at most as many visits as clauses hold its negation, and, where no
+    /// clause is false, at least as many as still watch it; a visit costs the literals of the
+    /// clause at most. A literal whose walk ends in a false clause stays queued, and
+    /// [`Watches::back_to`] drops it.
+    pub fn propagate(&mut self, visits: &mut u64) -> Option<ClauseRef>
+        requires quiet { self.old.pending ≡ None }
         ensures propagates { Propagates self.old self.new }
         ensures empty { IfNone result (self.new.queued ≡ 0) }
-        ensures settled { IfNone result (IsSettledAt self.new self.new.level) }
+        ensures propagated { IfNone result (IsPropagatedAt self.new self.new.level) }
         ensures attached { IfSome result (λ c. is_attached self.new.clauses c ≡ true) }
         ensures stopped { IfSome result
             (λ c. AreFalse self.new.trail (lits_at self.new.clauses c)) }
-        ensures looks { IsWithinLooks self.old self.new result looks.old looks.new }
-        ensures counted { looks.old ≤ looks.new }
-        ensures each { IfNone result (HasLooked self.old self.new looks.old looks.new) }
+        ensures visits { IsWithinVisits self.old self.new result visits.old visits.new }
+        ensures counted { visits.old ≤ visits.new }
+        ensures each { IfNone result (HasVisited self.old self.new visits.old visits.new) }
     {
         while self.has_queued() {
-            if let Some(c) = self.take_queued(looks) {
+            if let Some(c) = self.take_queued(visits) {
                 return Some(c);
             }
         }

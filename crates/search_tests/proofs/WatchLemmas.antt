@@ -10,12 +10,12 @@ use Rattle.sat_arena.specs.declared.clause_ref.ClauseRef.{ClauseRef}
 use Rattle.sat_arena.proofs.StoreLaws.{same_or_other}
 use Rattle.sat_watch.specs.declared.entry.TrailEntry.{TrailEntry}
 use Rattle.sat_watch.specs.Chains.{lit_at}
-use Rattle.sat_watch.specs.Forget.{entry_moved, forgotten, moved_to, without}
-use Rattle.search_tests.specs.WatchStates.{IsAtStart, IsDueFor, first_decided}
+use Rattle.sat_watch.specs.Delete.{entry_moved, deleted, moved_to, without}
+use Rattle.search_tests.specs.WatchStates.{IsAtStart, IsPendingFor, first_decided}
 use Rattle.sat_watch.specs.Watched.{IsReason, is_false}
 use Rattle.sat_watch.specs.Watches.{Attached, Attaches, HasOneOpen, HasTwoFree, IsOnlyOne, WatchState, first_attached, is_attached, lits_at}
 use Rattle.sat_watch.proofs.ChoiceLemmas.{at_contains, other_at}
-use Rattle.sat_core.proofs.DoomedLaws.{first_is}
+use Rattle.sat_core.proofs.DeletableLaws.{first_is}
 
 -- where nothing is true, two literals are not false
 pub free_at_start : (n : ℕ) (entries : List TrailEntry) (lits : Clause) → entries ≡ [] →
@@ -51,7 +51,7 @@ still_at_start n old new lits id (Ok c) start free ok err =
       trail = ap (λ (s : WatchState). s.trail) is ∙ start.trail;
       queued = ap (λ (s : WatchState). s.queued) is ∙ start.queued;
       level = ap (λ (s : WatchState). s.level) is ∙ start.level;
-      due = ok.not_due (inl free);
+      pending = ok.not_pending (inl free);
     }
 still_at_start n old new lits id (Err e) start free ok err = subst (IsAtStart n) (sym err) start
 
@@ -87,20 +87,20 @@ pub first_stands : (ks : List Attached) (found : Option ClauseRef) → found ≡
 first_stands ks (Some c) is = first_is ks c (sym is)
 first_stands ks None is = tt
 
--- nothing is true after clauses were forgotten
-pub forgets_at_start : (n : ℕ) (old new : WatchState) (refs : List ClauseRef)
+-- nothing is true after clauses were deleted
+pub deletes_at_start : (n : ℕ) (old new : WatchState) (refs : List ClauseRef)
     (result : Result (Unit {0}) AllocError) → IsAtStart n old →
-    OnOk result (new ≡ forgotten refs old) → OnErr result (new ≡ old) → IsAtStart n new
-forgets_at_start n old new refs (Ok u) start ok err = record {
+    OnOk result (new ≡ deleted refs old) → OnErr result (new ≡ old) → IsAtStart n new
+deletes_at_start n old new refs (Ok u) start ok err = record {
   vars = ap (λ (s : WatchState). s.vars) ok ∙ start.vars;
   trail =
       ap (λ (s : WatchState). s.trail) ok ∙
       ap (map (entry_moved (moved_to 0 (without refs old.clauses)))) start.trail;
   queued = ap (λ (s : WatchState). s.queued) ok ∙ start.queued;
   level = ap (λ (s : WatchState). s.level) ok ∙ start.level;
-  due = ap (λ (s : WatchState). s.due) ok ∙ start.due;
+  pending = ap (λ (s : WatchState). s.pending) ok ∙ start.pending;
 }
-forgets_at_start n old new refs (Err e) start ok err = subst (IsAtStart n) (sym err) start
+deletes_at_start n old new refs (Err e) start ok err = subst (IsAtStart n) (sym err) start
 
 abbrev pub implication : Clause
 implication = lit (negsuc 0) ∷ lit (pos 2) ∷ []
@@ -117,9 +117,9 @@ only_second = ((1, omega arith, refl), refl, λ m has ne. by_place m has.0 has.1
 pub one_is_open : (s : WatchState) → s ≡ first_decided → HasOneOpen s.trail s.level implication
 one_is_open s is = rw is (lit (pos 2), only_second, refl, refl)
 
-due_now : (old new : WatchState) (id : ℕ) (c : ClauseRef) → old ≡ first_decided →
-    Attaches old new implication id c → IsDueFor (lit (pos 2)) c new
-due_now old new id c is a =
+pending_now : (old new : WatchState) (id : ℕ) (c : ClauseRef) → old ≡ first_decided →
+    Attaches old new implication id c → IsPendingFor (lit (pos 2)) c new
+pending_now old new id c is a =
     let same_trail : new.trail ≡ old.trail = ap (λ (s : WatchState). s.trail) a.is in
     let trail : new.trail ≡ first_decided.trail = same_trail ∙ ap (λ (s : WatchState). s.trail) is
     in
@@ -146,15 +146,15 @@ due_now old new id c is a =
             (only_second.2 m (Contains-permutation a.order implication m (IsPermutation-sym
             implication a.order a.same) has) ne);
       });
-      due = a.due (one_is_open old is);
+      pending = a.pending (one_is_open old is);
     }
   where
     by_place : (k : ℕ) (d : Lit) → k < 1 → variable (get_or (lit (pos 1) ∷ []) k d) ≢ 2
     by_place zero d lt e = let clash : 1 ≡ 2 = e in omega (arith, clash)
     by_place (suc k) d lt e = omega arith
 
-pub is_due_now : (old new : WatchState) (id : ℕ) (result : Result ClauseRef AllocError) →
+pub is_pending_now : (old new : WatchState) (id : ℕ) (result : Result ClauseRef AllocError) →
     old ≡ first_decided → IfOk result (λ c. Attaches old new implication id c) →
-    IfOk result (λ c. IsDueFor (lit (pos 2)) c new)
-is_due_now old new id (Ok c) is ok = due_now old new id c is ok
-is_due_now old new id (Err e) is ok = ok
+    IfOk result (λ c. IsPendingFor (lit (pos 2)) c new)
+is_pending_now old new id (Ok c) is ok = pending_now old new id c is ok
+is_pending_now old new id (Err e) is ok = ok

@@ -101,8 +101,8 @@ fn first(watches: &Watches) -> Option<ClauseRef>
     watches.first()
 }
 
-/// Goes back to level 0, and forgets the clause that stands first.
-fn forget_first(rt: &impl Abort, alloc: Global, watches: &mut Watches) -> Result<(), AllocError>
+/// Goes back to level 0, and deletes the clause that stands first.
+fn delete_first(rt: &impl Abort, alloc: Global, watches: &mut Watches) -> Result<(), AllocError>
     requires vars { watches.old.vars ≡ VARS }
     requires level { 1 ≤ watches.old.level }
     ensures { OnOk result (IsIdle VARS watches.new) }
@@ -112,10 +112,10 @@ fn forget_first(rt: &impl Abort, alloc: Global, watches: &mut Watches) -> Result
     let Some(c) = first(watches) else {
         return Ok(());
     };
-    watches.forget(alloc, &[c, c])
+    watches.delete(alloc, &[c, c])
 }
 
-/// Leaves a false clause: goes back behind it, or forgets a clause.
+/// Leaves a false clause: goes back behind it, or deletes a clause.
 fn leave(
     rt: &impl Abort,
     alloc: Global,
@@ -131,7 +131,7 @@ fn leave(
         watches.back_to(level);
         return Ok(());
     }
-    forget_first(rt, alloc, watches)
+    delete_first(rt, alloc, watches)
 }
 
 /// Decides a literal, if it is open, and makes true what follows.
@@ -150,8 +150,8 @@ fn decide(
         return Ok(());
     };
     watches.assume(l);
-    let mut looks = 0;
-    let None = watches.propagate(&mut looks) else {
+    let mut visits = 0;
+    let None = watches.propagate(&mut visits) else {
         return leave(rt, alloc, watches, state);
     };
     Ok(())

@@ -1,10 +1,10 @@
-//! Chains, trails and due clauses as worked out by hand.
+//! Chains, trails and pending clauses as worked out by hand.
 
 ghost use Rattle.std.specs.Prelude.{◌≡◌, ◌≢◌, ◌<◌, ◌≤◌, pos, true, IfOk, length, None};
 ghost use Rattle.sat_arena.specs.declared.clause_ref.ClauseRef.{ClauseRef};
 ghost use Rattle.sat_clause.specs.Learned.{IsSimple};
 ghost use Rattle.sat_clause.specs.Literal.{IsWithin, lit, variable as variable_of};
-ghost use Rattle.search_tests.specs.WatchStates.{IsAtStart, IsDueFor, first_decided};
+ghost use Rattle.search_tests.specs.WatchStates.{IsAtStart, IsPendingFor, first_decided};
 ghost use Rattle.sat_watch.specs.Watches.{is_attached};
 
 use sat_arena::{Arena, ClauseRef};
@@ -56,13 +56,13 @@ fn attach(watches: &mut Watches, vars: u32, lits: &[Lit], id: u32) -> Result<Cla
     watches.attach(lits, id)
 }
 
-/// Forgets a clause, named twice, where nothing is true.
-fn forget(watches: &mut Watches, alloc: Global, vars: u32, c: ClauseRef) -> Result<(), AllocError>
+/// Deletes a clause, named twice, where nothing is true.
+fn delete(watches: &mut Watches, alloc: Global, vars: u32, c: ClauseRef) -> Result<(), AllocError>
     requires start { IsAtStart vars watches.old }
     requires attached { is_attached watches.old.clauses c ≡ true }
     ensures { IsAtStart vars watches.new }
 {
-    watches.forget(alloc, &[c, c])
+    watches.delete(alloc, &[c, c])
 }
 
 /// Decides that variable 1 is false, and says whether no clause is false then.
@@ -71,8 +71,8 @@ fn denies_first(watches: &mut Watches) -> bool
     ensures { watches.new.vars ≡ 3 }
 {
     watches.assume(Lit { code: -1 });
-    let mut looks = 0;
-    watches.propagate(&mut looks).is_none()
+    let mut visits = 0;
+    watches.propagate(&mut visits).is_none()
 }
 
 /// Whether variable 2 is true, and variable 3 has this value.
@@ -123,19 +123,19 @@ fn chains_lead_to_a_false_clause(rt: HostRuntime) -> Result<(), Fail> {
 /// A clause is not looked at where a literal becomes false that it does not watch.
 #[test]
 fn third_literal_is_not_looked_at(rt: HostRuntime) -> Result<(), Fail> {
-    let mut looks = 0;
+    let mut visits = 0;
     let mut watches = start(rt.alloc(), 201)?;
     for i in 1..101u32 {
         attach(&mut watches, 201, &with_first(201, 2 * i, 2 * i + 1), i)?;
     }
     watches.assume(Lit { code: -1 });
-    assert!(rt; watches.propagate(&mut looks).is_none());
-    assert!(rt; looks == 0);
+    assert!(rt; watches.propagate(&mut visits).is_none());
+    assert!(rt; visits == 0);
     Ok(())
 }
 
-/// Attaches three clauses, of which the second stands before the third, and forgets it.
-fn forget_second(rt: &impl Abort, watches: &mut Watches, alloc: Global) -> Result<(), AllocError>
+/// Attaches three clauses, of which the second stands before the third, and deletes it.
+fn delete_second(rt: &impl Abort, watches: &mut Watches, alloc: Global) -> Result<(), AllocError>
     requires { IsAtStart 3 watches.old }
     ensures { IsAtStart 3 watches.new }
 {
@@ -143,7 +143,7 @@ fn forget_second(rt: &impl Abort, watches: &mut Watches, alloc: Global) -> Resul
     let c = attach(watches, 3, &two(3, -2, 3), 2)?;
     let d = attach(watches, 3, &two(3, -2, -3), 3)?;
     assert!(rt; d.word == 16 && watches.behind(c) == Some(d));
-    forget(watches, alloc, 3, c)
+    delete(watches, alloc, 3, c)
 }
 
 /// A clause that is gone makes nothing true, and the one behind it has taken its place.
@@ -158,41 +158,41 @@ fn follow_third(rt: &impl Abort, watches: &mut Watches)
 }
 
 #[test]
-fn clause_is_forgotten(rt: HostRuntime) -> Result<(), Fail> {
+fn clause_is_deleted(rt: HostRuntime) -> Result<(), Fail> {
     let mut watches = start(rt.alloc(), 3)?;
-    forget_second(&rt, &mut watches, rt.alloc())?;
+    delete_second(&rt, &mut watches, rt.alloc())?;
     follow_third(&rt, &mut watches);
     Ok(())
 }
 
 /// Attaches the clause that variable 2 is true where variable 1 is, which was decided.
-fn attach_due(watches: &mut Watches) -> Result<ClauseRef, AllocError>
+fn attach_pending(watches: &mut Watches) -> Result<ClauseRef, AllocError>
     requires { watches.old ≡ first_decided }
-    ensures { IfOk result (λ c. IsDueFor (lit (pos 2)) c watches.new) }
+    ensures { IfOk result (λ c. IsPendingFor (lit (pos 2)) c watches.new) }
 {
     watches.attach(&[Lit { code: -1 }, Lit { code: 2 }], 7)
 }
 
 /// It makes its literal true next, at the level of the decision.
-fn follow_due(rt: &impl Abort, watches: &mut Watches) -> Result<(), AllocError>
+fn follow_pending(rt: &impl Abort, watches: &mut Watches) -> Result<(), AllocError>
     requires { watches.old ≡ first_decided }
 {
-    let c = attach_due(watches)?;
+    let c = attach_pending(watches)?;
     watches.imply(Lit { code: 2 }, c);
     let trail = watches.trail();
     assert!(rt; trail.len() == 2);
     let entry = trail[1];
     assert!(rt; entry.lit == Lit { code: 2 } && entry.level == 1);
     assert!(rt; entry.reason.clause() == Some(c));
-    let mut looks = 0;
-    assert!(rt; watches.propagate(&mut looks).is_none());
+    let mut visits = 0;
+    assert!(rt; watches.propagate(&mut visits).is_none());
     Ok(())
 }
 
 #[test]
-fn due_clause_makes_its_literal_true(rt: HostRuntime) -> Result<(), Fail> {
+fn pending_clause_makes_its_literal_true(rt: HostRuntime) -> Result<(), Fail> {
     let mut watches = Watches::new(rt.alloc(), Arena::new(rt.alloc()), 2)?;
     watches.assume(Lit { code: 1 });
-    follow_due(&rt, &mut watches)?;
+    follow_pending(&rt, &mut watches)?;
     Ok(())
 }

@@ -13,7 +13,7 @@ module _ (c : After-meet_clause-least) where
     once = c.trail.ensures.once;
     within = c.trail.ensures.within;
     levels = c.trail.ensures.levels;
-    settled = c.level-level.ensures.settled;
+    propagated = c.level-level.ensures.propagated;
   }
 
   least : IsLeast (c.args.watches.now).trail (c.args.watches.now).level

@@ -1,5 +1,5 @@
 use Rattle.std.proofs.Common.{sym, ◌∙◌, arith}
-use Rattle.sat_core.proofs.DoomedLaws.{is_found, none_in}
+use Rattle.sat_core.proofs.DeletableLaws.{is_found, none_in}
 use Rattle.sat_core.proofs.choosing.is_reason.Goals as goal
 
 pub returns-then-is_reason_for : goal.returns-then-is_reason_for

@@ -1,6 +1,6 @@
 use Rattle.std.proofs.Common.{◌≡◌, ◌<◌, ℕ, false, get_or}
 use Rattle.sat_clause.specs.declared.literal.Lit.{Lit}
-use Rattle.sat_core.specs.Doomed.{are_same, reason_in}
+use Rattle.sat_core.specs.Deletable.{are_same, reason_in}
 use Rattle.sat_core.proofs.choosing.is_reason.Given as goal
 
 -- the literals so far have other reasons

@@ -3,7 +3,7 @@ use Rattle.std.specs.Prelude.{IfNone}
 use Rattle.std.proofs.lemmas.List.{length-reverse}
 use Rattle.sat_watch.specs.Trail.{IsOpen}
 use Rattle.sat_watch.proofs.PlaceLemmas.{place_entry}
-use Rattle.sat_core.proofs.DoomedLaws.{open_no_reason, reason_at}
+use Rattle.sat_core.proofs.DeletableLaws.{open_no_reason, reason_at}
 use Rattle.sat_core.proofs.TrailPlaces.{at_within, read_at}
 use Rattle.sat_core.proofs.choosing.is_reason_for.Goals as goal
 

@@ -1,6 +1,6 @@
 use Rattle.std.proofs.Common.{◌+◌, take, ap, subst, sym, ◌∙◌}
-use Rattle.sat_core.specs.Doomed.{ArePartOf, refs_of}
-use Rattle.sat_core.proofs.DoomedLaws.{one_passed, one_taken}
+use Rattle.sat_core.specs.Deletable.{ArePartOf, refs_of}
+use Rattle.sat_core.proofs.DeletableLaws.{one_passed, one_taken}
 use Rattle.sat_core.proofs.choosing.those_that_go.Goals as goal
 use Rattle.sat_core.proofs.choosing.those_that_go.Goals.{then-goes+in_ok-push, else-goes}
 
@@ -10,10 +10,10 @@ loop-candidate-preserved c =
     elim c.if-goes.branch [
       | then-goes+in_ok-push w ↦
           subst (λ refs. ArePartOf refs (refs_of (take (l.candidate-index + 1) ks)))
-          (sym (ap (λ v. v.items) w.doomed-is ∙ w.in_ok-push.ensures.items))
-          (one_taken l.doomed.items ks l.candidate-index _ c.loop-candidate-test.true l.invariant)
+          (sym (ap (λ v. v.items) w.deleted-is ∙ w.in_ok-push.ensures.items))
+          (one_taken l.deleted.items ks l.candidate-index _ c.loop-candidate-test.true l.invariant)
       | else-goes w ↦
           subst (λ refs. ArePartOf refs (refs_of (take (l.candidate-index + 1) ks)))
-          (sym (ap (λ v. v.items) w.doomed-is))
-          (one_passed l.doomed.items ks l.candidate-index c.loop-candidate-test.true l.invariant)
+          (sym (ap (λ v. v.items) w.deleted-is))
+          (one_passed l.deleted.items ks l.candidate-index c.loop-candidate-test.true l.invariant)
     ]

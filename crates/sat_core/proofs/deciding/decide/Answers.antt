@@ -58,7 +58,7 @@ assume-requires-clause-empty c =
 
 pub assume-requires-clause-quiet : goal.assume-requires-clause-quiet
 assume-requires-clause-quiet c =
-    ap (λ (w : WatchState). w.due) c.loop-v.invariant.same ∙ c.requires.quiet
+    ap (λ (w : WatchState). w.pending) c.loop-v.invariant.same ∙ c.requires.quiet
 
 pub returns-then-is_none-clause-decided : goal.returns-then-is_none-clause-decided
 returns-then-is_none-clause-decided c = λ _. (

@@ -1,7 +1,7 @@
 use Rattle.std.proofs.Common.{◌∙◌, subst, sym}
 use Rattle.sat_clause.specs.Trail.{IsClosed}
 use Rattle.sat_watch.specs.Trail.{lits_of}
-use Rattle.sat_watch.specs.Watches.{IsSettledAt, WatchState}
+use Rattle.sat_watch.specs.Watches.{IsPropagatedAt, WatchState}
 use Rattle.sat_core.specs.Deciding.{GoesOn}
 use Rattle.sat_core.proofs.DecideLaws.{goes_assumed, goes_propagated, goes_refl, goes_then}
 use Rattle.sat_core.proofs.RankingLaws.{ranked_propagated}
@@ -34,10 +34,11 @@ returns-then-not-decide_next-clause-goes c =
     subst (GoesOn c.args.watches.now) (sym (c.decide_next.ensures.same c.if-not-decide_next.true))
     (goes_then c.loop-c.invariant.goes (goes_propagated c.in_default.ensures.propagates))
 
-pub returns-then-not-decide_next-clause-settled : goal.returns-then-not-decide_next-clause-settled
-returns-then-not-decide_next-clause-settled c =
-    subst (λ (s : WatchState). IsSettledAt s s.level)
-    (sym (c.decide_next.ensures.same c.if-not-decide_next.true)) c.in_default.ensures.settled
+pub returns-then-not-decide_next-clause-propagated :
+    goal.returns-then-not-decide_next-clause-propagated
+returns-then-not-decide_next-clause-propagated c =
+    subst (λ (s : WatchState). IsPropagatedAt s s.level)
+    (sym (c.decide_next.ensures.same c.if-not-decide_next.true)) c.in_default.ensures.propagated
 
 pub returns-then-not-decide_next-clause-closed : goal.returns-then-not-decide_next-clause-closed
 returns-then-not-decide_next-clause-closed c =

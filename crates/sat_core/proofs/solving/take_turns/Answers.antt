@@ -4,15 +4,15 @@ use Rattle.sat_clause.specs.Learned.{added_count, deletions}
 use Rattle.sat_core.specs.Underway.{IsTurn, IsUnderway}
 use Rattle.sat_core.proofs.UnderwayLemmas.{refuted, searched, spent, tracked_next, underway_may, underway_next, underway_start}
 use Rattle.sat_core.proofs.solving.take_turns.Goals as goal
-use Rattle.sat_core.proofs.solving.take_turns.Goals.{After-forget_unless}
+use Rattle.sat_core.proofs.solving.take_turns.Goals.{After-delete_unless}
 
--- it is under way where it forgot, or did not, with as many added clauses
-module _ (c : After-forget_unless) where
-  on : IsUnderway c.forget_unless.new.search c.args.formula.now.cnf c.forget_unless.new.log.steps
-  on = c.forget_unless.ensures.underway c.args.formula.now.cnf c.loop.invariant.underway
+-- it is under way where it deleted, or did not, with as many added clauses
+module _ (c : After-delete_unless) where
+  on : IsUnderway c.delete_unless.new.search c.args.formula.now.cnf c.delete_unless.new.log.steps
+  on = c.delete_unless.ensures.underway c.args.formula.now.cnf c.loop.invariant.underway
 
-  kept : IsTrue c.args.keep → deletions c.forget_unless.new.log.steps ≡ 0
-  kept all = ap deletions (c.forget_unless.ensures.kept all) ∙ c.loop.invariant.kept all
+  kept : IsTrue c.args.keep → deletions c.delete_unless.new.log.steps ≡ 0
+  kept all = ap deletions (c.delete_unless.ensures.kept all) ∙ c.loop.invariant.kept all
 
 pub loop-init : goal.loop-init
 loop-init c = record {
@@ -23,68 +23,68 @@ loop-init c = record {
   many = rw c.requires.fresh refl;
 }
 
-pub forget_unless-requires-clause-underway : goal.forget_unless-requires-clause-underway
-forget_unless-requires-clause-underway c =
+pub delete_unless-requires-clause-underway : goal.delete_unless-requires-clause-underway
+delete_unless-requires-clause-underway c =
     (c.args.formula.now.cnf, c.loop.invariant.underway)
 
-pub returns-in_err-forget_unless : goal.returns-in_err-forget_unless
-returns-in_err-forget_unless c =
-    let at = (goal.at.returns-in_err-forget_unless c).After-forget_unless in
+pub returns-in_err-delete_unless : goal.returns-in_err-delete_unless
+returns-in_err-delete_unless c =
+    let at = (goal.at.returns-in_err-delete_unless c).After-delete_unless in
     searched (on at)
-    (omega (arith, c.forget_unless.ensures.none_added, c.loop.invariant.many, c.loop-test.true))
+    (omega (arith, c.delete_unless.ensures.none_added, c.loop.invariant.many, c.loop-test.true))
     (kept at) (search rules)
 
 pub turn-requires : goal.turn-requires
 turn-requires c =
-    underway_may (on (goal.at.turn-requires c).After-forget_unless)
+    underway_may (on (goal.at.turn-requires c).After-delete_unless)
     (omega (
       arith,
       c.requires.ids,
       c.loop-test.true,
-      c.forget_unless.ensures.none_added,
+      c.delete_unless.ensures.none_added,
       c.loop.invariant.many,
     ))
 
 pub returns-in_err-turn : goal.returns-in_err-turn
 returns-in_err-turn c =
-    let at = (goal.at.returns-in_err-turn c).After-forget_unless in
+    let at = (goal.at.returns-in_err-turn c).After-delete_unless in
     rw c.in_err-turn.ensures.same
     (searched (on at)
-    (omega (arith, c.forget_unless.ensures.none_added, c.loop.invariant.many, c.loop-test.true))
+    (omega (arith, c.delete_unless.ensures.none_added, c.loop.invariant.many, c.loop-test.true))
     (kept at) (search rules))
 
 pub returns-in-Model : goal.returns-in-Model
 returns-in-Model c =
-    let at = (goal.at.returns-in-Model c).After-forget_unless in
+    let at = (goal.at.returns-in-Model c).After-delete_unless in
     let says = subst (IsTurn c.turn.new.self c.args.formula.now.cnf
-    c.forget_unless.new.log.steps c.turn.new.log.steps) c.in-Model.is c.in_ok-turn.ensures.turn in
+    c.delete_unless.new.log.steps c.turn.new.log.steps) c.in-Model.is c.in_ok-turn.ensures.turn in
     rw says.same
     (searched (on at)
-    (omega (arith, c.forget_unless.ensures.none_added, c.loop.invariant.many, c.loop-test.true))
+    (omega (arith, c.delete_unless.ensures.none_added, c.loop.invariant.many, c.loop-test.true))
     (kept at) says.satisfies)
 
 pub returns-in-Refuted : goal.returns-in-Refuted
 returns-in-Refuted c =
-    let at = (goal.at.returns-in-Refuted c).After-forget_unless in
+    let at = (goal.at.returns-in-Refuted c).After-delete_unless in
     let says = subst (IsTurn c.turn.new.self c.args.formula.now.cnf
-    c.forget_unless.new.log.steps c.turn.new.log.steps) c.in-Refuted.is c.in_ok-turn.ensures.turn in
+    c.delete_unless.new.log.steps c.turn.new.log.steps) c.in-Refuted.is c.in_ok-turn.ensures.turn in
     refuted (on at)
-    (omega (arith, c.forget_unless.ensures.none_added, c.loop.invariant.many, c.loop-test.true))
+    (omega (arith, c.delete_unless.ensures.none_added, c.loop.invariant.many, c.loop-test.true))
     (kept at) says
 
 pub loop-preserved : goal.loop-preserved
 loop-preserved c =
-    let at = (goal.at.loop-preserved c).After-forget_unless in
+    let at = (goal.at.loop-preserved c).After-delete_unless in
     let learned = subst (IsTurn c.turn.new.self c.args.formula.now.cnf
-    c.forget_unless.new.log.steps c.turn.new.log.steps) c.in-Learned.is
+    c.delete_unless.new.log.steps c.turn.new.log.steps) c.in-Learned.is
     c.in_ok-turn.ensures.turn in
     let says = underway_next (on at) learned in
-    let then = tracked_next c.forget_unless.ensures.tracked learned in
+    let then = tracked_next c.delete_unless.ensures.tracked learned in
     record {
       underway = says.0;
       tracked = then.0;
       kept = λ all. then.1 ∙ kept at all;
-      many = omega (arith, says.1, c.forget_unless.ensures.none_added, c.loop.invariant.many);
+      many = omega (arith, says.1, c.delete_unless.ensures.none_added, c.loop.invariant.many);
     }
 
 pub returns : goal.returns

@@ -6,7 +6,8 @@ use Rattle.sat_merge.proofs.lemmas.log_lemma.Goals as goal
 
 pub returns-clause-within : goal.returns-clause-within
 returns-clause-within c = λ is.
-    c.are_kept.ensures.within c.if-not-are_kept.false c.args.live.now.vars c.requires.leaders
+    c.are_kept.ensures.within c.if-not-are_kept.false c.args.live.now.vars
+    c.requires.representatives
 
 pub returns-clause-added : goal.returns-clause-added
 returns-clause-added c = λ is formula finds.

@@ -4,7 +4,7 @@ use Rattle.sat_merge.proofs.LemmaLaws.{twin_at}
 use Rattle.sat_merge.proofs.lemmas.place_twin.Goals as goal
 
 pub returns : goal.returns
-returns c leads formula log are =
+returns c is_representative formula log are =
     let same = c.are_same.ensures c.if-not-are_same.false in
     let some : 1 ≤ get_or c.args.places.now.ids c.args.other 0 =
     omega (arith, c.of-id.ensures, c.if-id-eq0.false) in

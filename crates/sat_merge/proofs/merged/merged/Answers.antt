@@ -1,13 +1,13 @@
 use Rattle.std.proofs.Common.{arith, refl}
 use Rattle.std.proofs.lemmas.Bool.{both_ways}
-use Rattle.sat_merge.specs.Leaders.{keeps}
+use Rattle.sat_merge.specs.Representatives.{keeps}
 use Rattle.sat_merge.proofs.MergedLaws.{merged-next, merged-whole}
 use Rattle.sat_merge.proofs.merged.merged.Goals as goal
 
 -- a clause that is kept is added as it stands
 pub loop-at-preserved-then-are_kept : goal.loop-at-preserved-then-are_kept
 loop-at-preserved-then-are_kept c =
-    merged-next (keeps c.args.leaders.now) c.args.formula.now.cnf c.loop-at.merged.cnf
+    merged-next (keeps c.args.representatives.now) c.args.formula.now.cnf c.loop-at.merged.cnf
     c.loop-at.at c.loop-at.invariant c.add.new.formula.cnf c.clause-clause.result.now
     c.clause-clause.result.now c.in_ok-add.ensures.vars c.in_ok-add.ensures.clauses
     c.clause-clause.ensures.value (λ kept. refl)
@@ -21,7 +21,7 @@ add-requires-in-loop-at-clause-within c =
 -- and the image of another one in its place
 pub loop-at-preserved : goal.loop-at-preserved
 loop-at-preserved c =
-    merged-next (keeps c.args.leaders.now) c.args.formula.now.cnf c.loop-at.merged.cnf
+    merged-next (keeps c.args.representatives.now) c.args.formula.now.cnf c.loop-at.merged.cnf
     c.loop-at.at c.loop-at.invariant c.add-in-loop-at.new.formula.cnf
     c.clause-clause.result.now c.deref.result.now c.in_ok-add-2.ensures.vars
     c.in_ok-add-2.ensures.clauses c.clause-clause.ensures.value
@@ -29,5 +29,5 @@ loop-at-preserved c =
 
 pub returns : goal.returns
 returns c =
-    merged-whole (keeps c.args.leaders.now) c.args.formula.now.cnf c.loop-at.merged.cnf
+    merged-whole (keeps c.args.representatives.now) c.args.formula.now.cnf c.loop-at.merged.cnf
     c.loop-at.at c.loop-at.invariant (omega arith)

@@ -1,4 +1,4 @@
 use Rattle.sat_merge.proofs.merged.put_image.Goals as goal
 
 pub returns : goal.returns
-returns c = λ vars many within. c.put_leaders.ensures vars many
+returns c = λ vars many within. c.put_representatives.ensures vars many

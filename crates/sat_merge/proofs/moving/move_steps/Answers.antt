@@ -4,7 +4,7 @@ use Rattle.sat_clause.specs.Step.{Step}
 use Rattle.sat_merge.specs.Moving.{IsMoving}
 use Rattle.list_laws.proofs.Places.{take-get}
 use Rattle.sat_check.specs.Verdict.{step_of}
-use Rattle.sat_merge.specs.Leaders.{keeps}
+use Rattle.sat_merge.specs.Representatives.{keeps}
 use Rattle.sat_merge.proofs.MovingLaws.{moving_none}
 use Rattle.sat_merge.proofs.moving.move_steps.Goals as goal
 
@@ -13,7 +13,7 @@ loop-at-init c = record {
   live = refl;
   vars = refl;
   moving = λ formula found.
-      moving_none (keeps c.args.leaders.now) formula c.args.places.now c.args.live.now
+      moving_none (keeps c.args.representatives.now) formula c.args.places.now c.args.live.now
       c.args.log.now.steps found;
 }
 
@@ -33,7 +33,7 @@ loop-at-preserved c =
 pub returns : goal.returns
 returns c = λ is formula found.
     subst
-    (λ (steps : List Step). IsMoving (keeps c.args.leaders.now) formula c.args.places.now
+    (λ (steps : List Step). IsMoving (keeps c.args.representatives.now) formula c.args.places.now
     c.args.log.now.steps steps c.loop-at.live c.loop-at.log.steps)
     (take_all c.loop-at.at c.args.steps.now.steps
     (omega (arith, c.loop-at-test.false, c.len-at-end.ensures)))

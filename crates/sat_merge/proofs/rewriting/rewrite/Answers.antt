@@ -2,7 +2,7 @@ use Rattle.std.proofs.Common.{◌∙◌, ap, add-one, sym, take}
 use Rattle.list_laws.proofs.Places.{take-get}
 use Rattle.sat_check.specs.Verdict.{step_of}
 use Rattle.sat_merge.specs.Hints.{HintState}
-use Rattle.sat_merge.specs.Leaders.{keeps}
+use Rattle.sat_merge.specs.Representatives.{keeps}
 use Rattle.sat_merge.proofs.RewrittenLaws.{rewritten_none}
 use Rattle.sat_merge.proofs.rewriting.rewrite.Goals as goal
 
@@ -11,7 +11,7 @@ loop-at-init c = record {
   live = c.in_ok-live.ensures.vars;
   writer = ap (λ (w : HintState). w.vars) c.in_ok-writer.ensures ∙ c.vars.ensures.value;
   rewriting = rw c.requires.fresh (record {
-    rewritten = rewritten_none (keeps c.args.leaders.now) c.args.formula.now.cnf;
+    rewritten = rewritten_none (keeps c.args.representatives.now) c.args.formula.now.cnf;
     found = c.in_ok-live.ensures.live;
   });
 }

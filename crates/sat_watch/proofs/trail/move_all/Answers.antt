@@ -3,7 +3,7 @@ use Rattle.std.proofs.lemmas.List.{append-nil}
 use Rattle.std.proofs.lemmas.List.Edits.{map_over_more}
 use Rattle.std.proofs.Math.Seq.{take-length, drop-length}
 use Rattle.sat_arena.specs.Compact.{moved_by}
-use Rattle.sat_watch.specs.Forget.{entry_moved}
+use Rattle.sat_watch.specs.Delete.{entry_moved}
 use Rattle.sat_watch.proofs.StoredLemmas.{default_free}
 use Rattle.sat_watch.proofs.trail.move_all.Goals as goal
 

@@ -1,6 +1,6 @@
 use Rattle.std.proofs.Common.{◌≡◌, ◌++◌, drop, map, take}
 use Rattle.sat_arena.specs.Compact.{moved_by}
-use Rattle.sat_watch.specs.Forget.{entry_moved}
+use Rattle.sat_watch.specs.Delete.{entry_moved}
 use Rattle.sat_watch.proofs.trail.move_all.Given as goal
 
 -- the entries so far have their reasons moved

@@ -1,4 +1,4 @@
-use Rattle.sat_watch.proofs.ForgetLemmas.{near_moved}
+use Rattle.sat_watch.proofs.DeleteLemmas.{near_moved}
 use Rattle.sat_watch.proofs.trail.moved.Goals as goal
 
 pub of-requires : goal.of-requires

@@ -10,7 +10,7 @@ pub loop-next-init : goal.loop-next-init
 loop-next-init c = record {
   vars = refl;
   whole = c.requires.whole;
-  looks = refl;
+  visits = refl;
   walking =
       subst (λ b. IsWalking c.args.trail.now.entries c.args.level c.args.f
       c.args.chains.now.clauses 0 c.args.chains.now c.args.trail.now.entries b c.head-next.result
@@ -43,27 +43,28 @@ loop-next-preserved c =
     record {
       vars = c.visit_clause.ensures.vars ∙ l.invariant.vars;
       whole = c.visit_clause.ensures.whole;
-      looks = l.invariant.looks;
+      visits = l.invariant.visits;
       walking =
           walks_on l.invariant.walking c.in-Some.is c.place-at.ensures.clause
           c.in-Some-visit_clause.ensures.visited c.visit_clause.ensures.goes;
     }
 
-pub returns-in_default-visit_clause-clause-looks : goal.returns-in_default-visit_clause-clause-looks
-returns-in_default-visit_clause-clause-looks c =
+pub returns-in_default-visit_clause-clause-visits :
+    goal.returns-in_default-visit_clause-clause-visits
+returns-in_default-visit_clause-clause-visits c =
     let l = c.loop-next in let few = few_here l.invariant.walking c.in-Some.is in
-    omega (arith, c.saturating_add-in_default-visit_clause.ensures, l.invariant.looks, few)
+    omega (arith, c.saturating_add-in_default-visit_clause.ensures, l.invariant.visits, few)
 
-pub returns-clause-looks : goal.returns-clause-looks
-returns-clause-looks c =
+pub returns-clause-visits : goal.returns-clause-visits
+returns-clause-visits c =
     let l = c.loop-next in let few = l.invariant.walking.few in
-    omega (arith, c.saturating_add-2.ensures, l.invariant.looks, few)
+    omega (arith, c.saturating_add-2.ensures, l.invariant.visits, few)
 
 pub returns-clause-each : goal.returns-clause-each
 returns-clause-each c =
     let l = c.loop-next in
     let each = walk_counts l.invariant.walking c.in_default.is l.invariant.whole.chained in
-    omega (arith, c.saturating_add-2.ensures, l.invariant.looks)
+    omega (arith, c.saturating_add-2.ensures, l.invariant.visits)
 
 pub returns-clause-none : goal.returns-clause-none
 returns-clause-none c =
@@ -81,13 +82,13 @@ pub returns-in-Some-tail_from-clause-goes : goal.returns-in-Some-tail_from-claus
 returns-in-Some-tail_from-clause-goes c =
     goes_trans c.loop-next.invariant.walking.goes c.walk_tail.ensures.goes
 
-pub returns-in-Some-tail_from-clause-looks : goal.returns-in-Some-tail_from-clause-looks
-returns-in-Some-tail_from-clause-looks c =
-    let at = (goal.at.returns-in-Some-tail_from-clause-looks c).In-Some-tail_from in
+pub returns-in-Some-tail_from-clause-visits : goal.returns-in-Some-tail_from-clause-visits
+returns-in-Some-tail_from-clause-visits c =
+    let at = (goal.at.returns-in-Some-tail_from-clause-visits c).In-Some-tail_from in
     let l = c.loop-next in
     let few = tail_few l.invariant.walking c.in-Some-tail_from.others.now
     (refs c.in-Some-tail_from.words.now) (tail at) c.walk_tail.ensures.goes in
-    omega (arith, c.saturating_add.ensures, l.invariant.looks, c.walk_tail.ensures.looks)
+    omega (arith, c.saturating_add.ensures, l.invariant.visits, c.walk_tail.ensures.visits)
 
 -- what follows from a fact follows where there is none too
 none_more : {X A B : Type 0} (o : Option X) → (A → B) → IfNone o A → IfNone o B
@@ -112,4 +113,4 @@ returns-in-Some-tail_from-clause-each c =
     (refs c.in-Some-tail_from.words.now) (tail at) c.walk_tail.ensures.goes
     l.invariant.whole.chained in
     none_more c.walk_tail.result
-    (λ each. omega (arith, c.saturating_add.ensures, l.invariant.looks)) c.walk_tail.ensures.each
+    (λ each. omega (arith, c.saturating_add.ensures, l.invariant.visits)) c.walk_tail.ensures.each

@@ -8,7 +8,7 @@ abbrev pub invariant-loop-next : goal.invariant-loop-next
 invariant-loop-next l = record {
   vars : l.chains.vars ≡ l.initial.chains.vars;
   whole : AreWhole l.chains l.trail;
-  looks : l.looks ≡ l.initial.looks;
+  visits : l.visits ≡ l.initial.visits;
   walking : IsWalking l.initial.trail.entries l.level l.f l.initial.chains.clauses 0
       l.chains l.trail.entries l.before l.next l.walked;
 }

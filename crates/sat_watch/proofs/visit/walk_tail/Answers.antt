@@ -46,7 +46,7 @@ loop-i-preserved c =
           l.invariant.done)
           (All-cons is_true (lit_at a.others.now l.i) [] (e.is_true c.if-not-visit_pair.false)
           (All-nil is_true)));
-      looks = l.invariant.looks;
+      visits = l.invariant.visits;
     }
 
 pub clause_in-requires : goal.clause_in-requires

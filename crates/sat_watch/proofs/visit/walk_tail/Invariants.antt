@@ -10,5 +10,5 @@ invariant-loop-i l = record {
   goes : GoesTo l.fn.level l.fn.f l.chains l.initial.trail l.chains l.trail;
   still_false : is_false l.trail.entries l.fn.f ≡ true;
   done : All (λ o. is_false l.trail.entries (negation o) ≡ true) (take l.i l.others);
-  looks : l.looks ≡ l.initial.looks;
+  visits : l.visits ≡ l.initial.visits;
 }

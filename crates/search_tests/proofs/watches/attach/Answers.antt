@@ -8,7 +8,7 @@ attach-requires c =
     let a = c.args in let s = c.requires.start in
     record {
       simple = subst (λ n. IsSimple n a.lits.now) (sym s.vars) c.requires.simple;
-      quiet = s.due;
+      quiet = s.pending;
       may = inl (free_at_start a.vars a.watches.now.trail a.lits.now s.trail c.requires.simple
           c.requires.two);
     }

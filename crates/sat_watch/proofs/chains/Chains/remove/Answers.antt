@@ -4,7 +4,7 @@ use Rattle.sat_arena.specs.Compact.{compacted, moves_of}
 use Rattle.sat_arena.specs.Store.{Store, Stored}
 use Rattle.sat_watch.specs.Chains.{IsChained}
 use Rattle.sat_watch.specs.Relinking.{AreRefsOf, AreUnlinked, marked}
-use Rattle.sat_watch.proofs.ForgetLemmas.{refs_without, unlinked_without, unmarked_again}
+use Rattle.sat_watch.proofs.DeleteLemmas.{refs_without, unlinked_without, unmarked_again}
 use Rattle.sat_watch.proofs.RelinkLemmas.{marked_held}
 use Rattle.sat_watch.proofs.TailLemmas.{no_tails}
 use Rattle.sat_watch.proofs.chains.Chains.remove.Goals as goal

@@ -1,6 +1,6 @@
 use Rattle.std.proofs.Common.{map, ap, ◌∙◌}
 use Rattle.sat_arena.specs.Compact.{moved_by}
-use Rattle.sat_watch.specs.Forget.{entry_moved}
+use Rattle.sat_watch.specs.Delete.{entry_moved}
 use Rattle.sat_watch.specs.Trail.{TrailState}
 use Rattle.sat_watch.proofs.ReasonLemmas.{store_moved, turned_moved}
 use Rattle.sat_watch.proofs.trail.Trail.move_reasons.Goals as goal

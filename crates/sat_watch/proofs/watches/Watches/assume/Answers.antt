@@ -5,7 +5,7 @@ use Rattle.sat_clause.specs.Literal.{IsWithin}
 use Rattle.sat_watch.specs.Levels.{IsWatchStore}
 use Rattle.sat_watch.specs.Watches.{WatchState}
 use Rattle.sat_watch.proofs.BackLemmas.{few_levels}
-use Rattle.sat_watch.proofs.SettledLemmas.{store_assume}
+use Rattle.sat_watch.proofs.PropagatedLemmas.{store_assume}
 use Rattle.sat_watch.proofs.WatchesLemmas.{longer_whole}
 use Rattle.sat_watch.proofs.watches.Watches.assume.Goals as goal
 
@@ -26,7 +26,8 @@ overflow_add-self c =
 pub invariant_of-self : goal.invariant_of-self
 invariant_of-self c =
     let i = c.self.inside in
-    let none : i.due ≡ None = ap (λ (s : WatchState). s.due) c.self.view_is ∙ c.requires.quiet in
+    let none : i.pending ≡ None =
+    ap (λ (s : WatchState). s.pending) c.self.view_is ∙ c.requires.quiet in
     let empty : i.queued ≡ 0 =
     ap (λ (s : WatchState). s.queued) c.self.view_is ∙ c.requires.empty in
     let free = rw (← c.self.view_is) at c.requires.open in

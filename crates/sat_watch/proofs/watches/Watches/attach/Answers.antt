@@ -81,9 +81,9 @@ attach_true-requires c =
           (tested at.After-is_false ∙ c.if-is_false.true);
     }
 
-pub attach_due-requires : goal.attach_due-requires
-attach_due-requires c =
-    let at = goal.at.attach_due-requires c in let first = first at.In-Some in
+pub attach_pending-requires : goal.attach_pending-requires
+attach_pending-requires c =
+    let at = goal.at.attach_pending-requires c in let first = first at.In-Some in
     let after = no_other at.In_default-free_position in
     let is = is_open_here first after c.requires.may
     (tested at.After-is_false ∙ c.if-is_false.false) in
@@ -109,9 +109,10 @@ returns-then-is_false-clause-ok c =
 pub returns-clause-ok : goal.returns-clause-ok
 returns-clause-ok c =
     let at = goal.at.returns-clause-ok c in let now = tested at.After-is_false in
-    let old = c.args.self.now in let new = c.attach_due.new.self in let lits = c.args.lits.now in
-    IfOk-weaker c.attach_due.result (λ r. IsAttachedAs old new lits c.args.id (Some r) r)
+    let old = c.args.self.now in let new = c.attach_pending.new.self in
+    let lits = c.args.lits.now in
+    IfOk-weaker c.attach_pending.result (λ r. IsAttachedAs old new lits c.args.id (Some r) r)
     (λ r. Attaches old new lits c.args.id r) (λ r as_is. attaches as_is (λ is. refl)
     (λ is. absurd (open_alone (first at.In-Some) (no_other at.In_default-free_position)
     (now ∙ c.if-is_false.false) is)))
-    c.attach_due.ensures.ok
+    c.attach_pending.ensures.ok

@@ -19,8 +19,8 @@ invariant_of-self c =
             c.self.invariant.whole.trail;
       };
       store = subst (λ t. IsWatchStore ks t 0 c.args.level None) (sym same)
-          (store_back ks i.trail.entries i.queued i.level i.due c.args.level c.self.invariant.store
-          c.self.invariant.whole.trail.once lower);
+          (store_back ks i.trail.entries i.queued i.level i.pending c.args.level
+          c.self.invariant.store c.self.invariant.whole.trail.once lower);
     }
 
 pub returns : goal.returns

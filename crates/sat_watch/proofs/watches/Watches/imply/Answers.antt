@@ -6,7 +6,7 @@ use Rattle.sat_clause.specs.Literal.{IsWithin}
 use Rattle.sat_watch.specs.Levels.{IsWatchStore}
 use Rattle.sat_watch.specs.Watched.{IsReason}
 use Rattle.sat_watch.specs.Watches.{WatchState, is_attached, lits_at}
-use Rattle.sat_watch.proofs.SettledLemmas.{store_imply}
+use Rattle.sat_watch.proofs.PropagatedLemmas.{store_imply}
 use Rattle.sat_watch.proofs.WatchesLemmas.{attached_held, attached_lits, longer_whole}
 use Rattle.sat_watch.proofs.watches.Watches.imply.Goals as goal
 use Rattle.sat_watch.proofs.watches.Watches.imply.Goals.{After-self}
@@ -36,7 +36,7 @@ invariant_of-self c =
     (subst (λ (s : WatchState). IsReason s.trail (lits_at s.clauses a.reason) a.l)
     (sym c.self.view_is) c.requires.unit) in
     let next : suc i.queued ≡ i.queued + 1 = omega arith in
-    let after = store_imply ks i.trail.entries i.queued i.level i.due a.l a.reason
+    let after = store_imply ks i.trail.entries i.queued i.level i.pending a.l a.reason
     c.self.invariant.store free c.self.invariant.whole.trail.once
     (held (goal.at.invariant_of-self c).After-self) why in
     let e : TrailEntry = record { lit = a.l; level = i.level; reason = Some a.reason } in
@@ -53,6 +53,6 @@ invariant_of-self c =
       store =
           subst (λ (p : List TrailEntry × ℕ × Option ClauseRef). IsWatchStore ks p.0 p.1 i.level
           p.2)
-          (λ x. (sym entries x, next x, sym c.due_without-self-inside.ensures x))
+          (λ x. (sym entries x, next x, sym c.pending_without-self-inside.ensures x))
           after;
     }

@@ -1,13 +1,13 @@
 use Rattle.std.proofs.Common.{◌≡◌, ◌-◌, length, None, Some, true, All, refl, sym, ap, ◌∙◌, subst, arith, length-append}
 use Rattle.sat_watch.specs.Watched.{is_false}
-use Rattle.sat_watch.proofs.WatchesLemmas.{IsStep, at_false, at_queue, attached_held, attached_lits, step_each, step_ended, step_fewer, step_looks, step_propagates, step_stopped}
+use Rattle.sat_watch.proofs.WatchesLemmas.{IsStep, at_false, at_queue, attached_held, attached_lits, step_each, step_ended, step_fewer, step_visits, step_propagates, step_stopped}
 use Rattle.sat_watch.proofs.watches.Watches.take_queued.Goals as goal
 use Rattle.sat_watch.proofs.watches.Watches.take_queued.Goals.{After-len}
 
 step : (c : After-len) →
     IsStep c.self.inside.chains c.walk-found.new.chains c.self.inside.trail c.walk-found.new.trail
-    c.self.inside.queued c.self.inside.level c.self.inside.due c.negation.result c.at-entry.result
-    (c.len.result - c.len-before.result)
+    c.self.inside.queued c.self.inside.level c.self.inside.pending c.negation.result
+    c.at-entry.result (c.len.result - c.len-before.result)
 step c =
     let goes = c.walk-found.ensures.goes in
     record {
@@ -65,17 +65,17 @@ returns-in-Some-clause-stopped c =
     subst (All (λ m. is_false c.walk-found.new.trail.entries m ≡ true))
     (sym (attached_lits c.walk-found.new.chains.clauses c.in-Some.c)) c.in-Some.ensures.stopped
 
-pub returns-in-Some-clause-looks : goal.returns-in-Some-clause-looks
-returns-in-Some-clause-looks c =
+pub returns-in-Some-clause-visits : goal.returns-in-Some-clause-visits
+returns-in-Some-clause-visits c =
     rw (← c.self.view_is)
-    (step_looks (step (goal.at.returns-in-Some-clause-looks c).After-len) _ (Some c.in-Some.c) _ _
-    refl c.walk-found.ensures.looks)
+    (step_visits (step (goal.at.returns-in-Some-clause-visits c).After-len) _ (Some c.in-Some.c) _ _
+    refl c.walk-found.ensures.visits)
 
-pub returns-clause-looks : goal.returns-clause-looks
-returns-clause-looks c =
+pub returns-clause-visits : goal.returns-clause-visits
+returns-clause-visits c =
     rw (← c.self.view_is)
-    (step_looks (step (goal.at.returns-clause-looks c).After-len) _ None _ _ refl
-    c.walk-found.ensures.looks)
+    (step_visits (step (goal.at.returns-clause-visits c).After-len) _ None _ _ refl
+    c.walk-found.ensures.visits)
 
 pub returns-in-Some-clause-fewer : goal.returns-in-Some-clause-fewer
 returns-in-Some-clause-fewer c =

@@ -1,8 +1,0 @@
-use Rattle.std.proofs.Common.{take}
-use Rattle.sat_merge.specs.Leaders.{keeps}
-use Rattle.sat_merge.specs.Rewritten.{AreKept}
-use Rattle.sat_merge.proofs.leaders.Leaders.are_kept.Given as goal
-
--- the literals so far are kept
-abbrev pub invariant-loop-l : goal.invariant-loop-l
-invariant-loop-l l = AreKept (keeps l.self) (take l.l-index l.clause)
