@@ -1,8 +1,9 @@
 //! What a search knows of each wire, pin, cell and class.
 
 use crate::board::Board;
-use crate::costs::{PIN, WIRE, cost_of, kept_after};
+use crate::costs::{PIN, WIRE};
 use crate::frame::Point;
+use crate::held::Held;
 use crate::sites::{opened_tracks, pin_at};
 use crate::tree::Tree;
 use crate::wires::{cell_of, track_of};
@@ -13,29 +14,24 @@ pub(crate) const ROOT: u32 = u32::MAX;
 /// In place of the wire that a wave came from: it began here, at the driver.
 pub(crate) const DRIVER: u32 = u32::MAX - 1;
 
-/// A wire: how far it is in the wave `seen` and from which wire; what it costs; in which tree it
-/// was last; how many nets take it, and what is kept of fights for it. As there are many, each has
-/// 20 bytes.
+/// A wire: how far it is in the wave `seen` and from which wire; in which tree it was last; what it
+/// costs, and how many nets take it. As there are many, each has 20 bytes.
 #[derive(Clone, Copy)]
 pub(crate) struct Spot {
     pub dist: u32,
     pub from: u32,
-    pub cost: u32,
     pub seen: u16,
     pub tree: u16,
-    pub taken: u16,
-    pub kept: u16,
+    pub held: Held,
 }
 
-/// A pin: the tracks that it opens, the class that it is of; what it costs, how many nets take it,
-/// and what is kept of fights for it.
+/// A pin: the tracks that it opens, the class that it is of; what it costs, and how many nets take
+/// it.
 #[derive(Clone, Copy)]
 pub(crate) struct PinSpot {
     pub opened: u64,
     pub class: u32,
-    pub cost: u32,
-    pub taken: u16,
-    pub kept: u16,
+    pub held: Held,
 }
 
 /// Which class of those that the tree has to reach is nearest, and how many steps it is away.
@@ -75,52 +71,19 @@ impl Spot {
     const FREE: Spot = Spot {
         dist: 0,
         from: ROOT,
-        cost: WIRE as u32,
         seen: 0,
         tree: 0,
-        taken: 0,
-        kept: 0,
+        held: Held::WIRE,
     };
-
-    /// The same, taken by so many nets.
-    fn taken_by(self, taken: u16, present: u64) -> Spot {
-        Spot {
-            taken,
-            cost: cost_of(WIRE, self.kept, taken, present),
-            ..self
-        }
-    }
-
-    /// The same, after a round.
-    fn after_round(self, present: u64) -> Spot {
-        let kept = kept_after(self.kept, self.taken);
-        Spot {
-            kept,
-            cost: cost_of(WIRE, kept, self.taken, present),
-            ..self
-        }
-    }
 }
 
 impl PinSpot {
-    /// The same, taken by so many nets.
-    fn taken_by(self, taken: u16, present: u64) -> PinSpot {
-        PinSpot {
-            taken,
-            cost: cost_of(PIN, self.kept, taken, present),
-            ..self
-        }
-    }
-
-    /// The same, after a round.
-    fn after_round(self, present: u64) -> PinSpot {
-        let kept = kept_after(self.kept, self.taken);
-        PinSpot {
-            kept,
-            cost: cost_of(PIN, kept, self.taken, present),
-            ..self
-        }
-    }
+    /// A pin that opens no track.
+    const SHUT: PinSpot = PinSpot {
+        opened: 0,
+        class: u32::MAX,
+        held: Held::PIN,
+    };
 }
 
 impl Field {
@@ -145,8 +108,7 @@ impl Field {
             *spot = Spot::FREE;
         }
         for pin in self.pins.iter_mut() {
-            pin.kept = 0;
-            *pin = pin.taken_by(0, present);
+            pin.held = Held::PIN;
         }
         self.forget_trees();
         self.forget_waves();
@@ -206,7 +168,7 @@ impl Field {
             self.spots[place]
         } else {
             Spot {
-                cost: u32::MAX,
+                held: Held::NONE,
                 ..Spot::FREE
             }
         }
@@ -282,14 +244,9 @@ impl Field {
     pub(crate) fn pin(&self, pin: u32) -> PinSpot {
         let place = pin as usize;
         if place < self.pins.len() {
-            return self.pins[place];
-        }
-        PinSpot {
-            opened: 0,
-            class: u32::MAX,
-            cost: PIN as u32,
-            taken: 0,
-            kept: 0,
+            self.pins[place]
+        } else {
+            PinSpot::SHUT
         }
     }
 
@@ -297,8 +254,7 @@ impl Field {
     pub(crate) fn take(&mut self, tree: &Tree) {
         for step in 0..tree.steps.len() {
             for wire in tree.new_wires_of(step) {
-                let taken = self.spot(*wire).taken.saturating_add(1);
-                self.set_wire_taken(*wire, taken);
+                self.take_wire(*wire);
             }
             self.take_pin(tree.steps[step].pin);
         }
@@ -309,34 +265,38 @@ impl Field {
     pub(crate) fn give(&mut self, tree: &Tree) {
         for step in 0..tree.steps.len() {
             for wire in tree.new_wires_of(step) {
-                let taken = self.spot(*wire).taken.saturating_sub(1);
-                self.set_wire_taken(*wire, taken);
+                self.give_wire(*wire);
             }
             self.give_pin(tree.steps[step].pin);
         }
         self.give_pin(tree.leaves);
     }
 
-    fn set_wire_taken(&mut self, wire: u32, taken: u16) {
+    fn take_wire(&mut self, wire: u32) {
         let place = self.place_of(wire);
         if place < self.spots.len() {
-            self.spots[place] = self.spots[place].taken_by(taken, self.present);
+            self.spots[place].held = self.spots[place].held.given_to_one(WIRE, self.present);
+        }
+    }
+
+    fn give_wire(&mut self, wire: u32) {
+        let place = self.place_of(wire);
+        if place < self.spots.len() {
+            self.spots[place].held = self.spots[place].held.given_back(WIRE, self.present);
         }
     }
 
     fn take_pin(&mut self, pin: u32) {
         let place = pin as usize;
         if place < self.pins.len() {
-            let taken = self.pins[place].taken.saturating_add(1);
-            self.pins[place] = self.pins[place].taken_by(taken, self.present);
+            self.pins[place].held = self.pins[place].held.given_to_one(PIN, self.present);
         }
     }
 
     fn give_pin(&mut self, pin: u32) {
         let place = pin as usize;
         if place < self.pins.len() {
-            let taken = self.pins[place].taken.saturating_sub(1);
-            self.pins[place] = self.pins[place].taken_by(taken, self.present);
+            self.pins[place].held = self.pins[place].held.given_back(PIN, self.present);
         }
     }
 
@@ -344,25 +304,25 @@ impl Field {
     pub(crate) fn is_contested(&self, tree: &Tree) -> bool {
         for step in 0..tree.steps.len() {
             for wire in tree.new_wires_of(step) {
-                if self.spot(*wire).taken > 1 {
+                if self.spot(*wire).held.taken > 1 {
                     return true;
                 }
             }
-            if self.pin(tree.steps[step].pin).taken > 1 {
+            if self.pin(tree.steps[step].pin).held.taken > 1 {
                 return true;
             }
         }
-        self.pin(tree.leaves).taken > 1
+        self.pin(tree.leaves).held.taken > 1
     }
 
     /// How many nets are too many, over all wires and pins.
     pub(crate) fn excess(&self) -> u64 {
         let mut excess: u64 = 0;
         for spot in self.spots.as_slice() {
-            excess = excess.saturating_add(spot.taken.saturating_sub(1) as u64);
+            excess = excess.saturating_add(spot.held.excess() as u64);
         }
         for pin in self.pins.as_slice() {
-            excess = excess.saturating_add(pin.taken.saturating_sub(1) as u64);
+            excess = excess.saturating_add(pin.held.excess() as u64);
         }
         excess
     }
@@ -372,10 +332,10 @@ impl Field {
     pub(crate) fn end_round(&mut self, present: u64) {
         self.present = present;
         for spot in self.spots.iter_mut() {
-            *spot = spot.after_round(present);
+            spot.held = spot.held.after_round(WIRE, present);
         }
         for pin in self.pins.iter_mut() {
-            *pin = pin.after_round(present);
+            pin.held = pin.held.after_round(PIN, present);
         }
     }
 
@@ -398,13 +358,7 @@ fn pin_spots(alloc: Global, board: &Board<'_>) -> Result<Vec<PinSpot>, AllocErro
 fn pin_spot(board: &Board<'_>, number: u32) -> PinSpot {
     let block = board.pins.block_of(number);
     let pin = board.pins.pin_in_block(number);
-    let mut spot = PinSpot {
-        opened: 0,
-        class: u32::MAX,
-        cost: PIN as u32,
-        taken: 0,
-        kept: 0,
-    };
+    let mut spot = PinSpot::SHUT;
     let width = board.fabric.width;
     let blocks = board.netlist.blocks.as_slice();
     let places = board.placement.places.as_slice();

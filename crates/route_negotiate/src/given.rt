@@ -133,7 +133,9 @@ impl Follower {
             return Ok(false);
         }
         field.grow(wire);
-        self.shared = self.shared.saturating_add(field.spot(wire).taken as u64);
+        self.shared = self
+            .shared
+            .saturating_add(field.spot(wire).held.taken as u64);
         self.before = Before::Wire(wire);
         tree.path.push(wire)?;
         Ok(true)
@@ -169,7 +171,9 @@ impl Follower {
             return false;
         };
         self.pin = number;
-        self.shared = self.shared.saturating_add(field.pin(number).taken as u64);
+        self.shared = self
+            .shared
+            .saturating_add(field.pin(number).held.taken as u64);
         true
     }
 
@@ -239,12 +243,12 @@ fn shared_on(
                 None => first_wire(board, net, pin, cell, track)?,
                 Some(wire) => next_wire(board, wire, cell)?,
             };
-            shared = shared.saturating_add(field.spot(wire).taken as u64);
+            shared = shared.saturating_add(field.spot(wire).held.taken as u64);
             last = Some(wire);
             continue;
         }
         let entered = entered_pin(board, field, last?, *e)?;
-        return Some(shared.saturating_add(field.pin(entered).taken as u64));
+        return Some(shared.saturating_add(field.pin(entered).held.taken as u64));
     }
     None
 }

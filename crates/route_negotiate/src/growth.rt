@@ -121,7 +121,7 @@ fn leaving_pin(board: &Board<'_>, field: &Field, net: usize, wire: u32) -> u32 {
     let mut least = u32::MAX;
     let mut leaves = u32::MAX;
     for start in board.nets.starts_of(net) {
-        let cost = field.pin(start.pin).cost.saturating_add(start.extra);
+        let cost = field.pin(start.pin).held.cost.saturating_add(start.extra);
         if start.cell == cell_of(wire) && has_track(start.opened, track_of(wire)) && cost < least {
             least = cost;
             leaves = start.pin;

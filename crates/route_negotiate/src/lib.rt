@@ -12,6 +12,7 @@ mod front;
 mod given;
 mod growth;
 mod heap;
+mod held;
 mod nets;
 mod options;
 mod own_field;

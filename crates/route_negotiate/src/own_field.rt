@@ -1,19 +1,12 @@
 //! What a search within own cells knows of wires: of those of the array, how many nets take them,
 //! and of those of one net, how far they are.
 
-use crate::costs::{WIRE, cost_of, kept_after};
+use crate::costs::WIRE;
+use crate::held::Held;
 use std::alloc::{AllocError, Global};
 
 /// In place of the wire that a wave came from: it began here.
 pub(crate) const BEGIN: u32 = u32::MAX;
-
-/// A wire of the array: what it costs, how many nets take it, and what is kept of fights for it.
-#[derive(Clone, Copy)]
-pub(crate) struct Held {
-    pub cost: u32,
-    pub taken: u16,
-    pub kept: u16,
-}
 
 /// A wire of the net in hand: how far the wave of the tree `seen` came to it, and over how many
 /// joins; from which wire; and in which tree it was last.
@@ -43,31 +36,6 @@ pub(crate) struct OwnField {
     pub tree: u32,
 }
 
-impl Held {
-    /// A wire that no net takes.
-    const FREE: Held = Held {
-        cost: WIRE as u32,
-        taken: 0,
-        kept: 0,
-    };
-
-    /// The same, taken by so many nets.
-    fn taken_by(self, taken: u16, present: u64) -> Held {
-        let cost = cost_of(WIRE, self.kept, taken, present);
-        Held {
-            taken,
-            cost,
-            ..self
-        }
-    }
-
-    /// The same, after a round.
-    fn after_round(self, present: u64) -> Held {
-        let kept = kept_after(self.kept, self.taken);
-        Held { kept, ..self }.taken_by(self.taken, present)
-    }
-}
-
 impl Step {
     /// A wire that no wave came to.
     const UNSEEN: Step = Step {
@@ -90,7 +58,7 @@ impl OwnField {
     ) -> Result<OwnField, AllocError> {
         Ok(OwnField {
             width,
-            held: vec![in alloc; Held::FREE; wires_of(cells, width)]?,
+            held: vec![in alloc; Held::WIRE; wires_of(cells, width)]?,
             steps: vec![in alloc; Step::UNSEEN; wires_of(slots, width)]?,
             present: 0,
             tree: 0,
@@ -100,7 +68,7 @@ impl OwnField {
     /// Gives back all that nets take, and forgets all fights.
     pub(crate) fn clear(&mut self, present: u64) {
         self.present = present;
-        self.held.fill(Held::FREE);
+        self.held.fill(Held::WIRE);
     }
 
     /// Begins another tree, and its wave: no wire is in them.
@@ -163,30 +131,25 @@ impl OwnField {
     pub(crate) fn held(&self, cell: u32, track: u32) -> Held {
         let place = self.place_of(cell, track);
         if place < self.held.len() {
-            return self.held[place];
-        }
-        Held {
-            cost: u32::MAX,
-            ..Held::FREE
+            self.held[place]
+        } else {
+            Held::NONE
         }
     }
 
     /// Lets one more net take a wire of the array.
     pub(crate) fn take(&mut self, cell: u32, track: u32) {
-        let taken = self.held(cell, track).taken.saturating_add(1);
-        self.set_taken(cell, track, taken);
+        let place = self.place_of(cell, track);
+        if place < self.held.len() {
+            self.held[place] = self.held[place].given_to_one(WIRE, self.present);
+        }
     }
 
     /// Takes a wire of the array from a net.
     pub(crate) fn give(&mut self, cell: u32, track: u32) {
-        let taken = self.held(cell, track).taken.saturating_sub(1);
-        self.set_taken(cell, track, taken);
-    }
-
-    fn set_taken(&mut self, cell: u32, track: u32, taken: u16) {
         let place = self.place_of(cell, track);
         if place < self.held.len() {
-            self.held[place] = self.held[place].taken_by(taken, self.present);
+            self.held[place] = self.held[place].given_back(WIRE, self.present);
         }
     }
 
@@ -194,7 +157,7 @@ impl OwnField {
     pub(crate) fn excess(&self) -> u64 {
         let mut excess: u64 = 0;
         for held in self.held.as_slice() {
-            excess = excess.saturating_add(held.taken.saturating_sub(1) as u64);
+            excess = excess.saturating_add(held.excess() as u64);
         }
         excess
     }
@@ -204,7 +167,7 @@ impl OwnField {
     pub(crate) fn end_round(&mut self, present: u64) {
         self.present = present;
         for held in self.held.iter_mut() {
-            *held = held.after_round(present);
+            *held = held.after_round(WIRE, present);
         }
     }
 

@@ -61,7 +61,7 @@ impl Front {
             if has_track(tracks, track) {
                 let wire = wire_of(start.cell, track);
                 let spot = field.spot(wire);
-                let dist = leaving.saturating_add(spot.cost);
+                let dist = leaving.saturating_add(spot.held.cost);
                 if spot.seen != field.wave || spot.dist > dist {
                     field.see(wire, dist, DRIVER);
                     self.heap
@@ -144,7 +144,7 @@ impl Front {
         let track = board.fabric.across(joint, track_of(leaving.wire));
         let next = wire_of(joint.cell, track);
         let spot = field.spot(next);
-        let dist = leaving.dist.saturating_add(spot.cost);
+        let dist = leaving.dist.saturating_add(spot.held.cost);
         if spot.seen == field.wave && spot.dist <= dist {
             return Ok(());
         }
@@ -162,7 +162,7 @@ impl Front {
 
 /// What it costs to leave the driver by a pin, above the least.
 fn start_cost(field: &Field, start: Start) -> u32 {
-    let pin = field.pin(start.pin).cost;
+    let pin = field.pin(start.pin).held.cost;
     pin.saturating_sub(PIN as u32).saturating_add(start.extra)
 }
 
@@ -171,7 +171,7 @@ fn best_pin(board: &Board<'_>, field: &Field, leaving: Leaving, best: Goal) -> G
     let mut best = best;
     for number in board.pins.along(cell_of(leaving.wire)) {
         let pin = field.pin(*number);
-        let cost = (leaving.dist as u64).saturating_add(pin.cost as u64);
+        let cost = (leaving.dist as u64).saturating_add(pin.held.cost as u64);
         if cost < best.cost
             && field.is_wanted(pin.class)
             && has_track(pin.opened, track_of(leaving.wire))

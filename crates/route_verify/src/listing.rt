@@ -20,7 +20,7 @@ use std::alloc::{AllocError, Global};
 /// Each line is judged apart from the others, with the lines before it as they stand in the file,
 /// whether there is a cause against them or not. So a line may have a cause because of one before
 /// it: the line behind a channel line whose track was changed, a net whose wire another net took
-/// first, each line of a net that the netlist does not have.
+/// first, nearly each line of a net that the netlist does not have.
 ///
 /// # Errors
 /// Where memory is short.
