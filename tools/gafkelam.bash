@@ -8,13 +8,13 @@ _gafkelam() {
     fi
     local options=--help
     case $command in
-    route) options="--conflicts --keep --count --pin --symmetry --reach --members --seed --help" ;;
-    sweep) options="--conflicts --keep --count --pin --symmetry --reach --help" ;;
+    route | sweep) options="--conflicts --keep --count --pin --symmetry --reach --members --seed --help" ;;
     core) options="--conflicts --help" ;;
     trial) options="--conflicts --keep --count --reach --help" ;;
-    encode | decode) options="--pin --symmetry --reach --help" ;;
+    encode) options="--pin --symmetry --reach --names --help" ;;
+    decode) options="--pin --symmetry --reach --help" ;;
     global | least) options="--free --from --rounds --help" ;;
-    verify) options="--reach --help" ;;
+    verify) options="--reach --all --help" ;;
     picture) options="--reach --html --help" ;;
     judge) options="--strict --help" ;;
     esac

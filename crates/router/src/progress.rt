@@ -1,6 +1,7 @@
 //! What long work says of itself while it goes on, on standard error.
 
 use desk_io::{Failed, Shelf};
+use router_top::Progress;
 use std::rt::Clock;
 use std::time::Instant;
 
@@ -127,15 +128,37 @@ impl<'a, R: AllocGlobal + Clock + Eprint> Teller<'a, R> {
         }
     }
 
-    fn tell(&self, what: &str) {
-        let (Some(since), Some(name)) = (&self.since, &self.name) else {
-            return;
+    /// The seconds since then, and their tenths.
+    fn taken(&self) -> Option<(u64, u32)> {
+        let Some(since) = &self.since else {
+            return None;
         };
         let Ok(taken) = since.elapsed(self.rt) else {
+            return None;
+        };
+        Some((taken.as_secs(), taken.subsec_millis() / 100))
+    }
+
+    fn tell_refuted(&mut self, width: u32) {
+        if let Some((seconds, tenths)) = self.taken() {
+            let _ = eprint!(self.rt; "width {width}: refuted over cells, {seconds}.{tenths} s\n");
+        }
+        self.since = Instant::now(self.rt).ok();
+    }
+
+    fn tell_unfound(&mut self, width: u32, rounds: u32) {
+        if let Some((seconds, tenths)) = self.taken() {
+            let _ = eprint!(self.rt;
+                "width {width}: no route in {rounds} rounds, {seconds}.{tenths} s\n"
+            );
+        }
+        self.since = Instant::now(self.rt).ok();
+    }
+
+    fn tell(&self, what: &str) {
+        let (Some((seconds, tenths)), Some(name)) = (self.taken(), &self.name) else {
             return;
         };
-        let seconds = taken.as_secs();
-        let tenths = taken.subsec_millis() / 100;
         let clauses = self.log.clauses;
         let _ = match self.role {
             Role::Log => {
@@ -147,7 +170,8 @@ impl<'a, R: AllocGlobal + Clock + Eprint> Teller<'a, R> {
 }
 
 /// A shelf that writes what the shelf in it writes and fails where that fails; and that says on
-/// standard error, where it is to, which width's files are begun or done.
+/// standard error, where it is to, which width's files are begun or done, and which widths have no
+/// route.
 #[derive(Drop)]
 pub struct ProgressShelf<'a, R, S> {
     shelf: S,
@@ -203,5 +227,19 @@ impl<'a, R: AllocGlobal + Clock + Eprint, S: Shelf> Shelf for ProgressShelf<'a, 
 
     fn say(&mut self, piece: &[u8]) -> Result<(), Failed> {
         self.shelf.say(piece)
+    }
+}
+
+impl<'a, R: AllocGlobal + Clock + Eprint, S: Shelf> Progress for ProgressShelf<'a, R, S> {
+    fn told_refuted(&mut self, width: u32) {
+        if let Some(teller) = &mut self.teller {
+            teller.tell_refuted(width);
+        }
+    }
+
+    fn told_unfound(&mut self, width: u32, rounds: u32) {
+        if let Some(teller) = &mut self.teller {
+            teller.tell_unfound(width, rounds);
+        }
     }
 }

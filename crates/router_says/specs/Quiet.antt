@@ -8,5 +8,5 @@ use Rattle.router_top.specs.declared.outcome.Outcome.TheVariants.{Bound, Narrowe
 -- that was found how near the least it is
 abbrev pub is_quiet : Outcome → Bool
 is_quiet (Bound tracks cells nets) = false
-is_quiet (Narrowed tracks width) = false
+is_quiet (Narrowed tracks width cut) = false
 is_quiet outcome = status_of outcome == 0

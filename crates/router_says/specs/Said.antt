@@ -186,22 +186,59 @@ bound_said tracks cells nets =
     ++ (decimal cells ++ (codes " cells.\nThis placement may need more, "
     ++ codes "and another one may do with fewer."))))))
 
--- the width that was found is the least of the placement, or how near that it is
-abbrev pub least_said : (width : ℕ) → List ℕ
-least_said width =
+-- what asks for so many tracks: the cut; or where these are more than it asks for, clauses that a
+-- log refutes
+abbrev pub clauses_said : Option Prefix → List ℕ
+clauses_said (Some (OfOne prefix)) =
+    codes "clauses over the cells of a window, refuted by " ++ (prefix ++ codes ".lrat, ask")
+clauses_said _ = codes "clauses over the cells of a window ask"
+
+abbrev pub asker_said : Option Prefix → (tracks cut : ℕ) → List ℕ
+asker_said prefix tracks cut =
+    if nat_lt cut tracks then clauses_said prefix
+    else codes "the cut that the first line names asks"
+
+-- the width that was found is the least of the placement, or how near that it is, by what asks for
+-- tracks
+abbrev pub found_said : (width : ℕ) → List ℕ
+found_said width =
     decimal width ++ (codes " tracks are the least that this placement needs: a route with them "
-    ++ (codes "was found, and the cut that the first line names asks for as many, whatever the "
-    ++ codes "global route."))
+    ++ codes "was found, and ")
 
-abbrev pub between_said : (tracks width : ℕ) → List ℕ
-between_said tracks width =
+abbrev pub least_said : (width : ℕ) → (asker : List ℕ) → List ℕ
+least_said width asker =
+    found_said width ++ (asker ++ codes " for as many, whatever the global route.")
+
+abbrev pub ends_said : (tracks width : ℕ) → List ℕ
+ends_said tracks width =
     codes "This placement needs from " ++ (decimal tracks ++ (codes " to " ++ (decimal width
-    ++ (codes " tracks: the cut that the first line names asks for the former, whatever the global "
-    ++ codes "route, and a route with the latter was found.\nWhether fewer will do is open."))))
+    ++ codes " tracks: ")))
 
-abbrev pub narrowed_said : (tracks width : ℕ) → List ℕ
-narrowed_said tracks width =
-    if nat_lt tracks width then between_said tracks width else least_said width
+abbrev pub between_said : (tracks width : ℕ) → (asker : List ℕ) → List ℕ
+between_said tracks width asker =
+    ends_said tracks width ++ (asker ++ (codes " for the former, whatever the global route, and "
+    ++ codes "a route with the latter was found.\nWhether fewer will do is open."))
+
+abbrev pub span_said : (tracks width : ℕ) → (asker : List ℕ) → List ℕ
+span_said tracks width asker =
+    if nat_lt tracks width then between_said tracks width asker else least_said width asker
+
+-- how the log is checked
+abbrev pub check_one_said : Option Prefix → List ℕ
+check_one_said (Some (OfOne prefix)) =
+    codes "\nTo check that: gafkelam check " ++ (prefix ++ (codes ".cnf " ++ (prefix
+    ++ codes ".lrat")))
+check_one_said _ = []
+
+abbrev pub checked_said : Option Prefix → (tracks cut : ℕ) → List ℕ
+checked_said prefix tracks cut = if nat_lt cut tracks then check_one_said prefix else []
+
+abbrev pub narrowed_by : Option Prefix → (tracks width cut : ℕ) → List ℕ
+narrowed_by prefix tracks width cut =
+    span_said tracks width (asker_said prefix tracks cut) ++ checked_said prefix tracks cut
+
+abbrev pub narrowed_said : Option JobAsked → (tracks width cut : ℕ) → List ℕ
+narrowed_said asked tracks width cut = narrowed_by (prefix_of asked) tracks width cut
 
 -- ---- what failed
 
@@ -275,8 +312,8 @@ Says before now words asked errors problem (Undecided width learned) said =
     × (now ≡ before)
 Says before now words asked errors problem (Bound tracks cells nets) said =
     JustSays before now (bound_said tracks cells nets) said
-Says before now words asked errors problem (Narrowed tracks width) said =
-    JustSays before now (narrowed_said tracks width) said
+Says before now words asked errors problem (Narrowed tracks width cut) said =
+    JustSays before now (narrowed_said asked tracks width cut) said
 Says before now words asked errors problem (Beyond tracks cells nets) said =
     JustSays before now (bound_said tracks cells nets) said
 Says before now words asked errors problem (Unfound width rounds) said =

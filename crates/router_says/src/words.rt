@@ -120,7 +120,9 @@ fn append_meaning<D: Desk>(
             cells,
             nets,
         } => append_bound(out, tracks, cells, nets),
-        Outcome::Narrowed { tracks, width } => append_narrowed(out, tracks, width),
+        Outcome::Narrowed { tracks, width, cut } => {
+            append_narrowed(out, job, tracks, width, cut)
+        }
         Outcome::Unfound { width, rounds } => append_unfound(out, job, width, rounds),
         Outcome::NoWay { width } => append_no_way(out, width),
         Outcome::Usage { code } => append_usage(out, words, code),

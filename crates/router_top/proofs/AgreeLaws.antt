@@ -8,6 +8,7 @@ use Rattle.fpga_types.specs.Slots.{slots}
 use Rattle.fpga_types.specs.declared.limits.TheConstants.{SLOT_LIMIT}
 use Rattle.fpga_types.specs.Problem.{PlacedNetlist}
 use Rattle.list_laws.proofs.Places.{some_is}
+use Rattle.route_sweep.specs.Found.{IsHeld}
 use Rattle.route_ways.specs.Way.{budget_of, copies_by}
 use Rattle.sat_clause.specs.declared.limits.TheConstants.{CLAUSE_LIMIT}
 use Rattle.router_words.specs.Refusal.{code_of}
@@ -21,13 +22,12 @@ use Rattle.router_top.specs.Placed.{IsJudgement, JudgesPlaced, ReadsRouted}
 use Rattle.router_top.specs.Search.{Search, clauses_held, core_search, route_search, sweep_of, sweep_search, clauses_at}
 use Rattle.router_top.specs.Suited.{IsLeastUnsuited, IsTrueOfSuited, IsUnsuited, Suits, is_suited, obstacle_to}
 use Rattle.router_top.specs.Truth.{Agrees, AreBounds, IsOpenBelow, IsReached, IsTrueAt, IsTrueOfDecoding, IsTrueOfEncoding, IsTrueOfJob, IsTrueOfSearch, IsTrueOfSuitedSearch, IsTrueOfWork, IsTrueOfCount, IsTrueBy}
-use Rattle.router_top.specs.Subject.{FileMap, FileNames, IsHalted, RoutingProblem, HasFew, job_of, Blames, Bounds, CheckAsked, Checks, Decodes, Encodes, Generates, JobAsked, JudgeAsked, Judges, Negotiates, RecipeAsked, Routes, Sweeps, TrialAsked, Tries, Verifies, VerifyAsked, Word, Method, Outcome, Done, NotSymmetric, Undecided, Usage, Narrows}
+use Rattle.router_top.specs.Subject.{FileMap, FileNames, IsHalted, RoutingProblem, job_of, Blames, Bounds, CheckAsked, Checks, Decodes, Encodes, Generates, JobAsked, JudgeAsked, Judges, Negotiates, RecipeAsked, Routes, Sweeps, TrialAsked, Tries, Verifies, VerifyAsked, Word, Method, Outcome, Done, NotSymmetric, Undecided, Usage, Narrows}
 use Rattle.router_top.specs.declared.outcome.Obstacle.{Obstacle}
 use Rattle.router_top.proofs.GeneratedLaws.{one-made}
 use Rattle.router_top.proofs.PlacedLaws.{placed-agrees}
 use Rattle.router_top.proofs.GlobalLaws.{global-agrees}
 use Rattle.router_top.proofs.LeastLaws.{least-agrees}
-use Rattle.router_top.proofs.ServeLaws.{one-copy}
 use Rattle.router_top.proofs.StopLaws.{lack-poses, one-lack}
 use Rattle.router_top.specs.declared.size_cause.SizeCause.{SizeCause}
 use Rattle.router_top.specs.declared.size_cause.SizeCause.TheVariants.{ClausesOfTurns, FormulaClauses}
@@ -82,45 +82,39 @@ module _ (search : Search) (p : RoutingProblem) where
       (IsTrueOfCount ClausesOfTurns (clauses_held search width p)
       (IsTrueAt search p width outcome) outcome) outcome
 
-  -- where the clauses are few enough, so are those that all searches hold together
-  abbrev HasRoomAt : (width : ℕ) → Type 0
-  HasRoomAt width =
-      HasFew (clauses_at search width p) → clauses_held search width p ≤ CLAUSE_LIMIT
-
   -- the search was left open, and came to another outcome at the same width or at a higher one
   open-below : (width higher : ℕ) (a b : Outcome) → width ≤ higher
-      → a ≡ Undecided width (budget_of search.way) → HasRoomAt higher → IsTrueThere higher b
-      → IsOpenBelow a b
-  open-below width higher a b low is_open room there =
+      → a ≡ Undecided width (budget_of search.way) → IsTrueThere higher b → IsOpenBelow a b
+  open-below width higher a b low is_open there =
       subst (λ (o : Outcome). IsOpenBelow o b) (sym is_open) (go there)
     where
       left : Outcome → Type 0
       left o = IsOpenBelow (Undecided width (budget_of search.way)) o
 
       go : IsTrueThere higher b → IsOpenBelow (Undecided width (budget_of search.way)) b
-      go (inl h) = subst left (sym h.1) refl
-      go (inr (few, inl h)) =
-          absurd (past-limit (clauses_held search higher p) h.0 (room few))
+      go (inl h) = subst left (sym h.1) (inl refl)
+      go (inr (few, inl h)) = subst left (sym h.1) (inr refl)
       go (inr (few, inr (held, inl h))) = subst left (sym h.1) low
       go (inr (few, inr (held, inr (inl h)))) = subst left (sym h.2) low
       go (inr (few, inr (held, inr (inr h)))) = subst left (sym h) (low, refl)
 
   -- a search that went on behind a width with another outcome was left open there with this one
   was-open : (width higher : ℕ) (a : Outcome) → IsReached search p width
-      → IsReached search p higher → width < higher → HasRoomAt width → IsTrueThere width a
+      → IsReached search p higher → width < higher → IsTrueThere width a
       → a ≡ Undecided width (budget_of search.way)
-  was-open width higher a at on low room there =
+  was-open width higher a at on low there =
       let shown = on.lower width at.from low in go shown.0 shown.1 there
     where
-      go : HasFew (clauses_at search width p) → HasNone search.method width p
-          → IsTrueThere width a → a ≡ Undecided width (budget_of search.way)
-      go few none (inl h) = absurd (omega (arith, few, h.0))
-      go few none (inr (so, inl h)) =
-          absurd (past-limit (clauses_held search width p) h.0 (room so))
-      go few none (inr (so, inr (held, inl h))) = absurd (none h.0.0 h.0.1)
-      go few none (inr (so, inr (held, inr (inl h)))) =
+      go : IsHeld (copies_by search.way) (clauses_at search width p)
+          → HasNone search.method width p → IsTrueThere width a
+          → a ≡ Undecided width (budget_of search.way)
+      go room none (inl h) = absurd (omega (arith, room.few, h.0))
+      go room none (inr (few, inl h)) =
+          absurd (past-limit (clauses_held search width p) h.0 room.all)
+      go room none (inr (few, inr (held, inl h))) = absurd (none h.0.0 h.0.1)
+      go room none (inr (few, inr (held, inr (inl h)))) =
           absurd (omega (arith, h.1, low, on.to))
-      go few none (inr (so, inr (held, inr (inr h)))) = h
+      go room none (inr (few, inr (held, inr (inr h)))) = h
 
   -- two outcomes at one width
   one-width : (width : ℕ) (a b : Outcome) → IsTrueThere width a → IsTrueThere width b → Agrees a b
@@ -141,31 +135,21 @@ module _ (search : Search) (p : RoutingProblem) where
   one-width width a b (inr (few, inr (held, inr (inl h)))) (inr (so, inr (less, inr (inl g)))) =
       inl (h.2 ∙ sym g.2)
   one-width width a b (inr (few, inr (held, inr (inr h)))) (inr (so, inr g)) =
-      inr (inl (open-below width width a b (omega arith) h (λ small. held) (inr (so, inr g))))
+      inr (inl (open-below width width a b (omega arith) h (inr (so, inr g))))
   one-width width a b (inr (few, inr h)) (inr (so, inr (less, inr (inr g)))) =
-      inr (inr (inl (open-below width width b a (omega arith) g (λ small. less) (inr (few, inr h)))))
+      inr (inr (inl (open-below width width b a (omega arith) g (inr (few, inr h)))))
 
-  -- a search at more than one width is one search alone
-  alone : (copies_by search.way ≡ 1) ⊎ (search.first ≡ search.last) → (width other n : ℕ)
-      → search.first ≤ width → width < other → other ≤ search.last
-      → n ≤ CLAUSE_LIMIT → copies_by search.way * n ≤ CLAUSE_LIMIT
-  alone (inl one) width other n from low to few =
-      subst (λ (k : ℕ). k * n ≤ CLAUSE_LIMIT) (sym one) (omega (arith, few))
-  alone (inr same) width other n from low to few = absurd (omega (arith, same, from, low, to))
-
-  search-agrees : (copies_by search.way ≡ 1) ⊎ (search.first ≡ search.last) → (a b : Outcome)
-      → IsTrueOfSearch search p a → IsTrueOfSearch search p b → Agrees a b
-  search-agrees turns a b (width, at, h) (other, on, g) = go (order width other)
+  search-agrees : (a b : Outcome) → IsTrueOfSearch search p a → IsTrueOfSearch search p b
+      → Agrees a b
+  search-agrees a b (width, at, h) (other, on, g) = go (order width other)
     where
       go : (width < other) ⊎ (width ≡ other) ⊎ (other < width) → Agrees a b
       go (inl less) = inr (inl (open-below width other a b (omega (arith, less))
-          (was-open width other a at on less (alone turns width other _ at.from less on.to) h)
-          (alone turns width other _ at.from less on.to) g))
+          (was-open width other a at on less h) g))
       go (inr (inl same)) =
           one-width width a b h (subst (λ (n : ℕ). IsTrueThere n b) (sym same) g)
       go (inr (inr more)) = inr (inr (inl (open-below other width b a (omega (arith, more))
-          (was-open other width b on at more (alone turns other width _ on.from more at.to) g)
-          (alone turns other width _ on.from more at.to) h)))
+          (was-open other width b on at more g) h)))
 
 -- ---- a method that does not suit the problem
 
@@ -288,8 +272,8 @@ module _ (crowd : List ℕ) (job : TrialAsked) where
       absurd (not-both job.recipe.nets (job.recipe.side * job.recipe.side) g.0 h.1.made.room)
   trial-agrees files a b (inr (inr h)) (inr (inl g)) = absurd (not-large b a g h)
   trial-agrees files a b (inr (inr h)) (inr (inr g)) =
-      search-agrees (sweep_search (sweep_of job) crowd) h.0 (inl (one-copy job.search crowd)) a b
-      h.2 (subst (λ (p : RoutingProblem). IsTrueOfSearch (sweep_search (sweep_of job) crowd) p b)
+      search-agrees (sweep_search (sweep_of job) crowd) h.0 a b h.2
+      (subst (λ (p : RoutingProblem). IsTrueOfSearch (sweep_search (sweep_of job) crowd) p b)
       (one-made job.recipe g.0 h.0 g.1.made h.1.made) g.2)
 
 job-agrees : (crowd : List ℕ) (job : JobAsked) (files : FileMap) (a b : Outcome)
@@ -298,12 +282,12 @@ job-agrees crowd (Routes job) files a b h g =
     work-agrees files job.files (IsTrueOfSuitedSearch (route_search job crowd)) a b h g
     (λ p u v. suited-agrees job.search.method job.search.width job.search.width p
     (IsTrueOfSearch (route_search job crowd) p) a b u v
-    (search-agrees (route_search job crowd) p (inr refl) a b))
+    (search-agrees (route_search job crowd) p a b))
 job-agrees crowd (Sweeps job) files a b h g =
     work-agrees files job.files (IsTrueOfSuitedSearch (sweep_search job crowd)) a b h g
     (λ p u v. suited-agrees job.search.method 1 job.search.width p
     (IsTrueOfSearch (sweep_search job crowd) p) a b u v
-    (search-agrees (sweep_search job crowd) p (inl (one-copy job.search crowd)) a b))
+    (search-agrees (sweep_search job crowd) p a b))
 job-agrees crowd (Encodes job) files a b h g =
     work-agrees files job.files (IsTrueOfEncoding job crowd) a b h g
     (λ p u v. suited-agrees job.method job.width job.width p
@@ -326,7 +310,7 @@ job-agrees crowd (Decodes job) files a b h g =
     (λ h g. inl (reads-alike files h g (λ literals is other. is ∙ sym other)))))
 job-agrees crowd (Blames job) files a b h g =
     work-agrees files job.files (IsTrueOfSearch (core_search job)) a b h g
-    (λ p u v. search-agrees (core_search job) p (inl refl) a b u v)
+    (λ p u v. search-agrees (core_search job) p a b u v)
 job-agrees crowd (Checks job) files a b h g = inl (check-agrees job files a b h g)
 job-agrees crowd (Verifies job) files a b h g = verify-agrees job files a b h g
 job-agrees crowd (Judges job) files a b h g = judge-agrees job files a b h g

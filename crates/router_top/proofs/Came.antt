@@ -11,7 +11,7 @@ use Rattle.route_sweep.specs.declared.found.Stop.{Stop}
 use Rattle.route_ways.specs.Way.{copies_by}
 use Rattle.router_top.specs.Comes.{ComesTo, lower_files}
 use Rattle.router_top.specs.Written.{WritesFiles, AreWritten, JobFile, with_files}
-use Rattle.router_top.specs.JobFiles.{AreFilesOf, IsClimb, LeavesWhole}
+use Rattle.router_top.specs.JobFiles.{AreFilesOf, IsClimb, LeavesWhole, TakesTurns}
 use Rattle.router_top.specs.Means.{Means}
 use Rattle.router_top.specs.Report.{found_outcome}
 use Rattle.router_top.specs.Run.{Scene}
@@ -19,19 +19,20 @@ use Rattle.router_top.specs.Saying.{HasNoLead, IsLead, Leads, more_said}
 use Rattle.router_top.specs.Search.{proof_files, route_file}
 use Rattle.router_top.specs.Truth.{IsTrueOf, IsTrueOfSearch}
 use Rattle.router_top.specs.Work.{Finds}
-use Rattle.router_top.specs.Subject.{Bytes, ShelfState, RouteText, Step, Word, Outcome, Bound, Done, Unroutable, WriteFault, OutOfMemory, Said, Routed, Narrowed, Beyond, Unfound, NoWay}
+use Rattle.router_top.specs.Subject.{Bytes, ShelfState, RouteText, Step, Word, Outcome, Bound, Done, Unroutable, WriteFault, OutOfMemory, Said, Routed, Narrowed, Beyond, Unfound, NoWay, NotLegal}
 use Rattle.router_top.proofs.WrittenLaws.{AreApart}
 
--- no fault of the shelf, no width that is unroutable, and nothing that a cut or a search for a route
--- of a placement tells
+-- no fault of the shelf, no width that is unroutable, no file that is not legal, and nothing that a
+-- cut or a search for a route of a placement tells
 abbrev pub IsSpared : Outcome → Type 0
 IsSpared (WriteFault slot) = ⊥
 IsSpared (Unroutable width) = ⊥
 IsSpared (Bound tracks cells nets) = ⊥
-IsSpared (Narrowed tracks width) = ⊥
+IsSpared (Narrowed tracks width cut) = ⊥
 IsSpared (Beyond tracks cells nets) = ⊥
 IsSpared (Unfound width rounds) = ⊥
 IsSpared (NoWay width) = ⊥
+IsSpared (NotLegal line cause) = ⊥
 IsSpared outcome = Unit {0}
 
 -- after it no file need have been written
@@ -71,7 +72,7 @@ pub record HasCome (words : List Word) (at : Scene) (o : Outcome) : Type 0 where
   pub lower : between.files ≡ with_files (lower_files comes) at.shelf.files
   pub calm : between.faults ≡ at.shelf.faults
   pub climbs : (between.files ≡ at.shelf.files)
-      ⊎ (IsClimb words × (copies_by comes.search.way ≡ 1))
+      ⊎ (IsClimb words × ((copies_by comes.search.way ≡ 1) ⊎ TakesTurns words))
   pub route_apart : (found : RouteText)
       → AreApart (lower_files comes ++ route_file comes.search found ∷ [])
   pub proof_apart : (log : List Step)
@@ -101,7 +102,7 @@ pub record HasSearched (words : List Word) (at : Scene) (o : Outcome) : Type 0 w
 abbrev pub IsDone : Outcome → Type 0
 IsDone Done = Unit {0}
 IsDone (Routed width) = Unit {0}
-IsDone (Narrowed tracks width) = Unit {0}
+IsDone (Narrowed tracks width cut) = Unit {0}
 IsDone outcome = ⊥
 
 -- once a lead was said, if there was one, files were written one after the other, or not all of them
@@ -135,8 +136,8 @@ pub record IsCut (words : List Word) (at : Scene) (o : Outcome) : Type 0 where
   pub within : count ≤ length lead
   pub said : at.shelf_now.said ≡ more_said at.shelf.said (take count lead)
 
--- a cut was found, or no route was: what there is to say before the outcome was said, and no file was
--- written
+-- a cut was found, a routed file is not legal, or no route was found: what there is to say before the
+-- outcome was said, and no file was written
 pub record HasTold (words : List Word) (at : Scene) (o : Outcome) : Type 0 where
   pub fileless : NeedsNoFile o
   pub files : at.shelf_now.files ≡ at.shelf.files

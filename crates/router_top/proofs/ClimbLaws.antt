@@ -115,7 +115,7 @@ module _ (job : SweepAsked) (p : RoutingProblem) (given : IsGiven p) (fits : Fit
   has-refuted width between now (Ok (Refuted lead)) is found = record {
     log = found.1.log;
     at = refuted-at search width p found.1.log lead.items given fits known found.1.ends
-        found.0.few found.1.clauses_back;
+        found.0 found.1.clauses_back;
     written = found.1.written;
   }
   has-refuted width between now (Ok IsRouted) is found = absurd is

@@ -1,17 +1,19 @@
 -- What each job has come to, by what it leaves.
-use Rattle.std.specs.Prelude.{◌<◌, Bool, MatchResult, None, Some, Vec, flat_map}
+use Rattle.std.specs.Prelude.{◌<◌, Bool, IsSome, MatchResult, None, Some, Vec, flat_map}
 use Rattle.std.specs.Global.{Global}
 use Rattle.std.specs.List.{range_with_len}
-use Rattle.std.proofs.Common.{◌≡◌, ◌∙◌, ◌⊎◌, ℕ, ◌+◌, ◌-◌, ◌≤◌, true, false, List, [], ◌∷◌, ◌++◌, length, Option, Ok, Err, Result, refl, sym, ap, subst, inl, inr, arith, take, codes}
+use Rattle.std.proofs.Common.{◌≡◌, ◌∙◌, ◌⊎◌, ℕ, ◌+◌, ◌-◌, ◌≤◌, true, false, List, [], ◌∷◌, ◌++◌, length, Option, Ok, Err, Result, refl, sym, ap, subst, inl, inr, arith, take}
 use Rattle.desk_io.specs.Files.{HasRisen}
+use Rattle.desk_io.specs.WholeFile.{after_writing}
 use Rattle.desk_io.proofs.FileLemmas.{has_risen}
+use Rattle.cell_bound.specs.declared.refuting.CellRefutation.{CellRefutation}
 use Rattle.fpga_problem.proofs.SourceLemmas.{calm-reads}
 use Rattle.fpga_problem.specs.Sources.{Reads, Stops, StopsAt}
 use Rattle.fpga_problem.specs.Files.{PosesPlaced}
 use Rattle.fpga_types.specs.Given.{IsGiven}
 use Rattle.fpga_types.specs.Problem.{PlacedNetlist}
 use Rattle.fpga_types.specs.declared.limits.TheConstants.{WIDTH_LIMIT}
-use Rattle.fpga_route.specs.Printed.{printed}
+use Rattle.fpga_route.proofs.PrintableLemmas.{can_print}
 use Rattle.fpga_route.proofs.ReadBackLemmas.{reads_back}
 use Rattle.route_bound.specs.Crossing.{IsBound}
 use Rattle.route_bound.specs.Cuts.{IsBestCut}
@@ -21,7 +23,7 @@ use Rattle.route_parts.specs.Unreached.{AreNetsReached, IsFirstNet}
 use Rattle.route_parts.specs.declared.unreached.Unreached.{Unreached}
 use Rattle.route_sweep.specs.Climb.{EndsAt}
 use Rattle.route_sweep.specs.declared.found.FileSlot.{FileSlot}
-use Rattle.route_sweep.specs.declared.found.FileSlot.TheVariants.{Clauses, Route as RouteSlot}
+use Rattle.route_sweep.specs.declared.found.FileSlot.TheVariants.{Clauses}
 use Rattle.route_sweep.specs.declared.found.Found.{Found}
 use Rattle.route_sweep.specs.declared.found.Stop.{Stop}
 use Rattle.route_sweep.specs.declared.found.Stop.TheVariants.{Fault, TooManyClauses, TooManyHeld, Memory}
@@ -46,37 +48,41 @@ use Rattle.router_words.specs.declared.fault.Refusal.{Refusal}
 use Rattle.router_top.specs.SizeCauses.{size_code}
 use Rattle.router_top.specs.declared.size_cause.SizeCause.TheVariants.{FormulaClauses}
 use Rattle.router_top.specs.Bound.{BoundsTo, IsBounded, IsTrueOfCut, SaysCut, bound_outcome, cut_lines, net_line}
+use Rattle.router_top.specs.Causes.{AreCausesOf, IsIllegal, LeavesVerified, SaysCauses, cause_lines}
 use Rattle.router_top.specs.Check.{JudgesTo, ChecksTo, cnf_source, judgement_outcome, lrat_source, VerifiesTo, judged_outcome}
 use Rattle.router_top.specs.Comes.{ComesTo, lower_files}
 use Rattle.router_top.specs.Decode.{DecodeLeaves, DecodesProblem, IsTrueOfModel, LeavesClauses, LeavesJudged, LeavesModel, LeavesRouting, ReadsModel, decoded_file, decoded_outcome, model_source}
 use Rattle.router_top.specs.Generated.{PosesNone, generated_files, texts_of}
 use Rattle.router_top.specs.Global.{HasFiles, IsNoWay, IsTrueOfSought, IsWaylessLine, IsWithoutWay, LeavesFound, LeavesSought, SaysNet, found_file}
-use Rattle.router_top.specs.Least.{AreLeastLines, IsCutOfLeast, IsNarrowing, IsOfCut, IsTrueOfLeast, LeavesCut, LeavesWidths, at_width, beyond_outcome, last_asked}
-use Rattle.router_top.specs.JobFiles.{IsClimb, LeavesWhole}
-use Rattle.router_top.specs.Means.{IsJudged, IsJudgedPlaced, Means}
+use Rattle.router_top.specs.Least.{AreLeastLines, IsCutOfLeast, IsNarrowing, IsOfCut, IsTrueOfLeast, LeavesCut, LeavesWidths, beyond_outcome, last_asked}
+use Rattle.router_top.specs.JobFiles.{IsClimb, LeavesWhole, TakesTurns}
+use Rattle.router_top.specs.Means.{IsJudged, IsJudgedPlaced, IsJudgedSo, Means}
 use Rattle.router_top.specs.Method.{IsRoutingBy, clauses_by, IsCrowdFor}
 use Rattle.router_top.specs.Placed.{IsJudgement, IsTrueJudgement, JudgesPlaced, ReadsRouted}
+use Rattle.router_top.specs.Raised.{LeastNames, least_names, narrowed_files}
 use Rattle.router_top.specs.Report.{climbed_outcome, found_outcome, unread_outcome, written_outcome}
 use Rattle.router_top.specs.Suited.{LeavesPrepared, EncodeLeaves, IsUnsuited, LeavesSuited, RouteLeaves, Suits, SweepLeaves}
 use Rattle.router_top.specs.Run.{Leaves, LeavesJob, LeavesPlaced, LeavesWork, Scene, TriesGenerated, WritesGenerated, LeavesGlobal, LeavesLeast}
-use Rattle.router_top.specs.Saying.{more_said, AreCutLines, AreNetLines, IsOfBound, IsUnroutable, Leads}
+use Rattle.router_top.specs.Saying.{more_said, AreCauseLines, AreCutLines, AreNetLines, IsOfBound, IsUnroutable, Leads}
 use Rattle.router_top.specs.Search.{files_of, route_search, search_asked, sweep_of, sweep_search, Search, core_search, lower_widths, proof_files, route_file, HasCrowd, clauses_at}
 use Rattle.router_top.specs.Work.{trial_line, Encodes, LeavesRoute, Sweeps, WritesClauses, clauses_file, Finds}
 use Rattle.router_top.specs.Truth.{IsTrueOf, IsTrueOfCount, IsTrueOfDecoding, IsTrueOfEncoding, IsTrueOfJob, IsTrueOfSearch, IsTrueOfSuitedSearch, IsTrueOfWork}
-use Rattle.router_top.specs.Written.{JobFile, WritesFiles, job_file, with_files, AreWritten}
+use Rattle.router_top.specs.Written.{FailsAmong, JobFile, WritesFiles, with_files, AreWritten}
 use Rattle.router_top.specs.Core.{LeavesCore, SaysBlamed, SaysLead}
 use Rattle.router_top.specs.Headline.{IsRefuted}
-use Rattle.router_top.specs.Subject.{Bytes, FileMap, ShelfState, after_say, FileNames, Poses, IsHalted, IsStopped, Says, RoutingProblem, RouteText, HasFew, Cnf, Step, job_of, BoundAsked, Bounds, CheckAsked, Checks, DecodeAsked, Decodes as DecodesJob, EncodeAsked, Encodes as EncodesJob, GenAsked, Generates, JobAsked, JudgeAsked, Judges, Negotiates, RouteAsked, Routes, SweepAsked, Sweeps as SweepsJob, TrialAsked, Tries as TriesJob, Verifies, VerifyAsked, Blames, CoreAsked, Word, Method, Outcome, Bound, Done, Usage, WriteFault, OutOfMemory, Unroutable, Limit, File, GlobalAsked, LeastAsked, Narrows, Narrowed, Beyond, Unfound, NoWay, Slot, Routed as IsRoutedAt}
+use Rattle.router_top.specs.declared.raising.Raised.{Raised}
+use Rattle.router_top.specs.Subject.{Bytes, FileMap, ShelfState, after_say, FileNames, Poses, IsHalted, IsStopped, Says, RoutingProblem, RouteText, HasFew, Cnf, Step, job_of, BoundAsked, Bounds, CheckAsked, Checks, DecodeAsked, Decodes as DecodesJob, EncodeAsked, Encodes as EncodesJob, GenAsked, Generates, JobAsked, JudgeAsked, Judges, Negotiates, RouteAsked, Routes, SweepAsked, Sweeps as SweepsJob, TrialAsked, Tries as TriesJob, Verifies, VerifyAsked, Blames, CoreAsked, Word, Method, Outcome, Bound, Done, NotLegal, ReadFault, InputFault, Usage, WriteFault, OutOfMemory, Unroutable, Limit, File, GlobalAsked, LeastAsked, Narrows, Narrowed, Beyond, Unfound, NoWay, Slot, Routed as IsRoutedAt}
 use Rattle.router_top.specs.declared.text_file.TextFile.TheVariants.{Cnf as CnfFile, Lrat, Model as ModelFile, Routed}
 use Rattle.router_top.proofs.Came.{Came, Cut, HasCome, Idle, IsSpared, NeedsNoFile, Searched, Told, Wrote, ended_with}
 use Rattle.router_top.proofs.ClimbLaws.{climbed-calm, climbed-logs, climbed-outcome, climbed-said}
 use Rattle.router_top.proofs.GeneratedLaws.{made-poses, problem-apart}
 use Rattle.router_top.proofs.GlobalLaws.{calm-lacking, lacking-holds, routing-said}
-use Rattle.router_top.proofs.LeastLaws.{says-at}
+use Rattle.router_top.proofs.LeastLaws.{raised-bound, says-at}
 use Rattle.router_top.proofs.LeftLaws.{none-left, log-left}
 use Rattle.router_top.proofs.LiteralLaws.{log_literals}
 use Rattle.router_top.proofs.NameLaws.{proof-apart, proofs-then-proof, proofs-then-route, route-apart}
 use Rattle.router_top.proofs.PlacedLaws.{calm-placed, placed-lacks-hold}
+use Rattle.router_top.proofs.RaisedLaws.{narrowed-apart, narrowed-heard, reason-from}
 use Rattle.router_top.proofs.SaidLaws.{finds-silent, more-none}
 use Rattle.router_top.proofs.StopLaws.{HoldsOfStops, IsSpent, calm-lack, lacks-hold, reads-hold, unread-holds, unsuited-holds}
 use Rattle.router_top.proofs.ServeLaws.{crowd-said, one-copy}
@@ -103,7 +109,7 @@ core-crowd job p = λ (goes : false ≡ true). cc
 
 -- nor of what a placement needs
 spared-spanless : (o : Outcome) → IsSpared o → ¬ IsNarrowing o
-spared-spanless (Narrowed tracks width) spared = absurd spared
+spared-spanless (Narrowed tracks width by_cut) spared = absurd spared
 spared-spanless (Beyond tracks cells nets) spared = absurd spared
 spared-spanless (Unfound width rounds) spared = absurd spared
 spared-spanless o spared = λ bad. bad
@@ -113,6 +119,11 @@ spared-wayless : (o : Outcome) → IsSpared o → ¬ IsNoWay o
 spared-wayless (NoWay width) spared = absurd spared
 spared-wayless o spared = λ bad. bad
 
+-- nor of a routed file that is not legal
+spared-lawful : (o : Outcome) → IsSpared o → ¬ IsIllegal o
+spared-lawful (NotLegal line cause) spared = absurd spared
+spared-lawful o spared = λ bad. bad
+
 -- what comes of the file of a route tells of no such net
 written-wayless : (width : ℕ) (files : List JobFile) (before now : ShelfState) (o : Outcome)
     → WritesFiles (IsRoutedAt width) files before now o → ¬ IsNoWay o
@@ -121,16 +132,32 @@ written-wayless width files before now o (inl (is, written)) =
 written-wayless width files before now o (inr (slot, fails, is)) =
     subst (λ (o : Outcome). ¬ IsNoWay o) (sym is) (λ bad. bad)
 
--- what comes of the file of a route tells of the cut that was said before it
-tells-of-cut : (cut : BestCut) (width : ℕ) (name text : Bytes) (before now : ShelfState)
-    (o : Outcome)
-    → WritesFiles (Narrowed cut.tracks width) (job_file (File RouteSlot) name text ∷ []) before now o
-    → IsOfCut cut o
-tells-of-cut cut width name text before now o (inl (is, written)) =
-    subst (IsOfCut cut) (sym is) refl
-tells-of-cut cut width name text before now o (inr (slot, inl (failed, fails), is)) =
-    subst (IsOfCut cut) (sym is) (subst (λ (s : Slot). IsOfCut cut (WriteFault s)) (sym failed) tt)
-tells-of-cut cut width name text before now o (inr (slot, inr none, is)) = absurd none
+-- a fault of each of these files tells of the cut that was said before them
+abbrev AreOfCut : BestCut → List JobFile → Type 0
+AreOfCut cut [] = Unit {0}
+AreOfCut cut (file ∷ files) = IsOfCut cut (WriteFault file.slot) × AreOfCut cut files
+
+narrowed-of-cut : (cut : BestCut) (names : LeastNames) (found : RouteText) (tracks : ℕ)
+    (why : Option CellRefutation) → AreOfCut cut (narrowed_files names found tracks why)
+narrowed-of-cut cut names found tracks None = (tt, tt)
+narrowed-of-cut cut names found tracks (Some refutation) = (tt, (tt, (tt, tt)))
+
+fault-of-cut : (cut : BestCut) (files : List JobFile) (before now : ShelfState) (slot : Slot)
+    → AreOfCut cut files → FailsAmong files before now slot → IsOfCut cut (WriteFault slot)
+fault-of-cut cut [] before now slot are fails = absurd fails
+fault-of-cut cut (file ∷ files) before now slot are (inl fails) =
+    subst (λ (s : Slot). IsOfCut cut (WriteFault s)) (sym fails.0) are.0
+fault-of-cut cut (file ∷ files) before now slot are (inr fails) =
+    fault-of-cut cut files (after_writing before file.name file.text) now slot are.1 fails
+
+-- so does what else comes of them
+tells-of-cut : (cut : BestCut) (files : List JobFile) (tracks width : ℕ) (before now : ShelfState)
+    (o : Outcome) → cut.tracks ≤ tracks → AreOfCut cut files
+    → WritesFiles (Narrowed tracks width cut.tracks) files before now o → IsOfCut cut o
+tells-of-cut cut files tracks width before now o from are (inl (is, written)) =
+    subst (IsOfCut cut) (sym is) (refl, from)
+tells-of-cut cut files tracks width before now o from are (inr (slot, fails, is)) =
+    subst (IsOfCut cut) (sym is) (fault-of-cut cut files before now slot are fails)
 
 module _ (words : List Word) (at : Scene) where
   abbrev MeansHere : Outcome → Type 0
@@ -170,9 +197,52 @@ module _ (words : List Word) (at : Scene) where
       no_cut = λ job is. spared-boundless o spares.0;
       no_span = λ job is. spared-spanless o spares.0;
       no_net = λ job is. spared-wayless o spares.0;
+      no_cause = λ job is all. spared-lawful o spares.0;
     };
     means = spares.1;
     told = told;
+  })
+
+  -- nothing was said, and it is told why
+  abbrev IsTelling : Outcome → Type 0
+  IsTelling o = IsTold o → Came words at o
+
+  stops-come : at.shelf_now ≡ at.shelf → ((o : Outcome) → NoTrial o) → HoldsOfStops IsTelling
+  stops-come same none = record {
+    memory = idle OutOfMemory same (none OutOfMemory) (tt, tt);
+    read = λ file. idle (ReadFault file) same (none (ReadFault file)) (tt, tt);
+    input = λ file line code. idle (InputFault file line code) same
+        (none (InputFault file line code)) (tt, tt);
+    limit = λ file code count. idle (Limit file code count) same (none (Limit file code count))
+        (tt, tt);
+  }
+
+  -- a routed file was judged so, and nothing was said before that
+  verdict-came : (judgement : Judged) (o : Outcome) → o ≡ judged_outcome judgement
+      → IsJudgedSo words at.desk.files judgement → at.shelf_now ≡ at.shelf → NoTrial o
+      → ((job : VerifyAsked) → job_of words ≡ Ok (Verifies job) → job.all ≡ true → ¬ IsIllegal o)
+      → IsTrueOf words at.desk.files o → Came words at o
+  verdict-came IsLegal o is means same none untold truth =
+      idle o same none (subst Spares (sym is) (tt, means)) (λ calm. inl truth)
+  verdict-came (IsNotLegal line cause) o is means same none untold truth = Told (record {
+    fileless = subst NeedsNoFile (sym is) tt;
+    files = ap (λ (s : ShelfState). s.files) same;
+    faults = ap (λ (s : ShelfState). s.faults) same;
+    lead = [];
+    leads = inr (
+      refl,
+      record {
+        no_trial = none;
+        no_nets = λ other is_core. subst (λ (o : Outcome). ¬ IsUnroutable o) (sym is) (λ bad. bad);
+        no_cut = λ other is_bound. subst (λ (o : Outcome). ¬ IsOfBound o) (sym is) (λ bad. bad);
+        no_span = λ other is_least. subst (λ (o : Outcome). ¬ IsNarrowing o) (sym is) (λ bad. bad);
+        no_net = λ other is_net. subst (λ (o : Outcome). ¬ IsNoWay o) (sym is) (λ bad. bad);
+        no_cause = untold;
+      },
+    );
+    said = ap (λ (s : ShelfState). s.said) same ∙ sym (more-none at.shelf.said);
+    means = subst MeansHere (sym is) means;
+    told = inl truth;
   })
 
   -- since memory ran out
@@ -303,6 +373,7 @@ module _ (words : List Word) (at : Scene) where
           no_cut = λ other is bound. cc;
           no_span = λ other is narrowing. cc;
           no_net = λ other is way. cc;
+          no_cause = λ other is all not_legal. cc;
         },
       );
       said = finds-silent (route_search job h.crowd) p job.search.width at.shelf at.shelf_now h.came
@@ -341,6 +412,7 @@ module _ (words : List Word) (at : Scene) where
           no_cut = λ other is_bound bound. cc;
           no_span = λ other is_span narrowing. cc;
           no_net = λ other is_net way. cc;
+          no_cause = λ other is all not_legal. cc;
         },
       );
       said = ap (λ (s : ShelfState). s.said) same
@@ -453,7 +525,7 @@ module _ (words : List Word) (at : Scene) where
   module _ (which : JobAsked) (job : SweepAsked) (p : RoutingProblem)
       (asked : job_of words ≡ Ok which)
       (searches : (crowd : List ℕ) → search_asked which crowd ≡ Some (sweep_search job crowd))
-      (climb : IsClimb words)
+      (climb : IsClimb words) (turns : IsSome job.members → TakesTurns words)
       (poses : Poses (files_of which at.desk.files) job.files p)
       (told : (crowd : List ℕ) (o : Outcome) → IsTrueOfSearch (sweep_search job crowd) p o
       → IsTrueOf words at.desk.files o)
@@ -502,7 +574,13 @@ module _ (words : List Word) (at : Scene) where
               (files i));
           calm = climbed-calm job p given poses.fits crowd known below first end.between end.refuted
               ∙ faults;
-          climbs = inr (climb, one-copy job.search crowd);
+          climbs = inr (
+            climb,
+            elim (one-copy job.search job.members crowd) [
+              | inl one ↦ inl one
+              | inr some ↦ inr (turns some)
+            ],
+          );
           route_apart = λ found. proofs-then-route search p refl lower.logs 1 (width - 1)
               found (omega (arith, few, low));
           proof_apart = λ log. proofs-then-proof search p refl lower.logs 1 (width - 1) width log
@@ -520,7 +598,7 @@ module _ (words : List Word) (at : Scene) where
     sweep-came o leads did =
         let climbs = did.climbs in
         let end = climbs.3 in
-        let known = crowd-said job.search None did.crowd p did.known in
+        let known = crowd-said job.search job.members did.crowd p did.known in
         Searched (record {
           wrote = at.shelf_now;
           come = climbed did.crowd known did.given did.narrow climbs.0 climbs.1 o
@@ -549,7 +627,7 @@ module _ (words : List Word) (at : Scene) where
     encode-true o h = true-by (EncodesJob job) asked crowd o (inr (p, poses, h))
 
     written-came : (came : Result (Unit {0}) Stop) (o : Outcome) → o ≡ written_outcome came
-        → WritesClauses job formula at.shelf at.shelf_now came → Came words at o
+        → WritesClauses job p formula at.shelf at.shelf_now came → Came words at o
     written-came (Ok written) o is h = Wrote (record {
       done = Done;
       is_done = tt;
@@ -580,6 +658,7 @@ module _ (words : List Word) (at : Scene) where
           no_cut = λ other is bound. cc;
           no_span = λ other is narrowing. cc;
           no_net = λ other is way. cc;
+          no_cause = λ other is all not_legal. cc;
         },
       );
       means = λ done written. inl (record {
@@ -590,7 +669,8 @@ module _ (words : List Word) (at : Scene) where
         crowd = crowd;
         known = known;
         few = h.0;
-        reads_back = h.1;
+        reads_back = h.1 (can_print poses.route.text p.route
+            (poses.route.faultless, poses.route.says));
         written = written;
       });
       told = encode-true Done (inr (suits, (known, inr (h.0, refl))));
@@ -629,6 +709,7 @@ module _ (words : List Word) (at : Scene) where
           no_cut = λ other is bound. cc;
           no_span = λ other is narrowing. cc;
           no_net = λ other is way. cc;
+          no_cause = λ other is all not_legal. cc;
         },
       );
       means = λ done written. cc;
@@ -716,6 +797,7 @@ module _ (words : List Word) (at : Scene) where
                 no_cut = λ other is bound. cc;
                 no_span = λ other is narrowing. cc;
                 no_net = λ other is way. cc;
+                no_cause = λ other is all not_legal. cc;
               },
             );
             means = λ done written. inr (inr (record {
@@ -843,28 +925,6 @@ module _ (words : List Word) (at : Scene) where
   -- ---- the judging of a routed file
 
   module _ (job : VerifyAsked) (asked : job_of words ≡ Ok (Verifies job)) where
-    judged-spares : (judgement : Judged) → IsJudged words at.desk.files judgement
-        → Spares (judged_outcome judgement)
-    judged-spares IsLegal h = (tt, inl h)
-    judged-spares (IsNotLegal line cause) h = (tt, inl h)
-
-    verify-spares : (o : Outcome) → VerifiesTo (IsStopped at.desk at.desk_now) at.desk.files job o
-        → Spares o
-    verify-spares o (inl h) =
-        lacks-hold Spares stops-spare (IsStopped at.desk at.desk_now) at.desk.files job.files o h
-    verify-spares o (inr (p, poses, h)) =
-        reads-hold Spares stops-spare (IsStopped at.desk at.desk_now) at.desk.files Routed h
-        (λ found reads is. subst Spares (sym is)
-        (judged-spares (judged_by job.reach job.width p found) (record {
-          job = job;
-          p = p;
-          found = found;
-          asked = asked;
-          poses = poses;
-          reads = reads;
-          is = refl;
-        })))
-
     calm-verify : (o : Outcome) → ¬ HasRisen at.desk.faults at.desk_now.faults
         → VerifiesTo (IsStopped at.desk at.desk_now) at.desk.files job o
         → VerifiesTo (IsHalted at.desk.files) at.desk.files job o ⊎ (o ≡ OutOfMemory)
@@ -880,41 +940,97 @@ module _ (words : List Word) (at : Scene) where
           | inr short ↦ inr short
         ]
 
-    verify-came : (o : Outcome) → VerifiesTo (IsStopped at.desk at.desk_now) at.desk.files job o
-        → at.shelf_now ≡ at.shelf → Came words at o
-    verify-came o h same = idle o same (λ other is. cc) (verify-spares o h)
-        (λ calm. elim (calm-verify o calm h) [
-          | inl told ↦ inl (true-of (Verifies job) asked o told)
-          | inr short ↦ inr short
-        ])
+    -- nothing was said
+    silent-came : (o : Outcome) → VerifiesTo (IsStopped at.desk at.desk_now) at.desk.files job o
+        → at.shelf_now ≡ at.shelf → (job.all ≡ true → ¬ IsIllegal o) → Came words at o
+    silent-came o h same none = go h (λ calm. elim (calm-verify o calm h) [
+      | inl told ↦ inl (true-of (Verifies job) asked o told)
+      | inr short ↦ inr short
+    ])
+      where
+        untold : (other : VerifyAsked) → job_of words ≡ Ok (Verifies other) → other.all ≡ true
+            → ¬ IsIllegal o
+        untold other is all =
+            let one : other ≡ job = cc in none (subst (λ (j : VerifyAsked). j.all ≡ true) one all)
+
+        go : VerifiesTo (IsStopped at.desk at.desk_now) at.desk.files job o → IsTold o
+            → Came words at o
+        go (inl lack) = lacks-hold IsTelling (stops-come same (λ o other is. cc))
+            (IsStopped at.desk at.desk_now) at.desk.files job.files o lack
+        go (inr (p, poses, reads)) = reads-hold IsTelling (stops-come same (λ o other is. cc))
+            (IsStopped at.desk at.desk_now) at.desk.files Routed reads
+            (λ found says is told. verdict-came (judged_by job.reach job.width p found) o is
+            (inl (record {
+              job = job;
+              p = p;
+              found = found;
+              asked = asked;
+              poses = poses;
+              reads = says;
+              is = refl;
+            }))
+            same (λ other is_trial. cc) untold
+            (true-of (Verifies job) asked o (inr (p, poses, Reads found says is))))
+
+    -- a line was said for each cause
+    module _ (told : AreCausesOf at.desk.files job) where
+      abbrev first_outcome : Outcome
+      first_outcome = NotLegal told.first.line told.first.cause
+
+      abbrev lines : Bytes
+      lines = cause_lines told.found.nets (told.first ∷ told.more)
+
+      causes-told : AreCauseLines words at.desk.files first_outcome lines
+      causes-told =
+          record { job = job; asked = asked; told = told; first = refl; is = refl }
+
+      causes-came : (o : Outcome)
+          → SaysCauses told.found.nets told.first told.more at.shelf at.shelf_now o
+          → Came words at o
+      causes-came o (inl (now, is)) = subst (Came words at) (sym is) (Told (record {
+        fileless = tt;
+        files = ap (λ (s : ShelfState). s.files) now;
+        faults = ap (λ (s : ShelfState). s.faults) now;
+        lead = lines;
+        leads = inl (inr (inr (inr (inr (inr causes-told)))));
+        said = ap (λ (s : ShelfState). s.said) now;
+        means = inl (record {
+          job = job;
+          p = told.p;
+          found = told.found;
+          asked = asked;
+          poses = told.poses;
+          reads = told.reads;
+          is = told.are.first;
+        });
+        told = inl (true-of (Verifies job) asked first_outcome (inr (
+          told.p,
+          told.poses,
+          Reads told.found told.reads (ap judged_outcome (sym told.are.first)),
+        )));
+      }))
+      causes-came o (inr (fails, is)) = Cut (record {
+        is = is;
+        whole = none-left words at.desk.files at.shelf.files at.shelf_now.files
+            fails.failed.files;
+        risen = has_risen _ _ fails.failed.risen;
+        outcome = first_outcome;
+        lead = lines;
+        leads = inr (inr (inr (inr (inr causes-told))));
+        count = fails.count;
+        within = fails.within;
+        said = fails.failed.said;
+      })
+
+    verify-came : (o : Outcome)
+        → LeavesVerified (IsStopped at.desk at.desk_now) at.desk.files job at.shelf at.shelf_now o
+        → Came words at o
+    verify-came o (inl (h, same, none)) = silent-came o h same none
+    verify-came o (inr (told, says)) = causes-came told o says
 
   -- ---- the judging of a routed file as a routing of a placement
 
   module _ (job : JudgeAsked) (asked : job_of words ≡ Ok (Judges job)) where
-    placed-spares : (judgement : Judged) → IsJudgedPlaced words at.desk.files judgement
-        → Spares (judged_outcome judgement)
-    placed-spares IsLegal h = (tt, inr h)
-    placed-spares (IsNotLegal line cause) h = (tt, inr h)
-
-    judge-spares : (o : Outcome)
-        → JudgesPlaced (IsStopped at.desk at.desk_now) at.desk.files job (IsTrueJudgement job) o
-        → Spares o
-    judge-spares o (inl h) = placed-lacks-hold Spares stops-spare (IsStopped at.desk at.desk_now)
-        at.desk.files job.files o h
-    judge-spares o (inr (placed, poses, h)) =
-        reads-hold Spares stops-spare (IsStopped at.desk at.desk_now) at.desk.files Routed h
-        (λ found reads is. subst Spares (sym is.0)
-        (placed-spares (placed_judged job.strict job.width placed found) (record {
-          job = job;
-          placed = placed;
-          found = found;
-          asked = asked;
-          poses = poses;
-          reads = reads;
-          is = refl;
-          says = is.1;
-        })))
-
     calm-judge : (o : Outcome) → ¬ HasRisen at.desk.faults at.desk_now.faults
         → JudgesPlaced (IsStopped at.desk at.desk_now) at.desk.files job (IsTrueJudgement job) o
         → JudgesPlaced (IsHalted at.desk.files) at.desk.files job (IsJudgement job) o ⊎ IsSpent o
@@ -928,11 +1044,32 @@ module _ (words : List Word) (at : Scene) where
     judge-came : (o : Outcome)
         → JudgesPlaced (IsStopped at.desk at.desk_now) at.desk.files job (IsTrueJudgement job) o
         → at.shelf_now ≡ at.shelf → Came words at o
-    judge-came o h same = idle o same (λ other is. cc) (judge-spares o h)
-        (λ calm. elim (calm-judge o calm h) [
-          | inl told ↦ inl (true-of (Judges job) asked o told)
-          | inr short ↦ inr short
-        ])
+    judge-came o h same = go h (λ calm. elim (calm-judge o calm h) [
+      | inl told ↦ inl (true-of (Judges job) asked o told)
+      | inr short ↦ inr short
+    ])
+      where
+        go : JudgesPlaced (IsStopped at.desk at.desk_now) at.desk.files job (IsTrueJudgement job) o
+            → IsTold o → Came words at o
+        go (inl lack) = placed-lacks-hold IsTelling (stops-come same (λ o other is. cc))
+            (IsStopped at.desk at.desk_now) at.desk.files job.files o lack
+        go (inr (placed, poses, reads)) =
+            reads-hold IsTelling (stops-come same (λ o other is. cc))
+            (IsStopped at.desk at.desk_now) at.desk.files Routed reads
+            (λ found says is told. verdict-came (placed_judged job.strict job.width placed found) o
+            is.0
+            (inr (record {
+              job = job;
+              placed = placed;
+              found = found;
+              asked = asked;
+              poses = poses;
+              reads = says;
+              is = refl;
+              says = is.1;
+            }))
+            same (λ other is_trial. cc) (λ other is_verify all. cc)
+            (true-of (Judges job) asked o (inr (placed, poses, Reads found says is.0))))
 
   -- ---- a cut of a placement
 
@@ -1028,6 +1165,7 @@ module _ (words : List Word) (at : Scene) where
           no_cut = λ other is bound. cc;
           no_span = λ other is narrowing. cc;
           no_net = λ other is way. way;
+          no_cause = λ other is all not_legal. cc;
         },
       );
       said = ap (λ (s : ShelfState). s.said) same ∙ sym (more-none at.shelf.said);
@@ -1075,6 +1213,7 @@ module _ (words : List Word) (at : Scene) where
           no_span = λ other is narrowing. cc;
           no_net = λ other is. written-wayless job.width (found_file job found ∷ []) at.shelf
               at.shelf_now o h;
+          no_cause = λ other is all not_legal. cc;
         },
       );
       means = λ done written. inr (inl (record {
@@ -1125,7 +1264,7 @@ module _ (words : List Word) (at : Scene) where
             files = same;
             faults = ap (λ (s : ShelfState). s.faults) now;
             lead = net_line placed.netlist unreached.net;
-            leads = inl (inr (inr (inr (inr (wayless-line same)))));
+            leads = inl (inr (inr (inr (inr (inl (wayless-line same))))));
             said = ap (λ (s : ShelfState). s.said) now;
             means = wayless same;
             told = inl (global-true placed has (NoWay job.width) (inl (unreached, first, refl)));
@@ -1137,7 +1276,7 @@ module _ (words : List Word) (at : Scene) where
         risen = has_risen _ _ fails.failed.risen;
         outcome = NoWay job.width;
         lead = net_line placed.netlist unreached.net;
-        leads = inr (inr (inr (inr (wayless-line fails.failed.files))));
+        leads = inr (inr (inr (inr (inl (wayless-line fails.failed.files)))));
         count = fails.count;
         within = fails.within;
         said = fails.failed.said;
@@ -1230,42 +1369,53 @@ module _ (words : List Word) (at : Scene) where
           (cut, best, inl (inr (within, (rounds, most, refl)))))))
       widths-came o (inl (inr short, same)) = subst (Came words at) (sym short)
           (told-cut OutOfMemory same tt tt tt (inr refl))
-      widths-came o (inr (found, is, h)) = Wrote (record {
-        done = Narrowed cut.tracks found.width;
+      widths-came o (inr (raised, found, is, h)) = Wrote (record {
+        done = Narrowed raised.tracks found.width cut.tracks;
         is_done = tt;
         between = after_say at.shelf said-first;
         begun = refl;
         calm = refl;
         lead = said-first;
         said = refl;
-        files = found_file (at_width job found.width) found.found ∷ [];
+        files = narrowed_files (least_names job.prefix) found.found raised.tracks raised.why;
         of = inr (inr (inr (inr (inl (record {
           cut = cut;
           least = cut-of-least;
+          raised = raised;
           at = found;
           found = is;
           order = refl;
         })))));
-        apart = (tt, tt);
-        heard = (tt, tt);
+        apart = narrowed-apart job.prefix found.found raised.tracks raised.why;
+        heard = narrowed-heard job.prefix found.found raised.tracks raised.why;
         writes = h;
-        leads = inl (inr (inr (inr (inl (least-lines o (tells-of-cut cut found.width
-            (job.prefix ++ codes ".route") (printed found.found) (after_say at.shelf said-first)
-            at.shelf_now o h))))));
-        means = λ done written. record {
-          cut = cut;
-          least = cut-of-least;
-          tracks_of = refl;
-          from = is.from;
-          to = is.to;
-          found = found.found;
-          route = is.route;
-          says = says-at at.desk.files job placed cut.tracks found has is;
-          written = written;
-          is_least = λ alike. subst (IsBound placed) (sym alike) best.bound;
-        };
-        told = least-true placed has (Narrowed cut.tracks found.width)
-            (cut, best, inr (found, is, refl));
+        leads = inl (inr (inr (inr (inl (least-lines o (tells-of-cut cut
+            (narrowed_files (least_names job.prefix) found.found raised.tracks raised.why)
+            raised.tracks found.width (after_say at.shelf said-first) at.shelf_now o
+            (reason-from placed cut.tracks raised.tracks raised.why is.raised_from)
+            (narrowed-of-cut cut (least_names job.prefix) found.found raised.tracks raised.why)
+            h))))));
+        means = λ done written.
+            let bound : IsBound placed raised.tracks = raised-bound placed cut raised best
+            is.raised_from in
+            record {
+              cut = cut;
+              least = cut-of-least;
+              cut_of = refl;
+              raised = raised;
+              tracks_of = refl;
+              reason = is.raised_from;
+              bound = bound;
+              from = is.found.from;
+              to = is.found.to;
+              found = found.found;
+              route = is.found.route;
+              says = says-at at.desk.files job placed raised.tracks found has is.found;
+              written = written;
+              is_least = λ alike. subst (IsBound placed) (sym alike) bound;
+            };
+        told = least-true placed has (Narrowed raised.tracks found.width cut.tracks)
+            (cut, best, inr (raised, found, is, refl));
       })
 
       cut-came : (o : Outcome) → LeavesCut job placed cut at.shelf at.shelf_now o → Came words at o
@@ -1323,6 +1473,7 @@ module _ (words : List Word) (at : Scene) where
           no_cut = λ other is bound. cc;
           no_span = λ other is narrowing. cc;
           no_net = λ other is way. cc;
+          no_cause = λ other is all not_legal. cc;
         },
       );
       means = λ done written.
@@ -1348,7 +1499,8 @@ module _ (words : List Word) (at : Scene) where
         (subst Spares (sym large.3) (tt, tt))
         (λ calm. inl (true-of (TriesJob job) asked o (inr (inl large))))
     trial-came o (inr (p, makes, inl h)) = sweep-came (TriesJob job) (sweep_of job) p asked
-        (λ crowd. refl) (inr (job, asked)) (made-poses job.recipe job.search.prefix p makes)
+        (λ crowd. refl) (inr (job, asked)) (λ some. cc)
+        (made-poses job.recipe job.search.prefix p makes)
         (λ crowd says h. true-by (TriesJob job) asked crowd says (inr (inr (p, makes, h))))
         (after_say at.shelf (trial_line p)) refl refl (trial_line p) refl o
         (inl (inl (record { job = job; asked = asked; p = p; makes = makes; is = refl }))) h
@@ -1385,7 +1537,8 @@ module _ (words : List Word) (at : Scene) where
       (LeavesPrepared job.search.method job.search.count (Sweeps job)) p o
       (λ unsuited. inr (p, poses, inl unsuited)) (λ other is. cc)
       (λ suits. prepared-came job.search.method job.search.count (Sweeps job) p o (λ other is. cc)
-      (sweep-came (SweepsJob job) job p asked (λ crowd. refl) (inl (job, asked)) poses
+      (sweep-came (SweepsJob job) job p asked (λ crowd. refl) (inl (job, asked))
+      (λ some. (job, asked, some)) poses
       (λ crowd says told. true-by (SweepsJob job) asked crowd says
       (inr (p, poses, inr (suits, told))))
       at.shelf refl refl [] (sym (more-none at.shelf.said)) o
@@ -1397,6 +1550,7 @@ module _ (words : List Word) (at : Scene) where
           no_cut = λ other is bound. cc;
           no_span = λ other is narrowing. cc;
           no_net = λ other is way. cc;
+          no_cause = λ other is all not_legal. cc;
         },
       ))))) h
   job-came (EncodesJob job) o asked h =
@@ -1425,7 +1579,7 @@ module _ (words : List Word) (at : Scene) where
       (λ p poses. core-came job asked p poses
       (λ says told. true-of (Blames job) asked says (inr (p, poses, told))) o) h
   job-came (Checks job) o asked h = check-came job asked o h.0 h.1
-  job-came (Verifies job) o asked h = verify-came job asked o h.0 h.1
+  job-came (Verifies job) o asked h = verify-came job asked o h
   job-came (Judges job) o asked h = judge-came job asked o h.0 h.1
   job-came (Bounds job) o asked h = bound-came job asked o h
   job-came (Negotiates job) o asked h = global-came job asked o h

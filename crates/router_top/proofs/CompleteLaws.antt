@@ -101,7 +101,7 @@ module _ (words : List Word) (at : Scene) (calm : ¬ HasRisen at.desk.faults at.
         from = h.comes.from;
         to = h.comes.to;
         lower = λ k from high.
-            let refuted = h.comes.lower k from high in (refuted.few, refuted.none_legal);
+            let refuted = h.comes.lower k from high in (refuted.held, refuted.none_legal);
       }
 
       -- an outcome that is true of the width

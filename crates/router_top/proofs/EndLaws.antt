@@ -2,14 +2,15 @@
 use Rattle.std.proofs.Common.{ℕ, List}
 use Rattle.fpga_types.specs.Fits.{Fits}
 use Rattle.fpga_types.specs.Given.{IsGiven}
+use Rattle.route_sweep.specs.Found.{IsHeld}
 use Rattle.route_ways.proofs.WayLaws.{way-accepts}
-use Rattle.route_ways.specs.Way.{is_counting}
+use Rattle.route_ways.specs.Way.{copies_by, is_counting}
 use Rattle.sat_text.specs.CnfText.{ReadsCnf}
 use Rattle.sat_text.specs.Printed.{cnf_text}
 use Rattle.router_top.specs.Comes.{IsRefutedAt, Refutes}
 use Rattle.router_top.specs.Method.{HasNone}
 use Rattle.router_top.specs.Search.{HasCrowd, Search, clauses_at}
-use Rattle.router_top.specs.Subject.{Bytes, HasFew, RoutingProblem, Step}
+use Rattle.router_top.specs.Subject.{Bytes, RoutingProblem, Step}
 use Rattle.router_top.proofs.MethodLaws.{covers-strict, none-legal}
 
 module _ (search : Search) (width : ℕ) (p : RoutingProblem) (log : List Step) (lead : Bytes)
@@ -21,11 +22,11 @@ module _ (search : Search) (width : ℕ) (p : RoutingProblem) (log : List Step) 
       crowd h.unsat
 
   -- and none without a reach either, where the reach of the search is long enough
-  pub refuted-at : HasFew (clauses_at search width p)
+  pub refuted-at : IsHeld (copies_by search.way) (clauses_at search width p)
       → ReadsCnf (cnf_text (clauses_at search width p)) (clauses_at search width p)
       → IsRefutedAt search p width log
-  refuted-at few back = record {
-    few = few;
+  refuted-at held back = record {
+    held = held;
     lead = lead;
     refuted = h;
     accepted = way-accepts search.way p width (clauses_at search width p) log lead

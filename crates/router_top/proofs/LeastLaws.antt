@@ -9,11 +9,14 @@ use Rattle.route_bound.specs.Cuts.{IsBestCut}
 use Rattle.route_bound.specs.declared.cut.Cut.{Cut}
 use Rattle.route_judge.specs.Says.{SaysRouting}
 use Rattle.router_top.specs.Global.{HasFiles}
-use Rattle.router_top.specs.Least.{EndsOpen, IsFoundAt, IsTrueOfLeast, IsTrueOfWidths, at_width, beyond_outcome, last_asked}
+use Rattle.router_top.specs.Least.{EndsOpen, IsFoundAt, IsFoundFrom, IsTrueOfLeast, IsTrueOfWidths, LeavesRaised, LeavesWidths, at_width, beyond_outcome, last_asked}
+use Rattle.router_top.specs.Raised.{IsRaised}
 use Rattle.router_top.specs.Truth.{Agrees, AreOfOne, IsTrueOfNarrows}
 use Rattle.router_top.specs.declared.narrowing.FoundAt.{FoundAt}
-use Rattle.router_top.specs.Subject.{FileMap, LeastAsked, Outcome, Narrowed, Unfound}
+use Rattle.router_top.specs.declared.raising.Raised.{Raised}
+use Rattle.router_top.specs.Subject.{FileMap, ShelfState, LeastAsked, Outcome, Narrowed, Unfound}
 use Rattle.router_top.proofs.GlobalLaws.{lacking-agrees, lacking-has, open-both, routing-said}
+use Rattle.router_top.proofs.RaisedLaws.{reason-bound, reason-from}
 
 -- ---- the files of a job are those of each width
 
@@ -37,6 +40,31 @@ not-below : (files : Option FileMap) (job : LeastAsked) (placed : PlacedNetlist)
 not-below files job placed tracks at bound h is some holds =
     let says = says-at files job placed tracks at h is in
     holds at.width says.0 (omega (arith, some, is.from)) says.1.routing
+
+-- where it was raised from the bound of a best cut, it is a bound, and that of the cut is not above
+-- it
+pub raised-bound : (placed : PlacedNetlist) (cut : Cut) (raised : Raised) → IsBestCut placed cut
+    → IsRaised placed cut.tracks raised → IsBound placed raised.tracks
+raised-bound placed cut raised best is =
+    reason-bound placed cut.tracks raised.tracks raised.why best.bound is
+
+pub raised-some : (placed : PlacedNetlist) (cut : Cut) (raised : Raised) → IsBestCut placed cut
+    → IsRaised placed cut.tracks raised → 1 ≤ raised.tracks
+raised-some placed cut raised best is =
+    let from = reason-from placed cut.tracks raised.tracks raised.why is in
+    omega (arith, from, best.tracks.some)
+
+-- what is left behind a raised bound is left behind the cut
+pub raised-leaves : (job : LeastAsked) (placed : PlacedNetlist) (cut : Cut) (raised : Raised)
+    (before now : ShelfState) (o : Outcome) → IsRaised placed cut.tracks raised
+    → cut.tracks ≤ job.last → LeavesRaised job placed cut.tracks raised before now o
+    → LeavesWidths job placed cut before now o
+raised-leaves job placed cut raised before now o from within (inl (inl ends, same)) =
+    inl (inl (inr (within, ends)), same)
+raised-leaves job placed cut raised before now o from within (inl (inr short, same)) =
+    inl (inr short, same)
+raised-leaves job placed cut raised before now o from within (inr (at, found, h)) =
+    inr (raised, at, record { raised_from = from; found = found }, h)
 
 -- ---- outcomes of one placed netlist
 
@@ -65,38 +93,52 @@ module _ (files : FileMap) (job : LeastAsked) (placed : PlacedNetlist)
   open-agree cut others a b (inr (within, none)) (inr (within_too, none_too)) =
       inr (inl (open-both job.last job.rounds a b none none_too))
 
+  -- a route that was found from a raised bound on is not below a bound
+  found-above : (cut : Cut) (raised : Raised) (at : FoundAt) (bound : ℕ) → IsBestCut placed cut
+      → IsFoundFrom job placed cut raised at → IsBound placed bound → bound ≤ at.width
+  found-above cut raised at bound best is holds =
+      not-below (Some files) job placed raised.tracks at bound h is.found
+      (raised-some placed cut raised best is.raised_from) holds
+
   -- a cut that asks for more than were to be tried, and a route that was found
-  not-beyond : (cut others : Cut) (at : FoundAt) → IsBestCut placed cut → IsBestCut placed others
-      → IsFoundAt job placed others.tracks at → job.last < cut.tracks → ⊥
-  not-beyond cut others at best best_too found above =
-      let within = not-below (Some files) job placed others.tracks at cut.tracks h found
-      best_too.tracks.some best.bound in
-      omega (arith, within, found.to, above)
+  not-beyond : (cut others : Cut) (raised : Raised) (at : FoundAt) → IsBestCut placed cut
+      → IsBestCut placed others → IsFoundFrom job placed others raised at → job.last < cut.tracks
+      → ⊥
+  not-beyond cut others raised at best best_too is above =
+      let within = found-above others raised at cut.tracks best_too is best.bound in
+      omega (arith, within, is.found.to, above)
 
   widths-agree : (cut others : Cut) (a b : Outcome) → IsBestCut placed cut
       → IsBestCut placed others → IsTrueOfWidths job placed cut a
       → IsTrueOfWidths job placed others b → Agrees a b
   widths-agree cut others a b best best_too (inl ends) (inl ends_too) =
       open-agree cut others a b ends ends_too
-  widths-agree cut others a b best best_too (inl (inl (above, is))) (inr (at, found, is_other)) =
-      absurd (not-beyond cut others at best best_too found above)
+  widths-agree cut others a b best best_too (inl (inl (above, is)))
+      (inr (raised, at, found, is_other)) =
+      absurd (not-beyond cut others raised at best best_too found above)
   widths-agree cut others a b best best_too (inl (inr (within, (rounds, most, is))))
-      (inr (at, found, is_other)) =
-      both a b (Unfound job.last rounds) (Narrowed others.tracks at.width) is is_other
-      (of-one (Unfound job.last rounds) (Narrowed others.tracks at.width) found.to)
-  widths-agree cut others a b best best_too (inr (at, found, is)) (inl (inl (above, is_other))) =
-      absurd (not-beyond others cut at best_too best found above)
-  widths-agree cut others a b best best_too (inr (at, found, is))
+      (inr (raised, at, found, is_other)) =
+      let narrowed = Narrowed raised.tracks at.width others.tracks in
+      both a b (Unfound job.last rounds) narrowed is is_other
+      (of-one (Unfound job.last rounds) narrowed found.found.to)
+  widths-agree cut others a b best best_too (inr (raised, at, found, is))
+      (inl (inl (above, is_other))) =
+      absurd (not-beyond others cut raised at best_too best found above)
+  widths-agree cut others a b best best_too (inr (raised, at, found, is))
       (inl (inr (within, (rounds, most, is_other)))) =
-      both a b (Narrowed cut.tracks at.width) (Unfound job.last rounds) is is_other
-      (of-one (Narrowed cut.tracks at.width) (Unfound job.last rounds) found.to)
-  widths-agree cut others a b best best_too (inr (at, found, is)) (inr (ot, found_too, is_other)) =
-      both a b (Narrowed cut.tracks at.width) (Narrowed others.tracks ot.width) is is_other
-      (of-one (Narrowed cut.tracks at.width) (Narrowed others.tracks ot.width) (
-        not-below (Some files) job placed others.tracks ot cut.tracks h found_too
-            best_too.tracks.some best.bound,
-        not-below (Some files) job placed cut.tracks at others.tracks h found best.tracks.some
-            best_too.bound,
+      let narrowed = Narrowed raised.tracks at.width cut.tracks in
+      both a b narrowed (Unfound job.last rounds) is is_other
+      (of-one narrowed (Unfound job.last rounds) found.found.to)
+  widths-agree cut others a b best best_too (inr (raised, at, found, is))
+      (inr (other, ot, found_too, is_other)) =
+      both a b (Narrowed raised.tracks at.width cut.tracks)
+      (Narrowed other.tracks ot.width others.tracks) is is_other
+      (of-one (Narrowed raised.tracks at.width cut.tracks)
+      (Narrowed other.tracks ot.width others.tracks) (
+        found-above others other ot raised.tracks best_too found_too
+            (raised-bound placed cut raised best found.raised_from),
+        found-above cut raised at other.tracks best found
+            (raised-bound placed others other best_too found_too.raised_from),
       ))
 
   least-of-one : (a b : Outcome) → IsTrueOfLeast job placed a → IsTrueOfLeast job placed b

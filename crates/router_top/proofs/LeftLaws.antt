@@ -400,12 +400,15 @@ module _ (words : List Word) (at : Scene) where
         f.1.fails.1)
     found-left (Err (TooManyClauses count)) f = elim h.climbs [
       | inl alone ↦ inl (ap (λ (s : ShelfState). s.files) f.1 ∙ alone)
-      | inr climb ↦ inr (refl, climb.0, low-left f.1)
+      | inr climb ↦ inr (inl (refl, climb.0), low-left f.1)
     ]
     found-left (Err (TooManyHeld count)) f = elim h.climbs [
       | inl alone ↦ inl (ap (λ (s : ShelfState). s.files) f.1 ∙ alone)
-      | inr climb ↦ absurd (one-held (copies_by h.comes.search.way) (length formula.clauses) count
-          climb.1 f.0.0 f.0.1 f.0.2)
+      | inr climb ↦ elim climb.1 [
+        | inl one ↦ absurd (one-held (copies_by h.comes.search.way) (length formula.clauses) count
+            one f.0.0 f.0.1 f.0.2)
+        | inr turns ↦ inr (inr (refl, turns), low-left f.1)
+      ]
     ]
     found-left (Err Memory) f = low-left f.1
 
@@ -424,7 +427,7 @@ module _ (words : List Word) (at : Scene) where
       → LeavesWhole words at.desk.files at.shelf.files at.shelf_now.files → LeftHere o
   done-leaves Done is_done whole = whole
   done-leaves (Routed width) is_done whole = whole
-  done-leaves (Narrowed tracks width) is_done whole = whole
+  done-leaves (Narrowed tracks width cut) is_done whole = whole
   done-leaves o is_done whole = absurd is_done
 
   -- files in a row
@@ -475,7 +478,7 @@ module _ (words : List Word) (desk before now : Option FileMap) where
   unsaid-left (NotModel clause) h = none-left words desk before now h
   unsaid-left (Beyond tracks cells nets) h = none-left words desk before now h
   unsaid-left (Limit file code count) (inl same) = none-left words desk before now same
-  unsaid-left (Limit file code count) (inr h) = h.2
+  unsaid-left (Limit file code count) (inr h) = h.1
   unsaid-left (WriteFault slot) h = h
   unsaid-left o h = h
 

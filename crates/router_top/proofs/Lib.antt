@@ -2,6 +2,7 @@ mod AgreeLaws
 mod Came
 mod ClimbLaws
 mod ComeLaws
+mod CommentLaws
 mod CompleteLaws
 mod DecodeLaws
 mod EndLaws
@@ -18,9 +19,12 @@ mod NameLaws
 mod PlacedLaws
 mod PosedLaws
 mod PreparedLaws
+mod RaisedLaws
 mod SaidLaws
 mod ServeLaws
 mod SlotNameLaws
 mod StopLaws
 mod TrackLaws
+mod VariableNameLaws
+mod VerifiedLaws
 mod WrittenLaws

@@ -50,7 +50,7 @@ module _ (words : List Word) (at : Scene) where
       last = last;
       log = f.1.log;
       refuted = refuted-at h.comes.search h.width h.comes.p f.1.log lead.items h.given
-          h.comes.poses.fits h.comes.crowd f.1.ends f.0.few f.1.clauses_back;
+          h.comes.poses.fits h.comes.crowd f.1.ends f.0 f.1.clauses_back;
       written = behind (proof_files h.comes.search h.comes.p h.width f.1.log)
           (h.proof_apart f.1.log) _ f.1.written refl;
     }

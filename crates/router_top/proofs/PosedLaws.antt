@@ -19,9 +19,9 @@ unread-ends file (Text (PastLimit code count)) = refl
 unread-ends file (Text NoMemory) = tt
 
 -- so does a report that was not said
-unsaid-ends : (o : Outcome) → EndsWithoutProblem (unsaid o)
-unsaid-ends (WriteFault slot) = tt
-unsaid-ends o = tt
+unsaid-ends : (o : Outcome) → EndsWithoutProblem o → EndsWithoutProblem (unsaid o)
+unsaid-ends (WriteFault slot) ends = ends
+unsaid-ends o ends = tt
 
 -- words that ask for no work on a problem lack none
 pub lacks-none : (words : List Word) (asked : JobAsked) (o : Outcome) → job_of words ≡ Ok asked
@@ -35,4 +35,5 @@ pub reported-lacks : (words : List Word) (before : ShelfState) (o : Outcome) (no
 reported-lacks words before o now answer (inl h) lacks =
     subst (LacksProblem words) (sym h.0) lacks
 reported-lacks words before o now answer (inr h) lacks =
-    λ job names said has. subst EndsWithoutProblem (sym h.0) (unsaid-ends o)
+    λ job names said has. subst EndsWithoutProblem (sym h.0)
+    (unsaid-ends o (lacks job names said has))

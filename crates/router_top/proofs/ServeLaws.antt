@@ -1,6 +1,6 @@
--- The search of a job can be done, and a job at more than one width holds one copy of the clauses.
-use Rattle.std.specs.Prelude.{◌^◌, if◌then◌else◌, Bool, Option, None, Some, option_map}
-use Rattle.std.proofs.Common.{◌≡◌, ◌<◌, ◌≤◌, ℕ, List, true, false, refl, subst, sym, arith}
+-- The search of a job can be done, and one search alone holds one copy of the clauses.
+use Rattle.std.specs.Prelude.{◌^◌, if◌then◌else◌, Bool, IsSome, Option, None, Some, option_map}
+use Rattle.std.proofs.Common.{◌≡◌, ◌⊎◌, ◌<◌, ◌≤◌, ℕ, List, true, false, refl, subst, sym, inl, inr, arith}
 use Rattle.route_ways.specs.Plain.{CanSearch}
 use Rattle.route_ways.specs.Way.{Counts, Searches, copies_by, is_counting}
 use Rattle.route_ways.specs.declared.plain.TheConstants.{BUDGET_LIMIT}
@@ -26,9 +26,11 @@ module _ (search : SearchAsked) where
   can-search (Some members) turn some most =
       record { some = some; affordable = most; turns = turn }
 
-  -- one search alone holds the clauses once
-  pub one-copy : (crowd : List ℕ) → copies_by (way_by search None crowd) ≡ 1
-  one-copy crowd = go search.count
+  -- one search alone holds the clauses once, or as many take turns
+  pub one-copy : (members : Option MembersAsked) (crowd : List ℕ)
+      → (copies_by (way_by search members crowd) ≡ 1) ⊎ IsSome members
+  one-copy (Some members) crowd = inr refl
+  one-copy None crowd = inl (go search.count)
     where
       go : (count : Bool) → copies_by (if count then Counts (plain_by search None) crowd
           else Searches (plain_by search None)) ≡ 1

@@ -1,7 +1,9 @@
 -- A file that a job writes has the name that its slot tells.
-use Rattle.std.proofs.Common.{◌≡◌, ◌⊎◌, ℕ, List, [], ◌∷◌, ◌++◌, codes, Option, Some, Ok, refl, sym, subst, inl, inr}
+use Rattle.std.proofs.Common.{◌≡◌, ◌⊎◌, ℕ, ◌-◌, List, [], ◌∷◌, ◌++◌, codes, None, Option, Some, Ok, refl, sym, subst, inl, inr}
 use Rattle.std.specs.Prelude.{flat_map}
+use Rattle.cell_bound.specs.declared.refuting.CellRefutation.{CellRefutation}
 use Rattle.desk_io.specs.Files.{Bytes, FileMap}
+use Rattle.fpga_types.specs.declared.route.RouteText.{RouteText}
 use Rattle.list_laws.proofs.Places.{some_is}
 use Rattle.route_sweep.specs.Names.{cnf_name, lrat_name, route_name}
 use Rattle.route_sweep.specs.declared.found.FileSlot.TheVariants.{Route, Clauses, Log}
@@ -12,6 +14,7 @@ use Rattle.router_words.specs.Job.{JobAsked, LeastAsked, Routes, Sweeps, Decodes
 use Rattle.router_words.specs.Word.{Word}
 use Rattle.router_top.specs.Comes.{lower_files}
 use Rattle.router_top.specs.JobFiles.{AreFilesOf, AreFound, AreSearched, IsNamed}
+use Rattle.router_top.specs.Raised.{least_names, narrowed_files, reason_files}
 use Rattle.router_top.specs.Written.{JobFile}
 use Rattle.router_top.specs.Search.{Search, lower_widths, proof_files, search_asked}
 use Rattle.router_top.specs.SlotNames.{name_written}
@@ -107,6 +110,25 @@ module _ (words : List Word) where
       here (inl (few, inr (log, ends, is))) = subst AreNamed (sym is) (pair h.width log)
       here (inr none) = subst AreNamed (sym none) tt
 
+  narrowed-named : (job : LeastAsked) → job_of words ≡ Ok (Narrows job) → (found : RouteText)
+      (tracks : ℕ) (why : Option CellRefutation)
+      → AreNamed (narrowed_files (least_names job.prefix) found tracks why)
+  narrowed-named job asked found tracks why = (
+    by-job (Narrows job) asked (File Route) (job.prefix ++ codes ".route") refl,
+    reason why,
+  )
+    where
+      reason : (why : Option CellRefutation)
+          → AreNamed (reason_files (least_names job.prefix) tracks why)
+      reason None = tt
+      reason (Some refutation) = (
+        by-job (Narrows job) asked (File (Clauses (tracks - 1))) (job.prefix ++ codes ".cnf") refl,
+        (
+          by-job (Narrows job) asked (File (Log (tracks - 1))) (job.prefix ++ codes ".lrat") refl,
+          tt,
+        ),
+      )
+
   files-named : (desk : Option FileMap) (files : List JobFile) → AreFilesOf words desk files
       → AreNamed files
   files-named desk files (inl h) = searched-named desk files h
@@ -124,10 +146,8 @@ module _ (words : List Word) where
       )
   files-named desk files (inr (inr (inr (inl h)))) = subst AreNamed (sym h.order)
       (by-job (Negotiates h.job) h.asked (File Route) (h.job.prefix ++ codes ".route") refl, tt)
-  files-named desk files (inr (inr (inr (inr (inl h))))) =
-      let job : LeastAsked = h.least.job in
-      subst AreNamed (sym h.order)
-      (by-job (Narrows job) h.least.asked (File Route) (job.prefix ++ codes ".route") refl, tt)
+  files-named desk files (inr (inr (inr (inr (inl h))))) = subst AreNamed (sym h.order)
+      (narrowed-named h.least.job h.least.asked h.at.found h.raised.tracks h.raised.why)
   files-named desk files (inr (inr (inr (inr (inr (inl h)))))) = subst AreNamed (sym h.order)
       (by-job (Decodes h.job) h.asked (File Route) (h.job.prefix ++ codes ".route") refl, tt)
   files-named desk files (inr (inr (inr (inr (inr (inr none)))))) = subst AreNamed (sym none) tt

@@ -1,15 +1,15 @@
 -- How a search ends that finds no routing, by its log, and what it has shown of the widths below
 -- one.
 use Rattle.std.specs.Prelude.{◌⊎◌, ℕ, List, ◌≡◌, ◌<◌, ◌≤◌, flat_map, Ok, Option, Some}
-use Rattle.route_sweep.specs.Found.{IsRefutedBy}
-use Rattle.route_ways.specs.Way.{opens_by, refutes_by}
+use Rattle.route_sweep.specs.Found.{IsHeld, IsRefutedBy}
+use Rattle.route_ways.specs.Way.{copies_by, opens_by, refutes_by}
 use Rattle.sat_rat.specs.FullJudge.{FullAccepts}
 use Rattle.sat_text.specs.CnfText.{ReadsCnf}
 use Rattle.sat_text.specs.Printed.{cnf_text}
 use Rattle.router_top.specs.Method.{IsRoutingBy, CoversStrict, HasNone}
 use Rattle.router_top.specs.Search.{Search, HasCrowd, clauses_at, files_of, lower_widths, search_asked, proof_files}
 use Rattle.router_top.specs.Written.{JobFile}
-use Rattle.router_top.specs.Subject.{Bytes, FileMap, Poses, RoutingProblem, HasFew, Step, job_of, JobAsked, Word}
+use Rattle.router_top.specs.Subject.{Bytes, FileMap, Poses, RoutingProblem, Step, job_of, JobAsked, Word}
 
 -- the log refutes the clauses at this width in the way of the search, and this is said of it before
 -- the report; no values satisfy them, and no route is a routing
@@ -28,12 +28,12 @@ abbrev pub EndsSearch : Search → RoutingProblem → (width : ℕ) → List Ste
 EndsSearch search p width log =
     ((lead : Bytes) × Refutes search p width lead log) ⊎ LeavesOpen search p width log
 
--- few enough clauses stand for the problem at this width, the log refutes them and is accepted as
--- full LRAT has it, and the problem has no legal routing; within a reach that is long enough for its
--- global route, none without a reach either; the clauses read back
+-- few enough clauses stand for the problem at this width, in all copies that are held; the log
+-- refutes them and is accepted as full LRAT has it, and the problem has no legal routing; within a
+-- reach that is long enough for its global route, none without a reach either; the clauses read back
 pub record IsRefutedAt (search : Search) (p : RoutingProblem) (width : ℕ) (log : List Step)
     : Type 0 where
-  pub few : HasFew (clauses_at search width p)
+  pub held : IsHeld (copies_by search.way) (clauses_at search width p)
   pub lead : Bytes
   pub refuted : Refutes search p width lead log
   pub accepted : FullAccepts (clauses_at search width p) log

@@ -1,6 +1,6 @@
 -- The files of a job in the order in which they are written, and what a run leaves of them,
 -- whatever fails.
-use Rattle.std.specs.Prelude.{◌≡◌, ◌⊎◌, ℕ, ◌≤◌, ◌++◌, List, [], ◌∷◌, false, length, take, Ok, Option, Some}
+use Rattle.std.specs.Prelude.{◌≡◌, ◌⊎◌, ℕ, ◌≤◌, ◌++◌, List, [], ◌∷◌, false, length, take, IsSome, Ok, Option, Some}
 use Rattle.std.specs.List.{All}
 use Rattle.desk_io.specs.Changes.{OnlyChanges, held}
 use Rattle.desk_io.specs.Reading.{IsWhole}
@@ -10,13 +10,15 @@ use Rattle.router_top.specs.Decode.{decoded_file}
 use Rattle.router_top.specs.Generated.{HasRoom, generated_files}
 use Rattle.router_top.specs.Global.{HasFiles, IsFoundRoute, found_file}
 use Rattle.route_bound.specs.declared.cut.Cut.{Cut}
-use Rattle.router_top.specs.Least.{IsCutOfLeast, IsFoundAt, at_width}
+use Rattle.router_top.specs.Least.{IsCutOfLeast, IsFoundFrom}
 use Rattle.router_top.specs.Method.{IsRoutingBy, clauses_by, IsCrowdFor}
+use Rattle.router_top.specs.Raised.{least_names, narrowed_files}
 use Rattle.router_top.specs.Search.{Search, proof_files, route_file, clauses_at}
 use Rattle.router_top.specs.declared.narrowing.FoundAt.{FoundAt}
+use Rattle.router_top.specs.declared.raising.Raised.{Raised}
 use Rattle.router_top.specs.SizeCauses.{size_code}
 use Rattle.router_top.specs.SlotNames.{name_written}
-use Rattle.router_top.specs.declared.size_cause.SizeCause.TheVariants.{FormulaClauses}
+use Rattle.router_top.specs.declared.size_cause.SizeCause.TheVariants.{ClausesOfTurns, FormulaClauses}
 use Rattle.router_top.specs.Work.{clauses_file}
 use Rattle.router_top.specs.Written.{AreWritten, JobFile, with_file}
 use Rattle.router_top.specs.Subject.{FileMap, Poses, RoutingProblem, RouteText, HasFew, Step, job_of, DecodeAsked, Decodes, EncodeAsked, Encodes, GenAsked, Generates, GlobalAsked, Negotiates, JobAsked, SweepAsked, Sweeps, TrialAsked, Tries, Word, Outcome, InputFault, Limit, NotSymmetric, Unfound, NoWay, NotModel, Beyond, Usage, ReadFault, WriteFault, Slot, Said}
@@ -78,14 +80,17 @@ pub record AreNegotiated (words : List Word) (desk : Option FileMap) (files : Li
   pub route : IsFoundRoute job placed found
   pub order : files ≡ found_file job found ∷ []
 
--- of `least`: the same, at a width from as many tracks on as one of the best cuts asks for
+-- of `least`: the same, at a width from a bound on that was raised from the one of a best cut, and
+-- behind it the clauses and the log that raised it, if some did
 pub record AreNarrowed (words : List Word) (desk : Option FileMap) (files : List JobFile)
     : Type 0 where
   pub cut : Cut
   pub least : IsCutOfLeast words desk cut
+  pub raised : Raised
   pub at : FoundAt
-  pub found : IsFoundAt least.job least.placed cut.tracks at
-  pub order : files ≡ found_file (at_width least.job at.width) at.found ∷ []
+  pub found : IsFoundFrom least.job least.placed cut raised at
+  pub order : files
+      ≡ narrowed_files (least_names least.job.prefix) at.found raised.tracks raised.why
 
 -- of `decode`: the route of a model
 pub record AreDecoded (words : List Word) (desk : Option FileMap) (files : List JobFile)
@@ -146,6 +151,18 @@ IsClimb words =
     ((job : SweepAsked) × (job_of words ≡ Ok (Sweeps job)))
     ⊎ ((job : TrialAsked) × (job_of words ≡ Ok (Tries job)))
 
+-- at each of them as many searches take turns
+abbrev pub TakesTurns : List Word → Type 0
+TakesTurns words =
+    (job : SweepAsked) × (job_of words ≡ Ok (Sweeps job)) × IsSome job.members
+
+-- the limit that is passed is that of the clauses at a width of a climb, of one copy of them or of
+-- those of all searches that take turns
+abbrev pub IsOfClauses : List Word → (code : ℕ) → Type 0
+IsOfClauses words code =
+    ((code ≡ size_code FormulaClauses) × IsClimb words)
+    ⊎ ((code ≡ size_code ClausesOfTurns) × TakesTurns words)
+
 -- what is left of the files, by the answer: nothing is written where the words are not taken, where
 -- a file is not read or is refused, where tracks are not alike as the method asks, where rounds have
 -- found no route, no wires reach a sink, a model leaves a clause unsatisfied or a cut asks for more
@@ -163,7 +180,7 @@ LeavesFiles words desk before now (NotModel clause) = now ≡ before
 LeavesFiles words desk before now (Beyond tracks cells nets) = now ≡ before
 LeavesFiles words desk before now (Limit file code count) =
     (now ≡ before)
-    ⊎ ((code ≡ size_code FormulaClauses) × IsClimb words × LeavesWhole words desk before now)
+    ⊎ (IsOfClauses words code × LeavesWhole words desk before now)
 LeavesFiles words desk before now (WriteFault Said) = LeavesWhole words desk before now
 LeavesFiles words desk before now (WriteFault slot) = LeavesPart words desk before now slot
 LeavesFiles words desk before now outcome = LeavesWhole words desk before now

@@ -1,16 +1,17 @@
 -- The command `least`: how many tracks a placement needs, from both sides.
-use Rattle.std.specs.Prelude.{◌≡◌, ◌⊎◌, ℕ, ◌<◌, ◌≤◌, ⊤, List, [], ◌∷◌, length, Ok, Option}
+use Rattle.std.specs.Prelude.{◌≡◌, ◌⊎◌, ℕ, ◌<◌, ◌≤◌, ⊤, List, length, Ok, Option}
 use Rattle.fpga_types.specs.Placed.{IsPlacedRouting, NetWires}
 use Rattle.fpga_types.specs.Problem.{PlacedNetlist}
 use Rattle.route_bound.specs.Crossing.{IsBound}
 use Rattle.route_bound.specs.Cuts.{IsBestCut}
 use Rattle.route_bound.specs.declared.cut.Cut.{Cut}
 use Rattle.route_judge.specs.Says.{SaysRouting}
-use Rattle.route_sweep.specs.declared.found.FileSlot.TheVariants.{Route}
 use Rattle.router_top.specs.Bound.{IsShort, cut_lines}
-use Rattle.router_top.specs.Global.{EndsUnfound, HasFiles, IsFoundRoute, found_file}
+use Rattle.router_top.specs.Global.{EndsUnfound, HasFiles, IsFoundRoute}
+use Rattle.router_top.specs.Raised.{IsRaised, least_names, narrowed_files}
 use Rattle.router_top.specs.Written.{AreWritten, WritesFiles}
 use Rattle.router_top.specs.declared.narrowing.FoundAt.{FoundAt}
+use Rattle.router_top.specs.declared.raising.Raised.{Raised}
 use Rattle.router_top.specs.Subject.{FailsToSay, FileMap, ShelfState, after_say, RouteText, job_of, GlobalAsked, LeastAsked, Narrows, Word, Outcome, Beyond, Narrowed, Unfound, WriteFault, OutOfMemory, Said, File}
 
 -- ---- what is asked for
@@ -51,15 +52,33 @@ EndsOpen job cut outcome =
 
 -- ---- what is left
 
--- nothing was written, since no route was found, or memory ran out; or one was found at a width from
--- those tracks on for which the cut asks, and its file was written, or not whole
+-- a bound was raised from that of the cut on, and a route was found at a width from it on
+pub record IsFoundFrom
+    (job : LeastAsked) (placed : PlacedNetlist) (cut : Cut) (raised : Raised) (at : FoundAt)
+    : Type 0 where
+  pub raised_from : IsRaised placed cut.tracks raised
+  pub found : IsFoundAt job placed raised.tracks at
+
+-- nothing was written, since no route was found or memory ran out; or one was found at a width from
+-- this bound on, and its file was written, and what raised the bound behind it, or not whole
+abbrev pub LeavesRaised : LeastAsked → PlacedNetlist → (cut : ℕ) → Raised
+    → (before now : ShelfState) → Outcome → Type 0
+LeavesRaised job placed cut raised before now outcome =
+    ((EndsUnfound job.last job.rounds outcome ⊎ (outcome ≡ OutOfMemory)) × (now ≡ before))
+    ⊎ ((at : FoundAt) × IsFoundAt job placed raised.tracks at
+    × WritesFiles (Narrowed raised.tracks at.width cut)
+    (narrowed_files (least_names job.prefix) at.found raised.tracks raised.why) before now outcome)
+
+-- nothing was written, since no route was found, or memory ran out; or one was found at a width
+-- from the raised bound on, and its file was written, and what raised the bound behind it, or not
+-- whole
 abbrev pub LeavesWidths : LeastAsked → PlacedNetlist → Cut → (before now : ShelfState) → Outcome
     → Type 0
 LeavesWidths job placed cut before now outcome =
     ((EndsOpen job cut outcome ⊎ (outcome ≡ OutOfMemory)) × (now ≡ before))
-    ⊎ ((at : FoundAt) × IsFoundAt job placed cut.tracks at
-    × WritesFiles (Narrowed cut.tracks at.width)
-    (found_file (at_width job at.width) at.found ∷ []) before now outcome)
+    ⊎ ((raised : Raised) × (at : FoundAt) × IsFoundFrom job placed cut raised at
+    × WritesFiles (Narrowed raised.tracks at.width cut.tracks)
+    (narrowed_files (least_names job.prefix) at.found raised.tracks raised.why) before now outcome)
 
 -- a front part of the lines of the cut was said, and the run has failed to write; or they were said,
 -- and this is what the searches leave
@@ -88,21 +107,30 @@ pub record IsCutOfLeast (words : List Word) (desk : Option FileMap) (cut : Cut) 
   pub best : IsBestCut placed cut
   pub bound : IsBound placed cut.tracks
 
--- so it is; and a route was found at a width from so many tracks up to the last, and one file alone
--- was written: it is the printed form of a route that is judged legal at this width and says a
--- routing of the placement, and it reads back. Where that width is as many tracks as the cut asks
--- for, it is the least of the placement: every placed routing has at least as many
-pub record IsNarrowed (words : List Word) (desk before now : Option FileMap) (tracks width : ℕ)
+-- so it is, and no placed routing has fewer than so many tracks: the cut asks for as many, or it
+-- asks for fewer, and clauses over the cells of a window are refuted with one track fewer. A route
+-- was found at a width from there up to the last, and these files alone were written: the printed
+-- form of a route that is judged legal at this width and says a routing of the placement, which
+-- reads back; and where clauses were refuted, these and the log that refutes them. Where that width
+-- is as many tracks as the bound, it is the least of the placement: every placed routing has at
+-- least as many
+pub record IsNarrowed
+    (words : List Word) (desk before now : Option FileMap) (tracks width by_cut : ℕ)
     : Type 0 where
   pub cut : Cut
   pub least : IsCutOfLeast words desk cut
-  pub tracks_of : tracks ≡ cut.tracks
+  pub cut_of : by_cut ≡ cut.tracks
+  pub raised : Raised
+  pub tracks_of : tracks ≡ raised.tracks
+  pub reason : IsRaised least.placed cut.tracks raised
+  pub bound : IsBound least.placed tracks
   pub from : tracks ≤ width
   pub to : width ≤ least.job.last
   pub found : RouteText
   pub route : IsFoundRoute (at_width least.job width) least.placed found
   pub says : (has : ℕ → NetWires) × SaysRouting least.placed width found has
-  pub written : AreWritten (found_file (at_width least.job width) found ∷ []) before now
+  pub written : AreWritten
+      (narrowed_files (least_names least.job.prefix) found raised.tracks raised.why) before now
   pub is_least : width ≡ tracks → IsBound least.placed width
 
 -- so it is, and these are more tracks than were to be tried: no placed routing has so few, and no
@@ -134,10 +162,10 @@ pub record IsUnnarrowed (words : List Word) (desk before now : Option FileMap) (
 
 -- what an outcome tells of the cut whose lines were said before it
 abbrev pub IsOfCut : Cut → Outcome → Type 0
-IsOfCut cut (Narrowed tracks width) = tracks ≡ cut.tracks
+IsOfCut cut (Narrowed tracks width by_cut) = (by_cut ≡ cut.tracks) × (by_cut ≤ tracks)
 IsOfCut cut (Beyond tracks cells nets) = Beyond tracks cells nets ≡ beyond_outcome cut
 IsOfCut cut (Unfound width rounds) = cut.tracks ≤ width
-IsOfCut cut (WriteFault (File Route)) = ⊤
+IsOfCut cut (WriteFault (File slot)) = ⊤
 IsOfCut cut OutOfMemory = ⊤
 IsOfCut cut outcome = ⊥
 
@@ -153,20 +181,20 @@ pub record AreLeastLines
 
 -- the outcome tells of a cut that was said
 abbrev pub IsNarrowing : Outcome → Type 0
-IsNarrowing (Narrowed tracks width) = Unit {0}
+IsNarrowing (Narrowed tracks width by_cut) = Unit {0}
 IsNarrowing (Beyond tracks cells nets) = Unit {0}
 IsNarrowing (Unfound width rounds) = Unit {0}
 IsNarrowing outcome = ⊥
 
 -- ---- what is true
 
--- some route is judged legal at a width from as many tracks on as the cut asks for, and the outcome
--- is that one was found there; or it is that none was, or that the cut asks for too many
+-- some route is judged legal at a width from a bound on that was raised from that of the cut, and
+-- the outcome is that one was found there; or it is that none was, or that the cut asks for too many
 abbrev pub IsTrueOfWidths : LeastAsked → PlacedNetlist → Cut → Outcome → Type 0
 IsTrueOfWidths job placed cut outcome =
     EndsOpen job cut outcome
-    ⊎ ((at : FoundAt) × IsFoundAt job placed cut.tracks at
-    × (outcome ≡ Narrowed cut.tracks at.width))
+    ⊎ ((raised : Raised) × (at : FoundAt) × IsFoundFrom job placed cut raised at
+    × (outcome ≡ Narrowed raised.tracks at.width cut.tracks))
 
 -- so it is of one of the best cuts
 abbrev pub IsTrueOfLeast : LeastAsked → PlacedNetlist → Outcome → Type 0

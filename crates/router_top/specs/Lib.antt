@@ -1,4 +1,5 @@
 pub mod Bound
+pub mod Causes
 pub mod Check
 pub mod Comes
 pub mod Core
@@ -13,6 +14,7 @@ pub mod Means
 pub mod Method
 pub mod Placed
 pub mod Posed
+pub mod Raised
 pub mod Report
 pub mod Run
 pub mod Saying
@@ -22,6 +24,7 @@ pub mod SlotNames
 pub mod Subject
 pub mod Suited
 pub mod Truth
+pub mod VariableNames
 pub mod Ways
 pub mod Work
 pub mod Written

@@ -103,8 +103,8 @@ Means words desk before now (Unfound width rounds) =
     IsUnfound words desk before now width rounds
     ⊎ IsUnnarrowed words desk before now width rounds
 Means words desk before now (NoWay width) = IsWithoutWay words desk before now width
-Means words desk before now (Narrowed tracks width) =
-    IsNarrowed words desk before now tracks width
+Means words desk before now (Narrowed tracks width cut) =
+    IsNarrowed words desk before now tracks width cut
 Means words desk before now (Beyond tracks cells nets) =
     IsBeyond words desk before now tracks cells nets
 Means words desk before now Done =

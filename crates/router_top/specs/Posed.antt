@@ -1,7 +1,7 @@
 -- The problem that a run works on.
 use Rattle.std.specs.Prelude.{◌≡◌, ⊤, IsSome, List, Option, None, Some, Ok}
 use Rattle.desk_io.specs.Files.{FileMap}
-use Rattle.router_top.specs.Subject.{Blames, Encodes, FileNames, InputFault, JobAsked, Limit, OutOfMemory, Outcome, Poses, ReadFault, RoutingProblem, Routes, Sweeps, Word, WriteFault, job_of}
+use Rattle.router_top.specs.Subject.{Blames, Encodes, FileNames, InputFault, JobAsked, Limit, OutOfMemory, Outcome, Poses, ReadFault, RoutingProblem, Routes, Said, Sweeps, Word, WriteFault, job_of}
 
 -- the names of the four files that a job's problem is read from, if it works on one
 abbrev pub problem_files : JobAsked → Option FileNames
@@ -23,7 +23,7 @@ abbrev pub EndsWithoutProblem : Outcome → Type 0
 EndsWithoutProblem (InputFault file line code) = ⊤
 EndsWithoutProblem (Limit file code count) = IsSome file
 EndsWithoutProblem (ReadFault file) = ⊤
-EndsWithoutProblem (WriteFault slot) = ⊤
+EndsWithoutProblem (WriteFault Said) = ⊤
 EndsWithoutProblem OutOfMemory = ⊤
 EndsWithoutProblem outcome = ⊥
 

@@ -57,7 +57,7 @@ status_of (Undecided width learned) = 2
 status_of (Bound tracks cells nets) = 0
 status_of (Unfound width rounds) = 2
 status_of (NoWay width) = 1
-status_of (Narrowed tracks width) = 0
+status_of (Narrowed tracks width cut) = 0
 status_of (Beyond tracks cells nets) = 1
 status_of Done = 0
 status_of Accepted = 0
@@ -84,7 +84,7 @@ report_of (Bound tracks cells nets) = codes "bound " ++ decimal tracks
 report_of (Unfound width rounds) =
     codes "undecided " ++ decimal width ++ codes " after " ++ decimal rounds ++ codes " rounds"
 report_of (NoWay width) = codes "no way " ++ decimal width
-report_of (Narrowed tracks width) = codes "routed " ++ decimal width
+report_of (Narrowed tracks width cut) = codes "routed " ++ decimal width
 report_of (Beyond tracks cells nets) = codes "bound " ++ decimal tracks
 report_of Done = codes "done"
 report_of Accepted = codes "accepted"

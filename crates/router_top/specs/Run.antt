@@ -5,7 +5,8 @@ use Rattle.router_words.specs.Refusal.{code_of}
 use Rattle.fpga_problem.specs.Files.{PlacedNames, PosesPlaced}
 use Rattle.fpga_types.specs.Problem.{PlacedNetlist}
 use Rattle.router_top.specs.Bound.{BoundsTo}
-use Rattle.router_top.specs.Check.{ChecksTo, VerifiesTo}
+use Rattle.router_top.specs.Causes.{LeavesVerified}
+use Rattle.router_top.specs.Check.{ChecksTo}
 use Rattle.router_top.specs.Core.{LeavesCore}
 use Rattle.router_top.specs.Decode.{DecodeLeaves}
 use Rattle.router_top.specs.Written.{WritesFiles}
@@ -94,8 +95,7 @@ LeavesJob (Checks job) at outcome =
     ChecksTo (IsStopped at.desk at.desk_now) at.desk.files job outcome
     × (at.shelf_now ≡ at.shelf)
 LeavesJob (Verifies job) at outcome =
-    VerifiesTo (IsStopped at.desk at.desk_now) at.desk.files job outcome
-    × (at.shelf_now ≡ at.shelf)
+    LeavesVerified (IsStopped at.desk at.desk_now) at.desk.files job at.shelf at.shelf_now outcome
 LeavesJob (Judges job) at outcome =
     JudgesPlaced (IsStopped at.desk at.desk_now) at.desk.files job (IsTrueJudgement job) outcome
     × (at.shelf_now ≡ at.shelf)

@@ -1,15 +1,16 @@
 -- What a run says, whatever fails: the lead, and then the report line.
-use Rattle.std.specs.Prelude.{◌≡◌, ◌⊎◌, ℕ, ◌≤◌, ◌++◌, List, [], length, take, Ok, Option, option_map}
+use Rattle.std.specs.Prelude.{◌≡◌, ◌⊎◌, ℕ, ◌≤◌, ◌++◌, List, [], ◌∷◌, length, take, true, Ok, Option, option_map}
 use Rattle.route_core.specs.Blamed.{blamed}
 use Rattle.route_ways.specs.Trimming.{net_lines}
 use Rattle.router_top.specs.Bound.{IsBounded, cut_lines}
+use Rattle.router_top.specs.Causes.{AreCausesOf, IsIllegal, cause_lines}
 use Rattle.router_top.specs.Generated.{Makes, PosesNone}
 use Rattle.router_top.specs.Global.{IsNoWay, IsWaylessLine}
 use Rattle.router_top.specs.Headline.{IsRefuted}
 use Rattle.router_top.specs.Least.{AreLeastLines, IsNarrowing}
 use Rattle.router_top.specs.Report.{line_of}
 use Rattle.router_top.specs.Work.{trial_line}
-use Rattle.router_top.specs.Subject.{Bytes, FileMap, ShelfState, RoutingProblem, job_of, Blames, BoundAsked, Bounds, CoreAsked, GlobalAsked, LeastAsked, Narrows, Negotiates, TrialAsked, Tries, Word, Outcome, Bound, Unroutable, WriteFault, Said}
+use Rattle.router_top.specs.Subject.{Bytes, FileMap, ShelfState, RoutingProblem, job_of, Blames, BoundAsked, Bounds, CoreAsked, GlobalAsked, LeastAsked, Narrows, Negotiates, TrialAsked, Tries, VerifyAsked, Verifies, Word, Outcome, Bound, NotLegal, Unroutable, WriteFault, Said}
 
 -- the bytes said, and a text behind them
 abbrev pub more_said : Option Bytes → Bytes → Option Bytes
@@ -47,14 +48,24 @@ pub record AreCutLines
   pub bounded : IsBounded words desk tracks cells nets
   pub is : lead ≡ cut_lines bounded.placed.netlist bounded.cut
 
+-- the words ask for all causes against a routed file, the files of the problem and the routed file
+-- read, and the outcome is the first of the causes: these lines tell all of them, in order
+pub record AreCauseLines
+    (words : List Word) (desk : Option FileMap) (outcome : Outcome) (lead : Bytes) : Type 0 where
+  pub job : VerifyAsked
+  pub asked : job_of words ≡ Ok (Verifies job)
+  pub told : AreCausesOf desk job
+  pub first : outcome ≡ NotLegal told.first.line told.first.cause
+  pub is : lead ≡ cause_lines told.found.nets (told.first ∷ told.more)
+
 -- what is said before the report line of this outcome: the trial line, the nets to blame, a cut and
--- the nets that cross it, where a bound alone is asked for or what a placement needs, or a net that
--- no wires reach
+-- the nets that cross it, where a bound alone is asked for or what a placement needs, a net that no
+-- wires reach, or the causes against a routed file
 abbrev pub IsLead : List Word → (desk before now : Option FileMap) → Outcome → Bytes → Type 0
 IsLead words desk before now outcome lead =
     IsTrialLine words lead ⊎ AreNetLines words desk before now outcome lead
     ⊎ AreCutLines words desk outcome lead ⊎ AreLeastLines words desk outcome lead
-    ⊎ IsWaylessLine words desk before now outcome lead
+    ⊎ IsWaylessLine words desk before now outcome lead ⊎ AreCauseLines words desk outcome lead
 
 -- the width of the job is unroutable
 abbrev pub IsUnroutable : Outcome → Type 0
@@ -68,14 +79,16 @@ IsOfBound outcome = ⊥
 
 -- nothing is said before it: the words ask for no trial, or for one of a problem that was not made
 -- or is too large; for no nets to blame, or no width was refuted; for no bound, or none was found;
--- not for what a placement needs, or no cut was found; and for no route of a placement, or there may
--- be a way
+-- not for what a placement needs, or no cut was found; for no route of a placement, or there may be
+-- a way; and not for all causes against a routed file, or it was not judged to be illegal
 pub record HasNoLead (words : List Word) (outcome : Outcome) : Type 0 where
   pub no_trial : (job : TrialAsked) → job_of words ≡ Ok (Tries job) → PosesNone job.recipe outcome
   pub no_nets : (job : CoreAsked) → job_of words ≡ Ok (Blames job) → ¬ IsUnroutable outcome
   pub no_cut : (job : BoundAsked) → job_of words ≡ Ok (Bounds job) → ¬ IsOfBound outcome
   pub no_span : (job : LeastAsked) → job_of words ≡ Ok (Narrows job) → ¬ IsNarrowing outcome
   pub no_net : (job : GlobalAsked) → job_of words ≡ Ok (Negotiates job) → ¬ IsNoWay outcome
+  pub no_cause : (job : VerifyAsked) → job_of words ≡ Ok (Verifies job) → job.all ≡ true
+      → ¬ IsIllegal outcome
 
 -- what is said before it, which may be nothing
 abbrev pub Leads : List Word → (desk before now : Option FileMap) → Outcome → Bytes → Type 0

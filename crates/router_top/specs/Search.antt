@@ -50,12 +50,17 @@ sweep_search job crowd = record {
   method = job.search.method;
   crowd = crowd;
   ask = record { prefix = job.search.prefix; numbered = true };
-  way = way_by job.search None crowd;
+  way = way_by job.search job.members crowd;
 }
 
--- `trial` searches as `sweep` does, over the files that the generated problem would be written to
+-- `trial` searches as `sweep` does by one search alone, over the files that the generated problem
+-- would be written to
 abbrev pub sweep_of : TrialAsked → SweepAsked
-sweep_of job = record { files = names_behind job.search.prefix; search = job.search }
+sweep_of job = record {
+  files = names_behind job.search.prefix;
+  search = job.search;
+  members = None;
+}
 
 -- `core` searches at its width alone, and goes by no crowd
 abbrev pub core_search : CoreAsked → Search

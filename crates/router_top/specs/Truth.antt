@@ -2,7 +2,8 @@
 use Rattle.std.specs.Prelude.{◌≡◌, ◌⊎◌, ℕ, ◌<◌, ◌≤◌, List, false, length, MatchResult, Option, None, Some}
 use Rattle.std.specs.Option.{ForSome}
 use Rattle.desk_io.specs.Files.{HasRisen}
-use Rattle.route_ways.specs.Way.{budget_of}
+use Rattle.route_sweep.specs.Found.{IsHeld}
+use Rattle.route_ways.specs.Way.{budget_of, copies_by}
 use Rattle.sat_clause.specs.declared.limits.TheConstants.{CLAUSE_LIMIT}
 use Rattle.fpga_types.specs.Problem.{PlacedNetlist}
 use Rattle.router_words.specs.Refusal.{code_of}
@@ -19,7 +20,7 @@ use Rattle.router_top.specs.Placed.{IsJudgement, JudgesPlaced, WorksOnPlaced}
 use Rattle.router_top.specs.Report.{GivesNone}
 use Rattle.router_top.specs.Search.{Search, HasCrowd, clauses_at, clauses_held, core_search, route_search, sweep_of, sweep_search}
 use Rattle.router_top.specs.Suited.{IsTrueOfSuited}
-use Rattle.router_top.specs.Subject.{DeskState, FileMap, ShelfState, FileNames, Poses, IsHalted, RoutingProblem, HasFew, job_of, Blames, Bounds, Checks, DecodeAsked, Decodes, EncodeAsked, Encodes, Generates, JobAsked, Judges, LeastAsked, Narrows, Negotiates, Routes, Sweeps, Tries, Verifies, Word, Outcome, Routed, Unroutable, Undecided, Bound, Done, Limit, Usage, OutOfMemory, GlobalAsked, Unfound, Narrowed, Beyond}
+use Rattle.router_top.specs.Subject.{DeskState, FileMap, ShelfState, FileNames, Poses, IsHalted, RoutingProblem, job_of, Blames, Bounds, Checks, DecodeAsked, Decodes, EncodeAsked, Encodes, Generates, JobAsked, Judges, LeastAsked, Narrows, Negotiates, Routes, Sweeps, Tries, Verifies, Word, Outcome, Routed, Unroutable, Undecided, Bound, Done, Limit, Usage, OutOfMemory, GlobalAsked, Unfound, Narrowed, Beyond}
 use Rattle.router_top.specs.declared.size_cause.SizeCause.{SizeCause}
 
 -- so many clauses are more than may be built, as this cause says, and the outcome has their number;
@@ -30,13 +31,14 @@ IsTrueOfCount cause count says outcome =
     ⊎ ((count ≤ CLAUSE_LIMIT) × says)
 
 -- the crowd that the search goes by, if it does, is one of the problem, and it comes to this width:
--- each lower one that it tries has few enough clauses, and no legal routing
+-- each lower one that it tries has few enough clauses, in all copies that are held, and no legal
+-- routing
 pub record IsReached (search : Search) (p : RoutingProblem) (width : ℕ) : Type 0 where
   pub crowd : HasCrowd search p
   pub from : search.first ≤ width
   pub to : width ≤ search.last
   pub lower : (k : ℕ) → search.first ≤ k → k < width
-      → HasFew (clauses_at search k p) × HasNone search.method k p
+      → IsHeld (copies_by search.way) (clauses_at search k p) × HasNone search.method k p
 
 -- there is a legal routing at this width, or it is the last one and there is none, and the outcome
 -- says which; or it says that the budget was spent
@@ -146,7 +148,8 @@ abbrev pub IsOpenBelow : Outcome → Outcome → Type 0
 IsOpenBelow (Undecided width learned) (Routed of) = width ≤ of
 IsOpenBelow (Undecided width learned) (Unroutable of) = width ≤ of
 IsOpenBelow (Undecided width learned) (Undecided of others) = (width ≤ of) × (learned ≡ others)
-IsOpenBelow (Undecided width learned) (Limit file code count) = code ≡ size_code FormulaClauses
+IsOpenBelow (Undecided width learned) (Limit file code count) =
+    (code ≡ size_code FormulaClauses) ⊎ (code ≡ size_code ClausesOfTurns)
 IsOpenBelow (Unfound width rounds) (Routed of) = width ≤ of
 IsOpenBelow (Unfound width rounds) (Unfound of others) = width ≡ of
 IsOpenBelow outcome other = ⊥
@@ -159,9 +162,10 @@ AreBounds outcome other = ⊥
 -- both tell of one placement: no width at which a route was found is below a bound, and none is
 -- above the last that was tried, nor is that below a bound where it was left open
 abbrev pub AreOfOne : Outcome → Outcome → Type 0
-AreOfOne (Narrowed tracks width) (Narrowed others of) = (tracks ≤ of) × (others ≤ width)
-AreOfOne (Narrowed tracks width) (Unfound last rounds) = width ≤ last
-AreOfOne (Unfound last rounds) (Narrowed tracks width) = width ≤ last
+AreOfOne (Narrowed tracks width cut) (Narrowed others of other_cut) =
+    (tracks ≤ of) × (others ≤ width)
+AreOfOne (Narrowed tracks width cut) (Unfound last rounds) = width ≤ last
+AreOfOne (Unfound last rounds) (Narrowed tracks width cut) = width ≤ last
 AreOfOne (Unfound last rounds) (Beyond tracks cells nets) = last < tracks
 AreOfOne (Beyond tracks cells nets) (Unfound last rounds) = last < tracks
 AreOfOne (Beyond tracks cells nets) (Beyond others other_cells other_nets) = Unit {0}

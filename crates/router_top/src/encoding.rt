@@ -13,13 +13,13 @@ use crate::known::known_of;
 use crate::outcome::Outcome;
 use crate::problem_work::ProblemWork;
 use crate::stopping::stop_outcome;
+use crate::variable_names::{NamedClauses, NamedText};
 use desk_io::{Shelf, write_file};
 use fpga_bounds::PlacedProblem;
 use problem_facts::Facts;
 use route_sweep::{FileSlot, Stop, few_clauses};
 use router_words::EncodeJob;
 use sat_clause::Formula;
-use sat_text::CnfText;
 use std::alloc::Global;
 
 // The clauses that the job asks for, of which there are at most 40,000,000.
@@ -50,7 +50,7 @@ fn write_clauses<S: Shelf>(
     shelf: &mut S,
 ) -> Result<(), Stop>
     requires { IsKnown job.now.method false problem.now known.now }
-    ensures { WritesClauses (encode_said job.now)
+    ensures { WritesClauses (encode_said job.now) problem.now
         (clauses_by job.now.method (crowd_of known.now) job.now.width problem.now)
         (S.state shelf.old) (S.state shelf.new) result }
 {
@@ -61,7 +61,13 @@ fn write_clauses<S: Shelf>(
     let Ok(name) = file_name(alloc, job.prefix, ".cnf") else {
         return Err(Stop::Memory);
     };
-    let Ok(()) = write_file(&CnfText, shelf, name.as_str(), &formula) else {
+    let clauses = NamedClauses {
+        problem,
+        width: job.width,
+        names: job.names,
+        formula: &formula,
+    };
+    let Ok(()) = write_file(&NamedText, shelf, name.as_str(), &clauses) else {
         return Err(Stop::Fault {
             slot: FileSlot::Clauses { width: job.width },
         });

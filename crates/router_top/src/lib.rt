@@ -8,6 +8,7 @@
 #![tactic(auto)]
 
 mod bounding;
+mod cause_lines;
 mod checking;
 mod chosen;
 mod coring;
@@ -18,10 +19,13 @@ mod file_name;
 mod generating;
 mod judging;
 mod known;
+mod narrowed;
 mod narrowing;
 mod negotiating;
 mod outcome;
 mod problem_work;
+mod progress;
+mod raising;
 mod ran;
 mod routing;
 mod running;
@@ -32,10 +36,12 @@ mod suited;
 mod sweeping;
 mod text_file;
 mod trying;
+mod variable_names;
 mod verifying;
 mod ways;
 
 pub use outcome::{Obstacle, Outcome, report, status};
+pub use progress::Progress;
 pub use ran::Ran;
 pub use running::run;
 pub use size_cause::SizeCause;

@@ -1,20 +1,20 @@
 //! The command `least`: how many tracks a placement needs, from both sides.
-ghost use Rattle.std.specs.Prelude.{◌≡◌, ◌⊎◌, ◌≤◌, [], ◌∷◌, IfOk, IfSome};
+ghost use Rattle.std.specs.Prelude.{◌≡◌, ◌⊎◌, ◌≤◌, IfOk, IfSome};
 ghost use Rattle.fpga_problem.specs.Files.{IsSoundPlaced};
 ghost use Rattle.route_bound.specs.Cuts.{IsBestCut};
 ghost use Rattle.router_words.specs.Job.{global_said, least_said};
 ghost use Rattle.router_top.specs.Bound.{IsShort};
-ghost use Rattle.router_top.specs.Global.{found_file};
-ghost use Rattle.router_top.specs.Least.{IsFoundAt, LeavesCut, LeavesNarrowed, LeavesWidths, at_width};
+ghost use Rattle.router_top.specs.Least.{IsFoundAt, LeavesCut, LeavesNarrowed, LeavesRaised, LeavesWidths, at_width};
 ghost use Rattle.router_top.specs.Report.{IsReadFault};
 ghost use Rattle.router_top.specs.Run.{LeavesLeast, scene};
-ghost use Rattle.router_top.specs.Written.{WritesFiles};
-ghost use Rattle.router_top.specs.declared.outcome.Outcome.TheVariants.{Narrowed, OutOfMemory};
 
 use crate::bounding::say_cut;
-use crate::negotiating::{Begun, legal_route, read_begun, write_found};
+use crate::narrowed::write_narrowed;
+use crate::negotiating::{Begun, legal_route, read_begun};
 use crate::outcome::Outcome;
-use desk_io::{Desk, Shelf};
+use crate::progress::Progress;
+use crate::raising::{Raised, raise};
+use desk_io::Desk;
 use fpga_types::RouteText;
 use route_bound::{Cut, best_cut};
 use router_words::{GlobalJob, LeastJob};
@@ -22,9 +22,9 @@ use std::alloc::{AllocError, Global};
 
 /// A width, and a legal route that was found at it.
 #[derive(Drop)]
-struct FoundAt {
-    width: u32,
-    found: RouteText,
+pub(crate) struct FoundAt {
+    pub width: u32,
+    pub found: RouteText,
 }
 
 /// What searches at several widths come to: the most rounds that were made at one of them, and the
@@ -52,18 +52,20 @@ fn at_width<'a>(job: &LeastJob<'a>, width: u32) -> GlobalJob<'a>
 }
 
 // The first width from so many tracks up to the last at which a route is found, and that route, if
-// there is one; and how many rounds were made at most.
-fn first_found(
+// there is one; and how many rounds were made at most. The shelf is told each width that has none.
+fn first_found<S: Progress>(
     alloc: Global,
     job: &LeastJob<'_>,
     begun: &Begun,
     tracks: u32,
+    shelf: &mut S,
 ) -> Result<Narrowing, AllocError>
     requires placed { IsSoundPlaced begun.now.placed }
     requires some { 1 ≤ tracks }
     ensures rounds { IfOk result (λ narrowing. narrowing.rounds ≤ job.now.rounds) }
     ensures at { IfOk result (λ narrowing. IfSome narrowing.at
         (IsFoundAt (least_said job.now) begun.now.placed tracks)) }
+    ensures stays { S.state shelf.new ≡ S.state shelf.old }
 {
     let mut most = 0;
     for width in tracks..job.last + 1 {
@@ -76,6 +78,7 @@ fn first_found(
                 at: Some(FoundAt { width, found }),
             });
         }
+        shelf.told_unfound(width, searched.rounds);
     }
     Ok(Narrowing {
         rounds: most,
@@ -83,30 +86,46 @@ fn first_found(
     })
 }
 
-// Writes the file of a route that was found from so many tracks on.
-fn write_narrowed<S: Shelf>(
-    alloc: Global,
-    job: &LeastJob<'_>,
-    tracks: u32,
-    at: &FoundAt,
-    shelf: &mut S,
-) -> Outcome
-    requires some { 1 ≤ at.now.width }
-    requires within { at.now.width ≤ job.now.last }
-    ensures { ((result ≡ OutOfMemory) × (S.state shelf.new ≡ S.state shelf.old))
-        ⊎ WritesFiles (Narrowed tracks at.now.width)
-        (found_file (at_width (least_said job.now) at.now.width) at.now.found ∷ [])
-        (S.state shelf.old) (S.state shelf.new) result }
+// Tells the shelf of a refutation that raised the bound.
+fn tell_raised<S: Progress>(raised: &Raised, shelf: &mut S)
+    ensures { S.state shelf.new ≡ S.state shelf.old }
 {
-    let done = Outcome::Narrowed {
-        tracks,
-        width: at.width,
-    };
-    write_found(alloc, &at_width(job, at.width), &at.found, done, shelf)
+    if raised.why.is_some() {
+        shelf.told_refuted(raised.tracks.saturating_sub(1));
+    }
 }
 
-// Looks for a route at each width from as many tracks on as a cut asks for, and writes the first.
-fn search_widths<S: Shelf>(
+// Looks for a route at each width from a bound on, where a cut asks for so many tracks, and writes the
+// first, and what raised the bound.
+fn search_from<S: Progress>(
+    alloc: Global,
+    job: &LeastJob<'_>,
+    begun: &Begun,
+    cut: u32,
+    raised: &Raised,
+    shelf: &mut S,
+) -> Outcome
+    requires placed { IsSoundPlaced begun.now.placed }
+    requires some { 1 ≤ raised.now.tracks }
+    ensures { LeavesRaised (least_said job.now) begun.now.placed cut raised.now
+        (S.state shelf.old) (S.state shelf.new) result }
+{
+    tell_raised(raised, shelf);
+    let Ok(narrowing) = first_found(alloc, job, begun, raised.tracks, shelf) else {
+        return Outcome::OutOfMemory;
+    };
+    let Some(at) = narrowing.at else {
+        return Outcome::Unfound {
+            width: job.last,
+            rounds: narrowing.rounds,
+        };
+    };
+    write_narrowed(alloc, job.prefix, cut, raised, &at, shelf)
+}
+
+// Raises the bound of a cut, looks for a route at each width from there on, and writes the first, and
+// what raised the bound.
+fn search_widths<S: Progress>(
     alloc: Global,
     job: &LeastJob<'_>,
     begun: &Begun,
@@ -118,28 +137,21 @@ fn search_widths<S: Shelf>(
     ensures { LeavesWidths (least_said job.now) begun.now.placed cut.now (S.state shelf.old)
         (S.state shelf.new) result }
 {
-    let tracks = cut.tracks;
-    if job.last < tracks {
+    if job.last < cut.tracks {
         return Outcome::Beyond {
-            tracks,
+            tracks: cut.tracks,
             cells: cut.cells,
             nets: cut.nets.as_slice().len() as u64,
         };
     }
-    let Ok(narrowing) = first_found(alloc, job, begun, tracks) else {
+    let Ok(raised) = raise(alloc, &begun.placed, cut.tracks, job.last) else {
         return Outcome::OutOfMemory;
     };
-    let Some(at) = narrowing.at else {
-        return Outcome::Unfound {
-            width: job.last,
-            rounds: narrowing.rounds,
-        };
-    };
-    write_narrowed(alloc, job, tracks, &at, shelf)
+    search_from(alloc, job, begun, cut.tracks, &raised, shelf)
 }
 
 // Says the lines of a cut, and then looks for a route.
-fn narrow_cut<S: Shelf>(
+fn narrow_cut<S: Progress>(
     alloc: Global,
     job: &LeastJob<'_>,
     begun: &Begun,
@@ -159,7 +171,7 @@ fn narrow_cut<S: Shelf>(
 }
 
 // Finds one of the best cuts of a placed netlist, says its lines, and looks for a route.
-fn narrow_placed<S: Shelf>(
+fn narrow_placed<S: Progress>(
     alloc: Global,
     job: &LeastJob<'_>,
     begun: &Begun,
@@ -176,10 +188,10 @@ fn narrow_placed<S: Shelf>(
     narrow_cut(alloc, job, begun, &cut, shelf)
 }
 
-/// Reads the files of a job, says the lines of one of the best cuts, and looks for a route of the
-/// placement at each width from as many tracks on as that asks for, up to the last: the first that
-/// is found is written.
-pub fn narrow_files<D: Desk, S: Shelf>(
+/// Reads the files of a job, says the lines of one of the best cuts, raises the bound of that by
+/// refutations over cells, and looks for a route of the placement at each width from that bound up
+/// to the last: the first that is found is written, and behind it the refutation, if there is one.
+pub fn narrow_files<D: Desk, S: Progress>(
     alloc: Global,
     job: &LeastJob<'_>,
     desk: &mut D,

@@ -181,8 +181,8 @@ fn judged_route(
     }
 }
 
-/// Writes the file of a route that was found, and gives the outcome of that.
-pub(crate) fn write_found<S: Shelf>(
+// Writes the file of a route that was found, and gives the outcome of that.
+fn write_found<S: Shelf>(
     alloc: Global,
     job: &GlobalJob<'_>,
     found: &RouteText,

@@ -54,10 +54,12 @@ pub enum Outcome {
         width: u32,
     },
     /// A legal routing of this width was written, and no routing of the placement has fewer tracks
-    /// than so many, for which a cut asks.
+    /// than so many: a cut asks for as many; or it asks for fewer, and clauses over the cells of a
+    /// window are refuted with one track fewer, which was written too.
     Narrowed {
         tracks: u32,
         width: u32,
+        cut: u32,
     },
     /// No routing of the placement has fewer tracks, as of a bound, and these are more than were to
     /// be tried.

@@ -18,6 +18,7 @@ use crate::narrowing::narrow_files;
 use crate::negotiating::negotiate_files;
 use crate::outcome::{Outcome, report};
 use crate::problem_work::work_on;
+use crate::progress::Progress;
 use crate::ran::Ran;
 use crate::slot::Slot;
 use crate::suited::Suited;
@@ -38,7 +39,7 @@ fn without_problem(outcome: Outcome) -> Ran
 }
 
 // The work that the words ask for, but for the report.
-fn work<D: Desk, S: Shelf>(alloc: Global, words: &[String], desk: &mut D, shelf: &mut S) -> Ran
+fn work<D: Desk, S: Progress>(alloc: Global, words: &[String], desk: &mut D, shelf: &mut S) -> Ran
     ensures leaves { Leaves (words_of words.now)
         (scene (D.state desk.old) (D.state desk.new) (S.state shelf.old) (S.state shelf.new))
         result.outcome }
@@ -80,7 +81,7 @@ fn work<D: Desk, S: Shelf>(alloc: Global, words: &[String], desk: &mut D, shelf:
         Ok(Job::Decode(job)) => without_problem(decode_files(alloc, &job, desk, shelf)),
         Ok(Job::Core(job)) => work_on(alloc, &job.files, &job, desk, shelf),
         Ok(Job::Check(job)) => without_problem(check_files(alloc, &job, desk)),
-        Ok(Job::Verify(job)) => without_problem(verify_file(alloc, &job, desk)),
+        Ok(Job::Verify(job)) => without_problem(verify_file(alloc, &job, desk, shelf)),
         Ok(Job::Judge(job)) => without_problem(judge_file(alloc, &job, desk)),
         Ok(Job::Bound(job)) => without_problem(bound_files(alloc, &job, desk, shelf)),
         Ok(Job::Global(job)) => without_problem(negotiate_files(alloc, &job, desk, shelf)),
@@ -140,7 +141,8 @@ fn say_report<S: Shelf>(shelf: &mut S, outcome: Outcome) -> Outcome
 /// Where `--reach` is given to `route`, `sweep`, `trial`, `encode` or `decode`, a routing is one in
 /// which a net may take several wires of its cells and reaches each sink within so many joins; the
 /// clauses say that there is one, and PREFIX.route has a tree of wires for each net. Where it is
-/// given to `verify`, the routed file is judged as such a routing.
+/// given to `verify`, the routed file is judged as such a routing. Where `--all` is given to it, a
+/// file that is not legal has a line said for each of its lines against which there is a cause.
 ///
 /// `judge` asks of a routed file whether it is a routing of the placement, with no cells given
 /// beforehand: one wire of a cell alone for each net where `--strict` is given, and else several.
@@ -154,8 +156,11 @@ fn say_report<S: Shelf>(shelf: &mut S, outcome: Outcome) -> Outcome
 /// nothing. Where no wires reach a sink of some net, whatever the other nets have, it looks for
 /// none, and says a line `net NAME` for the first such net.
 ///
-/// `least` reads what `global` does and says what `bound` does. From as many tracks as the cut asks
-/// for up to MAX it looks for a route as `global` does, and the first that is found ends it.
+/// `least` reads what `global` does and says what `bound` does. It raises the bound of the cut by
+/// refutations over the cells of windows, at widths below MAX. From as many tracks as that comes to
+/// up to MAX it looks for a route as `global` does, and the first that is found ends it: it writes
+/// PREFIX.route, and where a refutation has raised the bound its clauses and its log, PREFIX.cnf and
+/// PREFIX.lrat.
 ///
 /// `gen` makes a problem from its recipe and writes PREFIX.arch, PREFIX.net, PREFIX.place and
 /// PREFIX.route. `trial` makes one too, says a line with the numbers of its slots, its steps and
@@ -166,8 +171,8 @@ fn say_report<S: Shelf>(shelf: &mut S, outcome: Outcome) -> Outcome
 /// the shelf fails on one, those before it are whole, it holds a front part of its text or was not
 /// created, and those behind it are as they were; after any other answer each file that was begun
 /// is whole. What is said is a front part of the lead and the report line, and all of both where
-/// the shelf has not failed. The lead is the trial line, or the lines of `core`, `bound`, `global`
-/// or `least`.
+/// the shelf has not failed. The lead is the trial line, or the lines of `core`, `bound`, `global`,
+/// `least` or `verify`.
 ///
 /// After want of memory the files of a `sweep` or a `trial` are those of lower widths, and of
 /// another command there is none. The files of the desk stay in any case.
@@ -175,7 +180,12 @@ fn say_report<S: Shelf>(shelf: &mut S, outcome: Outcome) -> Outcome
 /// The problem that `route`, `sweep`, `encode` and `core` worked on is given back with the outcome,
 /// so that more can be said of it. They give none only where their files pose none, or memory is too
 /// short.
-pub fn run<D: Desk, S: Shelf>(alloc: Global, words: &[String], desk: &mut D, shelf: &mut S) -> Ran
+pub fn run<D: Desk, S: Progress>(
+    alloc: Global,
+    words: &[String],
+    desk: &mut D,
+    shelf: &mut S,
+) -> Ran
     ensures means { Means (words_of words.now) (D.state desk.old).files (S.state shelf.old).files
         (S.state shelf.new).files result.outcome }
     ensures runs { Runs (words_of words.now) (D.state desk.old) (D.state desk.new)

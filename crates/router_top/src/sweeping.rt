@@ -1,6 +1,6 @@
 //! The command `sweep`: a search for the least width that has a legal routing.
-ghost use Rattle.std.specs.Prelude.{◌≡◌};
-ghost use Rattle.router_words.specs.Job.{search_said};
+ghost use Rattle.std.specs.Prelude.{◌≡◌, option_map};
+ghost use Rattle.router_words.specs.Job.{members_said, search_said};
 ghost use Rattle.router_top.specs.Known.{IsKnown};
 ghost use Rattle.router_top.specs.Report.{climbed_outcome};
 ghost use Rattle.router_top.specs.Work.{Climbs};
@@ -15,7 +15,7 @@ use desk_io::Shelf;
 use fpga_bounds::PlacedProblem;
 use problem_facts::Facts;
 use route_sweep::{Ask, Climbed, Stop, climb};
-use router_words::{SearchJob, SweepJob};
+use router_words::{Members, SearchJob, SweepJob};
 use std::alloc::Global;
 
 // What the run comes to by what the climb came to.
@@ -31,22 +31,23 @@ fn climbed_outcome(came: Result<Climbed, Stop>) -> Outcome
 }
 
 /// Searches at the widths from 1 on, up to the first that is not refuted or up to the last, by what
-/// is known of the problem; writes a routing, or else the clauses and the log of each width that
-/// was searched.
+/// is known of the problem, at each by one search or by as many as take turns; writes a routing, or
+/// else the clauses and the log of each width that was searched.
 pub fn search_widths<S: Shelf>(
     alloc: Global,
     problem: &PlacedProblem,
     known: &Option<Facts>,
     search: &SearchJob<'_>,
+    members: Option<Members>,
     shelf: &mut S,
 ) -> Outcome
     requires { IsKnown search.now.method search.now.count problem.now known.now }
-    ensures { Climbs (search_said search.now) problem.now (S.state shelf.old) (S.state shelf.new)
-        result }
+    ensures { Climbs (search_said search.now) (option_map members_said members) problem.now
+        (S.state shelf.old) (S.state shelf.new) result }
 {
     was_given(problem);
     let encoder = Chosen::of(search.method, known);
-    let way = way_by(search, None, known);
+    let way = way_by(search, members, known);
     let ask = Ask {
         prefix: search.prefix,
         numbered: true,
@@ -67,6 +68,6 @@ impl<'a> ProblemWork for SweepJob<'a> {
         let Ok(known) = known_of(alloc, self.search.method, self.search.count, problem) else {
             return Outcome::OutOfMemory;
         };
-        search_widths(alloc, problem, &known, &self.search, shelf)
+        search_widths(alloc, problem, &known, &self.search, self.members, shelf)
     }
 }

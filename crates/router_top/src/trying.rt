@@ -80,5 +80,5 @@ pub fn trial<S: Shelf>(alloc: Global, job: &TrialJob<'_>, shelf: &mut S) -> Outc
     let Ok(()) = shelf.say(trial_line(&problem).as_bytes()) else {
         return Outcome::WriteFault { slot: Slot::Said };
     };
-    search_widths(alloc, &problem, &known, &job.search, shelf)
+    search_widths(alloc, &problem, &known, &job.search, None, shelf)
 }

@@ -235,9 +235,29 @@ pub sweeps : sweep (codes "8" ∷ codes "out" ∷ codes "--conflicts" ∷ codes 
     ≡ Ok (Sweeps (record {
       files = four_files;
       search = told 8 (codes "out") 7 false;
+      members = None;
     }))
 unfolding clap_on_literals
 sweeps = refl
+
+pub sweeps_by_turns : sweep (codes "8" ∷ codes "out" ∷ codes "--seed=7" ∷ codes "--members"
+    ∷ codes "3" ∷ [])
+    ≡ Ok (Sweeps (record {
+      files = four_files;
+      search = told 8 (codes "out") 1_000_000 false;
+      members = Some (record { count = 3; seed = 7 });
+    }))
+unfolding clap_on_literals
+sweeps_by_turns = refl
+
+pub sweep_seed_alone : sweep (codes "8" ∷ codes "out" ∷ codes "--seed" ∷ codes "3" ∷ [])
+    ≡ Err Clash
+unfolding clap_on_literals
+sweep_seed_alone = refl
+
+pub sweep_nine_members : sweep (codes "8" ∷ codes "out" ∷ codes "--members=9" ∷ []) ≡ Err Number
+unfolding clap_on_literals
+sweep_nine_members = refl
 
 pub sweep_writes_over : job_of (codes "sweep" ∷ codes "a" ∷ codes "n" ∷ codes "p"
     ∷ codes "d.w3.cnf" ∷ codes "8" ∷ codes "d" ∷ []) ≡ Err Overwriting
@@ -250,6 +270,7 @@ pub sweep_writes_beside : job_of (codes "sweep" ∷ codes "a" ∷ codes "n" ∷ 
     ≡ Ok (Sweeps (record {
       files = record four_files { route = codes "d.w3.cnf" };
       search = told 2 (codes "d") 1_000_000 false;
+      members = None;
     }))
 unfolding clap_on_literals digits
 sweep_writes_beside = refl
@@ -258,6 +279,7 @@ pub sweep_reaches : sweep (codes "8" ∷ codes "out" ∷ codes "--reach" ∷ cod
     ≡ Ok (Sweeps (record {
       files = four_files;
       search = record (told 8 (codes "out") 1_000_000 false) { method = Within 2 };
+      members = None;
     }))
 unfolding clap_on_literals
 sweep_reaches = refl
@@ -293,6 +315,7 @@ pub encode_pins : job_of (codes "encode" ∷ codes "a" ∷ codes "n" ∷ codes "
       width = 5;
       prefix = codes "out";
       method = Pinned;
+      names = false;
     }))
 unfolding clap_on_literals
 encode_pins = refl
@@ -308,9 +331,26 @@ pub encode_reaches : encode (codes "--reach" ∷ codes "64" ∷ [])
       width = 5;
       prefix = codes "out";
       method = Within 64;
+      names = false;
     }))
 unfolding clap_on_literals
 encode_reaches = refl
+
+-- the variables are named where that is asked for, but not within a reach
+pub encode_names : encode (codes "--names" ∷ codes "--symmetry" ∷ [])
+    ≡ Ok (Encodes (record {
+      files = four_files;
+      width = 5;
+      prefix = codes "out";
+      method = Ordered;
+      names = true;
+    }))
+unfolding clap_on_literals
+encode_names = refl
+
+pub names_and_reaches : encode (codes "--names" ∷ codes "--reach=2" ∷ []) ≡ Err Clash
+unfolding clap_on_literals
+names_and_reaches = refl
 
 pub reach_too_far : encode (codes "--pin" ∷ codes "--reach=65" ∷ []) ≡ Err Number
 unfolding clap_on_literals
@@ -379,6 +419,7 @@ pub verifies : verify (codes "64" ∷ codes "f" ∷ [])
       width = 64;
       routed = codes "f";
       reach = None;
+      all = false;
     }))
 unfolding clap_on_literals
 verifies = refl
@@ -389,9 +430,22 @@ pub verifies_within : verify (codes "5" ∷ codes "f" ∷ codes "--reach=64" ∷
       width = 5;
       routed = codes "f";
       reach = Some 64;
+      all = false;
     }))
 unfolding clap_on_literals
 verifies_within = refl
+
+-- each cause is told where that is asked for, wherever the option stands
+pub verifies_all : verify (codes "--all" ∷ codes "5" ∷ codes "f" ∷ codes "--reach=64" ∷ [])
+    ≡ Ok (Verifies (record {
+      files = four_files;
+      width = 5;
+      routed = codes "f";
+      reach = Some 64;
+      all = true;
+    }))
+unfolding clap_on_literals
+verifies_all = refl
 
 pub verifies_too_far : verify (codes "5" ∷ codes "f" ∷ codes "--reach=65" ∷ []) ≡ Err Number
 unfolding clap_on_literals

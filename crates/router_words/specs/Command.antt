@@ -154,6 +154,10 @@ has_two_methods rows =
     || ((has_flag (codes "pin") rows || has_flag (codes "symmetry") rows)
     && is_some (first_of (codes "reach") rows))
 
+-- `--names` and `--reach` were given
+abbrev pub names_a_reach : List Row → Bool
+names_a_reach rows = has_flag (codes "names") rows && is_some (first_of (codes "reach") rows)
+
 -- options of a search were given of which one excludes another: two such, or `--count` and
 -- `--reach`
 abbrev pub has_clash : List Row → Bool
@@ -173,37 +177,42 @@ abbrev pub search_by_method : List Row → Result SearchAsked Refusal
 search_by_method rows =
     and_then (reach_asked rows) (λ reach. search_asked (method_asked reach rows) rows)
 
--- what `route` is asked for: pinned tracks, tracks in order and a reach exclude each other, and so
--- do counting and a reach
-abbrev pub route_asked : List Row → Result JobAsked Refusal
-route_asked rows =
+-- what a search is told, and the searches that take turns: pinned tracks, tracks in order and a
+-- reach exclude each other, and so do counting and a reach
+abbrev pub turns_asked : List Row → Result (SearchAsked × Option MembersAsked) Refusal
+turns_asked rows =
     and_then (search_by_method rows) (λ search.
     and_then (members_asked rows) (λ members.
-    if has_clash rows then Err Clash else Ok (Routes (record {
-      files = files_asked rows;
-      search = search;
-      members = members;
-    }))))
+    if has_clash rows then Err Clash else Ok (search, members)))
+
+-- what `route` is asked for
+abbrev pub route_asked : List Row → Result JobAsked Refusal
+route_asked rows = map_ok (λ told. Routes (record {
+  files = files_asked rows;
+  search = told.0;
+  members = told.1;
+})) (turns_asked rows)
 
 -- what `sweep` is asked for: the same
 abbrev pub sweep_asked : List Row → Result JobAsked Refusal
-sweep_asked rows =
-    and_then (search_by_method rows) (λ search.
-    if has_clash rows then Err Clash else Ok (Sweeps (record {
-      files = files_asked rows;
-      search = search;
-    })))
+sweep_asked rows = map_ok (λ told. Sweeps (record {
+  files = files_asked rows;
+  search = told.0;
+  members = told.1;
+})) (turns_asked rows)
 
--- what `encode` is asked for: pinned tracks, tracks in order and a reach exclude each other
+-- what `encode` is asked for: pinned tracks, tracks in order and a reach exclude each other, and so
+-- do names and a reach
 abbrev pub encode_asked : List Row → Result JobAsked Refusal
 encode_asked rows =
     and_then (width_asked rows) (λ width.
     and_then (reach_asked rows) (λ reach.
-    if has_two_methods rows then Err Clash else Ok (Encodes (record {
+    if has_two_methods rows || names_a_reach rows then Err Clash else Ok (Encodes (record {
       files = files_asked rows;
       width = width;
       prefix = word_in (codes "prefix") rows;
       method = method_asked reach rows;
+      names = has_flag (codes "names") rows;
     }))))
 
 -- what `decode` is asked for: pinned tracks, tracks in order and a reach exclude each other
@@ -244,6 +253,7 @@ verify_asked rows =
       width = width;
       routed = word_in (codes "routed") rows;
       reach = reach;
+      all = has_flag (codes "all") rows;
     })) (reach_asked rows))
 
 -- what `judge` is asked for

@@ -72,25 +72,27 @@ with_recipe form =
 abbrev pub with_symmetry : App → App
 with_symmetry form = with_flag (codes "symmetry") (with_flag (codes "pin") form)
 
+-- [--members K] [--seed S]
+abbrev pub with_members : App → App
+with_members form = with_option (codes "seed") (with_option (codes "members") form)
+
 -- ARCH NET PLACE ROUTE WIDTH PREFIX [--conflicts N] [--keep] [--count] [--reach L] [--pin]
--- [--symmetry]
+-- [--symmetry] [--members K] [--seed S]
 abbrev pub search_form : Word → App
-search_form name = with_symmetry (with_search (with_files (empty_form name)))
+search_form name = with_members (with_symmetry (with_search (with_files (empty_form name))))
 
--- the same, with [--members K] [--seed S]
 abbrev pub route_form : App
-route_form =
-    with_option (codes "seed") (with_option (codes "members") (search_form (codes "route")))
+route_form = search_form (codes "route")
 
--- as the form of a search, with MAX in the place of WIDTH
+-- the same, with MAX in the place of WIDTH
 abbrev pub sweep_form : App
 sweep_form = search_form (codes "sweep")
 
--- ARCH NET PLACE ROUTE WIDTH PREFIX [--pin] [--symmetry] [--reach L]
+-- ARCH NET PLACE ROUTE WIDTH PREFIX [--pin] [--symmetry] [--reach L] [--names]
 abbrev pub encode_form : App
 encode_form =
-    with_option (codes "reach")
-    (with_symmetry (with_width_and_prefix (with_files (empty_form (codes "encode")))))
+    with_flag (codes "names") (with_option (codes "reach")
+    (with_symmetry (with_width_and_prefix (with_files (empty_form (codes "encode"))))))
 
 -- ARCH NET PLACE ROUTE WIDTH MODEL PREFIX [--pin] [--symmetry] [--reach L]
 abbrev pub decode_form : App
@@ -108,10 +110,10 @@ core_form =
 abbrev pub check_form : App
 check_form = with_word (codes "lrat") (with_word (codes "cnf") (empty_form (codes "check")))
 
--- ARCH NET PLACE ROUTE WIDTH ROUTED [--reach L]
+-- ARCH NET PLACE ROUTE WIDTH ROUTED [--reach L] [--all]
 abbrev pub verify_form : App
-verify_form = with_option (codes "reach") (with_word (codes "routed") (with_word (codes "width")
-    (with_files (empty_form (codes "verify")))))
+verify_form = with_flag (codes "all") (with_option (codes "reach") (with_word (codes "routed")
+    (with_word (codes "width") (with_files (empty_form (codes "verify"))))))
 
 -- ARCH NET PLACE WIDTH ROUTED [--strict]
 abbrev pub judge_form : App

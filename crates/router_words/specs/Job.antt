@@ -46,18 +46,20 @@ pub record RouteAsked : Type 0 where
   pub search : SearchAsked
   pub members : Option MembersAsked
 
--- to look for the least width that has a routing: the same
+-- to look for the least width that has a routing: the same, at each width
 pub record SweepAsked : Type 0 where
   pub files : FileNames
   pub search : SearchAsked
+  pub members : Option MembersAsked
 
--- to write the clauses: the files, the width, what the name of the written file begins with, and
--- how routings are said by clauses
+-- to write the clauses: the files, the width, what the name of the written file begins with, how
+-- routings are said by clauses, and whether the variables are named before them
 pub record EncodeAsked : Type 0 where
   pub files : FileNames
   pub width : ℕ
   pub prefix : Word
   pub method : Method
+  pub names : Bool
 
 -- to make a route of a model: the files, the width, the name of the file with the model, what the
 -- name of the written file begins with, and how routings are said by the clauses that it satisfies
@@ -81,14 +83,15 @@ pub record CheckAsked : Type 0 where
   pub cnf : Word
   pub lrat : Word
 
--- to judge a routed file: the files of the problem, the width, the name of the routed file, and
--- within how many joins of wires a net is to reach its sinks, where it may have several wires of a
--- cell
+-- to judge a routed file: the files of the problem, the width, the name of the routed file, within
+-- how many joins of wires a net is to reach its sinks, where it may have several wires of a cell,
+-- and whether each cause against the file is told
 pub record VerifyAsked : Type 0 where
   pub files : FileNames
   pub width : ℕ
   pub routed : Word
   pub reach : Option ℕ
+  pub all : Bool
 
 -- to judge a routed file as a routing of a placement: the files of the placed netlist, the width, the
 -- name of the routed file, and whether each net may have one wire of a cell alone
@@ -174,6 +177,9 @@ search_said search = record {
 abbrev pub members_said : Members → MembersAsked
 members_said members = record { count = members.count; seed = members.seed }
 
+abbrev pub turns_said : SearchJob × Option Members → SearchAsked × Option MembersAsked
+turns_said told = (search_said told.0, option_map members_said told.1)
+
 abbrev pub route_said : RouteJob → RouteAsked
 route_said job = record {
   files = names_said job.files;
@@ -182,7 +188,11 @@ route_said job = record {
 }
 
 abbrev pub sweep_said : SweepJob → SweepAsked
-sweep_said job = record { files = names_said job.files; search = search_said job.search }
+sweep_said job = record {
+  files = names_said job.files;
+  search = search_said job.search;
+  members = option_map members_said job.members;
+}
 
 abbrev pub encode_said : EncodeJob → EncodeAsked
 encode_said job = record {
@@ -190,6 +200,7 @@ encode_said job = record {
   width = job.width;
   prefix = job.prefix.now;
   method = job.method;
+  names = job.names;
 }
 
 abbrev pub decode_said : DecodeJob → DecodeAsked
@@ -218,6 +229,7 @@ verify_said job = record {
   width = job.width;
   routed = job.routed.now;
   reach = job.reach;
+  all = job.all;
 }
 
 abbrev pub judge_said : JudgeJob → JudgeAsked

@@ -44,6 +44,12 @@ abbrev pub route_overwrites : (files : PlacedNames) → (from : Option Word) →
 route_overwrites files from prefix = is_named (three_names files) prefix (codes ".route")
     || option_map_or (λ start. is_named (start ∷ []) prefix (codes ".route")) from false
 
+-- so has a file that a search for the least width may write: the route, or the clauses and the log
+-- that raise its bound
+abbrev pub least_overwrites : (files : PlacedNames) → (from : Option Word) → (prefix : Word) → Bool
+least_overwrites files from prefix = search_overwrites (three_names files) prefix
+    || option_map_or (λ start. search_overwrites (start ∷ []) prefix) from false
+
 -- the route that is made of a model has the name of a file of its problem, or of the model
 abbrev pub model_overwrites : (files : FileNames) → (model prefix : Word) → Bool
 model_overwrites files model prefix = is_named (four_names files) prefix (codes ".route")
@@ -58,5 +64,5 @@ overwrites (Encodes job) = is_named (four_names job.files) job.prefix (codes ".c
 overwrites (Decodes job) = model_overwrites job.files job.model job.prefix
 overwrites (Blames job) = search_overwrites (four_names job.files) job.prefix
 overwrites (Negotiates job) = route_overwrites job.files job.from job.prefix
-overwrites (Narrows job) = route_overwrites job.files job.from job.prefix
+overwrites (Narrows job) = least_overwrites job.files job.from job.prefix
 overwrites job = false

@@ -9,8 +9,7 @@ ghost use Rattle.router_words.specs.Taken.{HasRequired};
 use crate::fault::Refusal;
 use crate::form::{
     bound_command, check_command, core_command, decode_command, encode_command, gen_command,
-    global_command, judge_command, least_command, route_command, search_command, trial_command,
-    verify_command,
+    global_command, judge_command, least_command, search_command, trial_command, verify_command,
 };
 use crate::from_matches::{
     bound_job, check_job, core_job, decode_job, encode_job, gen_job, global_job, judge_job,
@@ -90,7 +89,7 @@ impl CommandName {
         ensures { IfOk result (λ c. app_of c ≡ (row_of self).form) }
     {
         match self {
-            CommandName::Route => route_command(alloc),
+            CommandName::Route => search_command(alloc, "route"),
             CommandName::Sweep => search_command(alloc, "sweep"),
             CommandName::Encode => encode_command(alloc),
             CommandName::Decode => decode_command(alloc),

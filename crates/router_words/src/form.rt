@@ -1,7 +1,7 @@
 //! The forms of the commands, as `clap` has them.
 ghost use Rattle.std.specs.Prelude.{◌≡◌, IfOk, codes};
 ghost use Rattle.clap.specs.Words.{app_of, rule_of};
-ghost use Rattle.router_words.specs.Form.{bound_form, check_form, core_form, decode_form, empty_form, encode_form, gen_form, global_form, judge_form, least_form, route_form, search_form, trial_form, verify_form, with_effort, with_files, with_flag, with_negotiation, with_option, with_placed, with_recipe, with_search, with_symmetry, with_width_and_prefix, with_word};
+ghost use Rattle.router_words.specs.Form.{bound_form, check_form, core_form, decode_form, empty_form, encode_form, gen_form, global_form, judge_form, least_form, search_form, trial_form, verify_form, with_effort, with_files, with_flag, with_members, with_negotiation, with_option, with_placed, with_recipe, with_search, with_symmetry, with_width_and_prefix, with_word};
 
 use clap::{Arg, ArgAction, Command};
 use std::alloc::{AllocError, Global};
@@ -109,34 +109,34 @@ fn add_symmetry<'a>(alloc: Global, command: Command<'a>) -> Result<Command<'a>, 
     add_flag(alloc, command, "symmetry")
 }
 
+// With how many searches take turns, and in which order.
+fn add_members<'a>(alloc: Global, command: Command<'a>) -> Result<Command<'a>, AllocError>
+    ensures { IfOk result (λ c. app_of c ≡ with_members (app_of command.entry)) }
+{
+    let command = add_option(alloc, command, "members")?;
+    add_option(alloc, command, "seed")
+}
+
 /// ARCH NET PLACE ROUTE WIDTH PREFIX [--conflicts N] [--keep] [--count] [--reach L] [--pin]
-/// [--symmetry], behind this name of a command.
+/// [--symmetry] [--members K] [--seed S], behind this name of a command.
 pub fn search_command<'a>(alloc: Global, name: &'a str) -> Result<Command<'a>, AllocError>
     ensures { IfOk result (λ c. app_of c ≡ search_form name.entry.now) }
 {
     let command = add_files(alloc, named(alloc, name))?;
     let command = add_search(alloc, command)?;
-    add_symmetry(alloc, command)
+    let command = add_symmetry(alloc, command)?;
+    add_members(alloc, command)
 }
 
-/// ARCH NET PLACE ROUTE WIDTH PREFIX [--conflicts N] [--keep] [--count] [--reach L] [--pin]
-/// [--symmetry] [--members K] [--seed S]
-pub fn route_command<'a>(alloc: Global) -> Result<Command<'a>, AllocError>
-    ensures { IfOk result (λ c. app_of c ≡ route_form) }
-{
-    let command = search_command(alloc, "route")?;
-    let command = add_option(alloc, command, "members")?;
-    add_option(alloc, command, "seed")
-}
-
-/// ARCH NET PLACE ROUTE WIDTH PREFIX [--pin] [--symmetry] [--reach L]
+/// ARCH NET PLACE ROUTE WIDTH PREFIX [--pin] [--symmetry] [--reach L] [--names]
 pub fn encode_command<'a>(alloc: Global) -> Result<Command<'a>, AllocError>
     ensures { IfOk result (λ c. app_of c ≡ encode_form) }
 {
     let command = add_files(alloc, named(alloc, "encode"))?;
     let command = add_width_and_prefix(alloc, command)?;
     let command = add_symmetry(alloc, command)?;
-    add_option(alloc, command, "reach")
+    let command = add_option(alloc, command, "reach")?;
+    add_flag(alloc, command, "names")
 }
 
 /// ARCH NET PLACE ROUTE WIDTH MODEL PREFIX [--pin] [--symmetry] [--reach L]
@@ -168,14 +168,15 @@ pub fn check_command<'a>(alloc: Global) -> Result<Command<'a>, AllocError>
     add_word(alloc, command, "lrat")
 }
 
-/// ARCH NET PLACE ROUTE WIDTH ROUTED [--reach L]
+/// ARCH NET PLACE ROUTE WIDTH ROUTED [--reach L] [--all]
 pub fn verify_command<'a>(alloc: Global) -> Result<Command<'a>, AllocError>
     ensures { IfOk result (λ c. app_of c ≡ verify_form) }
 {
     let problem = add_files(alloc, named(alloc, "verify"))?;
     let command = add_word(alloc, problem, "width")?;
     let command = add_word(alloc, command, "routed")?;
-    add_option(alloc, command, "reach")
+    let command = add_option(alloc, command, "reach")?;
+    add_flag(alloc, command, "all")
 }
 
 /// ARCH NET PLACE WIDTH ROUTED [--strict]

@@ -3,9 +3,9 @@ ghost use Rattle.std.specs.Prelude.{◌≡◌, ◌≤◌, IfOk, IfSome, codes, i
 ghost use Rattle.clap.specs.Words.{first_of, found_of, rows_of};
 ghost use Rattle.fpga_problem.specs.Files.{names_said, placed_names_said};
 ghost use Rattle.fpga_types.specs.declared.limits.TheConstants.{REACH_LIMIT, WIDTH_LIMIT};
-ghost use Rattle.router_words.specs.Command.{bound_asked, check_asked, conflicts_asked, core_asked, decode_asked, encode_asked, files_asked, gen_asked, global_asked, judge_asked, members_asked, members_with, method_asked, method_within, number_if_any, number_within, has_clash, has_two_methods, least_asked, placed_asked, reach_asked, recipe_asked, rounds_asked, route_asked, search_asked, search_by_method, sweep_asked, trial_asked, verify_asked, width_asked, word_in};
+ghost use Rattle.router_words.specs.Command.{bound_asked, check_asked, conflicts_asked, core_asked, decode_asked, encode_asked, files_asked, gen_asked, global_asked, judge_asked, members_asked, members_with, method_asked, method_within, names_a_reach, number_if_any, number_within, has_clash, has_two_methods, least_asked, placed_asked, reach_asked, recipe_asked, rounds_asked, route_asked, search_asked, search_by_method, sweep_asked, trial_asked, turns_asked, verify_asked, width_asked, word_in};
 ghost use Rattle.router_words.specs.Form.{bound_form, check_form, core_form, decode_form, encode_form, gen_form, global_form, judge_form, least_form, route_form, sweep_form, trial_form, verify_form};
-ghost use Rattle.router_words.specs.Job.{job_said, members_said, recipe_said, search_said};
+ghost use Rattle.router_words.specs.Job.{job_said, members_said, recipe_said, search_said, turns_said};
 ghost use Rattle.router_words.specs.Near.{IsNear, has_one_track};
 ghost use Rattle.router_words.specs.Results.{map_ok};
 ghost use Rattle.router_words.specs.Taken.{HasFiles, HasPlaced, HasRecipe, HasRequired};
@@ -221,6 +221,13 @@ fn has_two_methods(matches: &ArgMatches) -> bool
     (pins && orders) || ((pins || orders) && first_word(matches, "reach").is_some())
 }
 
+// Whether names and a reach are asked for.
+fn names_a_reach(matches: &ArgMatches) -> bool
+    ensures { result ≡ names_a_reach (rows_of (found_of matches.now)) }
+{
+    has_flag(matches, "names") && first_word(matches, "reach").is_some()
+}
+
 // Whether options of a search are given of which one excludes another.
 fn has_clash(matches: &ArgMatches) -> bool
     ensures { result ≡ has_clash (rows_of (found_of matches.now)) }
@@ -239,16 +246,27 @@ fn search_by_method<'a>(matches: &ArgMatches<'a>) -> Result<SearchJob<'a>, Refus
     search(matches, method(matches, reach))
 }
 
-/// What `route` is asked for, or why its words ask for nothing.
-pub fn route_job<'a>(matches: &ArgMatches<'a>) -> Result<Job<'a>, Refusal>
-    requires { HasRequired route_form (rows_of (found_of matches.now)) }
-    ensures { map_ok job_said result ≡ route_asked (rows_of (found_of matches.now)) }
+// What a search is told, and the searches that take turns, where there is not one alone; or that a
+// number is none in its range, or that options exclude each other.
+fn turns<'a>(matches: &ArgMatches<'a>) -> Result<(SearchJob<'a>, Option<Members>), Refusal>
+    requires width { is_some (first_of (codes "width") (rows_of (found_of matches.now))) ≡ true }
+    requires prefix { is_some (first_of (codes "prefix") (rows_of (found_of matches.now))) ≡ true }
+    ensures { map_ok turns_said result ≡ turns_asked (rows_of (found_of matches.now)) }
 {
     let search = search_by_method(matches)?;
     let members = members(matches)?;
     if has_clash(matches) {
         return Err(Refusal::Clash);
     }
+    Ok((search, members))
+}
+
+/// What `route` is asked for, or why its words ask for nothing.
+pub fn route_job<'a>(matches: &ArgMatches<'a>) -> Result<Job<'a>, Refusal>
+    requires { HasRequired route_form (rows_of (found_of matches.now)) }
+    ensures { map_ok job_said result ≡ route_asked (rows_of (found_of matches.now)) }
+{
+    let (search, members) = turns(matches)?;
     Ok(Job::Route(RouteJob {
         files: file_names(matches),
         search,
@@ -261,13 +279,11 @@ pub fn sweep_job<'a>(matches: &ArgMatches<'a>) -> Result<Job<'a>, Refusal>
     requires { HasRequired sweep_form (rows_of (found_of matches.now)) }
     ensures { map_ok job_said result ≡ sweep_asked (rows_of (found_of matches.now)) }
 {
-    let search = search_by_method(matches)?;
-    if has_clash(matches) {
-        return Err(Refusal::Clash);
-    }
+    let (search, members) = turns(matches)?;
     Ok(Job::Sweep(SweepJob {
         files: file_names(matches),
         search,
+        members,
     }))
 }
 
@@ -278,7 +294,7 @@ pub fn encode_job<'a>(matches: &ArgMatches<'a>) -> Result<Job<'a>, Refusal>
 {
     let width = width(matches)?;
     let reach = reach(matches)?;
-    if has_two_methods(matches) {
+    if has_two_methods(matches) || names_a_reach(matches) {
         return Err(Refusal::Clash);
     }
     Ok(Job::Encode(EncodeJob {
@@ -286,6 +302,7 @@ pub fn encode_job<'a>(matches: &ArgMatches<'a>) -> Result<Job<'a>, Refusal>
         width,
         prefix: required_word(matches, "prefix"),
         method: method(matches, reach),
+        names: has_flag(matches, "names"),
     }))
 }
 
@@ -346,6 +363,7 @@ pub fn verify_job<'a>(matches: &ArgMatches<'a>) -> Result<Job<'a>, Refusal>
         width,
         routed: required_word(matches, "routed"),
         reach,
+        all: has_flag(matches, "all"),
     }))
 }
 

@@ -58,6 +58,8 @@ pub struct SweepJob<'a> {
     pub files: FourNames<'a>,
     /// The greatest width that is tried, and what else the searches are told.
     pub search: SearchJob<'a>,
+    /// The searches that take turns at each width, where there is not one alone.
+    pub members: Option<Members>,
 }
 
 /// To write the clauses of a routing.
@@ -71,6 +73,8 @@ pub struct EncodeJob<'a> {
     pub prefix: &'a str,
     /// How routings are said by clauses.
     pub method: Method,
+    /// Whether lines before the clauses say which variable is which net's cell and track.
+    pub names: bool,
     ghost in_range: { (1 ≤ width) × (width ≤ WIDTH_LIMIT) },
     ghost near: { IsNear method } by { Prim.hlevel props },
 }
@@ -128,6 +132,8 @@ pub struct VerifyJob<'a> {
     /// Within how many joins of wires a net is to reach its sinks, from 1 to 64, where it may have
     /// several wires of a cell.
     pub reach: Option<u32>,
+    /// Whether each line against which there is a cause is told, and not the first alone.
+    pub all: bool,
     ghost in_range: { (1 ≤ width) × (width ≤ WIDTH_LIMIT) },
     ghost near: { IfSome reach (λ n. (1 ≤ n) × (n ≤ REACH_LIMIT)) } by { Prim.hlevel props },
 }

@@ -26,7 +26,7 @@ pub fn overwrites(alloc: Global, job: &Job<'_>) -> Result<bool, AllocError>
         Job::Decode(job) => model_overwrites(alloc, job.files, job.model, job.prefix),
         Job::Core(job) => search_overwrites(alloc, &four_names(job.files), job.prefix),
         Job::Global(job) => route_overwrites(alloc, job.files, job.from, job.prefix),
-        Job::Least(job) => route_overwrites(alloc, job.files, job.from, job.prefix),
+        Job::Least(job) => least_overwrites(alloc, job.files, job.from, job.prefix),
         Job::Check(_)
         | Job::Verify(_)
         | Job::Judge(_)
@@ -163,4 +163,24 @@ fn route_overwrites(
         return Ok(false);
     };
     is_named(alloc, &[from], prefix, ".route")
+}
+
+// Whether a file of a search for the least width would be written over one of its files, or over the
+// route that it begins with.
+fn least_overwrites(
+    alloc: Global,
+    files: ThreeNames<'_>,
+    from: Option<&str>,
+    prefix: &str,
+) -> Result<bool, AllocError>
+    ensures { IfOk result (λ is. is ≡ spec.least_overwrites (placed_names_said files.entry)
+        (option_map (λ word. word.now) from.entry) prefix.now) }
+{
+    if search_overwrites(alloc, &three_names(files), prefix)? {
+        return Ok(true);
+    }
+    let Some(from) = from else {
+        return Ok(false);
+    };
+    search_overwrites(alloc, &[from], prefix)
 }

@@ -105,7 +105,9 @@ has_option Decode Reach = true
 has_option Verify Reach = true
 has_option Trial Reach = true
 has_option Route Members = true
+has_option Sweep Members = true
 has_option Route MemberSeed = true
+has_option Sweep MemberSeed = true
 has_option Global From = true
 has_option Least From = true
 has_option Global Rounds = true
@@ -128,9 +130,10 @@ has_flag Route word =
     is_symmetry word || bytes_eq word (codes "--keep") || bytes_eq word (codes "--count")
 has_flag Sweep word =
     is_symmetry word || bytes_eq word (codes "--keep") || bytes_eq word (codes "--count")
-has_flag Encode word = is_symmetry word
+has_flag Encode word = is_symmetry word || bytes_eq word (codes "--names")
 has_flag Decode word = is_symmetry word
 has_flag Trial word = bytes_eq word (codes "--keep") || bytes_eq word (codes "--count")
+has_flag Verify word = bytes_eq word (codes "--all")
 has_flag Judge word = bytes_eq word (codes "--strict")
 has_flag Global word = bytes_eq word (codes "--free")
 has_flag Least word = bytes_eq word (codes "--free")

@@ -8,10 +8,9 @@ use Rattle.usage_words.specs.declared.command.Command.TheVariants.{Route, Sweep,
 
 -- which options of a command exclude each other, or need another
 abbrev pub clash_said : Command → List ℕ
-clash_said Encode = codes "--pin, --symmetry and --reach exclude one another.\n"
+clash_said Encode =
+    codes "--pin, --symmetry and --reach exclude one another, and so do --names and --reach.\n"
 clash_said Decode = codes "--pin, --symmetry and --reach exclude one another.\n"
-clash_said Sweep =
-    codes "--pin, --symmetry and --reach exclude one another, and so do --count and --reach.\n"
 clash_said Trial = codes "--count and --reach exclude each other.\n"
 clash_said _ =
     codes "--pin, --symmetry and --reach exclude one another, and so do --count and --reach; "
@@ -25,10 +24,11 @@ takes_said Route =
     ++ codes "K to 8"
 takes_said Sweep =
     codes "sweep ARCH NET PLACE ROUTE MAX PREFIX [--conflicts N] [--keep] [--count] "
-    ++ codes "[--pin | --symmetry | --reach L], MAX and L from 1 to 64"
+    ++ codes "[--pin | --symmetry | --reach L] [--members K] [--seed S], MAX and L from 1 to 64, "
+    ++ codes "K to 8"
 takes_said Encode =
-    codes "encode ARCH NET PLACE ROUTE WIDTH PREFIX [--pin | --symmetry | --reach L], WIDTH and "
-    ++ codes "L from 1 to 64"
+    codes "encode ARCH NET PLACE ROUTE WIDTH PREFIX [--pin | --symmetry | --reach L] [--names], "
+    ++ codes "WIDTH and L from 1 to 64"
 takes_said Decode =
     codes "decode ARCH NET PLACE ROUTE WIDTH MODEL PREFIX [--pin | --symmetry | --reach L], "
     ++ codes "WIDTH and L from 1 to 64"
@@ -36,7 +36,7 @@ takes_said Core =
     codes "core ARCH NET PLACE ROUTE WIDTH PREFIX [--conflicts N], WIDTH from 1 to 64"
 takes_said Check = codes "check CNF LRAT"
 takes_said Verify =
-    codes "verify ARCH NET PLACE ROUTE WIDTH ROUTED [--reach L], WIDTH and L from 1 to 64"
+    codes "verify ARCH NET PLACE ROUTE WIDTH ROUTED [--reach L] [--all], WIDTH and L from 1 to 64"
 takes_said Judge = codes "judge ARCH NET PLACE WIDTH ROUTED [--strict], WIDTH from 1 to 64"
 takes_said Bound = codes "bound ARCH NET PLACE"
 takes_said Global =

@@ -162,7 +162,7 @@ impl Command {
                     | Command::Verify
                     | Command::Trial
             ),
-            Item::Members | Item::MemberSeed => matches!(self, Command::Route),
+            Item::Members | Item::MemberSeed => matches!(self, Command::Route | Command::Sweep),
             Item::From | Item::Rounds => matches!(self, Command::Global | Command::Least),
             _ => false,
         }
@@ -176,12 +176,13 @@ impl Command {
             Command::Route | Command::Sweep => {
                 is_symmetry(word) || word == "--keep" || word == "--count"
             }
-            Command::Encode | Command::Decode => is_symmetry(word),
+            Command::Encode => is_symmetry(word) || word == "--names",
+            Command::Decode => is_symmetry(word),
             Command::Trial => word == "--keep" || word == "--count",
+            Command::Verify => word == "--all",
             Command::Judge => word == "--strict",
             Command::Global | Command::Least => word == "--free",
-            Command::Core | Command::Check | Command::Verify | Command::Bound | Command::Gen =>
-                false,
+            Command::Core | Command::Check | Command::Bound | Command::Gen => false,
         }
     }
 }

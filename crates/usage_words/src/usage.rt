@@ -112,14 +112,13 @@ fn clash_said(command: Command) -> &'static str
     ensures { result.now ≡ clash_said command }
 {
     match command {
-        Command::Encode | Command::Decode => {
-            "--pin, --symmetry and --reach exclude one another.\n"
+        Command::Encode => {
+            "--pin, --symmetry and --reach exclude one another, and so do --names and --reach.\n"
         }
-        Command::Sweep => {
-            "--pin, --symmetry and --reach exclude one another, and so do --count and --reach.\n"
-        }
+        Command::Decode => "--pin, --symmetry and --reach exclude one another.\n",
         Command::Trial => "--count and --reach exclude each other.\n",
         Command::Route
+        | Command::Sweep
         | Command::Core
         | Command::Check
         | Command::Verify
@@ -146,11 +145,12 @@ fn takes_said(command: Command) -> &'static str
         }
         Command::Sweep => {
             "sweep ARCH NET PLACE ROUTE MAX PREFIX [--conflicts N] [--keep] [--count] \
-             [--pin | --symmetry | --reach L], MAX and L from 1 to 64"
+             [--pin | --symmetry | --reach L] [--members K] [--seed S], MAX and L from 1 to 64, \
+             K to 8"
         }
         Command::Encode => {
-            "encode ARCH NET PLACE ROUTE WIDTH PREFIX [--pin | --symmetry | --reach L], WIDTH and \
-             L from 1 to 64"
+            "encode ARCH NET PLACE ROUTE WIDTH PREFIX [--pin | --symmetry | --reach L] [--names], \
+             WIDTH and L from 1 to 64"
         }
         Command::Decode => {
             "decode ARCH NET PLACE ROUTE WIDTH MODEL PREFIX [--pin | --symmetry | --reach L], \
@@ -161,7 +161,7 @@ fn takes_said(command: Command) -> &'static str
         }
         Command::Check => "check CNF LRAT",
         Command::Verify => {
-            "verify ARCH NET PLACE ROUTE WIDTH ROUTED [--reach L], WIDTH and L from 1 to 64"
+            "verify ARCH NET PLACE ROUTE WIDTH ROUTED [--reach L] [--all], WIDTH and L from 1 to 64"
         }
         Command::Judge => { "judge ARCH NET PLACE WIDTH ROUTED [--strict], WIDTH from 1 to 64" }
         Command::Bound => "bound ARCH NET PLACE",

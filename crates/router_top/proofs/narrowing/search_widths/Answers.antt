@@ -1,12 +1,10 @@
-use Rattle.std.proofs.Common.{inl, inr}
+use Rattle.std.proofs.Common.{rules}
+use Rattle.router_words.specs.Job.{least_said}
+use Rattle.router_top.proofs.LeastLaws.{raised-leaves}
 use Rattle.router_top.proofs.narrowing.search_widths.Goals as goal
 
 pub returns : goal.returns
-returns g c = elim c.write_narrowed.ensures [
-  | inl spent ↦ inl (inr spent.0, spent.1)
-  | inr wrote ↦ inr (
-    c.in-Some.at,
-    rw c.in-Some.is at c.in-Ok.ensures.at,
-    rw c.in-Some.is at wrote,
-  )
-]
+returns g c = raised-leaves (least_said c.args.job.now) c.args.begun.now.placed c.args.cut.now
+    c.in-Ok.raised (g.S.Shelf.state c.args.shelf.now) (g.S.Shelf.state c.search_from.new.shelf)
+    c.search_from.result (rw c.in-Ok.is at c.raise.ensures.raised) (search rules)
+    c.search_from.ensures

@@ -27,7 +27,7 @@ returns-in-Ok-Sweep-clause-leaves g c =
 pub returns-in-Ok-Verify-clause-leaves : goal.returns-in-Ok-Verify-clause-leaves
 returns-in-Ok-Verify-clause-leaves g c =
     let asked = rw c.in-Ok-Verify.field-0-is at c.in-Ok-Verify.ensures.answers in
-    rw c.without_problem-in-Ok-Verify.ensures (inr (rw asked (c.verify_file.ensures.verifies, refl)))
+    rw c.without_problem-in-Ok-Verify.ensures (inr (rw asked c.verify_file.ensures.verifies))
 
 pub returns-in-Ok-Judge-clause-leaves : goal.returns-in-Ok-Judge-clause-leaves
 returns-in-Ok-Judge-clause-leaves g c =

@@ -1,16 +1,19 @@
-use Rattle.std.proofs.Common.{◌∙◌, inl, inr}
-use Rattle.fpga_problem.specs.Sources.{Reads, Stops, route_source}
-use Rattle.fpga_problem.specs.declared.unread.FileFault.TheVariants.{Text}
+use Rattle.std.proofs.Common.{◌≡◌, ◌∙◌, false, true, inl, inr, refl, sym}
+use Rattle.fpga_problem.specs.Sources.{Stops, route_source}
 use Rattle.fpga_problem.proofs.SourceLemmas.{says-before, stop-before}
-use Rattle.fpga_text.specs.declared.fault.TextFault.TheVariants.{Memory}
 use Rattle.router_words.specs.Job.{verify_said}
 use Rattle.router_top.specs.declared.text_file.TextFile.TheVariants.{Problem, Routed}
 use Rattle.router_top.proofs.StopLaws.{desk-fault}
+use Rattle.router_top.proofs.VerifiedLaws.{judged-to, told-to, unread-lawful}
 use Rattle.router_top.proofs.verifying.verify_file.Goals as goal
 
 pub returns-in-Err-clause-verifies : goal.returns-in-Err-clause-verifies
-returns-in-Err-clause-verifies g c =
-    inl (c.in-Err.stop, c.in-Err.ensures.stop, c.unread_outcome.ensures)
+returns-in-Err-clause-verifies g c = inl (
+  inl (c.in-Err.stop, c.in-Err.ensures.stop, c.unread_outcome.ensures),
+  refl,
+  λ all. unread-lawful (Problem c.in-Err.stop.file) c.in-Err.stop.fault c.unread_outcome.result
+      c.unread_outcome.ensures,
+)
 
 pub returns-in-Err-clause-quiet : goal.returns-in-Err-clause-quiet
 returns-in-Err-clause-quiet g c told =
@@ -21,17 +24,23 @@ pub returns-in-Err-read_route_file-clause-verifies :
     goal.returns-in-Err-read_route_file-clause-verifies
 returns-in-Err-read_route_file-clause-verifies g c =
     let fault = c.in-Err-read_route_file.fault in
-    inr (
-      c.in-Ok.problem,
-      c.in-Ok.ensures.poses,
-      Stops (record {
-        fault = fault;
-        because = stop-before (g.D.Desk.state c.read_files.new.desk)
-            (g.D.Desk.state c.read_route_file.new.desk) (g.D.Desk.state c.args.desk.now)
-            (route_source (verify_said c.args.job.now).routed) fault c.in-Ok.ensures.files
-            (c.in-Ok.ensures.quiet (λ e. e)) c.in-Err-read_route_file.ensures.reads.answers;
-        tells = c.unread_outcome-in-Err-read_route_file.ensures;
-      }),
+    inl (
+      inr (
+        c.in-Ok.problem,
+        c.in-Ok.ensures.poses,
+        Stops (record {
+          fault = fault;
+          because = stop-before (g.D.Desk.state c.read_files.new.desk)
+              (g.D.Desk.state c.read_route_file.new.desk) (g.D.Desk.state c.args.desk.now)
+              (route_source (verify_said c.args.job.now).routed) fault c.in-Ok.ensures.files
+              (c.in-Ok.ensures.quiet (λ e. e))
+              c.in-Err-read_route_file.ensures.reads.answers;
+          tells = c.unread_outcome-in-Err-read_route_file.ensures;
+        }),
+      ),
+      refl,
+      λ all. unread-lawful Routed fault c.unread_outcome-in-Err-read_route_file.result
+          c.unread_outcome-in-Err-read_route_file.ensures,
     )
 
 pub returns-in-Err-read_route_file-clause-quiet : goal.returns-in-Err-read_route_file-clause-quiet
@@ -40,18 +49,19 @@ returns-in-Err-read_route_file-clause-quiet g c told =
     c.in-Err-read_route_file.fault c.unread_outcome-in-Err-read_route_file.result
     c.unread_outcome-in-Err-read_route_file.ensures fails)) ∙ c.in-Ok.ensures.quiet (λ e. e)
 
+pub returns-then-job-clause-verifies : goal.returns-then-job-clause-verifies
+returns-then-job-clause-verifies g c =
+    told-to _ _ (verify_said c.args.job.now) c.in-Ok.problem c.in-Ok.ensures.poses
+    c.in-Ok-read_route_file.found
+    (says-before c.in-Ok.ensures.files c.in-Ok-read_route_file.ensures.reads.answers) tt _ _ _
+    c.if-job.true c.judge_lines.ensures
+
 pub returns-clause-verifies : goal.returns-clause-verifies
-returns-clause-verifies g c =
-    let says = says-before c.in-Ok.ensures.files c.in-Ok-read_route_file.ensures.reads.answers in
-    elim c.judge.ensures [
-      | inl spent ↦ inr (
-        c.in-Ok.problem,
-        c.in-Ok.ensures.poses,
-        Stops (record { fault = Text Memory; because = tt; tells = spent }),
-      )
-      | inr is ↦ inr (
-        c.in-Ok.problem,
-        c.in-Ok.ensures.poses,
-        Reads c.in-Ok-read_route_file.found says is,
-      )
-    ]
+returns-clause-verifies g c = inl (
+  judged-to _ _ (verify_said c.args.job.now) c.in-Ok.problem c.in-Ok.ensures.poses
+      c.in-Ok-read_route_file.found
+      (says-before c.in-Ok.ensures.files c.in-Ok-read_route_file.ensures.reads.answers) tt _
+      c.judge.ensures,
+  refl,
+  λ all. let clash : false ≡ true = sym c.if-job.false ∙ all in cc,
+)

@@ -1,6 +1,6 @@
 use Rattle.std.proofs.Common.{ap, codes, ◌∙◌}
 use Rattle.std.proofs.lemmas.Result.{IfOk-weaker}
-use Rattle.router_words.specs.Form.{with_files, with_option, with_symmetry, with_width_and_prefix}
+use Rattle.router_words.specs.Form.{with_files, with_flag, with_option, with_symmetry, with_width_and_prefix}
 use Rattle.router_words.proofs.form.encode_command.Goals as goal
 
 pub returns : goal.returns
@@ -8,5 +8,6 @@ returns c =
     let files = c.in_ok-command.ensures ∙ ap with_files c.named.ensures in
     let width = c.in_ok-command-2.ensures ∙ ap with_width_and_prefix files in
     let symmetry = c.in_ok-command-3.ensures ∙ ap with_symmetry width in
-    IfOk-weaker c.add_option.result _ _ (λ r h. h ∙ ap (with_option (codes "reach")) symmetry)
-    c.add_option.ensures
+    let reach = c.in_ok-command-4.ensures ∙ ap (with_option (codes "reach")) symmetry in
+    IfOk-weaker c.add_flag.result _ _ (λ r h. h ∙ ap (with_flag (codes "names")) reach)
+    c.add_flag.ensures

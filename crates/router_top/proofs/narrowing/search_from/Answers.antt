@@ -1,0 +1,24 @@
+use Rattle.std.proofs.Common.{◌≡◌, ◌∙◌, inl, inr, subst}
+use Rattle.router_words.specs.Job.{least_said}
+use Rattle.router_top.specs.Raised.{least_names, narrowed_files}
+use Rattle.router_top.specs.Subject.{Narrowed, ShelfState}
+use Rattle.router_top.specs.Written.{WritesFiles}
+use Rattle.router_top.proofs.narrowing.search_from.Goals as goal
+
+pub returns : goal.returns
+returns g c =
+    let stays : g.S.Shelf.state c.first_found.new.shelf ≡ g.S.Shelf.state c.args.shelf.now =
+    c.first_found.ensures.stays ∙ c.tell_raised.ensures in
+    elim c.write_narrowed.ensures [
+      | inl short ↦ inl (inr short.0, short.1 ∙ stays)
+      | inr writes ↦ inr (
+        c.in-Some.at,
+        rw c.in-Some.is at c.in-Ok.ensures.at,
+        subst (λ (shelf : ShelfState).
+            WritesFiles (Narrowed c.args.raised.now.tracks c.in-Some.at.width c.args.cut)
+            (narrowed_files (least_names c.args.job.now.prefix.now) c.in-Some.at.found
+            c.args.raised.now.tracks c.args.raised.now.why) shelf
+            (g.S.Shelf.state c.write_narrowed.new.shelf) c.write_narrowed.result) stays
+            (rw c.in-Some.is at writes),
+      )
+    ]
