@@ -7,6 +7,8 @@ makes COUNT small designs, has PROGRAM bound ARCH NET PLACE say a cut and a boun
 those that cross each straight line from plain definitions, and looks for the least width at which the nets can be
 routed, over all global routes and all tracks: net by net, way by way, with every way back. PROGRAM says the lines
 `cut (I,J) (I,J) cells K nets M`, `net NAME` for each of these nets, and `bound B`. This shares nothing with it.
+Then `least` is to raise that bound to no more than the least width, where it does so with a refutation that `check`
+accepts, and else without one.
 """
 import random
 import re
@@ -275,11 +277,29 @@ def least_width(design):
     return width
 
 
+def raised_bound(program, names, folder, bound):
+    """The bound that `least` tells in words; above that of the cut it comes with a refutation."""
+    prefix = folder / "least"
+    for ending in ("route", "cnf", "lrat"):
+        prefix.with_suffix(f".{ending}").unlink(missing_ok=True)
+    words = [program, "least"] + names + ["64", str(prefix), "--free"]
+    told = subprocess.run(words, capture_output=True, text=True).stderr
+    found = re.match(r"This placement needs from (\d+) to|(\d+) tracks are the least", told)
+    assert found, (words, told)
+    raised = int(found.group(1) or found.group(2))
+    proof = [f"{prefix}.cnf", f"{prefix}.lrat"]
+    assert all(Path(name).exists() == (raised > bound) for name in proof), (words, told)
+    if raised > bound:
+        said = subprocess.run([program, "check"] + proof, capture_output=True, text=True).stdout
+        assert said == "accepted\n", (words, said)
+    return raised
+
+
 def main():
     program = sys.argv[1]
     count = int(sys.argv[2]) if len(sys.argv) > 2 else 300
     rng = random.Random(int(sys.argv[3]) if len(sys.argv) > 3 else 1)
-    gaps, spent = {}, 0
+    gaps, left, spent = {}, {}, 0
     with tempfile.TemporaryDirectory() as folder:
         for number in range(count):
             design = Design(rng)
@@ -296,14 +316,17 @@ def main():
             assert bound == max(1, -(-m // k)), (number, said)
             for others, line in design.lines():
                 assert Fraction(len(others), len(line)) <= Fraction(m, k), (number, said)
+            raised = raised_bound(program, names, Path(folder), bound)
             try:
                 least = least_width(design)
             except Spent:
                 spent += 1
                 continue
-            assert bound <= least, (number, said, least)
+            assert bound <= raised <= least, (number, said, raised, least)
             gaps[least - bound] = gaps.get(least - bound, 0) + 1
+            left[least - raised] = left.get(least - raised, 0) + 1
     print(f"{count} designs, {spent} left out; least width beyond the bound, and how often: {dict(sorted(gaps.items()))}")
+    print(f"beyond the one that was raised: {dict(sorted(left.items()))}")
 
 
 main()

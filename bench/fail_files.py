@@ -530,7 +530,11 @@ JOBS = [
     ("decode", ["decode", *THREE, "3", "three.model", "out"], ["out.route"]),
     ("global", ["global", *THREE[:3], "3", "out", "--from", THREE[3]], ["out.route"]),
     ("bound", ["bound", *THREE[:3]], []),
-    ("least", ["least", *THREE[:3], "3", "out", "--from", THREE[3]], ["out.route"]),
+    (
+        "least",
+        ["least", *THREE[:3], "3", "out", "--from", THREE[3]],
+        ["out.route", "out.cnf", "out.lrat"],
+    ),
     ("check", ["check", "three.cnf", "three.lrat"], []),
     ("gen", ["gen", "1", "2", "1", "out"], ["out.arch", "out.net", "out.place", "out.route"]),
     ("trial", ["trial", "1", "2", "2", "4", "out"], ["out.w1.cnf", "out.w1.lrat", "out.route"]),

@@ -1,9 +1,10 @@
 #!/usr/bin/env python3
 """Judges routed files in plain definitions over lists, from the text of docs/FORMATS.md.
 
-    judge.py ARCH NET PLACE ROUTE WIDTH ROUTED [REACH]
+    judge.py ARCH NET PLACE ROUTE WIDTH ROUTED [REACH] [--all]
 
-says what `verify` is to say, within a reach where one is given, and
+says what `verify` is to say, within a reach where one is given, with `--all` each line against which there
+is a cause, and
 
     judge.py --placed ARCH NET PLACE WIDTH ROUTED [--strict]
 
@@ -339,9 +340,10 @@ FREE, STRICT = "free", "strict"
 
 
 def causes(p, width, found, reach=None, placed=None):
-    """The causes against each line, in the order of the lines: within a reach if there is one, or of a placed routing."""
+    """Each line in order by its number, its net and its element, with the causes against it: within a reach
+    if there is one, or of a placed routing."""
     is_free = reach is not None or placed == FREE
-    yield found.size_line, [807] if found.size != p.placement.size else []
+    yield found.size_line, None, None, [807] if found.size != p.placement.size else []
     for n, net in enumerate(found.nets):
         earlier = found.nets[:n]
         here = []
@@ -352,7 +354,7 @@ def causes(p, width, found, reach=None, placed=None):
             here.append(807)
             if lacks_sink(p, net.name, []):
                 here.append(806)
-        yield net.line, here
+        yield net.line, net, None, here
         cells = p.cells_of(net.name)
         depths = []
         for i, e in enumerate(net.elems):
@@ -380,19 +382,28 @@ def causes(p, width, found, reach=None, placed=None):
             if reach is not None and e.kind == "SINK" and i > 1 and before.kind == "IPIN":
                 if depths[i - 2] is not None and depths[i - 2] > reach:
                     here.append(808)
-            yield e.line, here
+            yield e.line, net, e, here
     missing = any(
         not is_global and all(net.name != name for net in found.nets)
         for name, (is_global, _, _) in p.netlist.nets.items()
     )
-    yield found.lines + 1, [806] if missing else []
+    yield found.lines + 1, None, None, [806] if missing else []
 
 
 def judged(p, width, text, reach=None, placed=None):
-    for line, here in causes(p, width, Route(text), reach, placed):
+    for line, _, _, here in causes(p, width, Route(text), reach, placed):
         if here:
             return f"not legal: line {line} cause {min(here)}"
     return "legal"
+
+
+def all_lines(p, width, text, reach=None):
+    """A line for each line of the text against which there is a cause."""
+    for line, net, e, here in causes(p, width, Route(text), reach):
+        if here:
+            of_net = f" net {net.name}" if net else ""
+            of_elem = f" {e.kind} ({e.place[0]},{e.place[1]}) {e.label.lower()} {e.number}" if e else ""
+            yield f"line {line} cause {min(here)}{of_net}{of_elem}"
 
 
 def placed_judged(p, width, text, placed):
@@ -408,9 +419,14 @@ def main_placed(words):
 def main():
     if sys.argv[1:2] == ["--placed"]:
         return main_placed(sys.argv[2:])
-    arch, net, place, route, routed = (open(name).read() for name in sys.argv[1:5] + sys.argv[6:7])
-    reach = int(sys.argv[7]) if len(sys.argv) > 7 else None
-    print(judged(Problem(arch, net, place, route), int(sys.argv[5]), routed, reach))
+    words = [word for word in sys.argv[1:] if word != "--all"]
+    arch, net, place, route, routed = (open(name).read() for name in words[:4] + words[5:6])
+    reach = int(words[6]) if len(words) > 6 else None
+    p, width = Problem(arch, net, place, route), int(words[4])
+    if "--all" in sys.argv:
+        for line in all_lines(p, width, routed, reach):
+            print(line)
+    print(judged(p, width, routed, reach))
 
 
 if __name__ == "__main__":

@@ -11,14 +11,14 @@ use std::alloc::{AllocError, Global};
 /// How clauses are searched.
 #[derive(Clone, Copy)]
 pub(crate) enum How {
-    /// By one search, which forgets.
-    Forgetting,
+    /// By one search, which deletes.
+    Deleting,
     /// By one search, which keeps all.
     Keeping,
-    /// By one search, which forgets, and decides the last variables first, as what they were last.
+    /// By one search, which deletes, and decides the last variables first, as what they were last.
     Lasting,
-    /// By one search, over the leaders where most variables follow, which decides those first that
-    /// stand in most clauses.
+    /// By one search, over the representatives where most variables follow, which decides those
+    /// first that stand in most clauses.
     Merging,
     /// By so many searches, of which this seed says who has the next turn.
     Drawn { members: u64, seed: u64 },
@@ -59,13 +59,13 @@ fn alone(
     Ok((answer, log))
 }
 
-// What one search finds that may go over leaders.
+// What one search finds that may go over representatives.
 fn merging(alloc: Global, formula: &Formula, budget: u64) -> Result<(Answer, Log), AllocError>
     requires some { 1 ≤ budget }
     requires few { length formula.now.cnf.clauses + budget ≤ 100000 }
 {
     let mut log = Log::new(alloc);
-    let over_leaders = Habits {
+    let over_representatives = Habits {
         bump_parts: 9,
         many_literals: 20,
         ..counting()
@@ -73,7 +73,7 @@ fn merging(alloc: Global, formula: &Formula, budget: u64) -> Result<(Answer, Log
     let answer = solve_merged(
         alloc,
         formula,
-        over_leaders,
+        over_representatives,
         counting(),
         budget,
         false,
@@ -126,7 +126,7 @@ pub(crate) fn found(
         return None;
     }
     match how {
-        How::Forgetting => alone(alloc, formula, Habits::usual(), budget, false).ok(),
+        How::Deleting => alone(alloc, formula, Habits::usual(), budget, false).ok(),
         How::Keeping => alone(alloc, formula, Habits::usual(), budget, true).ok(),
         How::Lasting => alone(alloc, formula, lasting(), budget, false).ok(),
         How::Merging => merging(alloc, formula, budget).ok(),

@@ -21,8 +21,8 @@ fn number(line: &mut Line<'_>) -> u64 {
 // How the row has its clauses searched.
 fn how(line: &mut Line<'_>) -> Option<How> {
     let word = line.next_word()?;
-    if word.text == b"forget".as_slice() {
-        return Some(How::Forgetting);
+    if word.text == b"delete".as_slice() {
+        return Some(How::Deleting);
     }
     if word.text == b"keep".as_slice() {
         return Some(How::Keeping);
