@@ -3,8 +3,8 @@
 
     see_words.py PROGRAM [--quiet] [--runs N]
 
-Runs the cases of crates/rows/data/cases on files of a folder of its own, those left out in which calls fail or two
-files have one name, and prints each kind of report that came (its numbers but the code left out) with the words that
+Runs the cases of crates/rows/data/cases on files of a folder of its own, those left out in which calls fail, a clock
+ends searches or two files have one name, and prints each kind of report that came (its numbers but the code left out) with the words that
 went with it, once. Says last how many runs came out as their case asks: status, standard output, and the bytes of the
 files, where no file that was read has changed; and the words on a width without a routing, on an open one, and behind
 the code of a fault or the cause of a file that is not legal, as seen_words.py reckons them from the files. That is a test of what no contract speaks of: `main` and the files of the
@@ -25,7 +25,7 @@ DATA = os.path.join(os.path.dirname(os.path.dirname(os.path.abspath(__file__))),
 FILES = (
     "worked", "pinned", "symmetry", "count", "reach", "within", "failing_calls", "route_texts",
     "limits", "proof_texts", "resolution_logs", "routed_texts", "judged_texts", "members", "core",
-    "bound", "global", "least", "decode",
+    "bound", "global", "least", "decode", "limited",
 )  # in the order of the program of rows: a file cites parts of those before it
 ESCAPES = {"n": b"\n", "t": b"\t", "r": b"\r", "0": b"\0", "\\": b"\\"}
 
@@ -149,7 +149,7 @@ class Asked:
                 self.report = rest
             elif word == "status":
                 self.status = int(rest)
-            elif word in ("desk", "shelf"):
+            elif word in ("desk", "shelf", "ends"):
                 self.fails = True
 
     def others(self, ended, before, left, texts):

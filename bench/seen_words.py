@@ -12,10 +12,10 @@ from asked import answer_help
 
 answer_help(__name__, __doc__)
 
-VALUED = ("--conflicts", "--reach", "--members", "--seed", "--from", "--rounds")
+VALUED = ("--conflicts", "--seconds", "--reach", "--members", "--seed", "--from", "--rounds")
 FLAGS = ("--keep", "--count", "--pin", "--symmetry", "--free", "--strict")
-BUDGET_LIMIT, ROUND_LIMIT, WIDTH_LIMIT, NAMED = 100_000_000, 100_000, 64, 10
-ROUNDS = 200  # at most, where the words name no number
+BUDGET, BUDGET_LIMIT, ROUND_LIMIT, WIDTH_LIMIT, NAMED = 1_000_000, 100_000_000, 100_000, 64, 10
+ROUNDS = 500  # at most, where the words name no number
 START_LIMIT, CROWD_LIMIT = 512, 128
 CELL_LEAD = "More nets than there are tracks want the cell "
 CROWD_LEAD = "Under subset switch blocks more nets than there are tracks share cells, each with each:"
@@ -85,12 +85,15 @@ def elsewhere(words, width):
 
 def undecided(words, width, learned):
     """The lines that say that a width is open, and what can be tried next."""
+    stopped = learned < int(words.options.get("--conflicts", BUDGET))
     first = (
-        f"Whether a routing with {width} tracks is legal{words.within} is open: "
-        f"the search learned {learned} clauses, its budget."
+        f"Whether a routing with {width} tracks is legal{words.within} is open: the search learned {learned} "
+        + ("clauses before its time was over." if stopped else "clauses, its budget.")
     )
     more = "No greater budget is taken: "
-    if learned < BUDGET_LIMIT:
+    if stopped:
+        more = "Try more --seconds, or "
+    elif learned < BUDGET_LIMIT:
         more = f"Try --conflicts {min(10 * learned, BUDGET_LIMIT)}, or "
     if words.is_climb:
         greater = ", or route at a greater width." if width < WIDTH_LIMIT else "."
@@ -257,7 +260,7 @@ def seen_lines(words, is_open, width, files):
     trackless = slots.trackless_line(arch, width) if blocks == "subset" else None
     if trackless:
         return [trackless]
-    may_order = is_open and searches and not {"--pin", "--symmetry"} & set(words.options)
+    may_order = is_open and not {"--pin", "--symmetry"} & set(words.options)
     if may_order and blocks in ("subset", "universal") and Boxes(arch, width).are_full:
         return [ORDER]
     return []

@@ -8,9 +8,9 @@ _gafkelam() {
     fi
     local options=--help
     case $command in
-    route | sweep) options="--conflicts --keep --count --pin --symmetry --reach --members --seed --help" ;;
-    core) options="--conflicts --help" ;;
-    trial) options="--conflicts --keep --count --reach --help" ;;
+    route | sweep) options="--conflicts --seconds --keep --count --pin --symmetry --reach --members --seed --help" ;;
+    core) options="--conflicts --seconds --pin --symmetry --help" ;;
+    trial) options="--conflicts --seconds --keep --count --reach --help" ;;
     encode) options="--pin --symmetry --reach --names --help" ;;
     decode) options="--pin --symmetry --reach --help" ;;
     global | least) options="--free --from --rounds --help" ;;

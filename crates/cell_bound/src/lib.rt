@@ -2,6 +2,7 @@
 //! windows.
 #![tactic(auto)]
 
+mod blaming;
 mod refuting;
 mod windows;
 

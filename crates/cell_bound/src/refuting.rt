@@ -1,14 +1,19 @@
 //! Windows that are refuted.
-ghost use Rattle.std.specs.Prelude.{◌≤◌, IfOk, IfSome, length};
-ghost use Rattle.cell_bound.specs.Refutations.{IsFoundFor, IsRefuted};
+ghost use Rattle.std.specs.Prelude.{◌≡◌, ◌≤◌, IfOk, IfSome, length};
+ghost use Rattle.cell_bound.specs.Refutations.{IsCutRefutation, IsFoundFor, IsRefuted};
 ghost use Rattle.cell_bound.specs.declared.refuting.TheConstants.{LEARNED_LIMIT};
+ghost use Rattle.cell_clauses.specs.Clauses.{cell_cnf};
+ghost use Rattle.cell_clauses.specs.Held.{frame_in};
 ghost use Rattle.fpga_types.specs.declared.limits.TheConstants.{NET_LIMIT, PIN_LIMIT, WIDTH_LIMIT};
 ghost use Rattle.route_bound.specs.Placed.{placed_netlist};
 
+use crate::blaming::blamed_nets;
 use crate::windows::{first_size, last_size, square, stride};
 use cell_clauses::PlacedWindow;
 use fpga_types::{Arch, Netlist, Placement};
+use patience::Forever;
 use route_bound::CornerRange;
+use route_core::{trim, trimmed_is_its_own};
 use sat_clause::{CLAUSE_LIMIT, Formula, Log};
 use sat_core::{Answer, Habits, solve};
 use std::alloc::{AllocError, Global};
@@ -27,12 +32,14 @@ pub struct Budget {
 }
 
 /// Why no routing of a placement has some number of tracks or fewer: the clauses over the cells of
-/// the window of a rectangle of corners, and a log that refutes them.
+/// the window of a rectangle of corners, a log that refutes them, and the nets of the window that
+/// it blames, by their numbers in the netlist.
 #[derive(Drop)]
 pub struct CellRefutation {
     pub range: CornerRange,
     pub formula: Formula,
     pub log: Log,
+    pub nets: Vec<u32>,
 }
 
 /// A placed netlist, lent, with a number of tracks, and how much is looked for.
@@ -50,9 +57,10 @@ struct Looks<'a> {
 }
 
 /// A refutation over cells that says that no routing of a placement has `width` tracks, from 1 to
-/// 64, or fewer: that of the first window that a search refutes. Windows are those round squares of
-/// two by two to five by five blocks, the smallest squares first, as many of each size, all over the
-/// array. None says nothing.
+/// 64, or fewer: that of the first window that a search refutes, cut down to what it needs. The
+/// nets that it blames have no such routing by themselves, whatever the others would have. Windows
+/// are those round squares of two by two to five by five blocks, the smallest squares first, as
+/// many of each size, all over the array. None says nothing.
 ///
 /// # Errors
 /// Where memory is short.
@@ -163,32 +171,61 @@ impl<'a> Looks<'a> {
             return Ok(None);
         }
         let formula = window.formula(alloc)?;
-        refuted_formula(alloc, range, formula, self.budget)
+        refuted_formula(alloc, &window, range, formula, self.budget)
     }
 }
 
-/// What refutes the formula of a rectangle's window, if it has no more clauses than may be read and a
-/// search does.
+/// What refutes the formula of a rectangle's window, if a log is found that does, and the nets that
+/// it blames.
 fn refuted_formula(
     alloc: Global,
+    window: &PlacedWindow<'_>,
     range: CornerRange,
     formula: Formula,
     budget: Budget,
 ) -> Result<Option<CellRefutation>, AllocError>
-    ensures { IfOk result (λ found. IfSome found (IsFoundFor range formula.cnf)) }
+    requires { formula.cnf ≡ cell_cnf (frame_in window.now) }
+    ensures { IfOk result (λ found. IfSome found
+        (IsFoundFor (frame_in window.now) range formula.cnf)) }
+{
+    let Some(log) = refuting_log(alloc, &formula, budget)? else {
+        return Ok(None);
+    };
+    let nets = blamed_nets(alloc, window, &formula, &log)?;
+    Ok(Some(CellRefutation {
+        range,
+        formula,
+        log,
+        nets,
+    }))
+}
+
+/// A log that refutes a formula, cut down to what it needs, if the formula has no more clauses than
+/// may be read and a search refutes it.
+fn refuting_log(alloc: Global, formula: &Formula, budget: Budget) -> Result<Option<Log>, AllocError>
+    ensures { IfOk result (λ found. IfSome found
+        (λ log. IsCutRefutation formula.now.cnf log.steps)) }
 {
     if u64::from(formula.len()) > CLAUSE_LIMIT {
         return Ok(None);
     }
     let habits = Habits::usual();
     let mut log = Log::new(alloc);
-    let answer = solve(alloc, &formula, habits, budget.learned, true, &mut log)?;
+    let answer = solve(
+        alloc,
+        formula,
+        habits,
+        budget.learned,
+        true,
+        &mut Forever,
+        &mut log,
+    )?;
     match answer {
-        Answer::Refuted => Ok(Some(CellRefutation {
-            range,
-            formula,
-            log,
-        })),
-        Answer::Model(_) | Answer::Spent => Ok(None),
+        Answer::Refuted => {
+            trimmed_is_its_own();
+            let small = trim(alloc, formula, &log)?;
+            Ok(Some(small))
+        }
+        Answer::Model(_) | Answer::Spent | Answer::Stopped => Ok(None),
     }
 }

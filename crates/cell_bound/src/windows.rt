@@ -15,16 +15,16 @@ pub(crate) fn first_size() -> u32 {
     2
 }
 
-/// How many blocks the side of the greatest square of an array has: no more than the array, but where
-/// that is smaller than the smallest square.
+/// How many blocks the side of the greatest square of an array has: no more than the array, but
+/// where that is smaller than the smallest square.
 pub(crate) fn last_size(grid: Grid) -> u32
     ensures { result ≤ SIZE_LIMIT }
 {
     grid.nx.max(grid.ny).max(first_size()).min(SIZE_LIMIT)
 }
 
-/// How many blocks on the next square of a size stands, where there are to be so many windows of all
-/// sizes at the most; one of each size there is in any case.
+/// How many blocks on the next square of a size stands, where there are to be so many windows of
+/// all sizes at the most; one of each size there is in any case.
 pub(crate) fn stride(grid: Grid, looks: u32) -> u32 {
     let Grid { nx, ny } = grid;
     let most = looks / SIZES;

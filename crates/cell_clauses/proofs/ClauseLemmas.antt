@@ -1,10 +1,11 @@
--- Values that agree with the facts of a routing make each clause true.
-use Rattle.std.proofs.Common.{◌≡◌, ℕ, suc, ◌+◌, ◌<◌, ◌≤◌, Bool, true, false, List, [], ◌∷◌, ◌++◌, All, length, refl, sym, ap, ◌∙◌, subst, arith, length-append}
+-- Values that agree with the facts of a routing make each clause true; where the routing is of some
+-- nets, all but those that demand something of another.
+use Rattle.std.proofs.Common.{◌≡◌, ℕ, suc, ◌+◌, ◌<◌, ◌≤◌, Bool, true, false, List, [], ◌∷◌, ◌++◌, All, length, refl, sym, ap, ◌∙◌, ◌⊎◌, inl, inr, subst, arith, length-append}
 use Rattle.std.specs.Prelude.{◌&&◌, IsTrue, filter, flat_map, if◌then◌else◌, map, nat_lt, not}
 use Rattle.std.specs.List.{enumerate_from}
 use Rattle.std.proofs.lemmas.Bool.Decides.{Decides-ltb}
 use Rattle.std.proofs.lemmas.List.Elements.{filter-append}
-use Rattle.list_laws.proofs.Members.{In, In-filter, In-map, any-from_In}
+use Rattle.list_laws.proofs.Members.{In, In-all, In-filter, In-map, all-from_In, any-from_In}
 use Rattle.list_laws.proofs.Ranges.{range-push}
 use Rattle.fpga_types.specs.Terminals.{same_terminal}
 use Rattle.fpga_types.specs.Touching.{touches}
@@ -14,16 +15,18 @@ use Rattle.fpga_types.proofs.MeetingLemmas.{both_true}
 use Rattle.route_bound.specs.Corners.{has_corner_out}
 use Rattle.route_bound.specs.Lying.{Cells, pins_at}
 use Rattle.route_encode.proofs.Models.{in-below, not-true, of-below, to-map, to-rows, true-here}
-use Rattle.sat_clause.specs.Formula.{IsTrueClause, Satisfies, makes_true}
+use Rattle.sat_clause.specs.Formula.{IsTrueClause, makes_true}
 use Rattle.sat_clause.specs.Literal.{Clause}
 use Rattle.sat_clause.specs.declared.literal.Lit.{Lit}
-use Rattle.cell_clauses.specs.Clauses.{apart_clauses, below, cell_cnf, count_clauses, enters_by, enters_clauses, enters_some, held_clauses, is_cell_in, is_reached, is_within, leaves_clauses, meets, more_than, not_both, pair_clauses, step_clauses, support_clauses, tally_clauses, uses_some}
+use Rattle.cell_clauses.specs.Clauses.{apart_clauses, below, cell_clauses, count_clauses, enters_by, enters_clauses, enters_some, held_clauses, is_cell_in, is_reached, is_within, leaves_clauses, meets, more_than, not_both, pair_clauses, step_clauses, support_clauses, tally_clauses, uses_some}
+use Rattle.cell_clauses.specs.Demands.{demands}
 use Rattle.cell_clauses.specs.Frames.{Frame}
 use Rattle.cell_clauses.specs.Places.{entry_place, has, lacks, pin_count, pin_number, tally_place, use_place}
 use Rattle.cell_clauses.specs.declared.window.Arrival.{Arrival}
 use Rattle.cell_clauses.specs.declared.window.WindowNet.{WindowNet}
+use Rattle.cell_clauses.proofs.DemandLemmas.{enters-demanded, uses-demanded}
 use Rattle.cell_clauses.proofs.RowLemmas.{all-both, all-if, all-more, all-one}
-use Rattle.cell_clauses.proofs.ValueLemmas.{below-true, entry-value, entry-within, has-true, length-values, tally, tally-value, tally-within, unless, use-value, use-within, value, values}
+use Rattle.cell_clauses.proofs.ValueLemmas.{below-true, entry-value, entry-within, has-true, tally, tally-value, tally-within, unless, use-value, use-within, value, values}
 
 module _ (f : Frame) (uses entry : ℕ → ℕ → Bool) where
   -- net k uses one of the window's cells that are in the set
@@ -33,17 +36,17 @@ module _ (f : Frame) (uses entry : ℕ → ℕ → Bool) where
     pub of : is_cell_in f set cell ≡ true
     pub used : uses k cell ≡ true
 
-  -- what nets use and come by, as in a routing
-  pub record AreFacts : Type 0 where
+  -- what nets use and come by, as in a routing of the nets at some places
+  pub record AreFacts (mine : ℕ → Bool) : Type 0 where
     pub nets : (z : ℕ × WindowNet) → In (enumerate_from 0 f.nets) z → z.0 < length f.nets
     pub cells : (z : ℕ × Cell) → In (enumerate_from 0 f.cells) z → z.0 < length f.cells
     pub arrivals : (z : ℕ × Arrival) → In (enumerate_from 0 f.arrivals) z
         → (z.0 < length f.arrivals) × (z.1.net < length f.nets)
     pub pins : (z : ℕ × Arrival) (pin : PinAt) → In (pins_at f.arch z.1.at) pin
         → pin_number pin < pin_count f
-    pub leaves : (z : ℕ × WindowNet) → In (enumerate_from 0 f.nets) z
+    pub leaves : (z : ℕ × WindowNet) → In (enumerate_from 0 f.nets) z → mine z.0 ≡ true
         → is_within f z.1.driver ≡ true → UsesSome z.0 (is_reached f z.1.driver)
-    pub enters : (z : ℕ × Arrival) → In (enumerate_from 0 f.arrivals) z
+    pub enters : (z : ℕ × Arrival) → In (enumerate_from 0 f.arrivals) z → mine z.1.net ≡ true
         → (pin : PinAt) × In (pins_at f.arch z.1.at) pin × (entry z.0 (pin_number pin) ≡ true)
     pub by : (z : ℕ × Arrival) (pin : PinAt) → In (enumerate_from 0 f.arrivals) z
         → is_within f z.1.at ≡ true → In (pins_at f.arch z.1.at) pin
@@ -57,7 +60,7 @@ module _ (f : Frame) (uses entry : ℕ → ℕ → Bool) where
     pub few : (k c : ℕ) → k < length f.nets → c < length f.cells
         → tally f uses entry (k + 1) c ≤ f.width
 
-  module _ (facts : AreFacts) where
+  module _ (mine : ℕ → Bool) (facts : AreFacts mine) where
     abbrev vs : List Bool
     vs = values f uses entry
 
@@ -66,6 +69,19 @@ module _ (f : Frame) (uses entry : ℕ → ℕ → Bool) where
 
     abbrev Holds : Clause → Type 0
     Holds clause = IsTrueClause vs clause
+
+    -- the clause demands something of another net
+    pub record DemandsMore (clause : Clause) : Type 0 where
+      pub place : ℕ
+      pub there : place < length f.nets
+      pub other : mine place ≡ false
+      pub demanded : demands f place clause ≡ true
+
+    abbrev pub Serves : Clause → Type 0
+    Serves clause = Holds clause ⊎ DemandsMore clause
+
+    serve : (clauses : List Clause) → All Holds clauses → All Serves clauses
+    serve clauses h = all-from_In Serves clauses (λ clause i. inl (In-all Holds clauses clause h i))
 
     some-true : (k : ℕ) (set : Cells) → k < length f.nets → UsesSome k set
         → Holds (uses_some f k set)
@@ -79,23 +95,49 @@ module _ (f : Frame) (uses entry : ℕ → ℕ → Bool) where
         (use-within f uses entry k u.cell net u.there)
         (use-value f uses entry k u.cell net u.there ∙ u.used))
 
-    leaves-true : (z : ℕ × WindowNet) → In (enumerate_from 0 f.nets) z
-        → All Holds (leaves_clauses f z)
-    leaves-true z i =
-        all-if Holds (is_within f z.1.driver) (uses_some f z.0 (is_reached f z.1.driver) ∷ [])
-        (λ w. all-one Holds (uses_some f z.0 (is_reached f z.1.driver))
-        (some-true z.0 (is_reached f z.1.driver) (facts.nets z i) (facts.leaves z i w)))
+    leaves-some-true : (z : ℕ × WindowNet) → In (enumerate_from 0 f.nets) z
+        → is_within f z.1.driver ≡ true → Serves (uses_some f z.0 (is_reached f z.1.driver))
+    leaves-some-true z i w = go (mine z.0) refl
+      where
+        go : (t : Bool) → mine z.0 ≡ t → Serves (uses_some f z.0 (is_reached f z.1.driver))
+        go true e = inl (some-true z.0 (is_reached f z.1.driver) (facts.nets z i)
+            (facts.leaves z i e w))
+        go false e = inr (record {
+          place = z.0;
+          there = facts.nets z i;
+          other = e;
+          demanded = uses-demanded f z.0 (is_reached f z.1.driver);
+        })
 
-    enters-some-true : (z : ℕ × Arrival) → In (enumerate_from 0 f.arrivals) z
-        → Holds (enters_some f z)
-    enters-some-true z i =
-        let e = facts.enters z i in
+    leaves-true : (z : ℕ × WindowNet) → In (enumerate_from 0 f.nets) z
+        → All Serves (leaves_clauses f z)
+    leaves-true z i =
+        all-if Serves (is_within f z.1.driver) (uses_some f z.0 (is_reached f z.1.driver) ∷ [])
+        (λ w. all-one Serves (uses_some f z.0 (is_reached f z.1.driver)) (leaves-some-true z i w))
+
+    enters-one-true : (z : ℕ × Arrival) → In (enumerate_from 0 f.arrivals) z
+        → mine z.1.net ≡ true → Holds (enters_some f z)
+    enters-one-true z i own =
+        let e = facts.enters z i own in
         let low = facts.pins z e.0 e.1 in
         any-from_In IsTrueLit (enters_some f z) (has (entry_place f z.0 (pin_number e.0)))
         (In-map (λ pin. has (entry_place f z.0 (pin_number pin))) (pins_at f.arch z.1.at) e.0 e.1)
         (has-true f uses entry (entry_place f z.0 (pin_number e.0))
         (entry-within f uses entry z.0 (pin_number e.0) (facts.arrivals z i).0 low)
         (entry-value f uses entry z.0 (pin_number e.0) (facts.arrivals z i).0 low ∙ e.2))
+
+    enters-some-true : (z : ℕ × Arrival) → In (enumerate_from 0 f.arrivals) z
+        → Serves (enters_some f z)
+    enters-some-true z i = go (mine z.1.net) refl
+      where
+        go : (t : Bool) → mine z.1.net ≡ t → Serves (enters_some f z)
+        go true e = inl (enters-one-true z i e)
+        go false e = inr (record {
+          place = z.1.net;
+          there = (facts.arrivals z i).1;
+          other = e;
+          demanded = enters-demanded f z i (facts.pins z);
+        })
 
     enters-by-true : (z : ℕ × Arrival) (pin : PinAt) → In (enumerate_from 0 f.arrivals) z
         → is_within f z.1.at ≡ true → In (pins_at f.arch z.1.at) pin → Holds (enters_by f z pin)
@@ -109,14 +151,14 @@ module _ (f : Frame) (uses entry : ℕ → ℕ → Bool) where
         (facts.by z pin i w j (sym (entry-value f uses entry z.0 (pin_number pin) there.0 low) ∙ e)))
 
     enters-true : (z : ℕ × Arrival) → In (enumerate_from 0 f.arrivals) z
-        → All Holds (enters_clauses f z)
+        → All Serves (enters_clauses f z)
     enters-true z i =
-        all-if Holds (is_within f z.1.at)
+        all-if Serves (is_within f z.1.at)
         (enters_some f z ∷ map (enters_by f z) (pins_at f.arch z.1.at))
-        (λ w. all-more Holds (enters_some f z) (map (enters_by f z) (pins_at f.arch z.1.at))
+        (λ w. all-more Serves (enters_some f z) (map (enters_by f z) (pins_at f.arch z.1.at))
         (enters-some-true z i)
-        (to-map Holds (enters_by f z) (pins_at f.arch z.1.at)
-        (λ pin j. enters-by-true z pin i w j)))
+        (to-map Serves (enters_by f z) (pins_at f.arch z.1.at)
+        (λ pin j. inl (enters-by-true z pin i w j))))
 
     -- two arrivals at one sink
     module _ (y z : ℕ × Arrival) (i : In (enumerate_from 0 f.arrivals) y)
@@ -253,27 +295,28 @@ module _ (f : Frame) (uses entry : ℕ → ℕ → Bool) where
     count-true k i = to-rows Holds (tally_clauses f k) (below (length f.cells))
         (λ c j. tally-true k c (of-below (length f.nets) k i) (of-below (length f.cells) c j))
 
-    pub satisfied : Satisfies vs (cell_cnf f)
-    satisfied = record {
-      one_each = length-values f uses entry;
-      each_clause =
-          all-both Holds (flat_map (leaves_clauses f) (enumerate_from 0 f.nets)
-          ++ flat_map (enters_clauses f) (enumerate_from 0 f.arrivals)
-          ++ flat_map (apart_clauses f) (enumerate_from 0 f.arrivals)
-          ++ flat_map (support_clauses f) (enumerate_from 0 f.nets))
-          (flat_map (count_clauses f) (below (length f.nets)))
-          (all-both Holds (flat_map (leaves_clauses f) (enumerate_from 0 f.nets)
-          ++ flat_map (enters_clauses f) (enumerate_from 0 f.arrivals)
-          ++ flat_map (apart_clauses f) (enumerate_from 0 f.arrivals))
-          (flat_map (support_clauses f) (enumerate_from 0 f.nets))
-          (all-both Holds (flat_map (leaves_clauses f) (enumerate_from 0 f.nets)
-          ++ flat_map (enters_clauses f) (enumerate_from 0 f.arrivals))
-          (flat_map (apart_clauses f) (enumerate_from 0 f.arrivals))
-          (all-both Holds (flat_map (leaves_clauses f) (enumerate_from 0 f.nets))
-          (flat_map (enters_clauses f) (enumerate_from 0 f.arrivals))
-          (to-rows Holds (leaves_clauses f) (enumerate_from 0 f.nets) leaves-true)
-          (to-rows Holds (enters_clauses f) (enumerate_from 0 f.arrivals) enters-true))
-          (to-rows Holds (apart_clauses f) (enumerate_from 0 f.arrivals) apart-true))
-          (to-rows Holds (support_clauses f) (enumerate_from 0 f.nets) support-true))
-          (to-rows Holds (count_clauses f) (below (length f.nets)) count-true);
-    }
+    -- each clause is true but those
+    pub each-serves : All Serves (cell_clauses f)
+    each-serves =
+        all-both Serves (flat_map (leaves_clauses f) (enumerate_from 0 f.nets)
+        ++ flat_map (enters_clauses f) (enumerate_from 0 f.arrivals)
+        ++ flat_map (apart_clauses f) (enumerate_from 0 f.arrivals)
+        ++ flat_map (support_clauses f) (enumerate_from 0 f.nets))
+        (flat_map (count_clauses f) (below (length f.nets)))
+        (all-both Serves (flat_map (leaves_clauses f) (enumerate_from 0 f.nets)
+        ++ flat_map (enters_clauses f) (enumerate_from 0 f.arrivals)
+        ++ flat_map (apart_clauses f) (enumerate_from 0 f.arrivals))
+        (flat_map (support_clauses f) (enumerate_from 0 f.nets))
+        (all-both Serves (flat_map (leaves_clauses f) (enumerate_from 0 f.nets)
+        ++ flat_map (enters_clauses f) (enumerate_from 0 f.arrivals))
+        (flat_map (apart_clauses f) (enumerate_from 0 f.arrivals))
+        (all-both Serves (flat_map (leaves_clauses f) (enumerate_from 0 f.nets))
+        (flat_map (enters_clauses f) (enumerate_from 0 f.arrivals))
+        (to-rows Serves (leaves_clauses f) (enumerate_from 0 f.nets) leaves-true)
+        (to-rows Serves (enters_clauses f) (enumerate_from 0 f.arrivals) enters-true))
+        (to-rows Serves (apart_clauses f) (enumerate_from 0 f.arrivals)
+        (λ z i. serve (apart_clauses f z) (apart-true z i))))
+        (to-rows Serves (support_clauses f) (enumerate_from 0 f.nets)
+        (λ z i. serve (support_clauses f z) (support-true z i))))
+        (to-rows Serves (count_clauses f) (below (length f.nets))
+        (λ k i. serve (count_clauses f k) (count-true k i)))

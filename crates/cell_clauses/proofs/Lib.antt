@@ -1,4 +1,5 @@
 pub mod ClauseLemmas
+pub mod DemandLemmas
 pub mod ExtendLemmas
 pub mod FindingLemmas
 pub mod NearLemmas

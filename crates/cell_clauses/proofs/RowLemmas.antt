@@ -3,7 +3,7 @@ use Rattle.std.proofs.Common.{◌≡◌, ◌≢◌, ℕ, zero, suc, ◌+◌, ◌
 use Rattle.std.specs.Prelude.{filter_map, if◌then◌else◌, map, slice_get, zip, ⊤}
 use Rattle.std.specs.List.{cons_option, range_with_len}
 use Rattle.std.proofs.lemmas.List.{length-map}
-use Rattle.list_laws.proofs.Members.{In, In-all, In-append_cases, In-map, all-from_In, contains-In, from_In-filter_map, from_In-range}
+use Rattle.list_laws.proofs.Members.{In, In-all, In-append_cases, In-map, all-from_In, contains-In, from_In-filter_map, from_In-map, from_In-range}
 use Rattle.list_laws.proofs.Places.{get-In}
 
 -- ---- what holds of each
@@ -56,15 +56,17 @@ module _ {A B : Type 0} (Goes : A → B → Type 0) where
       let same : a ≡ x = cc in (b, refl, subst (λ (z : A). Goes z b) same h.0)
   aligned-at (a ∷ xs) (b ∷ ys) (suc k) x h e = aligned-at xs ys k x h.1 e
 
-  pub aligned-map : {C : Type 0} (make : C → A) (cs : List C) (ys : List B)
-      → length ys ≡ length cs
-      → ((c : C) (y : B) → In (zip cs ys) (c, y) → Goes (make c) y)
-      → AreAligned (map make cs) ys
-  aligned-map make [] [] e h = tt
-  aligned-map make [] (y ∷ ys) e h = absurd (omega (arith, e))
-  aligned-map make (c ∷ cs) [] e h = absurd (omega (arith, e))
-  aligned-map make (c ∷ cs) (y ∷ ys) e h =
-      (h c y (inl refl), aligned-map make cs ys (omega (arith, e)) (λ d z i. h d z (inr i)))
+  pub aligned-maps : {C D : Type 0} (make : C → A) (mark : D → B) (cs : List C) (ds : List D)
+      → length ds ≡ length cs
+      → ((c : C) (d : D) → In (zip cs ds) (c, d) → Goes (make c) (mark d))
+      → AreAligned (map make cs) (map mark ds)
+  aligned-maps make mark [] [] e h = tt
+  aligned-maps make mark [] (d ∷ ds) e h = absurd (omega (arith, e))
+  aligned-maps make mark (c ∷ cs) [] e h = absurd (omega (arith, e))
+  aligned-maps make mark (c ∷ cs) (d ∷ ds) e h = (
+    h c d (inl refl),
+    aligned-maps make mark cs ds (omega (arith, e)) (λ x y i. h x y (inr i)),
+  )
 
 -- of two rows of one length, an element of the second has its partner
 pub partner-of : {A B : Type 0} (xs : List A) (ys : List B) (y : B) → length ys ≡ length xs
@@ -146,15 +148,15 @@ module _ {A : Type 0} (number : A → ℕ) where
           rest,
         )
 
--- ---- rows of which no two have the same key
+-- ---- rows of which each two differ
 
-module _ {A K : Type 0} (key : A → K) where
-  abbrev pub IsApart : List A → Type 0
-  IsApart [] = ⊤
-  IsApart (x ∷ xs) = ((y : A) → In xs y → key x ≢ key y) × IsApart xs
+module _ {A : Type 0} (Differ : A → A → Type 0) where
+  abbrev pub AreApart : List A → Type 0
+  AreApart [] = ⊤
+  AreApart (x ∷ xs) = ((y : A) → In xs y → Differ x y) × AreApart xs
 
-  pub apart-both : (xs ys : List A) → IsApart xs → IsApart ys
-      → ((x y : A) → In xs x → In ys y → key x ≢ key y) → IsApart (xs ++ ys)
+  pub apart-both : (xs ys : List A) → AreApart xs → AreApart ys
+      → ((x y : A) → In xs x → In ys y → Differ x y) → AreApart (xs ++ ys)
   apart-both [] ys h g d = g
   apart-both (x ∷ xs) ys h g d = (
     (λ y i. elim (In-append_cases xs ys y i) [
@@ -164,22 +166,41 @@ module _ {A K : Type 0} (key : A → K) where
     apart-both xs ys h.1 g (λ u v i j. d u v (inr i) j),
   )
 
-  pub apart-at : (xs : List A) (i j : ℕ) (x y : A) → IsApart xs → i < j
-      → slice_get xs i ≡ Some x → slice_get xs j ≡ Some y → key x ≢ key y
+  pub apart-at : (xs : List A) (i j : ℕ) (x y : A) → AreApart xs → i < j
+      → slice_get xs i ≡ Some x → slice_get xs j ≡ Some y → Differ x y
   apart-at [] i j x y h b e f = absurd (let n : None ≡ Some x = e in cc)
   apart-at (a ∷ xs) zero zero x y h b e f = absurd (omega (arith, b))
   apart-at (a ∷ xs) zero (suc j) x y h b e f =
       let same : a ≡ x = cc in
-      subst (λ (z : A). key z ≢ key y) same (h.0 y (get-In xs j y f))
+      subst (λ (z : A). Differ z y) same (h.0 y (get-In xs j y f))
   apart-at (a ∷ xs) (suc i) zero x y h b e f = absurd (omega (arith, b))
   apart-at (a ∷ xs) (suc i) (suc j) x y h b e f =
       apart-at xs i j x y h.1 (omega (arith, b)) e f
 
-  pub pairs-apart : (xs : List A) → AllPairs (λ p q. p ≢ q) (map key xs) → IsApart xs
-  pairs-apart [] h = tt
-  pairs-apart (x ∷ xs) h = (
+  -- what is made of elements whose keys differ
+  pub apart-map : {C K : Type 0} (key : C → K) (make : C → A) (cs : List C)
+      → AllPairs (λ p q. p ≢ q) (map key cs)
+      → ((c d : C) → key c ≢ key d → Differ (make c) (make d)) → AreApart (map make cs)
+  apart-map key make [] h g = tt
+  apart-map key make (c ∷ cs) h g = (
     (λ y i.
-        let place = contains-In (map key xs) (key y) (In-map key xs y i) in
-        λ e. h 0 (suc place.0) (key y) (omega arith) (omega (arith, place.1)) (e ∙ sym place.2)),
-    pairs-apart xs (λ i j d before low. h (suc i) (suc j) d (omega (arith, before)) (omega (arith, low))),
+        let from = from_In-map make cs y i in
+        let place = contains-In (map key cs) (key from.0) (In-map key cs from.0 from.1) in
+        subst (λ (z : A). Differ (make c) z) from.2
+        (g c from.0
+        (λ e. h 0 (suc place.0) (key from.0) (omega arith) (omega (arith, place.1))
+        (e ∙ sym place.2)))),
+    apart-map key make cs
+        (λ i j d before low. h (suc i) (suc j) d (omega (arith, before)) (omega (arith, low))) g,
+  )
+
+  -- elements that differ whatever they are
+  pub apart-any : {C : Type 0} (make : C → A) (cs : List C)
+      → ((c d : C) → Differ (make c) (make d)) → AreApart (map make cs)
+  apart-any make [] g = tt
+  apart-any make (c ∷ cs) g = (
+    (λ y i.
+        let from = from_In-map make cs y i in
+        subst (λ (z : A). Differ (make c) z) from.2 (g c from.0)),
+    apart-any make cs g,
   )

@@ -108,8 +108,8 @@ apart_clauses f first = flat_map (pair_clauses f first) (enumerate_from 0 f.arri
 abbrev pub meets : Frame → Cell → Cells
 meets f a b = is_some (meeting f.grid a b)
 
--- a cell that a net uses and its driver does not touch meets another that the net uses, if all cells
--- that it meets are of the window
+-- a cell that a net uses and its driver does not touch meets another that the net uses, if all
+-- cells that it meets are of the window
 abbrev pub held_clauses : Frame → ℕ × WindowNet → ℕ × Cell → List Clause
 held_clauses f net cell =
     if not (has_corner_out f.corners cell.1) && not (is_reached f net.1.driver cell.1)

@@ -1,8 +1,10 @@
 pub mod Adding
 pub mod Clauses
 pub mod Counted
+pub mod Demands
 pub mod Frames
 pub mod Held
 pub mod Models
+pub mod Parts
 pub mod Places
 pub mod Sides

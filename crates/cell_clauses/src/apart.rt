@@ -52,7 +52,8 @@ impl<'a> PlacedWindow<'a> {
         Ok(())
     }
 
-    /// Adds that an arrival is not by the same pin as another, if it is a later one at the same sink.
+    /// Adds that an arrival is not by the same pin as another, if it is a later one at the same
+    /// sink.
     fn add_pair(
         &self,
         alloc: Global,

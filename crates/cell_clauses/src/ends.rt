@@ -56,8 +56,8 @@ impl<'a> PlacedWindow<'a> {
         extend(formula, lits.as_slice())
     }
 
-    /// Adds that each net comes to its sinks by a pin of theirs, and by a cell that this touches, if
-    /// all that the sink touches are of the window.
+    /// Adds that each net comes to its sinks by a pin of theirs, and by a cell that this touches,
+    /// if all that the sink touches are of the window.
     ///
     /// # Errors
     /// Where memory is short.

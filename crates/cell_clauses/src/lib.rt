@@ -5,6 +5,7 @@
 mod adding;
 mod apart;
 mod cells;
+mod demands;
 mod ends;
 mod finding;
 mod formula;
@@ -21,6 +22,6 @@ mod window;
 
 pub use frame::PlacedWindow;
 pub use framing::{WINDOW_CELLS, WINDOW_NETS, WINDOW_SINKS, WINDOW_VARIABLES};
-pub use laws::{few_nets_held, refuted_has_no_routing, routings_are_models};
+pub use laws::{few_nets_held, parts_are_models, refuted_has_no_routing, routings_are_models};
 pub use tallies::{Sizes, add_counts};
 pub use window::{Arrival, WindowNet};

@@ -18,8 +18,8 @@ use sat_clause::Formula;
 use std::alloc::{AllocError, Global};
 
 impl<'a> PlacedWindow<'a> {
-    /// Adds that each cell which a net uses meets another that it uses, if its driver does not touch
-    /// the cell and all that the cell meets are of the window.
+    /// Adds that each cell which a net uses meets another that it uses, if its driver does not
+    /// touch the cell and all that the cell meets are of the window.
     ///
     /// # Errors
     /// Where memory is short.

@@ -1,4 +1,5 @@
--- The four values that a routing problem is made of, and the three of them that stand without a route.
+-- The four values that a routing problem is made of, and the three of them that stand without a
+-- route.
 use Rattle.fpga_types.specs.declared.arch.Arch.{Arch}
 use Rattle.fpga_types.specs.declared.netlist.Netlist.{Netlist}
 use Rattle.fpga_types.specs.declared.placement.Placement.{Placement}

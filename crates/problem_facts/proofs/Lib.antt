@@ -4,6 +4,7 @@ pub mod ClosedLemmas
 pub mod CrowdLaws
 pub mod GatherLemmas
 pub mod LeadLemmas
+mod LimitRows
 pub mod Rivals
 pub mod SlotCells
 pub mod TrackLaws

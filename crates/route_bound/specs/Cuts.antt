@@ -28,7 +28,8 @@ pub record IsFullLine (placed : PlacedNetlist) (kind : LineKind) (nets cells : �
   pub size : (line : ℕ) → line < line_count placed.placement.grid kind
       → line_cells placed kind line ≡ cells
 
--- the rectangle is one of the array, its cut has so many cells, at least one, and these nets cross it
+-- the rectangle is one of the array, its cut has so many cells, at least one, and these nets cross
+-- it
 pub record IsCrossed (placed : PlacedNetlist) (crossed : Crossed) : Type 0 where
   pub range : IsRange placed.placement.grid crossed.range
   pub some : 1 ≤ crossed.cells

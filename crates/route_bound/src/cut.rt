@@ -34,8 +34,8 @@ pub(crate) struct Crossed {
 /// global route. Where no net crosses any line the cut is one of these, and asks for one track.
 ///
 /// Takes time for each terminal, for each net and line that goes between its terminals, and then
-/// for each terminal and rectangle that is looked at: at most 4,000, and at most 60 million terminals
-/// in all. Takes memory for the terminals.
+/// for each terminal and rectangle that is looked at: at most 4,000, and at most 60 million
+/// terminals in all. Takes memory for the terminals.
 ///
 /// # Errors
 /// Where memory is short.

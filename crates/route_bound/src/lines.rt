@@ -58,8 +58,9 @@ impl<'a> PlacedNets<'a> {
         }
     }
 
-    /// Whether a net crosses a straight line. Its sinks are looked at for the lines alone that do not
-    /// go between them and the driver, which are four at most where each terminal touches a cell.
+    /// Whether a net crosses a straight line. Its sinks are looked at for the lines alone that do
+    /// not go between them and the driver, which are four at most where each terminal touches a
+    /// cell.
     fn crosses_between(&self, kind: LineKind, net: &Net, spans: Spans, line: u32) -> bool
         requires there { line < line_count self.now.placement.grid kind }
         requires few { line < 100 }

@@ -44,7 +44,8 @@ struct Touched {
 }
 
 /// A search: for each net the cells that its driver and its sinks touch, the rectangles that were
-/// looked at, those whose neighbors were not, the fullest so far, and how many may be looked at yet.
+/// looked at, those whose neighbors were not, the fullest so far, and how many may be looked at
+/// yet.
 #[derive(Drop)]
 struct Search {
     grid: Grid,

@@ -11,12 +11,13 @@ use Rattle.fpga_types.specs.Problem.{RoutingProblem}
 use Rattle.fpga_types.specs.Slots.{NO_SLOT, slots}
 use Rattle.fpga_types.specs.declared.problem.Slot.{Slot}
 use Rattle.fpga_types.specs.declared.route.RouteText.{RouteText}
+use Rattle.sat_clause.specs.Formula.{Cnf}
 use Rattle.sat_clause.specs.Literal.{Clause}
 use Rattle.sat_clause.specs.Live.{numbered}
 use Rattle.sat_clause.specs.Step.{Step, Added, Erased}
-use Rattle.route_encode.specs.Encoding.{below, cnf_of}
+use Rattle.route_encode.specs.Encoding.{below}
 use Rattle.route_encode.proofs.RivalLemmas.{range-append}
-use Rattle.route_core.specs.Blamed.{blamed, is_blamed, is_hint, speaks_of}
+use Rattle.route_core.specs.Blamed.{blamed, is_blamed, is_hint, speaks_of, used_places}
 use Rattle.route_core.specs.Blaming.{blames_at}
 use Rattle.route_core.specs.Trimmed.{has_hint}
 use Rattle.route_core.proofs.CoreLemmas.{net-there}
@@ -122,19 +123,31 @@ any-inputs f k (c ∷ clauses) =
     ∙ ap (λ (n : ℕ). list_any (λ (input : ℕ × Clause). f input.0 input.1) (numbered n clauses))
     (let e : suc (k + 1) ≡ suc (suc k) = omega arith in e))
 
+-- ---- the clauses that are used
+
+pub places-are : (small : List Step) (count : ℕ) (used : List Bool) → length used ≡ count
+    → ((at : ℕ) → at < count → get_or used at false ≡ is_hint small (suc at))
+    → filter (λ at. get_or used at false) (below (length used)) ≡ used_places count small
+places-are small count used many marked =
+    ap (λ (n : ℕ). filter (λ at. get_or used at false) (below n)) many
+    ∙ filter-same (λ at. get_or used at false) (λ at. is_hint small (suc at)) (below count)
+    (λ at i.
+    let range = from_In-range 0 count at i in
+    marked at (omega (arith, range.1)))
+
 -- ---- the nets to blame
 
-module _ (width : ℕ) (p : RoutingProblem) (small : List Step) (used : List Bool)
-    (count : length used ≡ length (cnf_of width p).clauses)
+module _ (width : ℕ) (p : RoutingProblem) (formula : Cnf) (small : List Step) (used : List Bool)
+    (count : length used ≡ length formula.clauses)
     (marked : (at : ℕ) → at < length used → get_or used at false ≡ is_hint small (suc at)) where
   abbrev clauses : List Clause
-  clauses = (cnf_of width p).clauses
+  clauses = formula.clauses
 
   abbrev all : List Slot
   all = slots p.route
 
   blamed-is : (net : ℕ) → list_any (blames_at used clauses width all net) (below (length used))
-      ≡ is_blamed width p small net
+      ≡ is_blamed width p formula small net
   blamed-is net =
       any-same (blames_at used clauses width all net)
       (λ at. is_hint small (suc at) && speaks_of width all net (get_or clauses (at - 0) []))
@@ -151,13 +164,14 @@ module _ (width : ℕ) (p : RoutingProblem) (small : List Step) (used : List Boo
   pub nets-are : (marks : List Bool) → length marks ≡ length p.route.nets
       → ((net : ℕ) → net < length marks → get_or marks net false
       ≡ list_any (blames_at used clauses width all net) (below (length used)))
-      → filter (λ net. get_or marks net false) (below (length marks)) ≡ blamed width p small
+      → filter (λ net. get_or marks net false) (below (length marks))
+      ≡ blamed width p formula small
   nets-are marks many is =
-      filter-same (λ net. get_or marks net false) (is_blamed width p small)
+      filter-same (λ net. get_or marks net false) (is_blamed width p formula small)
       (below (length marks)) (λ net i.
       let range = from_In-range 0 (length marks) net i in
       is net (omega (arith, range.1)) ∙ blamed-is net)
-      ∙ ap (λ (n : ℕ). filter (is_blamed width p small) (below n)) many
+      ∙ ap (λ (n : ℕ). filter (is_blamed width p formula small) (below n)) many
 
 -- the nets of slots are nets of the route
 pub nets-there : (route : RouteText) → All (λ slot. slot.net < length route.nets) (slots route)

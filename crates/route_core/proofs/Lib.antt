@@ -4,6 +4,7 @@ pub mod KeepLemmas
 pub mod ListedLemmas
 pub mod MaskLemmas
 pub mod NeededLemmas
+pub mod PartLemmas
 pub mod Rows
 pub mod SourceLemmas
 pub mod TrimmingLemmas

@@ -34,6 +34,28 @@ use Rattle.route_encode.proofs.Models.{IsTrueLit, in-below, lack-two, lead-on, n
 use Rattle.route_encode.proofs.PinSlots.{pin-slot}
 use Rattle.route_core.specs.Blamed.{net_of, slot_of}
 use Rattle.route_core.specs.Core.{IsLegalRoutingOf, IsOf}
+use Rattle.route_core.specs.Fair.{IsAbout, IsFair}
+
+-- the slot of a literal that says that it has a track, or that it does not
+slot-placed : (width s t : ℕ) → t < width → (suc (place_of width s t) - 1) / width ≡ s
+slot-placed width s t inside =
+    let e : suc (s * width + t) - 1 ≡ s * width + t = omega arith in
+    ap (λ (n : ℕ). n / width) e ∙ div-mul-add s width t inside
+
+pub has-slot : (width s t : ℕ) → t < width → slot_of width (has width s t) ≡ s
+has-slot width s t inside = slot-placed width s t inside
+
+pub lacks-slot : (width s t : ℕ) → t < width → slot_of width (lacks width s t) ≡ s
+lacks-slot width s t inside = slot-placed width s t inside
+
+-- a slot of which a clause about these nets alone speaks is of one of them
+pub spoken-of : (width : ℕ) (p : RoutingProblem) (nets : List ℕ) (clause : Clause) (l : Lit)
+    (s : ℕ) → IsAbout width p nets clause → In clause l → slot_of width l ≡ s
+    → s < length (slots p.route) → IsOf nets (slots p.route) s
+spoken-of width p nets clause l s about i is low =
+    subst (λ (n : ℕ). n < length (slots p.route) → IsOf nets (slots p.route) n) is
+    (In-all (λ m. slot_of width m < length (slots p.route)
+    → IsOf nets (slots p.route) (slot_of width m)) clause l about i) low
 
 module _ (width : ℕ) (p : RoutingProblem) (some : 1 ≤ width) (fits : Fits p)
     (nets tracks : List ℕ) (legal : IsLegalRoutingOf width p nets tracks) where
@@ -76,7 +98,7 @@ module _ (width : ℕ) (p : RoutingProblem) (some : 1 ≤ width) (fits : Fits p)
       ((Decides-eqb net net).1 refl)
 
   -- what the values say is so of a slot of one of the nets
-  said-is : (s t : ℕ) → s < count → t < width → says masked width s t ≡ true
+  pub said-is : (s t : ℕ) → s < count → t < width → says masked width s t ≡ true
       → IsOf nets all s × (get_or tracks s 0 ≡ t)
   said-is s t low inside h =
       let parts = both_true (is_named (net_of all s)) (get_or tracks s 0 == t)
@@ -84,7 +106,7 @@ module _ (width : ℕ) (p : RoutingProblem) (some : 1 ≤ width) (fits : Fits p)
       (named-is (net_of all s) parts.0, (Decides-eqb (get_or tracks s 0) t).0 parts.1)
 
   -- and is said of each
-  is-said : (s : ℕ) → s < count → IsOf nets all s
+  pub is-said : (s : ℕ) → s < count → IsOf nets all s
       → says masked width s (get_or tracks s 0) ≡ true
   is-said s low of =
       says-masked s (get_or tracks s 0) low (legal.within s low of)
@@ -93,21 +115,11 @@ module _ (width : ℕ) (p : RoutingProblem) (some : 1 ≤ width) (fits : Fits p)
         (Decides-eqb (get_or tracks s 0) (get_or tracks s 0)).1 refl,
       ) refl
 
-  -- the literals are of slots of these nets
-  abbrev pub SpeaksOf : Clause → Type 0
-  SpeaksOf clause = (l : Lit) → In clause l → slot_of width l < count
-      → IsOf nets all (slot_of width l)
-
-  -- a clause that speaks of these nets alone is true
+  -- a clause about these nets alone is true
   abbrev pub Holds : Clause → Type 0
-  Holds clause = SpeaksOf clause → IsTrueClause masked clause
+  Holds clause = IsAbout width p nets clause → IsTrueClause masked clause
 
-  has-slot : (s t : ℕ) → t < width → slot_of width (has width s t) ≡ s
-  has-slot s t inside =
-      let e : suc (s * width + t) - 1 ≡ s * width + t = omega arith in
-      ap (λ (n : ℕ). n / width) e ∙ div-mul-add s width t inside
-
-  room : (s t : ℕ) → s < count → t < width → place_of width s t < length masked
+  pub room : (s t : ℕ) → s < count → t < width → place_of width s t < length masked
   room s t low inside = subst (λ (n : ℕ). place_of width s t < n) (sym length-masked)
       (place-inside count width s t low inside)
 
@@ -118,13 +130,12 @@ module _ (width : ℕ) (p : RoutingProblem) (some : 1 ≤ width) (fits : Fits p)
   open_at = opens p.arch width
 
   some-each : All Holds (map (some_track width) (below count))
-  some-each = to-map Holds (some_track width) (below count) (λ s i speaks.
+  some-each = to-map Holds (some_track width) (below count) (λ s i about.
       let low = of-below count s i in
       let first : In (some_track width s) (has width s 0) =
       In-map (has width s) (below width) 0 (in-below width 0 (omega (arith, some))) in
-      let of : IsOf nets all s = subst (λ (q : ℕ). IsOf nets all q)
-      (has-slot s 0 (omega (arith, some))) (speaks (has width s 0) first
-      (subst (λ (q : ℕ). q < count) (sym (has-slot s 0 (omega (arith, some)))) low)) in
+      let of : IsOf nets all s = spoken-of width p nets (some_track width s) (has width s 0) s
+      about first (has-slot width s 0 (omega (arith, some))) low in
       any-from_In (IsTrueLit masked) (some_track width s) (has width s (get_or tracks s 0))
       (In-map (has width s) (below width) (get_or tracks s 0)
       (in-below width (get_or tracks s 0) (legal.within s low of)))
@@ -133,7 +144,7 @@ module _ (width : ℕ) (p : RoutingProblem) (some : 1 ≤ width) (fits : Fits p)
   one-each : All Holds (flat_map (one_track width) (below count))
   one-each = to-rows Holds (one_track width) (below count) (λ s i.
       to-rows Holds (no_higher_track width s) (below width) (λ t j.
-      to-map Holds (λ u. not_both width s t s u) (above t width) (λ u k speaks.
+      to-map Holds (λ u. not_both width s t s u) (above t width) (λ u k about.
       let low = of-below count s i in
       let below_t = of-below width t j in
       let range = from_In-range (t + 1) (width - t - 1) u k in
@@ -146,7 +157,7 @@ module _ (width : ℕ) (p : RoutingProblem) (some : 1 ≤ width) (fits : Fits p)
   open-each : All Holds (flat_map (open_track open_at width) (pin_steps p.route))
   open-each = to-rows Holds (open_track open_at width) (pin_steps p.route) (λ q i.
       to-map Holds (λ t. lacks width q.slot t ∷ [])
-      (filter (λ t. not (open_at q.pin t)) (below width)) (λ t j speaks.
+      (filter (λ t. not (open_at q.pin t)) (below width)) (λ t j about.
       let kept = from_In-filter (λ v. not (open_at q.pin v)) (below width) t j in
       let inside = of-below width t kept.0 in
       let closed : open_at q.pin t ≡ false = not-true (open_at q.pin t) kept.1 in
@@ -162,7 +173,7 @@ module _ (width : ℕ) (p : RoutingProblem) (some : 1 ≤ width) (fits : Fits p)
   joined-each = to-rows Holds (joined_track across width all) (steps p.route) (λ step i.
       to-map Holds (λ t. lacks width step.from t
       ∷ option_to_list (option_map (has width step.to) (track_after across all step t)))
-      (below width) (λ t j speaks.
+      (below width) (λ t j about.
       let inside = of-below width t j in
       let good = In-all (IsGoodStep p.route) (steps p.route) step
       (good-steps p.route (Fits-IsFit p fits)) i in
@@ -176,14 +187,14 @@ module _ (width : ℕ) (p : RoutingProblem) (some : 1 ≤ width) (fits : Fits p)
       ap (option_map (λ n. mapped_track p.arch.pattern width n.from n.to t))
       (meeting-found p.route.grid (slot_at all step.from).cell (slot_at all step.to).cell m
       good.1.1) in
-      let spoken : SpeaksOf (lacks width step.from t ∷ has width step.to u ∷ []) =
-      subst (λ (o : Option ℕ). SpeaksOf (lacks width step.from t
-      ∷ option_to_list (option_map (has width step.to) o))) after speaks in
-      let slot : slot_of width (has width step.to u) ≡ step.to =
-      has-slot step.to u (mapped-within p.arch.pattern width m.from m.to t inside) in
-      let of : IsOf nets all step.to = subst (λ (q : ℕ). IsOf nets all q) slot
-      (spoken (has width step.to u) (inr (inl refl))
-      (subst (λ (q : ℕ). q < count) (sym slot) good.0.1)) in
+      let both : IsAbout width p nets (lacks width step.from t ∷ has width step.to u ∷ []) =
+      subst (λ (o : Option ℕ). IsAbout width p nets (lacks width step.from t
+      ∷ option_to_list (option_map (has width step.to) o))) after about in
+      let of : IsOf nets all step.to =
+      spoken-of width p nets (lacks width step.from t ∷ has width step.to u ∷ [])
+      (has width step.to u) step.to both (inr (inl refl))
+      (has-slot width step.to u (mapped-within p.arch.pattern width m.from m.to t inside))
+      good.0.1 in
       let join = In-all (λ s. IsOf nets all s.from → IsOf nets all s.to
       → AreJoined (mapped_track p.arch.pattern width) p.route.grid (wire_of all tracks s.from)
       (wire_of all tracks s.to)) (steps p.route) step legal.joined i at.0 of in
@@ -199,7 +210,7 @@ module _ (width : ℕ) (p : RoutingProblem) (some : 1 ≤ width) (fits : Fits p)
 
   apart-each : All Holds (flat_map (apart_track width) (pairs all))
   apart-each = to-rows Holds (apart_track width) (pairs all) (λ q i.
-      to-map Holds (λ t. not_both width q.0 t q.1 t) (below width) (λ t j speaks.
+      to-map Holds (λ t. not_both width q.0 t q.1 t) (below width) (λ t j about.
       let inside = of-below width t j in
       let pair = from-pair all q i in
       let ends = competes-as (slot_at all q.0) (slot_at all q.1) pair.compete in
@@ -221,3 +232,17 @@ module _ (width : ℕ) (p : RoutingProblem) (some : 1 ≤ width) (fits : Fits p)
       (All-append Holds (first ++ second ++ third) fourth
       (All-append Holds (first ++ second) third
       (All-append Holds first second some-each one-each) open-each) joined-each) apart-each
+
+-- the clauses of a problem are fair
+pub plain_is_fair : (width : ℕ) (p : RoutingProblem) → 1 ≤ width → Fits p
+    → IsFair width p (cnf_of width p)
+plain_is_fair width p some fits = record {
+  vars = refl;
+  parts = λ nets tracks legal. (
+    masked width p some fits nets tracks legal,
+    record {
+      one_each = length-masked width p some fits nets tracks legal;
+      each_clause = each-holds width p some fits nets tracks legal;
+    },
+  );
+}

@@ -113,5 +113,5 @@ module _ (netlist : Netlist) (placement : Placement) where
   wide_is_trimmed = trims_well (cnf_of 1 wide_problem) wide_log refl
 
   -- the two that share a cell
-  wide_blamed : blamed 1 wide_problem wide_log ≡ 0 ∷ 1 ∷ []
+  wide_blamed : blamed 1 wide_problem (cnf_of 1 wide_problem) wide_log ≡ 0 ∷ 1 ∷ []
   wide_blamed = refl

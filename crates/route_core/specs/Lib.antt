@@ -1,6 +1,7 @@
 pub mod Blamed
 pub mod Blaming
 pub mod Core
+pub mod Fair
 pub mod Keeping
 pub mod Needed
 pub mod Ready

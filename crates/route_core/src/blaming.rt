@@ -1,47 +1,51 @@
 //! The nets that stand against each other.
 ghost use Rattle.std.specs.Prelude.{◌≡◌, ◌≤◌, ◌<◌, ◌*◌, ◌^◌, ◌||◌, ℕ, suc, All, IfOk, IfSome, false, filter, length, slice_index_or};
-ghost use Rattle.fpga_types.specs.Fits.{Fits};
 ghost use Rattle.fpga_types.specs.Slots.{slots};
-ghost use Rattle.route_encode.specs.Encoding.{below, cnf_of};
+ghost use Rattle.route_encode.specs.Encoding.{below};
 ghost use Rattle.sat_clause.specs.Literal.{IsWithin};
-ghost use Rattle.route_core.specs.Blamed.{blamed, is_hint, speaks_of};
+ghost use Rattle.route_core.specs.Blamed.{blamed, is_hint, speaks_of, used_places};
 ghost use Rattle.route_core.specs.Blaming.{blames_at, input_named, names_input};
 ghost use Rattle.route_core.specs.Core.{AreUnroutable};
+ghost use Rattle.route_core.specs.Fair.{IsFair};
 ghost use Rattle.route_core.specs.Trimmed.{IsTrimmed};
 ghost use Rattle.std.specs.List.{list_any};
 
 use fpga_bounds::PlacedProblem;
 use fpga_types::{NET_LIMIT, Slot, WIDTH_LIMIT};
-use route_encode::{Encoder, Strict};
+use route_encode::Encoder;
 use sat_clause::{CLAUSE_LIMIT, Formula, Lit, Log};
 use std::alloc::{AllocError, Global};
 
 /// The positions of the nets, rising, of whose slots a clause speaks that a hint of the log names.
 /// These nets have no legal routing by themselves. The log is a trimmed refutation of the clauses
-/// of the problem.
+/// that this encoder makes of the problem, which are to be fair.
 ///
 /// It builds the clauses anew, and then goes on as [`blame_in`].
 ///
 /// # Errors
 /// Where memory is short.
-pub fn blame(
+pub fn blame<E: Encoder>(
     alloc: Global,
+    encoder: &E,
     p: &PlacedProblem,
     width: u32,
     log: &Log,
 ) -> Result<Vec<u32>, AllocError>
     requires width { (1 ≤ width) × (width ≤ WIDTH_LIMIT) }
-    requires few { length (cnf_of width p.now).clauses ≤ CLAUSE_LIMIT }
-    requires trimmed { IsTrimmed (cnf_of width p.now) log.now.steps log.now.steps }
-    ensures nets { IfOk result (λ nets. nets.items ≡ blamed width p.now log.now.steps) }
+    requires few { length (E.formula_of encoder.now p.now width).clauses ≤ CLAUSE_LIMIT }
+    requires fair { IsFair width p.now (E.formula_of encoder.now p.now width) }
+    requires trimmed { IsTrimmed (E.formula_of encoder.now p.now width) log.now.steps
+        log.now.steps }
+    ensures nets { IfOk result (λ nets. nets.items
+        ≡ blamed width p.now (E.formula_of encoder.now p.now width) log.now.steps) }
     ensures unroutable { IfOk result (λ nets. AreUnroutable width p.now nets.items) }
 {
-    let formula = Strict.build(alloc, p, width)?;
+    let formula = encoder.build(alloc, p, width)?;
     let nets = blame_in(alloc, p, width, &formula, log)?;
     Ok(nets)
 }
 
-/// The same, where the clauses of the problem are at hand.
+/// The same, where the clauses are at hand.
 ///
 /// It takes time by the hints of the log and the clauses that they name, and a byte for each clause
 /// and each net.
@@ -55,16 +59,31 @@ pub fn blame_in(
     formula: &Formula,
     log: &Log,
 ) -> Result<Vec<u32>, AllocError>
-    requires width { (1 ≤ width) × (width ≤ WIDTH_LIMIT) }
-    requires formula { formula.now.cnf ≡ cnf_of width p.now }
-    requires trimmed { IsTrimmed (cnf_of width p.now) log.now.steps log.now.steps }
-    ensures nets { IfOk result (λ nets. nets.items ≡ blamed width p.now log.now.steps) }
+    requires width { 1 ≤ width }
+    requires fair { IsFair width p.now formula.now.cnf }
+    requires trimmed { IsTrimmed formula.now.cnf log.now.steps log.now.steps }
+    ensures nets { IfOk result
+        (λ nets. nets.items ≡ blamed width p.now formula.now.cnf log.now.steps) }
     ensures unroutable { IfOk result (λ nets. AreUnroutable width p.now nets.items) }
 {
     let used = used_inputs(alloc, formula.len(), log)?;
     let marks = net_marks(alloc, p, width, formula, &used)?;
     let nets = marked(alloc, &marks)?;
     Ok(nets)
+}
+
+/// The positions, rising, of those of so many input clauses that hints of a log name.
+///
+/// It takes time by the hints of the log, and a byte for each input clause.
+///
+/// # Errors
+/// Where memory is short.
+pub fn used_clauses(alloc: Global, count: u32, log: &Log) -> Result<Vec<u32>, AllocError>
+    ensures { IfOk result (λ used. used.items ≡ used_places count log.now.steps) }
+{
+    let marks = used_inputs(alloc, count, log)?;
+    let used = marked(alloc, &marks)?;
+    Ok(used)
 }
 
 /// Of so many input clauses the marks of those that hints name.
@@ -87,15 +106,14 @@ fn net_marks(
     used: &[bool],
 ) -> Result<Vec<bool>, AllocError>
     requires width { 1 ≤ width }
-    requires formula { formula.now.cnf ≡ cnf_of width p.now }
+    requires vars { formula.now.cnf.vars ≡ length (slots p.now.route) * width }
     requires used { length used.now ≡ length formula.now.cnf.clauses }
     ensures many { IfOk result (λ marks. length marks.items ≡ length p.now.route.nets) }
     ensures few { length p.now.route.nets ≤ NET_LIMIT }
-    ensures fits { Fits p.now }
     ensures marks { IfOk result (λ marks. (net : ℕ) → net < length p.now.route.nets
         → slice_index_or marks.items net false
         ≡ list_any
-        (blames_at used.now (cnf_of width p.now).clauses width (slots p.now.route) net)
+        (blames_at used.now formula.now.cnf.clauses width (slots p.now.route) net)
         (below (length used.now))) }
 {
     let mut marks = vec![in alloc; false; p.route().nets.as_slice().len()]?;

@@ -8,9 +8,9 @@ mod sources;
 mod trimming;
 mod wanted;
 
-pub use blaming::{blame, blame_in};
+pub use blaming::{blame, blame_in, used_clauses};
 pub use laws::{
-    blame_is_just, live_clauses_are_said, needed_hints_serve, needed_steps_are_trimmed,
-    trimmed_is_its_own,
+    blame_is_just, clauses_are_fair, live_clauses_are_said, needed_hints_serve,
+    needed_steps_are_trimmed, trimmed_is_its_own,
 };
 pub use trimming::trim;

@@ -11,12 +11,13 @@ rgb red green blue =
 abbrev pub share_of : (net turn : ℕ) → ℕ
 share_of net turn = min (abs_diff ((net * 137 + turn) % 360) 180 - 60) 60
 
--- the step of lightness of a net: after each 360 nets the next of three, and after the last the first
+-- the step of lightness of a net: after each 360 nets the next of three, and after the last the
+-- first
 abbrev pub step_of : (net : ℕ) → ℕ
 step_of net = net / 360 % 3
 
--- how strong a primary colour is that has so many of 180 parts: up to 200, from 35 to 140, or from 55
--- to 180
+-- how strong a primary colour is that has so many of 180 parts: up to 200, from 35 to 140, or from
+-- 55 to 180
 abbrev pub strength_of : (net parts : ℕ) → ℕ
 strength_of net parts = if step_of net == 0 then parts * 200 / 180 else
     if step_of net == 1 then parts * 105 / 180 + 35 else parts * 125 / 180 + 55

@@ -11,7 +11,8 @@ use Rattle.route_draw.specs.Crowded.{AreFirstCells}
 use Rattle.route_draw.specs.Parts.{AreParts}
 use Rattle.route_draw.specs.declared.cut.ShownCut.{ShownCut}
 
--- a cut that is to be shown: the rectangle of corners round which it goes, and the line that says it
+-- a cut that is to be shown: the rectangle of corners round which it goes, and the line that says
+-- it
 pub record CutSaid : Type 0 where
   pub range : CornerRange
   pub line : Bytes

@@ -87,8 +87,8 @@ fn append_shown(out: &mut String, name: &[u8]) -> Result<(), AllocError>
     Ok(())
 }
 
-// Where letters of this size stand around the middle of a rectangle: upwards where it is higher than
-// wide.
+// Where letters of this size stand around the middle of a rectangle: upwards where it is higher
+// than wide.
 fn placed(alloc: Global, area: Area, size: u64) -> Result<String, AllocError> {
     let Area { at, width, height } = area;
     let lower = size.saturating_mul(7) / 20;

@@ -1,6 +1,6 @@
 //! Pictures of routes, as texts of SVG: the array with its blocks and pads and the numbers of its
-//! columns and rows, the channels with their tracks, each net in a colour, which may be bold or pale, the cells that want more tracks than
-//! there are, and those of a cut.
+//! columns and rows, the channels with their tracks, each net in a colour, which may be bold or
+//! pale, the cells that want more tracks than there are, and those of a cut.
 #![tactic(auto)]
 
 mod array;

@@ -28,8 +28,8 @@ use std::alloc::{AllocError, Global};
 /// tracks of the route are 0, it is a global route, and the nets of a cell are drawn side by side.
 /// A cell is red that wants more tracks than the width: those up to the highest track of its
 /// channel lines, and in a global route one for each net. Where names are given for `emphasis`, the
-/// nets with these names are bold, and the others pale. Behind blocks and nets a band lies over each
-/// cell of `cut`, if one is given.
+/// nets with these names are bold, and the others pale. Behind blocks and nets a band lies over
+/// each cell of `cut`, if one is given.
 ///
 /// Takes time and memory that grow with the array, the width, the blocks and the elements, and time
 /// with the nets by the logarithm of the number of names.

@@ -22,15 +22,15 @@ pub struct Sought {
 
 /// Looks for wires of all ordinary nets of a placed netlist, in channels of so many tracks from 1
 /// to 64, so that each net has a path from a pin of its driver's class to a pin of the class of
-/// each sink, and no two nets share a wire or a pin. Where none are found, there may be some all the
-/// same.
+/// each sink, and no two nets share a wire or a pin. Where none are found, there may be some all
+/// the same.
 ///
 /// In each round nets are routed anew, one after another, those with most sinks first: each by the
-/// cheapest paths, where a wire costs more the more nets take it, and more from round to round. Where
-/// a route is given, its nets keep its cells in the beginning, each on the track on which it shares
-/// least with the nets before it. Where rounds bring no gain any more, the search begins anew, and
-/// tries the tracks of each net in another order; or it gives up, if many nets have shared something
-/// in each round so far. The answer is the same wherever and whenever it is asked.
+/// cheapest paths, where a wire costs more the more nets take it, and more from round to round.
+/// Where a route is given, its nets keep its cells in the beginning, each on the track on which it
+/// shares least with the nets before it. Where rounds bring no gain any more, the search begins
+/// anew, and tries the tracks of each net in another order; or it gives up, if many nets have
+/// shared something in each round so far. The answer is the same wherever and whenever it is asked.
 ///
 /// No law says which wires are found: whoever relies on them has them judged. A round takes the
 /// time of the waves that nets send out, and of the wires; memory is 20 bytes a wire, some 40 a pin

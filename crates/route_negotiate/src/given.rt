@@ -23,8 +23,8 @@ enum Before {
 }
 
 /// How far a net was followed: what stands before, where its path begins and whether at the driver,
-/// on which track one from the driver does, the pin that the path comes to, and how often other nets
-/// take what it takes.
+/// on which track one from the driver does, the pin that the path comes to, and how often other
+/// nets take what it takes.
 #[derive(Clone, Copy)]
 struct Follower {
     before: Before,

@@ -162,8 +162,8 @@ impl OwnField {
         excess
     }
 
-    /// Ends a round: what is kept of fights grows by each net too many, and the factor for each such
-    /// net changes.
+    /// Ends a round: what is kept of fights grows by each net too many, and the factor for each
+    /// such net changes.
     pub(crate) fn end_round(&mut self, present: u64) {
         self.present = present;
         for held in self.held.iter_mut() {

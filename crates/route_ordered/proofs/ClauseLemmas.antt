@@ -1,6 +1,6 @@
 -- The clauses of a row of slots say that it comes to the groups of tracks in their order, and have
 -- a model together with those of a problem exactly where these have one.
-use Rattle.std.proofs.Common.{◌≡◌, ℕ, zero, suc, ◌-◌, ◌<◌, Bool, true, false, cond, List, [], length, get_or, take, refl, sym, subst, ◌∙◌, arith, All}
+use Rattle.std.proofs.Common.{◌≡◌, ℕ, zero, suc, ◌-◌, ◌<◌, Bool, true, false, cond, List, [], length, get_or, take, refl, sym, subst, ◌∙◌, inl, inr, arith, All}
 use Rattle.std.specs.Prelude.{◌==◌, ◌↔◌, Contains, drop, flat_map, map}
 use Rattle.std.specs.List.{enumerate_from}
 use Rattle.std.proofs.lemmas.Bool.{false≢true}
@@ -8,7 +8,7 @@ use Rattle.std.proofs.lemmas.Bool.Decides.{Decides-eqb}
 use Rattle.std.proofs.lemmas.List.{get_or-take, get_or_default, length-take}
 use Rattle.std.proofs.lemmas.List.Elements.{All-append, All-nil}
 use Rattle.std.proofs.lemmas.Option.{get_or_from_slice_get, slice_get_within}
-use Rattle.list_laws.proofs.Members.{In, In-any, In-contains, In-flat_map, In-get, In-map, any-from_In, contains-In, from_In-flat_map, from_In-map}
+use Rattle.list_laws.proofs.Members.{In, In-any, In-append_cases, In-contains, In-flat_map, In-get, In-map, any-from_In, contains-In, from_In-flat_map, from_In-map}
 use Rattle.list_laws.proofs.Numbered.{In-enumerate, from_In-enumerate}
 use Rattle.fpga_types.specs.Fits.{Fits}
 use Rattle.fpga_types.specs.Problem.{RoutingProblem}
@@ -40,7 +40,7 @@ from-front row i e h =
     let inside : c.0 < length row = omega (arith, c.1, count) in
     (c.0, low, sym (get_or-take i row c.0 0 low) ∙ get_or_default (take i row) c.0 0 e c.1 ∙ c.2)
 
-to-front : (row : List ℕ) (i j : ℕ) → j < i → i < length row → In (take i row) (get_or row j 0)
+pub to-front : (row : List ℕ) (i j : ℕ) → j < i → i < length row → In (take i row) (get_or row j 0)
 to-front row i j before low =
     subst (λ (e : ℕ). In (take i row) e) (get_or-take i row j 0 before)
     (In-get (take i row) j 0 (omega (arith, before, low, length-take i row)))
@@ -61,34 +61,59 @@ module _ (pattern : Pattern) (width : ℕ) (earlier : List ℕ) (s : ℕ) where
       let e : suc p - 1 ≡ p = omega arith in
       let f : (suc p == 0) ≡ false = differs (suc p) 0 (λ g. omega (arith, g)) in rw (f, e) refl
 
-module _ (width : ℕ) (p : RoutingProblem) (row : List ℕ) (there : AreSlots p row)
-    (tracks : List ℕ) (legal : IsLegalRouting width p tracks) where
-  abbrev pattern : Pattern
-  pattern = p.arch.pattern
+  -- a clause of the slot says that it has some track only behind some group
+  abbrev IsBehind : Clause → Type 0
+  IsBehind clause = (q t : ℕ) × (q < group_count pattern width) × (t < width)
+      × (only_behind width earlier (group q) s t ≡ clause)
 
-  abbrev values : List Bool
-  values = bits width tracks
+  first-behind : (clause : Clause) (p : ℕ) → p < group_count pattern width
+      → In (first_part p) clause → IsBehind clause
+  first-behind clause zero low here = absurd here
+  first-behind clause (suc p) low here =
+      let made = from_In-map (only_behind width earlier (group p) s) (group (suc p)) clause
+      (subst (λ (cs : List Clause). In cs clause) (next-part p) here) in (
+        p,
+        made.0,
+        omega (arith, low),
+        in-within pattern width (suc p) made.0 (low, made.1),
+        made.2,
+      )
 
+  pub slot-clause : (clause : Clause) → In (slot_clauses pattern width earlier s) clause
+      → IsBehind clause
+  slot-clause clause i =
+      let of_group = from_In-flat_map (group_clauses pattern width earlier s)
+      (below (group_count pattern width)) clause i in
+      let q : ℕ = of_group.0 in
+      let low = of-below (group_count pattern width) q of_group.1 in
+      elim (In-append_cases (first_part q)
+      (map (only_behind width earlier (group q) s) (drop 1 (group q))) clause of_group.2) [
+        | inl first ↦ first-behind clause q low first
+        | inr turn ↦
+            (let made = from_In-map (only_behind width earlier (group q) s) (drop 1 (group q))
+            clause turn in (
+              q,
+              made.0,
+              low,
+              in-within pattern width q made.0 (low, In-later (group q) made.0 made.1),
+              made.2,
+            ))
+      ]
+
+-- the values say the tracks of the slots of a row, which are below the width, and no others of them
+pub record AreShown (width : ℕ) (row tracks : List ℕ) (values : List Bool) : Type 0 where
+  pub within : (i : ℕ) → i < length row → get_or tracks (get_or row i 0) 0 < width
+  pub own : (i : ℕ) → i < length row
+      → says values width (get_or row i 0) (get_or tracks (get_or row i 0) 0) ≡ true
+  pub is : (i t : ℕ) → i < length row → t < width → says values width (get_or row i 0) t ≡ true
+      → t ≡ get_or tracks (get_or row i 0) 0
+  pub valued : (i t : ℕ) → i < length row → t < width
+      → place_of width (get_or row i 0) t < length values
+
+module _ (pattern : Pattern) (width : ℕ) (row tracks : List ℕ) (values : List Bool)
+    (shown : AreShown width row tracks values) where
   abbrev track : ℕ → ℕ
   track s = get_or tracks s 0
-
-  in-range : (i : ℕ) → i < length row → get_or row i 0 < length tracks
-  in-range i low = omega (arith, there i 0 low, legal.each)
-
-  said : (s t : ℕ) → s < length tracks → t < width → says values width s t ≡ (t == track s)
-  said s t low inside = says-bits width tracks s t (λ k here. legal.within k 0 here) low inside
-
-  said-own : (s : ℕ) → s < length tracks → says values width s (track s) ≡ true
-  said-own s low = said s (track s) low (legal.within s 0 low)
-      ∙ (Decides-eqb (track s) (track s)).1 refl
-
-  said-is : (s t : ℕ) → s < length tracks → t < width → says values width s t ≡ true
-      → t ≡ track s
-  said-is s t low inside h = (Decides-eqb t (track s)).0 (sym (said s t low inside) ∙ h)
-
-  valued : (s t : ℕ) → s < length tracks → t < width → place_of width s t < length values
-  valued s t low inside =
-      omega (arith, place-inside (length tracks) width s t low inside, length-bits width tracks)
 
   module _ (i : ℕ) (low : i < length row) where
     abbrev s : ℕ
@@ -105,26 +130,24 @@ module _ (width : ℕ) (p : RoutingProblem) (row : List ℕ) (there : AreSlots p
         let rest : Clause =
         flat_map (λ e. map (has width e) (track_group pattern width q)) earlier in
         let had : says values width s t ≡ true =
-        subst (λ (u : ℕ). says values width s u ≡ true) (sym e) (said-own s (in-range i low)) in
+        subst (λ (u : ℕ). says values width s u ≡ true) (sym e) (shown.own i low) in
         let some = In-any (IsTrueLit values) rest (unless values width s t rest h had) in
         let of_slot = from_In-flat_map (λ e. map (has width e) (track_group pattern width q))
         earlier some.0 some.1 in
         let of_track = from_In-map (has width of_slot.0) (track_group pattern width q) some.0
         of_slot.2 in
         let at = from-front row i of_slot.0 of_slot.1 in
-        let in_row : get_or row at.0 0 < length tracks =
-        in-range at.0 (omega (arith, at.1, low)) in
-        let in_slot : of_slot.0 < length tracks =
-        subst (λ (n : ℕ). n < length tracks) at.2 in_row in
         let true_lit : says values width of_slot.0 of_track.0 ≡ true =
         subst (IsTrueLit values) (sym of_track.2) some.2 in
-        let is : of_track.0 ≡ track of_slot.0 = said-is of_slot.0 of_track.0 in_slot
-        (in-within pattern width q of_track.0 (low_q, of_track.1)) true_lit in (
+        let here : of_slot.0 ≡ get_or row at.0 0 = sym at.2 in
+        let is : of_track.0 ≡ track (get_or row at.0 0) =
+        shown.is at.0 of_track.0 (omega (arith, at.1, low))
+        (in-within pattern width q of_track.0 (low_q, of_track.1))
+        (subst (λ (n : ℕ). says values width n of_track.0 ≡ true) here true_lit) in (
           at.0,
           at.1,
           contains-In (track_group pattern width q) (track (get_or row at.0 0))
-              (subst (λ (n : ℕ). In (track_group pattern width q) (track n)) (sym at.2)
-              (subst (λ (u : ℕ). In (track_group pattern width q) u) is of_track.1)),
+              (subst (λ (u : ℕ). In (track_group pattern width q) u) is of_track.1),
         )
 
     used-to : (q t : ℕ) → q < group_count pattern width → t < width
@@ -133,16 +156,15 @@ module _ (width : ℕ) (p : RoutingProblem) (row : List ℕ) (there : AreSlots p
     used-to q t low_q inside h =
         let rest : Clause =
         flat_map (λ e. map (has width e) (track_group pattern width q)) earlier in
-        unless-had values width s t rest (valued s t (in-range i low) inside) (λ had.
-        let r = h (said-is s t (in-range i low) inside had) in
+        unless-had values width s t rest (shown.valued i t low inside) (λ had.
+        let r = h (shown.is i t low inside had) in
         let e : ℕ = get_or row r.0 0 in
-        let in_e : e < length tracks = in-range r.0 (omega (arith, r.1, low)) in
         any-from_In (IsTrueLit values) rest (has width e (track e))
         (In-flat_map (λ e. map (has width e) (track_group pattern width q)) earlier e
         (has width e (track e)) (to-front row i r.0 r.1 low)
         (In-map (has width e) (track_group pattern width q) (track e)
         (In-contains (track_group pattern width q) (track e) r.2)))
-        (said-own e in_e))
+        (shown.own r.0 (omega (arith, r.1, low))))
 
     abbrev IsTrueAll : List Clause → Type 0
     IsTrueAll clauses = All (IsTrueClause values) clauses
@@ -157,7 +179,7 @@ module _ (width : ℕ) (p : RoutingProblem) (row : List ℕ) (there : AreSlots p
         → IsUsed tracks row i (track_group pattern width q))
     order-from h = (
       (λ q low_q here.
-          let inside : track s < width = legal.within s 0 (in-range i low) in
+          let inside : track s < width = shown.within i low in
           let all = of-rows (IsTrueClause values) (group_clauses pattern width earlier s)
           (below (group_count pattern width)) h (suc q)
           (in-below (group_count pattern width) (suc q) low_q) in
@@ -170,7 +192,7 @@ module _ (width : ℕ) (p : RoutingProblem) (row : List ℕ) (there : AreSlots p
           (track_group pattern width (suc q)) first (track s)
           (In-contains (track_group pattern width (suc q)) (track s) here)) refl),
       (λ q low_q here.
-          let inside : track s < width = legal.within s 0 (in-range i low) in
+          let inside : track s < width = shown.within i low in
           let all = of-rows (IsTrueClause values) (group_clauses pattern width earlier s)
           (below (group_count pattern width)) h q
           (in-below (group_count pattern width) q low_q) in
@@ -207,7 +229,7 @@ module _ (width : ℕ) (p : RoutingProblem) (row : List ℕ) (there : AreSlots p
           (λ e. order.groups i q low low_q (contains-In (track_group pattern width (suc q))
           (track s) (subst (λ (u : ℕ). In (track_group pattern width (suc q)) u) e here)))))
 
-      order-to : IsTrueAll (slot_clauses pattern width earlier s)
+      pub order-to : IsTrueAll (slot_clauses pattern width earlier s)
       order-to = to-rows (IsTrueClause values) (group_clauses pattern width earlier s)
           (below (group_count pattern width)) (λ q here.
           let low_q = of-below (group_count pattern width) q here in
@@ -249,9 +271,37 @@ module _ (width : ℕ) (p : RoutingProblem) (row : List ℕ) (there : AreSlots p
           subst (λ (z : ℕ × ℕ). All (IsTrueClause values) (at_place z))
           (λ j. (place j, slot j)) (order-to i low order)
 
+-- the bits of a legal routing show its tracks
+bits-shown : (width : ℕ) (p : RoutingProblem) (row tracks : List ℕ) → AreSlots p row
+    → IsLegalRouting width p tracks → AreShown width row tracks (bits width tracks)
+bits-shown width p row tracks there legal = record {
+  within = λ i low. legal.within (get_or row i 0) 0 (in-range i low);
+  own = λ i low.
+      let t : ℕ = get_or tracks (get_or row i 0) 0 in
+      said i t low (legal.within (get_or row i 0) 0 (in-range i low)) ∙ (Decides-eqb t t).1 refl;
+  is = λ i t low inside h.
+      (Decides-eqb t (get_or tracks (get_or row i 0) 0)).0 (sym (said i t low inside) ∙ h);
+  valued = λ i t low inside. omega (
+    arith,
+    place-inside (length tracks) width (get_or row i 0) t (in-range i low) inside,
+    length-bits width tracks,
+  );
+}
+  where
+    in-range : (i : ℕ) → i < length row → get_or row i 0 < length tracks
+    in-range i low = omega (arith, there i 0 low, legal.each)
+
+    said : (i t : ℕ) → i < length row → t < width
+        → says (bits width tracks) width (get_or row i 0) t
+        ≡ (t == get_or tracks (get_or row i 0) 0)
+    said i t low inside = says-bits width tracks (get_or row i 0) t
+        (λ k here. legal.within k 0 here) (in-range i low) inside
+
 pub clauses_say : (width : ℕ) (p : RoutingProblem) (row : List ℕ) → AreSlots p row
     → ClausesSayOrder width p row
-clauses_say width p row there tracks legal = say-order width p row there tracks legal
+clauses_say width p row there tracks legal =
+    say-order p.arch.pattern width row tracks (bits width tracks)
+    (bits-shown width p row tracks there legal)
 
 -- ---- models
 
@@ -297,7 +347,7 @@ module _ (width : ℕ) (p : RoutingProblem) (row : List ℕ) (fits : Fits p)
             bits width r.0,
             with-order width p row (bits width r.0)
                 ((bits-say-legal width p fits r.0 r.1.each).1 r.1)
-                (λ full. (say-order width p row there r.0 r.1).1 r.2),
+                (λ full. (clauses_say width p row there r.0 r.1).1 r.2),
           )
       go false e = (
         bits width tracks,

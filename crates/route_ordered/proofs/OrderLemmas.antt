@@ -1,5 +1,5 @@
--- The tracks of a legal routing may change places so that a row of slots comes to the groups of
--- tracks in their order.
+-- The tracks of a legal routing of some nets may change places so that a row of their slots comes to
+-- the groups of tracks in their order.
 use Rattle.std.proofs.Common.{◌≡◌, ℕ, zero, suc, ◌<◌, ◌≤◌, true, List, length, get_or, sym, ap, subst, ◌∙◌, inl, inr, arith}
 use Rattle.std.specs.Prelude.{map, drop}
 use Rattle.std.proofs.lemmas.Bool.{cases_lt}
@@ -7,12 +7,14 @@ use Rattle.std.proofs.lemmas.List.{get_or-map}
 use Rattle.list_laws.proofs.Members.{In, In-contains, contains-In}
 use Rattle.fpga_types.specs.Fits.{Fits}
 use Rattle.fpga_types.specs.Problem.{RoutingProblem}
+use Rattle.fpga_types.specs.Slots.{slots}
 use Rattle.fpga_types.specs.declared.arch.Pattern.{Pattern}
 use Rattle.fpga_types.proofs.MeetingLemmas.{both_true}
-use Rattle.route_encode.specs.Exact.{IsLegalRouting, IsRoutableAt}
+use Rattle.route_core.specs.Core.{IsLegalRoutingOf, IsOf}
+use Rattle.route_core.proofs.PartLemmas.{every_net, of-every, part-legal, whole-legal}
 use Rattle.route_pinned.proofs.SwapLemmas.{AreOpen, are-open, changed-legal}
 use Rattle.problem_facts.specs.Groups.{group_count, is_exchangeable, track_group}
-use Rattle.route_ordered.specs.Ordered.{AreSlots, IsOrderedRoutableAt, OrderChangesNothing}
+use Rattle.route_ordered.specs.Ordered.{AreInOrder, AreSlots, OrderChangesNothing}
 use Rattle.route_ordered.proofs.GroupLemmas.{In-later, IsIn, in-alone, in-first, in-some, not-later, turn, turn-change, turn-other, turn-there}
 
 -- of the first m tracks of a row, those that are in groups are in the first k ones, each of which
@@ -121,7 +123,8 @@ module _ (pattern : Pattern) (width : ℕ) where
 -- ---- one slot after another
 
 module _ (width : ℕ) (p : RoutingProblem) (fits : Fits p) (full : AreOpen width p)
-    (row : List ℕ) (there : AreSlots p row) where
+    (row : List ℕ) (there : AreSlots p row) (nets : List ℕ)
+    (of : (i : ℕ) → i < length row → IsOf nets (slots p.route) (get_or row i 0)) where
   abbrev pattern : Pattern
   pattern = p.arch.pattern
 
@@ -129,19 +132,20 @@ module _ (width : ℕ) (p : RoutingProblem) (fits : Fits p) (full : AreOpen widt
   abbrev track_at : List ℕ → ℕ → ℕ
   track_at tracks i = get_or tracks (get_or row i 0) 0
 
-  -- a legal routing in which the first m slots of the row come to the groups in their order
+  -- a legal routing of the nets in which the first m slots of the row, which are theirs, come to
+  -- the groups in their order
   abbrev IsFound : ℕ → Type 0
-  IsFound m = (found : List ℕ) × IsLegalRouting width p found × (k : ℕ)
+  IsFound m = (found : List ℕ) × IsLegalRoutingOf width p nets found × (k : ℕ)
       × HasOrder pattern width (track_at found) m k
 
   module _ (m : ℕ) (low : m < length row) (found : List ℕ)
-      (legal : IsLegalRouting width p found) (k : ℕ)
+      (legal : IsLegalRoutingOf width p nets found) (k : ℕ)
       (order : HasOrder pattern width (track_at found) m k) where
     in-range : (i : ℕ) → i < length row → get_or row i 0 < length found
     in-range i inside = omega (arith, there i 0 inside, legal.each)
 
     below-width : track_at found m < width
-    below-width = legal.within (get_or row m 0) 0 (in-range m low)
+    below-width = legal.within (get_or row m 0) (there m 0 low) (of m low)
 
     -- where the slot's track is in a later group, it is turned to the front of the next one
     turned : (q : ℕ) → IsIn pattern width q (track_at found m) → k ≤ q → IsFound (suc m)
@@ -152,7 +156,7 @@ module _ (width : ℕ) (p : RoutingProblem) (fits : Fits p) (full : AreOpen widt
         let moved : (i : ℕ) → i < length row → track_at (map f found) i ≡ f (track_at found i) =
         λ i inside. get_or-map f found (get_or row i 0) 0 0 (in-range i inside) in (
           map f found,
-          changed-legal width p fits full f (turn-change pattern width q v k here low_k) found
+          changed-legal width p fits full f (turn-change pattern width q v k here low_k) nets found
               legal,
           suc k,
           order-new pattern width (track_at found) m k order (track_at (map f found))
@@ -176,8 +180,8 @@ module _ (width : ℕ) (p : RoutingProblem) (fits : Fits p) (full : AreOpen widt
       | inr none ↦ same (λ q here. absurd (none q here))
     ]
 
-  ordered-first : (m : ℕ) → m ≤ length row → (tracks : List ℕ) → IsLegalRouting width p tracks
-      → IsFound m
+  ordered-first : (m : ℕ) → m ≤ length row → (tracks : List ℕ)
+      → IsLegalRoutingOf width p nets tracks → IsFound m
   ordered-first zero low tracks h = (
     tracks,
     h,
@@ -193,8 +197,11 @@ module _ (width : ℕ) (p : RoutingProblem) (fits : Fits p) (full : AreOpen widt
       let r = ordered-first m (omega (arith, low)) tracks h in
       next-ordered m (omega (arith, low)) r.0 r.1 r.2 r.3
 
-  pub ordered-legal : IsRoutableAt width p → IsOrderedRoutableAt width p row
-  ordered-legal (tracks, legal) =
+  -- where the nets have a legal routing by themselves, they have one in which the row is in order
+  pub ordered-part : (tracks : List ℕ) → IsLegalRoutingOf width p nets tracks
+      → (found : List ℕ) × IsLegalRoutingOf width p nets found
+      × AreInOrder pattern width row found
+  ordered-part tracks legal =
       let r = ordered-first (length row) (omega arith) tracks legal in (
         r.0,
         r.1,
@@ -218,6 +225,11 @@ module _ (width : ℕ) (p : RoutingProblem) (fits : Fits p) (full : AreOpen widt
 pub nothing_changes : (width : ℕ) (p : RoutingProblem) (row : List ℕ) → Fits p
     → is_exchangeable width p ≡ true → AreSlots p row → OrderChangesNothing width p row
 nothing_changes width p row fits h there = (
-  ordered-legal width p fits (are-open width p (both_true _ _ h).1) row there,
+  (λ routable.
+      let nets : List ℕ = every_net width p in
+      let r = ordered-part width p fits (are-open width p (both_true _ _ h).1) row there nets
+      (λ i low. of-every width p (get_or row i 0) (there i 0 low)) routable.0
+      (part-legal width p nets routable.0 routable.1) in
+      (r.0, whole-legal width p fits r.0 r.1, r.2)),
   (λ r. (r.0, r.1)),
 )

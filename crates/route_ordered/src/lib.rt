@@ -7,6 +7,7 @@ mod laws;
 mod ordered;
 
 pub use laws::{
-    clauses_say_order, crowds_are_slots, order_changes_nothing, ordered_says_unroutable,
+    clauses_say_order, crowds_are_slots, order_changes_nothing, ordered_clauses_are_fair,
+    ordered_says_unroutable,
 };
 pub use ordered::Ordered;

@@ -3,8 +3,8 @@ use Rattle.std.specs.Prelude.{Bool, true, false, List, [], ◌∷◌, ◌++◌, 
 use Rattle.fpga_text.specs.Bytes.{Bytes}
 use Rattle.route_picture.specs.declared.page.TheConstants.{HEAD, TAIL}
 
--- what is printed of a picture: itself, or a page of HTML, which is a fixed head, the picture to the
--- byte, and a fixed tail
+-- what is printed of a picture: itself, or a page of HTML, which is a fixed head, the picture to
+-- the byte, and a fixed tail
 abbrev pub printed_as : (page : Bool) → (picture : Bytes) → Bytes
 printed_as false picture = picture
 printed_as true picture = HEAD.now ++ picture ++ TAIL.now

@@ -64,7 +64,8 @@ svg .hit:not(.n):not(.g)>path{stroke:#d000d0;stroke-width:60}
 <div id='view'>
 ";
 
-/// What stands behind it: how it is enlarged, searched and shaded, by the text of the picture alone.
+/// What stands behind it: how it is enlarged, searched and shaded, by the text of the picture
+/// alone.
 pub(crate) const TAIL: &str = "</div><div id='tip'></div>
 <script>
 'use strict';

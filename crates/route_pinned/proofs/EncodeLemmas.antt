@@ -4,13 +4,11 @@ use Rattle.std.specs.Prelude.{◌↔◌, IsTrue, find, map}
 use Rattle.std.specs.Option.{option_map_or}
 use Rattle.std.specs.List.{enumerate_from}
 use Rattle.std.proofs.lemmas.Bool.Decides.{Decides-eqb}
-use Rattle.std.proofs.lemmas.List.{get_or-take, length-map, length-take}
+use Rattle.std.proofs.lemmas.List.{length-map}
 use Rattle.std.proofs.lemmas.List.FromFn.{length-enumerate_from}
 use Rattle.std.proofs.lemmas.List.Sums.{sum_by-cons}
 use Rattle.std.proofs.lemmas.List.Elements.{All-append, All-from_get_or, All-nil, All-take}
-use Rattle.std.proofs.lemmas.Option.{get_or_from_slice_get, slice_get_within}
 use Rattle.list_laws.proofs.Members.{In, In-all, In-append_left, all-from_In, any-from_In, from_In-map}
-use Rattle.list_laws.proofs.Numbered.{from_In-enumerate}
 use Rattle.fpga_types.specs.CellNumbers.{cell_count}
 use Rattle.fpga_types.specs.Fits.{Fits}
 use Rattle.fpga_types.specs.Given.{IsGiven}
@@ -32,7 +30,7 @@ use Rattle.problem_facts.specs.Full.{is_symmetric}
 use Rattle.route_pinned.specs.Pinned.{ArePinned, pin_clauses, pinned_cnf, pinned_row, row_clauses}
 use Rattle.problem_facts.specs.Fullest.{has_most, slots_in}
 use Rattle.route_pinned.specs.Pins.{pin_row, pinned_slots, pins}
-use Rattle.route_pinned.proofs.PinLemmas.{pinned-legal, pinned-rivals}
+use Rattle.route_pinned.proofs.PinLemmas.{pin-there, pinned-legal, pinned-rivals}
 
 -- what satisfies the clauses with pinned tracks satisfies those without
 pub without-pins : (width : ℕ) (p : RoutingProblem) (values : List Bool)
@@ -44,23 +42,6 @@ without-pins width p values h = record {
       (In-append_left (cnf_of width p).clauses
       (cond (is_symmetric width p) (pin_clauses width p) []) c i));
 }
-
--- a pin is a slot of the problem with a track
-pin-there : (width : ℕ) (p : RoutingProblem) → IsGiven p → (pin : ℕ × ℕ) → In (pins width p) pin
-    → (pin.0 < length (slots p.route)) × (pin.1 < width)
-pin-there width p given pin i =
-    let row : List ℕ = pinned_slots p.route.grid (slots p.route) in
-    let made = from_In-map (λ (e : ℕ × ℕ). (e.1, e.0)) (enumerate_from 0 (pin_row width p)) pin i in
-    let at = from_In-enumerate 0 (pin_row width p) made.0 made.1 in
-    let inside = slice_get_within (pin_row width p) at.0 made.0.1 at.2 in
-    let count = length-take width row in
-    let slot : get_or row at.0 0 ≡ made.0.1 =
-    sym (get_or-take width row at.0 0 (omega (arith, inside, count)))
-    ∙ get_or_from_slice_get (pin_row width p) at.0 made.0.1 0 at.2 in
-    let low = (pinned-rivals p given).within at.0 (omega (arith, inside, count)) in
-    let first : made.0.1 ≡ pin.0 = ap (λ (q : ℕ × ℕ). q.0) made.2 in
-    let second : made.0.0 ≡ pin.1 = ap (λ (q : ℕ × ℕ). q.1) made.2 in
-    (omega (arith, low, slot, first), omega (arith, inside, count, second, at.1))
 
 -- the bits of a legal routing with the pinned tracks satisfy all clauses
 pinned-satisfied : (width : ℕ) (p : RoutingProblem) → IsGiven p → Fits p → (tracks : List ℕ)

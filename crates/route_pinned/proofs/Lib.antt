@@ -1,4 +1,5 @@
 pub mod EncodeLemmas
+pub mod FairLemmas
 pub mod PinClauses
 pub mod PinLemmas
 mod Rows

@@ -6,5 +6,5 @@ mod pin_clauses;
 mod pinned;
 mod pinned_row;
 
-pub use laws::{pinned_says_unroutable, pins_change_nothing};
+pub use laws::{pinned_clauses_are_fair, pinned_says_unroutable, pins_change_nothing};
 pub use pinned::Pinned;

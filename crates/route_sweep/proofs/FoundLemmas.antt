@@ -1,5 +1,5 @@
 -- What a search has found, by what was written of it.
-use Rattle.std.proofs.Common.{◌≡◌, ℕ, List, sym, subst, inl, inr}
+use Rattle.std.proofs.Common.{◌≡◌, ℕ, ◌<◌, List, sym, subst, inl, inr}
 use Rattle.std.specs.Prelude.{Result, Ok, Err, Vec}
 use Rattle.std.specs.Global.{Global}
 use Rattle.std.specs.Result.{result_and}
@@ -10,7 +10,7 @@ use Rattle.sat_clause.specs.Formula.{Cnf, IsUnsat}
 use Rattle.sat_clause.specs.Learned.{added_count}
 use Rattle.sat_clause.specs.Step.{Step}
 use Rattle.route_sweep.specs.Asked.{Asked}
-use Rattle.route_sweep.specs.Found.{Ends, FindsBy, IsHeld, IsLeftOpenBy, IsRefutedBy}
+use Rattle.route_sweep.specs.Found.{Ends, FindsBy, FindsShort, IsHeld, IsLeftOpenBy, IsRefutedBy}
 use Rattle.route_sweep.specs.Written.{WritesProof, WritesRoute}
 use Rattle.route_sweep.specs.declared.found.FileSlot.TheVariants.{Route, Clauses, Log}
 use Rattle.route_sweep.specs.declared.found.Found.{Found}
@@ -91,3 +91,24 @@ module _ (copies : ℕ) (Refutes : List Step → Bytes → Type 0) (LeavesOpen :
     finds-spent learned h result writes came is =
         subst Finds (sym is)
         (spent learned (record { opens = h.0; many = h.1 }) result writes)
+
+-- ---- a width that was left open before the budget was spent
+
+-- no routing was found there
+pub routed-not-short : (budget : ℕ) (wrote : Result (Unit {0}) Stop) (came : Result Found Stop)
+    → came ≡ result_and wrote (Ok Routed) → FindsShort budget came → ⊥
+routed-not-short budget (Ok done) came is h = subst (FindsShort budget) is h
+routed-not-short budget (Err stop) came is h = subst (FindsShort budget) is h
+
+-- and no refutation
+pub refuted-not-short : (budget : ℕ) (lead : Vec ℕ Global) (wrote : Result (Unit {0}) Stop)
+    (came : Result Found Stop) → came ≡ result_and wrote (Ok (Refuted lead))
+    → FindsShort budget came → ⊥
+refuted-not-short budget lead (Ok done) came is h = subst (FindsShort budget) is h
+refuted-not-short budget lead (Err stop) came is h = subst (FindsShort budget) is h
+
+-- it was left open by the search
+pub spent-short : (budget learned : ℕ) (wrote : Result (Unit {0}) Stop) (came : Result Found Stop)
+    → came ≡ result_and wrote (Ok (Spent learned)) → FindsShort budget came → learned < budget
+spent-short budget learned (Ok done) came is h = subst (FindsShort budget) is h
+spent-short budget learned (Err stop) came is h = absurd (subst (FindsShort budget) is h)

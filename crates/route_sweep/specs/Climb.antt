@@ -68,3 +68,8 @@ abbrev pub ClimbsTo : (copies : ℕ) → (Refutes : ℕ → List Step → Bytes 
 ClimbsTo copies Refutes LeavesOpen ask most formula good before now answer =
     (width : ℕ) × (found : Result Found Stop) × (answer ≡ climbed width found)
     × EndsAt copies Refutes LeavesOpen ask most formula good before now width found
+
+-- the climb was left open at a width after fewer learned clauses than the budget allows
+abbrev pub ClimbsShort : (budget : ℕ) → Result Climbed Stop → Type 0
+ClimbsShort budget (Ok (Undecided width learned)) = learned < budget
+ClimbsShort budget answer = ⊥

@@ -1,5 +1,5 @@
 -- What a search through the clauses of a problem comes to, by whatever way.
-use Rattle.std.specs.Prelude.{◌≡◌, List}
+use Rattle.std.specs.Prelude.{◌≡◌, ℕ, ◌<◌, List}
 use Rattle.desk_io.specs.Files.{Bytes}
 use Rattle.sat_clause.specs.Formula.{Cnf, IsUnsat, Satisfies}
 use Rattle.sat_clause.specs.Learned.{added_count}
@@ -16,3 +16,8 @@ HasEnded Refutes LeavesOpen formula (Refuted log lead) =
     Refutes log.steps lead.items × IsUnsat formula
 HasEnded Refutes LeavesOpen formula (Open log learned) =
     LeavesOpen log.steps × (learned ≡ added_count log.steps)
+
+-- it was left open after fewer learned clauses than the budget allows
+abbrev pub EndsShort : (budget : ℕ) → Ended → Type 0
+EndsShort budget (Open log learned) = learned < budget
+EndsShort budget ended = ⊥

@@ -119,3 +119,8 @@ module _ (copies : ℕ) (Refutes : List Step → Bytes → Type 0) (LeavesOpen :
       IsHeld copies formula
       × FailsOn ask width formula good (Ends Refutes LeavesOpen formula good) before now slot
   FindsBy before now (Err stop) = IsUnbuilt copies formula stop × (now ≡ before)
+
+-- the width was left open after fewer learned clauses than the budget allows
+abbrev pub FindsShort : (budget : ℕ) → Result Found Stop → Type 0
+FindsShort budget (Ok (Spent learned)) = learned < budget
+FindsShort budget came = ⊥

@@ -47,7 +47,8 @@ pub enum Found {
     /// A refutation, which was written behind the clauses: there is no routing. This is said of it
     /// before the report.
     Refuted { lead: Vec<u8> },
-    /// Neither, within the budget. The clauses were written, and a log of so many learned clauses.
+    /// Neither, within the budget or until the caller said no. The clauses were written, and a log
+    /// of so many learned clauses.
     Spent { learned: u64 },
 }
 

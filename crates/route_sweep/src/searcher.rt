@@ -5,11 +5,12 @@ ghost use Rattle.fpga_types.specs.Problem.{RoutingProblem};
 ghost use Rattle.sat_clause.specs.declared.limits.TheConstants.{VARIABLE_LIMIT};
 ghost use Rattle.sat_clause.specs.Formula.{Cnf};
 ghost use Rattle.sat_clause.specs.Step.{Step};
-ghost use Rattle.route_sweep.specs.Ended.{HasEnded};
+ghost use Rattle.route_sweep.specs.Ended.{EndsShort, HasEnded};
 ghost use Rattle.route_sweep.specs.Found.{HasFew};
 
 use fpga_bounds::PlacedProblem;
 use fpga_types::WIDTH_LIMIT;
+use patience::Patience;
 use sat_clause::{Formula, Log};
 use std::alloc::{AllocError, Global};
 
@@ -29,6 +30,9 @@ pub trait Searcher {
     /// How many copies of the clauses it holds at one time.
     ghost copies: { Self → ℕ };
 
+    /// How many clauses it may learn.
+    ghost budget: { Self → ℕ };
+
     /// What it needs of itself and of the clauses.
     ghost serves: { Self → RoutingProblem → ℕ → Cnf → Type 0 };
 
@@ -42,22 +46,26 @@ pub trait Searcher {
     fn copy_count(&self) -> u32
         ensures { result ≡ copies self.now };
 
-    /// What the search comes to, at a width from 1 to 64.
+    /// What the search comes to, at a width from 1 to 64. It leaves the clauses open before its
+    /// budget is spent only where its caller has said that it may not go on.
     ///
     /// # Errors
     /// Where memory is short.
-    fn search(
+    fn search<P: Patience>(
         &self,
         alloc: Global,
         problem: &PlacedProblem,
         width: u32,
         formula: &Formula,
+        patience: &mut P,
     ) -> Result<Ended, AllocError>
         requires width { (1 ≤ width) × (width ≤ WIDTH_LIMIT) }
         requires few { HasFew formula.now.cnf }
         requires few_vars { formula.now.cnf.vars ≤ VARIABLE_LIMIT }
         requires serves { serves self.now problem.now width formula.now.cnf }
-        ensures { IfOk result (HasEnded
+        ensures ended { IfOk result (HasEnded
             (refutes self.now problem.now width formula.now.cnf)
-            (leaves_open self.now problem.now width formula.now.cnf) formula.now.cnf) };
+            (leaves_open self.now problem.now width formula.now.cnf) formula.now.cnf) }
+        ensures stopped { IfOk result (λ ended.
+            EndsShort (budget self.now) ended → P.is_over patience.new) };
 }

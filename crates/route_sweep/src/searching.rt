@@ -1,7 +1,7 @@
 //! The search at one width.
 ghost use Rattle.std.specs.Prelude.{◌≤◌};
 ghost use Rattle.route_sweep.specs.Asked.{asked};
-ghost use Rattle.route_sweep.specs.Found.{FindsBy};
+ghost use Rattle.route_sweep.specs.Found.{FindsBy, FindsShort};
 
 use crate::asking::Ask;
 use crate::building::few_clauses;
@@ -11,6 +11,7 @@ use crate::writing::{write_proof, write_routing};
 use desk_io::Shelf;
 use fpga_bounds::PlacedProblem;
 use fpga_types::WIDTH_LIMIT;
+use patience::Patience;
 use route_encode::Encoder;
 use std::alloc::Global;
 
@@ -18,13 +19,14 @@ use std::alloc::Global;
 /// clauses, and then the log of the search.
 ///
 /// The clauses are counted first, and none is built where there are more than 40,000,000 in all
-/// copies that the way holds. Files of other names stay as they are.
+/// copies that the way holds. Files of other names stay as they are. The width is left open before
+/// the budget is spent only where the caller has said that the search may not go on.
 ///
 /// # Errors
 /// `Fault` names the file on which the shelf failed; it and those that were written before it stand
 /// as far as they were written. `TooManyClauses` and `TooManyHeld` have the number of the clauses,
 /// and `Memory` comes where memory is short: nothing was written then.
-pub fn one_width<W: Searcher, E: Encoder, S: Shelf>(
+pub fn one_width<W: Searcher, E: Encoder, S: Shelf, P: Patience>(
     alloc: Global,
     way: &W,
     encoder: &E,
@@ -32,21 +34,23 @@ pub fn one_width<W: Searcher, E: Encoder, S: Shelf>(
     width: u32,
     ask: &Ask<'_>,
     shelf: &mut S,
+    patience: &mut P,
 ) -> Result<Found, Stop>
     requires width { (1 ≤ width) × (width ≤ WIDTH_LIMIT) }
     requires serves { W.serves way.now problem.now width
         (E.formula_of encoder.now problem.now width) }
-    ensures { FindsBy (W.copies way.now)
+    ensures finds { FindsBy (W.copies way.now)
         (W.refutes way.now problem.now width (E.formula_of encoder.now problem.now width))
         (W.leaves_open way.now problem.now width (E.formula_of encoder.now problem.now width))
         (asked ask.now) width (E.formula_of encoder.now problem.now width)
         (E.is_good encoder.now problem.now width) (S.state shelf.old) (S.state shelf.new) result }
+    ensures stopped { FindsShort (W.budget way.now) result → P.is_over patience.new }
 {
     let formula = match few_clauses(alloc, way.copy_count(), encoder, problem, width) {
         Ok(formula) => formula,
         Err(stop) => return Err(stop),
     };
-    match way.search(alloc, problem, width, &formula) {
+    match way.search(alloc, problem, width, &formula, patience) {
         Ok(Ended::Model { values }) => {
             let Ok(found) = encoder.decode(alloc, problem, width, &values) else {
                 return Err(Stop::Memory);

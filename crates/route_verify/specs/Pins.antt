@@ -1,4 +1,5 @@
--- Pins as the sets of elements have them: two lines are at one pin where their IPIN lines are equal.
+-- Pins as the sets of elements have them: two lines are at one pin where their IPIN lines are
+-- equal.
 use Rattle.fpga_types.specs.declared.route.Elem.{Elem}
 use Rattle.fpga_types.specs.declared.route.ElemKind.TheVariants.{Ipin}
 

@@ -1,7 +1,7 @@
 -- What another way comes to is what counting in front of it comes to, where numbers forbid nothing;
 -- and what one search comes to.
-use Rattle.std.proofs.Common.{◌≡◌, ◌≤◌, ◌+◌, ℕ, suc, List, [], ◌∷◌, subst, length, sym, inr, arith}
-use Rattle.std.specs.Prelude.{IfOk, Bool, true, false, Result, Ok, Err}
+use Rattle.std.proofs.Common.{◌≡◌, ◌≤◌, ◌+◌, ℕ, suc, List, [], ◌∷◌, subst, length, sym, inl, inr, arith}
+use Rattle.std.specs.Prelude.{IfOk, IsTrue, Bool, true, false, Result, Ok, Err}
 use Rattle.desk_io.specs.Files.{Bytes}
 use Rattle.sat_clause.specs.declared.limits.TheConstants.{ID_LIMIT, VARIABLE_LIMIT}
 use Rattle.sat_clause.specs.Formula.{Cnf, IsUnsat}
@@ -11,7 +11,7 @@ use Rattle.sat_clause.proofs.Refutes.{refutes}
 use Rattle.sat_core.specs.Answer.{most_added}
 use Rattle.sat_core.specs.SearchLog.{AreNumbered}
 use Rattle.sat_core.specs.declared.answer.Answer.{Answer}
-use Rattle.sat_core.specs.declared.answer.Answer.TheVariants.{Refuted as SearchRefuted, Spent}
+use Rattle.sat_core.specs.declared.answer.Answer.TheVariants.{Refuted as SearchRefuted, Spent, Stopped}
 use Rattle.route_core.specs.Trimmed.{AddedRise}
 use Rattle.route_sweep.specs.Ended.{HasEnded}
 use Rattle.route_sweep.specs.Found.{HasFew}
@@ -67,10 +67,21 @@ module _ (way : Plain) (formula : Cnf) (log : List Step) (few : HasFew formula)
   pub plainly-open : HasSearched way formula log Spent
       → IsLeftOpen way formula log × (way.budget ≡ added_count log)
   plainly-open h =
-      let open_still : ¬ (most_added way.keep formula.vars ≤ way.budget) = h.decided in (
-        record { of = log-of Spent h; spends = h.end; short = omega (arith, open_still) },
+      let open_still : ¬ (most_added way.keep formula.vars ≤ way.budget) =
+      λ large. h.decided large (λ stopped. cc) in (
+        record {
+          of = log-of Spent h;
+          ends = inl (record { spends = h.end; short = omega (arith, open_still) });
+        },
         sym h.end.all,
       )
+
+  pub plainly-stopped : HasSearched way formula log Stopped → IsTrue way.limited
+      → IsLeftOpen way formula log
+  plainly-stopped h limited = record {
+    of = log-of Stopped h;
+    ends = inr (record { limited = limited; leaves = h.end });
+  }
 
 -- ids that are numbered in order rise
 pub numbered-rise : (n : ℕ) (log : List Step) → AreNumbered (suc n) log → AddedRise n log

@@ -42,5 +42,5 @@ pub record IsCutDown
     : Type 0 where
   pub trimmed : IsTrimmed formula log log
   pub reads_back : ReadsLrat (length formula.clauses) (log_text log) log
-  pub just : AreUnroutable width p (blamed width p log)
-  pub names : lead ≡ net_lines p.route (blamed width p log)
+  pub just : AreUnroutable width p (blamed width p formula log)
+  pub names : lead ≡ net_lines p.route (blamed width p formula log)

@@ -1,11 +1,12 @@
 -- What each way holds and needs, and the logs by which it refutes a formula and by which it leaves
 -- it open.
-use Rattle.std.specs.Prelude.{◌≡◌, ℕ, List, Bool, true, false}
+use Rattle.std.specs.Prelude.{◌≡◌, ◌≤◌, ℕ, List, Bool, true, false}
 use Rattle.desk_io.specs.Files.{Bytes}
 use Rattle.fpga_types.specs.Problem.{RoutingProblem}
 use Rattle.problem_facts.specs.Facts.{AreFactsOf}
 use Rattle.route_count.specs.Begun.{IsBegunBy}
 use Rattle.route_count.specs.Crowded.{IsCrowded}
+use Rattle.route_core.specs.Fair.{IsFair}
 use Rattle.route_encode.specs.Encoding.{cnf_of}
 use Rattle.sat_clause.specs.Formula.{Cnf}
 use Rattle.sat_clause.specs.Step.{Step}
@@ -51,15 +52,25 @@ is_counting (Trims plain) = false
 abbrev pub budget_of : Course → ℕ
 budget_of way = (search_in way).budget
 
+-- whether its caller may stop it
+abbrev pub is_limited : Course → Bool
+is_limited way = (search_in way).limited
+
+-- it may be left open after so many learned clauses: as many as its budget allows, or fewer where
+-- its caller may stop it
+pub record MayEndAfter (way : Course) (learned : ℕ) : Type 0 where
+  pub within : learned ≤ budget_of way
+  pub unlimited : is_limited way ≡ false → learned ≡ budget_of way
+
 -- counting needs the facts of the problem, and clauses that begin with those of one track in each
--- cell; trimming has to have no others
+-- cell; trimming needs clauses that are fair, so that it blames no net for what others forbid
 abbrev pub serves_by : Way → RoutingProblem → ℕ → Cnf → Type 0
 serves_by (Alone plain) p width formula = CanSearch plain
 serves_by (Counted counting) p width formula =
     AreFactsOf p counting.facts.now × IsBegunBy formula (cnf_of width p)
     × CanSearch counting.rest
 serves_by (Negotiated negotiating) p width formula = CanSearch negotiating.rest
-serves_by (Cut trimming) p width formula = (formula ≡ cnf_of width p) × CanSearch trimming.rest
+serves_by (Cut trimming) p width formula = IsFair width p formula × CanSearch trimming.rest
 
 -- the log refutes the formula so, and this is said before the report
 abbrev pub refutes_by : Course → RoutingProblem → ℕ → Cnf → List Step → Bytes → Type 0

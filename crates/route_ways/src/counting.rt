@@ -1,6 +1,7 @@
 //! Counting in front of another way.
 
 use fpga_bounds::PlacedProblem;
+use patience::Patience;
 use problem_facts::Facts;
 use route_count::counted_out;
 use route_sweep::{Ended, Searcher};
@@ -25,6 +26,8 @@ impl<'a, R: Searcher> Searcher for Counting<'a, R> {
 
     ghost copies = { λ way. R.copies way.rest };
 
+    ghost budget = { λ way. R.budget way.rest };
+
     ghost serves = { λ way p width formula. AreFactsOf p way.facts.now
         × IsBegunBy formula (cnf_of width p) × R.serves way.rest p width formula };
 
@@ -39,12 +42,13 @@ impl<'a, R: Searcher> Searcher for Counting<'a, R> {
         self.rest.copy_count()
     }
 
-    fn search(
+    fn search<P: Patience>(
         &self,
         alloc: Global,
         problem: &PlacedProblem,
         width: u32,
         formula: &Formula,
+        patience: &mut P,
     ) -> Result<Ended, AllocError> {
         let Ok(found) = counted_out(alloc, formula, problem, self.facts, width) else {
             return Err(AllocError);
@@ -54,7 +58,7 @@ impl<'a, R: Searcher> Searcher for Counting<'a, R> {
                 let lead = Vec::new(alloc);
                 Ok(Ended::Refuted { log, lead })
             }
-            None => self.rest.search(alloc, problem, width, formula),
+            None => self.rest.search(alloc, problem, width, formula, patience),
         }
     }
 }

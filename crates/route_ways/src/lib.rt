@@ -2,6 +2,7 @@
 //! front of another way, and with refutations that are cut down behind another way.
 #![tactic(auto)]
 
+mod added;
 mod counting;
 mod negotiating;
 mod plain;

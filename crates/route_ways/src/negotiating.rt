@@ -4,6 +4,7 @@ ghost use Rattle.fpga_types.specs.declared.limits.TheConstants.{WIDTH_LIMIT};
 ghost use Rattle.sat_clause.specs.Formula.{Satisfies};
 
 use fpga_bounds::PlacedProblem;
+use patience::Patience;
 use route_negotiate::{ReachedWire, negotiate_within};
 use route_sweep::{Ended, Searcher};
 use sat_clause::{Formula, holds};
@@ -115,6 +116,8 @@ fn negotiated(
 impl<R: Searcher> Searcher for Negotiating<R> {
     ghost copies = { λ way. R.copies way.rest };
 
+    ghost budget = { λ way. R.budget way.rest };
+
     ghost serves = { λ way p width formula. R.serves way.rest p width formula };
 
     ghost refutes = { λ way p width formula log lead. R.refutes way.rest p width formula log lead };
@@ -125,19 +128,20 @@ impl<R: Searcher> Searcher for Negotiating<R> {
         self.rest.copy_count()
     }
 
-    fn search(
+    fn search<P: Patience>(
         &self,
         alloc: Global,
         problem: &PlacedProblem,
         width: u32,
         formula: &Formula,
+        patience: &mut P,
     ) -> Result<Ended, AllocError> {
         let Ok(found) = negotiated(alloc, problem, width, self.reach, formula) else {
             return Err(AllocError);
         };
         match found {
             Some(values) => Ok(Ended::Model { values }),
-            None => self.rest.search(alloc, problem, width, formula),
+            None => self.rest.search(alloc, problem, width, formula, patience),
         }
     }
 }

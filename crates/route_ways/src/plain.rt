@@ -1,11 +1,14 @@
 //! A search within a budget: by one search, or by several that take turns.
-ghost use Rattle.std.specs.Prelude.{◌≡◌, ◌+◌, ◌≤◌, [], length, IfOk};
+ghost use Rattle.std.specs.Prelude.{◌≡◌, ◌+◌, ◌≤◌, [], length, IfOk, IsTrue};
 ghost use Rattle.route_ways.specs.Plain.{CanSearch, HasSearched, copies_of};
 ghost use Rattle.sat_clause.specs.declared.limits.TheConstants.{ID_LIMIT};
+ghost use Rattle.sat_core.specs.declared.answer.Answer.TheVariants.{Stopped};
 
+use crate::added::added;
 use crate::trimming::Learner;
 use crate::wires::Wires;
 use fpga_bounds::PlacedProblem;
+use patience::{Forever, Patience};
 use route_sweep::{Ended, Searcher};
 use sat_clause::{Formula, Log};
 use sat_core::Answer;
@@ -54,15 +57,24 @@ pub struct Plain {
     pub budget: u64,
     /// Whether all learned clauses are kept. The log deletes none then.
     pub keep: bool,
+    /// Whether its caller may stop it. Where not, it is not asked.
+    pub limited: bool,
 }
 
 impl Plain {
-    // What the search answers, and its log behind one without a step.
-    fn solve(&self, alloc: Global, formula: &Formula, log: &mut Log) -> Result<Answer, AllocError>
+    // What the search answers, whose caller is asked, and its log behind one without a step.
+    fn solve<P: Patience>(
+        &self,
+        alloc: Global,
+        formula: &Formula,
+        patience: &mut P,
+        log: &mut Log,
+    ) -> Result<Answer, AllocError>
         requires able { CanSearch self.now }
         requires ids { length formula.now.cnf.clauses + self.now.budget ≤ ID_LIMIT }
         requires fresh { log.old.steps ≡ [] }
-        ensures { IfOk result (HasSearched self.now formula.now.cnf log.new.steps) }
+        ensures searched { IfOk result (HasSearched self.now formula.now.cnf log.new.steps) }
+        ensures stopped { IfOk result (λ answer. answer ≡ Stopped → P.is_over patience.new) }
     {
         let habits = self.wires.habits();
         match self.solver {
@@ -75,6 +87,7 @@ impl Plain {
                     habits,
                     self.budget,
                     self.keep,
+                    patience,
                     log,
                 ) else {
                     return Err(AllocError);
@@ -83,7 +96,15 @@ impl Plain {
             }
             Solver::Turns { members, seed } => {
                 let schedule = Schedule::Drawn { members, seed };
-                let Ok(end) = run_turns(alloc, formula, habits, &schedule, self.budget, log) else {
+                let Ok(end) = run_turns(
+                    alloc,
+                    formula,
+                    habits,
+                    &schedule,
+                    self.budget,
+                    patience,
+                    log,
+                ) else {
                     return Err(AllocError);
                 };
                 let TurnsEnd { answer, .. } = end;
@@ -91,12 +112,38 @@ impl Plain {
             }
         }
     }
+
+    // The same, where the caller is asked only if it may stop the search.
+    fn solve_limited<P: Patience>(
+        &self,
+        alloc: Global,
+        formula: &Formula,
+        patience: &mut P,
+        log: &mut Log,
+    ) -> Result<Answer, AllocError>
+        requires able { CanSearch self.now }
+        requires ids { length formula.now.cnf.clauses + self.now.budget ≤ ID_LIMIT }
+        requires fresh { log.old.steps ≡ [] }
+        ensures searched { IfOk result (HasSearched self.now formula.now.cnf log.new.steps) }
+        ensures limited { IfOk result (λ answer. answer ≡ Stopped → IsTrue self.now.limited) }
+        ensures stopped { IfOk result (λ answer. answer ≡ Stopped → P.is_over patience.new) }
+    {
+        if self.limited {
+            return self.solve(alloc, formula, patience, log);
+        }
+        let Ok(answer) = self.solve(alloc, formula, &mut Forever, log) else {
+            return Err(AllocError);
+        };
+        Ok(answer)
+    }
 }
 
 impl Searcher for Plain {
     ghost use Rattle.route_ways.specs.Plain.{CanSearch, IsLeftOpen, IsRefuted, copies_of};
 
     ghost copies = { λ way. copies_of way.solver };
+
+    ghost budget = { λ way. way.budget };
 
     ghost serves = { λ way p width formula. CanSearch way };
 
@@ -108,15 +155,16 @@ impl Searcher for Plain {
         self.solver.copies()
     }
 
-    fn search(
+    fn search<P: Patience>(
         &self,
         alloc: Global,
         problem: &PlacedProblem,
         width: u32,
         formula: &Formula,
+        patience: &mut P,
     ) -> Result<Ended, AllocError> {
         let mut log = Log::new(alloc);
-        match self.solve(alloc, formula, &mut log) {
+        match self.solve_limited(alloc, formula, patience, &mut log) {
             Ok(Answer::Model(values)) => Ok(Ended::Model { values }),
             Ok(Answer::Refuted) => {
                 let lead = Vec::new(alloc);
@@ -124,6 +172,10 @@ impl Searcher for Plain {
             }
             Ok(Answer::Spent) => {
                 let learned = self.budget;
+                Ok(Ended::Open { log, learned })
+            }
+            Ok(Answer::Stopped) => {
+                let learned = added(&log);
                 Ok(Ended::Open { log, learned })
             }
             Err(_) => Err(AllocError),

@@ -5,8 +5,8 @@ ghost use Rattle.fpga_types.specs.declared.limits.TheConstants.{WIDTH_LIMIT};
 ghost use Rattle.fpga_types.specs.Problem.{RoutingProblem};
 ghost use Rattle.route_core.specs.Blamed.{blamed};
 ghost use Rattle.route_core.specs.Core.{AreUnroutable};
+ghost use Rattle.route_core.specs.Fair.{IsFair};
 ghost use Rattle.route_core.specs.Trimmed.{IsTrimmed};
-ghost use Rattle.route_encode.specs.Encoding.{cnf_of};
 ghost use Rattle.route_ways.specs.Trimming.{IsLearned, net_line, net_lines, net_name};
 ghost use Rattle.sat_clause.specs.Formula.{Cnf};
 ghost use Rattle.sat_clause.specs.Step.{Step};
@@ -15,6 +15,7 @@ ghost use Rattle.sat_text.specs.Printed.{log_text};
 
 use fpga_bounds::PlacedProblem;
 use fpga_types::RouteText;
+use patience::Patience;
 use route_core::{blame_in, trim, trimmed_is_its_own};
 use route_sweep::{Ended, Searcher};
 use sat_clause::{Formula, Log};
@@ -76,15 +77,16 @@ fn cut_down(
     log: Log,
 ) -> Result<Core, AllocError>
     requires width { (1 ≤ width) × (width ≤ WIDTH_LIMIT) }
-    requires formula { formula.now.cnf ≡ cnf_of width problem.now }
+    requires fair { IsFair width problem.now formula.now.cnf }
     requires learned { IsLearned formula.now.cnf log.steps }
     ensures trimmed { IfOk result (λ core. IsTrimmed formula.now.cnf core.log.steps core.log.steps) }
     ensures reads_back { IfOk result (λ core. ReadsLrat (length formula.now.cnf.clauses)
         (log_text core.log.steps) core.log.steps) }
     ensures lines { IfOk result (λ core. core.lines.items
-        ≡ net_lines problem.now.route (blamed width problem.now core.log.steps)) }
+        ≡ net_lines problem.now.route
+        (blamed width problem.now formula.now.cnf core.log.steps)) }
     ensures just { IfOk result (λ core. AreUnroutable width problem.now
-        (blamed width problem.now core.log.steps)) }
+        (blamed width problem.now formula.now.cnf core.log.steps)) }
 {
     trimmed_is_its_own();
     let small = trim(alloc, formula, &log)?;
@@ -106,7 +108,9 @@ impl<R: Learner> Searcher for Trimming<R> {
 
     ghost copies = { λ way. R.copies way.rest };
 
-    ghost serves = { λ way p width formula. (formula ≡ cnf_of width p)
+    ghost budget = { λ way. R.budget way.rest };
+
+    ghost serves = { λ way p width formula. IsFair width p formula
         × R.serves way.rest p width formula };
 
     ghost refutes = { λ way p width formula log lead. IsCutDown p width formula log lead };
@@ -117,15 +121,16 @@ impl<R: Learner> Searcher for Trimming<R> {
         self.rest.copy_count()
     }
 
-    fn search(
+    fn search<P: Patience>(
         &self,
         alloc: Global,
         problem: &PlacedProblem,
         width: u32,
         formula: &Formula,
+        patience: &mut P,
     ) -> Result<Ended, AllocError> {
         self.rest.is_learned();
-        match self.rest.search(alloc, problem, width, formula) {
+        match self.rest.search(alloc, problem, width, formula, patience) {
             Ok(Ended::Model { values }) => Ok(Ended::Model { values }),
             Ok(Ended::Refuted { log, .. }) => {
                 let Ok(core) = cut_down(alloc, problem, width, formula, log) else {

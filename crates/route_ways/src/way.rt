@@ -4,6 +4,7 @@ use crate::negotiating::Negotiating;
 use crate::plain::Plain;
 use crate::trimming::Trimming;
 use fpga_bounds::PlacedProblem;
+use patience::Patience;
 use route_sweep::{Ended, Searcher};
 use sat_clause::Formula;
 use std::alloc::{AllocError, Global};
@@ -22,9 +23,11 @@ pub enum Way<'a> {
 }
 
 impl<'a> Searcher for Way<'a> {
-    ghost use Rattle.route_ways.specs.Way.{copies_by, course_of, opens_by, refutes_by, serves_by};
+    ghost use Rattle.route_ways.specs.Way.{budget_of, copies_by, course_of, opens_by, refutes_by, serves_by};
 
     ghost copies = { λ way. copies_by (course_of way) };
+
+    ghost budget = { λ way. budget_of (course_of way) };
 
     ghost serves = { serves_by };
 
@@ -41,18 +44,21 @@ impl<'a> Searcher for Way<'a> {
         }
     }
 
-    fn search(
+    fn search<P: Patience>(
         &self,
         alloc: Global,
         problem: &PlacedProblem,
         width: u32,
         formula: &Formula,
+        patience: &mut P,
     ) -> Result<Ended, AllocError> {
         match *self {
-            Way::Alone { plain } => plain.search(alloc, problem, width, formula),
-            Way::Counted { counting } => counting.search(alloc, problem, width, formula),
-            Way::Negotiated { negotiating } => negotiating.search(alloc, problem, width, formula),
-            Way::Cut { trimming } => trimming.search(alloc, problem, width, formula),
+            Way::Alone { plain } => plain.search(alloc, problem, width, formula, patience),
+            Way::Counted { counting } => counting.search(alloc, problem, width, formula, patience),
+            Way::Negotiated { negotiating } => negotiating.search(
+                alloc, problem, width, formula, patience,
+            ),
+            Way::Cut { trimming } => trimming.search(alloc, problem, width, formula, patience),
         }
     }
 }

@@ -3,8 +3,10 @@
 #![tactic(auto)]
 
 mod progress;
+mod stopwatch;
 
 use crate::progress::ProgressShelf;
+use crate::stopwatch::Stopwatch;
 use desk_io::{FileDesk, FileShelf};
 use router_says::{SystemErrors, append_words};
 use router_top::{Ran, run, status};
@@ -50,12 +52,13 @@ fn say<R: Files + AllocGlobal + Eprint>(
 }
 
 fn main(rt: HostRuntime) -> ExitCode {
+    let mut clock = Stopwatch::new(&rt);
     let Ok(words) = given_words(&rt) else {
         return ExitCode::from(NO_WORDS);
     };
     let mut desk = FileDesk::new(&rt);
     let mut shelf = ProgressShelf::new(&rt, FileShelf::new(&rt), tells_progress(&rt));
-    let ran = run(rt.alloc(), &words, &mut desk, &mut shelf);
+    let ran = run(rt.alloc(), &words, &mut desk, &mut shelf, &mut clock);
     let errors = SystemErrors {
         reading: desk.last_error(),
         writing: shelf.shelf().file_error(),

@@ -5,9 +5,11 @@ use Rattle.desk_io.specs.DeskState.{DeskState}
 use Rattle.fpga_types.specs.Problem.{RoutingProblem}
 use Rattle.router_says.specs.AtFault.{Appends}
 use Rattle.router_says.specs.Names.{asked_in}
+use Rattle.router_says.specs.Raised.{raised_said}
 use Rattle.router_says.specs.Said.{IsSaid, Says, SaysAnd}
 use Rattle.router_says.specs.declared.faults.SystemErrors.{SystemErrors}
 use Rattle.router_top.specs.declared.outcome.Outcome.{Outcome}
+use Rattle.router_top.specs.declared.ran.Reason.{Reason}
 use Rattle.router_words.specs.Job.{JobAsked}
 use Rattle.router_words.specs.Word.{Word}
 
@@ -20,16 +22,19 @@ appends-behind IsMore text old between new is more = (
   more.2 ∙ ap (λ (t : List ℕ). t ++ more.0) is ∙ append_assoc old text more.0,
 )
 
--- a newline behind what is said; the job that was read is what the words ask for
+-- the reason and a newline behind what is said; the job that was read is what the words ask for
 pub said-whole : (before now : DeskState) (words : List Word) (errors : SystemErrors)
-    (problem : Option RoutingProblem) (outcome : Outcome) (asked : Option JobAsked)
-    (old between new : List ℕ)
+    (problem : Option RoutingProblem) (reason : Option Reason) (outcome : Outcome)
+    (asked : Option JobAsked) (old between behind new : List ℕ)
     → asked ≡ asked_in words
     → Appends (Says before now words asked errors problem outcome) old between
-    → new ≡ between ++ codes "\n" → IsSaid before now words errors problem outcome old new
-said-whole before now words errors problem outcome asked old between new is says end = (
-  says.0,
-  subst (λ (job : Option JobAsked). Says before now words job errors problem outcome says.0) is
-      says.1,
-  end ∙ ap (λ (t : List ℕ). t ++ codes "\n") says.2,
-)
+    → behind ≡ between ++ raised_said reason outcome → new ≡ behind ++ codes "\n"
+    → IsSaid before now words errors problem reason outcome old new
+said-whole before now words errors problem reason outcome asked old between behind new is says
+    more end = (
+      says.0,
+      subst (λ (job : Option JobAsked). Says before now words job errors problem outcome says.0) is
+          says.1,
+      end ∙ ap (λ (t : List ℕ). t ++ codes "\n")
+          (more ∙ ap (λ (t : List ℕ). t ++ raised_said reason outcome) says.2),
+    )

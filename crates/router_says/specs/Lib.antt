@@ -1,4 +1,5 @@
 pub mod Quiet
+pub mod Raised
 pub mod Names
 pub mod AtFault
 pub mod Seen

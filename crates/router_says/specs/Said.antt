@@ -1,5 +1,5 @@
 -- What is said of an outcome that was not asked for, or of which there is more to say.
-use Rattle.std.specs.Prelude.{◌≡◌, ℕ, ◌++◌, ◌*◌, List, [], codes, decimal, false, min, nat_le, nat_lt, Option, Some, None, true, if◌then◌else◌}
+use Rattle.std.specs.Prelude.{◌≡◌, ℕ, ◌++◌, ◌*◌, Bool, List, [], codes, decimal, false, min, nat_le, nat_lt, Option, Some, None, true, if◌then◌else◌}
 use Rattle.std.specs.declared.io.ErrorKind.{ErrorKind}
 use Rattle.code_words.specs.Errors.{error_phrase}
 use Rattle.code_words.specs.Refused.{judged_said, limit_said, line_said, step_said}
@@ -12,16 +12,19 @@ use Rattle.problem_facts.specs.declared.full.Asymmetry.TheVariants.{Inputs, Outp
 use Rattle.route_sweep.specs.Names.{numbered_prefix}
 use Rattle.router_says.specs.AtFault.{Shows, sought_of}
 use Rattle.router_says.specs.Names.{asked_in, file_said, may_have_several, name_of, prefix_of, reach_of}
+use Rattle.router_says.specs.Raised.{raised_said}
 use Rattle.router_says.specs.Seen.{Sees}
 use Rattle.router_says.specs.declared.at_fault.Sought.TheVariants.{Routed as RoutedLine}
 use Rattle.router_says.specs.Unfound.{no_way_said, unfound_said}
 use Rattle.usage_words.specs.Usage.{usage_said}
 use Rattle.router_says.specs.declared.faults.SystemErrors.{SystemErrors}
 use Rattle.router_top.specs.SlotNames.{OfEach, OfOne, Prefix, slot_name}
+use Rattle.router_top.specs.Stopped.{budget_asked}
 use Rattle.router_top.specs.declared.outcome.Obstacle.{Obstacle}
 use Rattle.router_top.specs.declared.outcome.Obstacle.TheVariants.{Order, Pins}
 use Rattle.router_top.specs.declared.outcome.Outcome.{Outcome}
 use Rattle.router_top.specs.declared.outcome.Outcome.TheVariants.{Bound, NotAccepted, NotLegal, NotModel, NotSymmetric, InputFault, Limit, ReadFault, Undecided, Unroutable, WriteFault, Usage, OutOfMemory, Unfound, NoWay, Narrowed, Beyond}
+use Rattle.router_top.specs.declared.ran.Reason.{Reason}
 use Rattle.router_top.specs.declared.slot.Slot.{Slot as SlotOf}
 use Rattle.router_top.specs.declared.slot.Slot.TheVariants.{Said as SaidSlot}
 use Rattle.router_top.specs.declared.text_file.TextFile.{TextFile}
@@ -142,6 +145,16 @@ budget_said learned =
     if nat_le BUDGET_LIMIT learned then codes "\nNo greater budget is taken: "
     else more_said (min (learned * 10) BUDGET_LIMIT)
 
+-- the search of the job was stopped before its budget was spent
+abbrev pub was_stopped : Option JobAsked → (learned : ℕ) → Bool
+was_stopped None learned = false
+was_stopped (Some job) learned = nat_lt learned (budget_asked job)
+
+-- more time can be tried, where it was stopped, or else another budget
+abbrev pub effort_said : (stopped : Bool) → (learned : ℕ) → List ℕ
+effort_said stopped learned =
+    if stopped then codes "\nTry more --seconds, or " else budget_said learned
+
 -- a greater width can be tried, where the words take one
 abbrev pub greater_said : (width : ℕ) → List ℕ
 greater_said width =
@@ -156,24 +169,31 @@ abbrev pub hand_each_said : (name : List ℕ) → (width : ℕ) → List ℕ
 hand_each_said name width =
     codes "hand " ++ (name ++ (codes ".cnf to another solver" ++ greater_said width))
 
-abbrev pub next_said : Option Prefix → (width learned : ℕ) → List ℕ
-next_said (Some (OfOne prefix)) width learned = budget_said learned ++ hand_one_said prefix
-next_said (Some (OfEach prefix)) width learned =
-    budget_said learned ++ hand_each_said (numbered_prefix prefix width) width
-next_said None width learned = []
+abbrev pub next_said : Option Prefix → (stopped : Bool) → (width learned : ℕ) → List ℕ
+next_said (Some (OfOne prefix)) stopped width learned =
+    effort_said stopped learned ++ hand_one_said prefix
+next_said (Some (OfEach prefix)) stopped width learned =
+    effort_said stopped learned ++ hand_each_said (numbered_prefix prefix width) width
+next_said None stopped width learned = []
 
-abbrev pub open_said : (learned : ℕ) → List ℕ
-open_said learned =
-    codes " is open: the search learned " ++ (decimal learned ++ codes " clauses, its budget.")
+-- what has ended the search
+abbrev pub end_said : (stopped : Bool) → List ℕ
+end_said stopped =
+    if stopped then codes " clauses before its time was over." else codes " clauses, its budget."
 
-abbrev pub undecided_by : Option Prefix → (reach : Option ℕ) → (width learned : ℕ) → List ℕ
-undecided_by prefix reach width learned =
+abbrev pub open_said : (stopped : Bool) → (learned : ℕ) → List ℕ
+open_said stopped learned =
+    codes " is open: the search learned " ++ (decimal learned ++ end_said stopped)
+
+abbrev pub undecided_by : Option Prefix → (reach : Option ℕ) → (stopped : Bool)
+    → (width learned : ℕ) → List ℕ
+undecided_by prefix reach stopped width learned =
     (codes "Whether a routing with " ++ (decimal width ++ codes " tracks is legal"))
-    ++ (reach_said reach ++ (open_said learned ++ next_said prefix width learned))
+    ++ (reach_said reach ++ (open_said stopped learned ++ next_said prefix stopped width learned))
 
 abbrev pub undecided_said : Option JobAsked → (width learned : ℕ) → List ℕ
 undecided_said asked width learned =
-    undecided_by (prefix_of asked) (reach_of asked) width learned
+    undecided_by (prefix_of asked) (reach_of asked) (was_stopped asked learned) width learned
 
 -- ---- a cut that was found
 
@@ -330,9 +350,10 @@ Says before now words asked errors problem OutOfMemory said =
     JustSays before now (memory_said (prefix_of asked)) said
 Says before now words asked errors problem _ said = JustSays before now [] said
 
--- after what stood in a text comes what is to be said of a run with these words, and a newline
+-- after what stood in a text comes what is to be said of a run with these words, then which nets
+-- need so many tracks, where that is the reason, and a newline
 abbrev pub IsSaid : (before now : DeskState) → List Word → SystemErrors → Option RoutingProblem
-    → Outcome → (old new : List ℕ) → Type 0
-IsSaid before now words errors problem outcome old new = (said : List ℕ)
+    → Option Reason → Outcome → (old new : List ℕ) → Type 0
+IsSaid before now words errors problem reason outcome old new = (said : List ℕ)
     × Says before now words (asked_in words) errors problem outcome said
-    × (new ≡ old ++ said ++ codes "\n")
+    × (new ≡ old ++ said ++ raised_said reason outcome ++ codes "\n")

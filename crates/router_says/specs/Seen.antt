@@ -23,7 +23,7 @@ use Rattle.fault_names.specs.NameBytes.{name_said}
 use Rattle.router_says.specs.Names.{reach_of}
 use Rattle.router_says.specs.declared.seen.Hints.{Hints}
 use Rattle.route_ways.specs.Trimming.{net_name}
-use Rattle.router_words.specs.Job.{JobAsked, Routes, Sweeps}
+use Rattle.router_words.specs.Job.{Blames, JobAsked, Routes, Sweeps}
 use Rattle.router_words.specs.declared.method.Method.{Method}
 use Rattle.router_words.specs.declared.method.Method.TheVariants.{Strictly}
 
@@ -125,6 +125,7 @@ is_strict _ = false
 abbrev pub may_order : Option JobAsked → Bool
 may_order (Some (Routes ask)) = is_strict ask.search.method
 may_order (Some (Sweeps ask)) = is_strict ask.search.method
+may_order (Some (Blames ask)) = is_strict ask.method
 may_order _ = false
 
 -- counting, and where the width is open tracks in order

@@ -7,6 +7,7 @@ mod faults;
 mod missing;
 mod names;
 mod pin_use;
+mod raised;
 mod refused;
 mod seen;
 mod symmetry;

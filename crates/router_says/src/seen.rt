@@ -158,9 +158,9 @@ fn may_order(job: Option<Job<'_>>) -> bool
     match job {
         Job::Route(job) => is_strict(job.search.method),
         Job::Sweep(job) => is_strict(job.search.method),
+        Job::Core(job) => is_strict(job.method),
         Job::Encode(_)
         | Job::Decode(_)
-        | Job::Core(_)
         | Job::Check(_)
         | Job::Verify(_)
         | Job::Judge(_)
@@ -461,8 +461,8 @@ fn append_nets(out: &mut String, problem: &PlacedProblem, row: &[u32]) -> Result
     Ok(())
 }
 
-// Appends how many more there are than were named.
-fn append_more(out: &mut String, count: usize) -> Result<(), AllocError>
+/// Appends how many more there are than were named.
+pub(crate) fn append_more(out: &mut String, count: usize) -> Result<(), AllocError>
     ensures { OnOk result (string_bytes out.new
         ≡ string_bytes out.old ++ (codes " and " ++ (decimal count ++ codes " more"))) }
 {

@@ -19,10 +19,13 @@ ghost use Rattle.router_says.specs.Said.{
   budget_said,
   check_each_said,
   claim_said,
+  effort_said,
   elsewhere_by,
   elsewhere_said,
+  end_said,
   greater_said,
   hand_each_said,
+  hand_one_said,
   memory_said,
   more_said,
   next_said,
@@ -35,7 +38,10 @@ ghost use Rattle.router_says.specs.Said.{
   unroutable_by,
   unroutable_said,
   up_to_said,
+  was_stopped,
 };
+ghost use Rattle.router_top.specs.Stopped.{budget_asked};
+ghost use Rattle.router_words.specs.Job.{job_said};
 ghost use Rattle.router_words.specs.declared.limits.TheConstants.{BUDGET_LIMIT};
 
 use crate::names::{Written, files_written, reach_asked};
@@ -202,68 +208,132 @@ pub(crate) fn append_undecided(
     ensures { OnOk result (string_bytes out.new
         ≡ string_bytes out.old ++ undecided_said (asked job.entry) width learned) }
 {
-    append_doubt(out, files_written(job), reach_asked(job), width, learned)
+    let stopped = was_stopped(job, learned);
+    append_doubt(
+        out,
+        files_written(job),
+        reach_asked(job),
+        stopped,
+        width,
+        learned,
+    )
+}
+
+// Whether the search of a job was stopped before its budget was spent.
+fn was_stopped(job: Option<Job<'_>>, learned: u64) -> bool
+    ensures { result ≡ was_stopped (asked job.entry) learned }
+{
+    let Some(job) = job else {
+        return false;
+    };
+    learned < budget_asked(job)
+}
+
+// How many clauses a search of a job may learn, if it searches so.
+fn budget_asked(job: Job<'_>) -> u64
+    ensures { result ≡ budget_asked (job_said job.entry) }
+{
+    match job {
+        Job::Route(job) => job.search.conflicts,
+        Job::Sweep(job) => job.search.conflicts,
+        Job::Core(job) => job.conflicts,
+        Job::Trial(job) => job.search.conflicts,
+        Job::Encode(_)
+        | Job::Decode(_)
+        | Job::Check(_)
+        | Job::Verify(_)
+        | Job::Judge(_)
+        | Job::Bound(_)
+        | Job::Global(_)
+        | Job::Least(_)
+        | Job::Gen(_) => 0,
+    }
 }
 
 fn append_doubt(
     out: &mut String,
     written: Option<Written<'_>>,
     reach: Option<u32>,
+    stopped: bool,
     width: u32,
     learned: u64,
 ) -> Result<(), AllocError>
     ensures { OnOk result (string_bytes out.new ≡ string_bytes out.old
-        ++ undecided_by (option_map prefix_said written.entry) reach width learned) }
+        ++ undecided_by (option_map prefix_said written.entry) reach stopped width learned) }
 {
     write!(out, "Whether a routing with {width} tracks is legal")?;
     append_reach(out, reach)?;
-    append_open(out, learned)?;
-    append_next(out, written, width, learned)?;
+    append_open(out, stopped, learned)?;
+    append_next(out, written, stopped, width, learned)?;
     Ok(())
 }
 
-fn append_open(out: &mut String, learned: u64) -> Result<(), AllocError>
-    ensures { OnOk result (string_bytes out.new ≡ string_bytes out.old ++ open_said learned) }
+fn append_open(out: &mut String, stopped: bool, learned: u64) -> Result<(), AllocError>
+    ensures { OnOk result (string_bytes out.new ≡ string_bytes out.old ++ open_said stopped learned) }
 {
-    write!(
-        out,
-        " is open: the search learned {learned} clauses, its budget."
-    )
+    write!(out, " is open: the search learned {learned}")?;
+    out.push_str(end_said(stopped))?;
+    Ok(())
+}
+
+// What has ended the search.
+fn end_said(stopped: bool) -> &'static str
+    ensures { result.now ≡ end_said stopped }
+{
+    if stopped {
+        " clauses before its time was over."
+    } else {
+        " clauses, its budget."
+    }
 }
 
 // What can be tried next.
 fn append_next(
     out: &mut String,
     written: Option<Written<'_>>,
+    stopped: bool,
     width: u32,
     learned: u64,
 ) -> Result<(), AllocError>
     ensures { OnOk result (string_bytes out.new ≡ string_bytes out.old
-        ++ next_said (option_map prefix_said written.entry) width learned) }
+        ++ next_said (option_map prefix_said written.entry) stopped width learned) }
 {
     match written {
-        Some(Written::One(prefix)) => {
-            append_budget(out, learned)?;
-            write!(
-                out,
-                "hand {prefix}.cnf to another solver, or try another width."
-            )
-        }
-        Some(Written::Each(prefix)) => append_next_of_each(out, prefix, width, learned),
+        Some(Written::One(prefix)) => append_next_of_one(out, prefix, stopped, learned),
+        Some(Written::Each(prefix)) => { append_next_of_each(out, prefix, stopped, width, learned) }
         None => Ok(()),
     }
+}
+
+// The same, where the clauses that are left open are of one width.
+fn append_next_of_one(
+    out: &mut String,
+    prefix: &str,
+    stopped: bool,
+    learned: u64,
+) -> Result<(), AllocError>
+    ensures { OnOk result (string_bytes out.new ≡ string_bytes out.old
+        ++ (effort_said stopped learned ++ hand_one_said prefix.now)) }
+{
+    append_effort(out, stopped, learned)?;
+    write!(
+        out,
+        "hand {prefix}.cnf to another solver, or try another width."
+    )
 }
 
 fn append_next_of_each(
     out: &mut String,
     prefix: &str,
+    stopped: bool,
     width: u32,
     learned: u64,
 ) -> Result<(), AllocError>
     ensures { OnOk result (string_bytes out.new ≡ string_bytes out.old
-        ++ (budget_said learned ++ hand_each_said (numbered_prefix prefix.now width) width)) }
+        ++ (effort_said stopped learned
+        ++ hand_each_said (numbered_prefix prefix.now width) width)) }
 {
-    append_budget(out, learned)?;
+    append_effort(out, stopped, learned)?;
     append_hand_each(out, prefix, width)?;
     Ok(())
 }
@@ -288,6 +358,17 @@ fn greater_said(width: u32) -> &'static str
     } else {
         "."
     }
+}
+
+// How much more can be tried next: time where the search was stopped, or else a budget.
+fn append_effort(out: &mut String, stopped: bool, learned: u64) -> Result<(), AllocError>
+    ensures { OnOk result (string_bytes out.new
+        ≡ string_bytes out.old ++ effort_said stopped learned) }
+{
+    if stopped {
+        return out.push_str("\nTry more --seconds, or ");
+    }
+    append_budget(out, learned)
 }
 
 // What budget can be tried next, if the words take a greater one.

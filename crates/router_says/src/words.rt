@@ -24,6 +24,7 @@ use crate::at_fault::{append_at_fault, append_judged_line};
 use crate::bounds::{append_bound, append_narrowed};
 use crate::faults::{SystemErrors, append_unread, append_unwritten};
 use crate::names::{job_in, may_have_several};
+use crate::raised::append_raised;
 use crate::refused::{append_file, append_limit_place, append_unmet};
 use crate::seen::append_seen;
 use crate::symmetry::append_obstacle;
@@ -43,8 +44,9 @@ use usage_words::append_usage;
 /// what can be tried next. It appends nothing where the run came to what was asked for and no more
 /// is to be known of that, and in each other case something.
 ///
-/// Where a file has a fault or is not legal, it reads the files of the desk once more; else none. Of
-/// a width that has no routing or is open it looks at the problem that the run gives back.
+/// Where a file has a fault or is not legal, it reads the files of the desk once more; else none.
+/// Of a width that has no routing or is open it looks at the problem that the run gives back; of
+/// tracks that a refutation asks for, it names nets that need them by the reason that it gives.
 ///
 /// # Errors
 /// Memory ran out; then a front part may have been appended.
@@ -59,14 +61,15 @@ pub fn append_words<D: Desk>(
     ensures quiet { IsTrue (is_quiet ran.now.outcome) →
         IsOk result × (string_bytes out.new ≡ string_bytes out.old) }
     ensures said { OnOk result (is_quiet ran.now.outcome ≡ false → IsSaid (D.state desk.old)
-        (D.state desk.new) (words_of words.now) errors ran.now.problem ran.now.outcome
-        (string_bytes out.old) (string_bytes out.new)) }
+        (D.state desk.new) (words_of words.now) errors ran.now.problem ran.now.reason
+        ran.now.outcome (string_bytes out.old) (string_bytes out.new)) }
 {
     if is_quiet(&ran.outcome) {
         return Ok(());
     }
     let job = job_in(alloc, words)?;
     append_meaning(alloc, desk, out, words, job, ran, errors)?;
+    append_raised(out, &ran.reason, &ran.outcome)?;
     out.push_str("\n")?;
     Ok(())
 }

@@ -22,6 +22,7 @@ fn said(rt: &HostRuntime, line: &str, outcome: Outcome) -> Result<String, Fail> 
     let ran = Ran {
         outcome,
         problem: None,
+        reason: None,
     };
     append_words(
         rt.alloc(),
@@ -80,10 +81,10 @@ fn all_that_is_said(rt: HostRuntime) -> Result<(), Fail> {
             GLOBAL,
             Outcome::Unfound {
                 width: 9,
-                rounds: 200,
+                rounds: 500,
             },
-            "Whether there is a route with 9 tracks is open: the search found none in 200 rounds.\n\
-            Try --rounds 2000, --free, a greater width or another placement.\n",
+            "Whether there is a route with 9 tracks is open: the search found none in 500 rounds.\n\
+            Try --rounds 5000, --free, a greater width or another placement.\n",
         ),
         (
             GLOBAL,
@@ -119,8 +120,8 @@ fn all_that_is_said(rt: HostRuntime) -> Result<(), Fail> {
     Ok(())
 }
 
-// No greater budget is told than is taken; and what a sweep has shown is told where memory runs
-// out.
+// No greater budget is told than is taken; more time is told where fewer clauses were learned than
+// the budget has; and what a sweep has shown is told where memory runs out.
 #[test]
 fn parts_of_what_is_said(rt: HostRuntime) -> Result<(), Fail> {
     let left_open = |learned| Outcome::Undecided { width: 9, learned };
@@ -134,6 +135,11 @@ fn parts_of_what_is_said(rt: HostRuntime) -> Result<(), Fail> {
             ROUTE,
             left_open(100_000_000),
             "No greater budget is taken: hand out.cnf to",
+        ),
+        (
+            ROUTE,
+            left_open(999_999),
+            "999999 clauses before its time was over.\nTry more --seconds, or hand out.cnf to",
         ),
         (
             SWEEP,

@@ -56,12 +56,12 @@ use Rattle.router_top.specs.Generated.{PosesNone, generated_files, texts_of}
 use Rattle.router_top.specs.Global.{HasFiles, IsNoWay, IsTrueOfSought, IsWaylessLine, IsWithoutWay, LeavesFound, LeavesSought, SaysNet, found_file}
 use Rattle.router_top.specs.Least.{AreLeastLines, IsCutOfLeast, IsNarrowing, IsOfCut, IsTrueOfLeast, LeavesCut, LeavesWidths, beyond_outcome, last_asked}
 use Rattle.router_top.specs.JobFiles.{IsClimb, LeavesWhole, TakesTurns}
-use Rattle.router_top.specs.Means.{IsJudged, IsJudgedPlaced, IsJudgedSo, Means}
+use Rattle.router_top.specs.Means.{IsJudgedSo, Means}
 use Rattle.router_top.specs.Method.{IsRoutingBy, clauses_by, IsCrowdFor}
 use Rattle.router_top.specs.Placed.{IsJudgement, IsTrueJudgement, JudgesPlaced, ReadsRouted}
 use Rattle.router_top.specs.Raised.{LeastNames, least_names, narrowed_files}
 use Rattle.router_top.specs.Report.{climbed_outcome, found_outcome, unread_outcome, written_outcome}
-use Rattle.router_top.specs.Suited.{LeavesPrepared, EncodeLeaves, IsUnsuited, LeavesSuited, RouteLeaves, Suits, SweepLeaves}
+use Rattle.router_top.specs.Suited.{CoreLeaves, LeavesPrepared, EncodeLeaves, IsUnsuited, LeavesSuited, RouteLeaves, Suits, SweepLeaves}
 use Rattle.router_top.specs.Run.{Leaves, LeavesJob, LeavesPlaced, LeavesWork, Scene, TriesGenerated, WritesGenerated, LeavesGlobal, LeavesLeast}
 use Rattle.router_top.specs.Saying.{more_said, AreCauseLines, AreCutLines, AreNetLines, IsOfBound, IsUnroutable, Leads}
 use Rattle.router_top.specs.Search.{files_of, route_search, search_asked, sweep_of, sweep_search, Search, core_search, lower_widths, proof_files, route_file, HasCrowd, clauses_at}
@@ -70,7 +70,6 @@ use Rattle.router_top.specs.Truth.{IsTrueOf, IsTrueOfCount, IsTrueOfDecoding, Is
 use Rattle.router_top.specs.Written.{FailsAmong, JobFile, WritesFiles, with_files, AreWritten}
 use Rattle.router_top.specs.Core.{LeavesCore, SaysBlamed, SaysLead}
 use Rattle.router_top.specs.Headline.{IsRefuted}
-use Rattle.router_top.specs.declared.raising.Raised.{Raised}
 use Rattle.router_top.specs.Subject.{Bytes, FileMap, ShelfState, after_say, FileNames, Poses, IsHalted, IsStopped, Says, RoutingProblem, RouteText, HasFew, Cnf, Step, job_of, BoundAsked, Bounds, CheckAsked, Checks, DecodeAsked, Decodes as DecodesJob, EncodeAsked, Encodes as EncodesJob, GenAsked, Generates, JobAsked, JudgeAsked, Judges, Negotiates, RouteAsked, Routes, SweepAsked, Sweeps as SweepsJob, TrialAsked, Tries as TriesJob, Verifies, VerifyAsked, Blames, CoreAsked, Word, Method, Outcome, Bound, Done, NotLegal, ReadFault, InputFault, Usage, WriteFault, OutOfMemory, Unroutable, Limit, File, GlobalAsked, LeastAsked, Narrows, Narrowed, Beyond, Unfound, NoWay, Slot, Routed as IsRoutedAt}
 use Rattle.router_top.specs.declared.text_file.TextFile.TheVariants.{Cnf as CnfFile, Lrat, Model as ModelFile, Routed}
 use Rattle.router_top.proofs.Came.{Came, Cut, HasCome, Idle, IsSpared, NeedsNoFile, Searched, Told, Wrote, ended_with}
@@ -102,10 +101,6 @@ spared-routable o spared = λ bad. bad
 spared-boundless : (o : Outcome) → IsSpared o → ¬ IsOfBound o
 spared-boundless (Bound tracks cells nets) spared = absurd spared
 spared-boundless o spared = λ bad. bad
-
--- `core` goes by no crowd
-core-crowd : (job : CoreAsked) (p : RoutingProblem) → HasCrowd (core_search job) p
-core-crowd job p = λ (goes : false ≡ true). cc
 
 -- nor of what a placement needs
 spared-spanless : (o : Outcome) → IsSpared o → ¬ IsNarrowing o
@@ -383,19 +378,20 @@ module _ (words : List Word) (at : Scene) where
   -- ---- a search that names the nets to blame
 
   module _ (job : CoreAsked) (asked : job_of words ≡ Ok (Blames job)) (p : RoutingProblem)
-      (poses : Poses at.desk.files job.files p)
-      (told : (o : Outcome) → IsTrueOfSearch (core_search job) p o
+      (poses : Poses at.desk.files job.files p) (crowd : List ℕ)
+      (known : IsCrowdFor job.method false crowd p)
+      (told : (o : Outcome) → IsTrueOfSearch (core_search job crowd) p o
       → IsTrueOf words at.desk.files o)
       (given : IsGiven p) (narrow : job.width ≤ WIDTH_LIMIT) (wrote : ShelfState) where
     abbrev come-core : (came : Result Found Stop)
-        → Finds (core_search job) p job.width at.shelf wrote came → (o : Outcome)
+        → Finds (core_search job crowd) p job.width at.shelf wrote came → (o : Outcome)
         → o ≡ found_outcome job.width came → HasCome words (ended_with wrote at) o
-    come-core = come-alone (Blames job) asked (core_search job) refl refl p poses
-        (core-crowd job p) told given narrow wrote
+    come-core = come-alone (Blames job) asked (core_search job crowd) refl refl p poses known told
+        given narrow wrote
 
     -- a width that was not refuted
     quiet-core : (came : Result Found Stop)
-        → Finds (core_search job) p job.width at.shelf wrote came → (o : Outcome)
+        → Finds (core_search job crowd) p job.width at.shelf wrote came → (o : Outcome)
         → ¬ IsUnroutable (found_outcome job.width came)
         → (at.shelf_now ≡ wrote) × (o ≡ found_outcome job.width came) → Came words at o
     quiet-core came finds o routable (same, is) = Searched (record {
@@ -416,13 +412,13 @@ module _ (words : List Word) (at : Scene) where
         },
       );
       said = ap (λ (s : ShelfState). s.said) same
-          ∙ finds-silent (core_search job) p job.width at.shelf wrote came finds
+          ∙ finds-silent (core_search job crowd) p job.width at.shelf wrote came finds
           ∙ sym (more-none at.shelf.said);
     })
 
     -- the nets that the log of a refuted width blames
     module _ (lead : Vec ℕ Global)
-        (finds : Finds (core_search job) p job.width at.shelf wrote (Ok (Refuted lead)))
+        (finds : Finds (core_search job crowd) p job.width at.shelf wrote (Ok (Refuted lead)))
         (same : at.shelf_now.files ≡ wrote.files) where
       abbrev come-refuted : HasCome words (ended_with wrote at) (Unroutable job.width)
       come-refuted = come-core (Ok (Refuted lead)) finds (Unroutable job.width) refl
@@ -438,7 +434,7 @@ module _ (words : List Word) (at : Scene) where
             log = there.log;
             refuted = there.refuted;
             written = subst (λ (fs : Option FileMap). AreWritten (lower_files there.comes
-                ++ proof_files (core_search job) p job.width finds.1.log) at.shelf.files fs)
+                ++ proof_files (core_search job crowd) p job.width finds.1.log) at.shelf.files fs)
                 (sym same) there.written;
           }
 
@@ -454,10 +450,11 @@ module _ (words : List Word) (at : Scene) where
       }
 
       silent : wrote.said ≡ at.shelf.said
-      silent = finds-silent (core_search job) p job.width at.shelf wrote (Ok (Refuted lead)) finds
+      silent = finds-silent (core_search job crowd) p job.width at.shelf wrote
+          (Ok (Refuted lead)) finds
 
     named-core : (lead : Vec ℕ Global)
-        (finds : Finds (core_search job) p job.width at.shelf wrote (Ok (Refuted lead)))
+        (finds : Finds (core_search job crowd) p job.width at.shelf wrote (Ok (Refuted lead)))
         (o : Outcome) → SaysLead lead.items job.width wrote at.shelf_now o → Came words at o
     named-core lead finds o (inl (now, is)) =
         let same = ap (λ (s : ShelfState). s.files) now in
@@ -497,7 +494,7 @@ module _ (words : List Word) (at : Scene) where
 
   module _ (job : CoreAsked) (asked : job_of words ≡ Ok (Blames job)) (p : RoutingProblem)
       (poses : Poses at.desk.files job.files p)
-      (told : (o : Outcome) → IsTrueOfSearch (core_search job) p o
+      (told : (crowd : List ℕ) (o : Outcome) → IsTrueOfSearch (core_search job crowd) p o
       → IsTrueOf words at.desk.files o) where
     stops-routable : (stop : Stop) → ¬ IsUnroutable (found_outcome job.width (Err stop))
     stops-routable (Fault slot) = λ bad. bad
@@ -509,16 +506,18 @@ module _ (words : List Word) (at : Scene) where
     core-came o did = go did.came did.finds did.says
       where
         go : (came : Result Found Stop)
-            (finds : Finds (core_search job) p job.width at.shelf did.wrote came)
+            (finds : Finds (core_search job did.crowd) p job.width at.shelf did.wrote came)
             → SaysBlamed job.width did.wrote at.shelf_now came o → Came words at o
-        go (Ok (Refuted lead)) finds says = named-core job asked p poses told did.given did.narrow
-            did.wrote lead finds o says
-        go (Ok IsRouted) finds says = quiet-core job asked p poses told did.given did.narrow
-            did.wrote (Ok IsRouted) finds o (λ bad. bad) says
-        go (Ok (Spent learned)) finds says = quiet-core job asked p poses told did.given
-            did.narrow did.wrote (Ok (Spent learned)) finds o (λ bad. bad) says
-        go (Err stop) finds says = quiet-core job asked p poses told did.given did.narrow
-            did.wrote (Err stop) finds o (stops-routable stop) says
+        go (Ok (Refuted lead)) finds says = named-core job asked p poses did.crowd did.known
+            (told did.crowd) did.given did.narrow did.wrote lead finds o says
+        go (Ok IsRouted) finds says = quiet-core job asked p poses did.crowd did.known
+            (told did.crowd) did.given did.narrow did.wrote (Ok IsRouted) finds o (λ bad. bad) says
+        go (Ok (Spent learned)) finds says = quiet-core job asked p poses did.crowd did.known
+            (told did.crowd) did.given did.narrow did.wrote (Ok (Spent learned)) finds o
+            (λ bad. bad) says
+        go (Err stop) finds says = quiet-core job asked p poses did.crowd did.known
+            (told did.crowd) did.given did.narrow did.wrote (Err stop) finds o
+            (stops-routable stop) says
 
   -- ---- a climb through the widths, which a sweep or a trial asks for
 
@@ -1574,10 +1573,15 @@ module _ (words : List Word) (at : Scene) where
       (DecodesProblem (IsStopped at.desk at.desk_now) at.desk.files job) p o (λ other is. cc)
       (decoded-came job asked p poses suits o))) h
   job-came (Blames job) o asked h =
-      work-came (Blames job) asked job.files (IsTrueOfSearch (core_search job)) (LeavesCore job) o
-      (λ told. told) (λ other is. cc)
-      (λ p poses. core-came job asked p poses
-      (λ says told. true-of (Blames job) asked says (inr (p, poses, told))) o) h
+      work-came (Blames job) asked job.files (IsTrueOfSuitedSearch (core_search job []))
+      (CoreLeaves job) o (λ told. told) (λ other is. cc)
+      (λ p poses. suited-came (Blames job) asked job.method job.width job.width
+      (LeavesPrepared job.method false (LeavesCore job)) p o
+      (λ unsuited. inr (p, poses, inl unsuited)) (λ other is. cc)
+      (λ suits. prepared-came job.method false (LeavesCore job) p o (λ other is. cc)
+      (core-came job asked p poses
+      (λ crowd says told. true-by (Blames job) asked crowd says
+      (inr (p, poses, inr (suits, told)))) o))) h
   job-came (Checks job) o asked h = check-came job asked o h.0 h.1
   job-came (Verifies job) o asked h = verify-came job asked o h
   job-came (Judges job) o asked h = judge-came job asked o h.0 h.1

@@ -13,7 +13,8 @@ use Rattle.route_sweep.specs.declared.found.Found.{Found}
 use Rattle.route_sweep.specs.declared.found.Found.TheVariants.{Routed as IsRouted, Refuted, Spent}
 use Rattle.route_sweep.specs.declared.found.Stop.{Stop}
 use Rattle.route_sweep.specs.declared.found.Stop.TheVariants.{Fault, TooManyClauses, TooManyHeld, Memory}
-use Rattle.route_ways.proofs.WayLaws.{way-spends}
+use Rattle.route_ways.specs.Way.{MayEndAfter}
+use Rattle.route_ways.proofs.WayLaws.{way-ends}
 use Rattle.sat_clause.specs.declared.limits.TheConstants.{CLAUSE_LIMIT}
 use Rattle.router_top.specs.SizeCauses.{size_code}
 use Rattle.router_top.specs.declared.size_cause.SizeCause.TheVariants.{FormulaClauses, ClausesOfTurns}
@@ -149,9 +150,13 @@ module _ (words : List Word) (at : Scene) (calm : ¬ HasRisen at.desk.faults at.
             f.0.few,
             inr (
               f.0.all,
-              inr (inr (ap (Undecided h.width) (f.1.ends.many
-                  ∙ way-spends search.way h.comes.p h.width
-                  (clauses_at search h.width h.comes.p) f.1.log f.1.ends.opens))),
+              inr (inr (
+                learned,
+                subst (MayEndAfter search.way) (sym f.1.ends.many)
+                    (way-ends search.way h.comes.p h.width
+                    (clauses_at search h.width h.comes.p) f.1.log f.1.ends.opens),
+                refl,
+              )),
             ),
           ))
           (ap (λ (s : ShelfState). s.faults) f.1.written)

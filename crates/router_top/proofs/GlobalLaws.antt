@@ -1,6 +1,6 @@
 -- What keeps a search for a route of a placement from its work is one thing; what is found says a
 -- routing, and two outcomes that are true of the same files agree.
-use Rattle.std.proofs.Common.{◌≡◌, ◌∙◌, ◌⊎◌, ℕ, Option, Some, None, sym, subst, inl, inr, refl, arith}
+use Rattle.std.proofs.Common.{false, ◌≡◌, ◌∙◌, ◌⊎◌, ℕ, Option, Some, None, sym, subst, inl, inr, refl, arith}
 use Rattle.std.specs.Prelude.{not}
 use Rattle.desk_io.specs.Files.{HasRisen}
 use Rattle.fpga_problem.proofs.FileLemmas.{one-placed, placed-lack-poses}
@@ -63,7 +63,8 @@ module _ (files : FileMap) where
   no-start (Some name) a h has = halted-says files h.fault h.because has.1
 
   -- what keeps files from giving something is told in one way
-  pub lacking-agrees : (job : GlobalAsked) (a b : Outcome) → Lacks job a → Lacks job b → Agrees a b
+  pub lacking-agrees : (job : GlobalAsked) (a b : Outcome) → Lacks job a → Lacks job b
+      → Agrees false a b
   lacking-agrees job a b h g =
       placed-agrees files job.files (λ placed. LacksStart (IsHalted (Some files)) job.from) a b h g
       (λ placed u v. inl (one-start job.from a b u v))
@@ -89,22 +90,22 @@ routing-said files job placed found has route =
 
 -- that none was found leaves the width of one that was found open
 open-at : (job : GlobalAsked) (a b : Outcome) → EndsUnfound job.width job.rounds a
-    → b ≡ Routed job.width → IsOpenBelow a b
+    → b ≡ Routed job.width → IsOpenBelow false a b
 open-at job a b (rounds, most, none) is =
-    subst (λ (o : Outcome). IsOpenBelow o b) (sym none)
-    (subst (IsOpenBelow (Unfound job.width rounds)) (sym is) (omega arith))
+    subst (λ (o : Outcome). IsOpenBelow false o b) (sym none)
+    (subst (IsOpenBelow false (Unfound job.width rounds)) (sym is) (omega arith))
 
 -- so does one after other rounds
 pub open-both : (width most : ℕ) (a b : Outcome) → EndsUnfound width most a → EndsUnfound width most b
-    → IsOpenBelow a b
+    → IsOpenBelow false a b
 open-both width most a b (rounds, few, none) (others, few_too, is) =
-    subst (λ (o : Outcome). IsOpenBelow o b) (sym none)
-    (subst (IsOpenBelow (Unfound width rounds)) (sym is) refl)
+    subst (λ (o : Outcome). IsOpenBelow false o b) (sym none)
+    (subst (IsOpenBelow false (Unfound width rounds)) (sym is) refl)
 
 -- outcomes that are true of one placed netlist agree: they are one, or no route was found for the
 -- one and some was for the other
 found-agrees : (job : GlobalAsked) (placed : PlacedNetlist) (a b : Outcome)
-    → IsTrueOfFound job placed a → IsTrueOfFound job placed b → Agrees a b
+    → IsTrueOfFound job placed a → IsTrueOfFound job placed b → Agrees false a b
 found-agrees job placed a b (inl (found, route, is)) (inl (other, others, is_other)) =
     inl (is ∙ sym is_other)
 found-agrees job placed a b (inl (found, route, is)) (inr none) =
@@ -124,7 +125,7 @@ not-unreached placed width first h reached =
 
 -- so do those that are true of it before a search, of which one alone says that there is no way
 sought-agrees : (job : GlobalAsked) (placed : PlacedNetlist) (a b : Outcome)
-    → IsTrueOfSought job placed a → IsTrueOfSought job placed b → Agrees a b
+    → IsTrueOfSought job placed a → IsTrueOfSought job placed b → Agrees false a b
 sought-agrees job placed a b (inl (first, none, is)) (inl (other, none_too, is_other)) =
     inl (is ∙ sym is_other)
 sought-agrees job placed a b (inl (first, none, is)) (inr (reached, h)) =
@@ -135,7 +136,7 @@ sought-agrees job placed a b (inr (reached, h)) (inr (reached_too, g)) =
     found-agrees job placed a b h g
 
 pub global-agrees : (job : GlobalAsked) (files : FileMap) (a b : Outcome)
-    → IsTrueOfGlobal job (Some files) a → IsTrueOfGlobal job (Some files) b → Agrees a b
+    → IsTrueOfGlobal job (Some files) a → IsTrueOfGlobal job (Some files) b → Agrees false a b
 global-agrees job files a b (inl h) (inl g) = lacking-agrees files job a b h g
 global-agrees job files a b (inl h) (inr (placed, has, g)) =
     absurd (lacking-has files job placed a h has)

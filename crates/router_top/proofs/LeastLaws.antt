@@ -1,6 +1,6 @@
 -- What keeps work on what a placement needs from its end, what its widths tell of each other, and
 -- that two outcomes that are true of the same files agree.
-use Rattle.std.proofs.Common.{◌≡◌, ℕ, ◌<◌, ◌≤◌, Option, Some, sym, subst, inl, inr, arith}
+use Rattle.std.proofs.Common.{false, ◌≡◌, ℕ, ◌<◌, ◌≤◌, Option, Some, sym, subst, inl, inr, arith}
 use Rattle.fpga_problem.proofs.FileLemmas.{one-placed}
 use Rattle.fpga_types.specs.Placed.{NetWires}
 use Rattle.fpga_types.specs.Problem.{PlacedNetlist}
@@ -71,16 +71,16 @@ raised-leaves job placed cut raised before now o from within (inr (at, found, h)
 module _ (files : FileMap) (job : LeastAsked) (placed : PlacedNetlist)
     (h : HasFiles (Some files) (last_asked job) placed) where
   -- two outcomes, each known by an equation
-  both : (a b : Outcome) (one other : Outcome) → a ≡ one → b ≡ other → Agrees one other
-      → Agrees a b
-  both a b one other is is_other agree = subst (λ (o : Outcome). Agrees o b) (sym is)
-      (subst (Agrees one) (sym is_other) agree)
+  both : (a b : Outcome) (one other : Outcome) → a ≡ one → b ≡ other → Agrees false one other
+      → Agrees false a b
+  both a b one other is is_other agree = subst (λ (o : Outcome). Agrees false o b) (sym is)
+      (subst (Agrees false one) (sym is_other) agree)
 
-  of-one : (one other : Outcome) → AreOfOne one other → Agrees one other
+  of-one : (one other : Outcome) → AreOfOne one other → Agrees false one other
   of-one one other are = inr (inr (inr (inr are)))
 
   open-agree : (cut others : Cut) (a b : Outcome) → EndsOpen job cut a → EndsOpen job others b
-      → Agrees a b
+      → Agrees false a b
   open-agree cut others a b (inl (above, is)) (inl (above_too, is_other)) =
       both a b (beyond_outcome cut) (beyond_outcome others) is is_other
       (of-one (beyond_outcome cut) (beyond_outcome others) tt)
@@ -110,7 +110,7 @@ module _ (files : FileMap) (job : LeastAsked) (placed : PlacedNetlist)
 
   widths-agree : (cut others : Cut) (a b : Outcome) → IsBestCut placed cut
       → IsBestCut placed others → IsTrueOfWidths job placed cut a
-      → IsTrueOfWidths job placed others b → Agrees a b
+      → IsTrueOfWidths job placed others b → Agrees false a b
   widths-agree cut others a b best best_too (inl ends) (inl ends_too) =
       open-agree cut others a b ends ends_too
   widths-agree cut others a b best best_too (inl (inl (above, is)))
@@ -142,12 +142,12 @@ module _ (files : FileMap) (job : LeastAsked) (placed : PlacedNetlist)
       ))
 
   least-of-one : (a b : Outcome) → IsTrueOfLeast job placed a → IsTrueOfLeast job placed b
-      → Agrees a b
+      → Agrees false a b
   least-of-one a b (cut, best, is) (others, best_too, is_other) =
       widths-agree cut others a b best best_too is is_other
 
 pub least-agrees : (job : LeastAsked) (files : FileMap) (a b : Outcome)
-    → IsTrueOfNarrows job (Some files) a → IsTrueOfNarrows job (Some files) b → Agrees a b
+    → IsTrueOfNarrows job (Some files) a → IsTrueOfNarrows job (Some files) b → Agrees false a b
 least-agrees job files a b (inl h) (inl g) = lacking-agrees files (last_asked job) a b h g
 least-agrees job files a b (inl h) (inr (placed, has, g)) =
     absurd (lacking-has files (last_asked job) placed a h has)

@@ -20,10 +20,12 @@ mod PlacedLaws
 mod PosedLaws
 mod PreparedLaws
 mod RaisedLaws
+mod ReasonLaws
 mod SaidLaws
 mod ServeLaws
 mod SlotNameLaws
 mod StopLaws
+mod StoppedLaws
 mod TrackLaws
 mod VariableNameLaws
 mod VerifiedLaws

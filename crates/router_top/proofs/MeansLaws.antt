@@ -7,7 +7,8 @@ use Rattle.route_sweep.specs.declared.found.Found.{Found}
 use Rattle.route_sweep.specs.declared.found.Found.TheVariants.{Routed as IsRoutedThere, Refuted, Spent}
 use Rattle.route_sweep.specs.declared.found.Stop.{Stop}
 use Rattle.route_sweep.specs.declared.found.Stop.TheVariants.{Fault, TooManyClauses, TooManyHeld, Memory}
-use Rattle.route_ways.proofs.WayLaws.{way-spends}
+use Rattle.route_ways.specs.Way.{MayEndAfter}
+use Rattle.route_ways.proofs.WayLaws.{way-ends}
 use Rattle.router_top.specs.Comes.{lower_files}
 use Rattle.router_top.specs.Written.{WritesFiles, AreWritten, JobFile, with_files}
 use Rattle.router_top.specs.Headline.{IsRefuted}
@@ -74,10 +75,11 @@ module _ (words : List Word) (at : Scene) where
     found-means (Ok (Spent learned)) f last = record {
       comes = h.comes;
       few = f.0.few;
-      budget = f.1.ends.many
-          ∙ way-spends h.comes.search.way h.comes.p h.width
-          (clauses_at h.comes.search h.width h.comes.p) f.1.log f.1.ends.opens;
+      ends = subst (MayEndAfter h.comes.search.way) (sym f.1.ends.many)
+          (way-ends h.comes.search.way h.comes.p h.width
+          (clauses_at h.comes.search h.width h.comes.p) f.1.log f.1.ends.opens);
       log = f.1.log;
+      many = f.1.ends.many;
       open_by = f.1.ends.opens;
       clauses_back = f.1.clauses_back;
       written = behind (proof_files h.comes.search h.comes.p h.width f.1.log)

@@ -1,6 +1,6 @@
 -- Work on the three files of a placed netlist: what holds of it, where it comes again, and that its
 -- true outcomes agree.
-use Rattle.std.proofs.Common.{◌∙◌, ◌⊎◌, Option, Some, sym, ap, subst, inl, inr}
+use Rattle.std.proofs.Common.{false, ◌∙◌, ◌⊎◌, Option, Some, sym, ap, subst, inl, inr}
 use Rattle.desk_io.specs.Files.{HasRisen}
 use Rattle.fpga_problem.specs.Files.{PlacedNames}
 use Rattle.fpga_problem.specs.declared.unread.Unread.{Unread}
@@ -28,7 +28,7 @@ pub placed-agrees : (files : FileMap) (names : PlacedNames)
     (says : PlacedNetlist → Outcome → Type 0) (a b : Outcome)
     → WorksOnPlaced (IsHalted (Some files)) (Some files) names says a
     → WorksOnPlaced (IsHalted (Some files)) (Some files) names says b
-    → ((placed : PlacedNetlist) → says placed a → says placed b → Agrees a b) → Agrees a b
+    → ((placed : PlacedNetlist) → says placed a → says placed b → Agrees false a b) → Agrees false a b
 placed-agrees files names says a b (inl h) (inl g) agree =
     inl (h.2 ∙ ap stop_of (three.one-placed-lack files names h.0 g.0 h.1 g.1) ∙ sym g.2)
 placed-agrees files names says a b (inl h) (inr g) agree =

@@ -1,14 +1,21 @@
 -- The encoder that a job has made by a crowd of its problem says what its method says.
 use Rattle.std.specs.Prelude.{if◌then◌else◌}
-use Rattle.std.proofs.Common.{◌≡◌, ◌∙◌, ℕ, Bool, true, List, [], refl, sym, ap, subst, arith}
+use Rattle.std.proofs.Common.{◌≡◌, ◌∙◌, ℕ, ◌≤◌, Bool, true, List, [], refl, sym, ap, subst, arith}
 use Rattle.std.proofs.lemmas.List.{append-nil}
+use Rattle.fpga_types.specs.Fits.{Fits}
+use Rattle.fpga_types.specs.Given.{IsGiven}
 use Rattle.problem_facts.specs.Full.{is_symmetric}
 use Rattle.problem_facts.specs.Groups.{is_exchangeable}
+use Rattle.route_core.specs.Fair.{IsFair}
+use Rattle.route_core.proofs.MaskLemmas.{plain_is_fair}
 use Rattle.route_count.specs.Begun.{IsBegunBy}
 use Rattle.route_ordered.specs.Ordered.{ordered_cnf, precedence, slots_among}
 use Rattle.route_ordered.proofs.CrowdSlots.{among-crowd}
+use Rattle.route_ordered.proofs.EncoderLemmas.{among-slots}
+use Rattle.route_ordered.proofs.FairLemmas.{ordered_is_fair}
 use Rattle.route_encode.specs.Encoding.{cnf_of}
 use Rattle.route_pinned.specs.Pinned.{pin_clauses}
+use Rattle.route_pinned.proofs.FairLemmas.{pinned_is_fair}
 use Rattle.router_words.specs.Near.{has_one_track}
 use Rattle.router_top.specs.Method.{IsCrowdFor, IsRoutingBy, clauses_by}
 use Rattle.router_top.specs.Suited.{IsEncoderOf, clauses_along}
@@ -66,4 +73,27 @@ pub encoder-begins : (method : Method) (crowd : List ℕ) (p : RoutingProblem) (
     → IsBegunBy (clauses_along chosen.method chosen.order.row.items width p) (cnf_of width p)
 encoder-begins method crowd p chosen own one width =
     begins chosen.method p chosen.order.row.items width
+    (subst (λ (m : Method). has_one_track m ≡ true) (sym own.is) one)
+
+-- within a reach a net may have several tracks in a cell
+not-within : (reach : ℕ) → has_one_track (Within reach) ≡ true → ⊥
+not-within reach one = cc
+
+-- the clauses of such a method blame nets justly
+fair : (method : Method) (p : RoutingProblem) (row : List ℕ) (width : ℕ)
+    → has_one_track method ≡ true → 1 ≤ width → IsGiven p → Fits p
+    → IsFair width p (clauses_along method row width p)
+fair Strictly p row width one some given fits = plain_is_fair width p some fits
+fair Pinned p row width one some given fits = pinned_is_fair width p some given fits
+fair (Within reach) p row width one some given fits = absurd (not-within reach one)
+fair Ordered p row width one some given fits =
+    ordered_is_fair width p (slots_among p row) some fits (among-slots p row)
+
+-- so do those of its encoder
+pub encoder-fair : (method : Method) (crowd : List ℕ) (p : RoutingProblem) (chosen : Chosen)
+    → IsEncoderOf method crowd chosen → has_one_track method ≡ true → (width : ℕ) → 1 ≤ width
+    → IsGiven p → Fits p
+    → IsFair width p (clauses_along chosen.method chosen.order.row.items width p)
+encoder-fair method crowd p chosen own one width =
+    fair chosen.method p chosen.order.row.items width
     (subst (λ (m : Method). has_one_track m ≡ true) (sym own.is) one)

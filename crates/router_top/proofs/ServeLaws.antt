@@ -1,8 +1,8 @@
 -- The search of a job can be done, and one search alone holds one copy of the clauses.
-use Rattle.std.specs.Prelude.{◌^◌, if◌then◌else◌, Bool, IsSome, Option, None, Some, option_map}
+use Rattle.std.specs.Prelude.{◌^◌, if◌then◌else◌, Bool, IsSome, Option, None, Some, is_some, option_map}
 use Rattle.std.proofs.Common.{◌≡◌, ◌⊎◌, ◌<◌, ◌≤◌, ℕ, List, true, false, refl, subst, sym, inl, inr, arith}
 use Rattle.route_ways.specs.Plain.{CanSearch}
-use Rattle.route_ways.specs.Way.{Counts, Searches, copies_by, is_counting}
+use Rattle.route_ways.specs.Way.{Counts, Searches, budget_of, copies_by, is_counting, is_limited}
 use Rattle.route_ways.specs.declared.plain.TheConstants.{BUDGET_LIMIT}
 use Rattle.router_words.specs.Job.{MembersAsked, members_said}
 use Rattle.router_words.specs.declared.job.Members.{Members}
@@ -53,3 +53,29 @@ module _ (search : SearchAsked) where
       → IsCrowdFor search.method (is_counting (way_by search members crowd)) crowd p
   crowd-said members crowd p = subst (λ (count : Bool). IsCrowdFor search.method count crowd p)
       (sym (counting-said members crowd))
+
+  -- it may learn as many clauses as the words say
+  pub budget-said : (members : Option MembersAsked) (crowd : List ℕ)
+      → budget_of (way_by search members crowd) ≡ search.conflicts
+  budget-said members crowd = go search.count members
+    where
+      go : (count : Bool) (members : Option MembersAsked)
+          → budget_of (if count then Counts (plain_by search members) crowd
+          else Searches (plain_by search members)) ≡ search.conflicts
+      go true None = refl
+      go true (Some members) = refl
+      go false None = refl
+      go false (Some members) = refl
+
+  -- and may be stopped where they set a limit of time
+  pub limited-said : (members : Option MembersAsked) (crowd : List ℕ)
+      → is_limited (way_by search members crowd) ≡ is_some search.seconds
+  limited-said members crowd = go search.count members
+    where
+      go : (count : Bool) (members : Option MembersAsked)
+          → is_limited (if count then Counts (plain_by search members) crowd
+          else Searches (plain_by search members)) ≡ is_some search.seconds
+      go true None = refl
+      go true (Some members) = refl
+      go false None = refl
+      go false (Some members) = refl

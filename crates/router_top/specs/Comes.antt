@@ -30,7 +30,8 @@ EndsSearch search p width log =
 
 -- few enough clauses stand for the problem at this width, in all copies that are held; the log
 -- refutes them and is accepted as full LRAT has it, and the problem has no legal routing; within a
--- reach that is long enough for its global route, none without a reach either; the clauses read back
+-- reach that is long enough for its global route, none without a reach either; the clauses read
+-- back
 pub record IsRefutedAt (search : Search) (p : RoutingProblem) (width : ℕ) (log : List Step)
     : Type 0 where
   pub held : IsHeld (copies_by search.way) (clauses_at search width p)

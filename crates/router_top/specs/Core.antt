@@ -1,11 +1,12 @@
 -- The nets to blame: a search at one width, which says behind its files what there is to say of a
 -- refutation.
-use Rattle.std.specs.Prelude.{◌≡◌, ◌⊎◌, ◌≤◌, ℕ, Result, Ok}
+use Rattle.std.specs.Prelude.{◌≡◌, ◌⊎◌, ◌≤◌, ℕ, false, List, Result, Ok}
 use Rattle.fpga_types.specs.Given.{IsGiven}
 use Rattle.fpga_types.specs.declared.limits.TheConstants.{WIDTH_LIMIT}
 use Rattle.route_sweep.specs.declared.found.Found.{Found}
 use Rattle.route_sweep.specs.declared.found.Found.TheVariants.{Refuted}
 use Rattle.route_sweep.specs.declared.found.Stop.{Stop}
+use Rattle.router_top.specs.Method.{IsCrowdFor}
 use Rattle.router_top.specs.Report.{found_outcome}
 use Rattle.router_top.specs.Search.{core_search}
 use Rattle.router_top.specs.Work.{Finds}
@@ -26,13 +27,15 @@ SaysBlamed width wrote now (Ok (Refuted lead)) outcome =
     SaysLead lead.items width wrote now outcome
 SaysBlamed width wrote now came outcome = (now ≡ wrote) × (outcome ≡ found_outcome width came)
 
--- what `core` leaves of its problem, which was given
+-- what `core` leaves of its problem, which was given, by a crowd of it if it goes by one
 pub record LeavesCore
     (job : CoreAsked) (p : RoutingProblem) (before now : ShelfState) (outcome : Outcome)
     : Type 0 where
   pub given : IsGiven p
   pub narrow : job.width ≤ WIDTH_LIMIT
+  pub crowd : List ℕ
+  pub known : IsCrowdFor job.method false crowd p
   pub came : Result Found Stop
   pub wrote : ShelfState
-  pub finds : Finds (core_search job) p job.width before wrote came
+  pub finds : Finds (core_search job crowd) p job.width before wrote came
   pub says : SaysBlamed job.width wrote now came outcome

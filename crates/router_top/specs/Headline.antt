@@ -2,12 +2,14 @@
 -- every width up to 64: a written route gives each net one wire for each cell of its global route,
 -- joined by switches and shared with no other net; or the written clauses are refuted by the
 -- written log, and there is no such routing; or it is left open, with the given number of learned
--- clauses. A sweep says this of the widths from 1 on, so that a routed width is the least. Within a
--- reach a net may have several wires of a cell, and reaches each of its sinks over so many joins at
--- the most: which routings a job asks for its method says.
+-- clauses, which is the budget unless the words set a limit of time. A sweep says this of the
+-- widths from 1 on, so that a routed width is the least. Within a reach a net may have several
+-- wires of a cell, and reaches each of its sinks over so many joins at the most: which routings a
+-- job asks for its method says.
 use Rattle.std.specs.Prelude.{◌≡◌, ℕ, List, [], ◌∷◌, ◌++◌, Option}
 use Rattle.fpga_route.specs.ReadBack.{ReadsBack}
-use Rattle.route_ways.specs.Way.{budget_of}
+use Rattle.route_ways.specs.Way.{MayEndAfter}
+use Rattle.sat_clause.specs.Learned.{added_count}
 use Rattle.sat_text.specs.CnfText.{ReadsCnf}
 use Rattle.sat_text.specs.Printed.{cnf_text}
 use Rattle.router_top.specs.Comes.{ComesTo, IsRefutedAt, lower_files, LeavesOpen}
@@ -40,13 +42,15 @@ pub record IsRefuted (words : List Word) (desk before now : Option FileMap) (wid
 
 -- this width is left open, and where counting comes first, numbers alone do not forbid it. Beside
 -- the files of lower widths two alone were written: the clauses, and a log of a search through them
--- that has as many learned clauses as the budget allows
+-- that has so many learned clauses: as many as the budget allows, or no more than that where the
+-- words set a limit of time
 pub record IsLeftOpen
     (words : List Word) (desk before now : Option FileMap) (width learned : ℕ) : Type 0 where
   pub comes : ComesTo words desk width
   pub few : HasFew (clauses_at comes.search width comes.p)
-  pub budget : learned ≡ budget_of comes.search.way
+  pub ends : MayEndAfter comes.search.way learned
   pub log : List Step
+  pub many : learned ≡ added_count log
   pub open_by : LeavesOpen comes.search comes.p width log
   pub clauses_back : ReadsCnf (cnf_text (clauses_at comes.search width comes.p))
       (clauses_at comes.search width comes.p)

@@ -164,9 +164,9 @@ IsOfClauses words code =
     ⊎ ((code ≡ size_code ClausesOfTurns) × TakesTurns words)
 
 -- what is left of the files, by the answer: nothing is written where the words are not taken, where
--- a file is not read or is refused, where tracks are not alike as the method asks, where rounds have
--- found no route, no wires reach a sink, a model leaves a clause unsatisfied or a cut asks for more
--- tracks than were to be tried, and where a limit is passed, but for that of the clauses in a
+-- a file is not read or is refused, where tracks are not alike as the method asks, where rounds
+-- have found no route, no wires reach a sink, a model leaves a clause unsatisfied or a cut asks for
+-- more tracks than were to be tried, and where a limit is passed, but for that of the clauses in a
 -- climb; a fault of a file leaves a part; and after each other answer the files that were begun are
 -- whole
 abbrev pub LeavesFiles : List Word → (desk before now : Option FileMap) → Outcome → Type 0

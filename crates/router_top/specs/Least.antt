@@ -80,8 +80,8 @@ LeavesWidths job placed cut before now outcome =
     × WritesFiles (Narrowed raised.tracks at.width cut.tracks)
     (narrowed_files (least_names job.prefix) at.found raised.tracks raised.why) before now outcome)
 
--- a front part of the lines of the cut was said, and the run has failed to write; or they were said,
--- and this is what the searches leave
+-- a front part of the lines of the cut was said, and the run has failed to write; or they were
+-- said, and this is what the searches leave
 abbrev pub LeavesCut : LeastAsked → PlacedNetlist → Cut → (before now : ShelfState) → Outcome
     → Type 0
 LeavesCut job placed cut before now outcome =
@@ -97,8 +97,8 @@ LeavesNarrowed job placed before now outcome =
 
 -- ---- what the answers mean
 
--- the words ask how many tracks a placement needs, the files read, and one of its best cuts asks for
--- so many tracks, than which no placed routing has fewer
+-- the words ask how many tracks a placement needs, the files read, and one of its best cuts asks
+-- for so many tracks, than which no placed routing has fewer
 pub record IsCutOfLeast (words : List Word) (desk : Option FileMap) (cut : Cut) : Type 0 where
   pub job : LeastAsked
   pub asked : job_of words ≡ Ok (Narrows job)
@@ -147,8 +147,8 @@ pub record IsBeyond (words : List Word) (desk before now : Option FileMap) (trac
       → ¬ IsPlacedRouting least.placed width has
   pub same : now ≡ before
 
--- so it is, and none was found at any width up to the last, in at most so many rounds at each, which
--- are at most as many as were asked for; no file has changed
+-- so it is, and none was found at any width up to the last, in at most so many rounds at each,
+-- which are at most as many as were asked for; no file has changed
 pub record IsUnnarrowed (words : List Word) (desk before now : Option FileMap) (width rounds : ℕ)
     : Type 0 where
   pub cut : Cut
@@ -189,7 +189,8 @@ IsNarrowing outcome = ⊥
 -- ---- what is true
 
 -- some route is judged legal at a width from a bound on that was raised from that of the cut, and
--- the outcome is that one was found there; or it is that none was, or that the cut asks for too many
+-- the outcome is that one was found there; or it is that none was, or that the cut asks for too
+-- many
 abbrev pub IsTrueOfWidths : LeastAsked → PlacedNetlist → Cut → Outcome → Type 0
 IsTrueOfWidths job placed cut outcome =
     EndsOpen job cut outcome

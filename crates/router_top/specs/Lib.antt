@@ -15,12 +15,14 @@ pub mod Method
 pub mod Placed
 pub mod Posed
 pub mod Raised
+pub mod Reasons
 pub mod Report
 pub mod Run
 pub mod Saying
 pub mod Search
 pub mod SizeCauses
 pub mod SlotNames
+pub mod Stopped
 pub mod Subject
 pub mod Suited
 pub mod Truth

@@ -71,8 +71,9 @@ pub record IsJudged (words : List Word) (desk : Option FileMap) (judgement : Jud
   pub reads : Says desk (route_source job.routed) route_value found
   pub is : judged_by job.reach job.width p found ≡ judgement
 
--- the words ask whether a routed file is a routing of a placement, the three files of that read, the
--- routed file reads, and it is judged so, strictly or not; where that is legal, it says a routing
+-- the words ask whether a routed file is a routing of a placement, the three files of that read,
+-- the routed file reads, and it is judged so, strictly or not; where that is legal, it says a
+-- routing
 pub record IsJudgedPlaced (words : List Word) (desk : Option FileMap) (judgement : Judgement)
     : Type 0 where
   pub job : JudgeAsked

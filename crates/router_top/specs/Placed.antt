@@ -1,5 +1,5 @@
--- Jobs over the three files of a placed netlist, and how a routed file is judged as a routing of the
--- placement.
+-- Jobs over the three files of a placed netlist, and how a routed file is judged as a routing of
+-- the placement.
 use Rattle.std.specs.Prelude.{◌≡◌, ℕ, ◌⊎◌, Option}
 use Rattle.fpga_problem.specs.Files.{ArePlacedUnread, PlacedNames, PosesPlaced}
 use Rattle.fpga_problem.specs.declared.unread.Unread.{Unread}

@@ -17,8 +17,8 @@ IsPosed files words p =
     (job : JobAsked) × (names : FileNames) × (job_of words ≡ Ok job)
     × (problem_files job ≡ Some names) × Poses files names p
 
--- what a run may come to that was given no problem to work on: a file has a fault or cannot be read,
--- memory is too short, or what there is to say of that was not said
+-- what a run may come to that was given no problem to work on: a file has a fault or cannot be
+-- read, memory is too short, or what there is to say of that was not said
 abbrev pub EndsWithoutProblem : Outcome → Type 0
 EndsWithoutProblem (InputFault file line code) = ⊤
 EndsWithoutProblem (Limit file code count) = IsSome file

@@ -7,7 +7,6 @@ use Rattle.fpga_types.specs.Problem.{PlacedNetlist}
 use Rattle.router_top.specs.Bound.{BoundsTo}
 use Rattle.router_top.specs.Causes.{LeavesVerified}
 use Rattle.router_top.specs.Check.{ChecksTo}
-use Rattle.router_top.specs.Core.{LeavesCore}
 use Rattle.router_top.specs.Decode.{DecodeLeaves}
 use Rattle.router_top.specs.Written.{WritesFiles}
 use Rattle.router_top.specs.Global.{HasFiles, LacksFiles, LeavesSought}
@@ -15,7 +14,7 @@ use Rattle.router_top.specs.Generated.{HasRoom, Makes, MakesNone, PosesNone, gen
 use Rattle.router_top.specs.Least.{LeavesNarrowed, last_asked}
 use Rattle.router_top.specs.Placed.{GivesNoPlaced, IsTrueJudgement, JudgesPlaced}
 use Rattle.router_top.specs.Report.{GivesNone, IsReadFault, line_of, unsaid}
-use Rattle.router_top.specs.Suited.{EncodeLeaves, RouteLeaves, SweepLeaves}
+use Rattle.router_top.specs.Suited.{CoreLeaves, EncodeLeaves, RouteLeaves, SweepLeaves}
 use Rattle.router_top.specs.Work.{Tries}
 use Rattle.router_top.specs.Subject.{DeskState, FailsToSay, ShelfState, after_say, FileNames, Poses, IsStopped, RoutingProblem, job_of, Blames, Bounds, Checks, Decodes as DecodesJob, Encodes as EncodesJob, GenAsked, Generates, GlobalAsked, JobAsked, Judges, LeastAsked, Narrows, Negotiates, Routes, Sweeps as SweepsJob, TrialAsked, Tries as TriesJob, Verifies, Word, Outcome, Usage, OutOfMemory, Done}
 
@@ -90,7 +89,7 @@ LeavesJob (SweepsJob job) at outcome = LeavesWork job.files (SweepLeaves job) at
 LeavesJob (EncodesJob job) at outcome = LeavesWork job.files (EncodeLeaves job) at outcome
 LeavesJob (DecodesJob job) at outcome =
     LeavesWork job.files (DecodeLeaves (IsStopped at.desk at.desk_now) at.desk.files job) at outcome
-LeavesJob (Blames job) at outcome = LeavesWork job.files (LeavesCore job) at outcome
+LeavesJob (Blames job) at outcome = LeavesWork job.files (CoreLeaves job) at outcome
 LeavesJob (Checks job) at outcome =
     ChecksTo (IsStopped at.desk at.desk_now) at.desk.files job outcome
     × (at.shelf_now ≡ at.shelf)

@@ -9,6 +9,7 @@ use Rattle.router_top.specs.Global.{IsNoWay, IsWaylessLine}
 use Rattle.router_top.specs.Headline.{IsRefuted}
 use Rattle.router_top.specs.Least.{AreLeastLines, IsNarrowing}
 use Rattle.router_top.specs.Report.{line_of}
+use Rattle.router_top.specs.Search.{clauses_at}
 use Rattle.router_top.specs.Work.{trial_line}
 use Rattle.router_top.specs.Subject.{Bytes, FileMap, ShelfState, RoutingProblem, job_of, Blames, BoundAsked, Bounds, CoreAsked, GlobalAsked, LeastAsked, Narrows, Negotiates, TrialAsked, Tries, VerifyAsked, Verifies, Word, Outcome, Bound, NotLegal, Unroutable, WriteFault, Said}
 
@@ -35,7 +36,9 @@ pub record AreNetLines
   pub width : ℕ
   pub unroutable : outcome ≡ Unroutable width
   pub refuted : IsRefuted words desk before now width
-  pub is : lead ≡ net_lines refuted.comes.p.route (blamed width refuted.comes.p refuted.log)
+  pub is : lead ≡ net_lines refuted.comes.p.route
+      (blamed width refuted.comes.p (clauses_at refuted.comes.search width refuted.comes.p)
+      refuted.log)
 
 -- the words ask for a bound, and the outcome is one: these lines name the cut that it is of, and
 -- exactly the nets that cross it, in order

@@ -62,14 +62,14 @@ sweep_of job = record {
   members = None;
 }
 
--- `core` searches at its width alone, and goes by no crowd
-abbrev pub core_search : CoreAsked → Search
-core_search job = record {
+-- `core` searches at its width alone
+abbrev pub core_search : CoreAsked → (crowd : List ℕ) → Search
+core_search job crowd = record {
   files = job.files;
   first = job.width;
   last = job.width;
-  method = Strictly;
-  crowd = [];
+  method = job.method;
+  crowd = crowd;
   ask = record { prefix = job.prefix; numbered = false };
   way = core_way job;
 }
@@ -78,7 +78,7 @@ core_search job = record {
 abbrev pub search_asked : JobAsked → (crowd : List ℕ) → Option Search
 search_asked (Routes job) crowd = Some (route_search job crowd)
 search_asked (Sweeps job) crowd = Some (sweep_search job crowd)
-search_asked (Blames job) crowd = Some (core_search job)
+search_asked (Blames job) crowd = Some (core_search job crowd)
 search_asked (Tries job) crowd = Some (sweep_search (sweep_of job) crowd)
 search_asked job crowd = None
 

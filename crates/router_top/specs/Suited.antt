@@ -4,9 +4,10 @@ use Rattle.std.specs.Prelude.{◌≡◌, ◌⊎◌, ℕ, List, ◌<◌, ◌≤�
 use Rattle.problem_facts.specs.Full.{asymmetry_of, is_symmetric}
 use Rattle.problem_facts.specs.Groups.{is_exchangeable, obstacle_of}
 use Rattle.route_ordered.specs.Ordered.{ordered_cnf, slots_among}
+use Rattle.router_top.specs.Core.{LeavesCore}
 use Rattle.router_top.specs.Method.{clauses_by, goes_by_crowd}
 use Rattle.router_top.specs.Work.{Encodes, LeavesRoute, Sweeps}
-use Rattle.router_top.specs.Subject.{ShelfState, RoutingProblem, Cnf, EncodeAsked, RouteAsked, SweepAsked, Method, Ordered, Pinned, Strictly, Within, Outcome, OutOfMemory, NotSymmetric}
+use Rattle.router_top.specs.Subject.{ShelfState, RoutingProblem, Cnf, CoreAsked, EncodeAsked, RouteAsked, SweepAsked, Method, Ordered, Pinned, Strictly, Within, Outcome, OutOfMemory, NotSymmetric}
 use Rattle.router_top.specs.declared.chosen.Chosen.{Chosen}
 use Rattle.router_top.specs.declared.outcome.Obstacle.{Obstacle}
 use Rattle.router_top.specs.declared.outcome.Obstacle.TheVariants.{Order, Pins}
@@ -100,3 +101,8 @@ abbrev pub EncodeLeaves : EncodeAsked → RoutingProblem → (before now : Shelf
     → Type 0
 EncodeLeaves job = LeavesSuited job.method job.width job.width
     (LeavesPrepared job.method false (Encodes job))
+
+-- what `core` leaves of its problem
+abbrev pub CoreLeaves : CoreAsked → RoutingProblem → (before now : ShelfState) → Outcome → Type 0
+CoreLeaves job = LeavesSuited job.method job.width job.width
+    (LeavesPrepared job.method false (LeavesCore job))

@@ -1,9 +1,9 @@
 -- What each outcome but those of faults says of the words and of the files.
-use Rattle.std.specs.Prelude.{◌≡◌, ◌⊎◌, ℕ, ◌<◌, ◌≤◌, List, false, length, MatchResult, Option, None, Some}
+use Rattle.std.specs.Prelude.{◌≡◌, ◌⊎◌, ℕ, ◌<◌, ◌≤◌, Bool, List, false, length, MatchResult, Option, None, Some}
 use Rattle.std.specs.Option.{ForSome}
 use Rattle.desk_io.specs.Files.{HasRisen}
 use Rattle.route_sweep.specs.Found.{IsHeld}
-use Rattle.route_ways.specs.Way.{budget_of, copies_by}
+use Rattle.route_ways.specs.Way.{MayEndAfter, copies_by}
 use Rattle.sat_clause.specs.declared.limits.TheConstants.{CLAUSE_LIMIT}
 use Rattle.fpga_types.specs.Problem.{PlacedNetlist}
 use Rattle.router_words.specs.Refusal.{code_of}
@@ -19,6 +19,7 @@ use Rattle.router_top.specs.Method.{HasNone, HasOne, clauses_by, IsCrowdFor}
 use Rattle.router_top.specs.Placed.{IsJudgement, JudgesPlaced, WorksOnPlaced}
 use Rattle.router_top.specs.Report.{GivesNone}
 use Rattle.router_top.specs.Search.{Search, HasCrowd, clauses_at, clauses_held, core_search, route_search, sweep_of, sweep_search}
+use Rattle.router_top.specs.Stopped.{are_timed}
 use Rattle.router_top.specs.Suited.{IsTrueOfSuited}
 use Rattle.router_top.specs.Subject.{DeskState, FileMap, ShelfState, FileNames, Poses, IsHalted, RoutingProblem, job_of, Blames, Bounds, Checks, DecodeAsked, Decodes, EncodeAsked, Encodes, Generates, JobAsked, Judges, LeastAsked, Narrows, Negotiates, Routes, Sweeps, Tries, Verifies, Word, Outcome, Routed, Unroutable, Undecided, Bound, Done, Limit, Usage, OutOfMemory, GlobalAsked, Unfound, Narrowed, Beyond}
 use Rattle.router_top.specs.declared.size_cause.SizeCause.{SizeCause}
@@ -40,13 +41,19 @@ pub record IsReached (search : Search) (p : RoutingProblem) (width : ℕ) : Type
   pub lower : (k : ℕ) → search.first ≤ k → k < width
       → IsHeld (copies_by search.way) (clauses_at search k p) × HasNone search.method k p
 
+-- the outcome says that a search was left open at this width, after as many learned clauses as it
+-- may be
+abbrev pub IsOpenAt : Search → (width : ℕ) → Outcome → Type 0
+IsOpenAt search width outcome =
+    (learned : ℕ) × MayEndAfter search.way learned × (outcome ≡ Undecided width learned)
+
 -- there is a legal routing at this width, or it is the last one and there is none, and the outcome
--- says which; or it says that the budget was spent
+-- says which; or it says that a search was left open
 abbrev pub IsTrueAt : Search → RoutingProblem → (width : ℕ) → Outcome → Type 0
 IsTrueAt search p width outcome =
     (HasOne search.method width p × (outcome ≡ Routed width))
     ⊎ (HasNone search.method width p × (width ≡ search.last) × (outcome ≡ Unroutable width))
-    ⊎ (outcome ≡ Undecided width (budget_of search.way))
+    ⊎ IsOpenAt search width outcome
 
 -- the search comes to a width, of whose clauses or routings the outcome is true
 abbrev pub IsTrueOfSearch : Search → RoutingProblem → Outcome → Type 0
@@ -63,8 +70,9 @@ IsTrueOfSuitedSearch search p outcome =
     IsTrueOfSuited search.method search.first search.last p (IsTrueOfSearch search p outcome)
     outcome
 
--- the method does not suit the problem at the width, and the outcome says so; or it does, and of its
--- clauses, by a crowd of the problem if they go by one, there are too many, or they were written
+-- the method does not suit the problem at the width, and the outcome says so; or it does, and of
+-- its clauses, by a crowd of the problem if they go by one, there are too many, or they were
+-- written
 abbrev pub IsTrueOfEncoding : EncodeAsked → (crowd : List ℕ) → RoutingProblem → Outcome → Type 0
 IsTrueOfEncoding job crowd p outcome =
     IsTrueOfSuited job.method job.width job.width p
@@ -72,9 +80,9 @@ IsTrueOfEncoding job crowd p outcome =
     × IsTrueOfCount FormulaClauses (length (clauses_by job.method crowd job.width p).clauses)
     (outcome ≡ Done) outcome) outcome
 
--- the method does not suit the problem at the width, and the outcome says so; or it does, and of its
--- clauses, by a crowd of the problem if they go by one, there are too many, or this is true of the
--- model that the files hold
+-- the method does not suit the problem at the width, and the outcome says so; or it does, and of
+-- its clauses, by a crowd of the problem if they go by one, there are too many, or this is true of
+-- the model that the files hold
 abbrev pub IsTrueOfDecoding : DecodeAsked → (crowd : List ℕ) → Option FileMap → RoutingProblem
     → Outcome → Type 0
 IsTrueOfDecoding job crowd files p outcome =
@@ -91,8 +99,8 @@ IsTrueOfWork names says files outcome =
     GivesNone (IsHalted files) files names outcome
     ⊎ ((p : RoutingProblem) × Poses files names p × says p outcome)
 
--- a file of the job gives nothing, and the outcome says why; or they pose a placed netlist, of which
--- the outcome is true
+-- a file of the job gives nothing, and the outcome says why; or they pose a placed netlist, of
+-- which the outcome is true
 abbrev pub IsTrueOfGlobal : GlobalAsked → Option FileMap → Outcome → Type 0
 IsTrueOfGlobal job files outcome =
     LacksFiles (IsHalted files) files job outcome
@@ -116,7 +124,7 @@ IsTrueOfJob crowd (Encodes job) files outcome =
 IsTrueOfJob crowd (Decodes job) files outcome =
     IsTrueOfWork job.files (IsTrueOfDecoding job crowd files) files outcome
 IsTrueOfJob crowd (Blames job) files outcome =
-    IsTrueOfWork job.files (IsTrueOfSearch (core_search job)) files outcome
+    IsTrueOfWork job.files (IsTrueOfSuitedSearch (core_search job crowd)) files outcome
 IsTrueOfJob crowd (Checks job) files outcome = ChecksTo (IsHalted files) files job outcome
 IsTrueOfJob crowd (Verifies job) files outcome = VerifiesTo (IsHalted files) files job outcome
 IsTrueOfJob crowd (Judges job) files outcome =
@@ -142,17 +150,19 @@ IsTrueBy crowd words files outcome =
 abbrev pub IsTrueOf : List Word → Option FileMap → Outcome → Type 0
 IsTrueOf words files outcome = (crowd : List ℕ) × IsTrueBy crowd words files outcome
 
--- a search is left open, at a width that is not above the one of the other outcome; of rounds, after
--- how many is the search's own
-abbrev pub IsOpenBelow : Outcome → Outcome → Type 0
-IsOpenBelow (Undecided width learned) (Routed of) = width ≤ of
-IsOpenBelow (Undecided width learned) (Unroutable of) = width ≤ of
-IsOpenBelow (Undecided width learned) (Undecided of others) = (width ≤ of) × (learned ≡ others)
-IsOpenBelow (Undecided width learned) (Limit file code count) =
+-- a search is left open, at a width that is not above the one of the other outcome, after as many
+-- learned clauses as another one, unless they have a limit of time; of rounds, after how many is
+-- the search's own
+abbrev pub IsOpenBelow : (timed : Bool) → Outcome → Outcome → Type 0
+IsOpenBelow timed (Undecided width learned) (Routed of) = width ≤ of
+IsOpenBelow timed (Undecided width learned) (Unroutable of) = width ≤ of
+IsOpenBelow timed (Undecided width learned) (Undecided of others) =
+    (width ≤ of) × (timed ≡ false → learned ≡ others)
+IsOpenBelow timed (Undecided width learned) (Limit file code count) =
     (code ≡ size_code FormulaClauses) ⊎ (code ≡ size_code ClausesOfTurns)
-IsOpenBelow (Unfound width rounds) (Routed of) = width ≤ of
-IsOpenBelow (Unfound width rounds) (Unfound of others) = width ≡ of
-IsOpenBelow outcome other = ⊥
+IsOpenBelow timed (Unfound width rounds) (Routed of) = width ≤ of
+IsOpenBelow timed (Unfound width rounds) (Unfound of others) = width ≡ of
+IsOpenBelow timed outcome other = ⊥
 
 -- both are bounds
 abbrev pub AreBounds : Outcome → Outcome → Type 0
@@ -175,16 +185,16 @@ AreOfOne outcome other = ⊥
 -- budget is spent is the search's own; or both are bounds, for which of the best cuts is found is
 -- that search's own; or both tell of what one placement needs, for that and the routes that are
 -- found are those searches' own
-abbrev pub Agrees : Outcome → Outcome → Type 0
-Agrees answer outcome =
-    (answer ≡ outcome) ⊎ IsOpenBelow answer outcome ⊎ IsOpenBelow outcome answer
+abbrev pub Agrees : (timed : Bool) → Outcome → Outcome → Type 0
+Agrees timed answer outcome =
+    (answer ≡ outcome) ⊎ IsOpenBelow timed answer outcome ⊎ IsOpenBelow timed outcome answer
     ⊎ AreBounds answer outcome ⊎ AreOfOne answer outcome
 
 -- if both are true by one crowd, they agree; where tracks are not kept in order, any crowd serves
 abbrev pub AgreeByCrowd : List Word → FileMap → (answer outcome : Outcome) → Type 0
 AgreeByCrowd words files answer outcome =
     (crowd : List ℕ) → IsTrueBy crowd words (Some files) answer
-    → IsTrueBy crowd words (Some files) outcome → Agrees answer outcome
+    → IsTrueBy crowd words (Some files) outcome → Agrees (are_timed words) answer outcome
 
 -- where the files are told, no fault has risen, memory sufficed and some outcome is true, the
 -- answer is true and agrees with that outcome, by any crowd that makes both true

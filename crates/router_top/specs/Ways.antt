@@ -1,5 +1,5 @@
 -- The ways in which jobs search.
-use Rattle.std.specs.Prelude.{ℕ, List, Option, None, Some, true, if◌then◌else◌}
+use Rattle.std.specs.Prelude.{ℕ, List, Option, None, Some, is_some, true, if◌then◌else◌}
 use Rattle.router_words.specs.Job.{MembersAsked}
 use Rattle.route_ways.specs.Way.{Course, Counts, Searches, Trims}
 use Rattle.route_ways.specs.declared.plain.Plain.{Plain}
@@ -15,7 +15,8 @@ wires_by Strictly = One
 wires_by Pinned = One
 wires_by Ordered = One
 
--- one search, which keeps all clauses where the words say so; or as many as they say, which do
+-- one search, which keeps all clauses where the words say so; or as many as they say, which do;
+-- they may be stopped where the words set a limit of time
 abbrev pub plain_by : SearchAsked → Option MembersAsked → Plain
 plain_by search None =
     record {
@@ -23,12 +24,14 @@ plain_by search None =
       wires = wires_by search.method;
       budget = search.conflicts;
       keep = search.keep;
+      limited = is_some search.seconds;
     }
 plain_by search (Some members) = record {
   solver = Turns members.count members.seed;
   wires = wires_by search.method;
   budget = search.conflicts;
   keep = true;
+  limited = is_some search.seconds;
 }
 
 -- behind counting, which goes by this crowd, where they say so
@@ -40,4 +43,10 @@ way_by search members crowd =
 -- `core` keeps all clauses, and its refutation is cut down
 abbrev pub core_way : CoreAsked → Course
 core_way job =
-    Trims (record { solver = Merging; wires = One; budget = job.conflicts; keep = true })
+    Trims (record {
+      solver = Merging;
+      wires = One;
+      budget = job.conflicts;
+      keep = true;
+      limited = is_some job.seconds;
+    })

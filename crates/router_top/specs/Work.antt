@@ -33,8 +33,8 @@ Finds search p width before now came =
     (opens_by search.way p width (clauses_at search width p)) search.ask width
     (clauses_at search width p) (IsRoutingBy search.method width p) before now came
 
--- what `route` leaves: a search of the problem, which was given, by a crowd of it if it goes by one,
--- at the width of the job, which is at most 64
+-- what `route` leaves: a search of the problem, which was given, by a crowd of it if it goes by
+-- one, at the width of the job, which is at most 64
 pub record LeavesRoute
     (job : RouteAsked) (p : RoutingProblem) (before now : ShelfState) (outcome : Outcome)
     : Type 0 where
@@ -98,8 +98,8 @@ WritesClauses job p formula before now (Err (Fault slot)) =
     × FailsToWrite before (clauses_name job) (clauses_text job p formula) now
 WritesClauses job p formula before now (Err stop) = IsUnbuilt 1 formula stop × (now ≡ before)
 
--- the writing of the clauses of the problem, by a crowd of it if they go by one, at the width of the
--- job
+-- the writing of the clauses of the problem, by a crowd of it if they go by one, at the width of
+-- the job
 pub record Encodes
     (job : EncodeAsked) (p : RoutingProblem) (before now : ShelfState) (outcome : Outcome)
     : Type 0 where

@@ -1,15 +1,22 @@
 //! The command `core`: a search for a legal routing, or else for the nets that stand against each
 //! other.
-ghost use Rattle.router_top.specs.Core.{SaysBlamed};
+ghost use Rattle.std.specs.Prelude.{false};
+ghost use Rattle.router_words.specs.Job.{core_said};
+ghost use Rattle.router_top.specs.Core.{LeavesCore, SaysBlamed};
+ghost use Rattle.router_top.specs.Known.{IsKnown};
+ghost use Rattle.router_top.specs.Stopped.{EndsEarly};
 
+use crate::chosen::Chosen;
+use crate::clock::{Clock, set_limit};
+use crate::known::known_of;
 use crate::outcome::Outcome;
-use crate::problem_work::{ProblemWork, was_given};
+use crate::problem_work::{ProblemWork, does_fit, was_given};
 use crate::slot::Slot;
 use crate::stopping::stop_outcome;
 use crate::ways::core_way;
 use desk_io::Shelf;
 use fpga_bounds::PlacedProblem;
-use route_encode::Strict;
+use problem_facts::Facts;
 use route_sweep::{Ask, Found, Stop, one_width};
 use router_words::CoreJob;
 use std::alloc::Global;
@@ -31,23 +38,58 @@ fn say_blamed<S: Shelf>(width: u32, came: Result<Found, Stop>, shelf: &mut S) ->
     }
 }
 
-// Searches for a legal routing, and writes it; or else writes the clauses and a log, and names the
-// nets to blame where that refutes them. What is to be written and said is made before the first
-// file is.
+// Searches for a legal routing by what is known of the problem, and writes it; or else writes the
+// clauses and a log, and names the nets to blame where that refutes them. What is to be written and
+// said is made before the first file is.
+fn search_width<S: Shelf, C: Clock>(
+    alloc: Global,
+    job: &CoreJob<'_>,
+    known: &Option<Facts>,
+    problem: &PlacedProblem,
+    shelf: &mut S,
+    clock: &mut C,
+) -> Outcome
+    requires { IsKnown job.now.method false problem.now known.now }
+    ensures leaves { LeavesCore (core_said job.now) problem.now (S.state shelf.old)
+        (S.state shelf.new) result }
+    ensures stopped { EndsEarly job.now.conflicts result → C.is_over clock.new }
+{
+    was_given(problem);
+    does_fit(problem);
+    let encoder = Chosen::of(job.method, known);
+    let way = core_way(job);
+    let ask = Ask {
+        prefix: job.prefix,
+        numbered: false,
+    };
+    set_limit(clock, job.seconds);
+    let came = one_width(
+        alloc, &way, &encoder, problem, job.width, &ask, shelf, clock,
+    );
+    say_blamed(job.width, came, shelf)
+}
+
+// Searches for a legal routing, and writes it; or else names the nets to blame.
 impl<'a> ProblemWork for CoreJob<'a> {
+    ghost use Rattle.std.specs.Prelude.{false};
     ghost use Rattle.router_words.specs.Job.{core_said};
     ghost use Rattle.router_top.specs.Core.{LeavesCore};
+    ghost use Rattle.router_top.specs.Suited.{LeavesPrepared};
 
-    ghost leaves = { λ job. LeavesCore (core_said job) };
+    ghost leaves = { λ job. LeavesPrepared job.method false (LeavesCore (core_said job)) };
 
-    fn work<S: Shelf>(&self, alloc: Global, problem: &PlacedProblem, shelf: &mut S) -> Outcome {
-        was_given(problem);
-        let way = core_way(self);
-        let ask = Ask {
-            prefix: self.prefix,
-            numbered: false,
+    ghost budget = { λ job. job.conflicts };
+
+    fn work<S: Shelf, C: Clock>(
+        &self,
+        alloc: Global,
+        problem: &PlacedProblem,
+        shelf: &mut S,
+        clock: &mut C,
+    ) -> Outcome {
+        let Ok(known) = known_of(alloc, self.method, false, problem) else {
+            return Outcome::OutOfMemory;
         };
-        let came = one_width(alloc, &way, &Strict, problem, self.width, &ask, shelf);
-        say_blamed(self.width, came, shelf)
+        search_width(alloc, self, &known, problem, shelf, clock)
     }
 }

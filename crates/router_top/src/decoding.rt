@@ -177,8 +177,8 @@ fn decode_problem<D: Desk, S: Shelf>(
     decode_clauses(alloc, job, &encoder, problem, desk, shelf)
 }
 
-/// Reads the four files, and once they pose a problem builds its clauses, reads the model and judges
-/// it by them. Where each clause has a literal of the model, the route that it stands for is
+/// Reads the four files, and once they pose a problem builds its clauses, reads the model and
+/// judges it by them. Where each clause has a literal of the model, the route that it stands for is
 /// written.
 pub fn decode_files<D: Desk, S: Shelf>(
     alloc: Global,

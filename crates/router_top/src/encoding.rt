@@ -8,6 +8,7 @@ ghost use Rattle.router_top.specs.Report.{written_outcome};
 ghost use Rattle.router_top.specs.Work.{WritesClauses};
 
 use crate::chosen::Chosen;
+use crate::clock::Clock;
 use crate::file_name::file_name;
 use crate::known::known_of;
 use crate::outcome::Outcome;
@@ -94,7 +95,15 @@ impl<'a> ProblemWork for EncodeJob<'a> {
 
     ghost leaves = { λ job. LeavesPrepared job.method false (Encodes (encode_said job)) };
 
-    fn work<S: Shelf>(&self, alloc: Global, problem: &PlacedProblem, shelf: &mut S) -> Outcome {
+    ghost budget = { λ job. 0 };
+
+    fn work<S: Shelf, C: Clock>(
+        &self,
+        alloc: Global,
+        problem: &PlacedProblem,
+        shelf: &mut S,
+        _clock: &mut C,
+    ) -> Outcome {
         let Ok(known) = known_of(alloc, self.method, false, problem) else {
             return Outcome::OutOfMemory;
         };

@@ -1,10 +1,11 @@
 //! The command `least`: how many tracks a placement needs, from both sides.
-ghost use Rattle.std.specs.Prelude.{◌≡◌, ◌⊎◌, ◌≤◌, IfOk, IfSome};
+ghost use Rattle.std.specs.Prelude.{◌≡◌, ◌⊎◌, ◌≤◌, IfOk, IfSome, IsNone, None, option_map};
 ghost use Rattle.fpga_problem.specs.Files.{IsSoundPlaced};
 ghost use Rattle.route_bound.specs.Cuts.{IsBestCut};
 ghost use Rattle.router_words.specs.Job.{global_said, least_said};
 ghost use Rattle.router_top.specs.Bound.{IsShort};
 ghost use Rattle.router_top.specs.Least.{IsFoundAt, LeavesCut, LeavesNarrowed, LeavesRaised, LeavesWidths, at_width};
+ghost use Rattle.router_top.specs.Reasons.{HasRaised, IsReasonOf, IsUnraised, given_why, reason_by};
 ghost use Rattle.router_top.specs.Report.{IsReadFault};
 ghost use Rattle.router_top.specs.Run.{LeavesLeast, scene};
 
@@ -14,7 +15,10 @@ use crate::negotiating::{Begun, legal_route, read_begun};
 use crate::outcome::Outcome;
 use crate::progress::Progress;
 use crate::raising::{Raised, raise};
+use crate::ran::{Ran, Reason, without_problem};
+use cell_bound::CellRefutation;
 use desk_io::Desk;
+use fpga_problem::PlacedFiles;
 use fpga_types::RouteText;
 use route_bound::{Cut, best_cut};
 use router_words::{GlobalJob, LeastJob};
@@ -33,6 +37,14 @@ pub(crate) struct FoundAt {
 struct Narrowing {
     rounds: u32,
     at: Option<FoundAt>,
+}
+
+/// What the work on a placed netlist comes to, and the refutation that raised the bound of which
+/// that tells, if one did.
+#[derive(Drop)]
+struct Ended {
+    outcome: Outcome,
+    why: Option<CellRefutation>,
 }
 
 // The search for a route at a width.
@@ -95,8 +107,8 @@ fn tell_raised<S: Progress>(raised: &Raised, shelf: &mut S)
     }
 }
 
-// Looks for a route at each width from a bound on, where a cut asks for so many tracks, and writes the
-// first, and what raised the bound.
+// Looks for a route at each width from a bound on, where a cut asks for so many tracks, and writes
+// the first, and what raised the bound.
 fn search_from<S: Progress>(
     alloc: Global,
     job: &LeastJob<'_>,
@@ -123,31 +135,54 @@ fn search_from<S: Progress>(
     write_narrowed(alloc, job.prefix, cut, raised, &at, shelf)
 }
 
-// Raises the bound of a cut, looks for a route at each width from there on, and writes the first, and
-// what raised the bound.
+// The refutation that raised a bound, if the outcome tells of that bound.
+fn given_why(outcome: Outcome, raised: Raised) -> Option<CellRefutation>
+    ensures { result ≡ given_why outcome raised.why }
+{
+    match outcome {
+        Outcome::Narrowed { .. } => raised.why,
+        _ => None,
+    }
+}
+
+// Raises the bound of a cut, looks for a route at each width from there on, and writes the first,
+// and what raised the bound.
 fn search_widths<S: Progress>(
     alloc: Global,
     job: &LeastJob<'_>,
     begun: &Begun,
     cut: &Cut,
     shelf: &mut S,
-) -> Outcome
+) -> Ended
     requires placed { IsSoundPlaced begun.now.placed }
     requires some { 1 ≤ cut.now.tracks }
-    ensures { LeavesWidths (least_said job.now) begun.now.placed cut.now (S.state shelf.old)
-        (S.state shelf.new) result }
+    ensures leaves { LeavesWidths (least_said job.now) begun.now.placed cut.now
+        (S.state shelf.old) (S.state shelf.new) result.outcome }
+    ensures why { IfSome result.why (HasRaised (least_said job.now) begun.now.placed
+        (S.state shelf.old).files (S.state shelf.new).files result.outcome) }
+    ensures none { IsNone result.why → IsUnraised result.outcome }
 {
     if job.last < cut.tracks {
-        return Outcome::Beyond {
-            tracks: cut.tracks,
-            cells: cut.cells,
-            nets: cut.nets.as_slice().len() as u64,
+        return Ended {
+            outcome: Outcome::Beyond {
+                tracks: cut.tracks,
+                cells: cut.cells,
+                nets: cut.nets.as_slice().len() as u64,
+            },
+            why: None,
         };
     }
     let Ok(raised) = raise(alloc, &begun.placed, cut.tracks, job.last) else {
-        return Outcome::OutOfMemory;
+        return Ended {
+            outcome: Outcome::OutOfMemory,
+            why: None,
+        };
     };
-    search_from(alloc, job, begun, cut.tracks, &raised, shelf)
+    let outcome = search_from(alloc, job, begun, cut.tracks, &raised, shelf);
+    Ended {
+        outcome,
+        why: given_why(outcome, raised),
+    }
 }
 
 // Says the lines of a cut, and then looks for a route.
@@ -157,16 +192,22 @@ fn narrow_cut<S: Progress>(
     begun: &Begun,
     cut: &Cut,
     shelf: &mut S,
-) -> Outcome
+) -> Ended
     requires placed { IsSoundPlaced begun.now.placed }
     requires some { 1 ≤ cut.now.tracks }
-    ensures { IsShort (S.state shelf.old) (S.state shelf.new) result
+    ensures leaves { IsShort (S.state shelf.old) (S.state shelf.new) result.outcome
         ⊎ LeavesCut (least_said job.now) begun.now.placed cut.now (S.state shelf.old)
-        (S.state shelf.new) result }
+        (S.state shelf.new) result.outcome }
+    ensures why { IfSome result.why (HasRaised (least_said job.now) begun.now.placed
+        (S.state shelf.old).files (S.state shelf.new).files result.outcome) }
+    ensures none { IsNone result.why → IsUnraised result.outcome }
 {
     match say_cut(alloc, &begun.placed.netlist, cut, shelf) {
         Ok(()) => search_widths(alloc, job, begun, cut, shelf),
-        Err(stop) => stop,
+        Err(stop) => Ended {
+            outcome: stop,
+            why: None,
+        },
     }
 }
 
@@ -176,16 +217,41 @@ fn narrow_placed<S: Progress>(
     job: &LeastJob<'_>,
     begun: &Begun,
     shelf: &mut S,
-) -> Outcome
+) -> Ended
     requires { IsSoundPlaced begun.now.placed }
-    ensures { LeavesNarrowed (least_said job.now) begun.now.placed (S.state shelf.old)
-        (S.state shelf.new) result }
+    ensures leaves { LeavesNarrowed (least_said job.now) begun.now.placed (S.state shelf.old)
+        (S.state shelf.new) result.outcome }
+    ensures why { IfSome result.why (HasRaised (least_said job.now) begun.now.placed
+        (S.state shelf.old).files (S.state shelf.new).files result.outcome) }
+    ensures none { IsNone result.why → IsUnraised result.outcome }
 {
     let placed = &begun.placed;
     let Ok(cut) = best_cut(alloc, &placed.arch, &placed.netlist, &placed.placement) else {
-        return Outcome::OutOfMemory;
+        return Ended {
+            outcome: Outcome::OutOfMemory,
+            why: None,
+        };
     };
     narrow_cut(alloc, job, begun, &cut, shelf)
+}
+
+// What a run comes to, and the reason that it gives back, if there is one, with the netlist.
+fn ran_by(begun: Begun, ended: Ended) -> Ran
+    ensures outcome { result.outcome ≡ ended.outcome }
+    ensures problem { result.problem ≡ None }
+    ensures reason { result.reason ≡ option_map (reason_by begun.placed.netlist) ended.why }
+{
+    let Ended { outcome, why } = ended;
+    let Some(found) = why else {
+        return without_problem(outcome);
+    };
+    let Begun { placed, .. } = begun;
+    let PlacedFiles { netlist, .. } = placed;
+    Ran {
+        outcome,
+        problem: None,
+        reason: Some(Reason { netlist, found }),
+    }
 }
 
 /// Reads the files of a job, says the lines of one of the best cuts, raises the bound of that by
@@ -196,15 +262,23 @@ pub fn narrow_files<D: Desk, S: Progress>(
     job: &LeastJob<'_>,
     desk: &mut D,
     shelf: &mut S,
-) -> Outcome
+) -> Ran
     ensures leaves { LeavesLeast (least_said job.now)
         (scene (D.state desk.old) (D.state desk.new) (S.state shelf.old) (S.state shelf.new))
-        result }
+        result.outcome }
     ensures files { (D.state desk.new).files ≡ (D.state desk.old).files }
-    ensures quiet { ¬ IsReadFault result → (D.state desk.new).faults ≡ (D.state desk.old).faults }
+    ensures quiet { ¬ IsReadFault result.outcome
+        → (D.state desk.new).faults ≡ (D.state desk.old).faults }
+    ensures problem { result.problem ≡ None }
+    ensures reason { IfSome result.reason (IsReasonOf (least_said job.now) (D.state desk.old).files
+        (S.state shelf.old).files (S.state shelf.new).files result.outcome) }
+    ensures unraised { IsNone result.reason → IsUnraised result.outcome }
 {
     match read_begun(alloc, &at_width(job, job.last), desk) {
-        Ok(begun) => narrow_placed(alloc, job, &begun, shelf),
-        Err(stop) => stop,
+        Ok(begun) => {
+            let ended = narrow_placed(alloc, job, &begun, shelf);
+            ran_by(begun, ended)
+        }
+        Err(stop) => without_problem(stop),
     }
 }

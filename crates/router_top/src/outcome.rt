@@ -41,9 +41,9 @@ pub enum Outcome {
         cells: u32,
         nets: u64,
     },
-    /// In so many rounds, at most as many as were asked for, no route of the placement was found with
-    /// its tracks, whether or not there is one; where several widths were tried, it is the most rounds
-    /// that were made at one of them.
+    /// In so many rounds, at most as many as were asked for, no route of the placement was found
+    /// with its tracks, whether or not there is one; where several widths were tried, it is the
+    /// most rounds that were made at one of them.
     Unfound {
         width: u32,
         rounds: u32,

@@ -1,11 +1,14 @@
 //! Work on the problem that four files pose.
-ghost use Rattle.std.specs.Prelude.{◌≡◌, IfSome, IsNone};
+ghost use Rattle.std.specs.Prelude.{◌≡◌, IfSome, IsNone, None};
 ghost use Rattle.fpga_problem.specs.Files.{Poses, names_said};
+ghost use Rattle.fpga_types.specs.Fits.{Fits};
 ghost use Rattle.fpga_types.specs.Given.{IsGiven};
 ghost use Rattle.router_top.specs.Posed.{EndsWithoutProblem};
 ghost use Rattle.router_top.specs.Report.{IsReadFault};
 ghost use Rattle.router_top.specs.Run.{LeavesWork, scene};
+ghost use Rattle.router_top.specs.Stopped.{EndsEarly};
 
+use crate::clock::Clock;
 use crate::outcome::Outcome;
 use crate::ran::Ran;
 use crate::stopping::unread_outcome;
@@ -17,6 +20,7 @@ use std::alloc::Global;
 
 /// What a command does with a problem.
 pub trait ProblemWork {
+    ghost use Rattle.std.specs.Prelude.{ℕ};
     ghost use Rattle.desk_io.specs.ShelfState.{ShelfState};
     ghost use Rattle.fpga_types.specs.Problem.{RoutingProblem};
     ghost use Rattle.router_top.specs.declared.outcome.Outcome.{Outcome};
@@ -24,9 +28,20 @@ pub trait ProblemWork {
     /// What the work on a problem leaves, by the shelf before and after it and what it comes to.
     ghost leaves: { Self → RoutingProblem → ShelfState → ShelfState → Outcome → Type 0 };
 
-    /// Does the work, and gives what it comes to.
-    fn work<S: Shelf>(&self, alloc: Global, problem: &PlacedProblem, shelf: &mut S) -> Outcome
-        ensures { leaves self.now problem.now (S.state shelf.old) (S.state shelf.new) result };
+    /// How many clauses a search of it may learn, if it searches.
+    ghost budget: { Self → ℕ };
+
+    /// Does the work, and gives what it comes to. A search is left open before its budget is spent
+    /// only where the clock has said that it may not go on.
+    fn work<S: Shelf, C: Clock>(
+        &self,
+        alloc: Global,
+        problem: &PlacedProblem,
+        shelf: &mut S,
+        clock: &mut C,
+    ) -> Outcome
+        ensures leaves { leaves self.now problem.now (S.state shelf.old) (S.state shelf.new) result }
+        ensures stopped { EndsEarly (budget self.now) result → C.is_over clock.new };
 }
 
 /// Of a problem that was posed the four values were given as their readers give them. Does nothing.
@@ -36,14 +51,22 @@ pub fn was_given(problem: &PlacedProblem)
     let _route = problem.route();
 }
 
+/// A problem that was posed fits. Does nothing.
+pub fn does_fit(problem: &PlacedProblem)
+    ensures { Fits problem.now }
+{
+    let _route = problem.route();
+}
+
 /// Reads the four files and does the work on their problem, which is given back. Where they give
 /// none, nothing is written.
-pub fn work_on<D: Desk, S: Shelf, W: ProblemWork>(
+pub fn work_on<D: Desk, S: Shelf, C: Clock, W: ProblemWork>(
     alloc: Global,
     names: &FourNames<'_>,
     work: &W,
     desk: &mut D,
     shelf: &mut S,
+    clock: &mut C,
 ) -> Ran
     ensures leaves { LeavesWork (names_said names.now) (W.leaves work.now)
         (scene (D.state desk.old) (D.state desk.new) (S.state shelf.old) (S.state shelf.new))
@@ -54,6 +77,8 @@ pub fn work_on<D: Desk, S: Shelf, W: ProblemWork>(
     ensures posed { IfSome result.problem
         (Poses (D.state desk.old).files (names_said names.now)) }
     ensures lacks { IsNone result.problem → EndsWithoutProblem result.outcome }
+    ensures stopped { EndsEarly (W.budget work.now) result.outcome → C.is_over clock.new }
+    ensures unraised { result.reason ≡ None }
 {
     let problem = match read_files(alloc, desk, names) {
         Ok(problem) => problem,
@@ -61,12 +86,14 @@ pub fn work_on<D: Desk, S: Shelf, W: ProblemWork>(
             return Ran {
                 outcome: unread_outcome(TextFile::Problem(stop.file), stop.fault),
                 problem: None,
+                reason: None,
             };
         }
     };
-    let outcome = work.work(alloc, &problem, shelf);
+    let outcome = work.work(alloc, &problem, shelf, clock);
     Ran {
         outcome,
         problem: Some(problem),
+        reason: None,
     }
 }

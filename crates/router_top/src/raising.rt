@@ -15,8 +15,8 @@ const LOOKS: u32 = 20;
 /// How many clauses the search through a window learns at the most.
 const LEARNED: u64 = 200;
 
-/// A number of tracks than which no routing of a placement has fewer; and where that is not by a cut
-/// alone, a refutation over cells with one track fewer.
+/// A number of tracks than which no routing of a placement has fewer; and where that is not by a
+/// cut alone, a refutation over cells with one track fewer.
 #[derive(Drop)]
 pub(crate) struct Raised {
     pub tracks: u32,
@@ -43,8 +43,9 @@ fn refuted_at(
     refute(alloc, arch, netlist, placement, width, budget)
 }
 
-/// The bound of a cut that asks for so many tracks, raised by one as often as a refutation is found,
-/// but no further than to `last`. Only the last refutation is kept: it speaks of all lower widths.
+/// The bound of a cut that asks for so many tracks, raised by one as often as a refutation is
+/// found, but no further than to `last`. Only the last refutation is kept: it speaks of all lower
+/// widths.
 ///
 /// # Errors
 /// Where memory is short.

@@ -3,9 +3,11 @@ ghost use Rattle.std.specs.Prelude.{◌≡◌};
 ghost use Rattle.router_words.specs.Job.{route_said};
 ghost use Rattle.router_top.specs.Known.{IsKnown};
 ghost use Rattle.router_top.specs.Report.{found_outcome};
+ghost use Rattle.router_top.specs.Stopped.{EndsEarly};
 ghost use Rattle.router_top.specs.Work.{LeavesRoute};
 
 use crate::chosen::Chosen;
+use crate::clock::{Clock, set_limit};
 use crate::known::known_of;
 use crate::outcome::Outcome;
 use crate::problem_work::{ProblemWork, was_given};
@@ -32,16 +34,18 @@ fn found_outcome(width: u32, came: Result<Found, Stop>) -> Outcome
 
 // Searches for a legal routing by what is known of the problem, and writes it; or else the clauses
 // and the log.
-fn search_width<S: Shelf>(
+fn search_width<S: Shelf, C: Clock>(
     alloc: Global,
     job: &RouteJob<'_>,
     known: &Option<Facts>,
     problem: &PlacedProblem,
     shelf: &mut S,
+    clock: &mut C,
 ) -> Outcome
     requires { IsKnown job.now.search.method job.now.search.count problem.now known.now }
-    ensures { LeavesRoute (route_said job.now) problem.now (S.state shelf.old)
+    ensures leaves { LeavesRoute (route_said job.now) problem.now (S.state shelf.old)
         (S.state shelf.new) result }
+    ensures stopped { EndsEarly job.now.search.conflicts result → C.is_over clock.new }
 {
     was_given(problem);
     let search = job.search;
@@ -51,7 +55,17 @@ fn search_width<S: Shelf>(
         prefix: search.prefix,
         numbered: false,
     };
-    let came = one_width(alloc, &way, &encoder, problem, search.width, &ask, shelf);
+    set_limit(clock, search.seconds);
+    let came = one_width(
+        alloc,
+        &way,
+        &encoder,
+        problem,
+        search.width,
+        &ask,
+        shelf,
+        clock,
+    );
     found_outcome(search.width, came)
 }
 
@@ -64,10 +78,18 @@ impl<'a> ProblemWork for RouteJob<'a> {
     ghost leaves = { λ job. LeavesPrepared job.search.method job.search.count
         (LeavesRoute (route_said job)) };
 
-    fn work<S: Shelf>(&self, alloc: Global, problem: &PlacedProblem, shelf: &mut S) -> Outcome {
+    ghost budget = { λ job. job.search.conflicts };
+
+    fn work<S: Shelf, C: Clock>(
+        &self,
+        alloc: Global,
+        problem: &PlacedProblem,
+        shelf: &mut S,
+        clock: &mut C,
+    ) -> Outcome {
         let Ok(known) = known_of(alloc, self.search.method, self.search.count, problem) else {
             return Outcome::OutOfMemory;
         };
-        search_width(alloc, self, &known, problem, shelf)
+        search_width(alloc, self, &known, problem, shelf, clock)
     }
 }

@@ -4,13 +4,16 @@ ghost use Rattle.router_words.specs.Word.{words_of};
 ghost use Rattle.router_top.specs.JobFiles.{LeavesFiles};
 ghost use Rattle.router_top.specs.Means.{Means};
 ghost use Rattle.router_top.specs.Posed.{IsPosed, LacksProblem};
+ghost use Rattle.router_top.specs.Reasons.{GivesReason, LacksReason};
 ghost use Rattle.router_top.specs.Report.{IsReadFault, unsaid};
 ghost use Rattle.router_top.specs.Run.{Leaves, Reports, Runs, scene};
 ghost use Rattle.router_top.specs.Saying.{Speaks};
+ghost use Rattle.router_top.specs.Stopped.{WasStopped};
 ghost use Rattle.router_top.specs.Truth.{IsComplete};
 
 use crate::bounding::bound_files;
 use crate::checking::check_files;
+use crate::clock::Clock;
 use crate::decoding::decode_files;
 use crate::generating::generate_files;
 use crate::judging::judge_file;
@@ -19,7 +22,7 @@ use crate::negotiating::negotiate_files;
 use crate::outcome::{Outcome, report};
 use crate::problem_work::work_on;
 use crate::progress::Progress;
-use crate::ran::Ran;
+use crate::ran::{Ran, without_problem};
 use crate::slot::Slot;
 use crate::suited::Suited;
 use crate::trying::trial;
@@ -28,18 +31,14 @@ use desk_io::{Desk, Shelf};
 use router_words::{Job, WordsFault, read_words};
 use std::alloc::Global;
 
-// What a run comes to that works on no problem.
-fn without_problem(outcome: Outcome) -> Ran
-    ensures { result ≡ record { outcome = outcome; problem = None } }
-{
-    Ran {
-        outcome,
-        problem: None,
-    }
-}
-
 // The work that the words ask for, but for the report.
-fn work<D: Desk, S: Progress>(alloc: Global, words: &[String], desk: &mut D, shelf: &mut S) -> Ran
+fn work<D: Desk, S: Progress, C: Clock>(
+    alloc: Global,
+    words: &[String],
+    desk: &mut D,
+    shelf: &mut S,
+    clock: &mut C,
+) -> Ran
     ensures leaves { Leaves (words_of words.now)
         (scene (D.state desk.old) (D.state desk.new) (S.state shelf.old) (S.state shelf.new))
         result.outcome }
@@ -49,6 +48,11 @@ fn work<D: Desk, S: Progress>(alloc: Global, words: &[String], desk: &mut D, she
     ensures posed { IfSome result.problem
         (IsPosed (D.state desk.old).files (words_of words.now)) }
     ensures lacks { IsNone result.problem → LacksProblem (words_of words.now) result.outcome }
+    ensures stopped { WasStopped (words_of words.now) result.outcome → C.is_over clock.new }
+    ensures reason { IfSome result.reason (GivesReason (words_of words.now)
+        (D.state desk.old).files (S.state shelf.old).files (S.state shelf.new).files
+        result.outcome) }
+    ensures unraised { IsNone result.reason → LacksReason (words_of words.now) result.outcome }
 {
     match read_words(alloc, words) {
         Ok(Job::Route(job)) => {
@@ -58,7 +62,7 @@ fn work<D: Desk, S: Progress>(alloc: Global, words: &[String], desk: &mut D, she
                 last: job.search.width,
                 work: job,
             };
-            work_on(alloc, &job.files, &work, desk, shelf)
+            work_on(alloc, &job.files, &work, desk, shelf, clock)
         }
         Ok(Job::Sweep(job)) => {
             let work = Suited {
@@ -67,7 +71,7 @@ fn work<D: Desk, S: Progress>(alloc: Global, words: &[String], desk: &mut D, she
                 last: job.search.width,
                 work: job,
             };
-            work_on(alloc, &job.files, &work, desk, shelf)
+            work_on(alloc, &job.files, &work, desk, shelf, clock)
         }
         Ok(Job::Encode(job)) => {
             let work = Suited {
@@ -76,18 +80,26 @@ fn work<D: Desk, S: Progress>(alloc: Global, words: &[String], desk: &mut D, she
                 last: job.width,
                 work: job,
             };
-            work_on(alloc, &job.files, &work, desk, shelf)
+            work_on(alloc, &job.files, &work, desk, shelf, clock)
         }
         Ok(Job::Decode(job)) => without_problem(decode_files(alloc, &job, desk, shelf)),
-        Ok(Job::Core(job)) => work_on(alloc, &job.files, &job, desk, shelf),
+        Ok(Job::Core(job)) => {
+            let work = Suited {
+                method: job.method,
+                first: job.width,
+                last: job.width,
+                work: job,
+            };
+            work_on(alloc, &job.files, &work, desk, shelf, clock)
+        }
         Ok(Job::Check(job)) => without_problem(check_files(alloc, &job, desk)),
         Ok(Job::Verify(job)) => without_problem(verify_file(alloc, &job, desk, shelf)),
         Ok(Job::Judge(job)) => without_problem(judge_file(alloc, &job, desk)),
         Ok(Job::Bound(job)) => without_problem(bound_files(alloc, &job, desk, shelf)),
         Ok(Job::Global(job)) => without_problem(negotiate_files(alloc, &job, desk, shelf)),
-        Ok(Job::Least(job)) => without_problem(narrow_files(alloc, &job, desk, shelf)),
+        Ok(Job::Least(job)) => narrow_files(alloc, &job, desk, shelf),
         Ok(Job::Gen(job)) => without_problem(generate_files(alloc, &job, shelf)),
-        Ok(Job::Trial(job)) => without_problem(trial(alloc, &job, shelf)),
+        Ok(Job::Trial(job)) => without_problem(trial(alloc, &job, shelf, clock)),
         Err(WordsFault::Refused(cause)) => without_problem(Outcome::Usage { code: cause.code() }),
         Err(WordsFault::Memory) => without_problem(Outcome::OutOfMemory),
     }
@@ -131,12 +143,17 @@ fn say_report<S: Shelf>(shelf: &mut S, outcome: Outcome) -> Outcome
 /// line `net NAME` for each net that the refutation blames: these have no legal routing by
 /// themselves.
 ///
-/// Where `--pin` is given to `route`, `sweep`, `encode` or `decode`, the nets of one most crowded
-/// cell are given their tracks beforehand, and where `--symmetry` is, the trees of a crowd come to
-/// the tracks or to pairs of them in their order. That changes no answer of a search. For pins all
-/// tracks are to be alike, and for that order they or their pairs are to be free to change places,
-/// at WIDTH or at each width up to MAX: if not, the outcome is `NotSymmetric` with the least such
-/// width and nothing is written.
+/// Where `--pin` is given to `route`, `sweep`, `core`, `encode` or `decode`, the nets of one most
+/// crowded cell are given their tracks beforehand, and where `--symmetry` is, the trees of a crowd
+/// come to the tracks or to pairs of them in their order. That changes no answer of a search, and
+/// the nets to blame have no legal routing by themselves, with these tracks, in that order or
+/// otherwise. For pins all tracks are to be alike, and for that order they or their pairs are to be
+/// free to change places, at WIDTH or at each width up to MAX: if not, the outcome is
+/// `NotSymmetric` with the least such width and nothing is written.
+///
+/// Where `--seconds` is given to `route`, `sweep`, `core` or `trial`, the clock is told of the
+/// limit and asked each time that a search begins anew. Where it says no the search is left open,
+/// with its clauses and log, as where its budget is spent. Without the option no search is stopped.
 ///
 /// Where `--reach` is given to `route`, `sweep`, `trial`, `encode` or `decode`, a routing is one in
 /// which a net may take several wires of its cells and reaches each sink within so many joins; the
@@ -148,8 +165,8 @@ fn say_report<S: Shelf>(shelf: &mut S, outcome: Outcome) -> Outcome
 /// beforehand: one wire of a cell alone for each net where `--strict` is given, and else several.
 ///
 /// `bound` asks how many tracks each routing of the placement has at the least, whatever its cells:
-/// it says a line that names a cut of the array, a line `net NAME` for each net that crosses it, and
-/// writes nothing.
+/// it says a line that names a cut of the array, a line `net NAME` for each net that crosses it,
+/// and writes nothing.
 ///
 /// `global` reads the first three files alone, and looks for a route of the placement together with
 /// its tracks. It writes PREFIX.route where one is found in as many rounds as it is given, and else
@@ -159,8 +176,8 @@ fn say_report<S: Shelf>(shelf: &mut S, outcome: Outcome) -> Outcome
 /// `least` reads what `global` does and says what `bound` does. It raises the bound of the cut by
 /// refutations over the cells of windows, at widths below MAX. From as many tracks as that comes to
 /// up to MAX it looks for a route as `global` does, and the first that is found ends it: it writes
-/// PREFIX.route, and where a refutation has raised the bound its clauses and its log, PREFIX.cnf and
-/// PREFIX.lrat.
+/// PREFIX.route, and where a refutation has raised the bound its clauses and its log, PREFIX.cnf
+/// and PREFIX.lrat.
 ///
 /// `gen` makes a problem from its recipe and writes PREFIX.arch, PREFIX.net, PREFIX.place and
 /// PREFIX.route. `trial` makes one too, says a line with the numbers of its slots, its steps and
@@ -178,13 +195,16 @@ fn say_report<S: Shelf>(shelf: &mut S, outcome: Outcome) -> Outcome
 /// another command there is none. The files of the desk stay in any case.
 ///
 /// The problem that `route`, `sweep`, `encode` and `core` worked on is given back with the outcome,
-/// so that more can be said of it. They give none only where their files pose none, or memory is too
-/// short.
-pub fn run<D: Desk, S: Progress>(
+/// so that more can be said of it. They give none only where their files pose none, or memory is
+/// too short. So is the refutation with which `least` raised the bound of its cut, where it wrote
+/// one, with the netlist: the nets that it blames have no routing by themselves with one track less
+/// than the raised bound or fewer.
+pub fn run<D: Desk, S: Progress, C: Clock>(
     alloc: Global,
     words: &[String],
     desk: &mut D,
     shelf: &mut S,
+    clock: &mut C,
 ) -> Ran
     ensures means { Means (words_of words.now) (D.state desk.old).files (S.state shelf.old).files
         (S.state shelf.new).files result.outcome }
@@ -200,8 +220,21 @@ pub fn run<D: Desk, S: Progress>(
         (IsPosed (D.state desk.old).files (words_of words.now)) }
     ensures unposed { IsNone result.problem
         → LacksProblem (words_of words.now) result.outcome }
+    ensures stopped { WasStopped (words_of words.now) result.outcome → C.is_over clock.new }
+    ensures reason { IfSome result.reason (GivesReason (words_of words.now)
+        (D.state desk.old).files (S.state shelf.old).files (S.state shelf.new).files
+        result.outcome) }
+    ensures unraised { IsNone result.reason → LacksReason (words_of words.now) result.outcome }
 {
-    let Ran { outcome, problem } = work(alloc, words, desk, shelf);
+    let Ran {
+        outcome,
+        problem,
+        reason,
+    } = work(alloc, words, desk, shelf, clock);
     let outcome = say_report(shelf, outcome);
-    Ran { outcome, problem }
+    Ran {
+        outcome,
+        problem,
+        reason,
+    }
 }

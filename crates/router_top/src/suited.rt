@@ -4,6 +4,7 @@ ghost use Rattle.fpga_types.specs.declared.limits.TheConstants.{WIDTH_LIMIT};
 ghost use Rattle.router_top.specs.Suited.{IsUnsuited, Suits, is_suited, obstacle_to};
 ghost use Rattle.router_top.specs.declared.outcome.Obstacle.TheVariants.{Order, Pins};
 
+use crate::clock::Clock;
 use crate::outcome::{Obstacle, Outcome};
 use crate::problem_work::ProblemWork;
 use desk_io::Shelf;
@@ -91,10 +92,18 @@ impl<W: ProblemWork> ProblemWork for Suited<W> {
     ghost leaves = { λ suited. LeavesSuited suited.method suited.first suited.last
         (W.leaves suited.work) };
 
-    fn work<S: Shelf>(&self, alloc: Global, problem: &PlacedProblem, shelf: &mut S) -> Outcome {
+    ghost budget = { λ suited. W.budget suited.work };
+
+    fn work<S: Shelf, C: Clock>(
+        &self,
+        alloc: Global,
+        problem: &PlacedProblem,
+        shelf: &mut S,
+        clock: &mut C,
+    ) -> Outcome {
         if let Some(outcome) = unsuited(problem, self.method, self.first, self.last) {
             return outcome;
         }
-        self.work.work(alloc, problem, shelf)
+        self.work.work(alloc, problem, shelf, clock)
     }
 }

@@ -3,9 +3,11 @@ ghost use Rattle.std.specs.Prelude.{◌≡◌, option_map};
 ghost use Rattle.router_words.specs.Job.{members_said, search_said};
 ghost use Rattle.router_top.specs.Known.{IsKnown};
 ghost use Rattle.router_top.specs.Report.{climbed_outcome};
+ghost use Rattle.router_top.specs.Stopped.{EndsEarly};
 ghost use Rattle.router_top.specs.Work.{Climbs};
 
 use crate::chosen::Chosen;
+use crate::clock::{Clock, set_limit};
 use crate::known::known_of;
 use crate::outcome::Outcome;
 use crate::problem_work::{ProblemWork, was_given};
@@ -33,17 +35,19 @@ fn climbed_outcome(came: Result<Climbed, Stop>) -> Outcome
 /// Searches at the widths from 1 on, up to the first that is not refuted or up to the last, by what
 /// is known of the problem, at each by one search or by as many as take turns; writes a routing, or
 /// else the clauses and the log of each width that was searched.
-pub fn search_widths<S: Shelf>(
+pub fn search_widths<S: Shelf, C: Clock>(
     alloc: Global,
     problem: &PlacedProblem,
     known: &Option<Facts>,
     search: &SearchJob<'_>,
     members: Option<Members>,
     shelf: &mut S,
+    clock: &mut C,
 ) -> Outcome
     requires { IsKnown search.now.method search.now.count problem.now known.now }
-    ensures { Climbs (search_said search.now) (option_map members_said members) problem.now
+    ensures leaves { Climbs (search_said search.now) (option_map members_said members) problem.now
         (S.state shelf.old) (S.state shelf.new) result }
+    ensures stopped { EndsEarly search.now.conflicts result → C.is_over clock.new }
 {
     was_given(problem);
     let encoder = Chosen::of(search.method, known);
@@ -52,7 +56,18 @@ pub fn search_widths<S: Shelf>(
         prefix: search.prefix,
         numbered: true,
     };
-    climbed_outcome(climb(alloc, &way, &encoder, problem, search.width, &ask, shelf))
+    set_limit(clock, search.seconds);
+    let came = climb(
+        alloc,
+        &way,
+        &encoder,
+        problem,
+        search.width,
+        &ask,
+        shelf,
+        clock,
+    );
+    climbed_outcome(came)
 }
 
 // Searches at one width after another.
@@ -64,10 +79,26 @@ impl<'a> ProblemWork for SweepJob<'a> {
     ghost leaves = { λ job. LeavesPrepared job.search.method job.search.count
         (Sweeps (sweep_said job)) };
 
-    fn work<S: Shelf>(&self, alloc: Global, problem: &PlacedProblem, shelf: &mut S) -> Outcome {
+    ghost budget = { λ job. job.search.conflicts };
+
+    fn work<S: Shelf, C: Clock>(
+        &self,
+        alloc: Global,
+        problem: &PlacedProblem,
+        shelf: &mut S,
+        clock: &mut C,
+    ) -> Outcome {
         let Ok(known) = known_of(alloc, self.search.method, self.search.count, problem) else {
             return Outcome::OutOfMemory;
         };
-        search_widths(alloc, problem, &known, &self.search, self.members, shelf)
+        search_widths(
+            alloc,
+            problem,
+            &known,
+            &self.search,
+            self.members,
+            shelf,
+            clock,
+        )
     }
 }

@@ -5,8 +5,10 @@ ghost use Rattle.fpga_types.specs.declared.limits.TheConstants.{SLOT_LIMIT};
 ghost use Rattle.router_words.specs.Job.{recipe_said, trial_said};
 ghost use Rattle.router_top.specs.Generated.{IsMade, PosesNone};
 ghost use Rattle.router_top.specs.Run.{TriesGenerated};
+ghost use Rattle.router_top.specs.Stopped.{EndsEarly};
 ghost use Rattle.router_top.specs.Work.{trial_line};
 
+use crate::clock::Clock;
 use crate::generating::make_texts;
 use crate::known::known_of;
 use crate::outcome::{LINE_ROOM, Outcome, push_count};
@@ -66,9 +68,15 @@ fn make_problem(alloc: Global, recipe: Recipe) -> Result<PlacedProblem, Outcome>
 
 /// Makes a problem from its recipe, says how large it is, and searches at the widths from 1 on, as
 /// a sweep does; writes what a sweep writes.
-pub fn trial<S: Shelf>(alloc: Global, job: &TrialJob<'_>, shelf: &mut S) -> Outcome
-    ensures { TriesGenerated (trial_said job.now) (S.state shelf.old) (S.state shelf.new)
+pub fn trial<S: Shelf, C: Clock>(
+    alloc: Global,
+    job: &TrialJob<'_>,
+    shelf: &mut S,
+    clock: &mut C,
+) -> Outcome
+    ensures leaves { TriesGenerated (trial_said job.now) (S.state shelf.old) (S.state shelf.new)
         result }
+    ensures stopped { EndsEarly job.now.search.conflicts result → C.is_over clock.new }
 {
     let problem = match make_problem(alloc, job.recipe) {
         Ok(problem) => problem,
@@ -80,5 +88,5 @@ pub fn trial<S: Shelf>(alloc: Global, job: &TrialJob<'_>, shelf: &mut S) -> Outc
     let Ok(()) = shelf.say(trial_line(&problem).as_bytes()) else {
         return Outcome::WriteFault { slot: Slot::Said };
     };
-    search_widths(alloc, &problem, &known, &job.search, None, shelf)
+    search_widths(alloc, &problem, &known, &job.search, None, shelf, clock)
 }

@@ -1,6 +1,7 @@
 //! The ways in which jobs search.
 ghost use Rattle.std.specs.Prelude.{◌≡◌, ℕ, IsSome, IsTrue, option_map};
 ghost use Rattle.fpga_types.specs.Problem.{RoutingProblem};
+ghost use Rattle.route_core.specs.Fair.{IsFair};
 ghost use Rattle.route_count.specs.Begun.{IsBegunBy};
 ghost use Rattle.route_encode.specs.Encoding.{cnf_of};
 ghost use Rattle.route_ways.specs.Way.{course_of, serves_by};
@@ -23,7 +24,8 @@ fn wires_by(method: Method) -> Wires
     }
 }
 
-// One search; or as many as take turns, which keep all clauses.
+// One search; or as many as take turns, which keep all clauses. They may be stopped where the words
+// set a limit of time.
 fn plain_by(search: &SearchJob<'_>, members: Option<Members>) -> Plain
     ensures { result ≡ plain_by (search_said search.now) (option_map members_said members) }
 {
@@ -34,6 +36,7 @@ fn plain_by(search: &SearchJob<'_>, members: Option<Members>) -> Plain
             wires,
             budget: search.conflicts,
             keep: search.keep,
+            limited: search.seconds.is_some(),
         },
         Some(members) => Plain {
             solver: Solver::Turns {
@@ -43,6 +46,7 @@ fn plain_by(search: &SearchJob<'_>, members: Option<Members>) -> Plain
             wires,
             budget: search.conflicts,
             keep: true,
+            limited: search.seconds.is_some(),
         },
     }
 }
@@ -76,16 +80,18 @@ pub fn way_by<'a>(
     Way::Alone { plain }
 }
 
-/// The way of `core`, which serves the clauses of [`Strict`](route_encode::Strict).
+/// The way of `core`, which serves clauses that are fair.
 pub fn core_way(job: &CoreJob<'_>) -> Way<'static>
     ensures is { course_of result ≡ core_way (core_said job.now) }
-    ensures serves { (p : RoutingProblem) (width : ℕ) → serves_by result p width (cnf_of width p) }
+    ensures serves { (p : RoutingProblem) (width : ℕ) (formula : Cnf) → IsFair width p formula
+        → serves_by result p width formula }
 {
     let rest = Plain {
         solver: Solver::Merging,
         wires: Wires::One,
         budget: job.conflicts,
         keep: true,
+        limited: job.seconds.is_some(),
     };
     Way::Cut {
         trimming: Trimming { rest },

@@ -28,6 +28,7 @@ told width prefix conflicts keep = record {
   width = width;
   prefix = prefix;
   conflicts = conflicts;
+  seconds = None;
   keep = keep;
   count = false;
   method = Strictly;
@@ -100,6 +101,25 @@ options = refl
 pub no_budget : route (codes "5" ∷ codes "out" ∷ codes "--conflicts" ∷ codes "0" ∷ []) ≡ Err Number
 unfolding clap_on_literals
 no_budget = refl
+
+-- a limit in seconds
+pub limited : route (codes "5" ∷ codes "out" ∷ codes "--seconds" ∷ codes "1000000" ∷ [])
+    ≡ Ok (Routes (record {
+      files = four_files;
+      search = record (told 5 (codes "out") 1_000_000 false) { seconds = Some 1_000_000 };
+      members = None;
+    }))
+unfolding clap_on_literals
+limited = refl
+
+pub no_second : route (codes "5" ∷ codes "out" ∷ codes "--seconds=0" ∷ []) ≡ Err Number
+unfolding clap_on_literals
+no_second = refl
+
+pub too_many_seconds : route (codes "5" ∷ codes "out" ∷ codes "--seconds=1000001" ∷ [])
+    ≡ Err Number
+unfolding clap_on_literals
+too_many_seconds = refl
 
 -- behind `--` no word is an option; a word may be empty
 pub dashes : route (codes "5" ∷ codes "--" ∷ codes "--keep" ∷ [])
@@ -348,9 +368,16 @@ pub encode_names : encode (codes "--names" ∷ codes "--symmetry" ∷ [])
 unfolding clap_on_literals
 encode_names = refl
 
-pub names_and_reaches : encode (codes "--names" ∷ codes "--reach=2" ∷ []) ≡ Err Clash
+pub names_within : encode (codes "--names" ∷ codes "--reach=2" ∷ [])
+    ≡ Ok (Encodes (record {
+      files = four_files;
+      width = 5;
+      prefix = codes "out";
+      method = Within 2;
+      names = true;
+    }))
 unfolding clap_on_literals
-names_and_reaches = refl
+names_within = refl
 
 pub reach_too_far : encode (codes "--pin" ∷ codes "--reach=65" ∷ []) ≡ Err Number
 unfolding clap_on_literals
@@ -396,9 +423,43 @@ pub blames : core (codes "--conflicts" ∷ codes "7" ∷ [])
       width = 5;
       prefix = codes "out";
       conflicts = 7;
+      seconds = None;
+      method = Strictly;
     }))
 unfolding clap_on_literals
 blames = refl
+
+pub blames_in_time : core (codes "--seconds=60" ∷ [])
+    ≡ Ok (Blames (record {
+      files = four_files;
+      width = 5;
+      prefix = codes "out";
+      conflicts = 1_000_000;
+      seconds = Some 60;
+      method = Strictly;
+    }))
+unfolding clap_on_literals
+blames_in_time = refl
+
+pub blames_in_order : core (codes "--symmetry" ∷ [])
+    ≡ Ok (Blames (record {
+      files = four_files;
+      width = 5;
+      prefix = codes "out";
+      conflicts = 1_000_000;
+      seconds = None;
+      method = Ordered;
+    }))
+unfolding clap_on_literals
+blames_in_order = refl
+
+pub blames_two_ways : core (codes "--pin" ∷ codes "--symmetry" ∷ []) ≡ Err Clash
+unfolding clap_on_literals
+blames_two_ways = refl
+
+pub blames_within : core (codes "--reach=2" ∷ []) ≡ Err Form
+unfolding clap_on_literals
+blames_within = refl
 
 pub core_keeps : core (codes "--keep" ∷ []) ≡ Err Form
 unfolding clap_on_literals
@@ -516,7 +577,7 @@ pub negotiates : global (codes "5" ∷ codes "out" ∷ [])
       prefix = codes "out";
       free = false;
       from = None;
-      rounds = 200;
+      rounds = 500;
     }))
 unfolding clap_on_literals
 negotiates = refl
@@ -562,7 +623,7 @@ pub narrows : least (codes "64" ∷ codes "out" ∷ [])
       prefix = codes "out";
       free = false;
       from = None;
-      rounds = 200;
+      rounds = 500;
     }))
 unfolding clap_on_literals
 narrows = refl

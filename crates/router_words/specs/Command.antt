@@ -20,7 +20,7 @@ use Rattle.router_words.specs.declared.fault.Refusal.TheVariants.{Clash, Command
 use Rattle.router_words.specs.declared.fault.WordsFault.{WordsFault}
 use Rattle.router_words.specs.declared.fault.WordsFault.TheVariants.{Memory, Refused}
 use Rattle.router_words.specs.declared.job.Job.{Job}
-use Rattle.router_words.specs.declared.limits.TheConstants.{BUDGET_DEFAULT, BUDGET_LIMIT, GENERATED_NETS_LIMIT, MEMBER_LIMIT, ROUND_DEFAULT, ROUND_LIMIT, SEED_DEFAULT, SEED_LIMIT}
+use Rattle.router_words.specs.declared.limits.TheConstants.{BUDGET_DEFAULT, BUDGET_LIMIT, GENERATED_NETS_LIMIT, MEMBER_LIMIT, ROUND_DEFAULT, ROUND_LIMIT, SECOND_LIMIT, SEED_DEFAULT, SEED_LIMIT}
 use Rattle.router_words.specs.declared.method.Method.{Method}
 use Rattle.router_words.specs.declared.method.Method.TheVariants.{Ordered, Pinned, Strictly, Within}
 
@@ -71,6 +71,17 @@ conflicts_asked rows =
     option_map_or (number_within 1 BUDGET_LIMIT) (first_of (codes "conflicts") rows)
     (Ok BUDGET_DEFAULT)
 
+-- the number that the word for a name says, where there is such a word and it is from the least to
+-- the greatest
+abbrev pub number_if_any : (least greatest : ℕ) → Word → List Row → Result (Option ℕ) Refusal
+number_if_any least greatest name rows =
+    option_map_or (λ word. map_ok Some (number_within least greatest word)) (first_of name rows)
+    (Ok None)
+
+-- T of `--seconds T`, where it was given
+abbrev pub seconds_asked : List Row → Result (Option ℕ) Refusal
+seconds_asked rows = number_if_any 1 SECOND_LIMIT (codes "seconds") rows
+
 -- N of `--rounds N`, or the default
 abbrev pub rounds_asked : List Row → Result ℕ Refusal
 rounds_asked rows =
@@ -89,19 +100,21 @@ method_asked reach rows =
     if has_flag (codes "symmetry") rows then Ordered else
     method_within reach
 
--- WIDTH PREFIX [--conflicts N] [--keep] [--count], or with MAX, by a method; within a reach nothing
--- is counted, and the commands refuse both together
+-- WIDTH PREFIX [--conflicts N] [--seconds T] [--keep] [--count], or with MAX, by a method; within a
+-- reach nothing is counted, and the commands refuse both together
 abbrev pub search_asked : Method → List Row → Result SearchAsked Refusal
 search_asked method rows =
     and_then (width_asked rows) (λ width.
-    map_ok (λ conflicts. record {
+    and_then (conflicts_asked rows) (λ conflicts.
+    map_ok (λ seconds. record {
       width = width;
       prefix = word_in (codes "prefix") rows;
       conflicts = conflicts;
+      seconds = seconds;
       keep = has_flag (codes "keep") rows;
       count = has_flag (codes "count") rows && has_one_track method;
       method = method;
-    }) (conflicts_asked rows))
+    }) (seconds_asked rows)))
 
 -- SEED
 abbrev pub seed_asked : List Row → Result ℕ Refusal
@@ -121,13 +134,6 @@ recipe_asked rows =
     and_then (seed_asked rows) (λ seed.
     and_then (side_asked rows) (λ side.
     map_ok (λ nets. record { seed = seed; side = side; nets = nets }) (nets_asked rows)))
-
--- the number that the word for a name says, where there is such a word and it is from the least to
--- the greatest
-abbrev pub number_if_any : (least greatest : ℕ) → Word → List Row → Result (Option ℕ) Refusal
-number_if_any least greatest name rows =
-    option_map_or (λ word. map_ok Some (number_within least greatest word)) (first_of name rows)
-    (Ok None)
 
 -- as many searches take turns as `--members` says, by the seed or the default one; without it there
 -- is to be no seed
@@ -154,10 +160,6 @@ has_two_methods rows =
     || ((has_flag (codes "pin") rows || has_flag (codes "symmetry") rows)
     && is_some (first_of (codes "reach") rows))
 
--- `--names` and `--reach` were given
-abbrev pub names_a_reach : List Row → Bool
-names_a_reach rows = has_flag (codes "names") rows && is_some (first_of (codes "reach") rows)
-
 -- options of a search were given of which one excludes another: two such, or `--count` and
 -- `--reach`
 abbrev pub has_clash : List Row → Bool
@@ -172,7 +174,8 @@ pub record CommandRow : Type 0 where
   pub form : App
   pub job : List Row → Result JobAsked Refusal
 
--- WIDTH PREFIX [--conflicts N] [--keep] [--count] [--reach L] [--pin] [--symmetry], or with MAX
+-- WIDTH PREFIX [--conflicts N] [--seconds T] [--keep] [--count] [--reach L] [--pin] [--symmetry],
+-- or with MAX
 abbrev pub search_by_method : List Row → Result SearchAsked Refusal
 search_by_method rows =
     and_then (reach_asked rows) (λ reach. search_asked (method_asked reach rows) rows)
@@ -201,13 +204,12 @@ sweep_asked rows = map_ok (λ told. Sweeps (record {
   members = told.1;
 })) (turns_asked rows)
 
--- what `encode` is asked for: pinned tracks, tracks in order and a reach exclude each other, and so
--- do names and a reach
+-- what `encode` is asked for: pinned tracks, tracks in order and a reach exclude each other
 abbrev pub encode_asked : List Row → Result JobAsked Refusal
 encode_asked rows =
     and_then (width_asked rows) (λ width.
     and_then (reach_asked rows) (λ reach.
-    if has_two_methods rows || names_a_reach rows then Err Clash else Ok (Encodes (record {
+    if has_two_methods rows then Err Clash else Ok (Encodes (record {
       files = files_asked rows;
       width = width;
       prefix = word_in (codes "prefix") rows;
@@ -228,16 +230,20 @@ decode_asked rows =
       method = method_asked reach rows;
     }))))
 
--- what `core` is asked for
+-- what `core` is asked for: pinned tracks and tracks in order exclude each other
 abbrev pub core_asked : List Row → Result JobAsked Refusal
 core_asked rows =
     and_then (width_asked rows) (λ width.
-    map_ok (λ conflicts. Blames (record {
+    and_then (conflicts_asked rows) (λ conflicts.
+    and_then (seconds_asked rows) (λ seconds.
+    if has_two_methods rows then Err Clash else Ok (Blames (record {
       files = files_asked rows;
       width = width;
       prefix = word_in (codes "prefix") rows;
       conflicts = conflicts;
-    })) (conflicts_asked rows))
+      seconds = seconds;
+      method = method_asked None rows;
+    })))))
 
 -- what `check` is asked for
 abbrev pub check_asked : List Row → Result JobAsked Refusal

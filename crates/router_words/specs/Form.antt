@@ -52,12 +52,13 @@ with_files form = with_word (codes "route") (with_placed form)
 abbrev pub with_width_and_prefix : App → App
 with_width_and_prefix form = with_word (codes "prefix") (with_word (codes "width") form)
 
--- [--conflicts N] [--keep] [--count]
+-- [--conflicts N] [--seconds T] [--keep] [--count]
 abbrev pub with_effort : App → App
 with_effort form =
-    with_flag (codes "count") (with_flag (codes "keep") (with_option (codes "conflicts") form))
+    with_flag (codes "count") (with_flag (codes "keep")
+    (with_option (codes "seconds") (with_option (codes "conflicts") form)))
 
--- WIDTH PREFIX [--conflicts N] [--keep] [--count] [--reach L], or with MAX
+-- WIDTH PREFIX [--conflicts N] [--seconds T] [--keep] [--count] [--reach L], or with MAX
 abbrev pub with_search : App → App
 with_search form = with_option (codes "reach") (with_effort (with_width_and_prefix form))
 
@@ -76,8 +77,8 @@ with_symmetry form = with_flag (codes "symmetry") (with_flag (codes "pin") form)
 abbrev pub with_members : App → App
 with_members form = with_option (codes "seed") (with_option (codes "members") form)
 
--- ARCH NET PLACE ROUTE WIDTH PREFIX [--conflicts N] [--keep] [--count] [--reach L] [--pin]
--- [--symmetry] [--members K] [--seed S]
+-- ARCH NET PLACE ROUTE WIDTH PREFIX [--conflicts N] [--seconds T] [--keep] [--count] [--reach L]
+-- [--pin] [--symmetry] [--members K] [--seed S]
 abbrev pub search_form : Word → App
 search_form name = with_members (with_symmetry (with_search (with_files (empty_form name))))
 
@@ -101,10 +102,11 @@ decode_form =
     (with_symmetry (with_word (codes "prefix") (with_word (codes "model")
     (with_word (codes "width") (with_files (empty_form (codes "decode")))))))
 
--- ARCH NET PLACE ROUTE WIDTH PREFIX [--conflicts N]
+-- ARCH NET PLACE ROUTE WIDTH PREFIX [--conflicts N] [--seconds T] [--pin] [--symmetry]
 abbrev pub core_form : App
 core_form =
-    with_option (codes "conflicts") (with_width_and_prefix (with_files (empty_form (codes "core"))))
+    with_symmetry (with_option (codes "seconds") (with_option (codes "conflicts")
+    (with_width_and_prefix (with_files (empty_form (codes "core"))))))
 
 -- CNF LRAT
 abbrev pub check_form : App
@@ -140,7 +142,7 @@ least_form = with_negotiation (empty_form (codes "least"))
 abbrev pub gen_form : App
 gen_form = with_word (codes "prefix") (with_recipe (empty_form (codes "gen")))
 
--- SEED NX NETS MAX PREFIX [--conflicts N] [--keep] [--count] [--reach L]
+-- SEED NX NETS MAX PREFIX [--conflicts N] [--seconds T] [--keep] [--count] [--reach L]
 abbrev pub trial_form : App
 trial_form = with_search (with_recipe (empty_form (codes "trial")))
 

@@ -23,13 +23,14 @@ use Rattle.router_words.specs.declared.job.VerifyJob.{VerifyJob}
 use Rattle.router_words.specs.declared.method.Method.{Method}
 
 -- what a search is told: the width, or the greatest one that is tried; what the names of written
--- files begin with; how many clauses may be learned at each width, and whether none is forgotten;
--- whether a width that numbers alone forbid is refuted by counting; and how routings are said by
--- clauses
+-- files begin with; how many clauses may be learned at each width, after how many seconds searches
+-- are stopped, if they are, and whether no clause is deleted; whether a width that numbers alone
+-- forbid is refuted by counting; and how routings are said by clauses
 pub record SearchAsked : Type 0 where
   pub width : ℕ
   pub prefix : Word
   pub conflicts : ℕ
+  pub seconds : Option ℕ
   pub keep : Bool
   pub count : Bool
   pub method : Method
@@ -71,12 +72,15 @@ pub record DecodeAsked : Type 0 where
   pub method : Method
 
 -- to look for a routing, or else for the nets to blame: the files, the width, what the names of
--- written files begin with, and how many clauses may be learned
+-- written files begin with, how many clauses may be learned, after how many seconds the search is
+-- stopped, if it is, and how routings are said by clauses
 pub record CoreAsked : Type 0 where
   pub files : FileNames
   pub width : ℕ
   pub prefix : Word
   pub conflicts : ℕ
+  pub seconds : Option ℕ
+  pub method : Method
 
 -- to check a refutation: the names of the CNF file and of the LRAT file
 pub record CheckAsked : Type 0 where
@@ -93,8 +97,8 @@ pub record VerifyAsked : Type 0 where
   pub reach : Option ℕ
   pub all : Bool
 
--- to judge a routed file as a routing of a placement: the files of the placed netlist, the width, the
--- name of the routed file, and whether each net may have one wire of a cell alone
+-- to judge a routed file as a routing of a placement: the files of the placed netlist, the width,
+-- the name of the routed file, and whether each net may have one wire of a cell alone
 pub record JudgeAsked : Type 0 where
   pub files : PlacedNames
   pub width : ℕ
@@ -107,7 +111,8 @@ pub record BoundAsked : Type 0 where
 
 -- to look for a route of a placement together with its tracks: the files of the placed netlist, the
 -- width, what the name of the written file begins with, whether a net may have several wires of a
--- cell, the file with the route to begin with, if there is one, and after how many rounds to give up
+-- cell, the file with the route to begin with, if there is one, and after how many rounds to give
+-- up
 pub record GlobalAsked : Type 0 where
   pub files : PlacedNames
   pub width : ℕ
@@ -117,9 +122,9 @@ pub record GlobalAsked : Type 0 where
   pub rounds : ℕ
 
 -- to look for the least width that has a route of a placement: the files of the placed netlist, the
--- greatest width that is tried, what the name of the written file begins with, whether a net may have
--- several wires of a cell, the file with the route to begin with, if there is one, and after how many
--- rounds to give up at a width
+-- greatest width that is tried, what the name of the written file begins with, whether a net may
+-- have several wires of a cell, the file with the route to begin with, if there is one, and after
+-- how many rounds to give up at a width
 pub record LeastAsked : Type 0 where
   pub files : PlacedNames
   pub last : ℕ
@@ -169,6 +174,7 @@ search_said search = record {
   width = search.width;
   prefix = search.prefix.now;
   conflicts = search.conflicts;
+  seconds = search.seconds;
   keep = search.keep;
   count = search.count;
   method = search.method;
@@ -218,6 +224,8 @@ core_said job = record {
   width = job.width;
   prefix = job.prefix.now;
   conflicts = job.conflicts;
+  seconds = job.seconds;
+  method = job.method;
 }
 
 abbrev pub check_said : CheckJob → CheckAsked

@@ -38,8 +38,8 @@ abbrev pub climb_overwrites : (names : List Word) → (prefix : Word) → (last 
 climb_overwrites names prefix last = is_named names prefix (codes ".route")
     || list_any (width_overwrites names prefix) (range_with_len 1 last)
 
--- the route of a placement that is looked for has the name of one of its files, or of the route that
--- the search begins with
+-- the route of a placement that is looked for has the name of one of its files, or of the route
+-- that the search begins with
 abbrev pub route_overwrites : (files : PlacedNames) → (from : Option Word) → (prefix : Word) → Bool
 route_overwrites files from prefix = is_named (three_names files) prefix (codes ".route")
     || option_map_or (λ start. is_named (start ∷ []) prefix (codes ".route")) from false

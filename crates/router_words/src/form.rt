@@ -73,12 +73,13 @@ fn add_width_and_prefix<'a>(alloc: Global, command: Command<'a>) -> Result<Comma
     add_word(alloc, command, "prefix")
 }
 
-// With what a search is to do: how many clauses it learns, whether it keeps them, and whether it
-// counts first.
+// With what a search is to do: how many clauses it learns, after how long it is stopped, whether it
+// keeps all clauses, and whether it counts first.
 fn add_effort<'a>(alloc: Global, command: Command<'a>) -> Result<Command<'a>, AllocError>
     ensures { IfOk result (λ c. app_of c ≡ with_effort (app_of command.entry)) }
 {
     let command = add_option(alloc, command, "conflicts")?;
+    let command = add_option(alloc, command, "seconds")?;
     let command = add_flag(alloc, command, "keep")?;
     add_flag(alloc, command, "count")
 }
@@ -117,8 +118,8 @@ fn add_members<'a>(alloc: Global, command: Command<'a>) -> Result<Command<'a>, A
     add_option(alloc, command, "seed")
 }
 
-/// ARCH NET PLACE ROUTE WIDTH PREFIX [--conflicts N] [--keep] [--count] [--reach L] [--pin]
-/// [--symmetry] [--members K] [--seed S], behind this name of a command.
+/// ARCH NET PLACE ROUTE WIDTH PREFIX [--conflicts N] [--seconds T] [--keep] [--count] [--reach L]
+/// [--pin] [--symmetry] [--members K] [--seed S], behind this name of a command.
 pub fn search_command<'a>(alloc: Global, name: &'a str) -> Result<Command<'a>, AllocError>
     ensures { IfOk result (λ c. app_of c ≡ search_form name.entry.now) }
 {
@@ -151,13 +152,15 @@ pub fn decode_command<'a>(alloc: Global) -> Result<Command<'a>, AllocError>
     add_option(alloc, command, "reach")
 }
 
-/// ARCH NET PLACE ROUTE WIDTH PREFIX [--conflicts N]
+/// ARCH NET PLACE ROUTE WIDTH PREFIX [--conflicts N] [--seconds T] [--pin] [--symmetry]
 pub fn core_command<'a>(alloc: Global) -> Result<Command<'a>, AllocError>
     ensures { IfOk result (λ c. app_of c ≡ core_form) }
 {
     let command = add_files(alloc, named(alloc, "core"))?;
     let command = add_width_and_prefix(alloc, command)?;
-    add_option(alloc, command, "conflicts")
+    let command = add_option(alloc, command, "conflicts")?;
+    let command = add_option(alloc, command, "seconds")?;
+    add_symmetry(alloc, command)
 }
 
 /// CNF LRAT
@@ -229,7 +232,7 @@ pub fn gen_command<'a>(alloc: Global) -> Result<Command<'a>, AllocError>
     add_word(alloc, command, "prefix")
 }
 
-/// SEED NX NETS MAX PREFIX [--conflicts N] [--keep] [--count] [--reach L]
+/// SEED NX NETS MAX PREFIX [--conflicts N] [--seconds T] [--keep] [--count] [--reach L]
 pub fn trial_command<'a>(alloc: Global) -> Result<Command<'a>, AllocError>
     ensures { IfOk result (λ c. app_of c ≡ trial_form) }
 {

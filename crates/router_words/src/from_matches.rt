@@ -1,15 +1,15 @@
 //! The job that the matches of a command's form say.
-ghost use Rattle.std.specs.Prelude.{◌≡◌, ◌≤◌, IfOk, IfSome, codes, is_some, option_map, true};
+ghost use Rattle.std.specs.Prelude.{◌≡◌, ◌≤◌, IfOk, IfSome, IsNone, codes, is_some, option_map, true};
 ghost use Rattle.clap.specs.Words.{first_of, found_of, rows_of};
 ghost use Rattle.fpga_problem.specs.Files.{names_said, placed_names_said};
 ghost use Rattle.fpga_types.specs.declared.limits.TheConstants.{REACH_LIMIT, WIDTH_LIMIT};
-ghost use Rattle.router_words.specs.Command.{bound_asked, check_asked, conflicts_asked, core_asked, decode_asked, encode_asked, files_asked, gen_asked, global_asked, judge_asked, members_asked, members_with, method_asked, method_within, names_a_reach, number_if_any, number_within, has_clash, has_two_methods, least_asked, placed_asked, reach_asked, recipe_asked, rounds_asked, route_asked, search_asked, search_by_method, sweep_asked, trial_asked, turns_asked, verify_asked, width_asked, word_in};
+ghost use Rattle.router_words.specs.Command.{bound_asked, check_asked, conflicts_asked, core_asked, decode_asked, encode_asked, files_asked, gen_asked, global_asked, judge_asked, members_asked, members_with, method_asked, method_within, number_if_any, number_within, has_clash, has_two_methods, least_asked, placed_asked, reach_asked, recipe_asked, rounds_asked, route_asked, search_asked, search_by_method, seconds_asked, sweep_asked, trial_asked, turns_asked, verify_asked, width_asked, word_in};
 ghost use Rattle.router_words.specs.Form.{bound_form, check_form, core_form, decode_form, encode_form, gen_form, global_form, judge_form, least_form, route_form, sweep_form, trial_form, verify_form};
 ghost use Rattle.router_words.specs.Job.{job_said, members_said, recipe_said, search_said, turns_said};
 ghost use Rattle.router_words.specs.Near.{IsNear, has_one_track};
 ghost use Rattle.router_words.specs.Results.{map_ok};
 ghost use Rattle.router_words.specs.Taken.{HasFiles, HasPlaced, HasRecipe, HasRequired};
-ghost use Rattle.router_words.specs.declared.limits.TheConstants.{BUDGET_LIMIT, MEMBER_LIMIT, ROUND_LIMIT, SEED_LIMIT};
+ghost use Rattle.router_words.specs.declared.limits.TheConstants.{BUDGET_LIMIT, MEMBER_LIMIT, ROUND_LIMIT, SECOND_LIMIT, SEED_LIMIT};
 
 use crate::fault::Refusal;
 use crate::job::{
@@ -18,7 +18,7 @@ use crate::job::{
 };
 use crate::limits::{
     BUDGET_DEFAULT, BUDGET_LIMIT, GENERATED_NETS_LIMIT, MEMBER_LIMIT, ROUND_DEFAULT, ROUND_LIMIT,
-    SEED_DEFAULT, SEED_LIMIT,
+    SECOND_LIMIT, SEED_DEFAULT, SEED_LIMIT,
 };
 use crate::matched::{first_word, has_flag, number_within, required_word};
 use crate::method::Method;
@@ -84,6 +84,35 @@ fn conflicts(matches: &ArgMatches) -> Result<u64, Refusal>
     number_within(word, 1, BUDGET_LIMIT)
 }
 
+// The number that the word for a name says, where there is one; or that it is none in this range.
+fn number_if_any(
+    matches: &ArgMatches,
+    name: &str,
+    least: u32,
+    greatest: u32,
+) -> Result<Option<u32>, Refusal>
+    ensures number { result
+        ≡ number_if_any least greatest name.now (rows_of (found_of matches.now)) }
+    ensures within { IfOk result (λ found. IfSome found
+        (λ number. (least ≤ number) × (number ≤ greatest))) }
+{
+    let Some(word) = first_word(matches, name) else {
+        return Ok(None);
+    };
+    let number = number_within(word, u64::from(least), u64::from(greatest))?;
+    Ok(Some(number as u32))
+}
+
+// After how many seconds searches are stopped, where the words say it; or that the word is no
+// number in range.
+fn seconds(matches: &ArgMatches) -> Result<Option<u32>, Refusal>
+    ensures number { result ≡ seconds_asked (rows_of (found_of matches.now)) }
+    ensures within { IfOk result (λ found. IfSome found
+        (λ number. (1 ≤ number) × (number ≤ SECOND_LIMIT))) }
+{
+    number_if_any(matches, "seconds", 1, SECOND_LIMIT)
+}
+
 // After how many rounds a search gives up, or that the word is no number in range.
 fn rounds(matches: &ArgMatches) -> Result<u32, Refusal>
     ensures number { result ≡ rounds_asked (rows_of (found_of matches.now)) }
@@ -112,6 +141,7 @@ fn method_within(reach: Option<u32>) -> Method
     requires { IfSome reach (λ n. (1 ≤ n) × (n ≤ REACH_LIMIT)) }
     ensures method { result ≡ method_within reach }
     ensures near { IsNear result }
+    ensures one_track { IsNone reach → has_one_track result ≡ true }
 {
     match reach {
         Some(reach) => Method::Within(reach),
@@ -124,6 +154,7 @@ fn method(matches: &ArgMatches, reach: Option<u32>) -> Method
     requires { IfSome reach (λ n. (1 ≤ n) × (n ≤ REACH_LIMIT)) }
     ensures method { result ≡ method_asked reach (rows_of (found_of matches.now)) }
     ensures near { IsNear result }
+    ensures one_track { IsNone reach → has_one_track result ≡ true }
 {
     if has_flag(matches, "pin") {
         return Method::Pinned;
@@ -154,33 +185,16 @@ fn search<'a>(matches: &ArgMatches<'a>, method: Method) -> Result<SearchJob<'a>,
 {
     let width = width(matches)?;
     let conflicts = conflicts(matches)?;
+    let seconds = seconds(matches)?;
     Ok(SearchJob {
         width,
         prefix: required_word(matches, "prefix"),
         conflicts,
+        seconds,
         keep: has_flag(matches, "keep"),
         count: has_flag(matches, "count") && has_one_track(method),
         method,
     })
-}
-
-// The number that the word for a name says, where there is one; or that it is none in this range.
-fn number_if_any(
-    matches: &ArgMatches,
-    name: &str,
-    least: u32,
-    greatest: u32,
-) -> Result<Option<u32>, Refusal>
-    ensures number { result
-        ≡ number_if_any least greatest name.now (rows_of (found_of matches.now)) }
-    ensures within { IfOk result (λ found. IfSome found
-        (λ number. (least ≤ number) × (number ≤ greatest))) }
-{
-    let Some(word) = first_word(matches, name) else {
-        return Ok(None);
-    };
-    let number = number_within(word, u64::from(least), u64::from(greatest))?;
-    Ok(Some(number as u32))
 }
 
 // The searches that take turns, where there is not one alone; or that a number is none in its
@@ -219,13 +233,6 @@ fn has_two_methods(matches: &ArgMatches) -> bool
     let pins = has_flag(matches, "pin");
     let orders = has_flag(matches, "symmetry");
     (pins && orders) || ((pins || orders) && first_word(matches, "reach").is_some())
-}
-
-// Whether names and a reach are asked for.
-fn names_a_reach(matches: &ArgMatches) -> bool
-    ensures { result ≡ names_a_reach (rows_of (found_of matches.now)) }
-{
-    has_flag(matches, "names") && first_word(matches, "reach").is_some()
 }
 
 // Whether options of a search are given of which one excludes another.
@@ -294,7 +301,7 @@ pub fn encode_job<'a>(matches: &ArgMatches<'a>) -> Result<Job<'a>, Refusal>
 {
     let width = width(matches)?;
     let reach = reach(matches)?;
-    if has_two_methods(matches) || names_a_reach(matches) {
+    if has_two_methods(matches) {
         return Err(Refusal::Clash);
     }
     Ok(Job::Encode(EncodeJob {
@@ -332,11 +339,17 @@ pub fn core_job<'a>(matches: &ArgMatches<'a>) -> Result<Job<'a>, Refusal>
 {
     let width = width(matches)?;
     let conflicts = conflicts(matches)?;
+    let seconds = seconds(matches)?;
+    if has_two_methods(matches) {
+        return Err(Refusal::Clash);
+    }
     Ok(Job::Core(CoreJob {
         files: file_names(matches),
         width,
         prefix: required_word(matches, "prefix"),
         conflicts,
+        seconds,
+        method: method(matches, None),
     }))
 }
 

@@ -3,7 +3,7 @@ ghost use Rattle.std.proofs.Props.{props};
 ghost use Rattle.std.specs.Prelude.{◌≡◌, ◌≤◌, IfSome, IsTrue, true};
 ghost use Rattle.fpga_types.specs.declared.limits.TheConstants.{REACH_LIMIT, SIDE_LIMIT, WIDTH_LIMIT};
 ghost use Rattle.router_words.specs.Near.{IsNear, has_one_track};
-ghost use Rattle.router_words.specs.declared.limits.TheConstants.{BUDGET_LIMIT, GENERATED_NETS_LIMIT, MEMBER_LIMIT, ROUND_LIMIT, SEED_LIMIT};
+ghost use Rattle.router_words.specs.declared.limits.TheConstants.{BUDGET_LIMIT, GENERATED_NETS_LIMIT, MEMBER_LIMIT, ROUND_LIMIT, SECOND_LIMIT, SEED_LIMIT};
 
 use crate::method::Method;
 use fpga_problem::{FourNames, ThreeNames};
@@ -17,7 +17,10 @@ pub struct SearchJob<'a> {
     pub prefix: &'a str,
     /// How many clauses the search at each width may learn, from 1 to 100,000,000.
     pub conflicts: u64,
-    /// Whether no clause is forgotten.
+    /// After how many seconds of the run its searches are stopped, from 1 to 1,000,000, if they
+    /// are.
+    pub seconds: Option<u32>,
+    /// Whether no learned clause is deleted.
     pub keep: bool,
     /// Whether a width that numbers alone forbid is refuted by counting, without a search.
     pub count: bool,
@@ -25,6 +28,7 @@ pub struct SearchJob<'a> {
     pub method: Method,
     ghost in_range: { (1 ≤ width) × (width ≤ WIDTH_LIMIT) },
     ghost affordable: { (1 ≤ conflicts) × (conflicts ≤ BUDGET_LIMIT) },
+    ghost timed: { IfSome seconds (λ n. (1 ≤ n) × (n ≤ SECOND_LIMIT)) } by { Prim.hlevel props },
     ghost near: { IsNear method } by { Prim.hlevel props },
     ghost countable: { IsTrue count → has_one_track method ≡ true },
 }
@@ -107,8 +111,15 @@ pub struct CoreJob<'a> {
     pub prefix: &'a str,
     /// How many clauses the search may learn, from 1 to 100,000,000.
     pub conflicts: u64,
+    /// After how many seconds of the run its search is stopped, from 1 to 1,000,000, if it is.
+    pub seconds: Option<u32>,
+    /// How routings are said by clauses: with one track of each cell for a net.
+    pub method: Method,
     ghost in_range: { (1 ≤ width) × (width ≤ WIDTH_LIMIT) },
     ghost affordable: { (1 ≤ conflicts) × (conflicts ≤ BUDGET_LIMIT) },
+    ghost timed: { IfSome seconds (λ n. (1 ≤ n) × (n ≤ SECOND_LIMIT)) } by { Prim.hlevel props },
+    ghost near: { IsNear method } by { Prim.hlevel props },
+    ghost one_track: { has_one_track method ≡ true },
 }
 
 /// To check a refutation.

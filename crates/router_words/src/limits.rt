@@ -8,6 +8,9 @@ pub const BUDGET_LIMIT: u64 = 100_000_000;
 /// How many clauses a search may learn where the words do not say it.
 pub const BUDGET_DEFAULT: u64 = 1_000_000;
 
+/// After how many seconds a run may be told to stop its searches at the most.
+pub const SECOND_LIMIT: u32 = 1_000_000;
+
 /// The greatest seed of a generated problem, or of searches that take turns.
 pub const SEED_LIMIT: u32 = 2_147_483_647;
 
@@ -23,7 +26,7 @@ pub const MEMBER_LIMIT: u32 = 8;
 pub const ROUND_LIMIT: u32 = 100_000;
 
 /// After how many rounds it gives up where the words do not say it.
-pub const ROUND_DEFAULT: u32 = 200;
+pub const ROUND_DEFAULT: u32 = 500;
 
 /// How many nets a generated problem may have at the most.
 pub const GENERATED_NETS_LIMIT: u32 = 10_000;

@@ -128,8 +128,8 @@ fn climb_overwrites(
     Ok(false)
 }
 
-// Whether the route that is made of a model would be written over a file of its problem, or over the
-// model.
+// Whether the route that is made of a model would be written over a file of its problem, or over
+// the model.
 fn model_overwrites(
     alloc: Global,
     files: FourNames<'_>,
@@ -165,8 +165,8 @@ fn route_overwrites(
     is_named(alloc, &[from], prefix, ".route")
 }
 
-// Whether a file of a search for the least width would be written over one of its files, or over the
-// route that it begins with.
+// Whether a file of a search for the least width would be written over one of its files, or over
+// the route that it begins with.
 fn least_overwrites(
     alloc: Global,
     files: ThreeNames<'_>,

@@ -18,7 +18,7 @@ use desk_io::Desk;
 use std::alloc::Global;
 
 // The files of cases. The first says how they are written.
-const FILES: [&str; 19] = [
+const FILES: [&str; 20] = [
     "cases/worked.rows",
     "cases/pinned.rows",
     "cases/symmetry.rows",
@@ -38,6 +38,7 @@ const FILES: [&str; 19] = [
     "cases/global.rows",
     "cases/least.rows",
     "cases/decode.rows",
+    "cases/limited.rows",
 ];
 
 /// Prints each case that comes otherwise than its lines say, and last how many come as they say.

@@ -4,6 +4,7 @@
 
 mod cases;
 mod problems;
+mod questions;
 mod searches;
 mod stop;
 mod text;

@@ -1,5 +1,5 @@
-//! What comes of problems: fits of changed routes, clauses that say a routing, widths that are counted
-//! out, judgements of changed routings, and nets that are not reached.
+//! What comes of problems: fits of changed routes, clauses that say a routing, widths that are
+//! counted out, judgements of changed routings, and nets that are not reached.
 mod counts;
 mod encodings;
 mod files;

@@ -1,5 +1,5 @@
-//! What searches of clauses answer, and their logs, or what a long log sums up to. The sums are those
-//! that `bench/model_search.cc` prints.
+//! What searches of clauses answer, and their logs, or what a long log sums up to. The sums are
+//! those that `bench/model_search.cc` prints.
 mod found;
 mod printed;
 mod row;

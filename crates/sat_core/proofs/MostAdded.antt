@@ -1,5 +1,5 @@
 -- A search with room for all the clauses that it may learn comes to an end.
-use Rattle.std.proofs.Common.{◌≡◌, ℕ, suc, ◌+◌, ◌*◌, ◌/◌, ◌^◌, ◌<◌, ◌≤◌, Bool, true, false, List, length, All, refl, subst, arith}
+use Rattle.std.proofs.Common.{◌≡◌, ◌≢◌, ℕ, suc, ◌+◌, ◌*◌, ◌/◌, ◌^◌, ◌<◌, ◌≤◌, Bool, true, false, List, length, All, refl, subst, arith}
 use Rattle.std.specs.Prelude.{Err, IfOk, Ok, Result}
 use Rattle.std.specs.declared.alloc.AllocError.{AllocError}
 use Rattle.std.proofs.Math.Nat.{mul-le-mul_left}
@@ -10,7 +10,7 @@ use Rattle.sat_clause.specs.Judge.{is_empty_clause}
 use Rattle.sat_clause.proofs.LearnedFew.{learned_few}
 use Rattle.sat_clause.specs.Learned.{AreAddedFrom, LearnedNew, Sparse, added_count, deletions}
 use Rattle.sat_core.specs.declared.answer.Answer.{Answer}
-use Rattle.sat_core.specs.declared.answer.Answer.TheVariants.{Model, Refuted, Spent}
+use Rattle.sat_core.specs.declared.answer.Answer.TheVariants.{Model, Refuted, Spent, Stopped}
 use Rattle.sat_core.specs.Answer.{IsDecided, SpendsAll, most_added}
 use Rattle.sat_core.specs.SearchLog.{IsSearchLog}
 use Rattle.sat_core.specs.Underway.{HasSearched}
@@ -60,9 +60,10 @@ never_spent formula log budget false search spends none room =
 
 pub decided : (formula : Cnf) (budget : ℕ) (log : List Step) (keep : Bool)
     (result : Result Answer AllocError) → HasSearched formula budget keep log result →
-    most_added keep formula.vars ≤ budget → IfOk result IsDecided
-decided formula budget log keep (Ok (Model values)) searched room = tt
-decided formula budget log keep (Ok Refuted) searched room = tt
-decided formula budget log keep (Ok Spent) searched room =
+    most_added keep formula.vars ≤ budget → IfOk result (λ answer. answer ≢ Stopped → IsDecided answer)
+decided formula budget log keep (Ok (Model values)) searched room = λ apart. tt
+decided formula budget log keep (Ok Refuted) searched room = λ apart. tt
+decided formula budget log keep (Ok Stopped) searched room = λ apart. absurd (apart refl)
+decided formula budget log keep (Ok Spent) searched room = λ apart.
     never_spent formula log budget keep searched.logged searched.answer searched.kept room
 decided formula budget log keep (Err e) searched room = tt

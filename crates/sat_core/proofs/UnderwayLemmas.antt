@@ -14,7 +14,7 @@ use Rattle.sat_clause.specs.Rup.{rup}
 use Rattle.sat_clause.specs.Step.{Step, Added, Erased}
 use Rattle.sat_core.specs.declared.answer.Answer.{Answer}
 use Rattle.sat_core.specs.declared.answer.Answer.TheVariants.{Refuted}
-use Rattle.sat_core.specs.Answer.{IsAnswer, SpendsAll}
+use Rattle.sat_core.specs.Answer.{IsAnswer, LeavesOpen, SpendsAll}
 use Rattle.sat_core.specs.Deletions.{AreDeletions, DeletionState}
 use Rattle.sat_core.specs.Delete.{HasDeleted}
 use Rattle.sat_core.specs.Kept.{AreKept, SameLive}
@@ -400,6 +400,9 @@ module _ {search : SearchAt} {formula : Cnf} {log : List Step}
     within = few;
     kept = kept;
   }
+
+  pub left_open : {budget : ℕ} → added_count log ≤ budget → LeavesOpen budget log
+  left_open few = record { within = few; none_empty = on.open_log.none_empty }
 
   pub spent : {budget : ℕ} → added_count log ≡ budget → SpendsAll budget log
   spent many = record { all = many; none_empty = on.open_log.none_empty }

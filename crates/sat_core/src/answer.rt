@@ -10,4 +10,6 @@ pub enum Answer {
     Refuted,
     /// As many clauses were learned as the budget allows, and it is still open.
     Spent,
+    /// Its caller said that it may not go on, and it is still open.
+    Stopped,
 }

@@ -1,6 +1,6 @@
 //! When a search goes back to level 0.
 
-ghost use Rattle.std.specs.Prelude.{◌≡◌, ◌+◌, ◌^◌, ◌<◌, ◌≤◌, false, true};
+ghost use Rattle.std.specs.Prelude.{◌≡◌, ◌+◌, ◌^◌, ◌<◌, ◌≤◌, ◌↔◌, IsTrue, false, true};
 ghost use Rattle.sat_core.specs.Restarts.{IsNextRestart, IsWait};
 
 use sat_order::Luby;
@@ -61,6 +61,13 @@ impl Restarts {
             since: 0,
             many,
         }
+    }
+
+    /// Whether a restart comes after so many conflicts.
+    pub(crate) fn comes_after(&self, conflicts: u64) -> bool
+        ensures { IsTrue result ↔ (self.now.next ≤ conflicts) }
+    {
+        self.next <= conflicts
     }
 
     /// Whether a restart is due after so many conflicts. Then the next one is looked ahead to.

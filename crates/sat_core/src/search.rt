@@ -1,6 +1,6 @@
 //! A search that is handed on turn by turn, and takes what other searches have learned.
 
-ghost use Rattle.std.specs.Prelude.{◌≡◌, ◌≢◌, ◌<◌, ◌≤◌, ◌+◌, ◌^◌, [], IfOk, Ok, OnErr, OnOk, length, true};
+ghost use Rattle.std.specs.Prelude.{◌≡◌, ◌≢◌, ◌<◌, ◌≤◌, ◌+◌, ◌^◌, [], IfOk, Ok, OnErr, OnOk, false, length, true};
 ghost use Rattle.sat_clause.specs.Formula.{Cnf};
 ghost use Rattle.sat_clause.specs.Learned.{added_count};
 ghost use Rattle.sat_core.specs.Deletions.{AreDeletions};
@@ -14,6 +14,7 @@ use crate::deletions::Deletions;
 use crate::habits::Habits;
 use crate::state::SearchState;
 use crate::turn::{Turn, take_turn};
+use patience::Patience;
 use sat_clause::{Formula, Log};
 use std::alloc::{AllocError, Global};
 use std::marker::Model;
@@ -63,6 +64,18 @@ impl Search {
         ensures { result ≡ self.now.taken }
     {
         self.taken
+    }
+
+    /// Whether the next turn may be taken. The caller is asked where the turn begins with a
+    /// restart, once the steps that others have added are taken.
+    pub fn goes_on<P: Patience>(&self, log: &Log, patience: &mut P) -> bool
+        ensures { result ≡ false → P.is_over patience.new }
+    {
+        let ahead = log.len().saturating_sub(self.taken);
+        if !self.state.restarts_behind(ahead) {
+            return true;
+        }
+        patience.goes_on()
     }
 
     /// Takes the next step of the log, which another search added, at level 0.

@@ -1,9 +1,10 @@
 //! The search as a whole.
 
-ghost use Rattle.std.specs.Prelude.{◌≡◌, ◌+◌, ◌≤◌, [], length, IfOk, IsTrue};
+ghost use Rattle.std.specs.Prelude.{◌≡◌, ◌≢◌, ◌+◌, ◌≤◌, [], length, IfOk, IsTrue};
 ghost use Rattle.sat_clause.specs.Formula.{Cnf};
 ghost use Rattle.sat_clause.specs.Learned.{added_count, deletions};
 ghost use Rattle.sat_core.specs.Answer.{IsAnswer, IsDecided, most_added};
+ghost use Rattle.sat_core.specs.declared.answer.Answer.TheVariants.{Stopped};
 ghost use Rattle.sat_core.specs.Deletions.{AreDeletions};
 ghost use Rattle.sat_core.specs.SearchLog.{IsSearchLog};
 ghost use Rattle.sat_core.specs.Stands.{StandsFor};
@@ -14,6 +15,7 @@ use crate::deletions::Deletions;
 use crate::habits::Habits;
 use crate::search::Search;
 use crate::turn::Turn;
+use patience::Patience;
 use sat_clause::{Formula, ID_LIMIT, Log};
 use std::alloc::{AllocError, Global};
 
@@ -40,21 +42,26 @@ fn delete_unless(
 
 /// Takes at most so many turns of a search that has taken none, and deletes clauses between them
 /// unless all are to be kept.
-fn take_turns(
+fn take_turns<P: Patience>(
     search: &mut Search,
     formula: &Formula,
     budget: u64,
     keep: bool,
+    patience: &mut P,
     log: &mut Log,
 ) -> Result<Answer, AllocError>
     requires ids { length formula.now.cnf.clauses + budget ≤ ID_LIMIT }
     requires fresh { log.old.steps ≡ [] }
     requires stands { StandsFor search.old.value formula.now.cnf [] }
     requires none_taken { search.old.taken ≡ 0 }
-    ensures { HasSearched formula.now.cnf budget keep log.new.steps result }
+    ensures searched { HasSearched formula.now.cnf budget keep log.new.steps result }
+    ensures stopped { IfOk result (λ answer. answer ≡ Stopped → P.is_over patience.new) }
 {
     let mut deletions = Deletions::new();
     for _ in 0..budget {
+        if !search.goes_on(log, patience) {
+            return Ok(Answer::Stopped);
+        }
         delete_unless(keep, search, log, &mut deletions)?;
         match search.turn(formula, log)? {
             Turn::Learned => {}
@@ -66,20 +73,22 @@ fn take_turns(
 }
 
 /// The search for values that satisfy a formula, which deletes clauses unless all are to be kept.
-fn search_for_values(
+fn search_for_values<P: Patience>(
     alloc: Global,
     formula: &Formula,
     habits: Habits,
     budget: u64,
     keep: bool,
+    patience: &mut P,
     log: &mut Log,
 ) -> Result<Answer, AllocError>
     requires ids { length formula.now.cnf.clauses + budget ≤ ID_LIMIT }
     requires fresh { log.old.steps ≡ [] }
-    ensures { HasSearched formula.now.cnf budget keep log.new.steps result }
+    ensures searched { HasSearched formula.now.cnf budget keep log.new.steps result }
+    ensures stopped { IfOk result (λ answer. answer ≡ Stopped → P.is_over patience.new) }
 {
     let mut search = Search::new(alloc, formula, habits)?;
-    take_turns(&mut search, formula, budget, keep, log)
+    take_turns(&mut search, formula, budget, keep, patience, log)
 }
 
 /// Searches for values that satisfy a formula, and logs each clause that it learns with the clauses
@@ -91,6 +100,9 @@ fn search_for_values(
 /// clause that is live. With `keep` no clause is deleted. So with a budget of 3^v for v variables
 /// it always comes to values or to a refutation, and without `keep` with one of
 /// 3^v (3^v / 1000 + 1).
+///
+/// At each restart it asks its caller whether it may go on, and where the caller says no it is
+/// [`Answer::Stopped`]. What it learns and logs until then does not depend on the caller.
 ///
 /// Without `keep` learned clauses are deleted at a restart, for the k-th time once 1000 k were
 /// added since the time before, if no clause is false at level 0 and some learned clause is no
@@ -109,12 +121,13 @@ fn search_for_values(
 ///
 /// # Errors
 /// Where memory is short. What the log has by then still follows.
-pub fn solve(
+pub fn solve<P: Patience>(
     alloc: Global,
     formula: &Formula,
     habits: Habits,
     budget: u64,
     keep: bool,
+    patience: &mut P,
     log: &mut Log,
 ) -> Result<Answer, AllocError>
     requires budget { 1 ≤ budget }
@@ -124,7 +137,9 @@ pub fn solve(
     ensures logged { IsSearchLog formula.now.cnf log.new.steps }
     ensures within { added_count log.new.steps ≤ budget }
     ensures kept { IsTrue keep → deletions log.new.steps ≡ 0 }
-    ensures decided { most_added keep formula.now.cnf.vars ≤ budget → IfOk result IsDecided }
+    ensures stopped { IfOk result (λ answer. answer ≡ Stopped → P.is_over patience.new) }
+    ensures decided { most_added keep formula.now.cnf.vars ≤ budget
+        → IfOk result (λ answer. answer ≢ Stopped → IsDecided answer) }
 {
-    search_for_values(alloc, formula, habits, budget, keep, log)
+    search_for_values(alloc, formula, habits, budget, keep, patience, log)
 }

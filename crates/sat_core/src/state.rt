@@ -148,6 +148,12 @@ impl SearchState {
         go_back(&mut self.ranking, &mut self.watches, 0);
     }
 
+    /// Whether a restart comes where so many clauses more are added.
+    pub(crate) fn restarts_behind(&self, more: u64) -> bool {
+        self.restarts
+            .comes_after(u64::from(self.added).saturating_add(more))
+    }
+
     /// Goes back to level 0 and propagates there. A clause that is then false stays so until the
     /// next learned clause is drawn from it.
     pub(crate) fn start_anew(&mut self)

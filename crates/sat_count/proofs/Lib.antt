@@ -3,6 +3,7 @@ pub mod FirstLemmas
 pub mod GrowLemmas
 pub mod HintLemmas
 pub mod LevelLemmas
+mod LimitRows
 pub mod PairLemmas
 pub mod RefutingLemmas
 pub mod RowLemmas

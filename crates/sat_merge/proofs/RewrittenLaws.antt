@@ -14,7 +14,7 @@ use Rattle.sat_clause.specs.Literal.{Clause}
 use Rattle.sat_clause.specs.Live.{Live, clause_at, put}
 use Rattle.sat_clause.specs.Step.{Step, Added, Erased}
 use Rattle.sat_clause.proofs.LiveLaws.{clause_at-without, inputs_at, inputs_none}
-use Rattle.sat_core.specs.Answer.{EndsEmpty, IsRefutation, SpendsAll}
+use Rattle.sat_core.specs.Answer.{EndsEmpty, IsRefutation, LeavesOpen, SpendsAll}
 use Rattle.sat_core.specs.SearchLog.{AreNumbered, DeletesSome, EndsAtEmpty, IsSearchLog}
 use Rattle.sat_core.specs.Stands.{AreGood, IsAbove, SparesInputs, live_after}
 use Rattle.sat_core.proofs.EarlierLaw.{hints_are_earlier}
@@ -412,4 +412,12 @@ pub rewritten_spends : (budget : ℕ) (log steps : List Step) → SameSteps log 
 rewritten_spends budget log steps same spends = record {
   all = (same_counts log steps same).0 ∙ spends.all;
   none_empty = same_none_empty log steps same spends.none_empty;
+}
+
+-- or leaves it open within the same one
+pub rewritten_open : (budget : ℕ) (log steps : List Step) → SameSteps log steps →
+    LeavesOpen budget steps → LeavesOpen budget log
+rewritten_open budget log steps same leaves = record {
+  within = omega (arith, (same_counts log steps same).0, leaves.within);
+  none_empty = same_none_empty log steps same leaves.none_empty;
 }

@@ -1,10 +1,10 @@
 //! The search as a whole.
 
-ghost use Rattle.std.specs.Prelude.{◌≡◌, ◌+◌, ◌≤◌, ℕ, Bool, [], false, length, IfOk, IfSome, IsNone, IsTrue, Ok, OnErr, Vec};
+ghost use Rattle.std.specs.Prelude.{◌≡◌, ◌≢◌, ◌+◌, ◌≤◌, ℕ, Bool, [], false, length, IfOk, IfSome, IsNone, IsTrue, Ok, OnErr, Vec};
 ghost use Rattle.std.specs.Global.{Global};
 ghost use Rattle.sat_clause.specs.Formula.{Cnf};
 ghost use Rattle.sat_clause.specs.Learned.{added_count, deletions};
-ghost use Rattle.sat_core.specs.declared.answer.Answer.TheVariants.{Model, Refuted, Spent};
+ghost use Rattle.sat_core.specs.declared.answer.Answer.TheVariants.{Model, Refuted, Stopped};
 ghost use Rattle.sat_core.specs.Answer.{IsAnswer, IsDecided, most_added};
 ghost use Rattle.sat_core.specs.SearchLog.{IsSearchLog};
 ghost use Rattle.sat_core.specs.Underway.{HasSearched};
@@ -15,6 +15,7 @@ use crate::lemmas::rewrite_refutation;
 use crate::merged::merged;
 use crate::representatives::Representatives;
 use crate::rewriting::rewrite;
+use patience::Patience;
 use sat_clause::{Formula, ID_LIMIT, Log, holds};
 use sat_core::{Answer, Habits, solve};
 use std::alloc::{AllocError, Global};
@@ -124,27 +125,29 @@ fn take_refuted(
     Ok(Some(Answer::Refuted))
 }
 
-/// The answer for the formula where the search over the representatives was left open. `None` says
-/// that the log has no form over it.
-fn take_spent(
+/// The answer for the formula where this one, without values, is that of the search over the
+/// representatives: the same. `None` says that the log has no form over it.
+fn take_open(
     alloc: Global,
     formula: &Formula,
     representatives: &Representatives,
     steps: &Log,
+    answer: Answer,
     log: &mut Log,
 ) -> Result<Option<Answer>, AllocError>
     requires representatives { length representatives.now ≡ formula.now.cnf.vars + 1 }
+    requires no_values { (values : Vec Bool Global) → answer ≢ Model values }
     requires fresh { log.old.steps ≡ [] }
     ensures searched { IfOk result (λ found. IfSome found (λ now. (merged : Cnf) → (budget : ℕ)
         → (keep : Bool) → IsMerged (keeps representatives.now) formula.now.cnf merged
-        → HasSearched merged budget keep steps.now.steps (Ok Spent)
+        → HasSearched merged budget keep steps.now.steps (Ok answer)
         → HasSearched formula.now.cnf budget keep log.new.steps (Ok now))) }
-    ensures decided { IfOk result (λ found. IfSome found (λ now. IsDecided Spent → IsDecided now)) }
+    ensures same { IfOk result (λ found. IfSome found (λ now. now ≡ answer)) }
 {
     if !rewrite(alloc, formula, representatives, steps, log)? {
         return Ok(None);
     }
-    Ok(Some(Answer::Spent))
+    Ok(Some(answer))
 }
 
 /// The answer for the formula where one for the representatives is this. `None` says that its
@@ -167,8 +170,8 @@ fn take_answer(
     ensures searched { IfOk result (λ found. IfSome found (λ now. (keep : Bool)
         → HasSearched merged.now.cnf budget keep steps.now.steps (Ok answer)
         → HasSearched formula.now.cnf budget keep log.new.steps (Ok now))) }
-    ensures decided { IfOk result (λ found. IfSome found (λ now.
-        IsDecided answer → IsDecided now)) }
+    ensures left_open { IfOk result (λ found. IfSome found (λ now.
+        ¬ IsDecided now → now ≡ answer)) }
 {
     match answer {
         Answer::Model(values) => try_values(alloc, formula, representatives, &values),
@@ -181,13 +184,14 @@ fn take_answer(
             budget,
             log,
         ),
-        Answer::Spent => take_spent(alloc, formula, representatives, steps, log),
+        Answer::Spent => take_open(alloc, formula, representatives, steps, Answer::Spent, log),
+        Answer::Stopped => take_open(alloc, formula, representatives, steps, Answer::Stopped, log),
     }
 }
 
 /// What a search over the representatives comes to, with a log over the formula. `None` says that
 /// it does not serve for that.
-fn search_representatives(
+fn search_representatives<P: Patience>(
     alloc: Global,
     formula: &Formula,
     representatives: &Representatives,
@@ -195,6 +199,7 @@ fn search_representatives(
     habits: Habits,
     budget: u64,
     keep: bool,
+    patience: &mut P,
     log: &mut Log,
 ) -> Result<Option<Answer>, AllocError>
     requires representatives { length representatives.now ≡ formula.now.cnf.vars + 1 }
@@ -204,11 +209,13 @@ fn search_representatives(
     requires fresh { log.old.steps ≡ [] }
     ensures searched { IfOk result (λ found. IfSome found (λ answer.
         HasSearched formula.now.cnf budget keep log.new.steps (Ok answer))) }
+    ensures stopped { IfOk result (λ found. IfSome found (λ answer.
+        answer ≡ Stopped → P.is_over patience.new)) }
     ensures decided { IfOk result (λ found. IfSome found (λ answer.
-        most_added keep formula.now.cnf.vars ≤ budget → IsDecided answer)) }
+        most_added keep formula.now.cnf.vars ≤ budget → answer ≢ Stopped → IsDecided answer)) }
 {
     let mut steps = Log::new(alloc);
-    let Ok(answer) = solve(alloc, merged, habits, budget, keep, &mut steps) else {
+    let Ok(answer) = solve(alloc, merged, habits, budget, keep, patience, &mut steps) else {
         return Err(AllocError);
     };
     take_answer(
@@ -226,12 +233,13 @@ fn search_representatives(
 /// The same search, where most variables follow from others. `None` says that they do not, or some
 /// clause has no form over the representatives, or the answer does not serve; the log has no step
 /// then.
-fn search_most(
+fn search_most<P: Patience>(
     alloc: Global,
     formula: &Formula,
     habits: Habits,
     budget: u64,
     keep: bool,
+    patience: &mut P,
     log: &mut Log,
 ) -> Result<Option<Answer>, AllocError>
     requires budget { 1 ≤ budget }
@@ -239,8 +247,10 @@ fn search_most(
     requires fresh { log.old.steps ≡ [] }
     ensures searched { IfOk result (λ found. IfSome found (λ answer.
         HasSearched formula.now.cnf budget keep log.new.steps (Ok answer))) }
+    ensures stopped { IfOk result (λ found. IfSome found (λ answer.
+        answer ≡ Stopped → P.is_over patience.new)) }
     ensures decided { IfOk result (λ found. IfSome found (λ answer.
-        most_added keep formula.now.cnf.vars ≤ budget → IsDecided answer)) }
+        most_added keep formula.now.cnf.vars ≤ budget → answer ≢ Stopped → IsDecided answer)) }
     ensures none { IfOk result (λ found. IsNone found → log.new.steps ≡ []) }
     ensures err { OnErr result (log.new.steps ≡ []) }
 {
@@ -260,6 +270,7 @@ fn search_most(
         habits,
         budget,
         keep,
+        patience,
         &mut tried,
     )?;
     let Some(answer) = found else {
@@ -283,13 +294,14 @@ fn search_most(
 ///
 /// # Errors
 /// Where memory is short. What the log has by then still follows.
-pub fn solve_merged(
+pub fn solve_merged<P: Patience>(
     alloc: Global,
     formula: &Formula,
     over_representatives: Habits,
     straight: Habits,
     budget: u64,
     keep: bool,
+    patience: &mut P,
     log: &mut Log,
 ) -> Result<Answer, AllocError>
     requires budget { 1 ≤ budget }
@@ -299,13 +311,23 @@ pub fn solve_merged(
     ensures logged { IsSearchLog formula.now.cnf log.new.steps }
     ensures within { added_count log.new.steps ≤ budget }
     ensures kept { IsTrue keep → deletions log.new.steps ≡ 0 }
-    ensures decided { most_added keep formula.now.cnf.vars ≤ budget → IfOk result IsDecided }
+    ensures stopped { IfOk result (λ answer. answer ≡ Stopped → P.is_over patience.new) }
+    ensures decided { most_added keep formula.now.cnf.vars ≤ budget
+        → IfOk result (λ answer. answer ≢ Stopped → IsDecided answer) }
 {
-    let Ok(found) = search_most(alloc, formula, over_representatives, budget, keep, log) else {
+    let Ok(found) = search_most(
+        alloc,
+        formula,
+        over_representatives,
+        budget,
+        keep,
+        patience,
+        log,
+    ) else {
         return Err(AllocError);
     };
     if let Some(answer) = found {
         return Ok(answer);
     }
-    solve(alloc, formula, straight, budget, keep, log)
+    solve(alloc, formula, straight, budget, keep, patience, log)
 }

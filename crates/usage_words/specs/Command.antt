@@ -5,7 +5,7 @@ use Rattle.usage_words.specs.Word.{Word}
 use Rattle.usage_words.specs.declared.command.Command.{Command}
 use Rattle.usage_words.specs.declared.command.Command.TheVariants.{Bound, Check, Core, Decode, Encode, Gen, Global, Judge, Least, Route, Sweep, Trial, Verify}
 use Rattle.usage_words.specs.declared.item.Item.{Item}
-use Rattle.usage_words.specs.declared.item.Item.TheVariants.{Arch, Cnf, Conflicts, From, Lrat, Max, MemberSeed, Members, Model, Net, Nets, Nx, Place, Prefix, Reach, Rounds, Route as RouteFile, Routed, Seed, Width}
+use Rattle.usage_words.specs.declared.item.Item.TheVariants.{Arch, Cnf, Conflicts, From, Lrat, Max, MemberSeed, Members, Model, Net, Nets, Nx, Place, Prefix, Reach, Rounds, Route as RouteFile, Routed, Seconds, Seed, Width}
 
 -- the command that a word names, if it names one
 abbrev pub command_of : Word → Option Command
@@ -98,6 +98,10 @@ has_option Route Conflicts = true
 has_option Sweep Conflicts = true
 has_option Core Conflicts = true
 has_option Trial Conflicts = true
+has_option Route Seconds = true
+has_option Sweep Seconds = true
+has_option Core Seconds = true
+has_option Trial Seconds = true
 has_option Route Reach = true
 has_option Sweep Reach = true
 has_option Encode Reach = true
@@ -132,6 +136,7 @@ has_flag Sweep word =
     is_symmetry word || bytes_eq word (codes "--keep") || bytes_eq word (codes "--count")
 has_flag Encode word = is_symmetry word || bytes_eq word (codes "--names")
 has_flag Decode word = is_symmetry word
+has_flag Core word = is_symmetry word
 has_flag Trial word = bytes_eq word (codes "--keep") || bytes_eq word (codes "--count")
 has_flag Verify word = bytes_eq word (codes "--all")
 has_flag Judge word = bytes_eq word (codes "--strict")

@@ -4,7 +4,7 @@ use Rattle.std.specs.Option.{option_map_or}
 use Rattle.fpga_text.specs.Numbers.{whole_number_of}
 use Rattle.usage_words.specs.Word.{Word}
 use Rattle.usage_words.specs.declared.item.Item.{Item}
-use Rattle.usage_words.specs.declared.item.Item.TheVariants.{Arch, Cnf, Conflicts, From, Lrat, Max, Model, MemberSeed, Members, Net, Nets, Nx, Place, Prefix, Reach, Rounds, Route, Routed, Seed, Width}
+use Rattle.usage_words.specs.declared.item.Item.TheVariants.{Arch, Cnf, Conflicts, From, Lrat, Max, Model, MemberSeed, Members, Net, Nets, Nx, Place, Prefix, Reach, Rounds, Route, Routed, Seconds, Seed, Width}
 use Rattle.usage_words.specs.declared.item.Range.{Range}
 
 -- the option with a value that a word names
@@ -15,7 +15,8 @@ option_named word =
     if bytes_eq word (codes "--members") then Some Members else
     if bytes_eq word (codes "--seed") then Some MemberSeed else
     if bytes_eq word (codes "--from") then Some From else
-    if bytes_eq word (codes "--rounds") then Some Rounds else None
+    if bytes_eq word (codes "--rounds") then Some Rounds else
+    if bytes_eq word (codes "--seconds") then Some Seconds else None
 
 -- how an item is called: as in the line of what a command takes, or by its option
 abbrev pub name_of : Item → List ℕ
@@ -39,6 +40,7 @@ name_of Members = codes "--members"
 name_of MemberSeed = codes "--seed"
 name_of From = codes "--from"
 name_of Rounds = codes "--rounds"
+name_of Seconds = codes "--seconds"
 
 abbrev pub from_to : (least greatest : ℕ) → Option Range
 from_to least greatest = Some (record { least = least; greatest = greatest })
@@ -55,6 +57,7 @@ range_of Nets = from_to 1 10000
 range_of Conflicts = from_to 1 100000000
 range_of Members = from_to 1 8
 range_of Rounds = from_to 1 100000
+range_of Seconds = from_to 1 1000000
 range_of _ = None
 
 -- whether a word says a number in this range

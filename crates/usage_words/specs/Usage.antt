@@ -9,8 +9,9 @@ use Rattle.usage_words.specs.declared.command.Command.TheVariants.{Route, Sweep,
 -- which options of a command exclude each other, or need another
 abbrev pub clash_said : Command → List ℕ
 clash_said Encode =
-    codes "--pin, --symmetry and --reach exclude one another, and so do --names and --reach.\n"
+    codes "--pin, --symmetry and --reach exclude one another.\n"
 clash_said Decode = codes "--pin, --symmetry and --reach exclude one another.\n"
+clash_said Core = codes "--pin and --symmetry exclude each other.\n"
 clash_said Trial = codes "--count and --reach exclude each other.\n"
 clash_said _ =
     codes "--pin, --symmetry and --reach exclude one another, and so do --count and --reach; "
@@ -19,13 +20,13 @@ clash_said _ =
 -- the words that a command takes
 abbrev pub takes_said : Command → List ℕ
 takes_said Route =
-    codes "route ARCH NET PLACE ROUTE WIDTH PREFIX [--conflicts N] [--keep] [--count] "
-    ++ codes "[--pin | --symmetry | --reach L] [--members K] [--seed S], WIDTH and L from 1 to 64, "
-    ++ codes "K to 8"
+    codes "route ARCH NET PLACE ROUTE WIDTH PREFIX [--conflicts N] [--seconds T] [--keep] "
+    ++ codes "[--count] [--pin | --symmetry | --reach L] [--members K] [--seed S], "
+    ++ codes "WIDTH and L from 1 to 64, K to 8"
 takes_said Sweep =
-    codes "sweep ARCH NET PLACE ROUTE MAX PREFIX [--conflicts N] [--keep] [--count] "
-    ++ codes "[--pin | --symmetry | --reach L] [--members K] [--seed S], MAX and L from 1 to 64, "
-    ++ codes "K to 8"
+    codes "sweep ARCH NET PLACE ROUTE MAX PREFIX [--conflicts N] [--seconds T] [--keep] "
+    ++ codes "[--count] [--pin | --symmetry | --reach L] [--members K] [--seed S], "
+    ++ codes "MAX and L from 1 to 64, K to 8"
 takes_said Encode =
     codes "encode ARCH NET PLACE ROUTE WIDTH PREFIX [--pin | --symmetry | --reach L] [--names], "
     ++ codes "WIDTH and L from 1 to 64"
@@ -33,7 +34,8 @@ takes_said Decode =
     codes "decode ARCH NET PLACE ROUTE WIDTH MODEL PREFIX [--pin | --symmetry | --reach L], "
     ++ codes "WIDTH and L from 1 to 64"
 takes_said Core =
-    codes "core ARCH NET PLACE ROUTE WIDTH PREFIX [--conflicts N], WIDTH from 1 to 64"
+    codes "core ARCH NET PLACE ROUTE WIDTH PREFIX [--conflicts N] [--seconds T] "
+    ++ codes "[--pin | --symmetry], WIDTH from 1 to 64"
 takes_said Check = codes "check CNF LRAT"
 takes_said Verify =
     codes "verify ARCH NET PLACE ROUTE WIDTH ROUTED [--reach L] [--all], WIDTH and L from 1 to 64"
@@ -47,8 +49,8 @@ takes_said Least =
     ++ codes "64, N to 100,000"
 takes_said Gen = codes "gen SEED NX NETS PREFIX, NX from 1 to 100, NETS from 1 to 10,000"
 takes_said Trial =
-    codes "trial SEED NX NETS MAX PREFIX [--conflicts N] [--keep] [--count | --reach L], NX "
-    ++ codes "from 1 to 100, MAX and L to 64"
+    codes "trial SEED NX NETS MAX PREFIX [--conflicts N] [--seconds T] [--keep] "
+    ++ codes "[--count | --reach L], NX from 1 to 100, MAX and L to 64"
 
 -- a command as it may be given
 abbrev pub example_said : Command → List ℕ

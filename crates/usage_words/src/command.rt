@@ -147,7 +147,7 @@ impl Command {
         ensures { result ≡ spec.has_option self item }
     {
         match item {
-            Item::Conflicts => {
+            Item::Conflicts | Item::Seconds => {
                 matches!(
                     self,
                     Command::Route | Command::Sweep | Command::Core | Command::Trial
@@ -177,12 +177,12 @@ impl Command {
                 is_symmetry(word) || word == "--keep" || word == "--count"
             }
             Command::Encode => is_symmetry(word) || word == "--names",
-            Command::Decode => is_symmetry(word),
+            Command::Decode | Command::Core => is_symmetry(word),
             Command::Trial => word == "--keep" || word == "--count",
             Command::Verify => word == "--all",
             Command::Judge => word == "--strict",
             Command::Global | Command::Least => word == "--free",
-            Command::Core | Command::Check | Command::Bound | Command::Gen => false,
+            Command::Check | Command::Bound | Command::Gen => false,
         }
     }
 }

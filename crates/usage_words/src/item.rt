@@ -27,6 +27,7 @@ pub(crate) enum Item {
     MemberSeed,
     From,
     Rounds,
+    Seconds,
 }
 
 /// The numbers that an item may be.
@@ -59,6 +60,9 @@ impl Item {
         if word == "--rounds" {
             return Some(Item::Rounds);
         }
+        if word == "--seconds" {
+            return Some(Item::Seconds);
+        }
         None
     }
 
@@ -87,6 +91,7 @@ impl Item {
             Item::MemberSeed => "--seed",
             Item::From => "--from",
             Item::Rounds => "--rounds",
+            Item::Seconds => "--seconds",
         }
     }
 
@@ -102,6 +107,7 @@ impl Item {
             Item::Conflicts => from_to(1, 100_000_000),
             Item::Members => from_to(1, 8),
             Item::Rounds => from_to(1, 100_000),
+            Item::Seconds => from_to(1, 1_000_000),
             Item::Arch
             | Item::Net
             | Item::Place

@@ -112,14 +112,12 @@ fn clash_said(command: Command) -> &'static str
     ensures { result.now ≡ clash_said command }
 {
     match command {
-        Command::Encode => {
-            "--pin, --symmetry and --reach exclude one another, and so do --names and --reach.\n"
-        }
+        Command::Encode => { "--pin, --symmetry and --reach exclude one another.\n" }
         Command::Decode => "--pin, --symmetry and --reach exclude one another.\n",
+        Command::Core => "--pin and --symmetry exclude each other.\n",
         Command::Trial => "--count and --reach exclude each other.\n",
         Command::Route
         | Command::Sweep
-        | Command::Core
         | Command::Check
         | Command::Verify
         | Command::Judge
@@ -139,14 +137,14 @@ fn takes_said(command: Command) -> &'static str
 {
     match command {
         Command::Route => {
-            "route ARCH NET PLACE ROUTE WIDTH PREFIX [--conflicts N] [--keep] [--count] \
-             [--pin | --symmetry | --reach L] [--members K] [--seed S], WIDTH and L from 1 to 64, \
-             K to 8"
+            "route ARCH NET PLACE ROUTE WIDTH PREFIX [--conflicts N] [--seconds T] [--keep] \
+             [--count] [--pin | --symmetry | --reach L] [--members K] [--seed S], \
+             WIDTH and L from 1 to 64, K to 8"
         }
         Command::Sweep => {
-            "sweep ARCH NET PLACE ROUTE MAX PREFIX [--conflicts N] [--keep] [--count] \
-             [--pin | --symmetry | --reach L] [--members K] [--seed S], MAX and L from 1 to 64, \
-             K to 8"
+            "sweep ARCH NET PLACE ROUTE MAX PREFIX [--conflicts N] [--seconds T] [--keep] \
+             [--count] [--pin | --symmetry | --reach L] [--members K] [--seed S], \
+             MAX and L from 1 to 64, K to 8"
         }
         Command::Encode => {
             "encode ARCH NET PLACE ROUTE WIDTH PREFIX [--pin | --symmetry | --reach L] [--names], \
@@ -157,7 +155,8 @@ fn takes_said(command: Command) -> &'static str
              WIDTH and L from 1 to 64"
         }
         Command::Core => {
-            "core ARCH NET PLACE ROUTE WIDTH PREFIX [--conflicts N], WIDTH from 1 to 64"
+            "core ARCH NET PLACE ROUTE WIDTH PREFIX [--conflicts N] [--seconds T] \
+             [--pin | --symmetry], WIDTH from 1 to 64"
         }
         Command::Check => "check CNF LRAT",
         Command::Verify => {
@@ -175,8 +174,8 @@ fn takes_said(command: Command) -> &'static str
         }
         Command::Gen => "gen SEED NX NETS PREFIX, NX from 1 to 100, NETS from 1 to 10,000",
         Command::Trial => {
-            "trial SEED NX NETS MAX PREFIX [--conflicts N] [--keep] [--count | --reach L], NX \
-             from 1 to 100, MAX and L to 64"
+            "trial SEED NX NETS MAX PREFIX [--conflicts N] [--seconds T] [--keep] \
+             [--count | --reach L], NX from 1 to 100, MAX and L to 64"
         }
     }
 }

@@ -12,6 +12,7 @@ use crate::cases::numbers::{number, numbers};
 use crate::cases::series::{Failing, Series};
 use crate::cases::stop::{LineFault, RowStop};
 use crate::cases::texts::{Texts, is_of_text};
+use crate::questions::Questions;
 use desk_io::{MemDesk, MemShelf};
 use router_top::{Outcome as Answer, Ran, run};
 use std::alloc::Global;
@@ -24,8 +25,8 @@ enum Target {
     Wanted,
 }
 
-/// The words, the files and the calls that fail of a run, and what must come of it; and of the runs
-/// like it in which calls fail.
+/// The words, the files and the calls that fail of a run, the question at which its clock ends
+/// searches, and what must come of it; and of the runs like it in which calls fail.
 #[derive(Drop)]
 pub struct Row {
     alloc: Global,
@@ -33,6 +34,7 @@ pub struct Row {
     files: Vec<(String, Vec<u8>)>,
     desk_fails: Vec<u64>,
     shelf_fails: Vec<u64>,
+    ends: Option<u64>,
     wants: Wants,
     series: Series,
     target: Target,
@@ -47,6 +49,7 @@ impl Row {
             files: Vec::new(alloc),
             desk_fails: Vec::new(alloc),
             shelf_fails: Vec::new(alloc),
+            ends: None,
             wants: Wants::new(alloc),
             series: Series::new(alloc),
             target: Target::Nothing,
@@ -66,6 +69,7 @@ impl Row {
             "design" => self.take_design(texts, rest),
             "desk" => Ok(self.desk_fails = numbers(self.alloc, rest)?),
             "shelf" => Ok(self.shelf_fails = numbers(self.alloc, rest)?),
+            "ends" => Ok(self.ends = Some(number(rest)?)),
             "comes" => Ok(self.wants.outcome = Some(String::from_str(self.alloc, rest)?)),
             "says" => self.take_lead(rest),
             "silent" => Ok(self.wants.is_silent = true),
@@ -169,7 +173,8 @@ impl Row {
     {
         let mut desk = MemDesk::new(self.alloc, self.files.clone()?, desk_fails);
         let mut shelf = MemShelf::new(self.alloc, shelf_fails);
-        let Ran { outcome, .. } = run(self.alloc, &self.words, &mut desk, &mut shelf);
+        let mut clock = Questions::until(self.ends);
+        let Ran { outcome, .. } = run(self.alloc, &self.words, &mut desk, &mut shelf, &mut clock);
         Ok((outcome, shelf))
     }
 

@@ -2,6 +2,7 @@
 ghost use Rattle.std.specs.Prelude.{◌≤◌, ◌+◌, IfOk, length};
 ghost use Rattle.sat_turns.specs.Schedule.{IsSchedule};
 
+use crate::questions::Questions;
 use sat_clause::{Formula, Log};
 use sat_core::{Answer, DecidedValue, FirstOrder, Habits, solve};
 use sat_merge::solve_merged;
@@ -50,17 +51,23 @@ fn alone(
     habits: Habits,
     budget: u64,
     keep: bool,
+    asked: &mut Questions,
 ) -> Result<(Answer, Log), AllocError>
     requires some { 1 ≤ budget }
     requires few { length formula.now.cnf.clauses + budget ≤ 100000 }
 {
     let mut log = Log::new(alloc);
-    let answer = solve(alloc, formula, habits, budget, keep, &mut log)?;
+    let answer = solve(alloc, formula, habits, budget, keep, asked, &mut log)?;
     Ok((answer, log))
 }
 
 // What one search finds that may go over representatives.
-fn merging(alloc: Global, formula: &Formula, budget: u64) -> Result<(Answer, Log), AllocError>
+fn merging(
+    alloc: Global,
+    formula: &Formula,
+    budget: u64,
+    asked: &mut Questions,
+) -> Result<(Answer, Log), AllocError>
     requires some { 1 ≤ budget }
     requires few { length formula.now.cnf.clauses + budget ≤ 100000 }
 {
@@ -77,6 +84,7 @@ fn merging(alloc: Global, formula: &Formula, budget: u64) -> Result<(Answer, Log
         counting(),
         budget,
         false,
+        asked,
         &mut log,
     )?;
     Ok((answer, log))
@@ -88,6 +96,7 @@ fn by_turns(
     formula: &Formula,
     budget: u64,
     schedule: &Schedule,
+    asked: &mut Questions,
 ) -> Result<(Answer, Log), AllocError>
     requires some { 1 ≤ budget }
     requires few { length formula.now.cnf.clauses + budget ≤ 100000 }
@@ -100,6 +109,7 @@ fn by_turns(
         Habits::usual(),
         schedule,
         budget,
+        asked,
         &mut log,
     )?;
     Ok((answer, log))
@@ -121,22 +131,36 @@ pub(crate) fn found(
     formula: &Formula,
     how: How,
     budget: u64,
+    asked: &mut Questions,
 ) -> Option<(Answer, Log)> {
     if formula.len() > 2000 || budget < 1 || budget > 50_000 {
         return None;
     }
     match how {
-        How::Deleting => alone(alloc, formula, Habits::usual(), budget, false).ok(),
-        How::Keeping => alone(alloc, formula, Habits::usual(), budget, true).ok(),
-        How::Lasting => alone(alloc, formula, lasting(), budget, false).ok(),
-        How::Merging => merging(alloc, formula, budget).ok(),
+        How::Deleting => alone(alloc, formula, Habits::usual(), budget, false, asked).ok(),
+        How::Keeping => alone(alloc, formula, Habits::usual(), budget, true, asked).ok(),
+        How::Lasting => alone(alloc, formula, lasting(), budget, false, asked).ok(),
+        How::Merging => merging(alloc, formula, budget, asked).ok(),
         How::Drawn { members, seed } => {
             if members < 1 || members > 8 || seed >= 1 << 31 {
                 return None;
             }
             let (members, seed) = (members as u32, seed as u32);
-            by_turns(alloc, formula, budget, &Schedule::Drawn { members, seed }).ok()
+            by_turns(
+                alloc,
+                formula,
+                budget,
+                &Schedule::Drawn { members, seed },
+                asked,
+            )
+            .ok()
         }
-        How::SecondFirst => by_turns(alloc, formula, budget, &second_first(alloc).ok()?).ok(),
+        How::SecondFirst => by_turns(
+            alloc,
+            formula,
+            budget,
+            &second_first(alloc).ok()?,
+            asked,
+        ).ok(),
     }
 }

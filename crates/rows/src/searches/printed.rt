@@ -31,6 +31,7 @@ fn print_answer(rt: &impl Print, answer: &Answer) -> io::Result<()> {
         Answer::Model(values) => print_values(rt, values),
         Answer::Refuted => println!(rt; "refuted"),
         Answer::Spent => println!(rt; "spent"),
+        Answer::Stopped => println!(rt; "stopped"),
     }
 }
 

@@ -1,4 +1,6 @@
-//! A row: a file of clauses, how they are searched, and how many clauses may be learned.
+//! A row: a file of clauses, how they are searched, how many clauses may be learned, and at which
+//! question the search is ended, if at one.
+use crate::questions::Questions;
 use crate::searches::found::{How, found};
 use crate::searches::printed::print_found;
 use crate::stop::RowsError;
@@ -16,6 +18,15 @@ fn number(line: &mut Line<'_>) -> u64 {
         Some(word) => whole_number_of(word.text).unwrap_or(0),
         None => 0,
     }
+}
+
+// The number of the question at which the search is ended, if the row says one.
+fn ends(line: &mut Line<'_>) -> Option<u64> {
+    let word = line.next_word()?;
+    if word.text == b"ends".as_slice() {
+        return Some(number(line));
+    }
+    None
 }
 
 // How the row has its clauses searched.
@@ -62,7 +73,9 @@ fn found_of<D: Desk>(
 ) -> Option<(Answer, Log)> {
     let how = how(line)?;
     let formula = formula_of(alloc, desk, name)?;
-    found(alloc, &formula, how, number(line))
+    let budget = number(line);
+    let mut asked = Questions::until(ends(line));
+    found(alloc, &formula, how, budget, &mut asked)
 }
 
 /// Prints what a row asks for, behind the name of its file.

@@ -1,6 +1,4 @@
 use Rattle.std.proofs.Common.{◌≡◌, ℕ, List, Bool, false, length, get_or, sym, ap, subst, ◌∙◌, arith}
-use Rattle.sat_clause.specs.Formula.{Cnf}
-use Rattle.route_encode.specs.Encoding.{cnf_of}
 use Rattle.route_core.specs.Core.{AreUnroutable}
 use Rattle.route_core.proofs.BlameLemmas.{nets-are}
 use Rattle.route_core.proofs.CoreLemmas.{is_just}
@@ -18,11 +16,10 @@ pub returns-clause-nets : goal.returns-clause-nets
 returns-clause-nets c =
     let used : List Bool = c.deref.result.now in
     let marks : List Bool = c.deref-2.result.now in
-    let count : length used ≡ length (cnf_of c.args.width c.args.p.now).clauses =
-    ap length c.deref.ensures.value ∙ c.in_ok-used.ensures.many ∙ c.len.ensures
-    ∙ ap (λ (f : Cnf). length f.clauses) c.requires.formula in
+    let count : length used ≡ length c.args.formula.now.cnf.clauses =
+    ap length c.deref.ensures.value ∙ c.in_ok-used.ensures.many ∙ c.len.ensures in
     c.in_ok-nets.ensures
-    ∙ nets-are c.args.width c.args.p.now c.args.log.now.steps used count
+    ∙ nets-are c.args.width c.args.p.now c.args.formula.now.cnf c.args.log.now.steps used count
     (λ at low. ap (λ (us : List Bool). get_or us at false) c.deref.ensures.value
     ∙ c.in_ok-used.ensures.used at
     (omega (arith, low, ap length c.deref.ensures.value, c.in_ok-used.ensures.many)))
@@ -35,5 +32,5 @@ pub returns-clause-unroutable : goal.returns-clause-unroutable
 returns-clause-unroutable c =
     subst (λ (nets : List ℕ). AreUnroutable c.args.width c.args.p.now nets)
     (sym (returns-clause-nets c))
-    (is_just c.args.width c.args.p.now c.requires.width.0 c.in_ok-marks.ensures.fits
+    (is_just c.args.width c.args.p.now c.args.formula.now.cnf c.requires.fair
     c.args.log.now.steps c.args.log.now.steps c.requires.trimmed)

@@ -1,14 +1,16 @@
-use Rattle.std.proofs.Common.{◌≡◌, ap, subst, inl, inr}
+use Rattle.std.proofs.Common.{◌≡◌, ap, subst, sym, inl, inr}
 use Rattle.fpga_types.specs.declared.netlist.Netlist.{Netlist}
 use Rattle.router_words.specs.Job.{least_said}
 use Rattle.router_top.specs.Bound.{cut_lines}
 use Rattle.router_top.specs.Least.{LeavesWidths}
 use Rattle.router_top.specs.Subject.{FailsToSay, ShelfState, after_say}
 use Rattle.router_top.specs.declared.negotiating.Begun.{Begun}
+use Rattle.router_top.specs.Reasons.{IsUnraised}
+use Rattle.router_top.proofs.ReasonLaws.{raised-behind}
 use Rattle.router_top.proofs.narrowing.narrow_cut.Goals as goal
 
-pub returns-in-Ok : goal.returns-in-Ok
-returns-in-Ok g c =
+pub returns-in-Ok-clause-leaves : goal.returns-in-Ok-clause-leaves
+returns-in-Ok-clause-leaves g c =
     let before = g.S.Shelf.state c.args.shelf.now in
     let between = g.S.Shelf.state c.say_cut.new.shelf in
     let said = subst (λ (netlist : Netlist).
@@ -16,10 +18,10 @@ returns-in-Ok g c =
     (ap (λ (begun : Begun). begun.placed.netlist) c.begun.view_is) c.in-Ok.ensures in
     inr (inr (subst (λ (shelf : ShelfState). LeavesWidths (least_said c.args.job.now)
     c.args.begun.now.placed c.args.cut.now shelf (g.S.Shelf.state c.search_widths.new.shelf)
-    c.search_widths.result) said c.search_widths.ensures))
+    c.search_widths.result.outcome) said c.search_widths.ensures.leaves))
 
-pub returns-in-Err : goal.returns-in-Err
-returns-in-Err g c = elim c.in-Err.ensures [
+pub returns-in-Err-clause-leaves : goal.returns-in-Err-clause-leaves
+returns-in-Err-clause-leaves g c = elim c.in-Err.ensures [
   | inl short ↦ inl short
   | inr fails ↦ inr (inl (
     subst (λ (netlist : Netlist). FailsToSay (g.S.Shelf.state c.args.shelf.now)
@@ -27,4 +29,17 @@ returns-in-Err g c = elim c.in-Err.ensures [
         (ap (λ (begun : Begun). begun.placed.netlist) c.begun.view_is) fails.0,
     fails.1,
   ))
+]
+
+pub returns-in-Ok-clause-why : goal.returns-in-Ok-clause-why
+returns-in-Ok-clause-why g c =
+    raised-behind (least_said c.args.job.now) c.args.begun.now.placed c.search_widths.result.outcome
+    (g.S.Shelf.state c.args.shelf.now).files (g.S.Shelf.state c.say_cut.new.shelf).files
+    (g.S.Shelf.state c.search_widths.new.shelf).files c.search_widths.result.why
+    (ap (λ (s : ShelfState). s.files) c.in-Ok.ensures) c.search_widths.ensures.why
+
+pub returns-in-Err-clause-none : goal.returns-in-Err-clause-none
+returns-in-Err-clause-none g c none = elim c.in-Err.ensures [
+  | inl short ↦ subst IsUnraised (sym short.0) tt
+  | inr fails ↦ subst IsUnraised (sym fails.1) tt
 ]

@@ -3,8 +3,8 @@ use Rattle.fpga_types.specs.Problem.{PlacedNetlist}
 use Rattle.route_bound.specs.Cuts.{IsBestCut}
 use Rattle.router_top.proofs.narrowing.narrow_placed.Goals as goal
 
-pub returns : goal.returns
-returns g c = elim c.narrow_cut.ensures [
+pub returns-clause-leaves : goal.returns-clause-leaves
+returns-clause-leaves g c = elim c.narrow_cut.ensures.leaves [
   | inl short ↦ inl short
   | inr leaves ↦ inr (
     c.in-Ok.cut,

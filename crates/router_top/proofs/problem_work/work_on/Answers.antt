@@ -3,6 +3,7 @@ use Rattle.router_top.specs.declared.text_file.TextFile.TheVariants.{Problem}
 use Rattle.router_top.specs.Posed.{EndsWithoutProblem}
 use Rattle.router_top.proofs.PosedLaws.{unread-ends}
 use Rattle.router_top.proofs.StopLaws.{desk-fault}
+use Rattle.router_top.proofs.StoppedLaws.{unread-not-early}
 use Rattle.router_top.proofs.problem_work.work_on.Goals as goal
 
 pub returns-in-Err-clause-leaves : goal.returns-in-Err-clause-leaves
@@ -17,3 +18,8 @@ returns-in-Err-clause-quiet g c told =
 pub returns-in-Err-clause-lacks : goal.returns-in-Err-clause-lacks
 returns-in-Err-clause-lacks g c none = subst EndsWithoutProblem (sym c.unread_outcome.ensures)
     (unread-ends (Problem c.in-Err.stop.file) c.in-Err.stop.fault)
+
+pub returns-in-Err-clause-stopped : goal.returns-in-Err-clause-stopped
+returns-in-Err-clause-stopped g c early =
+    absurd (unread-not-early (g.W.ProblemWork.budget c.args.work.now) (Problem c.in-Err.stop.file)
+    c.in-Err.stop.fault c.unread_outcome.result c.unread_outcome.ensures early)

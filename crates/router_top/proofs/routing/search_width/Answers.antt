@@ -1,13 +1,16 @@
-use Rattle.std.proofs.Common.{subst}
-use Rattle.route_sweep.specs.Found.{FindsBy}
-use Rattle.route_ways.specs.Way.{Course, copies_by, course_of, opens_by, refutes_by}
-use Rattle.router_words.specs.Job.{route_said}
+use Rattle.std.proofs.Common.{◌∙◌, ℕ, ap, subst, sym}
+use Rattle.std.specs.Prelude.{option_map}
+use Rattle.route_sweep.specs.Found.{FindsBy, FindsShort}
+use Rattle.route_ways.specs.Way.{Course, budget_of, copies_by, course_of, opens_by, refutes_by}
+use Rattle.router_words.specs.Job.{members_said, route_said, search_said}
 use Rattle.router_top.specs.Known.{crowd_of}
 use Rattle.router_top.specs.Search.{route_search}
 use Rattle.router_top.specs.Suited.{clauses_along}
 use Rattle.router_top.specs.Work.{Finds}
 use Rattle.router_top.proofs.KnownLaws.{count-goes, known-crowd, known-some, order-goes}
 use Rattle.router_top.proofs.PreparedLaws.{by-encoder, encoder-begins}
+use Rattle.router_top.proofs.ServeLaws.{budget-said}
+use Rattle.router_top.proofs.StoppedLaws.{found-early}
 use Rattle.router_top.proofs.routing.search_width.Goals as goal
 
 pub of-encoder-requires-clause-known : goal.of-encoder-requires-clause-known
@@ -33,8 +36,8 @@ one_width-came-requires-clause-serves g c =
     (λ counts. encoder-begins job.search.method (crowd_of c.args.known.now) p encoder
     c.of-encoder.ensures (job.search.countable counts) width)
 
-pub returns : goal.returns
-returns g c =
+pub returns-clause-leaves : goal.returns-clause-leaves
+returns-clause-leaves g c =
     let job = c.args.job.now in
     let p = c.args.problem.now in
     let width = job.search.width in
@@ -56,6 +59,17 @@ returns g c =
           c.of-encoder.result c.of-encoder.ensures known
           (λ formula good. FindsBy (copies_by way) (refutes_by way p width (formula width))
           (opens_by way p width (formula width)) search.ask width (formula width) (good width)
-          before now came) c.one_width-came.ensures);
+          before now came) c.one_width-came.ensures.finds);
       is = c.found_outcome.ensures;
     }
+
+pub returns-clause-stopped : goal.returns-clause-stopped
+returns-clause-stopped g c early =
+    let job = c.args.job.now in
+    let came = c.one_width-came.result in
+    let budget = ap budget_of c.way_by-way.ensures.is
+    ∙ budget-said (search_said job.search) (option_map members_said job.members)
+    (crowd_of c.args.known.now) in
+    c.one_width-came.ensures.stopped (subst (λ (n : ℕ). FindsShort n came) (sym budget)
+    (found-early job.search.conflicts job.search.width came c.found_outcome.result
+    c.found_outcome.ensures early))

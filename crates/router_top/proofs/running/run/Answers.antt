@@ -1,3 +1,4 @@
+use Rattle.std.proofs.lemmas.Option.{IfSome_then}
 use Rattle.router_words.specs.Word.{words_of}
 use Rattle.router_top.specs.Run.{Runs, scene}
 use Rattle.router_top.proofs.ComeLaws.{leaves-came}
@@ -5,7 +6,9 @@ use Rattle.router_top.proofs.CompleteLaws.{runs-complete}
 use Rattle.router_top.proofs.LeftLaws.{runs-leave}
 use Rattle.router_top.proofs.MeansLaws.{runs-mean}
 use Rattle.router_top.proofs.PosedLaws.{reported-lacks}
+use Rattle.router_top.proofs.ReasonLaws.{reported-gives, reported-lacks-reason}
 use Rattle.router_top.proofs.SaidLaws.{runs-speak}
+use Rattle.router_top.proofs.StoppedLaws.{reported-stopped}
 use Rattle.router_top.proofs.running.run.Goals as goal
 
 pub returns : goal.returns
@@ -34,4 +37,11 @@ returns g c =
       posed = c.work-outcome.ensures.posed;
       unposed = λ none. reported-lacks words ran.between ran.outcome shelf_now answer
           c.say_report-outcome.ensures (c.work-outcome.ensures.lacks none);
+      stopped = λ stopped. c.work-outcome.ensures.stopped (reported-stopped words ran.between
+          ran.outcome shelf_now answer c.say_report-outcome.ensures stopped);
+      reason = IfSome_then c.work-outcome.result.reason c.work-outcome.ensures.reason
+          (λ reason gives. reported-gives words desk.files shelf.files ran.between shelf_now
+          ran.outcome answer reason c.say_report-outcome.ensures gives);
+      unraised = λ none. reported-lacks-reason words ran.between shelf_now ran.outcome answer
+          c.say_report-outcome.ensures (c.work-outcome.ensures.unraised none);
     }

@@ -2,6 +2,8 @@ use Rattle.std.proofs.Common.{inr, refl}
 use Rattle.std.proofs.lemmas.Option.{IfSome_then}
 use Rattle.router_words.specs.Word.{words_of}
 use Rattle.router_top.proofs.PosedLaws.{lacks-none}
+use Rattle.router_top.proofs.ReasonLaws.{others-lack}
+use Rattle.router_top.proofs.StoppedLaws.{none-stopped, not-open, refused-stopped, stopped-there}
 use Rattle.router_top.proofs.running.work.Goals as goal
 
 pub returns-in-Ok-Route-clause-leaves : goal.returns-in-Ok-Route-clause-leaves
@@ -47,7 +49,7 @@ returns-in-Ok-Gen-clause-leaves g c =
 pub returns-in-Ok-Trial-clause-leaves : goal.returns-in-Ok-Trial-clause-leaves
 returns-in-Ok-Trial-clause-leaves g c =
     let asked = rw c.in-Ok-Trial.field-0-is at c.in-Ok-Trial.ensures.answers in
-    rw c.without_problem-in-Ok-Trial.ensures (inr (rw asked (c.trial.ensures, refl)))
+    rw c.without_problem-in-Ok-Trial.ensures (inr (rw asked (c.trial.ensures.leaves, refl)))
 
 pub returns-in-Ok-Core-clause-leaves : goal.returns-in-Ok-Core-clause-leaves
 returns-in-Ok-Core-clause-leaves g c =
@@ -67,7 +69,19 @@ returns-in-Ok-Global-clause-leaves g c =
 pub returns-in-Ok-Least-clause-leaves : goal.returns-in-Ok-Least-clause-leaves
 returns-in-Ok-Least-clause-leaves g c =
     let asked = rw c.in-Ok-Least.field-0-is at c.in-Ok-Least.ensures.answers in
-    rw c.without_problem-in-Ok-Least.ensures (inr (rw asked c.narrow_files.ensures.leaves))
+    inr (rw asked c.narrow_files.ensures.leaves)
+
+pub returns-in-Ok-Least-clause-posed : goal.returns-in-Ok-Least-clause-posed
+returns-in-Ok-Least-clause-posed g c = rw c.narrow_files.ensures.problem tt
+
+pub returns-in-Ok-Least-clause-reason : goal.returns-in-Ok-Least-clause-reason
+returns-in-Ok-Least-clause-reason g c =
+    let asked = rw c.in-Ok-Least.field-0-is at c.in-Ok-Least.ensures.answers in
+    IfSome_then c.narrow_files.result.reason c.narrow_files.ensures.reason
+    (λ reason is. (_, asked, is))
+
+pub returns-in-Ok-Least-clause-unraised : goal.returns-in-Ok-Least-clause-unraised
+returns-in-Ok-Least-clause-unraised g c none = λ job said. c.narrow_files.ensures.unraised none
 
 pub returns-in-Ok-Route-clause-posed : goal.returns-in-Ok-Route-clause-posed
 returns-in-Ok-Route-clause-posed g c =
@@ -149,3 +163,141 @@ pub returns-in-Ok-Least-clause-lacks : goal.returns-in-Ok-Least-clause-lacks
 returns-in-Ok-Least-clause-lacks g c none =
     let asked = rw c.in-Ok-Least.field-0-is at c.in-Ok-Least.ensures.answers in
     lacks-none (words_of c.args.words.now) _ _ asked refl
+
+pub returns-in-Ok-Route-clause-stopped : goal.returns-in-Ok-Route-clause-stopped
+returns-in-Ok-Route-clause-stopped g c stopped =
+    let asked = rw c.in-Ok-Route.field-0-is at c.in-Ok-Route.ensures.answers in
+    c.work_on.ensures.stopped (stopped-there (words_of c.args.words.now) _ _ asked stopped)
+
+pub returns-in-Ok-Sweep-clause-stopped : goal.returns-in-Ok-Sweep-clause-stopped
+returns-in-Ok-Sweep-clause-stopped g c stopped =
+    let asked = rw c.in-Ok-Sweep.field-0-is at c.in-Ok-Sweep.ensures.answers in
+    c.work_on-in-Ok-Sweep.ensures.stopped (stopped-there (words_of c.args.words.now) _ _ asked stopped)
+
+pub returns-in-Ok-Core-clause-stopped : goal.returns-in-Ok-Core-clause-stopped
+returns-in-Ok-Core-clause-stopped g c stopped =
+    let asked = rw c.in-Ok-Core.field-0-is at c.in-Ok-Core.ensures.answers in
+    c.work_on-in-Ok-Core.ensures.stopped (stopped-there (words_of c.args.words.now) _ _ asked stopped)
+
+pub returns-in-Ok-Trial-clause-stopped : goal.returns-in-Ok-Trial-clause-stopped
+returns-in-Ok-Trial-clause-stopped g c stopped =
+    let asked = rw c.in-Ok-Trial.field-0-is at c.in-Ok-Trial.ensures.answers in
+    c.trial.ensures.stopped (rw c.without_problem-in-Ok-Trial.ensures
+    at (stopped-there (words_of c.args.words.now) _ _ asked stopped))
+
+pub returns-in-Ok-Encode-clause-stopped : goal.returns-in-Ok-Encode-clause-stopped
+returns-in-Ok-Encode-clause-stopped g c stopped =
+    let asked = rw c.in-Ok-Encode.field-0-is at c.in-Ok-Encode.ensures.answers in
+    absurd (none-stopped (words_of c.args.words.now) _ _ asked refl stopped)
+
+pub returns-in-Ok-Decode-clause-stopped : goal.returns-in-Ok-Decode-clause-stopped
+returns-in-Ok-Decode-clause-stopped g c stopped =
+    let asked = rw c.in-Ok-Decode.field-0-is at c.in-Ok-Decode.ensures.answers in
+    absurd (none-stopped (words_of c.args.words.now) _ _ asked refl stopped)
+
+pub returns-in-Ok-Check-clause-stopped : goal.returns-in-Ok-Check-clause-stopped
+returns-in-Ok-Check-clause-stopped g c stopped =
+    let asked = rw c.in-Ok-Check.field-0-is at c.in-Ok-Check.ensures.answers in
+    absurd (none-stopped (words_of c.args.words.now) _ _ asked refl stopped)
+
+pub returns-in-Ok-Verify-clause-stopped : goal.returns-in-Ok-Verify-clause-stopped
+returns-in-Ok-Verify-clause-stopped g c stopped =
+    let asked = rw c.in-Ok-Verify.field-0-is at c.in-Ok-Verify.ensures.answers in
+    absurd (none-stopped (words_of c.args.words.now) _ _ asked refl stopped)
+
+pub returns-in-Ok-Judge-clause-stopped : goal.returns-in-Ok-Judge-clause-stopped
+returns-in-Ok-Judge-clause-stopped g c stopped =
+    let asked = rw c.in-Ok-Judge.field-0-is at c.in-Ok-Judge.ensures.answers in
+    absurd (none-stopped (words_of c.args.words.now) _ _ asked refl stopped)
+
+pub returns-in-Ok-Bound-clause-stopped : goal.returns-in-Ok-Bound-clause-stopped
+returns-in-Ok-Bound-clause-stopped g c stopped =
+    let asked = rw c.in-Ok-Bound.field-0-is at c.in-Ok-Bound.ensures.answers in
+    absurd (none-stopped (words_of c.args.words.now) _ _ asked refl stopped)
+
+pub returns-in-Ok-Global-clause-stopped : goal.returns-in-Ok-Global-clause-stopped
+returns-in-Ok-Global-clause-stopped g c stopped =
+    let asked = rw c.in-Ok-Global.field-0-is at c.in-Ok-Global.ensures.answers in
+    absurd (none-stopped (words_of c.args.words.now) _ _ asked refl stopped)
+
+pub returns-in-Ok-Least-clause-stopped : goal.returns-in-Ok-Least-clause-stopped
+returns-in-Ok-Least-clause-stopped g c stopped =
+    let asked = rw c.in-Ok-Least.field-0-is at c.in-Ok-Least.ensures.answers in
+    absurd (none-stopped (words_of c.args.words.now) _ _ asked refl stopped)
+
+pub returns-in-Ok-Gen-clause-stopped : goal.returns-in-Ok-Gen-clause-stopped
+returns-in-Ok-Gen-clause-stopped g c stopped =
+    let asked = rw c.in-Ok-Gen.field-0-is at c.in-Ok-Gen.ensures.answers in
+    absurd (none-stopped (words_of c.args.words.now) _ _ asked refl stopped)
+
+pub returns-in-Ok-Route-clause-reason : goal.returns-in-Ok-Route-clause-reason
+returns-in-Ok-Route-clause-reason g c = rw c.work_on.ensures.unraised tt
+
+pub returns-in-Ok-Encode-clause-reason : goal.returns-in-Ok-Encode-clause-reason
+returns-in-Ok-Encode-clause-reason g c = rw c.work_on-in-Ok-Encode.ensures.unraised tt
+
+pub returns-in-Ok-Sweep-clause-reason : goal.returns-in-Ok-Sweep-clause-reason
+returns-in-Ok-Sweep-clause-reason g c = rw c.work_on-in-Ok-Sweep.ensures.unraised tt
+
+pub returns-in-Ok-Core-clause-reason : goal.returns-in-Ok-Core-clause-reason
+returns-in-Ok-Core-clause-reason g c = rw c.work_on-in-Ok-Core.ensures.unraised tt
+
+pub returns-in-Ok-Route-clause-unraised : goal.returns-in-Ok-Route-clause-unraised
+returns-in-Ok-Route-clause-unraised g c none =
+    let asked = rw c.in-Ok-Route.field-0-is at c.in-Ok-Route.ensures.answers in
+    others-lack (words_of c.args.words.now) _ _ asked refl
+
+pub returns-in-Ok-Encode-clause-unraised : goal.returns-in-Ok-Encode-clause-unraised
+returns-in-Ok-Encode-clause-unraised g c none =
+    let asked = rw c.in-Ok-Encode.field-0-is at c.in-Ok-Encode.ensures.answers in
+    others-lack (words_of c.args.words.now) _ _ asked refl
+
+pub returns-in-Ok-Sweep-clause-unraised : goal.returns-in-Ok-Sweep-clause-unraised
+returns-in-Ok-Sweep-clause-unraised g c none =
+    let asked = rw c.in-Ok-Sweep.field-0-is at c.in-Ok-Sweep.ensures.answers in
+    others-lack (words_of c.args.words.now) _ _ asked refl
+
+pub returns-in-Ok-Core-clause-unraised : goal.returns-in-Ok-Core-clause-unraised
+returns-in-Ok-Core-clause-unraised g c none =
+    let asked = rw c.in-Ok-Core.field-0-is at c.in-Ok-Core.ensures.answers in
+    others-lack (words_of c.args.words.now) _ _ asked refl
+
+pub returns-in-Ok-Decode-clause-unraised : goal.returns-in-Ok-Decode-clause-unraised
+returns-in-Ok-Decode-clause-unraised g c none =
+    let asked = rw c.in-Ok-Decode.field-0-is at c.in-Ok-Decode.ensures.answers in
+    others-lack (words_of c.args.words.now) _ _ asked refl
+
+pub returns-in-Ok-Check-clause-unraised : goal.returns-in-Ok-Check-clause-unraised
+returns-in-Ok-Check-clause-unraised g c none =
+    let asked = rw c.in-Ok-Check.field-0-is at c.in-Ok-Check.ensures.answers in
+    others-lack (words_of c.args.words.now) _ _ asked refl
+
+pub returns-in-Ok-Verify-clause-unraised : goal.returns-in-Ok-Verify-clause-unraised
+returns-in-Ok-Verify-clause-unraised g c none =
+    let asked = rw c.in-Ok-Verify.field-0-is at c.in-Ok-Verify.ensures.answers in
+    others-lack (words_of c.args.words.now) _ _ asked refl
+
+pub returns-in-Ok-Judge-clause-unraised : goal.returns-in-Ok-Judge-clause-unraised
+returns-in-Ok-Judge-clause-unraised g c none =
+    let asked = rw c.in-Ok-Judge.field-0-is at c.in-Ok-Judge.ensures.answers in
+    others-lack (words_of c.args.words.now) _ _ asked refl
+
+pub returns-in-Ok-Bound-clause-unraised : goal.returns-in-Ok-Bound-clause-unraised
+returns-in-Ok-Bound-clause-unraised g c none =
+    let asked = rw c.in-Ok-Bound.field-0-is at c.in-Ok-Bound.ensures.answers in
+    others-lack (words_of c.args.words.now) _ _ asked refl
+
+pub returns-in-Ok-Global-clause-unraised : goal.returns-in-Ok-Global-clause-unraised
+returns-in-Ok-Global-clause-unraised g c none =
+    let asked = rw c.in-Ok-Global.field-0-is at c.in-Ok-Global.ensures.answers in
+    others-lack (words_of c.args.words.now) _ _ asked refl
+
+pub returns-in-Ok-Gen-clause-unraised : goal.returns-in-Ok-Gen-clause-unraised
+returns-in-Ok-Gen-clause-unraised g c none =
+    let asked = rw c.in-Ok-Gen.field-0-is at c.in-Ok-Gen.ensures.answers in
+    others-lack (words_of c.args.words.now) _ _ asked refl
+
+pub returns-in-Ok-Trial-clause-unraised : goal.returns-in-Ok-Trial-clause-unraised
+returns-in-Ok-Trial-clause-unraised g c none =
+    let asked = rw c.in-Ok-Trial.field-0-is at c.in-Ok-Trial.ensures.answers in
+    others-lack (words_of c.args.words.now) _ _ asked refl

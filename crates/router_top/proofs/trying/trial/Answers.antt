@@ -1,18 +1,19 @@
 use Rattle.std.proofs.Common.{◌∙◌, refl, ap, subst, inl, inr}
-use Rattle.router_words.specs.Job.{trial_said}
+use Rattle.router_words.specs.Job.{recipe_said, trial_said}
 use Rattle.router_top.specs.Search.{sweep_of}
 use Rattle.router_top.specs.Work.{Sweeps}
 use Rattle.router_top.specs.Subject.{Bytes, FailsToSay, ShelfState, after_say}
+use Rattle.router_top.proofs.StoppedLaws.{not-open, unmade-not-early}
 use Rattle.router_top.proofs.trying.trial.Goals as goal
 
-pub returns-in-Err : goal.returns-in-Err
-returns-in-Err g c = inl (c.in-Err.ensures.none, refl)
+pub returns-in-Err-clause-leaves : goal.returns-in-Err-clause-leaves
+returns-in-Err-clause-leaves g c = inl (c.in-Err.ensures.none, refl)
 
-pub returns-in_default : goal.returns-in_default
-returns-in_default g c = inl (inl (inr refl), refl)
+pub returns-in_default-clause-leaves : goal.returns-in_default-clause-leaves
+returns-in_default-clause-leaves g c = inl (inl (inr refl), refl)
 
-pub returns-in_default-say : goal.returns-in_default-say
-returns-in_default-say g c =
+pub returns-in_default-say-clause-leaves : goal.returns-in_default-say-clause-leaves
+returns-in_default-say-clause-leaves g c =
     let line = c.as_bytes.ensures.value ∙ c.deref.ensures.0 ∙ c.trial_line.ensures.line in
     inr (
       c.in-Ok.problem,
@@ -24,8 +25,8 @@ returns-in_default-say g c =
       ),
     )
 
-pub returns : goal.returns
-returns g c =
+pub returns-clause-leaves : goal.returns-clause-leaves
+returns-clause-leaves g c =
     let job = trial_said c.args.job.now in
     let line = c.as_bytes.ensures.value ∙ c.deref.ensures.0 ∙ c.trial_line.ensures.line in
     inr (
@@ -34,5 +35,10 @@ returns g c =
       inl (subst (λ (shelf : ShelfState). Sweeps (sweep_of job) c.in-Ok.problem shelf
           (g.S.Shelf.state c.search_widths.new.shelf) c.search_widths.result)
           (c.in-Ok-say.ensures.ok ∙ ap (after_say (g.S.Shelf.state c.args.shelf.now)) line)
-          c.search_widths.ensures),
+          c.search_widths.ensures.leaves),
     )
+
+pub returns-in-Err-clause-stopped : goal.returns-in-Err-clause-stopped
+returns-in-Err-clause-stopped g c early =
+    absurd (unmade-not-early c.args.job.now.search.conflicts (recipe_said c.args.job.now.recipe)
+    c.in-Err.outcome c.in-Err.ensures.none early)

@@ -1,11 +1,13 @@
 use Rattle.std.proofs.Common.{ap, codes, ◌∙◌}
 use Rattle.std.proofs.lemmas.Result.{IfOk-weaker}
-use Rattle.router_words.specs.Form.{with_files, with_option, with_width_and_prefix}
+use Rattle.router_words.specs.Form.{with_files, with_option, with_symmetry, with_width_and_prefix}
 use Rattle.router_words.proofs.form.core_command.Goals as goal
 
 pub returns : goal.returns
 returns c =
     let files = c.in_ok-command.ensures ∙ ap with_files c.named.ensures in
     let width = c.in_ok-command-2.ensures ∙ ap with_width_and_prefix files in
-    IfOk-weaker c.add_option.result _ _ (λ r h. h ∙ ap (with_option (codes "conflicts")) width)
-    c.add_option.ensures
+    let conflicts = c.in_ok-command-3.ensures ∙ ap (with_option (codes "conflicts")) width in
+    let seconds = c.in_ok-command-4.ensures ∙ ap (with_option (codes "seconds")) conflicts in
+    IfOk-weaker c.add_symmetry.result _ _ (λ r h. h ∙ ap with_symmetry seconds)
+    c.add_symmetry.ensures

@@ -15,9 +15,9 @@ use fpga_bounds::PlacedProblem;
 use fpga_types::WIDTH_LIMIT;
 use std::alloc::Global;
 
-/// Prints how the changed routing of a row is judged, behind the row's name: where it tells a reach,
-/// within that and then without it; and last as a routing of the placement, with several wires of a
-/// cell and strictly with one.
+/// Prints how the changed routing of a row is judged, behind the row's name: where it tells a
+/// reach, within that and then without it; and last as a routing of the placement, with several
+/// wires of a cell and strictly with one.
 pub(crate) fn print_row<D: Desk>(
     rt: &impl Print,
     alloc: Global,

@@ -1,5 +1,4 @@
-use Rattle.std.proofs.Common.{◌*◌, ◌-◌, ◌^◌, arith}
-use Rattle.sat_core.proofs.RankingLaws.{held_refl, held_then, part_least}
+use Rattle.sat_core.proofs.RankingLaws.{held_refl, held_then}
 use Rattle.sat_core.proofs.ranking.prefer_last.Goals as goal
 
 pub loop-below-init : goal.loop-below-init

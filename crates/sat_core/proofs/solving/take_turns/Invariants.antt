@@ -7,7 +7,7 @@ use Rattle.sat_core.proofs.solving.take_turns.Given as goal
 
 -- the log is under way, and each turn so far has added a clause
 abbrev pub invariant-loop : goal.invariant-loop
-invariant-loop l = record {
+invariant-loop g l = record {
   underway : IsUnderway l.search l.formula.cnf l.log.steps;
   tracked : AreDeletions l.log.steps l.deletions;
   kept : IsTrue l.keep → deletions l.log.steps ≡ 0;

@@ -1,9 +1,8 @@
-use Rattle.std.proofs.Common.{◌≡◌, Option, ap, subst, ◌∙◌}
+use Rattle.std.proofs.Common.{◌≡◌, Option, subst}
 use Rattle.std.specs.Prelude.{IfSome}
 use Rattle.std.proofs.lemmas.Result.{IfOk-weaker}
 use Rattle.route_bound.specs.Placed.{placed_netlist}
 use Rattle.route_bound.specs.Ranges.{corners_of}
-use Rattle.cell_clauses.specs.Clauses.{cell_cnf}
 use Rattle.cell_clauses.specs.Frames.{frame_of}
 use Rattle.cell_clauses.specs.Held.{frame_in}
 use Rattle.cell_clauses.specs.declared.frame.PlacedWindow.{PlacedWindow}
@@ -22,12 +21,11 @@ returns c =
     subst (λ (o : Option PlacedWindow).
     IfSome o (λ w. frame_in w ≡ frame_of placed (corners_of range) width)) c.in-Some.is
     c.in_ok-window.ensures.window in
-    let formula : c.in_ok-formula.formula.cnf
-    ≡ cell_cnf (frame_of placed (corners_of range) width) =
-    c.in_ok-formula.ensures ∙ ap cell_cnf window in
+    let frame = frame_in c.in-Some.window in
+    let cnf = c.in_ok-formula.formula.cnf in
     IfOk-weaker c.refuted_formula.result
-    (λ (found : Option CellRefutation). IfSome found (IsFoundFor range c.in_ok-formula.formula.cnf))
+    (λ (found : Option CellRefutation). IfSome found (IsFoundFor frame range cnf))
     (λ (found : Option CellRefutation). IfSome found (IsRefuted placed width))
-    (λ found h. if-there (IsFoundFor range c.in_ok-formula.formula.cnf) (IsRefuted placed width)
-    found (λ r of. is-refuted placed range width c.in_ok-formula.formula.cnf r formula of) h)
+    (λ found h. if-there (IsFoundFor frame range cnf) (IsRefuted placed width) found
+    (λ r of. is-refuted placed range width frame cnf r window c.in_ok-formula.ensures of) h)
     c.refuted_formula.ensures

@@ -2,8 +2,8 @@ use Rattle.std.proofs.Common.{arith}
 use Rattle.route_ways.proofs.WayLemmas.{most-kept}
 use Rattle.route_ways.proofs.plain.Plain.solve.Goals as goal
 
-pub returns-in-Ok-run_turns : goal.returns-in-Ok-run_turns
-returns-in-Ok-run_turns c =
+pub returns-in-Ok-run_turns-clause-searched : goal.returns-in-Ok-run_turns-clause-searched
+returns-in-Ok-run_turns-clause-searched g c =
     let end = c.in-Ok-run_turns.ensures in
     record {
       logged = end.logged;

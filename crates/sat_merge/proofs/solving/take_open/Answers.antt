@@ -1,9 +1,8 @@
-use Rattle.sat_core.specs.declared.answer.Answer.TheVariants.{Spent}
 use Rattle.sat_merge.proofs.SearchedLaws.{searched_rewritten}
-use Rattle.sat_merge.proofs.solving.take_spent.Goals as goal
+use Rattle.sat_merge.proofs.solving.take_open.Goals as goal
 
 -- an open log stands where it is rewritten
 pub returns-clause-searched : goal.returns-clause-searched
 returns-clause-searched c merged budget keep merge searched =
     searched_rewritten budget (c.in_ok-rewrite.ensures c.if-not-branch.false) merged merge keep
-    Spent (λ values is. cc) searched
+    c.args.answer c.requires.no_values searched

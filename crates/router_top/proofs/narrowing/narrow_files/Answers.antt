@@ -1,0 +1,28 @@
+use Rattle.std.proofs.Common.{inr, subst, sym}
+use Rattle.router_words.specs.Job.{least_said}
+use Rattle.router_top.specs.Run.{LeavesLeast, scene}
+use Rattle.router_top.proofs.ReasonLaws.{given-back}
+use Rattle.router_top.proofs.narrowing.narrow_files.Goals as goal
+
+pub returns-in-Ok-clause-leaves : goal.returns-in-Ok-clause-leaves
+returns-in-Ok-clause-leaves g c =
+    let has = rw c.at_width.ensures at c.in-Ok.ensures.has in
+    subst (LeavesLeast (least_said c.args.job.now)
+    (scene (g.D.Desk.state c.args.desk.now) (g.D.Desk.state c.read_begun.new.desk)
+    (g.S.Shelf.state c.args.shelf.now) (g.S.Shelf.state c.narrow_placed-ended.new.shelf)))
+    (sym c.ran_by.ensures.outcome)
+    (inr (c.in-Ok.begun.placed, has, c.narrow_placed-ended.ensures.leaves))
+
+pub returns-in-Ok-clause-reason : goal.returns-in-Ok-clause-reason
+returns-in-Ok-clause-reason g c =
+    let has = rw c.at_width.ensures at c.in-Ok.ensures.has in
+    rw c.ran_by.ensures.outcome
+    (given-back (least_said c.args.job.now) c.in-Ok.begun.placed
+    (g.D.Desk.state c.args.desk.now).files (g.S.Shelf.state c.args.shelf.now).files
+    (g.S.Shelf.state c.narrow_placed-ended.new.shelf).files c.narrow_placed-ended.result.outcome
+    c.narrow_placed-ended.result.why c.ran_by.result.reason has c.ran_by.ensures.reason
+    c.narrow_placed-ended.ensures.why)
+
+pub returns-in-Err-clause-quiet : goal.returns-in-Err-clause-quiet
+returns-in-Err-clause-quiet g c told =
+    c.in-Err.ensures.quiet (λ fails. told (rw c.without_problem.ensures fails))
