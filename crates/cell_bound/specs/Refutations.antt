@@ -29,7 +29,8 @@ pub record IsRefuted (placed : PlacedNetlist) (width : ℕ) (found : CellRefutat
   pub trimmed : IsTrimmed found.formula.cnf found.log.steps found.log.steps
   pub none : HasNoRouting placed width
   pub blames : found.nets.items
-      ≡ blamed_nets (frame_of placed (corners_of found.range) width) found.formula.cnf found.log.steps
+      ≡ blamed_nets (frame_of placed (corners_of found.range) width)
+      found.formula.cnf found.log.steps
   pub alone : HaveNoRouting placed found.nets.items width
 
 -- a log that refutes a formula, which has no more clauses than may be read, without what a

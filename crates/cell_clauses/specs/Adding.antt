@@ -4,6 +4,7 @@ use Rattle.sat_clause.specs.FormulaStore.{FormulaState}
 use Rattle.sat_clause.specs.Literal.{Clause}
 
 -- the clauses were added at the end
-pub record Extends (before : FormulaState) (added : List Clause) (after : FormulaState) : Type 0 where
+pub record Extends (before : FormulaState) (added : List Clause) (after : FormulaState)
+    : Type 0 where
   pub vars : after.cnf.vars ≡ before.cnf.vars
   pub clauses : after.cnf.clauses ≡ before.cnf.clauses ++ added

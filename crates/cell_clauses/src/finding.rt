@@ -74,7 +74,8 @@ impl<'a> Placed<'a> {
     /// Whether the cells hold the driver, where there is a sink, or one of the sinks.
     fn has_held(&self, range: CornerRange, driver: Terminal, sinks: &[PinRef]) -> bool
         ensures { result ≡ list_any
-            (λ (at : TerminalOf). is_held (placed_of self.now) (has_corner_in (corners_of range)) driver
+            (λ (at : TerminalOf).
+            is_held (placed_of self.now) (has_corner_in (corners_of range)) driver
             || is_held (placed_of self.now) (has_corner_in (corners_of range)) at)
             (filter_map (terminal_in (placed_of self.now)) sinks.now) }
     {

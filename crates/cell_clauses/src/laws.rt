@@ -29,5 +29,6 @@ pub fn refuted_has_no_routing()
 /// In every placed routing with so many tracks, the nets that have a terminal all of whose cells
 /// are in a set of cells are at most as many as these cells have wires. One cell is such a set.
 pub fn few_nets_held()
-    ensures { (placed : PlacedNetlist) (cells : Cells) (width : ℕ) → FewNetsHeld placed cells width }
+    ensures { (placed : PlacedNetlist) (cells : Cells) (width : ℕ) →
+        FewNetsHeld placed cells width }
 {}

@@ -130,7 +130,8 @@ fn add_tally(formula: &mut Formula, sizes: Sizes, net: u32, cell: u32)
     requires cell { cell < sizes.cells }
     requires vars { sizes.nets * sizes.cells + (sizes.nets + 1) * sizes.cells * sizes.width
         ≤ formula.old.cnf.vars }
-    requires room { HasRoom formula.old (tallies_at sizes.nets sizes.cells sizes.width net cell) }
+    requires room { HasRoom formula.old
+        (tallies_at sizes.nets sizes.cells sizes.width net cell) }
     ensures { Adds formula.old (tallies_at sizes.nets sizes.cells sizes.width net cell) formula.new }
 {
     add_first(formula, sizes, net, cell);
@@ -143,7 +144,8 @@ fn add_first(formula: &mut Formula, sizes: Sizes, net: u32, cell: u32)
     requires cell { cell < sizes.cells }
     requires vars { sizes.nets * sizes.cells + (sizes.nets + 1) * sizes.cells * sizes.width
         ≤ formula.old.cnf.vars }
-    requires room { HasRoom formula.old (first_at sizes.nets sizes.cells sizes.width net cell ∷ []) }
+    requires room { HasRoom formula.old
+        (first_at sizes.nets sizes.cells sizes.width net cell ∷ []) }
     ensures { Adds formula.old
         (first_at sizes.nets sizes.cells sizes.width net cell ∷ []) formula.new }
 {
@@ -175,7 +177,8 @@ fn add_step(formula: &mut Formula, sizes: Sizes, net: u32, cell: u32, many: u32)
     requires many { many < sizes.width }
     requires vars { sizes.nets * sizes.cells + (sizes.nets + 1) * sizes.cells * sizes.width
         ≤ formula.old.cnf.vars }
-    requires room { HasRoom formula.old (steps_at sizes.nets sizes.cells sizes.width net cell many) }
+    requires room { HasRoom formula.old
+        (steps_at sizes.nets sizes.cells sizes.width net cell many) }
     ensures { Adds formula.old
         (steps_at sizes.nets sizes.cells sizes.width net cell many) formula.new }
 {

@@ -1,11 +1,12 @@
 -- How a slot is found in a table, and one slot more.
 use denote.Enum.Bare.{sameb}
-use Rattle.std.proofs.Common.{◌≡◌, ℕ, ◌+◌, ◌<◌, ◌≤◌, get_or, Bool, true, false, cond, Option, Some, None, List, [], ◌∷◌, ◌++◌, length, refl, sym, subst, ◌∙◌, arith, zero-add, length-append}
+use Rattle.std.proofs.Common.{◌≡◌, ℕ, ◌+◌, ◌<◌, ◌≤◌, get_or, Bool, true, false, cond, Option, Some, None, List, [], ◌∷◌, ◌++◌, length, refl, sym, ap, subst, ◌∙◌, arith, zero-add, length-append}
 use Rattle.std.specs.Prelude.{◌&&◌, ◌==◌, is_some, not, nat_lt}
 use Rattle.std.specs.BTreeMap.{BTreeMap, get, Updates}
 use Rattle.std.specs.List.{list_any, position_from}
 use Rattle.std.specs.Option.{option_or}
 use Rattle.std.specs.Ordering.{is_eq}
+use Rattle.std.specs.declared.cmp.Reverse.{Reverse}
 use Rattle.std.proofs.lemmas.Bool.Decides.{nat_tests, Decides-eqb}
 use Rattle.std.proofs.lemmas.Iterator.Adapters.{position_from-zero}
 use Rattle.std.proofs.lemmas.Bool.{false≢true}
@@ -23,7 +24,7 @@ use Rattle.fpga_types.specs.declared.grid.Axis.TheVariants.{X, Y}
 use Rattle.fpga_types.specs.declared.problem.Slot.{Slot}
 use Rattle.fpga_types.proofs.MeetingLemmas.{both_true, same_cell-is, same_cell-itself}
 use Rattle.fpga_bounds.specs.Pairs.{AreDistinct}
-use Rattle.fpga_bounds.specs.SlotTable.{slot_cmp, IsNumbered}
+use Rattle.fpga_bounds.specs.SlotTable.{newest_first, slot_cmp, IsNumbered}
 
 axis_ties : (a b : Axis) → is_eq ((axis_ord.ghosts).cmp a b) ≡ same_axis b a
 axis_ties X X = refl
@@ -121,10 +122,14 @@ number-none all s h = go _ _ refl (position_from-zero (same_slot s) all ∙ h)
 
 -- a slot more, where it was not found
 pub numbered-push : (all : List Slot) (slot q : Slot) → list_any (same_slot slot) all ≡ false
-    → cond (is_eq (slot_cmp slot q)) (Some (length all)) (position_from (same_slot q) 0 all)
+    → cond (is_eq (slot_cmp q slot)) (Some (length all)) (position_from (same_slot q) 0 all)
     ≡ position_from (same_slot q) 0 (all ++ slot ∷ [])
 numbered-push all slot q h =
-    rw (slot_ties slot q, position-push (same_slot q) 0 all slot) (go (same_slot q slot) refl)
+    rw (
+      slot_ties q slot,
+      same_slot-swap slot q,
+      position-push (same_slot q) 0 all slot,
+    ) (go (same_slot q slot) refl)
   where
     none : (o : Option ℕ) → is_some o ≡ false → o ≡ None
     none None e = refl
@@ -148,16 +153,19 @@ numbered-push all slot q h =
         keep (Some n) = refl
 
 -- whether a table has a slot, by its numbers
-pub has-numbered : (all : List Slot) (numbers : BTreeMap Slot ℕ) (s : Slot) → IsNumbered all numbers
-    → is_some (get slot_cmp numbers s) ≡ list_any (same_slot s) all
-has-numbered all numbers s h = rw h.found (position-any (same_slot s) 0 all)
+pub has-numbered : (all : List Slot) (numbers : BTreeMap (Reverse Slot) ℕ) (s : Slot)
+    → IsNumbered all numbers
+    → is_some (get newest_first numbers (record { 0 = s })) ≡ list_any (same_slot s) all
+has-numbered all numbers s h =
+    ap is_some (h.found (record { 0 = s })) ∙ position-any (same_slot s) 0 all
 
 -- a table with one slot more
-pub numbered-more : (all : List Slot) (m n : BTreeMap Slot ℕ) (slot : Slot) (k : ℕ)
+pub numbered-more : (all : List Slot) (m n : BTreeMap (Reverse Slot) ℕ) (slot : Slot) (k : ℕ)
     → IsNumbered all m → list_any (same_slot slot) all ≡ false → length all < 200000 → k
-    ≡ length all → Updates slot_cmp m n slot (Some k) → IsNumbered (all ++ slot ∷ []) n
+    ≡ length all → Updates newest_first m n (record { 0 = slot }) (Some k)
+    → IsNumbered (all ++ slot ∷ []) n
 numbered-more all m n slot k h new room e u = record {
   once = once-push all slot h.once new;
-  found = λ q. u.0 q ∙ rw (e, h.found q) (numbered-push all slot q new);
+  found = λ q. u.0 q ∙ rw (e, h.found q) (numbered-push all slot q.0 new);
   limit = rw length-append (omega arith);
 }

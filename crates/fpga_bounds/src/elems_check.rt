@@ -7,7 +7,7 @@ ghost use Rattle.fpga_types.specs.Fit.{is_pin_of};
 ghost use Rattle.fpga_types.specs.declared.route.Elem.{Elem};
 
 use crate::elem_context::ElemContext;
-use crate::keys::{ElemKey, has_elem, has_pin, see};
+use crate::keys::{ElemKey, has_pin, see_again};
 use crate::line_rules::{ElemAt, LineRules};
 use fpga_text::TextFault;
 use fpga_types::{Elem, NET_LIMIT, RouteNet};
@@ -38,8 +38,7 @@ pub(crate) fn check_elems<'a, R: LineRules<'a>>(
     let mut seen = BTreeSet::new(alloc);
     let mut previous: Option<Elem> = None;
     for (i, e) in elems.iter().enumerate() {
-        let again = has_elem(&seen, *e);
-        let Ok(()) = see(&mut seen, *e) else {
+        let Ok(again) = see_again(&mut seen, *e) else {
             return Err(TextFault::Memory);
         };
         let context = ElemContext {

@@ -1,5 +1,5 @@
 //! Sets of elements and of pins.
-ghost use Rattle.std.specs.Prelude.{◌≡◌, OnOk};
+ghost use Rattle.std.specs.Prelude.{◌≡◌, IfOk, OnOk};
 ghost use Rattle.fpga_bounds.specs.Keys as spec;
 ghost use Rattle.fpga_bounds.specs.Keys.{GainsElem, GainsPin, GainsPins};
 
@@ -59,6 +59,18 @@ pub fn see(seen: &mut BTreeSet<ElemKey>, e: Elem) -> Result<(), AllocError>
 {
     seen.insert(elem_key(e))?;
     Ok(())
+}
+
+/// Puts an element into the set, and says whether the set had one that equals it.
+///
+/// # Errors
+/// Where memory is short.
+pub(crate) fn see_again(seen: &mut BTreeSet<ElemKey>, e: Elem) -> Result<bool, AllocError>
+    ensures again { IfOk result (λ again. again ≡ spec.has_elem seen.old e) }
+    ensures gains { OnOk result (GainsElem seen.old e seen.new) }
+{
+    let is_new = seen.insert(elem_key(e))?;
+    Ok(!is_new)
 }
 
 /// Whether the element is a pin that the set has, as one that drives a net or as one that ends it.

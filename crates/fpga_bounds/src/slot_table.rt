@@ -7,6 +7,7 @@ ghost use Rattle.fpga_types.specs.Slots.{same_slot};
 
 use fpga_types::{SLOT_LIMIT, Slot};
 use std::alloc::{AllocError, Global};
+use std::cmp::Reverse;
 use std::collections::BTreeMap;
 use std::marker::Model;
 
@@ -14,7 +15,9 @@ use std::marker::Model;
 #[derive(Drop)]
 pub(crate) struct SlotTable {
     slots: Vec<Slot>,
-    numbers: BTreeMap<Slot, u32>,
+    // The slots of a net come behind those of earlier nets. The tree looks from its least key on,
+    // and so finds those of the net at hand at once.
+    numbers: BTreeMap<Reverse<Slot>, u32>,
 }
 
 impl Model for SlotTable {
@@ -60,14 +63,14 @@ impl SlotTable {
     pub(crate) fn has(&self, slot: Slot) -> bool
         ensures { result ≡ list_any (same_slot slot) self.now }
     {
-        self.numbers.contains_key(&slot)
+        self.numbers.contains_key(&Reverse(slot))
     }
 
     /// The number of the slot, or the number of slots where it is none of the table.
     pub(crate) fn slot_number(&self, slot: Slot) -> u32
         ensures { result ≡ spec.slot_number self.now slot }
     {
-        match self.numbers.get(&slot) {
+        match self.numbers.get(&Reverse(slot)) {
             Some(number) => *number,
             None => self.slots.len() as u32,
         }
@@ -96,7 +99,7 @@ impl SlotTable {
         }
         let number = self.slots.len() as u32;
         self.slots.reserve(1)?;
-        self.numbers.insert(slot, number)?;
+        self.numbers.insert(Reverse(slot), number)?;
         self.slots.push_reserved(slot);
         Ok(())
     }

@@ -1,6 +1,7 @@
 -- Names that are looked for, and those of them that are found among words.
 use Rattle.std.proofs.Common.{◌≡◌, ℕ, zero, suc, ◌+◌, ◌-◌, ◌<◌, ◌∙◌, Bool, true, false, List, [], ◌∷◌, ◌++◌, drop, take, refl, sym, ap, append-nil, append_assoc, arith}
 use Rattle.std.specs.Prelude.{◌||◌, not, bytes_eq, filter, flat_map, fold, slice_get, Some, None}
+use Rattle.std.specs.List.{list_any}
 use Rattle.std.proofs.Math.Bool.{or-false, or_assoc}
 use Rattle.std.proofs.lemmas.Grind.{flat_map-append}
 use Rattle.std.proofs.lemmas.List.{map-append}
@@ -13,8 +14,8 @@ use Rattle.fpga_text.specs.Said.{has_text}
 use Rattle.fpga_text.specs.Words.{TextLine, text_lines}
 use Rattle.fpga_text.specs.declared.style.Style.TheVariants.{Joined}
 use Rattle.fpga_net.specs.Codes.{forms_of, globals_of}
-use Rattle.fpga_net.specs.Forms.{form_of, globals_in, made_global}
-use Rattle.fpga_net.specs.Globals.{FindsMore, HasLooked, nets_among, nets_named, nets_on_pins}
+use Rattle.fpga_net.specs.Forms.{Form, Begins, Pinlist, Subblock, Globals, Other, form_of, globals_in, is_globals, made_global}
+use Rattle.fpga_net.specs.Globals.{FindsGlobals, FindsMore, HasLooked, nets_among, nets_named, nets_on_pins, some_globals}
 use Rattle.fpga_net.specs.Names.{first_seen, names_with}
 use Rattle.fpga_net.specs.Uses.{is_open}
 use Rattle.fpga_net.proofs.NameLemmas.{first_seen-push, has_text-first_seen}
@@ -125,3 +126,26 @@ looks-next most lines ahead more line names now next is looked = record {
         ∙ flat_map-append (nets_on_pins most) (forms_of looked.before)
         (form_of line.words ∷ [])
         ∙ ap (λ ns. nets_among most looked.before ++ ns) (append-nil own)
+
+-- where no line names global nets, none is made global
+no-globals : (forms : List Form) → list_any is_globals forms ≡ false → globals_in forms ≡ []
+no-globals [] none = refl
+no-globals (Begins kind names ∷ forms) none = no-globals forms none
+no-globals (Pinlist nets ∷ forms) none = no-globals forms none
+no-globals (Subblock ∷ forms) none = no-globals forms none
+no-globals (Globals nets ∷ forms) none = absurd (let clash : true ≡ false = none in cc)
+no-globals (Other ∷ forms) none = no-globals forms none
+
+-- and none is to be found, whichever are looked for
+pub finds-none : (most : ℕ) (lines : List TextLine) → some_globals lines ≡ false
+    → FindsGlobals most lines []
+finds-none most lines none = record {
+  sought = first_seen (nets_among most lines);
+  looks = record {
+    ahead = [];
+    looked = record { before = lines; split = sym (append-nil lines); nets = refl };
+    whole = λ _. refl;
+  };
+  finds = λ name is. ap (λ names. has_text (first_seen names) name)
+      (sym (no-globals (forms_of lines) none));
+}

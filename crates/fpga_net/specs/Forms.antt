@@ -1,5 +1,5 @@
 -- Which form a line of a netlist has, by its words: a profile of the netlist text of VPR 4.30.
-use Rattle.std.specs.Prelude.{List, [], ◌∷◌, codes, bytes_eq, flat_map, if◌then◌else◌}
+use Rattle.std.specs.Prelude.{Bool, true, false, List, [], ◌∷◌, codes, bytes_eq, flat_map, if◌then◌else◌}
 use Rattle.fpga_types.specs.declared.netlist.BlockKind.{BlockKind}
 use Rattle.fpga_types.specs.declared.netlist.BlockKind.TheVariants.{Input, Output, Logic}
 use Rattle.fpga_text.specs.Bytes.{Bytes}
@@ -34,6 +34,11 @@ form_of (first ∷ rest) = form_by first rest
 abbrev pub made_global : Form → List Bytes
 made_global (Globals nets) = nets
 made_global _ = []
+
+-- the line names global nets
+abbrev pub is_globals : Form → Bool
+is_globals (Globals nets) = true
+is_globals _ = false
 
 -- the nets that any of the lines makes global
 abbrev pub globals_in : List Form → List Bytes

@@ -1,11 +1,12 @@
 -- Which nets are found to be global, of those that are looked for.
-use Rattle.std.specs.Prelude.{◌≡◌, ℕ, ◌≤◌, ◌||◌, not, true, List, [], ◌++◌, filter, flat_map, length, take}
+use Rattle.std.specs.Prelude.{◌≡◌, ℕ, ◌≤◌, ◌||◌, not, true, Bool, List, [], ◌++◌, filter, flat_map, length, take}
+use Rattle.std.specs.List.{list_any}
 use Rattle.fpga_text.specs.Bytes.{Bytes}
 use Rattle.fpga_text.specs.Said.{has_text}
 use Rattle.fpga_text.specs.Words.{TextLine}
 use Rattle.fpga_types.specs.declared.limits.TheConstants.{NET_LIMIT}
 use Rattle.fpga_net.specs.Codes.{forms_of, globals_of}
-use Rattle.fpga_net.specs.Forms.{Form, Pinlist}
+use Rattle.fpga_net.specs.Forms.{Form, Pinlist, is_globals}
 use Rattle.fpga_net.specs.Names.{first_seen}
 use Rattle.fpga_net.specs.Uses.{is_open}
 
@@ -21,6 +22,10 @@ nets_on_pins most _ = []
 -- the nets that the pinlists among these lines name for at most so many pins each
 abbrev pub nets_among : ℕ → List TextLine → List Bytes
 nets_among most lines = flat_map (nets_on_pins most) (forms_of lines)
+
+-- one of these lines names global nets
+abbrev pub some_globals : List TextLine → Bool
+some_globals lines = list_any is_globals (forms_of lines)
 
 -- each net on a pin is looked for, up to the lines that are ahead
 pub record HasLooked (most : ℕ) (lines ahead : List TextLine) (sought : List Bytes) : Type 0 where

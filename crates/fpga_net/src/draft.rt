@@ -115,7 +115,7 @@ impl<'a, 'b> Draft<'a, 'b> {
         if self.names.len() == BLOCK_LIMIT {
             return Err(Cause::PastLimit.past(BLOCK_LIMIT as u64 + 1));
         }
-        let Ok(()) = self.names.add(name) else {
+        let Ok(()) = self.names.add_new(name) else {
             return Err(TextFault::Memory);
         };
         self.begun = Some(BegunBlock { name, kind });

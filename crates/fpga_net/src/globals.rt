@@ -5,6 +5,7 @@ ghost use Rattle.fpga_text.specs.Words.{text_lines};
 ghost use Rattle.fpga_text.specs.declared.style.Style.TheVariants.{Joined};
 ghost use Rattle.fpga_types.specs.declared.limits.TheConstants.{NET_LIMIT};
 ghost use Rattle.fpga_net.specs.Codes.{globals_of};
+ghost use Rattle.fpga_net.specs.Forms as spec;
 ghost use Rattle.fpga_net.specs.Forms.{form_of as form_said_by, made_global};
 ghost use Rattle.fpga_net.specs.Globals.{
   AreFound,
@@ -13,6 +14,7 @@ ghost use Rattle.fpga_net.specs.Globals.{
   LooksFor,
   nets_named,
   nets_on_pins,
+  some_globals,
 };
 ghost use Rattle.fpga_net.specs.Names.{names_with};
 
@@ -28,7 +30,7 @@ use std::alloc::{AllocError, Global};
 ///
 /// Behind the pinlist with which there are more than a netlist may have nets none is looked for,
 /// as a reader refuses that one. So memory grows with the nets of the netlist alone, however many
-/// others its `.global` lines name.
+/// others its `.global` lines name. A text without such a line takes none.
 pub fn global_nets<'a>(
     alloc: Global,
     text: &'a [u8],
@@ -36,9 +38,32 @@ pub fn global_nets<'a>(
 ) -> Result<NameTable<'a>, AllocError>
     ensures { IfOk result (FindsGlobals pins (text_lines Joined text.now)) }
 {
+    if !names_globals(text) {
+        return Ok(NameTable::new(alloc));
+    }
     let sought = names_on_pins(alloc, text, pins)?;
     let found = found_names(alloc, text, &sought)?;
     Ok(found)
+}
+
+/// Whether a line of the text names global nets.
+fn names_globals(text: &[u8]) -> bool
+    ensures { result ≡ some_globals (text_lines Joined text.now) }
+{
+    let mut lines = Lines::new(text, Style::Joined);
+    while let Some(mut line) = lines.next_line() {
+        if is_globals(&mut line) {
+            return true;
+        }
+    }
+    false
+}
+
+/// Whether a line names global nets, of which no word was taken yet.
+fn is_globals(line: &mut Line<'_>) -> bool
+    ensures { result ≡ spec.is_globals (form_said_by line.old.words) }
+{
+    matches!(form_of(line), LineForm::Globals)
 }
 
 /// The nets that pinlists name for the pins of their blocks, up to the pinlist with which there

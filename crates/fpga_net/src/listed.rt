@@ -163,7 +163,7 @@ pub fn rest_words<'a>(
     ensures { IfOk result
         (λ words. map (λ word. word.now) words.items ≡ take most line.old.words) }
 {
-    let mut words = Vec::new(alloc);
+    let mut words = Vec::with_capacity(alloc, most)?;
     while words.len() < most {
         let Some(word) = line.next_word() else {
             return Ok(words);

@@ -1,5 +1,5 @@
 //! Names with their numbers.
-ghost use Rattle.std.specs.Prelude.{◌≡◌, ◌<◌, ◌^◌, [], length, OnErr, OnOk, IfSome};
+ghost use Rattle.std.specs.Prelude.{◌≡◌, ◌<◌, ◌^◌, [], false, length, OnErr, OnOk, IfSome};
 ghost use Rattle.fpga_text.specs.Said.{has_text};
 ghost use Rattle.fpga_net.specs.Names.{names_with, number_of};
 
@@ -70,6 +70,15 @@ impl<'a> NameTable<'a> {
         if self.contains(name) {
             return Ok(());
         }
+        self.add_new(name)
+    }
+
+    /// Adds a name at the end, which is not among them.
+    pub fn add_new(&mut self, name: &'a [u8]) -> Result<(), AllocError>
+        requires { has_text self.old name.now ≡ false }
+        ensures ok { OnOk result (self.new ≡ names_with self.old name.now) }
+        ensures err { OnErr result (self.new ≡ self.old) }
+    {
         let number = self.len();
         self.names.reserve(1)?;
         self.numbers.insert(name, number)?;

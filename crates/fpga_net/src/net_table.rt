@@ -138,7 +138,7 @@ impl<'a> NetTable<'a> {
         let number = self.nets.len();
         let net = NetDraft::new(self.alloc, name, globals.contains(name));
         self.nets.reserve(1)?;
-        self.names.add(name)?;
+        self.names.add_new(name)?;
         self.nets.push_reserved(net);
         Ok(number)
     }

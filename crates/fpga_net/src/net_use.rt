@@ -75,7 +75,7 @@ pub fn net_uses<'a>(
     ensures { IfOk result (λ uses. map use_said uses.items
         ≡ uses_on block pins.now (map (λ word. word.now) words.now)) }
 {
-    let mut uses = Vec::new(alloc);
+    let mut uses = Vec::with_capacity(alloc, words.len())?;
     for (i, net) in words.iter().enumerate() {
         let pin = pins[i];
         if is_open(net) {

@@ -66,7 +66,8 @@ pub record IsWay (placed : PlacedNetlist) (width : ℕ) (driver sink : Terminal)
     pub leaves : IsTrue (is_terminal_pin placed.arch driver way.leaves)
     pub starts : OpensWire placed.arch placed.placement.grid width way.leaves way.first
     pub joined : AreInTurn
-        (AreJoined (mapped_track placed.arch.pattern width) placed.placement.grid) way.first way.rest
+        (AreJoined (mapped_track placed.arch.pattern width) placed.placement.grid)
+        way.first way.rest
     pub ends : OpensWire placed.arch placed.placement.grid width way.enters
         (last_wire way.first way.rest)
     pub enters : IsTrue (is_terminal_pin placed.arch sink way.enters)

@@ -11,7 +11,8 @@ ghost use Rattle.route_bound.specs.Walks.{FewNetsParted, PartsWithin};
 /// In every placed routing with so many tracks, the nets that a set of cells parts are at most as
 /// many as these cells have wires.
 pub fn few_nets_parted()
-    ensures { (placed : PlacedNetlist) (cells : Cells) (width : ℕ) → FewNetsParted placed cells width }
+    ensures { (placed : PlacedNetlist) (cells : Cells) (width : ℕ) →
+        FewNetsParted placed cells width }
 {}
 
 /// A terminal that touches cells of a set alone is parted by it from every other, so that one cell
@@ -45,7 +46,8 @@ pub fn cuts_have_two_sides()
 
 /// No placed routing has fewer tracks than a cut asks for.
 pub fn cuts_bound()
-    ensures { (placed : PlacedNetlist) (corners : Corners) → IsBound placed (bound_of placed corners) }
+    ensures { (placed : PlacedNetlist) (corners : Corners) →
+        IsBound placed (bound_of placed corners) }
 {}
 
 /// What a cut asks for is the least number of tracks, from 1 on, with which its cells have as many

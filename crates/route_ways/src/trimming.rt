@@ -79,7 +79,8 @@ fn cut_down(
     requires width { (1 ≤ width) × (width ≤ WIDTH_LIMIT) }
     requires fair { IsFair width problem.now formula.now.cnf }
     requires learned { IsLearned formula.now.cnf log.steps }
-    ensures trimmed { IfOk result (λ core. IsTrimmed formula.now.cnf core.log.steps core.log.steps) }
+    ensures trimmed { IfOk result
+        (λ core. IsTrimmed formula.now.cnf core.log.steps core.log.steps) }
     ensures reads_back { IfOk result (λ core. ReadsLrat (length formula.now.cnf.clauses)
         (log_text core.log.steps) core.log.steps) }
     ensures lines { IfOk result (λ core. core.lines.items

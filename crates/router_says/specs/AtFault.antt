@@ -27,9 +27,10 @@ use Rattle.fpga_text.specs.declared.style.Style.TheVariants.{Hash, Joined, Plain
 use Rattle.fpga_types.specs.declared.arch.Arch.{Arch}
 use Rattle.fpga_types.specs.declared.arch.PinSpec.{PinSpec}
 use Rattle.fpga_types.specs.declared.route.RouteText.{RouteText}
-use Rattle.router_says.specs.declared.at_fault.Sought.{Sought}
-use Rattle.router_says.specs.declared.at_fault.Sought.TheVariants.{Drivers, GlobalPin, Keywords, NoLine, NoPlace, NoSink, Routed as RoutedLine, SharedClass, Standing}
+use Rattle.router_says.specs.declared.sought.Sought.{Sought}
+use Rattle.router_says.specs.declared.sought.Sought.TheVariants.{Drivers, GlobalPin, Keywords, NoLine, NoPlace, NoSink, Routed as RoutedLine, SharedClass, Standing}
 use Rattle.router_says.specs.declared.pin_use.PinUse.{PinUse}
+use Rattle.router_says.specs.declared.phrases.TheConstants.{AND, FAULT_NET, FAULT_NO_KEYWORD, FAULT_PIN, FAULT_PINS}
 use Rattle.fpga_problem.specs.Sources.{IsLonger}
 use Rattle.fpga_problem.specs.declared.source.TheConstants.{TEXT_BYTES}
 use Rattle.router_top.specs.declared.text_file.TextFile.{TextFile}
@@ -42,7 +43,7 @@ Appends is old new = (named : List ℕ) × is named × (new ≡ old ++ named)
 -- ---- the keywords that have no line
 
 abbrev pub keyword_said : Bytes → (keyword : Bytes) → List ℕ
-keyword_said text keyword = if has_line text keyword then [] else codes ", no " ++ keyword
+keyword_said text keyword = if has_line text keyword then [] else FAULT_NO_KEYWORD.now ++ keyword
 
 abbrev pub missing_said : Bytes → List ℕ
 missing_said text = flat_map (λ (k : Keyword). keyword_said text (keyword_word k)) keywords
@@ -91,7 +92,7 @@ is_on_global_pin used = used.pin.global
 
 abbrev pub global_pin_said : NetOnPin → List ℕ
 global_pin_said used =
-    codes ": net " ++ name_said used.net ++ codes ", pin " ++ decimal used.number
+    FAULT_NET.now ++ name_said used.net ++ FAULT_PIN.now ++ decimal used.number
 
 -- the pins are of one class, and one net is on both
 abbrev pub same_class : (used other : NetOnPin) → Bool
@@ -104,8 +105,8 @@ first_pair (used ∷ more) =
     option_or (option_map (λ other. (used, other)) (find (same_class used) more)) (first_pair more)
 
 abbrev pub pair_said : NetOnPin × NetOnPin → List ℕ
-pair_said pair = codes ": net " ++ name_said pair.0.net ++ codes ", pins "
-    ++ decimal pair.0.number ++ codes " and " ++ decimal pair.1.number
+pair_said pair = FAULT_NET.now ++ name_said pair.0.net ++ FAULT_PINS.now
+    ++ decimal pair.0.number ++ AND.now ++ decimal pair.1.number
 
 -- which net and which pins, of the ordinary nets of a pinlist
 abbrev pub use_at_fault : Sought → List NetOnPin → List ℕ

@@ -5,6 +5,7 @@ use Rattle.fpga_problem.specs.declared.text_file.TextFile.TheVariants.{Architect
 use Rattle.router_top.specs.Report.{file_word}
 use Rattle.router_says.specs.declared.names.Written.{Written}
 use Rattle.router_says.specs.declared.names.Written.TheVariants.{Each, One}
+use Rattle.router_says.specs.declared.phrases.TheConstants.{FILE}
 use Rattle.router_top.specs.SlotNames.{OfEach, OfOne, Prefix, prefix_given}
 use Rattle.router_top.specs.declared.text_file.TextFile.{TextFile}
 use Rattle.router_top.specs.declared.text_file.TextFile.TheVariants.{Cnf, Lrat, Model, Problem, Routed}
@@ -15,8 +16,6 @@ use Rattle.router_words.specs.declared.fault.Refusal.{Refusal}
 use Rattle.router_words.specs.declared.job.Job.{Job}
 use Rattle.router_words.specs.declared.method.Method.{Method}
 use Rattle.router_words.specs.declared.method.Method.TheVariants.{Within}
-use Rattle.router_says.specs.declared.names.Written.{Written}
-use Rattle.router_says.specs.declared.names.Written.TheVariants.{Each, One}
 
 -- the name among those of a problem's four files
 abbrev pub name_of_four : FileNames → TextFile → Option Word
@@ -129,5 +128,5 @@ prefix_said (Each prefix) = OfEach prefix.now
 
 -- the kind of a file, and the name that was given for it
 abbrev pub file_said : TextFile → Option Word → List ℕ
-file_said file (Some name) = file_word file ++ codes " file " ++ name
-file_said file None = file_word file ++ codes " file"
+file_said file (Some name) = file_word file ++ (FILE.now ++ (codes " " ++ name))
+file_said file None = file_word file ++ FILE.now

@@ -4,6 +4,7 @@ use Rattle.fault_names.specs.NameBytes.{name_said}
 use Rattle.fpga_types.specs.declared.netlist.Netlist.{Netlist}
 use Rattle.route_bound.specs.declared.range.CornerRange.{CornerRange}
 use Rattle.router_says.specs.Seen.{listed}
+use Rattle.router_says.specs.declared.phrases.TheConstants.{TO, WINDOW_ALONE, WINDOW_COLUMNS, WINDOW_NETS, WINDOW_ROWS}
 use Rattle.router_top.specs.Bound.{net_name}
 use Rattle.router_top.specs.declared.outcome.Outcome.{Outcome}
 use Rattle.router_top.specs.declared.outcome.Outcome.TheVariants.{Narrowed}
@@ -12,14 +13,13 @@ use Rattle.router_top.specs.declared.ran.Reason.{Reason}
 -- which columns and rows of blocks have all their corners in the range
 abbrev pub window_said : CornerRange → List ℕ
 window_said range =
-    codes "\nThe window has the blocks of columns " ++ (decimal (range.low.i + 1)
-    ++ (codes " to " ++ (decimal range.high.i ++ (codes " and rows "
-    ++ (decimal (range.low.j + 1) ++ (codes " to " ++ (decimal range.high.j ++ codes ".")))))))
+    WINDOW_COLUMNS.now ++ (decimal (range.low.i + 1)
+    ++ (TO.now ++ (decimal range.high.i ++ (WINDOW_ROWS.now
+    ++ (decimal (range.low.j + 1) ++ (TO.now ++ (decimal range.high.j ++ codes ".")))))))
 
 -- that so many nets are blamed
 abbrev pub alone_said : (count : ℕ) → List ℕ
-alone_said count =
-    codes " By themselves " ++ (decimal count ++ codes " of its nets need as many tracks:")
+alone_said count = WINDOW_ALONE.now ++ (decimal count ++ WINDOW_NETS.now)
 
 -- a blank, and the name of the net with this number
 abbrev pub net_said : Netlist → (number : ℕ) → List ℕ

@@ -14,10 +14,11 @@ use Rattle.router_says.specs.AtFault.{Shows, sought_of}
 use Rattle.router_says.specs.Names.{asked_in, file_said, may_have_several, name_of, prefix_of, reach_of}
 use Rattle.router_says.specs.Raised.{raised_said}
 use Rattle.router_says.specs.Seen.{Sees}
-use Rattle.router_says.specs.declared.at_fault.Sought.TheVariants.{Routed as RoutedLine}
+use Rattle.router_says.specs.declared.sought.Sought.TheVariants.{Routed as RoutedLine}
 use Rattle.router_says.specs.Unfound.{no_way_said, unfound_said}
 use Rattle.usage_words.specs.Usage.{usage_said}
 use Rattle.router_says.specs.declared.faults.SystemErrors.{SystemErrors}
+use Rattle.router_says.specs.declared.phrases.TheConstants.{ASKS, ASKS_CLAUSES, ASKS_CUT, ASKS_REFUTED, ASYMMETRY_AT, ASYMMETRY_FORBIDS, ASYMMETRY_INPUTS, ASYMMETRY_NOT_SUBSET, ASYMMETRY_OTHER_PATTERN, ASYMMETRY_OUTPUTS, ASYMMETRY_PADS, ASYMMETRY_SO, BOUND_ANY_ROUTE, BOUND_CELLS, BOUND_CROSSING, BOUND_ROUTING, FAULT_CLAUSE, FAULT_NO_MODEL, FILE_CLAUSES, FILE_LOG, FILE_STANDARD_OUTPUT, FILE_UNREAD, FILE_UNWRITTEN, LEAST_FOR, LEAST_FOUND, LOG_CHECK, LOG_CHECK_LAST, LOG_EACH_CLAUSES, LOG_EACH_REFUTES, LOG_REFUTES, MEMORY_NOTHING, MEMORY_REFUTED, MEMORY_WIDTHS, NEAR_FOR, NEAR_NEEDS, OPEN_BUDGET_SPENT, OPEN_LEARNED, OPEN_ROUTING, OPEN_TIME_OVER, OPTION_PIN, OPTION_SYMMETRY, REACH_JOINS, REACH_WITHIN, REFUTED_ROUTING, REFUTED_UP_TO, ROUTE_GIVEN, ROUTE_OTHERS, TO, TRACKS, TRACKS_LEGAL, TRY_ANOTHER_SOLVER, TRY_CONFLICTS, TRY_GREATER_WIDTH, TRY_HAND, TRY_NO_BUDGET, TRY_OR, TRY_OTHER_WIDTH, TRY_SECONDS}
 use Rattle.router_top.specs.SlotNames.{OfEach, OfOne, Prefix, slot_name}
 use Rattle.router_top.specs.Stopped.{budget_asked}
 use Rattle.router_top.specs.declared.outcome.Obstacle.{Obstacle}
@@ -39,10 +40,7 @@ about_said asked file = file_said file (name_of asked file)
 
 -- the clause that a model leaves unsatisfied, and of which clauses it is one
 abbrev pub unmet_said : (clause : ℕ) → List ℕ
-unmet_said clause =
-    codes ": clause " ++ (decimal clause
-    ++ (codes " has none of its literals; so it is no model of the clauses that encode writes of "
-    ++ codes "these files at this width with the same options"))
+unmet_said clause = FAULT_CLAUSE.now ++ (decimal clause ++ FAULT_NO_MODEL.now)
 
 -- the file that holds what passes its limit, if one does
 abbrev pub limit_place : Option JobAsked → Option TextFile → List ℕ
@@ -52,51 +50,56 @@ limit_place asked None = []
 -- what keeps tracks from being alike enough: the switch blocks, of which this is said, or the boxes
 abbrev pub lack_said : (blocks : List ℕ) → Asymmetry → List ℕ
 lack_said blocks Pattern = blocks
-lack_said blocks Outputs = codes "an output pin does not open all of them (Fc_output)"
-lack_said blocks Inputs = codes "an input pin does not open all of them (Fc_input)"
-lack_said blocks Pads = codes "a pad does not open all of them (Fc_pad)"
+lack_said blocks Outputs = ASYMMETRY_OUTPUTS.now
+lack_said blocks Inputs = ASYMMETRY_INPUTS.now
+lack_said blocks Pads = ASYMMETRY_PADS.now
 
 -- what keeps tracks from being pinned or kept in order
 abbrev pub reason_said : Obstacle → List ℕ
-reason_said (Pins why) = lack_said (codes "the switch block type is not subset") why
-reason_said (Order why) =
-    lack_said (codes "the switch block type is neither subset nor universal") why
+reason_said (Pins why) = lack_said ASYMMETRY_NOT_SUBSET.now why
+reason_said (Order why) = lack_said ASYMMETRY_OTHER_PATTERN.now why
 
 -- the option that asks for it
 abbrev pub option_said : Obstacle → List ℕ
-option_said (Pins why) = codes "--pin"
-option_said (Order why) = codes "--symmetry"
+option_said (Pins why) = OPTION_PIN.now
+option_said (Order why) = OPTION_SYMMETRY.now
 
 -- at which width tracks are not alike enough, what keeps them from it, and which option can't be
 -- used
 abbrev pub obstacle_said : (width : ℕ) → Obstacle → List ℕ
 obstacle_said width why =
-    codes "not symmetric at " ++ (decimal width ++ (codes " tracks: " ++ (reason_said why
-    ++ (codes ", so " ++ (option_said why ++ codes " can't be used")))))
+    ASYMMETRY_AT.now ++ (decimal width ++ (TRACKS.now ++ (reason_said why
+    ++ (ASYMMETRY_SO.now ++ (option_said why ++ ASYMMETRY_FORBIDS.now)))))
 
 -- ---- a search that found no routing
 
 -- within how many joins, where a reach was given
 abbrev pub reach_said : (reach : Option ℕ) → List ℕ
-reach_said (Some reach) = codes " within " ++ decimal reach ++ codes " joins of wires"
+reach_said (Some reach) = REACH_WITHIN.now ++ decimal reach ++ REACH_JOINS.now
 reach_said None = []
 
--- what shows it, and how that is checked
+-- how a log is checked against its clauses
+abbrev pub check_one_said : (prefix : List ℕ) → List ℕ
+check_one_said prefix =
+    LOG_CHECK.now ++ (prefix ++ (FILE_CLAUSES.now ++ (codes " " ++ (prefix ++ FILE_LOG.now))))
+
+-- what shows it
+abbrev pub log_one_said : (prefix : List ℕ) → List ℕ
+log_one_said prefix =
+    codes ": " ++ (prefix ++ (FILE_LOG.now ++ (LOG_REFUTES.now ++ (prefix ++ (FILE_CLAUSES.now
+    ++ codes ".")))))
+
+-- that, and how it is checked
 abbrev pub refuted_one_said : (prefix : List ℕ) → List ℕ
-refuted_one_said prefix =
-    codes ": " ++ (prefix ++ (codes ".lrat refutes the clauses of one, " ++ (prefix
-    ++ (codes ".cnf.\nTo check that: gafkelam check " ++ (prefix ++ (codes ".cnf " ++ (prefix
-    ++ codes ".lrat")))))))
+refuted_one_said prefix = log_one_said prefix ++ check_one_said prefix
 
 abbrev pub refuted_each_said : (prefix : List ℕ) → List ℕ
 refuted_each_said prefix =
-    codes ": " ++ (prefix ++ (codes ".wK.lrat refutes " ++ (prefix
-    ++ codes ".wK.cnf for each width K.\n")))
+    codes ": " ++ (prefix ++ (LOG_EACH_REFUTES.now ++ (prefix ++ LOG_EACH_CLAUSES.now)))
 
 abbrev pub check_each_said : (name : List ℕ) → List ℕ
 check_each_said name =
-    codes "To check the last: gafkelam check " ++ (name ++ (codes ".cnf " ++ (name
-    ++ codes ".lrat")))
+    LOG_CHECK_LAST.now ++ (name ++ (FILE_CLAUSES.now ++ (codes " " ++ (name ++ FILE_LOG.now))))
 
 abbrev pub refuted_said : Option Prefix → (width : ℕ) → List ℕ
 refuted_said (Some (OfOne prefix)) width = refuted_one_said prefix
@@ -106,13 +109,12 @@ refuted_said None width = codes "."
 
 -- a climb has refuted the lower widths too
 abbrev pub up_to_said : Option Prefix → List ℕ
-up_to_said (Some (OfEach prefix)) = codes "up to "
+up_to_said (Some (OfEach prefix)) = REFUTED_UP_TO.now
 up_to_said _ = []
 
 -- what is claimed, with these words before the width
 abbrev pub claim_said : (up_to : List ℕ) → (width : ℕ) → List ℕ
-claim_said up_to width =
-    codes "No routing with " ++ (up_to ++ (decimal width ++ codes " tracks is legal"))
+claim_said up_to width = REFUTED_ROUTING.now ++ (up_to ++ (decimal width ++ TRACKS_LEGAL.now))
 
 abbrev pub unroutable_by : Option Prefix → (reach : Option ℕ) → (width : ℕ) → List ℕ
 unroutable_by prefix reach width =
@@ -122,8 +124,7 @@ unroutable_by prefix reach width =
 -- speaks
 abbrev pub elsewhere_by : FileNames → (prefix : List ℕ) → (width : ℕ) → List ℕ
 elsewhere_by files prefix width =
-    codes "\nThis holds for the global route of " ++ (files.route
-    ++ (codes ". To look among all of this placement: gafkelam least " ++ (files.architecture
+    ROUTE_GIVEN.now ++ (files.route ++ (ROUTE_OTHERS.now ++ (files.architecture
     ++ (codes " " ++ (files.netlist ++ (codes " " ++ (files.placement ++ (codes " "
     ++ (decimal width ++ (codes " " ++ prefix))))))))))
 
@@ -138,11 +139,11 @@ unroutable_said asked width =
 
 -- the budget that can be tried next: ten times as much, but no more than the words take
 abbrev pub more_said : (budget : ℕ) → List ℕ
-more_said budget = codes "\nTry --conflicts " ++ (decimal budget ++ codes ", or ")
+more_said budget = TRY_CONFLICTS.now ++ (decimal budget ++ TRY_OR.now)
 
 abbrev pub budget_said : (learned : ℕ) → List ℕ
 budget_said learned =
-    if nat_le BUDGET_LIMIT learned then codes "\nNo greater budget is taken: "
+    if nat_le BUDGET_LIMIT learned then TRY_NO_BUDGET.now
     else more_said (min (learned * 10) BUDGET_LIMIT)
 
 -- the search of the job was stopped before its budget was spent
@@ -153,21 +154,22 @@ was_stopped (Some job) learned = nat_lt learned (budget_asked job)
 -- more time can be tried, where it was stopped, or else another budget
 abbrev pub effort_said : (stopped : Bool) → (learned : ℕ) → List ℕ
 effort_said stopped learned =
-    if stopped then codes "\nTry more --seconds, or " else budget_said learned
+    if stopped then TRY_SECONDS.now ++ TRY_OR.now else budget_said learned
 
 -- a greater width can be tried, where the words take one
 abbrev pub greater_said : (width : ℕ) → List ℕ
 greater_said width =
-    if nat_lt width WIDTH_LIMIT then codes ", or route at a greater width." else codes "."
+    if nat_lt width WIDTH_LIMIT then TRY_OR.now ++ TRY_GREATER_WIDTH.now else codes "."
 
 -- the clauses can be handed on
 abbrev pub hand_one_said : (prefix : List ℕ) → List ℕ
 hand_one_said prefix =
-    codes "hand " ++ (prefix ++ codes ".cnf to another solver, or try another width.")
+    TRY_HAND.now ++ (prefix ++ (FILE_CLAUSES.now ++ (TRY_ANOTHER_SOLVER.now ++ (TRY_OR.now
+    ++ TRY_OTHER_WIDTH.now))))
 
 abbrev pub hand_each_said : (name : List ℕ) → (width : ℕ) → List ℕ
 hand_each_said name width =
-    codes "hand " ++ (name ++ (codes ".cnf to another solver" ++ greater_said width))
+    TRY_HAND.now ++ (name ++ (FILE_CLAUSES.now ++ (TRY_ANOTHER_SOLVER.now ++ greater_said width)))
 
 abbrev pub next_said : Option Prefix → (stopped : Bool) → (width learned : ℕ) → List ℕ
 next_said (Some (OfOne prefix)) stopped width learned =
@@ -178,17 +180,15 @@ next_said None stopped width learned = []
 
 -- what has ended the search
 abbrev pub end_said : (stopped : Bool) → List ℕ
-end_said stopped =
-    if stopped then codes " clauses before its time was over." else codes " clauses, its budget."
+end_said stopped = if stopped then OPEN_TIME_OVER.now else OPEN_BUDGET_SPENT.now
 
 abbrev pub open_said : (stopped : Bool) → (learned : ℕ) → List ℕ
-open_said stopped learned =
-    codes " is open: the search learned " ++ (decimal learned ++ end_said stopped)
+open_said stopped learned = OPEN_LEARNED.now ++ (decimal learned ++ end_said stopped)
 
 abbrev pub undecided_by : Option Prefix → (reach : Option ℕ) → (stopped : Bool)
     → (width learned : ℕ) → List ℕ
 undecided_by prefix reach stopped width learned =
-    (codes "Whether a routing with " ++ (decimal width ++ codes " tracks is legal"))
+    (OPEN_ROUTING.now ++ (decimal width ++ TRACKS_LEGAL.now))
     ++ (reach_said reach ++ (open_said stopped learned ++ next_said prefix stopped width learned))
 
 abbrev pub undecided_said : Option JobAsked → (width learned : ℕ) → List ℕ
@@ -200,73 +200,47 @@ undecided_said asked width learned =
 -- how many tracks it asks for, and why
 abbrev pub bound_said : (tracks cells nets : ℕ) → List ℕ
 bound_said tracks cells nets =
-    codes "No routing of this placement has fewer than " ++ (decimal tracks
-    ++ (codes " tracks, whatever its global route: " ++ (decimal nets
-    ++ (codes " nets cross the cut that the first line names, and each takes a wire in one of its "
-    ++ (decimal cells ++ (codes " cells.\nThis placement may need more, "
-    ++ codes "and another one may do with fewer."))))))
+    BOUND_ROUTING.now ++ (decimal tracks ++ (BOUND_ANY_ROUTE.now ++ (decimal nets
+    ++ (BOUND_CROSSING.now ++ (decimal cells ++ BOUND_CELLS.now)))))
 
--- what asks for so many tracks: the cut; or where these are more than it asks for, clauses that a
--- log refutes
-abbrev pub clauses_said : Option Prefix → List ℕ
-clauses_said (Some (OfOne prefix)) =
-    codes "clauses over the cells of a window, refuted by " ++ (prefix ++ codes ".lrat, ask")
-clauses_said _ = codes "clauses over the cells of a window ask"
+-- the width that was found is the least of the placement, or how near that it is
+abbrev pub found_said : (is_open : Bool) → (tracks width : ℕ) → List ℕ
+found_said is_open tracks width =
+    if is_open then NEAR_NEEDS.now ++ (decimal tracks ++ (TO.now ++ (decimal width ++ TRACKS.now)))
+    else decimal width ++ LEAST_FOUND.now
 
-abbrev pub asker_said : Option Prefix → (tracks cut : ℕ) → List ℕ
-asker_said prefix tracks cut =
-    if nat_lt cut tracks then clauses_said prefix
-    else codes "the cut that the first line names asks"
+-- which of these numbers is asked for
+abbrev pub for_said : (is_open : Bool) → List ℕ
+for_said is_open = if is_open then NEAR_FOR.now else LEAST_FOR.now
 
--- the width that was found is the least of the placement, or how near that it is, by what asks for
--- tracks
-abbrev pub found_said : (width : ℕ) → List ℕ
-found_said width =
-    decimal width ++ (codes " tracks are the least that this placement needs: a route with them "
-    ++ codes "was found, and ")
+-- that clauses ask for it, which a log refutes, and how that is checked
+abbrev pub log_said : (prefix asked_for : List ℕ) → List ℕ
+log_said prefix asked_for =
+    (ASKS_CLAUSES.now ++ (ASKS_REFUTED.now ++ (prefix ++ (FILE_LOG.now ++ (codes ","
+    ++ (ASKS.now ++ asked_for)))))) ++ check_one_said prefix
 
-abbrev pub least_said : (width : ℕ) → (asker : List ℕ) → List ℕ
-least_said width asker =
-    found_said width ++ (asker ++ codes " for as many, whatever the global route.")
+abbrev pub clauses_said : Option Prefix → (asked_for : List ℕ) → List ℕ
+clauses_said (Some (OfOne prefix)) asked_for = log_said prefix asked_for
+clauses_said _ asked_for = ASKS_CLAUSES.now ++ (ASKS.now ++ asked_for)
 
-abbrev pub ends_said : (tracks width : ℕ) → List ℕ
-ends_said tracks width =
-    codes "This placement needs from " ++ (decimal tracks ++ (codes " to " ++ (decimal width
-    ++ codes " tracks: ")))
+-- what asks for so many tracks: clauses, where they are more than the cut asks for
+abbrev pub asker_said : Option Prefix → (is_raised : Bool) → (asked_for : List ℕ) → List ℕ
+asker_said prefix is_raised asked_for =
+    if is_raised then clauses_said prefix asked_for else ASKS_CUT.now ++ asked_for
 
-abbrev pub between_said : (tracks width : ℕ) → (asker : List ℕ) → List ℕ
-between_said tracks width asker =
-    ends_said tracks width ++ (asker ++ (codes " for the former, whatever the global route, and "
-    ++ codes "a route with the latter was found.\nWhether fewer will do is open."))
-
-abbrev pub span_said : (tracks width : ℕ) → (asker : List ℕ) → List ℕ
-span_said tracks width asker =
-    if nat_lt tracks width then between_said tracks width asker else least_said width asker
-
--- how the log is checked
-abbrev pub check_one_said : Option Prefix → List ℕ
-check_one_said (Some (OfOne prefix)) =
-    codes "\nTo check that: gafkelam check " ++ (prefix ++ (codes ".cnf " ++ (prefix
-    ++ codes ".lrat")))
-check_one_said _ = []
-
-abbrev pub checked_said : Option Prefix → (tracks cut : ℕ) → List ℕ
-checked_said prefix tracks cut = if nat_lt cut tracks then check_one_said prefix else []
-
-abbrev pub narrowed_by : Option Prefix → (tracks width cut : ℕ) → List ℕ
-narrowed_by prefix tracks width cut =
-    span_said tracks width (asker_said prefix tracks cut) ++ checked_said prefix tracks cut
+abbrev pub narrowed_by : Option Prefix → (is_raised is_open : Bool) → (tracks width : ℕ) → List ℕ
+narrowed_by prefix is_raised is_open tracks width =
+    found_said is_open tracks width ++ asker_said prefix is_raised (for_said is_open)
 
 abbrev pub narrowed_said : Option JobAsked → (tracks width cut : ℕ) → List ℕ
-narrowed_said asked tracks width cut = narrowed_by (prefix_of asked) tracks width cut
+narrowed_said asked tracks width cut =
+    narrowed_by (prefix_of asked) (nat_lt cut tracks) (nat_lt tracks width) tracks width
 
 -- ---- what failed
 
 abbrev pub memory_said : Option Prefix → List ℕ
-memory_said (Some (OfEach prefix)) =
-    codes "Memory ran out. The widths K of which this run wrote " ++ prefix
-    ++ codes ".wK.lrat are refuted, and nothing else was found."
-memory_said _ = codes "Memory ran out, so that nothing was found."
+memory_said (Some (OfEach prefix)) = MEMORY_WIDTHS.now ++ prefix ++ MEMORY_REFUTED.now
+memory_said _ = MEMORY_NOTHING.now
 
 -- why the system refused it, where it told
 abbrev pub error_said : Option ErrorKind → List ℕ
@@ -275,12 +249,12 @@ error_said None = []
 
 -- a file can't be read
 abbrev pub unread_said : Option ErrorKind → List ℕ
-unread_said error = codes ": it can't be read" ++ error_said error
+unread_said error = FILE_UNREAD.now ++ error_said error
 
 -- what is written, by its name; a job that writes no files says its lines alone
 abbrev pub slot_said : Option Prefix → SlotOf → List ℕ
 slot_said (Some prefix) slot = slot_name prefix slot
-slot_said None slot = codes "standard output"
+slot_said None slot = FILE_STANDARD_OUTPUT.now
 
 -- the last error of the system on what is written
 abbrev pub error_on : SlotOf → SystemErrors → Option ErrorKind
@@ -290,7 +264,7 @@ error_on slot errors = errors.writing
 -- what is written can't be
 abbrev pub refused_said : Option Prefix → SlotOf → Option ErrorKind → List ℕ
 refused_said prefix slot error =
-    slot_said prefix slot ++ (codes ": it can't be written" ++ error_said error)
+    slot_said prefix slot ++ (FILE_UNWRITTEN.now ++ error_said error)
 
 abbrev pub unwritten_said : Option Prefix → SlotOf → SystemErrors → List ℕ
 unwritten_said prefix slot errors = refused_said prefix slot (error_on slot errors)

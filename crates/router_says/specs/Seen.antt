@@ -21,6 +21,8 @@ use Rattle.route_count.specs.declared.crowded.Crowding.{Crowding}
 use Rattle.route_count.specs.declared.crowded.Crowding.TheVariants.{Cell, Crowd}
 use Rattle.fault_names.specs.NameBytes.{name_said}
 use Rattle.router_says.specs.Names.{reach_of}
+use Rattle.router_says.specs.declared.places.TheConstants.{NAME_LIMIT}
+use Rattle.router_says.specs.declared.phrases.TheConstants.{AND, SEEN_ALONE, SEEN_APART, SEEN_CELL, SEEN_CHANNEL, SEEN_COUNT, SEEN_CROWD, SEEN_MORE, SEEN_ORDER, SEEN_TRACKLESS}
 use Rattle.router_says.specs.declared.seen.Hints.{Hints}
 use Rattle.route_ways.specs.Trimming.{net_name}
 use Rattle.router_words.specs.Job.{Blames, JobAsked, Routes, Sweeps}
@@ -38,9 +40,9 @@ net_said p slot = option_map_or
 -- the first of these, and how many more there are
 abbrev pub listed : {X : Type 0} → (said_of : X → List ℕ) → (row : List X) → List ℕ
 listed said_of row =
-    if nat_le (length row) 10 then flat_map said_of row
-    else flat_map said_of (take 10 row)
-    ++ (codes " and " ++ (decimal (length row - 10) ++ codes " more"))
+    if nat_le (length row) NAME_LIMIT then flat_map said_of row
+    else flat_map said_of (take NAME_LIMIT row)
+    ++ (AND.now ++ (decimal (length row - NAME_LIMIT) ++ SEEN_MORE.now))
 
 -- the nets of slots, the first by name, and how many more there are
 abbrev pub nets_said : RoutingProblem → (row : List ℕ) → List ℕ
@@ -54,7 +56,7 @@ axis_said Y = codes "Y"
 -- a cell, behind a blank
 abbrev pub cell_said : AnyCell → List ℕ
 cell_said cell =
-    codes " CHAN" ++ (axis_said cell.axis ++ (codes " (" ++ (decimal cell.x ++ (codes ","
+    SEEN_CHANNEL.now ++ (axis_said cell.axis ++ (codes " (" ++ (decimal cell.x ++ (codes ","
     ++ (decimal cell.y ++ codes ")")))))
 
 -- the cell of the slot with this number
@@ -69,11 +71,9 @@ first_cell_said p row = option_map_or (slot_cell_said p) (slice_get row 0) []
 -- which slots want different tracks, and are more than there are
 abbrev pub crowding_said : RoutingProblem → Crowding → List ℕ
 crowding_said p (Cell row) =
-    codes "\nMore nets than there are tracks want the cell"
+    SEEN_CELL.now
     ++ (first_cell_said p row.items ++ (codes ":" ++ nets_said p row.items))
-crowding_said p (Crowd row) =
-    codes "\nUnder subset switch blocks more nets than there are tracks share cells, "
-    ++ (codes "each with each:" ++ nets_said p row.items)
+crowding_said p (Crowd row) = SEEN_CROWD.now ++ nets_said p row.items
 
 -- a place, behind a blank
 abbrev pub place_said : (x y : ℕ) → List ℕ
@@ -88,25 +88,21 @@ pin_said (PinOf x y pin) = place_said x y
 -- the places of the pins of pin steps, which open no track in common
 abbrev pub apart_said : (row : List PinStep) → List ℕ
 apart_said row =
-    codes " even alone: its pins at" ++ (listed (λ step. pin_said step.pin) row
-    ++ codes " open none in common.")
+    SEEN_ALONE.now ++ (listed (λ step. pin_said step.pin) row ++ SEEN_APART.now)
 
 -- a net that no track serves, and the places of the pins that a tree of it joins
 abbrev pub trackless_said : RoutingProblem → ClosedTree → List ℕ
 trackless_said p found =
-    codes "\nNo track serves the net" ++ (net_said p found.tree ++ apart_said found.pins.items)
+    SEEN_TRACKLESS.now ++ (net_said p found.tree ++ apart_said found.pins.items)
 
 -- that counting shows it, where that may help
 abbrev pub count_said : Hints → List ℕ
-count_said hints =
-    if hints.count then codes "\nWith --count that is shown without a search." else []
+count_said hints = if hints.count then SEEN_COUNT.now else []
 
 -- that keeping tracks in order may help, where they may change places
 abbrev pub order_said : (width : ℕ) → Hints → RoutingProblem → List ℕ
 order_said width hints p =
-    if hints.order && is_exchangeable width p then
-    codes "\nTracks may change places here: with --symmetry the search keeps them in one order."
-    else []
+    if hints.order && is_exchangeable width p then SEEN_ORDER.now else []
 
 -- ---- which options may help
 

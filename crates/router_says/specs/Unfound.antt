@@ -1,19 +1,19 @@
 -- What is said where rounds have found no route of a placement, or there is none.
 use Rattle.std.specs.Prelude.{ℕ, ◌++◌, ◌*◌, Bool, List, [], codes, decimal, false, min, nat_le, nat_lt, Option, Some, if◌then◌else◌}
 use Rattle.fpga_types.specs.declared.limits.TheConstants.{WIDTH_LIMIT}
+use Rattle.router_says.specs.declared.phrases.TheConstants.{NO_WAY_OTHERS, NO_WAY_ROUTE, NO_WAY_WHY, ROUNDS_FREE, ROUNDS_MADE, ROUNDS_MORE, ROUNDS_OPEN, ROUNDS_PLACEMENT, ROUNDS_ROUTE, ROUNDS_TRY, ROUNDS_WIDER}
 use Rattle.router_words.specs.Job.{JobAsked, Narrows, Negotiates}
 use Rattle.router_words.specs.declared.limits.TheConstants.{ROUND_LIMIT}
 
 -- in how many rounds none was found
 abbrev pub rounds_said : (width rounds : ℕ) → List ℕ
 rounds_said width rounds =
-    codes "Whether there is a route with " ++ (decimal width
-    ++ (codes " tracks is open: the search found none in " ++ (decimal rounds ++ codes " rounds.")))
+    ROUNDS_ROUTE.now ++ (decimal width ++ (ROUNDS_OPEN.now ++ (decimal rounds ++ ROUNDS_MADE.now)))
 
 -- where all were made that there might be, more rounds can be tried: ten times as many, but no more
 -- than the words take
 abbrev pub try_rounds_said : (rounds : ℕ) → List ℕ
-try_rounds_said rounds = codes " --rounds " ++ (decimal rounds ++ codes ",")
+try_rounds_said rounds = ROUNDS_MORE.now ++ (decimal rounds ++ codes ",")
 
 abbrev pub more_rounds_said : (most rounds : ℕ) → List ℕ
 more_rounds_said most rounds = if nat_lt rounds most then []
@@ -34,18 +34,18 @@ rounds_asked asked = 0
 
 -- a net can be let have several wires of a cell, where it may not yet
 abbrev pub freer_said : (free : Bool) → List ℕ
-freer_said free = if free then [] else codes " --free,"
+freer_said free = if free then [] else ROUNDS_FREE.now
 
 -- a greater width can be tried, where the words take one
 abbrev pub wider_said : (width : ℕ) → List ℕ
-wider_said width = if nat_lt width WIDTH_LIMIT then codes " a greater width or" else []
+wider_said width = if nat_lt width WIDTH_LIMIT then ROUNDS_WIDER.now else []
 
 abbrev pub others_said : (free : Bool) → (width : ℕ) → List ℕ
-others_said free width = freer_said free ++ (wider_said width ++ codes " another placement.")
+others_said free width = freer_said free ++ (wider_said width ++ ROUNDS_PLACEMENT.now)
 
 abbrev pub tries_said : (free : Bool) → (most width rounds : ℕ) → List ℕ
 tries_said free most width rounds =
-    codes "\nTry" ++ (more_rounds_said most rounds ++ others_said free width)
+    ROUNDS_TRY.now ++ (more_rounds_said most rounds ++ others_said free width)
 
 abbrev pub unfound_said : Option JobAsked → (width rounds : ℕ) → List ℕ
 unfound_said asked width rounds =
@@ -54,7 +54,4 @@ unfound_said asked width rounds =
 -- no wires reach a sink of a net, so that there is no route
 abbrev pub no_way_said : (width : ℕ) → List ℕ
 no_way_said width =
-    codes "There is no route with " ++ (decimal width
-    ++ (codes " tracks: of the net that the first line names, none of the wires that its driver "
-    ++ (codes "opens leads to one that a sink of it opens, whatever the other nets have.\n"
-    ++ codes "Another width, other boxes or other switch blocks may have a way.")))
+    NO_WAY_ROUTE.now ++ (decimal width ++ (NO_WAY_WHY.now ++ NO_WAY_OTHERS.now))

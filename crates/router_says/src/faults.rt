@@ -13,6 +13,7 @@ ghost use Rattle.router_says.specs.Said.{
 ghost use Rattle.router_top.specs.SlotNames.{plain_name, slot_name, width_name};
 
 use crate::names::{Written, files_written};
+use crate::phrases::{FILE_STANDARD_OUTPUT, FILE_UNREAD, FILE_UNWRITTEN};
 use crate::refused::append_file;
 use code_words::system_error;
 use route_sweep::FileSlot;
@@ -43,7 +44,7 @@ pub(crate) fn append_unread(
         ≡ string_bytes out.old ++ (about_said (asked job.entry) file ++ unread_said error)) }
 {
     append_file(out, job, file)?;
-    out.push_str(": it can't be read")?;
+    out.push_str(FILE_UNREAD)?;
     append_error(out, error)
 }
 
@@ -71,7 +72,7 @@ fn append_refused(
         ++ refused_said (option_map prefix_said written.entry) slot error) }
 {
     append_slot(out, written, slot)?;
-    out.push_str(": it can't be written")?;
+    out.push_str(FILE_UNWRITTEN)?;
     append_error(out, error)
 }
 
@@ -105,7 +106,7 @@ fn append_slot(out: &mut String, written: Option<Written<'_>>, slot: Slot) -> Re
     match written {
         Some(written) => append_slot_name(out, written, slot),
         // A job that writes no files says its lines alone.
-        None => out.push_str("standard output"),
+        None => out.push_str(FILE_STANDARD_OUTPUT),
     }
 }
 
@@ -115,7 +116,7 @@ fn append_slot_name(out: &mut String, written: Written<'_>, slot: Slot) -> Resul
         ≡ string_bytes out.old ++ slot_name (prefix_said written.entry) slot) }
 {
     match slot {
-        Slot::Said => out.push_str("standard output"),
+        Slot::Said => out.push_str(FILE_STANDARD_OUTPUT),
         Slot::File(FileSlot::Clauses { width }) => append_of_width(out, written, width, ".cnf"),
         Slot::File(FileSlot::Log { width }) => append_of_width(out, written, width, ".lrat"),
         Slot::File(FileSlot::Route) | Slot::GlobalRoute => append_plain(out, written, ".route"),

@@ -2,6 +2,7 @@
 ghost use Rattle.std.specs.Prelude.{◌≡◌, ◌++◌, OnOk, codes, string_bytes};
 ghost use Rattle.router_says.specs.AtFault.{keyword_said, missing_said};
 
+use crate::phrases::FAULT_NO_KEYWORD;
 use fault_names::has_line;
 use std::alloc::AllocError;
 
@@ -48,5 +49,5 @@ fn append_keyword(out: &mut String, text: &[u8], keyword: &str) -> Result<(), Al
     if has_line(text, keyword.as_bytes()) {
         return Ok(());
     }
-    write!(out, ", no {keyword}")
+    write!(out, "{FAULT_NO_KEYWORD}{keyword}")
 }

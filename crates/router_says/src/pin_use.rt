@@ -5,6 +5,7 @@ ghost use Rattle.router_says.specs.AtFault as spec;
 ghost use Rattle.router_says.specs.AtFault.{first_pair, global_pin_said, is_made_global, is_on_global_pin, ordinary_uses, pair_said, same_class, use_here, use_said};
 ghost use Rattle.fpga_text.specs.Said.{has_text};
 
+use crate::phrases::{AND, FAULT_NET, FAULT_PIN, FAULT_PINS};
 use fault_names::append_name;
 use fpga_text::{Line, Lines, Style, is_text};
 use fpga_types::PinSpec;
@@ -110,10 +111,10 @@ fn append_pin(out: &mut String, used: PinUse<'_>) -> Result<(), AllocError>
     ensures { OnOk result
         (string_bytes out.new ≡ string_bytes out.old ++ global_pin_said (use_said used.entry)) }
 {
-    out.push_str(": net ")?;
+    out.push_str(FAULT_NET)?;
     append_name(out, used.net)?;
     let number = used.number;
-    write!(out, ", pin {number}")
+    write!(out, "{FAULT_PIN}{number}")
 }
 
 /// Appends the first of these nets that is on two pins of a class, and the pins.
@@ -146,9 +147,9 @@ fn append_pins(out: &mut String, first: PinUse<'_>, second: PinUse<'_>) -> Resul
     ensures { OnOk result (string_bytes out.new ≡ string_bytes out.old
         ++ pair_said (use_said first.entry, use_said second.entry)) }
 {
-    out.push_str(": net ")?;
+    out.push_str(FAULT_NET)?;
     append_name(out, first.net)?;
     let one = first.number;
     let other = second.number;
-    write!(out, ", pins {one} and {other}")
+    write!(out, "{FAULT_PINS}{one}{AND}{other}")
 }

@@ -2,10 +2,11 @@
 ghost use Rattle.std.specs.Prelude.{◌≡◌, ◌++◌, ◌-◌, OnOk, codes, decimal, flat_map, string_bytes, take};
 ghost use Rattle.fault_names.specs.NameBytes.{name_said};
 ghost use Rattle.router_says.specs.Raised.{alone_said, blamed_said, net_said, nets_said, raised_said, window_said};
-ghost use Rattle.router_says.specs.declared.seen.TheConstants.{NAME_LIMIT};
+ghost use Rattle.router_says.specs.declared.places.TheConstants.{NAME_LIMIT};
 ghost use Rattle.router_top.specs.Bound.{net_name};
 
-use crate::seen::{NAME_LIMIT, append_more};
+use crate::phrases::{TO, WINDOW_ALONE, WINDOW_COLUMNS, WINDOW_NETS, WINDOW_ROWS};
+use crate::places::{NAME_LIMIT, append_more};
 use fault_names::append_name;
 use fpga_types::Netlist;
 use route_bound::CornerRange;
@@ -51,7 +52,7 @@ fn append_window(out: &mut String, range: CornerRange) -> Result<(), AllocError>
     let CornerRange { high, .. } = range;
     write!(
         out,
-        "\nThe window has the blocks of columns {left} to {} and rows {bottom} to {}.",
+        "{WINDOW_COLUMNS}{left}{TO}{}{WINDOW_ROWS}{bottom}{TO}{}.",
         high.i, high.j
     )
 }
@@ -59,10 +60,7 @@ fn append_window(out: &mut String, range: CornerRange) -> Result<(), AllocError>
 fn append_alone(out: &mut String, count: usize) -> Result<(), AllocError>
     ensures { OnOk result (string_bytes out.new ≡ string_bytes out.old ++ alone_said count) }
 {
-    write!(
-        out,
-        " By themselves {count} of its nets need as many tracks:"
-    )
+    write!(out, "{WINDOW_ALONE}{count}{WINDOW_NETS}")
 }
 
 // Appends nets by their numbers, the first of them by name.

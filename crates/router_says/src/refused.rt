@@ -4,6 +4,7 @@ ghost use Rattle.router_says.specs.Names.{asked, file_said, name_of};
 ghost use Rattle.router_says.specs.Said.{limit_place, unmet_said};
 
 use crate::names::given_name;
+use crate::phrases::{FAULT_CLAUSE, FAULT_NO_MODEL, FILE};
 use router_top::TextFile;
 use router_words::Job;
 use std::alloc::AllocError;
@@ -28,11 +29,7 @@ pub(crate) fn append_limit_place(
 pub(crate) fn append_unmet(out: &mut String, clause: u32) -> Result<(), AllocError>
     ensures { OnOk result (string_bytes out.new ≡ string_bytes out.old ++ unmet_said clause) }
 {
-    write!(
-        out,
-        ": clause {clause} has none of its literals; so it is no model of the clauses that encode \
-         writes of these files at this width with the same options"
-    )
+    write!(out, "{FAULT_CLAUSE}{clause}{FAULT_NO_MODEL}")
 }
 
 /// Appends the kind of a file, and the name that was given for it.
@@ -46,7 +43,7 @@ pub(crate) fn append_file(
 {
     let kind = file.word();
     match given_name(job, file) {
-        Some(name) => write!(out, "{kind} file {name}"),
-        None => write!(out, "{kind} file"),
+        Some(name) => write!(out, "{kind}{FILE} {name}"),
+        None => write!(out, "{kind}{FILE}"),
     }
 }

@@ -1,19 +1,5 @@
 //! Words for what can be seen of a width without a search.
-ghost use Rattle.std.specs.Prelude.{
-  ◌≡◌,
-  ◌≤◌,
-  ◌++◌,
-  ◌-◌,
-  IsTrue,
-  OnOk,
-  codes,
-  decimal,
-  false,
-  flat_map,
-  length,
-  string_bytes,
-  take,
-};
+ghost use Rattle.std.specs.Prelude.{◌≡◌, ◌≤◌, ◌++◌, IsTrue, OnOk, codes, false, string_bytes};
 ghost use Rattle.fpga_types.specs.declared.limits.TheConstants.{WIDTH_LIMIT};
 ghost use Rattle.problem_facts.specs.Facts.{AreFactsOf};
 ghost use Rattle.router_says.specs.AtFault.{Appends};
@@ -26,35 +12,27 @@ ghost use Rattle.router_says.specs.Seen.{
   SaysSeenOf,
   Sees,
   apart_said,
-  axis_said,
-  cell_said,
   count_said,
   crowding_said,
   first_cell_said,
   hints_of,
-  listed,
-  net_said,
   nets_said,
   order_said,
-  pin_said,
-  place_said,
-  slot_cell_said,
   trackless_said,
 };
-ghost use Rattle.router_says.specs.declared.seen.TheConstants.{NAME_LIMIT};
-ghost use Rattle.route_ways.specs.Trimming.{net_name};
+ghost use Rattle.router_says.specs.declared.phrases.TheConstants.{SEEN_CELL, SEEN_CROWD};
 
 use crate::names::reach_asked;
-use fault_names::append_name;
+use crate::phrases::{
+    SEEN_ALONE, SEEN_APART, SEEN_CELL, SEEN_COUNT, SEEN_CROWD, SEEN_ORDER, SEEN_TRACKLESS,
+};
+use crate::places::{append_first_cell, append_net, append_nets, append_pins};
 use fpga_bounds::PlacedProblem;
-use fpga_types::{Axis, Cell, PinAt, PinStep, RouteText, WIDTH_LIMIT};
+use fpga_types::{PinStep, WIDTH_LIMIT};
 use problem_facts::{ClosedTree, Facts, is_exchangeable, trackless};
 use route_count::{Crowding, crowded_by};
 use router_words::{Job, Method};
 use std::alloc::{AllocError, Global};
-
-/// How many nets are named at the most.
-pub(crate) const NAME_LIMIT: usize = 10;
 
 /// Which options may help that were not given.
 #[derive(Clone, Copy)]
@@ -246,7 +224,7 @@ fn append_trackless(
     ensures { OnOk result (string_bytes out.new
         ≡ string_bytes out.old ++ trackless_said problem.now found.now) }
 {
-    out.push_str("\nNo track serves the net")?;
+    out.push_str(SEEN_TRACKLESS)?;
     append_net(out, problem, found.tree)?;
     append_apart(out, &found.pins)?;
     Ok(())
@@ -256,51 +234,10 @@ fn append_trackless(
 fn append_apart(out: &mut String, row: &[PinStep]) -> Result<(), AllocError>
     ensures { OnOk result (string_bytes out.new ≡ string_bytes out.old ++ apart_said row.now) }
 {
-    out.push_str(" even alone: its pins at")?;
+    out.push_str(SEEN_ALONE)?;
     append_pins(out, row)?;
-    out.push_str(" open none in common.")?;
+    out.push_str(SEEN_APART)?;
     Ok(())
-}
-
-// Appends the places of the pins of pin steps, the first of them.
-fn append_pins(out: &mut String, row: &[PinStep]) -> Result<(), AllocError>
-    ensures { OnOk result (string_bytes out.new
-        ≡ string_bytes out.old ++ listed (λ step. pin_said step.pin) row.now) }
-{
-    if row.len() <= NAME_LIMIT {
-        return append_places(out, row);
-    }
-    append_places(out, &row[..NAME_LIMIT])?;
-    append_more(out, row.len() - NAME_LIMIT)?;
-    Ok(())
-}
-
-// Appends the places of the pins of pin steps, each behind a blank.
-fn append_places(out: &mut String, row: &[PinStep]) -> Result<(), AllocError>
-    ensures { OnOk result (string_bytes out.new
-        ≡ string_bytes out.old ++ flat_map (λ step. pin_said step.pin) row.now) }
-{
-    for step in row {
-        append_pin(out, step.pin)?;
-    }
-    Ok(())
-}
-
-// Appends the place of a pin behind a blank.
-fn append_pin(out: &mut String, pin: PinAt) -> Result<(), AllocError>
-    ensures { OnOk result (string_bytes out.new ≡ string_bytes out.old ++ pin_said pin) }
-{
-    match pin {
-        PinAt::Pad { x, y, .. } => append_spot(out, x, y),
-        PinAt::Pin { x, y, .. } => append_spot(out, x, y),
-    }
-}
-
-// Appends a place behind a blank.
-fn append_spot(out: &mut String, x: u32, y: u32) -> Result<(), AllocError>
-    ensures { OnOk result (string_bytes out.new ≡ string_bytes out.old ++ place_said x y) }
-{
-    write!(out, " ({x},{y})")
 }
 
 // Appends that keeping tracks in order may help, where it can.
@@ -320,9 +257,7 @@ fn append_order(
     if !is_exchangeable(problem, width) {
         return Ok(());
     }
-    out.push_str(
-        "\nTracks may change places here: with --symmetry the search keeps them in one order.",
-    )
+    out.push_str(SEEN_ORDER)
 }
 
 // Appends slots that want different tracks, and are more than there are, and what shows that.
@@ -347,7 +282,7 @@ fn append_count(out: &mut String, hints: Hints) -> Result<(), AllocError>
     if !hints.count {
         return Ok(());
     }
-    out.push_str("\nWith --count that is shown without a search.")
+    out.push_str(SEEN_COUNT)
 }
 
 // Appends slots that want different tracks, and are more than there are.
@@ -368,10 +303,10 @@ fn append_slots(
 // Appends slots of one cell.
 fn append_cell_row(out: &mut String, problem: &PlacedProblem, row: &[u32]) -> Result<(), AllocError>
     ensures { OnOk result (string_bytes out.new ≡ string_bytes out.old
-        ++ (codes "\nMore nets than there are tracks want the cell"
-        ++ (first_cell_said problem.now row.now ++ (codes ":" ++ nets_said problem.now row.now)))) }
+        ++ (SEEN_CELL.now ++ (first_cell_said problem.now row.now
+        ++ (codes ":" ++ nets_said problem.now row.now)))) }
 {
-    out.push_str("\nMore nets than there are tracks want the cell")?;
+    out.push_str(SEEN_CELL)?;
     append_first_cell(out, problem, row)?;
     out.push_str(":")?;
     append_nets(out, problem, row)?;
@@ -385,120 +320,9 @@ fn append_crowd_row(
     row: &[u32],
 ) -> Result<(), AllocError>
     ensures { OnOk result (string_bytes out.new ≡ string_bytes out.old
-        ++ (codes "\nUnder subset switch blocks more nets than there are tracks share cells, "
-        ++ (codes "each with each:" ++ nets_said problem.now row.now))) }
+        ++ (SEEN_CROWD.now ++ nets_said problem.now row.now)) }
 {
-    out.push_str(
-        "\nUnder subset switch blocks more nets than there are tracks share cells, \
-         each with each:",
-    )?;
+    out.push_str(SEEN_CROWD)?;
     append_nets(out, problem, row)?;
     Ok(())
-}
-
-// Appends the cell of the first of these slots.
-fn append_first_cell(
-    out: &mut String,
-    problem: &PlacedProblem,
-    row: &[u32],
-) -> Result<(), AllocError>
-    ensures { OnOk result (string_bytes out.new
-        ≡ string_bytes out.old ++ first_cell_said problem.now row.now) }
-{
-    let Some(slot) = row.first() else {
-        return Ok(());
-    };
-    append_cell_of(out, problem, *slot)
-}
-
-// Appends the cell of a slot.
-fn append_cell_of(out: &mut String, problem: &PlacedProblem, slot: u32) -> Result<(), AllocError>
-    ensures { OnOk result (string_bytes out.new
-        ≡ string_bytes out.old ++ slot_cell_said problem.now slot) }
-{
-    let Some(slot) = problem.slots().get(slot as usize) else {
-        return Ok(());
-    };
-    append_cell(out, slot.cell)
-}
-
-// Appends a cell behind a blank.
-fn append_cell(out: &mut String, cell: Cell) -> Result<(), AllocError>
-    ensures { OnOk result (string_bytes out.new ≡ string_bytes out.old ++ cell_said cell) }
-{
-    append_place(out, axis_said(cell.axis), cell.x, cell.y)
-}
-
-// Appends a cell of a channel of this kind behind a blank.
-fn append_place(out: &mut String, axis: &str, x: u32, y: u32) -> Result<(), AllocError>
-    ensures { OnOk result (string_bytes out.new ≡ string_bytes out.old
-        ++ (codes " CHAN" ++ (axis.now ++ (codes " (" ++ (decimal x ++ (codes "," ++ (decimal y
-        ++ codes ")"))))))) }
-{
-    write!(out, " CHAN{axis} ({x},{y})")
-}
-
-// A kind of channel.
-fn axis_said(axis: Axis) -> &'static str
-    ensures { result.now ≡ axis_said axis }
-{
-    match axis {
-        Axis::X => "X",
-        Axis::Y => "Y",
-    }
-}
-
-// Appends the nets of slots, the first of them by name.
-fn append_nets(out: &mut String, problem: &PlacedProblem, row: &[u32]) -> Result<(), AllocError>
-    ensures { OnOk result (string_bytes out.new
-        ≡ string_bytes out.old ++ nets_said problem.now row.now) }
-{
-    if row.len() <= NAME_LIMIT {
-        return append_named(out, problem, row);
-    }
-    append_named(out, problem, &row[..NAME_LIMIT])?;
-    append_more(out, row.len() - NAME_LIMIT)?;
-    Ok(())
-}
-
-/// Appends how many more there are than were named.
-pub(crate) fn append_more(out: &mut String, count: usize) -> Result<(), AllocError>
-    ensures { OnOk result (string_bytes out.new
-        ≡ string_bytes out.old ++ (codes " and " ++ (decimal count ++ codes " more"))) }
-{
-    write!(out, " and {count} more")
-}
-
-// Appends the nets of slots, each by name behind a blank.
-fn append_named(out: &mut String, problem: &PlacedProblem, row: &[u32]) -> Result<(), AllocError>
-    ensures { OnOk result (string_bytes out.new
-        ≡ string_bytes out.old ++ flat_map (net_said problem.now) row.now) }
-{
-    for slot in row {
-        append_net(out, problem, *slot)?;
-    }
-    Ok(())
-}
-
-// Appends the net of a slot behind a blank, by name.
-fn append_net(out: &mut String, problem: &PlacedProblem, slot: u32) -> Result<(), AllocError>
-    ensures { OnOk result
-        (string_bytes out.new ≡ string_bytes out.old ++ net_said problem.now slot) }
-{
-    let Some(slot) = problem.slots().get(slot as usize) else {
-        return Ok(());
-    };
-    out.push_str(" ")?;
-    append_name(out, net_name(problem.route(), slot.net))?;
-    Ok(())
-}
-
-// The name of a net by its position among those of a route; empty where there is none.
-fn net_name(route: &RouteText, position: u32) -> &[u8]
-    ensures { result.now ≡ net_name route.now position }
-{
-    let Some(net) = route.nets.as_slice().get(position as usize) else {
-        return b"";
-    };
-    net.name.bytes.as_slice()
 }

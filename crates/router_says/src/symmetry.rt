@@ -1,7 +1,9 @@
 //! Words for tracks that are to be pinned or kept in order, and are not alike enough.
-ghost use Rattle.std.specs.Prelude.{◌≡◌, ◌++◌, OnOk, codes, decimal, string_bytes};
+ghost use Rattle.std.specs.Prelude.{◌≡◌, ◌++◌, OnOk, decimal, string_bytes};
 ghost use Rattle.router_says.specs.Said.{lack_said, obstacle_said, option_said, reason_said};
+ghost use Rattle.router_says.specs.declared.phrases.TheConstants.{ASYMMETRY_AT, ASYMMETRY_FORBIDS, ASYMMETRY_SO, TRACKS};
 
+use crate::phrases::*;
 use problem_facts::Asymmetry;
 use router_top::Obstacle;
 use std::alloc::AllocError;
@@ -18,12 +20,12 @@ pub(crate) fn append_obstacle(out: &mut String, width: u32, why: Obstacle) -> Re
 // Appends the same with these words for the reason and the option.
 fn append_reason(out: &mut String, width: u32, reason: &str, option: &str) -> Result<(), AllocError>
     ensures { OnOk result (string_bytes out.new ≡ string_bytes out.old
-        ++ (codes "not symmetric at " ++ (decimal width ++ (codes " tracks: " ++ (reason.now
-        ++ (codes ", so " ++ (option.now ++ codes " can't be used"))))))) }
+        ++ (ASYMMETRY_AT.now ++ (decimal width ++ (TRACKS.now ++ (reason.now
+        ++ (ASYMMETRY_SO.now ++ (option.now ++ ASYMMETRY_FORBIDS.now))))))) }
 {
     write!(
         out,
-        "not symmetric at {width} tracks: {reason}, so {option} can't be used"
+        "{ASYMMETRY_AT}{width}{TRACKS}{reason}{ASYMMETRY_SO}{option}{ASYMMETRY_FORBIDS}"
     )
 }
 
@@ -32,10 +34,8 @@ fn reason_said(why: Obstacle) -> &'static str
     ensures { result.now ≡ reason_said why }
 {
     match why {
-        Obstacle::Pins(why) => lack_said("the switch block type is not subset", why),
-        Obstacle::Order(why) => {
-            lack_said("the switch block type is neither subset nor universal", why)
-        }
+        Obstacle::Pins(why) => lack_said(ASYMMETRY_NOT_SUBSET, why),
+        Obstacle::Order(why) => lack_said(ASYMMETRY_OTHER_PATTERN, why),
     }
 }
 
@@ -45,9 +45,9 @@ fn lack_said(blocks: &'static str, why: Asymmetry) -> &'static str
 {
     match why {
         Asymmetry::Pattern => blocks,
-        Asymmetry::Outputs => "an output pin does not open all of them (Fc_output)",
-        Asymmetry::Inputs => "an input pin does not open all of them (Fc_input)",
-        Asymmetry::Pads => "a pad does not open all of them (Fc_pad)",
+        Asymmetry::Outputs => ASYMMETRY_OUTPUTS,
+        Asymmetry::Inputs => ASYMMETRY_INPUTS,
+        Asymmetry::Pads => ASYMMETRY_PADS,
     }
 }
 
@@ -56,7 +56,7 @@ fn option_said(why: Obstacle) -> &'static str
     ensures { result.now ≡ option_said why }
 {
     match why {
-        Obstacle::Pins(_) => "--pin",
-        Obstacle::Order(_) => "--symmetry",
+        Obstacle::Pins(_) => OPTION_PIN,
+        Obstacle::Order(_) => OPTION_SYMMETRY,
     }
 }

@@ -16,6 +16,7 @@ ghost use Rattle.router_says.specs.Unfound.{
 };
 ghost use Rattle.router_words.specs.declared.limits.TheConstants.{ROUND_LIMIT};
 
+use crate::phrases::*;
 use fpga_types::WIDTH_LIMIT;
 use router_words::{Job, ROUND_LIMIT};
 use std::alloc::AllocError;
@@ -39,12 +40,7 @@ pub(crate) fn append_unfound(
 pub(crate) fn append_no_way(out: &mut String, width: u32) -> Result<(), AllocError>
     ensures { OnOk result (string_bytes out.new ≡ string_bytes out.old ++ no_way_said width) }
 {
-    write!(
-        out,
-        "There is no route with {width} tracks: of the net that the first line names, none of the \
-         wires that its driver opens leads to one that a sink of it opens, whatever the other nets \
-         have.\nAnother width, other boxes or other switch blocks may have a way."
-    )
+    write!(out, "{NO_WAY_ROUTE}{width}{NO_WAY_WHY}{NO_WAY_OTHERS}")
 }
 
 // What can be tried.
@@ -58,7 +54,7 @@ fn append_tries(
     ensures { OnOk result
         (string_bytes out.new ≡ string_bytes out.old ++ tries_said free most width rounds) }
 {
-    out.push_str("\nTry")?;
+    out.push_str(ROUNDS_TRY)?;
     append_more_rounds(out, most, rounds)?;
     append_others(out, free, width)?;
     Ok(())
@@ -70,7 +66,7 @@ fn append_others(out: &mut String, free: bool, width: u32) -> Result<(), AllocEr
 {
     out.push_str(freer_said(free))?;
     out.push_str(wider_said(width))?;
-    out.push_str(" another placement.")?;
+    out.push_str(ROUNDS_PLACEMENT)?;
     Ok(())
 }
 
@@ -81,8 +77,7 @@ fn append_rounds(out: &mut String, width: u32, rounds: u32) -> Result<(), AllocE
 {
     write!(
         out,
-        "Whether there is a route with {width} tracks is open: the search found none in {rounds} \
-         rounds."
+        "{ROUNDS_ROUTE}{width}{ROUNDS_OPEN}{rounds}{ROUNDS_MADE}"
     )
 }
 
@@ -112,7 +107,7 @@ fn more_rounds(rounds: u32) -> u32
 fn append_try_rounds(out: &mut String, rounds: u32) -> Result<(), AllocError>
     ensures { OnOk result (string_bytes out.new ≡ string_bytes out.old ++ try_rounds_said rounds) }
 {
-    write!(out, " --rounds {rounds},")
+    write!(out, "{ROUNDS_MORE}{rounds},")
 }
 
 // Whether the words let a net have several wires of a cell.
@@ -141,7 +136,7 @@ fn rounds_asked(job: Option<Job<'_>>) -> u32
 fn freer_said(free: bool) -> &'static str
     ensures { result.now ≡ freer_said free }
 {
-    if free { "" } else { " --free," }
+    if free { "" } else { ROUNDS_FREE }
 }
 
 // A greater width can be tried, where the words take one.
@@ -149,7 +144,7 @@ fn wider_said(width: u32) -> &'static str
     ensures { result.now ≡ wider_said width }
 {
     if width < WIDTH_LIMIT {
-        " a greater width or"
+        ROUNDS_WIDER
     } else {
         ""
     }

@@ -6,7 +6,6 @@ ghost use Rattle.std.specs.Prelude.{
   ◌≤◌,
   ◌++◌,
   OnOk,
-  codes,
   decimal,
   min,
   option_map,
@@ -18,6 +17,7 @@ ghost use Rattle.router_says.specs.Names.{asked, prefix_of, prefix_said};
 ghost use Rattle.router_says.specs.Said.{
   budget_said,
   check_each_said,
+  check_one_said,
   claim_said,
   effort_said,
   elsewhere_by,
@@ -26,12 +26,14 @@ ghost use Rattle.router_says.specs.Said.{
   greater_said,
   hand_each_said,
   hand_one_said,
+  log_one_said,
   memory_said,
   more_said,
   next_said,
   open_said,
   reach_said,
   refuted_each_said,
+  refuted_one_said,
   refuted_said,
   undecided_by,
   undecided_said,
@@ -45,6 +47,7 @@ ghost use Rattle.router_words.specs.Job.{job_said};
 ghost use Rattle.router_words.specs.declared.limits.TheConstants.{BUDGET_LIMIT};
 
 use crate::names::{Written, files_written, reach_asked};
+use crate::phrases::*;
 use fpga_problem::FourNames;
 use fpga_types::WIDTH_LIMIT;
 use router_words::{BUDGET_LIMIT, Job};
@@ -91,8 +94,7 @@ fn append_beside(
     let placement = files.placement;
     write!(
         out,
-        "\nThis holds for the global route of {route}. To look among all of this placement: \
-         gafkelam least {architecture} {netlist} {placement} {width} {prefix}"
+        "{ROUTE_GIVEN}{route}{ROUTE_OTHERS}{architecture} {netlist} {placement} {width} {prefix}"
     )
 }
 
@@ -116,7 +118,7 @@ fn append_claim(out: &mut String, up_to: &str, width: u32) -> Result<(), AllocEr
     ensures { OnOk result
         (string_bytes out.new ≡ string_bytes out.old ++ claim_said up_to.now width) }
 {
-    write!(out, "No routing with {up_to}{width} tracks is legal")
+    write!(out, "{REFUTED_ROUTING}{up_to}{width}{TRACKS_LEGAL}")
 }
 
 // A climb has refuted the lower widths too.
@@ -124,7 +126,7 @@ fn up_to(written: Option<Written<'_>>) -> &'static str
     ensures { result.now ≡ up_to_said (option_map prefix_said written.entry) }
 {
     match written {
-        Some(Written::Each(_)) => "up to ",
+        Some(Written::Each(_)) => REFUTED_UP_TO,
         Some(Written::One(_)) | None => "",
     }
 }
@@ -134,7 +136,7 @@ fn append_reach(out: &mut String, reach: Option<u32>) -> Result<(), AllocError>
     ensures { OnOk result (string_bytes out.new ≡ string_bytes out.old ++ reach_said reach) }
 {
     match reach {
-        Some(reach) => write!(out, " within {reach} joins of wires"),
+        Some(reach) => write!(out, "{REACH_WITHIN}{reach}{REACH_JOINS}"),
         None => Ok(()),
     }
 }
@@ -149,14 +151,37 @@ fn append_refuted(
         ≡ string_bytes out.old ++ refuted_said (option_map prefix_said written.entry) width) }
 {
     match written {
-        Some(Written::One(prefix)) => write!(
-            out,
-            ": {prefix}.lrat refutes the clauses of one, {prefix}.cnf.\n\
-             To check that: gafkelam check {prefix}.cnf {prefix}.lrat"
-        ),
+        Some(Written::One(prefix)) => append_one(out, prefix),
         Some(Written::Each(prefix)) => append_each(out, prefix, width),
         None => out.push_str("."),
     }
+}
+
+fn append_one(out: &mut String, prefix: &str) -> Result<(), AllocError>
+    ensures { OnOk result
+        (string_bytes out.new ≡ string_bytes out.old ++ refuted_one_said prefix.now) }
+{
+    append_log_one(out, prefix)?;
+    append_check_one(out, prefix)?;
+    Ok(())
+}
+
+fn append_log_one(out: &mut String, prefix: &str) -> Result<(), AllocError>
+    ensures { OnOk result
+        (string_bytes out.new ≡ string_bytes out.old ++ log_one_said prefix.now) }
+{
+    write!(
+        out,
+        ": {prefix}{FILE_LOG}{LOG_REFUTES}{prefix}{FILE_CLAUSES}."
+    )
+}
+
+/// Appends how a log is checked against its clauses.
+pub(crate) fn append_check_one(out: &mut String, prefix: &str) -> Result<(), AllocError>
+    ensures { OnOk result
+        (string_bytes out.new ≡ string_bytes out.old ++ check_one_said prefix.now) }
+{
+    write!(out, "{LOG_CHECK}{prefix}{FILE_CLAUSES} {prefix}{FILE_LOG}")
 }
 
 fn append_each(out: &mut String, prefix: &str, width: u32) -> Result<(), AllocError>
@@ -174,7 +199,7 @@ fn append_refuted_each(out: &mut String, prefix: &str) -> Result<(), AllocError>
 {
     write!(
         out,
-        ": {prefix}.wK.lrat refutes {prefix}.wK.cnf for each width K.\n"
+        ": {prefix}{LOG_EACH_REFUTES}{prefix}{LOG_EACH_CLAUSES}"
     )
 }
 
@@ -182,11 +207,11 @@ fn append_check_each(out: &mut String, prefix: &str, width: u32) -> Result<(), A
     ensures { OnOk result (string_bytes out.new ≡ string_bytes out.old
         ++ check_each_said (numbered_prefix prefix.now width)) }
 {
-    out.push_str("To check the last: gafkelam check ")?;
+    out.push_str(LOG_CHECK_LAST)?;
     append_width_name(out, prefix, width)?;
-    out.push_str(".cnf ")?;
+    write!(out, "{FILE_CLAUSES} ")?;
     append_width_name(out, prefix, width)?;
-    out.push_str(".lrat")?;
+    out.push_str(FILE_LOG)?;
     Ok(())
 }
 
@@ -261,7 +286,7 @@ fn append_doubt(
     ensures { OnOk result (string_bytes out.new ≡ string_bytes out.old
         ++ undecided_by (option_map prefix_said written.entry) reach stopped width learned) }
 {
-    write!(out, "Whether a routing with {width} tracks is legal")?;
+    write!(out, "{OPEN_ROUTING}{width}{TRACKS_LEGAL}")?;
     append_reach(out, reach)?;
     append_open(out, stopped, learned)?;
     append_next(out, written, stopped, width, learned)?;
@@ -269,9 +294,10 @@ fn append_doubt(
 }
 
 fn append_open(out: &mut String, stopped: bool, learned: u64) -> Result<(), AllocError>
-    ensures { OnOk result (string_bytes out.new ≡ string_bytes out.old ++ open_said stopped learned) }
+    ensures { OnOk result
+        (string_bytes out.new ≡ string_bytes out.old ++ open_said stopped learned) }
 {
-    write!(out, " is open: the search learned {learned}")?;
+    write!(out, "{OPEN_LEARNED}{learned}")?;
     out.push_str(end_said(stopped))?;
     Ok(())
 }
@@ -281,9 +307,9 @@ fn end_said(stopped: bool) -> &'static str
     ensures { result.now ≡ end_said stopped }
 {
     if stopped {
-        " clauses before its time was over."
+        OPEN_TIME_OVER
     } else {
-        " clauses, its budget."
+        OPEN_BUDGET_SPENT
     }
 }
 
@@ -318,7 +344,7 @@ fn append_next_of_one(
     append_effort(out, stopped, learned)?;
     write!(
         out,
-        "hand {prefix}.cnf to another solver, or try another width."
+        "{TRY_HAND}{prefix}{FILE_CLAUSES}{TRY_ANOTHER_SOLVER}{TRY_OR}{TRY_OTHER_WIDTH}"
     )
 }
 
@@ -342,22 +368,21 @@ fn append_hand_each(out: &mut String, prefix: &str, width: u32) -> Result<(), Al
     ensures { OnOk result (string_bytes out.new ≡ string_bytes out.old
         ++ hand_each_said (numbered_prefix prefix.now width) width) }
 {
-    out.push_str("hand ")?;
+    out.push_str(TRY_HAND)?;
     append_width_name(out, prefix, width)?;
-    out.push_str(".cnf to another solver")?;
-    out.push_str(greater_said(width))?;
+    write!(out, "{FILE_CLAUSES}{TRY_ANOTHER_SOLVER}")?;
+    append_greater(out, width)?;
     Ok(())
 }
 
 // A greater width can be tried, where the words take one.
-fn greater_said(width: u32) -> &'static str
-    ensures { result.now ≡ greater_said width }
+fn append_greater(out: &mut String, width: u32) -> Result<(), AllocError>
+    ensures { OnOk result (string_bytes out.new ≡ string_bytes out.old ++ greater_said width) }
 {
     if width < WIDTH_LIMIT {
-        ", or route at a greater width."
-    } else {
-        "."
+        return write!(out, "{TRY_OR}{TRY_GREATER_WIDTH}");
     }
+    out.push_str(".")
 }
 
 // How much more can be tried next: time where the search was stopped, or else a budget.
@@ -366,7 +391,7 @@ fn append_effort(out: &mut String, stopped: bool, learned: u64) -> Result<(), Al
         ≡ string_bytes out.old ++ effort_said stopped learned) }
 {
     if stopped {
-        return out.push_str("\nTry more --seconds, or ");
+        return write!(out, "{TRY_SECONDS}{TRY_OR}");
     }
     append_budget(out, learned)
 }
@@ -376,7 +401,7 @@ fn append_budget(out: &mut String, learned: u64) -> Result<(), AllocError>
     ensures { OnOk result (string_bytes out.new ≡ string_bytes out.old ++ budget_said learned) }
 {
     if learned >= BUDGET_LIMIT {
-        return out.push_str("\nNo greater budget is taken: ");
+        return out.push_str(TRY_NO_BUDGET);
     }
     append_more(out, greater_budget(learned))
 }
@@ -393,7 +418,7 @@ fn greater_budget(learned: u64) -> u64
 fn append_more(out: &mut String, budget: u64) -> Result<(), AllocError>
     ensures { OnOk result (string_bytes out.new ≡ string_bytes out.old ++ more_said budget) }
 {
-    write!(out, "\nTry --conflicts {budget}, or ")
+    write!(out, "{TRY_CONFLICTS}{budget}{TRY_OR}")
 }
 
 /// Appends that memory ran out, and what was shown until then.
@@ -409,11 +434,7 @@ fn append_shown(out: &mut String, written: Option<Written<'_>>) -> Result<(), Al
         ≡ string_bytes out.old ++ memory_said (option_map prefix_said written.entry)) }
 {
     match written {
-        Some(Written::Each(prefix)) => write!(
-            out,
-            "Memory ran out. The widths K of which this run wrote {prefix}.wK.lrat are refuted, \
-             and nothing else was found."
-        ),
-        Some(Written::One(_)) | None => out.push_str("Memory ran out, so that nothing was found."),
+        Some(Written::Each(prefix)) => write!(out, "{MEMORY_WIDTHS}{prefix}{MEMORY_REFUTED}"),
+        Some(Written::One(_)) | None => out.push_str(MEMORY_NOTHING),
     }
 }

@@ -16,7 +16,7 @@ ghost use Rattle.router_says.specs.Said.{
   unroutable_said,
 };
 ghost use Rattle.router_says.specs.Seen.{Sees};
-ghost use Rattle.router_says.specs.declared.at_fault.Sought.TheVariants.{Routed as RoutedLine};
+ghost use Rattle.router_says.specs.declared.sought.Sought.TheVariants.{Routed as RoutedLine};
 ghost use Rattle.router_top.specs.declared.text_file.TextFile.TheVariants.{Lrat, Model, Routed};
 ghost use Rattle.router_words.specs.Word.{words_of};
 

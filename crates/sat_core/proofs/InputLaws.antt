@@ -4,14 +4,16 @@ use Rattle.std.proofs.Common.{inl, inr, ◌⊎◌, ◌≡◌, ◌≢◌, ◌==�
 use Rattle.std.proofs.lemmas.Bool.{both_ways, cases_eq, eq-eqb, eqb-true, lt-ltb, ne_eqb}
 use Rattle.std.proofs.lemmas.Bool.Decides.{nat_tests}
 use Rattle.std.proofs.lemmas.List.Elements.{All-contains, All-weaker}
+use Rattle.std.proofs.lemmas.List.Folds.{list_any-from_Any}
 use Rattle.std.proofs.lemmas.Option.{slice_get_within}
 use Rattle.list_laws.proofs.Places.{some_is}
 use Rattle.sat_clause.specs.declared.literal.Lit.{Lit}
 use Rattle.sat_clause.specs.Formula.{Cnf}
 use Rattle.sat_clause.specs.Judge.{inputs}
 use Rattle.sat_clause.specs.Learned.{IsSimple, SameLiterals}
-use Rattle.sat_clause.specs.Literal.{Clause, IsWithin, variable}
+use Rattle.sat_clause.specs.Literal.{Clause, IsWithin, is_among, negation, variable}
 use Rattle.sat_clause.specs.Live.{Live, clause_at, put}
+use Rattle.sat_clause.proofs.LiteralLaws.{contains_among, same_variable}
 use Rattle.sat_clause.proofs.LiveLaws.{inputs_at, inputs_none}
 use Rattle.sat_arena.specs.declared.clause_ref.ClauseRef.{ClauseRef}
 use Rattle.sat_watch.specs.Watches.{Attached, Attaches, HasTwoFree, WatchState, id_at, is_attached}
@@ -456,6 +458,62 @@ all_picked formula k c at =
     by : (b : Bool) → (b || true) ≡ true
     by true = refl
     by false = refl
+
+-- two different literals are a pair, or always true
+pub two_always : (c : Clause) (d e : Lit) → length c ≡ 2 → get_or c 0 d ≢ get_or c 1 e →
+    is_pair c ≡ false → is_always_true c ≡ true
+two_always [] d e two other is = absurd (omega (arith, two))
+two_always (a ∷ []) d e two other is = absurd (omega (arith, two))
+two_always (a ∷ b ∷ x ∷ rest) d e two other is = absurd (omega (arith, two))
+two_always (a ∷ b ∷ []) d e two other is =
+    let same = eqb-true (variable a) (variable b) (not_false (variable a == variable b) is) in
+    elim (same_variable a b same) [
+      | inl one ↦ absurd (other one)
+      | inr negated ↦
+          list_any-from_Any (λ (l : Lit). is_among (a ∷ b ∷ []) (negation l)) (a ∷ b ∷ []) (
+            1,
+            b,
+            omega arith,
+            refl,
+            contains_among (a ∷ b ∷ []) (negation b) (0, omega arith, negated),
+          )
+    ]
+  where
+    not_false : (t : Bool) → not t ≡ false → t ≡ true
+    not_false true e = refl
+    not_false false e = cc
+
+-- what is not two different literals is no pair
+pub not_two : (c : Clause) → length c ≢ 2 → is_pair c ≡ false
+not_two [] other = refl
+not_two (a ∷ []) other = refl
+not_two (a ∷ b ∷ []) other = absurd (other refl)
+not_two (a ∷ b ∷ c ∷ rest) other = refl
+
+pub twice_no_pair : (c : Clause) (d e : Lit) → get_or c 0 d ≡ get_or c 1 e → is_pair c ≡ false
+twice_no_pair [] d e same = refl
+twice_no_pair (a ∷ []) d e same = refl
+twice_no_pair (a ∷ b ∷ []) d e same =
+    ap not (eq-eqb (variable a) (variable b) (ap variable same))
+twice_no_pair (a ∷ b ∷ c ∷ rest) d e same = refl
+
+-- a pair is there already, and what is always true is left out
+pub others_pass : (formula : Cnf) (n : ℕ) (c : Clause) → slice_get formula.clauses n ≡ Some c →
+    (is_pair c ≡ false → is_always_true c ≡ true) → (s : ClauseListState) (w : WatchState) →
+    HasTaken formula (pairs_and_below n) s w → HasTaken formula (pairs_and_below (suc n)) s w
+others_pass formula n c at always s w taken = by (is_pair c) refl where
+  by : (b : Bool) → is_pair c ≡ b → HasTaken formula (pairs_and_below (suc n)) s w
+  by true is =
+      taken_alike formula (pairs_and_below n) (pairs_and_below (suc n)) s w
+      (λ k d k_at. elim (cases_eq k n) [
+        | inl same ↦
+            let one : d ≡ c = some_is (sym k_at ∙ ap (slice_get formula.clauses) same ∙ at) in
+            rw (one, is) refl
+        | inr other ↦ others_next n k d other
+      ]) taken
+  by false is =
+      taken_skip (pairs_and_below (suc n)) n at (other_not_yet n c is) (others_next n)
+      (other_now n c is) taken (always is)
 
 -- a pair has no variable twice
 pub pair_once : (c : Clause) → is_pair c ≡ true → HasOnce c

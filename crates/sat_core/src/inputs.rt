@@ -1,12 +1,14 @@
 //! The clauses of a formula, as a search takes them in: those of two literals first, so that they
 //! stand one beside another in the arena, and then the others.
 
-ghost use Rattle.std.specs.Prelude.{All, ◌≡◌, ◌≤◌, ◌<◌, ◌+◌, [], length, slice_get, OnOk, IfOk, false, None, Some, suc};
+ghost use Rattle.std.specs.Prelude.{All, ◌≡◌, ◌≤◌, ◌<◌, ◌+◌, [], length, slice_get, OnOk, IfOk, false, true, None, Some, suc};
 ghost use Rattle.sat_clause.specs.Literal.{IsWithin};
 ghost use Rattle.sat_core.specs.Inputs.{HasTaken, Keeps, MayKeep, is_pair as is_pair_of, no_singles, pairs_and_below, pairs_below};
+ghost use Rattle.sat_core.specs.Kept.{is_always_true};
 
 use crate::clause_list::ClauseList;
 use crate::distinct::{is_rising, take_distinct};
+use crate::occurrences::Occurrences;
 use sat_arena::Arena;
 use sat_clause::{Formula, ID_LIMIT, Lit};
 use sat_watch::Watches;
@@ -31,6 +33,21 @@ fn is_pair(lits: &[Lit]) -> bool
     lits.len() == 2 && lits[0].variable() != lits[1].variable()
 }
 
+/// Whether these are two different literals: a pair, or a clause that is always true.
+fn are_two(lits: &[Lit]) -> bool
+    ensures always { result ≡ true → is_pair_of lits.now ≡ false
+        → is_always_true lits.now ≡ true }
+    ensures no_pair { result ≡ false → is_pair_of lits.now ≡ false }
+{
+    if lits.len() != 2 {
+        return false;
+    }
+    if lits[0] != lits[1] {
+        return true;
+    }
+    false
+}
+
 /// Keeps a clause without a variable twice under an id that is new: it is attached where it has two
 /// literals, else it waits among the single ones.
 fn keep(
@@ -49,8 +66,13 @@ fn keep(
     Ok(())
 }
 
-/// Attaches the clauses of a formula that are two literals of different variables.
-fn attach_pairs(watches: &mut Watches, formula: &Formula) -> Result<(), AllocError>
+/// Attaches the clauses of a formula that are two literals of different variables, and counts
+/// these.
+fn attach_pairs(
+    watches: &mut Watches,
+    counts: &mut Occurrences,
+    formula: &Formula,
+) -> Result<(), AllocError>
     requires ids { length formula.now.cnf.clauses ≤ ID_LIMIT }
     requires none { HasTaken formula.now.cnf (pairs_below 0) (no_singles formula.now.cnf)
         watches.old }
@@ -62,16 +84,18 @@ fn attach_pairs(watches: &mut Watches, formula: &Formula) -> Result<(), AllocErr
         if !is_pair(lits) {
             continue;
         }
+        counts.count(lits);
         watches.attach(lits, i + 1)?;
     }
     Ok(())
 }
 
 /// Keeps the different literals of a clause of a formula, which is no pair, unless it is always
-/// true. Two vectors are lent, whatever they hold.
+/// true, and counts its literals. Two vectors are lent, whatever they hold.
 fn keep_distinct(
     watches: &mut Watches,
     singles: &mut ClauseList,
+    counts: &mut Occurrences,
     sorted: &mut Vec<Lit>,
     distinct: &mut Vec<Lit>,
     formula: &Formula,
@@ -86,9 +110,10 @@ fn keep_distinct(
     ensures few { OnOk result (length singles.new.clauses ≤ suc i) }
 {
     let lits = formula.clause(i);
-    if is_pair(lits) {
+    if are_two(lits) {
         return Ok(());
     }
+    counts.count(lits);
     if is_rising(lits) {
         return keep(watches, singles, lits, i + 1);
     }
@@ -98,11 +123,12 @@ fn keep_distinct(
     keep(watches, singles, distinct, i + 1)
 }
 
-/// Keeps the clauses of a formula that are no pairs.
+/// Keeps the clauses of a formula that are no pairs, and counts their literals.
 fn keep_others(
     alloc: Global,
     watches: &mut Watches,
     singles: &mut ClauseList,
+    counts: &mut Occurrences,
     formula: &Formula,
 ) -> Result<(), AllocError>
     requires ids { length formula.now.cnf.clauses ≤ ID_LIMIT }
@@ -114,7 +140,15 @@ fn keep_others(
     let mut sorted = Vec::new(alloc);
     let mut distinct = Vec::new(alloc);
     for i in 0..formula.len() {
-        keep_distinct(watches, singles, &mut sorted, &mut distinct, formula, i)?;
+        keep_distinct(
+            watches,
+            singles,
+            counts,
+            &mut sorted,
+            &mut distinct,
+            formula,
+            i,
+        )?;
     }
     Ok(())
 }
@@ -126,8 +160,12 @@ pub(crate) struct Inputs {
     pub(crate) singles: ClauseList,
 }
 
-/// Takes the clauses of a formula in. The arena gets room for them once.
-pub(crate) fn take_inputs(alloc: Global, formula: &Formula) -> Result<Inputs, AllocError>
+/// Takes the clauses of a formula in, and counts their literals. The arena gets room for them once.
+pub(crate) fn take_inputs(
+    alloc: Global,
+    formula: &Formula,
+    counts: &mut Occurrences,
+) -> Result<Inputs, AllocError>
     requires { length formula.now.cnf.clauses ≤ ID_LIMIT }
     ensures taken { IfOk result (λ inputs. HasTaken formula.now.cnf
         (pairs_and_below (length formula.now.cnf.clauses)) inputs.singles inputs.watches) }
@@ -138,8 +176,8 @@ pub(crate) fn take_inputs(alloc: Global, formula: &Formula) -> Result<Inputs, Al
     arena.reserve(words_for(formula))?;
     let mut watches = Watches::new(alloc, arena, formula.vars())?;
     let mut singles = ClauseList::new(alloc, formula.vars())?;
-    attach_pairs(&mut watches, formula)?;
+    attach_pairs(&mut watches, counts, formula)?;
     watches.make_tails(alloc);
-    keep_others(alloc, &mut watches, &mut singles, formula)?;
+    keep_others(alloc, &mut watches, &mut singles, counts, formula)?;
     Ok(Inputs { watches, singles })
 }

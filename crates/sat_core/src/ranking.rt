@@ -6,9 +6,9 @@ ghost use Rattle.sat_core.specs.Ranking.{AreDrawn, IsRanked, SameHeld, next_draw
 ghost use Rattle.sat_order.specs.Order.{IsBest, IsEmpty, IsVariable, activity_of};
 
 use crate::habits::{FirstOrder, Habits};
-use crate::occurrences::occurrences;
+use crate::occurrences::Occurrences;
 use crate::saved::SavedValues;
-use sat_clause::{Formula, Lit, VARIABLE_LIMIT};
+use sat_clause::{Lit, VARIABLE_LIMIT};
 use sat_order::Order;
 use std::alloc::{AllocError, Global};
 use std::marker::Model;
@@ -131,46 +131,43 @@ fn prefer_last(order: &mut Order, vars: u32)
     }
 }
 
-/// Gives the variables activities by these counts, which stand by their numbers.
-fn prefer_counted(order: &mut Order, vars: u32, counts: &[u32])
+/// Gives the variables activities by how many literals of theirs were counted.
+fn prefer_counted(order: &mut Order, vars: u32, counts: &Occurrences)
     requires few { vars ≤ VARIABLE_LIMIT }
     requires vars { order.old.vars ≡ vars }
     ensures { SameHeld order.old order.new }
 {
     for v in 1..vars + 1 {
-        let count = counts.get(v as usize).copied().unwrap_or(0);
-        begin_with(order, v, u64::from(count).min(MOST_FIRST));
+        begin_with(order, v, u64::from(counts.of(v)).min(MOST_FIRST));
     }
 }
 
 /// Gives each variable its first activity, where all are 0.
-fn put_first(
-    alloc: Global,
-    order: &mut Order,
-    formula: &Formula,
-    first: FirstOrder,
-) -> Result<(), AllocError>
-    requires few { formula.now.cnf.vars ≤ VARIABLE_LIMIT }
-    requires vars { order.old.vars ≡ formula.now.cnf.vars }
-    requires zero { order.old.activities ≡ replicate formula.now.cnf.vars 0 }
+fn put_first(order: &mut Order, vars: u32, counts: &Occurrences, first: FirstOrder)
+    requires few { vars ≤ VARIABLE_LIMIT }
+    requires vars { order.old.vars ≡ vars }
+    requires zero { order.old.activities ≡ replicate vars 0 }
     ensures { SameHeld order.old order.new }
 {
-    let vars = formula.vars();
     match first {
-        FirstOrder::Rising => Ok(()),
-        FirstOrder::Falling => {
-            prefer_last(order, vars);
-            Ok(())
-        }
-        FirstOrder::MostClauses => {
-            let counts = occurrences(alloc, formula)?;
-            prefer_counted(order, vars, &counts);
-            Ok(())
-        }
-        FirstOrder::Drawn { seed } => {
-            draw_activities(order, vars, seed);
-            Ok(())
-        }
+        FirstOrder::Rising => {}
+        FirstOrder::Falling => prefer_last(order, vars),
+        FirstOrder::MostClauses => prefer_counted(order, vars, counts),
+        FirstOrder::Drawn { seed } => draw_activities(order, vars, seed),
+    }
+}
+
+/// The counts of literals that habits ask for, before any is counted.
+pub(crate) fn counts_for(
+    alloc: Global,
+    vars: u32,
+    habits: Habits,
+) -> Result<Occurrences, AllocError>
+    requires { vars ≤ VARIABLE_LIMIT }
+{
+    match habits.first {
+        FirstOrder::MostClauses => Occurrences::new(alloc, vars),
+        _ => Ok(Occurrences::none(alloc)),
     }
 }
 
@@ -186,19 +183,20 @@ fn grown(step: u64, parts: u64) -> u64
 }
 
 impl Ranking {
-    /// The variables of a formula, held with the first activities that habits give.
+    /// So many variables, held with the first activities that habits give, by the counts that they
+    /// ask for.
     pub(crate) fn new(
         alloc: Global,
-        formula: &Formula,
+        vars: u32,
+        counts: &Occurrences,
         habits: Habits,
     ) -> Result<Ranking, AllocError>
-        requires { formula.now.cnf.vars ≤ VARIABLE_LIMIT }
-        ensures ranked { IfOk result (IsRanked formula.now.cnf.vars []) }
+        requires { vars ≤ VARIABLE_LIMIT }
+        ensures ranked { IfOk result (IsRanked vars []) }
     {
-        let vars = formula.vars();
         let saved = SavedValues::new(alloc, vars, habits.value)?;
         let mut order = Order::new(alloc, vars)?;
-        put_first(alloc, &mut order, formula, habits.first)?;
+        put_first(&mut order, vars, counts, habits.first);
         Ok(Ranking {
             order,
             step: FIRST_STEP,

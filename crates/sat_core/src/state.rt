@@ -18,7 +18,8 @@ use crate::deleting::{delete_some, last_id, propagate_at_start};
 use crate::habits::Habits;
 use crate::inputs::{Inputs, take_inputs};
 use crate::learned::{Findings, LearnedClause, find_learned};
-use crate::ranking::Ranking;
+use crate::occurrences::Occurrences;
+use crate::ranking::{Ranking, counts_for};
 use crate::restarts::Restarts;
 use crate::start::attach_at_start;
 use crate::way_back::go_back;
@@ -71,17 +72,19 @@ struct Tables {
 
 impl Tables {
     /// Those of a search that has met and decided nothing.
-    fn new(alloc: Global, formula: &Formula, habits: Habits) -> Result<Tables, AllocError>
-        requires { formula.now.cnf.vars ≤ VARIABLE_LIMIT }
+    fn new(
+        alloc: Global,
+        vars: u32,
+        counts: &Occurrences,
+        habits: Habits,
+    ) -> Result<Tables, AllocError>
+        requires { vars ≤ VARIABLE_LIMIT }
         ensures clean { IfOk result (λ tables. IsClean tables.findings) }
-        ensures size { IfOk result
-            (λ tables. length tables.findings.met ≡ formula.now.cnf.vars) }
-        ensures ranked { IfOk result
-            (λ tables. IsRanked formula.now.cnf.vars [] tables.ranking) }
+        ensures size { IfOk result (λ tables. length tables.findings.met ≡ vars) }
+        ensures ranked { IfOk result (λ tables. IsRanked vars [] tables.ranking) }
     {
-        let vars = formula.vars();
         let findings = Findings::new(alloc, vars)?;
-        let ranking = Ranking::new(alloc, formula, habits)?;
+        let ranking = Ranking::new(alloc, vars, counts, habits)?;
         let again = Again::new(alloc, vars)?;
         Ok(Tables {
             findings,
@@ -101,12 +104,14 @@ impl SearchState {
         ensures { IfOk result (λ s. StandsFor s formula.now.cnf []) }
     {
         let inputs = formula.len();
-        let Inputs { watches, singles } = take_inputs(alloc, formula)?;
+        let vars = formula.vars();
+        let mut counts = counts_for(alloc, vars, habits)?;
+        let Inputs { watches, singles } = take_inputs(alloc, formula, &mut counts)?;
         let Tables {
             findings,
             ranking,
             again,
-        } = Tables::new(alloc, formula, habits)?;
+        } = Tables::new(alloc, vars, &counts, habits)?;
         Ok(SearchState {
             inputs,
             added: 0,

@@ -1,14 +1,30 @@
 -- A formula to which the clauses of another one are added one by one.
-use Rattle.std.proofs.Common.{◌≡◌, ◌∙◌, ◌+◌, ℕ, Bool, Some, List, [], ◌∷◌, ◌++◌, ap, arith, inl, inr, length, slice_get, sym}
+use Rattle.std.proofs.Common.{◌≡◌, ◌∙◌, ◌+◌, ℕ, Bool, Some, List, [], ◌∷◌, ◌++◌, All, ap, arith, get_or, inl, inr, length, refl, slice_get, sym}
 use Rattle.std.proofs.lemmas.Bool.Decides.{eqb_tells}
 use Rattle.std.proofs.lemmas.List.{length-append}
+use Rattle.std.proofs.lemmas.List.Elements.{All-cons, All-nil}
 use Rattle.std.proofs.lemmas.Option.{slice_get_within}
 use Rattle.list_laws.proofs.Places.{get-front, get-last, some_is}
 use Rattle.sat_clause.specs.declared.literal.Lit.{Lit}
 use Rattle.sat_clause.specs.Formula.{Cnf}
-use Rattle.sat_clause.specs.Literal.{Clause}
+use Rattle.sat_clause.specs.Literal.{Clause, IsWithin}
 use Rattle.sat_merge.specs.Merging.{AreMergedSoFar}
 use Rattle.sat_merge.specs.Rewritten.{AreKept, IsMerged}
+
+-- two literals as a clause
+pub two_lits : (clause : Clause) (d e : Lit) → length clause ≡ 2 →
+    get_or clause 0 d ∷ get_or clause 1 e ∷ [] ≡ clause
+two_lits [] d e two = absurd (omega (arith, two))
+two_lits (a ∷ []) d e two = absurd (omega (arith, two))
+two_lits (a ∷ b ∷ []) d e two = refl
+two_lits (a ∷ b ∷ c ∷ rest) d e two = absurd (omega (arith, two))
+
+-- both of them are of the variables
+pub within_both : (vars : ℕ) (a b : Lit) → IsWithin vars a → IsWithin vars b →
+    All (IsWithin vars) (a ∷ b ∷ [])
+within_both vars a b first second =
+    All-cons (IsWithin vars) a (b ∷ []) first
+    (All-cons (IsWithin vars) b [] second (All-nil (IsWithin vars)))
 
 module _ (keeps : Lit → Bool) (formula merged : Cnf) (count : ℕ)
     (so_far : AreMergedSoFar keeps formula merged count) where

@@ -3,6 +3,7 @@ pub mod AdditionLemmas
 pub mod CnfBack
 pub mod CnfLemmas
 pub mod CnfSound
+pub mod DigitLemmas
 pub mod DraftLemmas
 pub mod FrontLemmas
 pub mod LogBack

@@ -13,3 +13,4 @@ pub mod Rows
 pub mod StepDrafts
 pub mod Steps
 pub mod ToldLines
+pub mod Triples

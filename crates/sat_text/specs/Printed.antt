@@ -1,5 +1,5 @@
 -- The printed forms of a formula, as DIMACS has it, and of a log, as LRAT has it.
-use Rattle.std.specs.Prelude.{ℕ, ℤ, pos, List, ◌++◌, length, flat_map, codes, decimal}
+use Rattle.std.specs.Prelude.{ℕ, ℤ, pos, negsuc, List, [], ◌++◌, length, flat_map, codes, decimal}
 use Rattle.std.specs.Fmt.{signed_decimal}
 use Rattle.fpga_text.specs.Bytes.{Bytes}
 use Rattle.sat_clause.specs.Formula.{Cnf}
@@ -10,6 +10,11 @@ use Rattle.sat_clause.specs.declared.literal.Lit.{Lit}
 -- a number, and a blank after it
 abbrev pub number_text : ℤ → Bytes
 number_text n = signed_decimal n ++ codes " "
+
+-- the sign in front of the digits of a number
+abbrev pub sign_text : ℤ → Bytes
+sign_text (pos n) = []
+sign_text (negsuc n) = codes "-"
 
 -- a literal, and a blank after it
 abbrev pub literal_text : Lit → Bytes

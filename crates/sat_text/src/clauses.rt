@@ -8,6 +8,7 @@ ghost use Rattle.sat_text.specs.Printed.{clause_text};
 ghost use Rattle.sat_text.specs.Rows.{IsWrittenTo, between};
 ghost use Rattle.sat_text.specs.declared.row.TheConstants.{NUMBER_ROOM, ROW_ROOM};
 
+use crate::digits::DigitTable;
 use crate::row::{
     NUMBER_ROOM, PIECE_LIMIT, ROW_ROOM, RowRoom, put_byte, put_numbers, row_room, write_from,
     write_row,
@@ -47,7 +48,7 @@ fn end_of_rows(formula: &Formula, first: u32, many: u32) -> u32
 }
 
 /// Puts the row of a clause before an end, where it has room, and gives where it begins.
-fn put_row(room: &mut RowRoom, clause: &[Lit], end: usize) -> Option<usize>
+fn put_row(room: &mut RowRoom, digits: &DigitTable, clause: &[Lit], end: usize) -> Option<usize>
     requires { end ≤ ROW_ROOM }
     ensures before { IfSome result (λ start. start ≤ end) }
     ensures put { IfSome result (λ start. drop start room.new
@@ -58,12 +59,18 @@ fn put_row(room: &mut RowRoom, clause: &[Lit], end: usize) -> Option<usize>
     }
     let start = put_byte(room, b'\n', end);
     let start = put_byte(room, b'0', start);
-    Some(put_numbers(room, clause, start))
+    Some(put_numbers(room, digits, clause, start))
 }
 
 /// Puts the rows of the clauses from one to the one before another at the end of the room, where
 /// they have room, and gives where they begin.
-fn put_rows(room: &mut RowRoom, formula: &Formula, first: u32, behind: u32) -> Option<usize>
+fn put_rows(
+    room: &mut RowRoom,
+    digits: &DigitTable,
+    formula: &Formula,
+    first: u32,
+    behind: u32,
+) -> Option<usize>
     requires order { first ≤ behind }
     requires within { behind ≤ length formula.now.cnf.clauses }
     ensures before { IfSome result (λ start. start ≤ ROW_ROOM) }
@@ -74,7 +81,7 @@ fn put_rows(room: &mut RowRoom, formula: &Formula, first: u32, behind: u32) -> O
 {
     let mut start = ROW_ROOM;
     for i in (first..behind).rev() {
-        let Some(at) = put_row(room, formula.clause(i), start) else {
+        let Some(at) = put_row(room, digits, formula.clause(i), start) else {
             return None;
         };
         start = at;
@@ -86,6 +93,7 @@ fn put_rows(room: &mut RowRoom, formula: &Formula, first: u32, behind: u32) -> O
 /// alone, and gives the first clause that is left.
 fn write_some<S: Shelf>(
     room: &mut RowRoom,
+    digits: &DigitTable,
     writer: &mut BlockWriter,
     shelf: &mut S,
     formula: &Formula,
@@ -101,14 +109,14 @@ fn write_some<S: Shelf>(
 {
     let behind = end_of_rows(formula, first, formula.len());
     if first < behind {
-        if let Some(start) = put_rows(room, formula, first, behind) {
+        if let Some(start) = put_rows(room, digits, formula, first, behind) {
             let Ok(()) = write_from(room, writer, shelf, start) else {
                 return Err(Failed);
             };
             return Ok(behind);
         }
     }
-    let Ok(()) = write_row(room, writer, shelf, formula.clause(first), b'\n') else {
+    let Ok(()) = write_row(room, digits, writer, shelf, formula.clause(first), b'\n') else {
         return Err(Failed);
     };
     Ok(first + 1)
@@ -127,9 +135,10 @@ pub fn write_clauses<S: Shelf>(
         (All (All (IsWithin formula.now.cnf.vars)) formula.now.cnf.clauses) }
 {
     let mut room = row_room();
+    let digits = DigitTable::new();
     let mut next = 0;
     while next < formula.len() {
-        let Ok(others) = write_some(&mut room, writer, shelf, formula, next) else {
+        let Ok(others) = write_some(&mut room, &digits, writer, shelf, formula, next) else {
             return Err(Failed);
         };
         next = others;

@@ -3,6 +3,7 @@
 
 mod cause;
 mod clauses;
+mod digits;
 mod draft;
 mod front_numbers;
 mod head;

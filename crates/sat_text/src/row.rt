@@ -3,8 +3,9 @@
 ghost use Rattle.std.specs.Prelude.{◌≡◌, ◌<◌, ◌≤◌, ◌+◌, ◌*◌, ◌++◌, ◌∷◌, [], true, codes, decimal, drop, flat_map, length};
 ghost use Rattle.desk_io.specs.ShelfState.{FailsToAppend};
 ghost use Rattle.desk_io.specs.Writing.{Writes};
-ghost use Rattle.sat_text.specs.Printed.{number_text};
+ghost use Rattle.sat_text.specs.Printed.{number_text, sign_text};
 
+use crate::digits::DigitTable;
 use desk_io::{BlockWriter, Failed, Shelf};
 use itoa::write_digits;
 use sat_clause::Lit;
@@ -64,19 +65,49 @@ pub fn put_byte(room: &mut RowRoom, byte: u8, end: usize) -> usize
     end - 1
 }
 
+/// Puts three bytes before an end, and gives where they begin.
+fn put_three(room: &mut RowRoom, bytes: [u8; 3], end: usize) -> usize
+    requires enough { 3 ≤ end }
+    requires within { end ≤ ROW_ROOM }
+    ensures before { result + 3 ≡ end }
+    ensures put { drop result room.new ≡ bytes ++ drop end room.old }
+{
+    let [first, second, third] = bytes;
+    let end = put_byte(room, third, end);
+    let end = put_byte(room, second, end);
+    put_byte(room, first, end)
+}
+
 /// Puts the digits of a number before an end, and gives where they begin.
-fn put_digits(room: &mut RowRoom, number: u64, end: usize) -> usize
+fn put_digits(room: &mut RowRoom, digits: &DigitTable, number: u64, end: usize) -> usize
     requires enough { 20 ≤ end }
     requires within { end ≤ ROW_ROOM }
     ensures near { end ≤ result + 20 }
     ensures before { result ≤ end }
     ensures put { drop result room.new ≡ decimal number ++ drop end room.old }
 {
-    write_digits(number, room, end)
+    if number < 1000 {
+        return write_digits(number, room, end);
+    }
+    let end = put_three(room, digits.last_three(number), end);
+    write_digits(number / 1000, room, end)
+}
+
+/// Puts the sign of a number before its digits, and gives where the text begins. A minus stands
+/// there in any case, and is none of the text of a number that has no sign.
+fn put_sign(room: &mut RowRoom, number: i64, start: usize) -> usize
+    requires enough { 1 ≤ start }
+    requires within { start ≤ ROW_ROOM }
+    ensures near { start ≤ result + 1 }
+    ensures before { result ≤ start }
+    ensures put { drop result room.new ≡ sign_text number ++ drop start room.old }
+{
+    room[start - 1] = b'-';
+    start - usize::from(number < 0)
 }
 
 /// Puts a number and a blank before an end, and gives where they begin.
-fn put_number(room: &mut RowRoom, number: i64, end: usize) -> usize
+fn put_number(room: &mut RowRoom, digits: &DigitTable, number: i64, end: usize) -> usize
     requires enough { NUMBER_ROOM ≤ end }
     requires within { end ≤ ROW_ROOM }
     ensures near { end ≤ result + NUMBER_ROOM }
@@ -84,15 +115,17 @@ fn put_number(room: &mut RowRoom, number: i64, end: usize) -> usize
     ensures put { drop result room.new ≡ number_text number ++ drop end room.old }
 {
     let end = put_byte(room, b' ', end);
-    let start = put_digits(room, number.unsigned_abs(), end);
-    if number < 0 {
-        return put_byte(room, b'-', start);
-    }
-    start
+    let start = put_digits(room, digits, number.unsigned_abs(), end);
+    put_sign(room, number, start)
 }
 
 /// Puts numbers, each with a blank behind it, before an end, and gives where they begin.
-pub fn put_numbers<T: AsNumber>(room: &mut RowRoom, numbers: &[T], end: usize) -> usize
+pub fn put_numbers<T: AsNumber>(
+    room: &mut RowRoom,
+    digits: &DigitTable,
+    numbers: &[T],
+    end: usize,
+) -> usize
     requires enough { length numbers.now * NUMBER_ROOM ≤ end }
     requires within { end ≤ ROW_ROOM }
     ensures before { result ≤ end }
@@ -101,7 +134,7 @@ pub fn put_numbers<T: AsNumber>(room: &mut RowRoom, numbers: &[T], end: usize) -
 {
     let mut start = end;
     for i in (0..numbers.len()).rev() {
-        start = put_number(room, numbers[i].as_number(), start);
+        start = put_number(room, digits, numbers[i].as_number(), start);
     }
     start
 }
@@ -126,6 +159,7 @@ pub fn write_from<S: Shelf>(
 /// Rows of up to 64 numbers are written at once.
 pub fn write_row<T: AsNumber, S: Shelf>(
     room: &mut RowRoom,
+    digits: &DigitTable,
     writer: &mut BlockWriter,
     shelf: &mut S,
     numbers: &[T],
@@ -139,7 +173,7 @@ pub fn write_row<T: AsNumber, S: Shelf>(
     let mut rest = numbers;
     while rest.len() > PIECE_LIMIT {
         let (piece, others) = rest.split_at(PIECE_LIMIT);
-        let start = put_numbers(room, piece, ROW_ROOM);
+        let start = put_numbers(room, digits, piece, ROW_ROOM);
         let Ok(()) = write_from(room, writer, shelf, start) else {
             return Err(Failed);
         };
@@ -147,6 +181,6 @@ pub fn write_row<T: AsNumber, S: Shelf>(
     }
     let end = put_byte(room, last, ROW_ROOM);
     let end = put_byte(room, b'0', end);
-    let start = put_numbers(room, rest, end);
+    let start = put_numbers(room, digits, rest, end);
     write_from(room, writer, shelf, start)
 }

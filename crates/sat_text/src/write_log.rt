@@ -7,6 +7,7 @@ ghost use Rattle.sat_text.specs.LratText.{ReadsLrat};
 ghost use Rattle.sat_text.specs.Printed.{closed_text, literal_text, log_text, number_text, step_text};
 ghost use Rattle.sat_text.specs.Steps.{viewed};
 
+use crate::digits::DigitTable;
 use crate::row::{NUMBER_ROOM, RowRoom, row_room, write_row};
 use crate::write::{spaced, write_short};
 use arrayvec::ArrayString;
@@ -38,6 +39,7 @@ fn deletion_start(id: u32) -> ArrayString<START_ROOM>
 /// Writes the literals of an added clause, and its hints.
 fn write_clause_and_hints<S: Shelf>(
     room: &mut RowRoom,
+    digits: &DigitTable,
     writer: &mut BlockWriter,
     shelf: &mut S,
     clause: &[Lit],
@@ -48,15 +50,16 @@ fn write_clause_and_hints<S: Shelf>(
         ((flat_map literal_text clause.now ++ codes "0 ") ++ closed_text hints.now)
         (S.state shelf.new) writer.new result }
 {
-    let Ok(()) = write_row(room, writer, shelf, clause, b' ') else {
+    let Ok(()) = write_row(room, digits, writer, shelf, clause, b' ') else {
         return Err(Failed);
     };
-    write_row(room, writer, shelf, hints, b'\n')
+    write_row(room, digits, writer, shelf, hints, b'\n')
 }
 
 /// Writes a step.
 fn write_step<S: Shelf>(
     room: &mut RowRoom,
+    digits: &DigitTable,
     writer: &mut BlockWriter,
     shelf: &mut S,
     step: &StepView<'_>,
@@ -70,12 +73,12 @@ fn write_step<S: Shelf>(
         let Ok(()) = write_short(writer, shelf, &deletion_start(step.id)) else {
             return Err(Failed);
         };
-        return write_row(room, writer, shelf, step.hints, b'\n');
+        return write_row(room, digits, writer, shelf, step.hints, b'\n');
     }
     let Ok(()) = write_short(writer, shelf, &id_start(step.id)) else {
         return Err(Failed);
     };
-    write_clause_and_hints(room, writer, shelf, step.lits, step.hints)
+    write_clause_and_hints(room, digits, writer, shelf, step.lits, step.hints)
 }
 
 /// Prints a log: each step on a line.
@@ -93,8 +96,9 @@ impl Prints<Log> for LratText {
         log: &Log,
     ) -> Result<(), Failed> {
         let mut room = row_room();
+        let digits = DigitTable::new();
         for i in 0..log.len() {
-            let Ok(()) = write_step(&mut room, writer, shelf, &log.step(i)) else {
+            let Ok(()) = write_step(&mut room, &digits, writer, shelf, &log.step(i)) else {
                 return Err(Failed);
             };
         }

@@ -348,6 +348,23 @@ impl Chains {
         self.find_tail(l, others, words)
     }
 
+    /// Whether the chain of the literal at a place is empty, or no literal is there.
+    fn is_bare(&self, place: usize) -> bool {
+        place >= self.heads.len() || self.heads[place].clause().is_none()
+    }
+
+    /// Puts an empty tail behind the others: that of a chain whose last clause is no pair, and of
+    /// an empty one.
+    fn add_bare(&mut self) -> Result<(), AllocError>
+        ensures { self.new ≡ self.old }
+    {
+        let Ok(()) = self.tails.push_empty() else {
+            self.tails.clear();
+            return Err(AllocError);
+        };
+        Ok(())
+    }
+
     /// Puts the tail of the next literal behind the others. Two vectors are lent, whatever they
     /// hold.
     ///
@@ -357,6 +374,10 @@ impl Chains {
         ensures { self.new ≡ self.old }
     {
         let place = self.tails.count();
+        // most literals of a merged formula are in no clause
+        if self.is_bare(place) {
+            return self.add_bare();
+        }
         others.clear();
         words.clear();
         self.tail_of_place(place, others, words)?;

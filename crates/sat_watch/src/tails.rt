@@ -130,4 +130,22 @@ impl Tails {
         })?;
         Ok(())
     }
+
+    /// Puts an empty tail behind the others.
+    ///
+    /// # Errors
+    /// Where memory is short, or all tails have 2^32 clauses and more.
+    pub(crate) fn push_empty(&mut self) -> Result<(), AllocError>
+        ensures { OnOk result (self.new ≡ with_tail [] [] self.old) }
+    {
+        let end = self.others.len();
+        if end > u32::MAX as usize {
+            return Err(AllocError);
+        }
+        self.ends.push(TailEnd {
+            end: end as u32,
+            first: 0,
+        })?;
+        Ok(())
+    }
 }

@@ -1,78 +1,56 @@
 -- What is said of words that are not taken.
-use Rattle.std.specs.Prelude.{ℕ, ◌++◌, ◌==◌, ◌||◌, List, [], ◌∷◌, Option, None, Some, codes, unwrap_or, if◌then◌else◌}
+use Rattle.std.specs.Prelude.{ℕ, ◌++◌, ◌==◌, ◌||◌, List, [], ◌∷◌, Option, None, Some, unwrap_or, if◌then◌else◌}
 use Rattle.usage_words.specs.Command.{command_of}
 use Rattle.usage_words.specs.Word.{Word}
 use Rattle.usage_words.specs.Wrong.{begun, wrong_said}
 use Rattle.usage_words.specs.declared.command.Command.{Command}
 use Rattle.usage_words.specs.declared.command.Command.TheVariants.{Route, Sweep, Encode, Decode, Core, Check, Verify, Judge, Bound, Global, Least, Gen, Trial}
+use Rattle.usage_words.specs.declared.phrases.TheConstants.{CLASH_OF_COUNT, CLASH_OF_METHODS, CLASH_OF_ORDERS, CLASH_OF_SEARCHES, CODE_NO_COMMAND, CODE_NUMBER, CODE_OTHER_WORDS, CODE_WRITTEN_OVER, EXAMPLE_BOUND, EXAMPLE_CHECK, EXAMPLE_CORE, EXAMPLE_DECODE, EXAMPLE_ENCODE, EXAMPLE_GEN, EXAMPLE_GLOBAL, EXAMPLE_JUDGE, EXAMPLE_LEAST, EXAMPLE_ROUTE, EXAMPLE_SWEEP, EXAMPLE_TRIAL, EXAMPLE_VERIFY, FORM_EXAMPLE, FORM_TAKES, TAKES_BOUND, TAKES_CHECK, TAKES_CORE, TAKES_DECODE, TAKES_ENCODE, TAKES_GEN, TAKES_GLOBAL, TAKES_JUDGE, TAKES_LEAST, TAKES_ROUTE, TAKES_SWEEP, TAKES_TRIAL, TAKES_VERIFY, WRONG_COMMAND}
 
 -- which options of a command exclude each other, or need another
 abbrev pub clash_said : Command → List ℕ
-clash_said Encode =
-    codes "--pin, --symmetry and --reach exclude one another.\n"
-clash_said Decode = codes "--pin, --symmetry and --reach exclude one another.\n"
-clash_said Core = codes "--pin and --symmetry exclude each other.\n"
-clash_said Trial = codes "--count and --reach exclude each other.\n"
-clash_said _ =
-    codes "--pin, --symmetry and --reach exclude one another, and so do --count and --reach; "
-    ++ codes "--seed is the seed of searches that take turns: give their number by --members.\n"
+clash_said Encode = CLASH_OF_METHODS.now
+clash_said Decode = CLASH_OF_METHODS.now
+clash_said Core = CLASH_OF_ORDERS.now
+clash_said Trial = CLASH_OF_COUNT.now
+clash_said _ = CLASH_OF_SEARCHES.now
 
 -- the words that a command takes
 abbrev pub takes_said : Command → List ℕ
-takes_said Route =
-    codes "route ARCH NET PLACE ROUTE WIDTH PREFIX [--conflicts N] [--seconds T] [--keep] "
-    ++ codes "[--count] [--pin | --symmetry | --reach L] [--members K] [--seed S], "
-    ++ codes "WIDTH and L from 1 to 64, K to 8"
-takes_said Sweep =
-    codes "sweep ARCH NET PLACE ROUTE MAX PREFIX [--conflicts N] [--seconds T] [--keep] "
-    ++ codes "[--count] [--pin | --symmetry | --reach L] [--members K] [--seed S], "
-    ++ codes "MAX and L from 1 to 64, K to 8"
-takes_said Encode =
-    codes "encode ARCH NET PLACE ROUTE WIDTH PREFIX [--pin | --symmetry | --reach L] [--names], "
-    ++ codes "WIDTH and L from 1 to 64"
-takes_said Decode =
-    codes "decode ARCH NET PLACE ROUTE WIDTH MODEL PREFIX [--pin | --symmetry | --reach L], "
-    ++ codes "WIDTH and L from 1 to 64"
-takes_said Core =
-    codes "core ARCH NET PLACE ROUTE WIDTH PREFIX [--conflicts N] [--seconds T] "
-    ++ codes "[--pin | --symmetry], WIDTH from 1 to 64"
-takes_said Check = codes "check CNF LRAT"
-takes_said Verify =
-    codes "verify ARCH NET PLACE ROUTE WIDTH ROUTED [--reach L] [--all], WIDTH and L from 1 to 64"
-takes_said Judge = codes "judge ARCH NET PLACE WIDTH ROUTED [--strict], WIDTH from 1 to 64"
-takes_said Bound = codes "bound ARCH NET PLACE"
-takes_said Global =
-    codes "global ARCH NET PLACE WIDTH PREFIX [--free] [--from ROUTE] [--rounds N], WIDTH from "
-    ++ codes "1 to 64, N to 100,000"
-takes_said Least =
-    codes "least ARCH NET PLACE MAX PREFIX [--free] [--from ROUTE] [--rounds N], MAX from 1 to "
-    ++ codes "64, N to 100,000"
-takes_said Gen = codes "gen SEED NX NETS PREFIX, NX from 1 to 100, NETS from 1 to 10,000"
-takes_said Trial =
-    codes "trial SEED NX NETS MAX PREFIX [--conflicts N] [--seconds T] [--keep] "
-    ++ codes "[--count | --reach L], NX from 1 to 100, MAX and L to 64"
+takes_said Route = TAKES_ROUTE.now
+takes_said Sweep = TAKES_SWEEP.now
+takes_said Encode = TAKES_ENCODE.now
+takes_said Decode = TAKES_DECODE.now
+takes_said Core = TAKES_CORE.now
+takes_said Check = TAKES_CHECK.now
+takes_said Verify = TAKES_VERIFY.now
+takes_said Judge = TAKES_JUDGE.now
+takes_said Bound = TAKES_BOUND.now
+takes_said Global = TAKES_GLOBAL.now
+takes_said Least = TAKES_LEAST.now
+takes_said Gen = TAKES_GEN.now
+takes_said Trial = TAKES_TRIAL.now
 
 -- a command as it may be given
 abbrev pub example_said : Command → List ℕ
-example_said Route = codes "route design.arch design.net design.place design.route 9 out"
-example_said Sweep = codes "sweep design.arch design.net design.place design.route 12 out"
-example_said Encode = codes "encode design.arch design.net design.place design.route 9 out"
-example_said Decode =
-    codes "decode design.arch design.net design.place design.route 9 out.model out"
-example_said Core = codes "core design.arch design.net design.place design_cells.route 8 out"
-example_said Check = codes "check out.cnf out.lrat"
-example_said Verify = codes "verify design.arch design.net design.place design.route 9 out.route"
-example_said Judge = codes "judge design.arch design.net design.place 9 out.route"
-example_said Bound = codes "bound design.arch design.net design.place"
-example_said Global = codes "global design.arch design.net design.place 5 out"
-example_said Least = codes "least design.arch design.net design.place 12 out"
-example_said Gen = codes "gen 1 20 300 made"
-example_said Trial = codes "trial 1 20 300 12 out"
+example_said Route = EXAMPLE_ROUTE.now
+example_said Sweep = EXAMPLE_SWEEP.now
+example_said Encode = EXAMPLE_ENCODE.now
+example_said Decode = EXAMPLE_DECODE.now
+example_said Core = EXAMPLE_CORE.now
+example_said Check = EXAMPLE_CHECK.now
+example_said Verify = EXAMPLE_VERIFY.now
+example_said Judge = EXAMPLE_JUDGE.now
+example_said Bound = EXAMPLE_BOUND.now
+example_said Global = EXAMPLE_GLOBAL.now
+example_said Least = EXAMPLE_LEAST.now
+example_said Gen = EXAMPLE_GEN.now
+example_said Trial = EXAMPLE_TRIAL.now
 
 -- what the command takes, and an example
 abbrev pub lines_said : (takes example : List ℕ) → List ℕ
 lines_said takes example =
-    codes "Usage: gafkelam " ++ (takes ++ (codes "\nAs in: gafkelam " ++ example))
+    FORM_TAKES.now ++ (takes ++ (FORM_EXAMPLE.now ++ example))
 
 abbrev pub form_said : Command → List ℕ
 form_said command = lines_said (takes_said command) (example_said command)
@@ -80,18 +58,14 @@ form_said command = lines_said (takes_said command) (example_said command)
 -- what the code of the report says
 abbrev pub code_said : (code : ℕ) → Command → List ℕ
 code_said code command =
-    if code == 1 then
-    codes "The first word is to be a command: route, sweep, global, least, bound, encode, decode, "
-    ++ codes "core, check, verify, judge, gen, trial or picture.\n" else
-    if code == 3 then codes "A number is missing or out of its range.\n" else
+    if code == 1 then CODE_NO_COMMAND.now else
+    if code == 3 then CODE_NUMBER.now else
     if code == 4 then clash_said command else
-    if code == 5
-    then codes "A file that this would write is one that it reads: give another PREFIX.\n" else
-    codes "The command does not take these words.\n"
+    if code == 5 then CODE_WRITTEN_OVER.now else CODE_OTHER_WORDS.now
 
 -- the first word names no command
 abbrev pub no_command_said : Word → List ℕ
-no_command_said name = name ++ codes " is no command. "
+no_command_said name = name ++ WRONG_COMMAND.now
 
 -- what is wrong with the words behind the name of a command: which of them, where the report is of
 -- one and the form tells it, or else what the code says

@@ -9,6 +9,7 @@ use Rattle.usage_words.specs.Turn.{turn_of}
 use Rattle.usage_words.specs.Word.{Word}
 use Rattle.usage_words.specs.declared.command.Command.{Command}
 use Rattle.usage_words.specs.declared.item.Item.{Item}
+use Rattle.usage_words.specs.declared.phrases.TheConstants.{WRONG_MISSING, WRONG_NO_VALUE, WRONG_OPTION, WRONG_RANGE_FROM, WRONG_RANGE_NOT, WRONG_RANGE_TO, WRONG_TOO_MANY}
 use Rattle.usage_words.specs.declared.turn.Standing.{Standing}
 use Rattle.usage_words.specs.declared.turn.Turn.{Turn}
 use Rattle.usage_words.specs.declared.turn.Turn.TheVariants.{Goes, NoOption, NoValue, Open, OutOfRange, TooMany}
@@ -16,21 +17,21 @@ use Rattle.usage_words.specs.declared.turn.Turn.TheVariants.{Goes, NoOption, NoV
 -- ---- the phrases
 
 abbrev pub no_option_said : (command : List ℕ) → Word → List ℕ
-no_option_said command word = command ++ (codes " has no option " ++ (word ++ codes ".\n"))
+no_option_said command word = command ++ (WRONG_OPTION.now ++ (word ++ codes ".\n"))
 
 abbrev pub no_value_said : (option : List ℕ) → List ℕ
-no_value_said option = option ++ codes " is to have a value behind it.\n"
+no_value_said option = option ++ WRONG_NO_VALUE.now
 
 abbrev pub too_many_said : Word → List ℕ
-too_many_said word = word ++ codes " is one word too many.\n"
+too_many_said word = word ++ WRONG_TOO_MANY.now
 
 abbrev pub no_word_said : (name : List ℕ) → List ℕ
-no_word_said name = name ++ codes " is missing.\n"
+no_word_said name = name ++ WRONG_MISSING.now
 
 abbrev pub not_within_said : (name : List ℕ) → (least greatest : ℕ) → Word → List ℕ
 not_within_said name least greatest word =
-    name ++ (codes " is to be a whole number from " ++ (decimal least ++ (codes " to "
-    ++ (decimal greatest ++ (codes ", and not " ++ (word ++ codes ".\n"))))))
+    name ++ (WRONG_RANGE_FROM.now ++ (decimal least ++ (WRONG_RANGE_TO.now
+    ++ (decimal greatest ++ (WRONG_RANGE_NOT.now ++ (word ++ codes ".\n"))))))
 
 abbrev pub out_of_range_said : Item → Word → List ℕ
 out_of_range_said name word =

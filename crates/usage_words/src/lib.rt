@@ -4,6 +4,7 @@
 
 mod command;
 mod item;
+mod phrases;
 mod turn;
 mod usage;
 mod wrong;

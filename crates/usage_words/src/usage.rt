@@ -1,5 +1,5 @@
 //! Words for a command that is not taken.
-ghost use Rattle.std.specs.Prelude.{◌≡◌, ◌++◌, OnOk, codes, string_bytes};
+ghost use Rattle.std.specs.Prelude.{◌≡◌, ◌++◌, OnOk, string_bytes};
 ghost use Rattle.usage_words.specs.Usage as spec;
 ghost use Rattle.usage_words.specs.Usage.{
   clash_said,
@@ -14,6 +14,7 @@ ghost use Rattle.usage_words.specs.Usage.{
 ghost use Rattle.usage_words.specs.Word.{words_of};
 
 use crate::command::{Command, command_of};
+use crate::phrases::*;
 use crate::wrong::append_wrong;
 use std::alloc::AllocError;
 
@@ -47,7 +48,7 @@ fn append_no_command(out: &mut String, name: &str) -> Result<(), AllocError>
     ensures { OnOk result (string_bytes out.new
         ≡ string_bytes out.old ++ spec.no_command_said name.now) }
 {
-    write!(out, "{name} is no command. ")
+    write!(out, "{name}{WRONG_COMMAND}")
 }
 
 // Appends what is wrong with the words behind the name of a command.
@@ -88,7 +89,7 @@ fn append_lines(out: &mut String, takes: &str, example: &str) -> Result<(), Allo
     ensures { OnOk result
         (string_bytes out.new ≡ string_bytes out.old ++ lines_said takes.now example.now) }
 {
-    write!(out, "Usage: gafkelam {takes}\nAs in: gafkelam {example}")
+    write!(out, "{FORM_TAKES}{takes}{FORM_EXAMPLE}{example}")
 }
 
 // What a code says.
@@ -96,14 +97,11 @@ fn code_said(code: u32, command: Command) -> &'static str
     ensures { result.now ≡ code_said code command }
 {
     match code {
-        1 => {
-            "The first word is to be a command: route, sweep, global, least, bound, encode, \
-             decode, core, check, verify, judge, gen, trial or picture.\n"
-        }
-        3 => "A number is missing or out of its range.\n",
+        1 => CODE_NO_COMMAND,
+        3 => CODE_NUMBER,
         4 => clash_said(command),
-        5 => "A file that this would write is one that it reads: give another PREFIX.\n",
-        _ => "The command does not take these words.\n",
+        5 => CODE_WRITTEN_OVER,
+        _ => CODE_OTHER_WORDS,
     }
 }
 
@@ -112,10 +110,9 @@ fn clash_said(command: Command) -> &'static str
     ensures { result.now ≡ clash_said command }
 {
     match command {
-        Command::Encode => { "--pin, --symmetry and --reach exclude one another.\n" }
-        Command::Decode => "--pin, --symmetry and --reach exclude one another.\n",
-        Command::Core => "--pin and --symmetry exclude each other.\n",
-        Command::Trial => "--count and --reach exclude each other.\n",
+        Command::Encode | Command::Decode => CLASH_OF_METHODS,
+        Command::Core => CLASH_OF_ORDERS,
+        Command::Trial => CLASH_OF_COUNT,
         Command::Route
         | Command::Sweep
         | Command::Check
@@ -124,10 +121,7 @@ fn clash_said(command: Command) -> &'static str
         | Command::Bound
         | Command::Global
         | Command::Least
-        | Command::Gen => {
-            "--pin, --symmetry and --reach exclude one another, and so do --count and --reach; \
-             --seed is the seed of searches that take turns: give their number by --members.\n"
-        }
+        | Command::Gen => CLASH_OF_SEARCHES,
     }
 }
 
@@ -136,47 +130,19 @@ fn takes_said(command: Command) -> &'static str
     ensures { result.now ≡ takes_said command }
 {
     match command {
-        Command::Route => {
-            "route ARCH NET PLACE ROUTE WIDTH PREFIX [--conflicts N] [--seconds T] [--keep] \
-             [--count] [--pin | --symmetry | --reach L] [--members K] [--seed S], \
-             WIDTH and L from 1 to 64, K to 8"
-        }
-        Command::Sweep => {
-            "sweep ARCH NET PLACE ROUTE MAX PREFIX [--conflicts N] [--seconds T] [--keep] \
-             [--count] [--pin | --symmetry | --reach L] [--members K] [--seed S], \
-             MAX and L from 1 to 64, K to 8"
-        }
-        Command::Encode => {
-            "encode ARCH NET PLACE ROUTE WIDTH PREFIX [--pin | --symmetry | --reach L] [--names], \
-             WIDTH and L from 1 to 64"
-        }
-        Command::Decode => {
-            "decode ARCH NET PLACE ROUTE WIDTH MODEL PREFIX [--pin | --symmetry | --reach L], \
-             WIDTH and L from 1 to 64"
-        }
-        Command::Core => {
-            "core ARCH NET PLACE ROUTE WIDTH PREFIX [--conflicts N] [--seconds T] \
-             [--pin | --symmetry], WIDTH from 1 to 64"
-        }
-        Command::Check => "check CNF LRAT",
-        Command::Verify => {
-            "verify ARCH NET PLACE ROUTE WIDTH ROUTED [--reach L] [--all], WIDTH and L from 1 to 64"
-        }
-        Command::Judge => { "judge ARCH NET PLACE WIDTH ROUTED [--strict], WIDTH from 1 to 64" }
-        Command::Bound => "bound ARCH NET PLACE",
-        Command::Global => {
-            "global ARCH NET PLACE WIDTH PREFIX [--free] [--from ROUTE] [--rounds N], WIDTH from \
-             1 to 64, N to 100,000"
-        }
-        Command::Least => {
-            "least ARCH NET PLACE MAX PREFIX [--free] [--from ROUTE] [--rounds N], MAX from 1 to \
-             64, N to 100,000"
-        }
-        Command::Gen => "gen SEED NX NETS PREFIX, NX from 1 to 100, NETS from 1 to 10,000",
-        Command::Trial => {
-            "trial SEED NX NETS MAX PREFIX [--conflicts N] [--seconds T] [--keep] \
-             [--count | --reach L], NX from 1 to 100, MAX and L to 64"
-        }
+        Command::Route => TAKES_ROUTE,
+        Command::Sweep => TAKES_SWEEP,
+        Command::Encode => TAKES_ENCODE,
+        Command::Decode => TAKES_DECODE,
+        Command::Core => TAKES_CORE,
+        Command::Check => TAKES_CHECK,
+        Command::Verify => TAKES_VERIFY,
+        Command::Judge => TAKES_JUDGE,
+        Command::Bound => TAKES_BOUND,
+        Command::Global => TAKES_GLOBAL,
+        Command::Least => TAKES_LEAST,
+        Command::Gen => TAKES_GEN,
+        Command::Trial => TAKES_TRIAL,
     }
 }
 
@@ -185,20 +151,18 @@ fn example_said(command: Command) -> &'static str
     ensures { result.now ≡ example_said command }
 {
     match command {
-        Command::Route => "route design.arch design.net design.place design.route 9 out",
-        Command::Sweep => "sweep design.arch design.net design.place design.route 12 out",
-        Command::Encode => "encode design.arch design.net design.place design.route 9 out",
-        Command::Decode => {
-            "decode design.arch design.net design.place design.route 9 out.model out"
-        }
-        Command::Core => "core design.arch design.net design.place design_cells.route 8 out",
-        Command::Check => "check out.cnf out.lrat",
-        Command::Verify => { "verify design.arch design.net design.place design.route 9 out.route" }
-        Command::Judge => "judge design.arch design.net design.place 9 out.route",
-        Command::Bound => "bound design.arch design.net design.place",
-        Command::Global => "global design.arch design.net design.place 5 out",
-        Command::Least => "least design.arch design.net design.place 12 out",
-        Command::Gen => "gen 1 20 300 made",
-        Command::Trial => "trial 1 20 300 12 out",
+        Command::Route => EXAMPLE_ROUTE,
+        Command::Sweep => EXAMPLE_SWEEP,
+        Command::Encode => EXAMPLE_ENCODE,
+        Command::Decode => EXAMPLE_DECODE,
+        Command::Core => EXAMPLE_CORE,
+        Command::Check => EXAMPLE_CHECK,
+        Command::Verify => EXAMPLE_VERIFY,
+        Command::Judge => EXAMPLE_JUDGE,
+        Command::Bound => EXAMPLE_BOUND,
+        Command::Global => EXAMPLE_GLOBAL,
+        Command::Least => EXAMPLE_LEAST,
+        Command::Gen => EXAMPLE_GEN,
+        Command::Trial => EXAMPLE_TRIAL,
     }
 }

@@ -5,6 +5,7 @@ ghost use Rattle.usage_words.specs.Word.{words_of};
 
 use crate::command::Command;
 use crate::item::Item;
+use crate::phrases::*;
 use crate::turn::{Standing, Turn, turn_of};
 use std::alloc::AllocError;
 
@@ -75,28 +76,28 @@ fn append_no_option(out: &mut String, command: &str, word: &str) -> Result<(), A
     ensures { OnOk result (string_bytes out.new
         ≡ string_bytes out.old ++ spec.no_option_said command.now word.now) }
 {
-    write!(out, "{command} has no option {word}.\n")
+    write!(out, "{command}{WRONG_OPTION}{word}.\n")
 }
 
 fn append_no_value(out: &mut String, option: &str) -> Result<(), AllocError>
     ensures { OnOk result
         (string_bytes out.new ≡ string_bytes out.old ++ spec.no_value_said option.now) }
 {
-    write!(out, "{option} is to have a value behind it.\n")
+    write!(out, "{option}{WRONG_NO_VALUE}")
 }
 
 fn append_too_many(out: &mut String, word: &str) -> Result<(), AllocError>
     ensures { OnOk result
         (string_bytes out.new ≡ string_bytes out.old ++ spec.too_many_said word.now) }
 {
-    write!(out, "{word} is one word too many.\n")
+    write!(out, "{word}{WRONG_TOO_MANY}")
 }
 
 fn append_no_word(out: &mut String, name: &str) -> Result<(), AllocError>
     ensures { OnOk result
         (string_bytes out.new ≡ string_bytes out.old ++ spec.no_word_said name.now) }
 {
-    write!(out, "{name} is missing.\n")
+    write!(out, "{name}{WRONG_MISSING}")
 }
 
 fn append_out_of_range(out: &mut String, item: Item, word: &str) -> Result<(), AllocError>
@@ -121,6 +122,6 @@ fn append_not_within(
 {
     write!(
         out,
-        "{name} is to be a whole number from {least} to {greatest}, and not {word}.\n"
+        "{name}{WRONG_RANGE_FROM}{least}{WRONG_RANGE_TO}{greatest}{WRONG_RANGE_NOT}{word}.\n"
     )
 }

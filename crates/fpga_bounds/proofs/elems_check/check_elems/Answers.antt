@@ -23,11 +23,11 @@ check_elem-requires g c κs =
             position = omega arith;
             elem = (λ k. slice_get (sym c.loop-i.invariant.elems k) c.loop-i.i) ∙ here;
             line = line-of c.args.earlier.now c.args.net.now elems c.loop-i.i c.loop-i.previous
-                c.has_elem-again.result c.has_pin.result c.see.new.seen c.loop-i.invariant.elems
+                c.in-Ok.again c.has_pin.result c.see_again.new.seen c.loop-i.invariant.elems
                 within c.loop-i.invariant.previous
-                (c.has_elem-again.ensures ∙ c.loop-i.invariant.seen e)
+                (c.in-Ok.ensures.again ∙ c.loop-i.invariant.seen e)
                 (c.has_pin.ensures ∙ c.requires.pins e)
-                (λ q. c.in-Ok.ensures q ∙ ap (λ (b : Bool). b || same_elem q e)
+                (λ q. c.in-Ok.ensures.gains q ∙ ap (λ (b : Bool). b || same_elem q e)
                 (c.loop-i.invariant.seen q)
                 ∙ sym (list_any_more (same_elem q) elems c.loop-i.i NO_ELEM within));
           },
@@ -61,7 +61,7 @@ loop-i-preserved g c =
           ((λ k. slice_get (sym c.loop-i.invariant.elems k) i) ∙ here) c.loop-i.invariant.past
           judged.0;
       previous = rw (add-one, take-get elems i e here) (sym (last-push None (take i elems) e));
-      seen = λ q. c.in-Ok.ensures q ∙ ap (λ (b : Bool). b || same_elem q e)
+      seen = λ q. c.in-Ok.ensures.gains q ∙ ap (λ (b : Bool). b || same_elem q e)
           (c.loop-i.invariant.seen q) ∙ sym (list_any_more (same_elem q) elems i NO_ELEM within);
       kept = subst (λ (n : ℕ). g.R.LineRules.has_kept c.check_elem.new.kept c.args.earlier.now
           c.args.net.now (take n c.args.net.now.elems)) (sym (add-one i)) judged.1;

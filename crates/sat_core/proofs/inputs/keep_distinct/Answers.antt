@@ -1,17 +1,23 @@
-use Rattle.std.proofs.Common.{◌∙◌, suc, add-one, sym, subst, arith}
+use Rattle.std.proofs.Common.{suc, add-one, subst, arith}
 use Rattle.std.proofs.lemmas.Result.{on_ok_weaker}
 use Rattle.sat_clause.specs.Literal.{Clause}
 use Rattle.sat_core.specs.Inputs.{pairs_and_below}
 use Rattle.sat_core.specs.Kept.{IsDistinct}
-use Rattle.sat_core.proofs.InputLaws.{may_keep, other_not_yet, other_now, others_next, simple_of, taken_more, taken_skip}
+use Rattle.sat_core.proofs.InputLaws.{may_keep, other_not_yet, other_now, others_next, others_pass, simple_of, taken_more, taken_skip}
 use Rattle.sat_core.proofs.SameLaws.{same_itself}
 use Rattle.sat_core.proofs.inputs.keep_distinct.Goals as goal
+
+pub returns-then-are_two-clause-taken : goal.returns-then-are_two-clause-taken
+returns-then-are_two-clause-taken c =
+    others_pass c.args.formula.now.cnf c.args.i c.clause-lits.result.now c.clause-lits.ensures.value
+    (c.are_two.ensures.always c.if-are_two.true) c.args.singles.now c.args.watches.now
+    c.requires.taken
 
 pub keep-requires : goal.keep-requires
 keep-requires c =
     let n = c.args.i in
     let lits = c.clause-lits.result.now in
-    let is = sym c.is_pair.ensures ∙ c.if-is_pair.false in
+    let is = c.are_two.ensures.no_pair c.if-are_two.false in
     rw add-one (may_keep (pairs_and_below (suc n)) n c.clause-lits.ensures.value
     (other_not_yet n lits is) (others_next n) (other_now n lits is) c.requires.taken
     (omega (arith, c.requires.within, c.requires.few)) (simple_of lits lits c.requires.taken
@@ -21,7 +27,7 @@ pub returns-then-is_rising-clause-taken : goal.returns-then-is_rising-clause-tak
 returns-then-is_rising-clause-taken c =
     let n = c.args.i in
     let lits = c.clause-lits.result.now in
-    let is = sym c.is_pair.ensures ∙ c.if-is_pair.false in
+    let is = c.are_two.ensures.no_pair c.if-are_two.false in
     let simple = simple_of lits lits c.requires.taken c.clause-lits.ensures.within
     (same_itself lits) (c.is_rising.ensures c.if-is_rising.true) in
     on_ok_weaker c.keep.result (λ keeps.
@@ -34,7 +40,7 @@ pub returns-then-not-branch-clause-taken : goal.returns-then-not-branch-clause-t
 returns-then-not-branch-clause-taken c =
     let n = c.args.i in
     let lits = c.clause-lits.result.now in
-    let is = sym c.is_pair.ensures ∙ c.if-is_pair.false in
+    let is = c.are_two.ensures.no_pair c.if-are_two.false in
     let answer = subst (IsDistinct lits c.take_distinct.new.distinct.items) c.if-not-branch.true
     c.in_ok-take_distinct.ensures in
     taken_skip (pairs_and_below (suc n)) n c.clause-lits.ensures.value (other_not_yet n lits is)
@@ -45,7 +51,7 @@ keep-requires-2 c =
     let n = c.args.i in
     let lits = c.clause-lits.result.now in
     let kept : Clause = c.take_distinct.new.distinct.items in
-    let is = sym c.is_pair.ensures ∙ c.if-is_pair.false in
+    let is = c.are_two.ensures.no_pair c.if-are_two.false in
     let answer = subst (IsDistinct lits kept) c.if-not-branch.false
     c.in_ok-take_distinct.ensures in
     rw (add-one, c.deref.ensures.value)
@@ -59,7 +65,7 @@ returns-clause-taken c =
     let n = c.args.i in
     let lits = c.clause-lits.result.now in
     let kept : Clause = c.take_distinct.new.distinct.items in
-    let is = sym c.is_pair.ensures ∙ c.if-is_pair.false in
+    let is = c.are_two.ensures.no_pair c.if-are_two.false in
     let answer = subst (IsDistinct lits kept) c.if-not-branch.false
     c.in_ok-take_distinct.ensures in
     let simple = simple_of kept lits c.requires.taken c.clause-lits.ensures.within answer.0

@@ -6,11 +6,11 @@ pub returns-in-Some : goal.returns-in-Some
 returns-in-Some c =
     rw (← c.self.view_is) (sym
     (number-found c.self.inside.slots.items c.args.slot c.in-Some.number.now
-    (sym (c.self.invariant.found c.args.slot) ∙ sym c.in-Some.ensures.value)))
+    (sym (c.self.invariant.found (record { 0 = c.args.slot })) ∙ sym c.in-Some.ensures.value)))
 
 pub returns-in-None : goal.returns-in-None
 returns-in-None c =
     let count : c.len.result ≡ length c.self.inside.slots.items = search rules in
     rw (← c.self.view_is) (count
     ∙ sym (number-none c.self.inside.slots.items c.args.slot
-    (sym (c.self.invariant.found c.args.slot) ∙ sym c.in-None.ensures.value)))
+    (sym (c.self.invariant.found (record { 0 = c.args.slot })) ∙ sym c.in-None.ensures.value)))

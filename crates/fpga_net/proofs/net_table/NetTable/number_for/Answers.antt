@@ -11,6 +11,10 @@ new : (c : In_default) → has_text (names_in c.self.inside.nets.items) c.args.n
 new c = rw (← c.self.invariant)
     (number_of-none c.self.inside.names c.args.name.now c.in_default.ensures.number)
 
+pub add_new-requires : goal.add_new-requires
+add_new-requires c =
+    number_of-none c.self.inside.names c.args.name.now c.in_default.ensures.number
+
 pub returns-in-Some-clause-entries : goal.returns-in-Some-clause-entries
 returns-in-Some-clause-entries c =
     let there = number_of-some c.self.inside.names c.args.name.now c.in-Some.number
@@ -18,14 +22,14 @@ returns-in-Some-clause-entries c =
     let named = rw (c.self.invariant, c.self.view_is) at there in
     rw named refl
 
-pub invariant_of-self-in_err-add : goal.invariant_of-self-in_err-add
-invariant_of-self-in_err-add c =
-    rw (c.reserve.ensures.items, c.in_err-add.ensures.err) c.self.invariant
+pub invariant_of-self-in_err-add_new : goal.invariant_of-self-in_err-add_new
+invariant_of-self-in_err-add_new c =
+    rw (c.reserve.ensures.items, c.in_err-add_new.ensures.err) c.self.invariant
 
 pub invariant_of-self-2 : goal.invariant_of-self-2
 invariant_of-self-2 c =
     rw (
-      c.in_ok-add.ensures.ok,
+      c.in_ok-add_new.ensures.ok,
       c.push_reserved.ensures.items,
       c.reserve.ensures.items,
       c.new-net.ensures,

@@ -5,6 +5,5 @@ use Rattle.sat_core.proofs.ranking.Ranking.new.Goals as goal
 pub returns : goal.returns
 returns c = record {
   ranked = ranked_held c.put_first.ensures
-      (rw (c.in_ok-order.ensures, c.vars-vars.ensures.value)
-      (ranked_new c.args.formula.now.cnf.vars (replicate c.args.formula.now.cnf.vars 0)));
+      (rw c.in_ok-order.ensures (ranked_new c.args.vars (replicate c.args.vars 0)));
 }

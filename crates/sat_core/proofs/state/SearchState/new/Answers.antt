@@ -12,10 +12,11 @@ invariant_of-result c =
       store = rw c.len-inputs.ensures inputs.store;
       ready = record {
         clean = c.in_ok-findings.ensures.clean;
-        size = omega (arith, c.in_ok-findings.ensures.size, vars);
+        size = omega (arith, c.in_ok-findings.ensures.size, c.vars-vars.ensures.value, vars);
       };
       ranked = ranked_start _ c.in_ok-watches.field-0.watches.vars
-          c.in_ok-watches.field-0.watches.trail _ (omega (arith, vars)) inputs.none_true
+          c.in_ok-watches.field-0.watches.trail _
+          (omega (arith, c.vars-vars.ensures.value, vars)) inputs.none_true
           c.in_ok-findings.ensures.ranked;
     }
 

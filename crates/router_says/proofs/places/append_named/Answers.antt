@@ -3,7 +3,7 @@ use Rattle.std.specs.Prelude.{flat_map, string_bytes, take}
 use Rattle.list_laws.proofs.FrontParts.{made-next, made-whole}
 use Rattle.list_laws.proofs.Places.{get-there}
 use Rattle.router_says.specs.Seen.{net_said}
-use Rattle.router_says.proofs.seen.append_named.Goals as goal
+use Rattle.router_says.proofs.places.append_named.Goals as goal
 
 pub loop-slot-preserved : goal.loop-slot-preserved
 loop-slot-preserved c =

@@ -5,7 +5,7 @@ use Rattle.list_laws.proofs.Places.{get-there}
 use Rattle.fpga_types.specs.declared.grid.PinAt.TheVariants.{Pad}
 use Rattle.fpga_types.specs.declared.problem.PinStep.{PinStep}
 use Rattle.router_says.specs.Seen.{pin_said}
-use Rattle.router_says.proofs.seen.append_places.Goals as goal
+use Rattle.router_says.proofs.places.append_places.Goals as goal
 
 abbrev said : PinStep → List ℕ
 said step = pin_said step.pin

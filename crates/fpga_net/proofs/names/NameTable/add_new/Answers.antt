@@ -9,7 +9,7 @@ use Rattle.fpga_types.specs.Names.{number_in}
 use Rattle.fpga_types.proofs.NameLaws.{gains-name}
 use Rattle.fpga_net.specs.Names.{AreNumbered, bytes_of}
 use Rattle.fpga_net.proofs.NameLemmas.{number_of-there, numbered-push}
-use Rattle.fpga_net.proofs.names.NameTable.add.Goals as goal
+use Rattle.fpga_net.proofs.names.NameTable.add_new.Goals as goal
 
 pub invariant_of-self-2 : goal.invariant_of-self-2
 invariant_of-self-2 c =
@@ -18,7 +18,7 @@ invariant_of-self-2 c =
     let old = c.self.inside.numbers in
     let absent : is_some (number_in old name) ≡ false =
     ap is_some (c.self.invariant.found name) ∙ number_of-there names name
-    ∙ ap (λ ns. has_text ns name) c.self.view_is ∙ sym c.contains.ensures ∙ c.if-contains.false in
+    ∙ ap (λ ns. has_text ns name) c.self.view_is ∙ c.requires in
     let count : c.len-number.result ≡ length names =
     c.len-number.ensures.count ∙ ap length (sym c.self.view_is) in
     let items : bytes_of c.push_reserved.new.self.items ≡ names ++ name ∷ [] =

@@ -1,7 +1,7 @@
 use Rattle.std.proofs.Common.{◌≡◌, ◌++◌, take}
 use Rattle.std.specs.Prelude.{flat_map, string_bytes}
 use Rattle.router_says.specs.Seen.{net_said}
-use Rattle.router_says.proofs.seen.append_named.Given as goal
+use Rattle.router_says.proofs.places.append_named.Given as goal
 
 -- the nets so far were appended
 abbrev pub invariant-loop-slot : goal.invariant-loop-slot
